@@ -1,0 +1,7 @@
+-- How a number is written in hexadecimal digits.
+use Rattle.std.specs.Prelude.{ℕ, false, List}
+use Rattle.std.specs.Fmt.{digits}
+
+-- the shortest hexadecimal text of n in lower case, without '0x'
+abbrev pub hexadecimal : ℕ → List ℕ
+hexadecimal n = digits 16 false n

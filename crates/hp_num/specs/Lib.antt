@@ -1,0 +1,4 @@
+pub mod Digits
+pub mod HexText
+pub mod Hexadecimal
+pub mod ParsedHex

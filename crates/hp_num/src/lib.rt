@@ -1,0 +1,15 @@
+//! Numbers and texts of the suite's formats: parsing a number from bytes, appending one to bytes, and bytes
+//! that are owned. It knows no file format: which numbers stand where is the business of the crates above.
+#![tactic(auto)]
+
+mod bytes;
+mod decimal;
+mod hexadecimal;
+mod memory;
+mod text;
+
+pub use bytes::put_bytes;
+pub use decimal::put_dec;
+pub use hexadecimal::{parse_hex, put_hex};
+pub use memory::NoMemory;
+pub use text::Text;
