@@ -1,0 +1,3 @@
+pub mod DecimalTexts
+pub mod HexSteps
+pub mod HexTexts

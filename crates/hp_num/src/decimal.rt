@@ -10,6 +10,7 @@ use itoa::Buffer;
 /// On `NoMemory`, `out` holds what it held before.
 ///
 /// The call can't fail where `out` has room for the digits.
+#[tactic(auto, using(crate::proofs::DecimalTexts::not_empty, crate::proofs::DecimalTexts::all_decimal, crate::proofs::DecimalTexts::at_most_20))]
 pub fn put_dec(out: &mut Vec<u8>, n: u64) -> Result<(), NoMemory>
     ensures appended { OnOk result (out.new.items ≡ out.old.items ++ decimal n) }
     ensures unchanged { OnErr result (out.new.items ≡ out.old.items) }

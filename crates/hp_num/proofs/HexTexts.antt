@@ -1,0 +1,202 @@
+-- What the texts that `hexadecimal` writes are, and what `parsed_hex` makes of a text.
+use Rattle.std.proofs.Common.{◌≡◌, ℕ, zero, suc, ◌+◌, ◌-◌, ◌*◌, ◌/◌, ◌%◌, ◌^◌, ◌<◌, ◌≤◌, ◌⊎◌, ◌&&◌, Bool, true, false, cond, nat_lt, nat_le, List, [], ◌∷◌, ◌++◌, length, get_or, refl, sym, ap, subst, ◌∙◌, ⊎_elim, inl, inr, append_assoc, append-nil, arith, lt-ltb, ltb-true, ltb-false, le-leb, le-ltb, leb-true, length-append, take, length-take, Option, Some, None, All, IsSome, IfSome, ◌↔◌, slice_index}
+use Rattle.std.proofs.lemmas.Bool.{cases_lt}
+use Rattle.std.proofs.lemmas.Bool.Decides.{nat_tests}
+use Rattle.std.proofs.lemmas.Fmt.{digits_is_IsNumeral}
+use Rattle.std.proofs.lemmas.List.Elements.{All-push, All-cons, All-nil, All-head, All-tail}
+use Rattle.std.proofs.lemmas.Int.Digits.{digits_value-lt}
+use Rattle.std.proofs.Math.Nat.{pow-le-pow_right}
+use Rattle.std.specs.Char.{digit_value, is_digit}
+use Rattle.std.specs.Fmt.{digit_glyph}
+use Rattle.std.specs.List.{list_all}
+use Rattle.std.specs.Str.Parse.{AllDigits, digits_value, digits_value_after, IsNumeral}
+use Rattle.hp_num.specs.Digits.{IsHexDigit, IsLowerHexDigit}
+use Rattle.hp_num.specs.HexText.{IsHexText, IsShortestHexText}
+use Rattle.hp_num.specs.Hexadecimal.{hexadecimal}
+use Rattle.hp_num.specs.ParsedHex.{is_hex_text, parsed_hex}
+use Rattle.hp_num.proofs.HexSteps.{last_digit, hexadecimal_digit, hexadecimal_step, hexadecimal_by_steps, length-hexadecimal-le}
+
+-- a digit below 16 is written by '0' to '9' or 'a' to 'f'
+glyph_lower : (d : ℕ) → d < 16 → IsLowerHexDigit (digit_glyph false d)
+glyph_lower d small = by (nat_lt d 10) refl
+  where
+    by : (t : Bool) → nat_lt d 10 ≡ t → IsLowerHexDigit (cond t (48 + d) (87 + d))
+    by true e = let l = ltb-true d 10 e in inl (omega arith, omega arith)
+    by false e = let l = ltb-false d 10 e in inr (omega arith, omega arith)
+
+pub all_lower : (n : ℕ) → n < 2 ^ 64 → All IsLowerHexDigit (hexadecimal n)
+all_lower = hexadecimal_by_steps (λ m ds. All IsLowerHexDigit ds)
+    (λ m l. All-cons IsLowerHexDigit (digit_glyph false m) [] (glyph_lower m l) (All-nil IsLowerHexDigit))
+    (λ m ds l h. All-push IsLowerHexDigit ds (last_digit m) h (glyph_lower (m % 16) (omega arith)))
+
+pub at_most_16 : (n : ℕ) → n < 2 ^ 64 → length (hexadecimal n) ≤ 16
+at_most_16 n small = length-hexadecimal-le 16 n (omega arith) (omega arith) small
+
+numeral : (n : ℕ) → n < 2 ^ 64 → IsNumeral 16 (hexadecimal n) × (digits_value 16 (hexadecimal n) ≡ n)
+numeral n small = digits_is_IsNumeral 16 false (omega arith) (omega arith) n (omega arith)
+
+pub not_empty : (n : ℕ) → n < 2 ^ 64 → 0 < length (hexadecimal n)
+not_empty n small = (numeral n small).0.0
+
+-- the test of each byte and the fact that each is a digit
+list_all_from_digits : (ds : List ℕ) → AllDigits 16 ds → list_all (λ b. is_digit b 16) ds ≡ true
+list_all_from_digits [] h = refl
+list_all_from_digits (d ∷ ds) h = rw (lt-ltb (digit_value d) 16 h.0) (list_all_from_digits ds h.1)
+
+-- both parts of a test that holds hold
+both : (a b : Bool) → (a && b) ≡ true → (a ≡ true) × (b ≡ true)
+both true true h = (refl, refl)
+both true false h = absurd (cc)
+both false b h = absurd (cc)
+
+digits_from_list_all : (ds : List ℕ) → list_all (λ b. is_digit b 16) ds ≡ true → AllDigits 16 ds
+digits_from_list_all [] h = tt
+digits_from_list_all (d ∷ ds) h =
+    let p = both (is_digit d 16) (list_all (λ b. is_digit b 16) ds) h in
+    (ltb-true (digit_value d) 16 p.0, digits_from_list_all ds p.1)
+
+-- a numeral of at most 16 digits has a number
+pub parsed_numeral : (text : List ℕ) → 0 < length text → length text ≤ 16 → AllDigits 16 text → parsed_hex text ≡ Some (digits_value 16 text)
+unfolding parsed_hex
+parsed_numeral text some short ds = rw (lt-ltb 0 (length text) some, le-leb (length text) 16 short, list_all_from_digits text ds)
+
+pub reads_back : (n : ℕ) → n < 2 ^ 64 → parsed_hex (hexadecimal n) ≡ Some n
+reads_back n small =
+    let k = numeral n small in
+    parsed_numeral (hexadecimal n) k.0.0 (at_most_16 n small) k.0.1 ∙ ap Some k.1
+
+-- what a text that has a number is
+pub record Parsed (text : List ℕ) (n : ℕ) : Type 0 where
+  pub some : 0 < length text
+  pub short : length text ≤ 16
+  pub digits : AllDigits 16 text
+  pub value : n ≡ digits_value 16 text
+
+pub parsed_is : (text : List ℕ) (n : ℕ) → parsed_hex text ≡ Some n → Parsed text n
+unfolding parsed_hex
+parsed_is text n h = by (nat_lt 0 (length text)) (nat_le (length text) 16) (list_all (λ b. is_digit b 16) text) refl refl refl h
+  where
+    by : (a b c : Bool) → nat_lt 0 (length text) ≡ a → nat_le (length text) 16 ≡ b → list_all (λ b. is_digit b 16) text ≡ c
+        → cond (a && b && c) (Some (digits_value 16 text)) None ≡ Some n → Parsed text n
+    by true true true p q r h = record {
+      some = ltb-true 0 (length text) p;
+      short = leb-true (length text) 16 q;
+      digits = digits_from_list_all text r;
+      value = cc;
+    }
+    by true true false p q r h = absurd (cc)
+    by true false c p q r h = absurd (cc)
+    by false b c p q r h = absurd (cc)
+
+pub shortest : (n : ℕ) → n < 2 ^ 64 → (text : List ℕ) → parsed_hex text ≡ Some n → length (hexadecimal n) ≤ length text
+shortest n small text h =
+    let p = parsed_is text n h in
+    length-hexadecimal-le (length text) n p.some (rw p.value (digits_value-lt 16 text p.digits)) small
+
+-- the bytes whose value is below 16 are the hexadecimal digits
+hex_digit_from_value : (b : ℕ) → digit_value b < 16 → IsHexDigit b
+hex_digit_from_value b = by (nat_lt b 48) (nat_lt b 58) (nat_lt b 65) (nat_lt b 91) (nat_lt b 97) (nat_lt b 123) refl refl refl refl refl refl
+  where
+    by : (t u v w x y : Bool) → nat_lt b 48 ≡ t → nat_lt b 58 ≡ u → nat_lt b 65 ≡ v → nat_lt b 91 ≡ w → nat_lt b 97 ≡ x → nat_lt b 123 ≡ y
+        → cond t 36 (cond u (b - 48) (cond v 36 (cond w (b - 55) (cond x 36 (cond y (b - 87) 36))))) < 16 → IsHexDigit b
+    by true u v w x y a e f g h i l = absurd (omega arith)
+    by false true v w x y a e f g h i l = let p = ltb-false b 48 a in let q = ltb-true b 58 e in inl (omega arith, omega arith)
+    by false false true w x y a e f g h i l = absurd (omega arith)
+    by false false false true x y a e f g h i l = let p = ltb-false b 65 f in inr (inr (omega arith, omega arith))
+    by false false false false true y a e f g h i l = absurd (omega arith)
+    by false false false false false true a e f g h i l = let p = ltb-false b 97 h in inr (inl (omega arith, omega arith))
+    by false false false false false false a e f g h i l = absurd (omega arith)
+
+hex_digit_value : (b : ℕ) → IsHexDigit b → digit_value b < 16
+hex_digit_value b (inl r) = grind (arith, nat_tests)
+hex_digit_value b (inr (inl r)) = grind (arith, nat_tests)
+hex_digit_value b (inr (inr r)) = grind (arith, nat_tests)
+
+hex_digits_from_values : (ds : List ℕ) → AllDigits 16 ds → All IsHexDigit ds
+hex_digits_from_values [] h = All-nil IsHexDigit
+hex_digits_from_values (d ∷ ds) h = All-cons IsHexDigit d ds (hex_digit_from_value d h.0) (hex_digits_from_values ds h.1)
+
+hex_digits_values : (ds : List ℕ) → All IsHexDigit ds → AllDigits 16 ds
+hex_digits_values [] h = tt
+hex_digits_values (d ∷ ds) h = (hex_digit_value d (All-head IsHexDigit d ds h), hex_digits_values ds (All-tail IsHexDigit d ds h))
+
+-- a text has a number exactly where it is a hexadecimal text
+pub parsed_hex_text : (text : List ℕ) → IsHexText text → parsed_hex text ≡ Some (digits_value 16 text)
+parsed_hex_text text h = parsed_numeral text h.not_empty h.at_most_16 (hex_digits_values text h.digits)
+
+pub hex_text_parsed : (text : List ℕ) (n : ℕ) → parsed_hex text ≡ Some n → IsHexText text
+hex_text_parsed text n h =
+    let p = parsed_is text n h in
+    record {
+      not_empty = p.some;
+      at_most_16 = p.short;
+      digits = hex_digits_from_values text p.digits;
+    }
+
+-- a digit in lower case is what is written of its value
+lower_glyph : (b : ℕ) → IsLowerHexDigit b → (digit_value b < 16) × (digit_glyph false (digit_value b) ≡ b)
+lower_glyph b (inl r) =
+    let v : digit_value b ≡ b - 48 = grind (arith, nat_tests) in
+    (omega arith, rw (v, lt-ltb (b - 48) 10 (omega arith)) (omega arith))
+lower_glyph b (inr r) =
+    let v : digit_value b ≡ b - 87 = grind (arith, nat_tests) in
+    (omega arith, rw (v, le-ltb (b - 87) 10 (omega arith)) (omega arith))
+
+le_value_after : (n : ℕ) (ds : List ℕ) → n ≤ digits_value_after 16 n ds
+le_value_after n [] = omega arith
+le_value_after n (c ∷ cs) = omega (arith, le_value_after (n * 16 + digit_value c) cs)
+
+hexadecimal_value_after : (n : ℕ) (ds : List ℕ) → 0 < n → All IsLowerHexDigit ds → digits_value_after 16 n ds < 2 ^ 64 → hexadecimal (digits_value_after 16 n ds) ≡ hexadecimal n ++ ds
+hexadecimal_value_after n [] some d small = sym (append-nil (hexadecimal n))
+hexadecimal_value_after n (c ∷ cs) some d small =
+    let m : ℕ = n * 16 + digit_value c in
+    let k = lower_glyph c (All-head IsLowerHexDigit c cs d) in
+    let front : m / 16 ≡ n = omega (arith, k.0) in
+    let low : m % 16 ≡ digit_value c = omega (arith, k.0) in
+    let end : last_digit m ≡ c = ap (digit_glyph false) low ∙ k.1 in
+    hexadecimal_value_after m cs (omega arith) (All-tail IsLowerHexDigit c cs d) small
+    ∙ ap (λ x. x ++ cs) (hexadecimal_step m (omega arith) (omega (arith, le_value_after m cs)) ∙ (λ i. hexadecimal (front i) ++ (end i ∷ [])))
+    ∙ append_assoc (hexadecimal n) (c ∷ []) cs
+
+-- lower-case digits with no leading zero, or just '0', are what is written of their value
+pub hexadecimal_value : (ds : List ℕ) → 0 < length ds → IsShortestHexText ds → digits_value 16 ds < 2 ^ 64 → hexadecimal (digits_value 16 ds) ≡ ds
+hexadecimal_value [] some s small = absurd (omega arith)
+hexadecimal_value (c ∷ []) some s small =
+    let k = lower_glyph c (All-head IsLowerHexDigit c [] s.lower_case) in
+    hexadecimal_digit (0 * 16 + digit_value c) (omega (arith, k.0)) ∙ ap (λ x. x ∷ []) (ap (digit_glyph false) {x = 0 * 16 + digit_value c} {y = digit_value c} (omega arith) ∙ k.1)
+hexadecimal_value (c ∷ e ∷ cs) some s small =
+    let k = lower_glyph c (All-head IsLowerHexDigit c (e ∷ cs) s.lower_case) in
+    let nonzero : 0 < 0 * 16 + digit_value c = first_nonzero c k (λ z. omega (arith, s.no_leading_zero z)) in
+    hexadecimal_value_after (0 * 16 + digit_value c) (e ∷ cs) nonzero (All-tail IsLowerHexDigit c (e ∷ cs) s.lower_case) small
+    ∙ ap (λ x. x ++ (e ∷ cs)) (hexadecimal_digit (0 * 16 + digit_value c) (omega (arith, k.0)) ∙ ap (λ x. x ∷ []) (ap (digit_glyph false) {x = 0 * 16 + digit_value c} {y = digit_value c} (omega arith) ∙ k.1))
+  where
+    first_nonzero : (c : ℕ) → (digit_value c < 16) × (digit_glyph false (digit_value c) ≡ c) → (c ≡ 48 → ⊥) → 0 < 0 * 16 + digit_value c
+    first_nonzero c k other = by (digit_value c) refl
+      where
+        by : (v : ℕ) → digit_value c ≡ v → 0 < 0 * 16 + digit_value c
+        by zero z = absurd (other (sym k.1 ∙ ap (digit_glyph false) z))
+        by (suc v) z = omega arith
+
+-- a shortest text that has a number is what is written of that number
+pub written : (text : List ℕ) (n : ℕ) → n < 2 ^ 64 → parsed_hex text ≡ Some n → IsShortestHexText text → hexadecimal n ≡ text
+written text n small h s =
+    let p = parsed_is text n h in
+    ap hexadecimal p.value ∙ hexadecimal_value text p.some s (omega (arith, p.value))
+
+-- a text that is none has no number
+pub not_parsed : (text : List ℕ) → (IsHexText text → ⊥) → parsed_hex text ≡ None
+not_parsed text none = by (parsed_hex text) refl
+  where
+    by : (o : Option ℕ) → parsed_hex text ≡ o → parsed_hex text ≡ None
+    by None e = e
+    by (Some n) e = absurd (none (hex_text_parsed text n e))
+
+-- a byte that is no digit makes it none
+pub not_hex_text_at : (text : List ℕ) (i : ℕ) → i < length text → (digit_value (get_or text i 0) < 16 → ⊥) → IsHexText text → ⊥
+not_hex_text_at text i h other is = other (hex_digit_value (get_or text i 0) (is.digits i 0 h))
+
+-- one more digit fits 64 bits after at most 15 of them
+pub room_for_digit : (text : List ℕ) (i : ℕ) → i < length text → length text ≤ 16 → AllDigits 16 (take i text) → digits_value 16 (take i text) * 16 + 15 < 2 ^ 64
+room_for_digit text i before short h =
+    let upto : 16 ^ length (take i text) ≤ 16 ^ 15 = pow-le-pow_right {n = 16} (omega arith) {i = length (take i text)} {j = 15} (omega (arith, length-take i text)) in
+    omega (arith, digits_value-lt 16 (take i text) h, upto)

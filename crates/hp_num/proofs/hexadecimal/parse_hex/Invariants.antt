@@ -1,0 +1,10 @@
+-- The bytes so far are digits, and the value is theirs.
+use Rattle.std.proofs.Common.{◌≡◌, ◌<◌, ◌≤◌, length, take}
+use Rattle.std.specs.Str.Parse.{AllDigits, digits_value}
+use Rattle.hp_num.proofs.hexadecimal.parse_hex.Given as goal
+
+abbrev pub invariant-loop-byte : goal.invariant-loop-byte
+invariant-loop-byte l = record {
+  digits : AllDigits 16 (take l.byte-index l.text);
+  value : l.value ≡ digits_value 16 (take l.byte-index l.text);
+}
