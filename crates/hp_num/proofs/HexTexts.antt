@@ -1,6 +1,5 @@
 -- What the texts that `hexadecimal` writes are, and what `parsed_hex` makes of a text.
-use Rattle.std.proofs.Common.{◌≡◌, ℕ, zero, suc, ◌+◌, ◌-◌, ◌*◌, ◌/◌, ◌%◌, ◌^◌, ◌<◌, ◌≤◌, ◌⊎◌, ◌&&◌, Bool, true, false, cond, nat_lt, nat_le, List, [], ◌∷◌, ◌++◌, length, get_or, refl, sym, ap, subst, ◌∙◌, ⊎_elim, inl, inr, append_assoc, append-nil, arith, lt-ltb, ltb-true, ltb-false, le-leb, le-ltb, leb-true, length-append, take, length-take, Option, Some, None, All, IsSome, IfSome, ◌↔◌, slice_index}
-use Rattle.std.proofs.lemmas.Bool.{cases_lt}
+use Rattle.std.proofs.Common.{◌≡◌, ℕ, zero, suc, ◌+◌, ◌-◌, ◌*◌, ◌/◌, ◌%◌, ◌^◌, ◌<◌, ◌≤◌, ◌&&◌, Bool, true, false, cond, nat_lt, nat_le, List, [], ◌∷◌, ◌++◌, length, get_or, refl, sym, ap, ◌∙◌, inl, inr, append_assoc, append-nil, arith, lt-ltb, ltb-true, ltb-false, le-leb, le-ltb, leb-true, take, length-take, Option, Some, None, All}
 use Rattle.std.proofs.lemmas.Bool.Decides.{nat_tests}
 use Rattle.std.proofs.lemmas.Fmt.{digits_is_IsNumeral}
 use Rattle.std.proofs.lemmas.List.Elements.{All-push, All-cons, All-nil, All-head, All-tail}
@@ -13,7 +12,7 @@ use Rattle.std.specs.Str.Parse.{AllDigits, digits_value, digits_value_after, IsN
 use Rattle.hp_num.specs.Digits.{IsHexDigit, IsLowerHexDigit}
 use Rattle.hp_num.specs.HexText.{IsHexText, IsShortestHexText}
 use Rattle.hp_num.specs.Hexadecimal.{hexadecimal}
-use Rattle.hp_num.specs.ParsedHex.{is_hex_text, parsed_hex}
+use Rattle.hp_num.specs.ParsedHex.{parsed_hex}
 use Rattle.hp_num.proofs.HexSteps.{last_digit, hexadecimal_digit, hexadecimal_step, hexadecimal_by_steps, length-hexadecimal-le}
 
 -- a digit below 16 is written by '0' to '9' or 'a' to 'f'

@@ -13,3 +13,6 @@ pub use decimal::put_dec;
 pub use hexadecimal::{parse_hex, put_hex};
 pub use memory::NoMemory;
 pub use text::Text;
+
+#[cfg(test)]
+mod tests;

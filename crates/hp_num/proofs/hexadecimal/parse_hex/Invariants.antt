@@ -1,5 +1,5 @@
 -- The bytes so far are digits, and the value is theirs.
-use Rattle.std.proofs.Common.{◌≡◌, ◌<◌, ◌≤◌, length, take}
+use Rattle.std.proofs.Common.{◌≡◌, take}
 use Rattle.std.specs.Str.Parse.{AllDigits, digits_value}
 use Rattle.hp_num.proofs.hexadecimal.parse_hex.Given as goal
 

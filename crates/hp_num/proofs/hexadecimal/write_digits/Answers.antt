@@ -1,5 +1,5 @@
 -- Each turn writes the last digit of what is left before the digits that stand.
-use Rattle.std.proofs.Common.{◌≡◌, ◌+◌, ◌^◌, ◌<◌, ◌≤◌, ◌++◌, length, drop, ◌-◌, ◌/◌, arith, append-nil, ap, ◌∙◌, length-set, drop_of_length-le}
+use Rattle.std.proofs.Common.{◌<◌, ◌++◌, ◌-◌, arith, append-nil, ap, ◌∙◌, length-set, drop_of_length-le}
 use Rattle.hp_num.specs.Hexadecimal.{hexadecimal}
 use Rattle.hp_num.proofs.HexSteps.{complete, proceed, length-hexadecimal_front}
 use Rattle.hp_num.proofs.HexTexts.{at_most_16, not_empty}
