@@ -1,18 +1,20 @@
 -- What the texts that `hexadecimal` writes are, and what `parsed_hex` makes of a text.
-use Rattle.std.proofs.Common.{◌≡◌, ℕ, zero, suc, ◌+◌, ◌-◌, ◌*◌, ◌/◌, ◌%◌, ◌^◌, ◌<◌, ◌≤◌, ◌&&◌, Bool, true, false, cond, nat_lt, nat_le, List, [], ◌∷◌, ◌++◌, length, get_or, refl, sym, ap, ◌∙◌, inl, inr, append_assoc, append-nil, arith, lt-ltb, ltb-true, ltb-false, le-leb, le-ltb, leb-true, take, length-take, Option, Some, None, All}
+use Rattle.std.proofs.Common.{◌≡◌, ℕ, zero, suc, ◌+◌, ◌-◌, ◌*◌, ◌/◌, ◌%◌, ◌^◌, ◌<◌, ◌≤◌, Bool, true, false, cond, nat_lt, List, [], ◌∷◌, ◌++◌, length, get_or, refl, sym, ap, subst, ◌∙◌, inl, inr, append_assoc, append-nil, arith, lt-ltb, ltb-true, ltb-false, le-ltb, take, length-take, Option, Some, None, All}
 use Rattle.std.proofs.lemmas.Bool.Decides.{nat_tests}
 use Rattle.std.proofs.lemmas.Fmt.{digits_is_IsNumeral}
 use Rattle.std.proofs.lemmas.List.Elements.{All-push, All-cons, All-nil, All-head, All-tail}
 use Rattle.std.proofs.lemmas.Int.Digits.{digits_value-lt}
 use Rattle.std.proofs.Math.Nat.{pow-le-pow_right}
-use Rattle.std.specs.Char.{digit_value, is_digit}
+use Rattle.std.proofs.lemmas.Option.{cond_some}
+use Rattle.std.specs.Char.{digit_value}
 use Rattle.std.specs.Fmt.{digit_glyph}
-use Rattle.std.specs.List.{list_all}
 use Rattle.std.specs.Str.Parse.{AllDigits, digits_value, digits_value_after, IsNumeral}
 use Rattle.hp_num.specs.Digits.{IsHexDigit, IsLowerHexDigit}
 use Rattle.hp_num.specs.HexText.{IsHexText, IsShortestHexText}
 use Rattle.hp_num.specs.Hexadecimal.{hexadecimal}
+use Rattle.hp_num.specs.Numeral.{is_numeral}
 use Rattle.hp_num.specs.ParsedHex.{parsed_hex}
+use Rattle.hp_num.proofs.Numerals.{Numeral, numeral_test, numeral_is}
 use Rattle.hp_num.proofs.HexSteps.{last_digit, hexadecimal_digit, hexadecimal_step, hexadecimal_by_steps, length-hexadecimal-le}
 
 -- a digit below 16 is written by '0' to '9' or 'a' to 'f'
@@ -37,60 +39,29 @@ numeral n small = digits_is_IsNumeral 16 false (omega arith) (omega arith) n (om
 pub not_empty : (n : ℕ) → n < 2 ^ 64 → 0 < length (hexadecimal n)
 not_empty n small = (numeral n small).0.0
 
--- the test of each byte and the fact that each is a digit
-list_all_from_digits : (ds : List ℕ) → AllDigits 16 ds → list_all (λ b. is_digit b 16) ds ≡ true
-list_all_from_digits [] h = refl
-list_all_from_digits (d ∷ ds) h = rw (lt-ltb (digit_value d) 16 h.0) (list_all_from_digits ds h.1)
-
--- both parts of a test that holds hold
-both : (a b : Bool) → (a && b) ≡ true → (a ≡ true) × (b ≡ true)
-both true true h = (refl, refl)
-both true false h = absurd (cc)
-both false b h = absurd (cc)
-
-digits_from_list_all : (ds : List ℕ) → list_all (λ b. is_digit b 16) ds ≡ true → AllDigits 16 ds
-digits_from_list_all [] h = tt
-digits_from_list_all (d ∷ ds) h =
-    let p = both (is_digit d 16) (list_all (λ b. is_digit b 16) ds) h in
-    (ltb-true (digit_value d) 16 p.0, digits_from_list_all ds p.1)
-
 -- a numeral of at most 16 digits has a number
-pub parsed_numeral : (text : List ℕ) → 0 < length text → length text ≤ 16 → AllDigits 16 text → parsed_hex text ≡ Some (digits_value 16 text)
+pub parsed_numeral : (text : List ℕ) → Numeral 16 16 text → parsed_hex text ≡ Some (digits_value 16 text)
 unfolding parsed_hex
-parsed_numeral text some short ds = rw (lt-ltb 0 (length text) some, le-leb (length text) 16 short, list_all_from_digits text ds)
+parsed_numeral text h = rw (numeral_test 16 16 text h)
 
 pub reads_back : (n : ℕ) → n < 2 ^ 64 → parsed_hex (hexadecimal n) ≡ Some n
 reads_back n small =
     let k = numeral n small in
-    parsed_numeral (hexadecimal n) k.0.0 (at_most_16 n small) k.0.1 ∙ ap Some k.1
+    parsed_numeral (hexadecimal n) (record {
+      some = k.0.0;
+      short = at_most_16 n small;
+      digits = k.0.1;
+    }) ∙ ap Some k.1
 
 -- what a text that has a number is
-pub record Parsed (text : List ℕ) (n : ℕ) : Type 0 where
-  pub some : 0 < length text
-  pub short : length text ≤ 16
-  pub digits : AllDigits 16 text
-  pub value : n ≡ digits_value 16 text
-
-pub parsed_is : (text : List ℕ) (n : ℕ) → parsed_hex text ≡ Some n → Parsed text n
+parsed_is : (text : List ℕ) (n : ℕ) → parsed_hex text ≡ Some n → Numeral 16 16 text × (digits_value 16 text ≡ n)
 unfolding parsed_hex
-parsed_is text n h = by (nat_lt 0 (length text)) (nat_le (length text) 16) (list_all (λ b. is_digit b 16) text) refl refl refl h
-  where
-    by : (a b c : Bool) → nat_lt 0 (length text) ≡ a → nat_le (length text) 16 ≡ b → list_all (λ b. is_digit b 16) text ≡ c
-        → cond (a && b && c) (Some (digits_value 16 text)) None ≡ Some n → Parsed text n
-    by true true true p q r h = record {
-      some = ltb-true 0 (length text) p;
-      short = leb-true (length text) 16 q;
-      digits = digits_from_list_all text r;
-      value = cc;
-    }
-    by true true false p q r h = absurd (cc)
-    by true false c p q r h = absurd (cc)
-    by false b c p q r h = absurd (cc)
+parsed_is text n h = let p = cond_some (is_numeral 16 16 text) (digits_value 16 text) n h in (numeral_is 16 16 text p.0, p.1)
 
 pub shortest : (n : ℕ) → n < 2 ^ 64 → (text : List ℕ) → parsed_hex text ≡ Some n → length (hexadecimal n) ≤ length text
 shortest n small text h =
     let p = parsed_is text n h in
-    length-hexadecimal-le (length text) n p.some (rw p.value (digits_value-lt 16 text p.digits)) small
+    length-hexadecimal-le (length text) n p.0.some (subst (λ v. v < 16 ^ length text) p.1 (digits_value-lt 16 text p.0.digits)) small
 
 -- the bytes whose value is below 16 are the hexadecimal digits
 hex_digit_from_value : (b : ℕ) → digit_value b < 16 → IsHexDigit b
@@ -121,15 +92,19 @@ hex_digits_values (d ∷ ds) h = (hex_digit_value d (All-head IsHexDigit d ds h)
 
 -- a text has a number exactly where it is a hexadecimal text
 pub parsed_hex_text : (text : List ℕ) → IsHexText text → parsed_hex text ≡ Some (digits_value 16 text)
-parsed_hex_text text h = parsed_numeral text h.not_empty h.at_most_16 (hex_digits_values text h.digits)
+parsed_hex_text text h = parsed_numeral text (record {
+  some = h.not_empty;
+  short = h.at_most_16;
+  digits = hex_digits_values text h.digits;
+})
 
 pub hex_text_parsed : (text : List ℕ) (n : ℕ) → parsed_hex text ≡ Some n → IsHexText text
 hex_text_parsed text n h =
     let p = parsed_is text n h in
     record {
-      not_empty = p.some;
-      at_most_16 = p.short;
-      digits = hex_digits_from_values text p.digits;
+      not_empty = p.0.some;
+      at_most_16 = p.0.short;
+      digits = hex_digits_from_values text p.0.digits;
     }
 
 -- a digit in lower case is what is written of its value
@@ -180,7 +155,7 @@ hexadecimal_value (c ∷ e ∷ cs) some s small =
 pub written : (text : List ℕ) (n : ℕ) → n < 2 ^ 64 → parsed_hex text ≡ Some n → IsShortestHexText text → hexadecimal n ≡ text
 written text n small h s =
     let p = parsed_is text n h in
-    ap hexadecimal p.value ∙ hexadecimal_value text p.some s (omega (arith, p.value))
+    ap hexadecimal (sym p.1) ∙ hexadecimal_value text p.0.some s (omega (arith, p.1))
 
 -- a text that is none has no number
 pub not_parsed : (text : List ℕ) → (IsHexText text → ⊥) → parsed_hex text ≡ None
@@ -199,3 +174,6 @@ pub room_for_digit : (text : List ℕ) (i : ℕ) → i < length text → length 
 room_for_digit text i before short h =
     let upto : 16 ^ length (take i text) ≤ 16 ^ 15 = pow-le-pow_right {n = 16} (omega arith) {i = length (take i text)} {j = 15} (omega (arith, length-take i text)) in
     omega (arith, digits_value-lt 16 (take i text) h, upto)
+
+-- what callers learn of the text of a number
+pub ruleset hex_text_laws = (not_empty, at_most_16, all_lower, reads_back, shortest)

@@ -1,3 +1,4 @@
 pub mod DecimalTexts
 pub mod HexSteps
 pub mod HexTexts
+pub mod Numerals

@@ -35,7 +35,7 @@ pub fn parse_hex(text: &[u8]) -> Option<u64>
 /// in `0`, and without `0x`. On `NoMemory`, `out` holds what it held before.
 ///
 /// The call can't fail where `out` has room for the digits.
-#[tactic(auto, using(crate::proofs::HexTexts::not_empty, crate::proofs::HexTexts::at_most_16, crate::proofs::HexTexts::all_lower, crate::proofs::HexTexts::reads_back, crate::proofs::HexTexts::shortest))]
+#[tactic(auto, using(crate::proofs::HexTexts::hex_text_laws))]
 pub fn put_hex(out: &mut Vec<u8>, n: u64) -> Result<(), NoMemory>
     ensures appended { OnOk result (out.new.items ≡ out.old.items ++ hexadecimal n) }
     ensures unchanged { OnErr result (out.new.items ≡ out.old.items) }
@@ -84,7 +84,7 @@ fn lower_case_digit(value: u8) -> u8
 
 /// The laws of the hexadecimal texts of all numbers of 64 bits. It does nothing: a caller whose contract speaks of
 /// numbers that it does not write itself calls it for its clauses.
-#[tactic(auto, using(crate::proofs::HexTexts::not_empty, crate::proofs::HexTexts::at_most_16, crate::proofs::HexTexts::all_lower, crate::proofs::HexTexts::reads_back))]
+#[tactic(auto, using(crate::proofs::HexTexts::hex_text_laws))]
 pub fn hexadecimal_texts()
     ensures not_empty { (n : ℕ) → n < 2 ^ 64 → 0 < length (hexadecimal n) }
     ensures at_most_16 { (n : ℕ) → n < 2 ^ 64 → length (hexadecimal n) ≤ 16 }

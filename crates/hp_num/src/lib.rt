@@ -9,8 +9,8 @@ mod memory;
 mod text;
 
 pub use bytes::put_bytes;
-pub use decimal::put_dec;
-pub use hexadecimal::{parse_hex, put_hex};
+pub use decimal::{decimal_texts, parse_dec, put_dec};
+pub use hexadecimal::{hexadecimal_texts, parse_hex, put_hex};
 pub use memory::NoMemory;
 pub use text::Text;
 

@@ -1,6 +1,6 @@
 //! Worked cases, and each call that allocates once with ample memory.
 
-use crate::{NoMemory, Text, parse_hex, put_bytes, put_dec, put_hex};
+use crate::{NoMemory, Text, parse_dec, parse_hex, put_bytes, put_dec, put_hex};
 use std::alloc::AllocError;
 
 #[test]
@@ -13,6 +13,19 @@ fn hexadecimal_numbers(rt: HostRuntime) {
     assert_eq!(rt; parse_hex(b""), None);
     assert_eq!(rt; parse_hex(b"0x1"), None);
     assert_eq!(rt; parse_hex(b"1 "), None);
+}
+
+#[test]
+fn decimal_numbers(rt: HostRuntime) {
+    assert_eq!(rt; parse_dec(b"0"), Some(0));
+    assert_eq!(rt; parse_dec(b"10500"), Some(10500));
+    assert_eq!(rt; parse_dec(b"00000000000000000132"), Some(132));
+    assert_eq!(rt; parse_dec(b"18446744073709551615"), Some(u64::MAX));
+    assert_eq!(rt; parse_dec(b"18446744073709551616"), None, "2^64");
+    assert_eq!(rt; parse_dec(b"000000000000000000132"), None, "21 digits");
+    assert_eq!(rt; parse_dec(b""), None);
+    assert_eq!(rt; parse_dec(b"+1"), None);
+    assert_eq!(rt; parse_dec(b"1a"), None);
 }
 
 #[test]

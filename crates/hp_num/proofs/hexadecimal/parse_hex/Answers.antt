@@ -48,7 +48,11 @@ parsed : (c : goal.After-loop-byte) → parsed_hex c.args.text.now ≡ Some c.lo
 parsed c =
     let whole : take c.loop-byte.byte-index c.args.text.now ≡ c.args.text.now = take_all c.loop-byte.byte-index c.args.text.now (omega arith) in
     let some : 0 < length c.args.text.now = pos_of_ne-zero (eqb-false (length c.args.text.now) 0 (sym c.is_empty.ensures ∙ c.if-is_empty.false)) in
-    parsed_numeral c.args.text.now some (omega arith) (subst (AllDigits 16) whole c.loop-byte.invariant.digits)
+    parsed_numeral c.args.text.now (record {
+      some = some;
+      short = omega arith;
+      digits = subst (AllDigits 16) whole c.loop-byte.invariant.digits;
+    })
     ∙ ap Some (sym (c.loop-byte.invariant.value ∙ ap (digits_value 16) whole))
 
 pub returns-clause-parsed : goal.returns-clause-parsed
