@@ -19,18 +19,22 @@ decimal_digits_from_values : (ds : List ℕ) → AllDigits 10 ds → All IsDecim
 decimal_digits_from_values [] h = All-nil IsDecimalDigit
 decimal_digits_from_values (d ∷ ds) h = All-cons IsDecimalDigit d ds (digit_from_value d h.0) (decimal_digits_from_values ds h.1)
 
+-- and the other way
 decimal_digits_values : (ds : List ℕ) → All IsDecimalDigit ds → AllDigits 10 ds
 decimal_digits_values [] h = tt
 decimal_digits_values (d ∷ ds) h =
     let digit = All-head IsDecimalDigit d ds h in
     (omega (arith, digit_value_digit d digit, digit), decimal_digits_values ds (All-tail IsDecimalDigit d ds h))
 
+-- each byte that is written is a digit
 pub all_decimal : (n : ℕ) → n < 2 ^ 64 → All IsDecimalDigit (decimal n)
 all_decimal n small = decimal_digits_from_values (decimal n) (decimal_is_IsNumeral n small).0.1
 
+-- there is a digit
 pub not_empty : (n : ℕ) → n < 2 ^ 64 → 0 < length (decimal n)
 not_empty n small = decimal_nonempty n small
 
+-- 64 bits take at most 20 digits
 pub at_most_20 : (n : ℕ) → n < 2 ^ 64 → length (decimal n) ≤ 20
 at_most_20 n small = length-decimal-le 20 n (omega arith) (omega arith) small
 
@@ -47,6 +51,7 @@ parsed_is text n h =
     let q = both (is_numeral 10 20 text) (nat_lt (digits_value 10 text) (2 ^ 64)) p.0 in
     (numeral_is 10 20 text q.0, ltb-true (digits_value 10 text) (2 ^ 64) q.1, p.1)
 
+-- what is written reads back
 pub reads_back : (n : ℕ) → n < 2 ^ 64 → parsed_dec (decimal n) ≡ Some n
 reads_back n small =
     let k = decimal_is_IsNumeral n small in
@@ -56,12 +61,13 @@ reads_back n small =
       digits = k.0.1;
     }) (omega (arith, k.1)) ∙ ap Some k.1
 
+-- no text of the number is shorter
 pub shortest : (n : ℕ) → n < 2 ^ 64 → (text : List ℕ) → parsed_dec text ≡ Some n → length (decimal n) ≤ length text
 shortest n small text h =
     let p = parsed_is text n h in
     length-decimal-le (length text) n p.0.some (subst (λ v. v < 10 ^ length text) p.2 (digits_value-lt 10 text p.0.digits)) small
 
--- a text has a number exactly where it is a decimal text
+-- a text that has a number is a decimal text
 pub dec_text_parsed : (text : List ℕ) (n : ℕ) → parsed_dec text ≡ Some n → IsDecText text
 dec_text_parsed text n h =
     let p = parsed_is text n h in
@@ -72,6 +78,7 @@ dec_text_parsed text n h =
       fits = p.1;
     }
 
+-- a text that is none has no number
 pub not_parsed : (text : List ℕ) → (IsDecText text → ⊥) → parsed_dec text ≡ None
 not_parsed text none = by (parsed_dec text) refl
   where

@@ -25,17 +25,21 @@ glyph_lower d small = by (nat_lt d 10) refl
     by true e = let l = ltb-true d 10 e in inl (omega arith, omega arith)
     by false e = let l = ltb-false d 10 e in inr (omega arith, omega arith)
 
+-- each digit that is written is in lower case
 pub all_lower : (n : ℕ) → n < 2 ^ 64 → All IsLowerHexDigit (hexadecimal n)
 all_lower = hexadecimal_by_steps (λ m ds. All IsLowerHexDigit ds)
     (λ m l. All-cons IsLowerHexDigit (digit_glyph false m) [] (glyph_lower m l) (All-nil IsLowerHexDigit))
     (λ m ds l h. All-push IsLowerHexDigit ds (last_digit m) h (glyph_lower (m % 16) (omega arith)))
 
+-- 64 bits take at most 16 digits
 pub at_most_16 : (n : ℕ) → n < 2 ^ 64 → length (hexadecimal n) ≤ 16
 at_most_16 n small = length-hexadecimal-le 16 n (omega arith) (omega arith) small
 
+-- the digits that are written have the number as their value
 numeral : (n : ℕ) → n < 2 ^ 64 → IsNumeral 16 (hexadecimal n) × (digits_value 16 (hexadecimal n) ≡ n)
 numeral n small = digits_is_IsNumeral 16 false (omega arith) (omega arith) n (omega arith)
 
+-- there is a digit
 pub not_empty : (n : ℕ) → n < 2 ^ 64 → 0 < length (hexadecimal n)
 not_empty n small = (numeral n small).0.0
 
@@ -44,6 +48,7 @@ pub parsed_numeral : (text : List ℕ) → Numeral 16 16 text → parsed_hex tex
 unfolding parsed_hex
 parsed_numeral text h = rw (numeral_test 16 16 text h)
 
+-- what is written reads back
 pub reads_back : (n : ℕ) → n < 2 ^ 64 → parsed_hex (hexadecimal n) ≡ Some n
 reads_back n small =
     let k = numeral n small in
@@ -58,6 +63,7 @@ parsed_is : (text : List ℕ) (n : ℕ) → parsed_hex text ≡ Some n → Numer
 unfolding parsed_hex
 parsed_is text n h = let p = cond_some (is_numeral 16 16 text) (digits_value 16 text) n h in (numeral_is 16 16 text p.0, p.1)
 
+-- no text of the number is shorter
 pub shortest : (n : ℕ) → n < 2 ^ 64 → (text : List ℕ) → parsed_hex text ≡ Some n → length (hexadecimal n) ≤ length text
 shortest n small text h =
     let p = parsed_is text n h in
@@ -77,27 +83,23 @@ hex_digit_from_value b = by (nat_lt b 48) (nat_lt b 58) (nat_lt b 65) (nat_lt b 
     by false false false false false true a e f g h i l = let p = ltb-false b 97 h in inr (inl (omega arith, omega arith))
     by false false false false false false a e f g h i l = absurd (omega arith)
 
+-- and the other way
 hex_digit_value : (b : ℕ) → IsHexDigit b → digit_value b < 16
 hex_digit_value b (inl r) = grind (arith, nat_tests)
 hex_digit_value b (inr (inl r)) = grind (arith, nat_tests)
 hex_digit_value b (inr (inr r)) = grind (arith, nat_tests)
 
+-- the same of a list of bytes
 hex_digits_from_values : (ds : List ℕ) → AllDigits 16 ds → All IsHexDigit ds
 hex_digits_from_values [] h = All-nil IsHexDigit
 hex_digits_from_values (d ∷ ds) h = All-cons IsHexDigit d ds (hex_digit_from_value d h.0) (hex_digits_from_values ds h.1)
 
+-- and the other way
 hex_digits_values : (ds : List ℕ) → All IsHexDigit ds → AllDigits 16 ds
 hex_digits_values [] h = tt
 hex_digits_values (d ∷ ds) h = (hex_digit_value d (All-head IsHexDigit d ds h), hex_digits_values ds (All-tail IsHexDigit d ds h))
 
--- a text has a number exactly where it is a hexadecimal text
-pub parsed_hex_text : (text : List ℕ) → IsHexText text → parsed_hex text ≡ Some (digits_value 16 text)
-parsed_hex_text text h = parsed_numeral text (record {
-  some = h.not_empty;
-  short = h.at_most_16;
-  digits = hex_digits_values text h.digits;
-})
-
+-- a text that has a number is a hexadecimal text
 pub hex_text_parsed : (text : List ℕ) (n : ℕ) → parsed_hex text ≡ Some n → IsHexText text
 hex_text_parsed text n h =
     let p = parsed_is text n h in
@@ -116,10 +118,12 @@ lower_glyph b (inr r) =
     let v : digit_value b ≡ b - 87 = grind (arith, nat_tests) in
     (omega arith, rw (v, le-ltb (b - 87) 10 (omega arith)) (omega arith))
 
+-- further digits do not make the value smaller
 le_value_after : (n : ℕ) (ds : List ℕ) → n ≤ digits_value_after 16 n ds
 le_value_after n [] = omega arith
 le_value_after n (c ∷ cs) = omega (arith, le_value_after (n * 16 + digit_value c) cs)
 
+-- digits in lower case that follow those of a number are the end of the text of the whole
 hexadecimal_value_after : (n : ℕ) (ds : List ℕ) → 0 < n → All IsLowerHexDigit ds → digits_value_after 16 n ds < 2 ^ 64 → hexadecimal (digits_value_after 16 n ds) ≡ hexadecimal n ++ ds
 hexadecimal_value_after n [] some d small = sym (append-nil (hexadecimal n))
 hexadecimal_value_after n (c ∷ cs) some d small =

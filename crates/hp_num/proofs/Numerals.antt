@@ -11,10 +11,12 @@ both true true h = (refl, refl)
 both true false h = absurd (cc)
 both false b h = absurd (cc)
 
+-- the test of each byte and the fact that each is a digit
 list_all_from_digits : (base : ℕ) (ds : List ℕ) → AllDigits base ds → list_all (λ b. is_digit b base) ds ≡ true
 list_all_from_digits base [] h = refl
 list_all_from_digits base (d ∷ ds) h = rw (lt-ltb (digit_value d) base h.0) (list_all_from_digits base ds h.1)
 
+-- and the other way
 digits_from_list_all : (base : ℕ) (ds : List ℕ) → list_all (λ b. is_digit b base) ds ≡ true → AllDigits base ds
 digits_from_list_all base [] h = tt
 digits_from_list_all base (d ∷ ds) h =
@@ -27,9 +29,11 @@ pub record Numeral (base most : ℕ) (text : List ℕ) : Type 0 where
   pub short : length text ≤ most
   pub digits : AllDigits base text
 
+-- a numeral meets the test
 pub numeral_test : (base most : ℕ) (text : List ℕ) → Numeral base most text → is_numeral base most text ≡ true
 numeral_test base most text h = rw (lt-ltb 0 (length text) h.some, le-leb (length text) most h.short) (list_all_from_digits base text h.digits)
 
+-- what meets the test is a numeral
 pub numeral_is : (base most : ℕ) (text : List ℕ) → is_numeral base most text ≡ true → Numeral base most text
 numeral_is base most text h =
     let front = both (nat_lt 0 (length text) && nat_le (length text) most) (list_all (λ b. is_digit b base) text) h in
