@@ -1,0 +1,10 @@
+pub mod Folder
+pub mod Faults
+pub mod Taken
+pub mod Whole
+pub mod Calls
+pub mod SureStoreState
+pub mod MemStoreState
+pub mod MemSinkState
+pub mod HeldFiles
+pub mod OpenAnswer
