@@ -1,0 +1,3 @@
+pub mod ItemOf
+pub mod Reads
+pub mod Written
