@@ -1,0 +1,10 @@
+pub mod Events
+pub mod LiveBytes
+pub mod LiveBlocks
+pub mod InfoBlocks
+pub mod Temporary
+pub mod Faults
+pub mod LedgerState
+pub mod StandsFor
+pub mod Consistent
+pub mod Steps

@@ -1,0 +1,25 @@
+//! The events of a heap trace, and the faults that an event has after the events before it.
+//! What an event does to the figures is the ledger's part.
+use thiserror::Error;
+
+/// One event of a heap trace. Alike sizes of one stack share an info, which events name by its number.
+#[derive(Clone, Copy, Debug, PartialEq, Eq)]
+pub enum Event {
+    /// A block of `size` bytes of the info is allocated in the stack.
+    Alloc { info: u32, stack: u32, size: u64 },
+    /// One of the info's live blocks is freed. Stack and size are those of its allocation.
+    Free { info: u32, stack: u32, size: u64 },
+    /// The clock shows `ms` milliseconds. A clock value is counted neither as an event nor in any figure.
+    Tick { ms: u64 },
+}
+
+/// Why an event can't follow the events before it.
+#[derive(Clone, Copy, Debug, PartialEq, Eq, Error)]
+pub enum EventFault {
+    /// A `Free` whose info has no live block.
+    #[error("free of nothing")]
+    FreeOfNothing,
+    /// An `Alloc` that makes the sum of all allocated sizes pass 2^62 bytes.
+    #[error("too many bytes allocated")]
+    CostTooLarge,
+}
