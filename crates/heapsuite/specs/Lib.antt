@@ -1,0 +1,16 @@
+pub mod Lines
+pub mod Totals
+pub mod Peak
+pub mod TraceEvents
+pub mod TraceFault
+pub mod TraceReader
+pub mod SummaryText
+pub mod Words
+pub mod Message
+pub mod MessageBytes
+pub mod FileRead
+pub mod Answer
+pub mod Outcome
+pub mod ReadAnswer
+pub mod RunOutcome
+pub mod Delivery

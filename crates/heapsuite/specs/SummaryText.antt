@@ -1,0 +1,41 @@
+-- The summary of a trace, and its text: six lines of figures.
+use Rattle.std.specs.Prelude.{ℕ, List, ◌++◌, codes, decimal}
+use Rattle.live_ledger.specs.declared.event.Event.{Event}
+use Rattle.live_ledger.specs.Events.{event_count}
+use Rattle.live_ledger.specs.LiveBytes.{allocated_bytes, live_bytes}
+use Rattle.live_ledger.specs.LiveBlocks.{calls, live_blocks}
+use Rattle.live_ledger.specs.Temporary.{temporary_count}
+use Rattle.heapsuite.specs.declared.summary.Summary.{Summary}
+use Rattle.heapsuite.specs.Totals.{totals}
+use Rattle.heapsuite.specs.Peak.{peak_of}
+
+-- the figures of a trace of these events
+unfoldable pub summary_of : List Event → Summary
+summary_of events = record {
+  totals = record {
+    events = event_count events;
+    calls = calls events;
+    temporary = temporary_count events;
+    allocated = allocated_bytes events;
+    live = live_bytes events;
+    blocks = live_blocks events;
+  };
+  peak = peak_of (totals events);
+}
+
+-- a label and a figure
+abbrev pub figure : List ℕ → ℕ → List ℕ
+figure label n = label ++ decimal n
+
+-- the six lines of these figures
+unfoldable pub summary_text : Summary → List ℕ
+summary_text summary =
+    figure (codes "events: ") summary.totals.events ++
+    (figure (codes "\ncalls: ") summary.totals.calls ++
+    (figure (codes "\ntemporary: ") summary.totals.temporary ++
+    (figure (codes "\nallocated: ") summary.totals.allocated ++
+    (figure (codes "\npeak: ") summary.peak.total ++
+    (figure (codes " at event ") summary.peak.moment ++
+    (figure (codes "\nleaked: ") summary.totals.live ++
+    (figure (codes " in ") summary.totals.blocks ++
+    codes " blocks\n")))))))

@@ -1,0 +1,59 @@
+//! `heapsuite`: reports on heap traces.
+//!
+//! The program makes the real store and outputs and ends with the status of `run::heapsuite_run`, which has the
+//! program's contract.
+#![tactic(auto)]
+
+mod command;
+mod deliver;
+mod lines;
+mod message;
+mod outcome;
+mod peak;
+mod read_file;
+mod run;
+mod summary;
+mod trace;
+mod words;
+
+use deliver::deliver;
+use hp_num::NoMemory;
+use hp_outside::{FsStore, Limits, StdSink};
+use outcome::Outcome;
+use run::heapsuite_run;
+use std::alloc::Global;
+use std::env;
+use std::process::ExitCode;
+
+/// The words after the program's name. Where they can't be had, or one isn't UTF-8, there are none.
+fn given_words(rt: &HostRuntime, alloc: Global) -> Result<Vec<String>, NoMemory> {
+    let mut words = Vec::new(alloc);
+    if let Ok(all) = env::args(rt) {
+        for word in all.skip(1) {
+            words.push(word)?;
+        }
+    }
+    Ok(words)
+}
+
+fn main(rt: HostRuntime) -> ExitCode {
+    let alloc = rt.alloc();
+    let mut store = FsStore::new(&rt);
+    let mut out = StdSink::new(rt.stdout());
+    let mut err = StdSink::new(rt.stderr());
+    let status = match given_words(&rt, alloc) {
+        Ok(words) => heapsuite_run(
+            alloc,
+            &words,
+            &Limits::standard(),
+            &mut store,
+            &mut out,
+            &mut err,
+        ),
+        Err(NoMemory) => deliver(&Outcome::no_memory(alloc), &mut out, &mut err),
+    };
+    ExitCode::from(status)
+}
+
+#[cfg(test)]
+mod tests;

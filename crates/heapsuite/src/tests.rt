@@ -1,0 +1,308 @@
+//! The worked cases over the top call, with texts from the format's description, and each fault of a store or an
+//! output once.
+
+use crate::run::heapsuite_run;
+use hp_outside::{Limits, MemSink, MemStore, SureSink, SureStore};
+use std::alloc::Global;
+use std::process::Abort;
+use std::test::Fail;
+
+const TWO_SIZES: &str = "v 10500 2\na 64 0\na 20 0\n+ 0\n+ 1\n- 0\n+ 0\n";
+
+const TWO_SIZES_SUMMARY: &str =
+    "events: 4\ncalls: 3\ntemporary: 0\nallocated: 232\npeak: 132 at event 2\nleaked: 132 in 2 blocks\n";
+
+const NO_EVENTS_SUMMARY: &str =
+    "events: 0\ncalls: 0\ntemporary: 0\nallocated: 0\npeak: 0 at event 0\nleaked: 0 in 0 blocks\n";
+
+const USAGE: &str = "usage: heapsuite COMMAND [OPTION]... [FILE]\ncommands: summary\n";
+
+/// A run over a folder with one file, and what is expected of it. A call of number 0 never fails.
+#[derive(Clone, Copy)]
+struct Case {
+    words: &'static [&'static str],
+    file: &'static str,
+    trace: &'static str,
+    piece: usize,
+    input: u32,
+    failing_store_call: u64,
+    out_room: usize,
+    failing_out_call: u64,
+    err_room: usize,
+    failing_err_call: u64,
+    status: u8,
+    output: &'static str,
+    message: &'static str,
+}
+
+/// `summary t` over a trace, all calls sound.
+const fn summary(
+    trace: &'static str,
+    status: u8,
+    output: &'static str,
+    message: &'static str,
+) -> Case {
+    Case {
+        words: &["summary", "t"],
+        file: "t",
+        trace,
+        piece: 16,
+        input: 1000,
+        failing_store_call: 0,
+        out_room: 1000,
+        failing_out_call: 0,
+        err_room: 1000,
+        failing_err_call: 0,
+        status,
+        output,
+        message,
+    }
+}
+
+/// Words over a folder that has case two-sizes as `t`, all calls sound.
+const fn words(
+    words: &'static [&'static str],
+    status: u8,
+    output: &'static str,
+    message: &'static str,
+) -> Case {
+    Case {
+        words,
+        ..summary(TWO_SIZES, status, output, message)
+    }
+}
+
+/// The words of a command line.
+fn words_of(alloc: Global, words: &[&str]) -> Result<Vec<String>, Fail> {
+    let mut all = Vec::new(alloc);
+    for word in words {
+        all.push(String::from_str(alloc, word)?)?;
+    }
+    Ok(all)
+}
+
+/// Runs a case, and asserts the status and what both outputs hold.
+fn expect(rt: &impl Abort, alloc: Global, case: &Case) -> Result<(), Fail> {
+    let words = words_of(alloc, case.words)?;
+    let limits = Limits {
+        input: u64::from(case.input),
+        line: 9,
+        order: 1,
+    };
+    let mut store = MemStore::new(alloc, case.piece.max(1));
+    store.add(case.file, case.trace.as_bytes())?;
+    store.fail_at(case.failing_store_call)?;
+    let mut out = MemSink::new(alloc, case.out_room)?;
+    out.fail_at(case.failing_out_call)?;
+    let mut err = MemSink::new(alloc, case.err_room)?;
+    err.fail_at(case.failing_err_call)?;
+    let status = heapsuite_run(alloc, &words, &limits, &mut store, &mut out, &mut err);
+    assert_eq!(rt; out.bytes(), case.output.as_bytes(), "standard output");
+    assert_eq!(rt; err.bytes(), case.message.as_bytes(), "standard error");
+    assert_eq!(rt; status, case.status, "status");
+    Ok(())
+}
+
+#[test]
+fn figures_of_traces(rt: HostRuntime) -> Result<(), Fail> {
+    let table = [
+        summary("v 10500 2\n", 0, NO_EVENTS_SUMMARY, ""),
+        summary("v 10500 2", 0, NO_EVENTS_SUMMARY, ""),
+        // The total 150 stands after events 4 and 7, and the first counts; two allocations are temporary.
+        summary(
+            "v 10500 2\na 64 0\na 32 0\n+ 1\n+ 1\n- 1\n+ 0\n- 0\n+ 1\n+ 1\n",
+            0,
+            "events: 7\ncalls: 5\ntemporary: 2\nallocated: 300\npeak: 150 at event 4\nleaked: 150 in 3 blocks\n",
+            "",
+        ),
+        // Allocated sizes up to 2^62.
+        summary(
+            "v 10500 2\na 2000000000000000 0\na 0 0\n+ 0\n+ 0\n+ 1\n",
+            0,
+            "events: 3\ncalls: 3\ntemporary: 0\nallocated: 4611686018427387904\npeak: 4611686018427387904 at event 2\nleaked: 4611686018427387904 in 3 blocks\n",
+            "",
+        ),
+    ];
+    for case in table {
+        expect(&rt, rt.alloc(), &case)?;
+    }
+    Ok(())
+}
+
+#[test]
+fn cut_reads(rt: HostRuntime) -> Result<(), Fail> {
+    let last_line_open = "v 10500 2\na 64 0\na 20 0\n+ 0\n+ 1\n- 0\n+ 0";
+    for trace in [TWO_SIZES, last_line_open] {
+        for piece in 1..TWO_SIZES.len() + 2 {
+            let case = Case {
+                piece,
+                ..summary(trace, 0, TWO_SIZES_SUMMARY, "")
+            };
+            expect(&rt, rt.alloc(), &case)?;
+        }
+    }
+    Ok(())
+}
+
+#[test]
+fn refused_traces(rt: HostRuntime) -> Result<(), Fail> {
+    let table = [
+        summary("", 1, "", "heapsuite: t:1: later kind\n"),
+        summary("\n", 1, "", "heapsuite: t:1: later kind\n"),
+        summary("a 64 0\n", 1, "", "heapsuite: t:1: later kind\n"),
+        summary("v 10500 3\n", 1, "", "heapsuite: t:1: later kind\n"),
+        summary(
+            "v 10500 2\nv 10500 2\n",
+            1,
+            "",
+            "heapsuite: t:2: later kind\n",
+        ),
+        summary("v 10500 2\n\n", 1, "", "heapsuite: t:2: later kind\n"),
+        summary("v 10500 2\na 64 1\n", 1, "", "heapsuite: t:2: later kind\n"),
+        summary(
+            "v 10500 2\na 64 0\n+ 1\n",
+            1,
+            "",
+            "heapsuite: t:3: later kind\n",
+        ),
+        summary(
+            "v 10500 2\na 64 0\n+ 100000000\n",
+            1,
+            "",
+            "heapsuite: t:3: later kind\n",
+        ),
+        summary(
+            "v 10500 2\na 64 0\n+ 00\n",
+            1,
+            "",
+            "heapsuite: t:3: later kind\n",
+        ),
+        summary(
+            "v 10500 2\na 64 0\n- 0\n",
+            1,
+            "",
+            "heapsuite: t:3: free of nothing\n",
+        ),
+        summary(
+            "v 10500 2\na 64 0\n+ 0\n- 0\n- 0\nz\n",
+            1,
+            "",
+            "heapsuite: t:5: free of nothing\n",
+        ),
+        summary(
+            "v 10500 2\na 2000000000000000 0\na 1 0\n+ 0\n+ 0\n+ 1\n",
+            6,
+            "",
+            "heapsuite: t:6: too many bytes allocated\n",
+        ),
+        Case {
+            input: 10,
+            ..summary("v 10500 2\n", 0, NO_EVENTS_SUMMARY, "")
+        },
+        Case {
+            input: 9,
+            ..summary("v 10500 2\n", 6, "", "heapsuite: t: input too long\n")
+        },
+    ];
+    for case in table {
+        expect(&rt, rt.alloc(), &case)?;
+    }
+    Ok(())
+}
+
+#[test]
+fn words_and_names(rt: HostRuntime) -> Result<(), Fail> {
+    let table = [
+        words(&[], 2, "", USAGE),
+        words(&["summary"], 2, "", USAGE),
+        words(&["summary", "t", "t"], 2, "", USAGE),
+        words(&["summary", "--", "t"], 2, "", USAGE),
+        words(&["summary", "-t"], 2, "", USAGE),
+        words(&["summary", "--help"], 2, "", USAGE),
+        words(&["--help"], 2, "", USAGE),
+        words(&["Summary", "t"], 2, "", USAGE),
+        words(&["", "t"], 2, "", USAGE),
+        words(&["summary", "u"], 3, "", "heapsuite: u: no such file\n"),
+        words(&["summary", ""], 3, "", "heapsuite: : no such file\n"),
+        words(&["summary", "-"], 3, "", "heapsuite: -: no such file\n"),
+        Case {
+            file: "-",
+            ..words(&["summary", "-"], 0, TWO_SIZES_SUMMARY, "")
+        },
+    ];
+    for case in table {
+        expect(&rt, rt.alloc(), &case)?;
+    }
+    Ok(())
+}
+
+#[test]
+fn failing_calls(rt: HostRuntime) -> Result<(), Fail> {
+    let ran = summary(TWO_SIZES, 4, TWO_SIZES_SUMMARY, "");
+    let write_failed = "heapsuite: write failed\n";
+    let table = [
+        Case {
+            failing_store_call: 1,
+            ..summary(TWO_SIZES, 3, "", "heapsuite: t: cannot open\n")
+        },
+        Case {
+            failing_store_call: 2,
+            ..summary(TWO_SIZES, 3, "", "heapsuite: t: cannot read\n")
+        },
+        Case {
+            failing_store_call: 3,
+            ..summary(TWO_SIZES, 3, "", "heapsuite: t: cannot read\n")
+        },
+        // The first write to standard output fails, and then one after 7 bytes.
+        Case {
+            failing_out_call: 1,
+            ..summary(TWO_SIZES, 4, "", write_failed)
+        },
+        Case {
+            out_room: 7,
+            ..summary(TWO_SIZES, 4, "events:", write_failed)
+        },
+        // Standard error takes a part of the message alone.
+        Case {
+            err_room: 9,
+            ..words(&["summary"], 4, "", "usage: he")
+        },
+        // A flush fails: of standard output after its write, of each where nothing was to be written.
+        Case {
+            failing_out_call: 2,
+            ..ran
+        },
+        Case {
+            failing_err_call: 1,
+            ..ran
+        },
+        Case {
+            failing_out_call: 1,
+            ..words(&[], 4, "", USAGE)
+        },
+    ];
+    for case in table {
+        expect(&rt, rt.alloc(), &case)?;
+    }
+    Ok(())
+}
+
+#[test]
+fn sure_outputs(rt: HostRuntime) -> Result<(), Fail> {
+    let alloc = rt.alloc();
+    let words = words_of(alloc, &["summary", "t"])?;
+    let mut store = SureStore::new(alloc, 16);
+    store.add("t", TWO_SIZES.as_bytes())?;
+    let mut out = SureSink::new();
+    let mut err = SureSink::new();
+    let status = heapsuite_run(
+        alloc,
+        &words,
+        &Limits::standard(),
+        &mut store,
+        &mut out,
+        &mut err,
+    );
+    assert_eq!(rt; status, 0);
+    Ok(())
+}
