@@ -1,0 +1,9 @@
+pub mod Search
+pub mod Places
+pub mod Differences
+pub mod Removals
+pub mod Peaks
+pub mod Standing
+pub mod Sound
+pub mod Taking
+pub mod Origins

@@ -1,0 +1,150 @@
+-- The entry that goes: what a loop over the places keeps, and that it ends at the defined place.
+use Rattle.std.proofs.Common.{◌≡◌, ℕ, ◌+◌, ◌-◌, ◌<◌, ◌≤◌, ◌&&◌, true, false, List, length, get_or, inl, inr, refl, sym, ap, subst, ◌∙◌, arith}
+use Rattle.std.specs.Prelude.{Some, slice_index, nat_le}
+use Rattle.std.proofs.lemmas.Bool.{cases_Bool, cases_eq}
+use Rattle.std.proofs.lemmas.Bool.Decides.{nat_tests, leb_tells}
+use Rattle.std.proofs.lemmas.List.{get_or-map}
+use Rattle.massif_cull.specs.declared.snapshot.Kind.TheVariants.{Normal}
+use Rattle.massif_cull.specs.declared.snapshot.SnapEntry.{SnapEntry}
+use Rattle.massif_cull.specs.ArrayState.{AreSound}
+use Rattle.massif_cull.specs.Culling.{may_go, removable, gap_at, has_least_gap, removed_place}
+use Rattle.massif_cull.specs.Entries.{is_peak, is_peak_at, times}
+use Rattle.massif_cull.proofs.Search.{find-filter, all-filter, all-filter-at}
+
+-- an entry to read past the end of a list
+abbrev pub no_entry : SnapEntry
+no_entry = record { place = 0; time = 0; total = 0; kind = Normal }
+
+-- the time at a place is the time of the entry there
+pub time-at : (entries : List SnapEntry) (k : ℕ) (d : SnapEntry) → k < length entries → slice_index (times entries) k ≡ (get_or entries k d).time
+time-at entries k d inside = get_or-map (λ (entry : SnapEntry). entry.time) entries k d 0 inside
+
+-- the entry at a place is a peak where the place is a peak's
+pub peak-at : (entries : List SnapEntry) (k : ℕ) (d : SnapEntry) → k < length entries → is_peak_at entries k ≡ is_peak (get_or entries k d)
+peak-at entries k d inside = get_or-map is_peak entries k d false inside
+
+-- an entry that is neither first, last nor the peak may go
+pub may_go-inside : (entries : List SnapEntry) (k : ℕ) → 0 < k → k + 1 < length entries → is_peak_at entries k ≡ false → may_go entries k ≡ true
+unfolding may_go
+may_go-inside entries k low high normal = rw normal (grind (arith, nat_tests))
+
+-- an entry that may go has a neighbour on each side
+pub may_go-between : (entries : List SnapEntry) (k : ℕ) → may_go entries k ≡ true → (0 < k) × (k + 1 < length entries)
+unfolding may_go
+may_go-between entries k goes = (grind (arith, nat_tests), grind (arith, nat_tests))
+
+-- a peak may not go
+pub may_go-peak : (entries : List SnapEntry) (k : ℕ) → is_peak_at entries k ≡ true → may_go entries k ≡ false
+unfolding may_go
+may_go-peak entries k peak = rw peak (grind (arith, nat_tests))
+
+-- of two neighbours at most one is a peak
+pub second-may_go : (entries : List SnapEntry) → AreSound entries → 4 ≤ length entries → is_peak_at entries 1 ≡ true → may_go entries 2 ≡ true
+second-may_go entries sound long first =
+    let one : is_peak_at entries 1 ≡ is_peak (get_or entries 1 no_entry) = peak-at entries 1 no_entry (omega arith) in
+    let two : is_peak_at entries 2 ≡ is_peak (get_or entries 2 no_entry) = peak-at entries 2 no_entry (omega arith) in
+    let not_both : (is_peak (get_or entries 1 no_entry) && is_peak (get_or entries 2 no_entry)) ≡ false = sound.one_peak 1 2 no_entry (omega arith) (omega arith) in
+    let is_first : is_peak (get_or entries 1 no_entry) ≡ true = sym one ∙ first in
+    let second : is_peak (get_or entries 2 no_entry) ≡ false = rw is_first at not_both in
+    may_go-inside entries 2 (omega arith) (omega arith) (two ∙ second)
+
+-- the difference at a place is that of the times of the entries beside it
+pub gap-at : (entries : List SnapEntry) (k : ℕ) (d : SnapEntry) → 0 < k → k + 1 < length entries → (get_or entries (k + 1) d).time - (get_or entries (k - 1) d).time ≡ gap_at entries k
+unfolding gap_at
+gap-at entries k d low high = rw (time-at entries (k + 1) d (omega arith), time-at entries (k - 1) d (omega arith)) refl
+
+-- of the places below `other` that may go, `place` is the first with the least difference
+pub record IsFirstLeast (entries : List SnapEntry) (place other : ℕ) : Type 0 where
+  pub goes : may_go entries place ≡ true
+  pub below : place < other
+  pub not_greater : (j : ℕ) → j < other → may_go entries j ≡ true → gap_at entries place ≤ gap_at entries j
+  pub less : (j : ℕ) → j < place → may_go entries j ≡ true → gap_at entries place < gap_at entries j
+
+-- the first that may go
+pub first-least : (entries : List SnapEntry) (place : ℕ) → may_go entries place ≡ true → 0 < place → place ≤ 2 → (place ≡ 2 → is_peak_at entries 1 ≡ true) → IsFirstLeast entries place (place + 1)
+first-least entries place goes low high second =
+    let none : (j : ℕ) → j < place → may_go entries j ≡ true → ⊥ =
+    λ j h g. elim (cases_eq j 1) [
+      | inl one ↦
+          let not_one : may_go entries 1 ≡ false = may_go-peak entries 1 (second (omega arith)) in
+          let is_one : may_go entries 1 ≡ true = subst (λ (k : ℕ). may_go entries k ≡ true) one g in
+          cc
+      | inr other ↦ let between = may_go-between entries j g in omega arith
+    ]
+    in
+    record {
+      goes = goes;
+      below = omega arith;
+      not_greater = λ j h g. elim (cases_eq j place) [
+        | inl same ↦ let e : gap_at entries j ≡ gap_at entries place = ap (gap_at entries) same in omega arith
+        | inr apart ↦ absurd (none j (omega arith) g)
+      ];
+      less = λ j h g. absurd (none j h g);
+    }
+
+-- a place that may not go, or has no smaller difference, changes nothing
+pub least-keeps :
+    (entries : List SnapEntry) (place other : ℕ)
+    → IsFirstLeast entries place other
+    → (may_go entries other ≡ true → gap_at entries place ≤ gap_at entries other)
+    → IsFirstLeast entries place (other + 1)
+least-keeps entries place other so_far keeps = record {
+  goes = so_far.goes;
+  below = omega (arith, so_far.below);
+  not_greater = λ j h g. elim (cases_eq j other) [
+    | inl same ↦
+        let e : gap_at entries j ≡ gap_at entries other = ap (gap_at entries) same in
+        let k = keeps (subst (λ (k : ℕ). may_go entries k ≡ true) same g) in
+        omega arith
+    | inr apart ↦ so_far.not_greater j (omega arith) g
+  ];
+  less = so_far.less;
+}
+
+-- a place with a smaller difference is taken
+pub least-takes :
+    (entries : List SnapEntry) (place other : ℕ)
+    → IsFirstLeast entries place other
+    → may_go entries other ≡ true
+    → gap_at entries other < gap_at entries place
+    → IsFirstLeast entries other (other + 1)
+least-takes entries place other so_far goes smaller = record {
+  goes = goes;
+  below = omega arith;
+  not_greater = λ j h g. elim (cases_eq j other) [
+    | inl same ↦ let e : gap_at entries j ≡ gap_at entries other = ap (gap_at entries) same in omega arith
+    | inr apart ↦ let more = so_far.not_greater j (omega arith) g in omega arith
+  ];
+  less = λ j h g. let more = so_far.not_greater j h g in omega arith;
+}
+
+-- the last entry may not go, so that the loop ends at the place that goes
+pub removed-is : (entries : List SnapEntry) (place : ℕ) → IsFirstLeast entries place (length entries - 1) → removed_place entries ≡ Some place
+unfolding removed_place removable has_least_gap
+removed-is entries place least =
+    let between = may_go-between entries place least.goes in
+    let all : (j : ℕ) → may_go entries j ≡ true → gap_at entries place ≤ gap_at entries j =
+    λ j g. let inside = may_go-between entries j g in least.not_greater j (omega arith) g in
+    find-filter (may_go entries) (has_least_gap entries) (length entries) 0 place (omega arith) (omega arith) least.goes
+    (all-filter (may_go entries) (λ other. nat_le (gap_at entries place) (gap_at entries other)) (length entries) 0
+    (λ j l h g. let within = all j g in grind (arith, nat_tests)))
+    (λ j l h g. elim (cases_Bool (has_least_gap entries j)) [
+      | inl passes ↦
+          let test = all-filter-at (may_go entries) (λ other. nat_le (gap_at entries j) (gap_at entries other)) (length entries) 0 place passes (omega arith) (omega arith) least.goes in
+          let less = least.less j h g in
+          absurd (elim (leb_tells (gap_at entries j) (gap_at entries place)) [
+            | inl at_most ↦ omega arith
+            | inr above ↦ let n : nat_le (gap_at entries j) (gap_at entries place) ≡ false = above.0 in cc
+          ])
+      | inr fails ↦ fails
+    ])
+
+-- a peak changes nothing
+pub least-keeps_peak :
+    (entries : List SnapEntry) (place other : ℕ)
+    → IsFirstLeast entries place other
+    → is_peak_at entries other ≡ true
+    → IsFirstLeast entries place (other + 1)
+least-keeps_peak entries place other so_far peak =
+    let stays : may_go entries other ≡ false = may_go-peak entries other peak in
+    least-keeps entries place other so_far (λ goes. absurd (let h : may_go entries other ≡ true = goes in cc))

@@ -1,0 +1,13 @@
+pub mod Entries
+pub mod Culling
+pub mod Interval
+pub mod Kept
+pub mod TakenAs
+pub mod Step
+pub mod KeptOf
+pub mod Loads
+pub mod Among
+pub mod ArrayState
+pub mod StandsFor
+pub mod View
+pub mod Origins

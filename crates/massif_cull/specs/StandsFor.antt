@@ -1,0 +1,15 @@
+-- Which lists of offers an array stands for.
+use Rattle.std.specs.Prelude.{◌≡◌, ◌%◌, List}
+use Rattle.massif_cull.specs.declared.snapshot.Offer.{Offer}
+use Rattle.massif_cull.specs.Kept.{Settings, Kept}
+use Rattle.massif_cull.specs.KeptOf.{kept_of}
+use Rattle.massif_cull.specs.ArrayState.{ArrayState}
+
+-- what an array holds of what is kept: all of it, but of the number of normal offers taken only the remainder,
+-- which says when the next detailed one is due
+abbrev pub held_of : Settings → Kept → Kept
+held_of settings kept = record kept { normals = kept.normals % settings.detailed_freq }
+
+-- the array holds what is kept of the list of offers
+pub record StandsFor {T : Type 0} (state : ArrayState T) (offers : List Offer) : Type 0 where
+  pub kept_is : state.kept ≡ held_of state.settings (kept_of state.settings offers)

@@ -1,0 +1,308 @@
+//! The array of snapshots: which offers it takes, and what it keeps of them.
+//! How entries are removed is in `removal`.
+ghost use Rattle.std.specs.Prelude.{◌≡◌, ◌+◌, ◌*◌, ◌/◌, ◌^◌, ◌<◌, ◌≤◌, List, [], ◌∷◌, ◌++◌, false, length, map, slice_get, Some, IfOk, vec_capacity};
+ghost use Rattle.massif_cull.specs.declared.snapshot.Offer.{Offer};
+ghost use Rattle.massif_cull.specs.Among.{AreAmong};
+ghost use Rattle.massif_cull.specs.ArrayState.{AreSound, IsSound};
+ghost use Rattle.massif_cull.specs.Entries.{end_peak, is_peak, last_time};
+ghost use Rattle.massif_cull.specs.Kept.{nothing_kept};
+ghost use Rattle.massif_cull.specs.TakenAs.{next_time_after, taken_as};
+ghost use Rattle.massif_cull.specs.Origins.{ComeFrom};
+ghost use Rattle.massif_cull.specs.Step.{culled, bounded, entries_bounded, interval_bounded, step, entry_of};
+ghost use Rattle.massif_cull.specs.KeptOf.{kept_of};
+ghost use Rattle.massif_cull.specs.Loads.{loads_cull, loads_bounded, loads_step};
+ghost use Rattle.massif_cull.specs.StandsFor.{StandsFor, held_of};
+
+use crate::peak::end_peaks;
+use crate::removal::cull_entries;
+use crate::snapshot::{Kind, Offer, SnapEntry, Taken};
+use hp_num::NoMemory;
+use std::alloc::Global;
+use std::marker::Model;
+
+/// The hundredths of a percent in a whole.
+const WHOLE: u64 = 10_000;
+
+/// Snapshots in the order of their offers, each with a load of the caller's, fewer than a set maximum.
+/// It stands for the list of offers that were made to it.
+///
+/// Contracts see the settings, the entries, the loads, the least time between normal offers that are taken, the
+/// total of the last peak taken, and the number of normal offers taken modulo `detailed_freq`.
+#[derive(Drop)]
+pub struct SnapArray<T: Drop> {
+    max: u32,
+    detailed_freq: u64,
+    inaccuracy: u64,
+    entries: Vec<SnapEntry>,
+    loads: Vec<T>,
+    interval: u64,
+    last_peak: u64,
+    normals: u64,
+}
+
+impl<T: Drop> Model for SnapArray<T> {
+    ghost use Rattle.massif_cull.specs.ArrayState.{ArrayState, IsSound};
+
+    ghost Value = { ArrayState T };
+
+    ghost use Rattle.massif_cull.specs.View.{state_of, HasRoom};
+
+    ghost view = { state_of };
+
+    ghost invariant = { λ array. IsSound (state_of array) × HasRoom array };
+}
+
+impl<T: Drop> SnapArray<T> {
+    /// An array of no offers, which will hold fewer than `max` snapshots. Of the normal offers taken each
+    /// `detailed_freq`-th is detailed. A peak is taken where its total is above the last peak's by more than
+    /// `inaccuracy` hundredths of a percent. `NoMemory` where memory is wanting; no other call takes memory.
+    pub fn new(
+        alloc: Global,
+        max: u32,
+        detailed_freq: u64,
+        inaccuracy: u64,
+    ) -> Result<Self, NoMemory>
+        requires max { (10 ≤ max) × (max ≤ 1000) }
+        requires detailed_freq { (1 ≤ detailed_freq) × (detailed_freq ≤ 1000000) }
+        requires inaccuracy { inaccuracy ≤ 10000 }
+        ensures settings { IfOk result (λ array. array.settings ≡ record { max = max; detailed_freq = detailed_freq; inaccuracy = inaccuracy }) }
+        ensures kept { IfOk result (λ array. array.kept ≡ nothing_kept) }
+        ensures loads { IfOk result (λ array. array.loads ≡ []) }
+        ensures stands { IfOk result (λ array. StandsFor array []) }
+    {
+        Ok(SnapArray {
+            max,
+            detailed_freq,
+            inaccuracy,
+            entries: Vec::with_capacity(alloc, max as usize)?,
+            loads: Vec::with_capacity(alloc, max as usize)?,
+            interval: 0,
+            last_peak: 0,
+            normals: 0,
+        })
+    }
+
+    /// Whether `offer` would take the offer, and as what. It changes nothing, and needs of the offer what `offer` needs.
+    pub fn judge(&self, offer: &Offer) -> Taken
+        requires in_order { last_time self.now.kept.entries ≤ offer.now.time }
+        requires time { offer.now.time ≤ 2 ^ 62 }
+        requires total { offer.now.total ≤ 2 ^ 62 }
+        requires first_is_normal { length self.now.kept.entries ≡ 0 → offer.now.peak ≡ false }
+        ensures taken { result ≡ taken_as self.now.settings self.now.kept offer.now }
+        ensures of_offers { (offers : List Offer) → StandsFor self.now offers → result ≡ taken_as self.now.settings (kept_of self.now.settings offers) offer.now }
+        ensures sound { IsSound self.now }
+    {
+        if offer.peak {
+            if offer.total > self.last_peak + allowance(self.last_peak, self.inaccuracy) {
+                return Taken::Peak;
+            }
+            return Taken::No;
+        }
+        if offer.time < self.next_time() {
+            return Taken::No;
+        }
+        if (self.normals + 1) % self.detailed_freq == 0 {
+            return Taken::Detailed;
+        }
+        Taken::Normal
+    }
+
+    /// Takes the offer as a snapshot with the load, or drops the load, and answers which. Where the snapshots then
+    /// reach the maximum, half of them are removed, as `cull` does. It takes no memory.
+    ///
+    /// The offer's time must not be below the last snapshot's. Its time and its total are at most 2^62. The first offer
+    /// is a normal one.
+    pub fn offer(&mut self, offer: Offer, load: T) -> Taken
+        requires in_order { last_time self.old.kept.entries ≤ offer.time }
+        requires time { offer.time ≤ 2 ^ 62 }
+        requires total { offer.total ≤ 2 ^ 62 }
+        requires first_is_normal { length self.old.kept.entries ≡ 0 → offer.peak ≡ false }
+        ensures taken { result ≡ taken_as self.old.settings self.old.kept offer }
+        ensures of_offers { (offers : List Offer) → StandsFor self.old offers → result ≡ taken_as self.old.settings (kept_of self.old.settings offers) offer }
+        ensures stands { (offers : List Offer) → StandsFor self.old offers → StandsFor self.new (offers ++ offer ∷ []) }
+
+        // From any state, also after a `cull` of the caller's.
+        ensures settings { self.new.settings ≡ self.old.settings }
+        ensures kept { self.new.kept ≡ held_of self.old.settings (step self.old.settings self.old.kept offer) }
+        ensures loads { self.new.loads ≡ loads_step self.old.settings self.old.kept offer self.old.loads load }
+
+        // Each snapshot was held before, with its load, or is that of the offer.
+        ensures origins { ComeFrom self.old.kept.entries self.old.loads offer load result self.new.kept.entries self.new.loads }
+        ensures last { last_time self.new.kept.entries ≤ offer.time }
+        ensures not_empty { 0 < length self.new.kept.entries }
+        ensures below_max { length self.new.kept.entries < self.new.settings.max }
+    {
+        let taken = self.judge(&offer);
+        match taken {
+            Taken::No => {}
+            Taken::Normal => self.take_normal(snapshot(&offer, Kind::Normal), load),
+            Taken::Detailed => self.take_normal(snapshot(&offer, Kind::Detailed), load),
+            Taken::Peak => self.take_peak(snapshot(&offer, Kind::Peak), load),
+        }
+        taken
+    }
+
+    /// Removes half of the snapshots with their loads, rounded down: each time, of those that are neither first, last
+    /// nor the peak, the first with the least difference between the times of its neighbours. The interval becomes
+    /// the least difference between the times of neighbours that are left. It takes no memory.
+    ///
+    /// At least 6 snapshots must be held. The array need stand for no list of offers from then on.
+    pub fn cull(&mut self)
+        requires { 6 ≤ length self.old.kept.entries }
+        ensures settings { self.new.settings ≡ self.old.settings }
+        ensures kept { self.new.kept ≡ culled self.old.kept }
+        ensures loads { self.new.loads ≡ loads_cull self.old.kept.entries self.old.loads }
+        ensures among { AreAmong self.old.kept.entries self.old.loads self.new.kept.entries self.new.loads }
+        ensures last { last_time self.new.kept.entries ≡ last_time self.old.kept.entries }
+        ensures length { length self.new.kept.entries + length self.old.kept.entries / 2 ≡ length self.old.kept.entries }
+    {
+        self.interval = cull_entries(&mut self.entries, &mut self.loads);
+    }
+
+    /// The number of snapshots that are held.
+    pub fn len(&self) -> u32
+        ensures entries { result ≡ length self.now.kept.entries }
+        ensures loads { result ≡ length self.now.loads }
+        ensures sound { IsSound self.now }
+    {
+        self.entries.len() as u32
+    }
+
+    /// The snapshot at place `i`, from 0, which must be held.
+    pub fn entry(&self, i: u32) -> SnapEntry
+        requires { i < length self.now.kept.entries }
+        ensures entry { slice_get self.now.kept.entries i ≡ Some result }
+        ensures time_most { result.time ≤ 2 ^ 62 }
+        ensures total_most { result.total ≤ 2 ^ 62 }
+    {
+        self.entries[i as usize]
+    }
+
+    /// The load of the snapshot at place `i`, from 0, which must be held.
+    pub fn load(&self, i: u32) -> &T
+        requires { i < length self.now.kept.entries }
+        ensures { slice_get self.now.loads i ≡ Some result.now }
+    {
+        &self.loads[i as usize]
+    }
+
+    /// The least time at which a normal offer is taken: the last snapshot's and the interval, and 0 where none is held.
+    pub fn next_time(&self) -> u64
+        ensures time { result ≡ next_time_after self.now.kept.entries self.now.kept.interval }
+        ensures most { result ≤ 2 ^ 63 }
+    {
+        match self.entries.last() {
+            None => 0,
+            Some(entry) => entry.time + self.interval,
+        }
+    }
+
+    /// Takes an entry that is no peak.
+    fn take_normal(&mut self, entry: SnapEntry, load: T)
+        requires in_order { last_time self.old.kept.entries ≤ entry.time }
+        requires time { entry.time ≤ 2 ^ 62 }
+        requires total { entry.total ≤ 2 ^ 62 }
+        requires kind { is_peak entry ≡ false }
+        ensures settings { self.new.settings ≡ self.old.settings }
+        ensures kept { self.new.kept ≡ held_of self.old.settings (bounded self.old.settings (record self.old.kept { entries = self.old.kept.entries ++ entry ∷ []; normals = self.old.kept.normals + 1 })) }
+        ensures loads { self.new.loads ≡ loads_bounded self.old.settings.max (self.old.kept.entries ++ entry ∷ []) (self.old.loads ++ load ∷ []) }
+        ensures among { AreAmong (self.old.kept.entries ++ entry ∷ []) (self.old.loads ++ load ∷ []) self.new.kept.entries self.new.loads }
+        ensures last { last_time self.new.kept.entries ≡ entry.time }
+        ensures not_empty { 0 < length self.new.kept.entries }
+        ensures below_max { length self.new.kept.entries < self.new.settings.max }
+    {
+        self.normals = (self.normals + 1) % self.detailed_freq;
+        self.interval = append(
+            &mut self.entries,
+            &mut self.loads,
+            entry,
+            load,
+            self.max as usize,
+            self.interval,
+        );
+    }
+
+    /// Takes an entry as the peak.
+    fn take_peak(&mut self, entry: SnapEntry, load: T)
+        requires in_order { last_time self.old.kept.entries ≤ entry.time }
+        requires time { entry.time ≤ 2 ^ 62 }
+        requires total { entry.total ≤ 2 ^ 62 }
+        ensures settings { self.new.settings ≡ self.old.settings }
+        ensures kept { self.new.kept ≡ bounded self.old.settings (record self.old.kept { entries = map end_peak self.old.kept.entries ++ entry ∷ []; last_peak = entry.total }) }
+        ensures loads { self.new.loads ≡ loads_bounded self.old.settings.max (map end_peak self.old.kept.entries ++ entry ∷ []) (self.old.loads ++ load ∷ []) }
+        ensures among { AreAmong (map end_peak self.old.kept.entries ++ entry ∷ []) (self.old.loads ++ load ∷ []) self.new.kept.entries self.new.loads }
+        ensures last { last_time self.new.kept.entries ≡ entry.time }
+        ensures not_empty { 0 < length self.new.kept.entries }
+        ensures below_max { length self.new.kept.entries < self.new.settings.max }
+    {
+        end_peaks(&mut self.entries);
+        self.last_peak = entry.total;
+        self.interval = append(
+            &mut self.entries,
+            &mut self.loads,
+            entry,
+            load,
+            self.max as usize,
+            self.interval,
+        );
+    }
+}
+
+/// Appends the entry and its load, culls where the entries then reach `max`, and answers the interval.
+fn append<T: Drop>(
+    entries: &mut Vec<SnapEntry>,
+    loads: &mut Vec<T>,
+    entry: SnapEntry,
+    load: T,
+    max: usize,
+    interval: u64,
+) -> u64
+    requires max { 10 ≤ max }
+    requires below_max { length entries.old.items < max }
+    requires entries_room { max ≤ vec_capacity entries.old }
+    requires loads_room { max ≤ vec_capacity loads.old }
+    requires beside { length loads.old.items ≡ length entries.old.items }
+    requires interval { interval ≤ 2 ^ 62 }
+    requires sound { AreSound (entries.old.items ++ entry ∷ []) }
+    ensures entries { entries.new.items ≡ entries_bounded max (entries.old.items ++ entry ∷ []) }
+    ensures loads { loads.new.items ≡ loads_bounded max (entries.old.items ++ entry ∷ []) (loads.old.items ++ load ∷ []) }
+    ensures interval { result ≡ interval_bounded max (entries.old.items ++ entry ∷ []) interval }
+    ensures interval_most { result ≤ 2 ^ 62 }
+    ensures last { last_time entries.new.items ≡ entry.time }
+    ensures not_empty { 0 < length entries.new.items }
+    ensures below_max { length entries.new.items < max }
+    ensures beside { length loads.new.items ≡ length entries.new.items }
+    ensures sound { AreSound entries.new.items }
+    ensures among { AreAmong (entries.old.items ++ entry ∷ []) (loads.old.items ++ load ∷ []) entries.new.items loads.new.items }
+    ensures entries_room { vec_capacity entries.new ≡ vec_capacity entries.old }
+    ensures loads_room { vec_capacity loads.new ≡ vec_capacity loads.old }
+{
+    entries.push_reserved(entry);
+    loads.push_reserved(load);
+    if entries.len() < max {
+        return interval;
+    }
+    cull_entries(entries, loads)
+}
+
+/// The entry of an offer.
+fn snapshot(offer: &Offer, kind: Kind) -> SnapEntry
+    ensures { result ≡ entry_of offer.now kind }
+{
+    SnapEntry {
+        place: offer.place,
+        time: offer.time,
+        total: offer.total,
+        kind,
+    }
+}
+
+/// By how much a total must at least be above the last peak's not to be taken as one, in bytes.
+fn allowance(last_peak: u64, inaccuracy: u64) -> u64
+    requires last_peak { last_peak ≤ 2 ^ 62 }
+    requires inaccuracy { inaccuracy ≤ 10000 }
+    ensures exact { result ≡ last_peak * inaccuracy / 10000 }
+    ensures most { result ≤ last_peak }
+{
+    (u128::from(last_peak) * u128::from(inaccuracy) / u128::from(WHOLE)) as u64
+}
