@@ -1,6 +1,7 @@
-pub mod LinesLemmas
 pub mod PeakLemmas
-pub mod TraceLemmas
-pub mod TraceLoop
+pub mod EventLemmas
+pub mod FaultLemmas
+pub mod LineLemmas
+pub mod LinesLoop
 pub mod OutcomeLemmas
 pub mod RunLemmas

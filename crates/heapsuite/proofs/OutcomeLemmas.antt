@@ -1,80 +1,110 @@
 -- From what reading the named file gave to what the run's answer may be.
-use Rattle.std.proofs.Common.{◌≡◌, ◌≢◌, ℕ, ◌<◌, ◌≤◌, Bool, true, false, List, length, Option, Some, None, IsSome, Result, Ok, Err, nat_lt, codes, ap, sym, subst, refl, ◌∙◌, inl, inr, arith, IfOk, ◌+◌, replicate}
-use Rattle.std.proofs.lemmas.List.{length-replicate}
-use Rattle.std.proofs.lemmas.Bool.{le-ltb, lt-ltb}
+use Rattle.std.proofs.Common.{◌≡◌, ◌≢◌, ℕ, ◌≤◌, Bool, true, false, List, [], Option, Some, None, IsSome, IfOk, Result, Ok, Err, codes, ap, sym, subst, refl, ◌∙◌, inl, inr, ◌⊎◌, arith, rules}
 use Rattle.std.proofs.lemmas.Bool.Decides.{eqb_tells}
 use Rattle.hp_outside.specs.Folder.{Folder, file_of}
+use Rattle.hp_outside.specs.Lines.{lines_of}
 use Rattle.hp_outside.specs.Taken.{WhereTold}
-use Rattle.heapsuite.specs.declared.trace.LineFault.{LineFault}
-use Rattle.heapsuite.specs.declared.trace.LineFault.TheVariants.{LaterKind, FreeOfNothing, CostTooLarge}
-use Rattle.heapsuite.specs.declared.read_file.FileFault.{FileFault}
-use Rattle.heapsuite.specs.declared.read_file.FileFault.TheVariants.{NoSuchFile, CannotOpen, CannotRead, InputTooLong, NoMemory}
-use Rattle.heapsuite.specs.Answer.{Answer, answer, fault_status, file_answer, memory_answer, named_answer, refused, trace_answer, words_answer}
-use Rattle.heapsuite.specs.FileRead.{FileRead, HasFailed, IsCurrentWhere}
-use Rattle.heapsuite.specs.Lines.{lines}
+use Rattle.live_ledger.specs.declared.event.EventFault.TheVariants as ledger
+use Rattle.ht_trace.specs.declared.error.LineError.{LineError}
+use Rattle.ht_trace.specs.declared.error.LineError.TheVariants as line
+use Rattle.ht_trace.specs.TraceEvents.{events}
+use Rattle.heapsuite.specs.declared.fault.TraceFault.{TraceFault}
+use Rattle.heapsuite.specs.declared.fault.TraceFault.TheVariants.{LineTooLong, InputTooLong, Line, Event as event}
+use Rattle.heapsuite.specs.declared.read_trace.ReadFault.{ReadFault}
+use Rattle.heapsuite.specs.declared.read_trace.ReadFault.TheVariants.{NoSuchFile, CannotOpen, CannotRead, At, NoMemory}
+use Rattle.heapsuite.specs.declared.summary.Summary.{Summary}
+use Rattle.heapsuite.specs.Answer.{Answer, answer, fault_status, fault_text, file_answer, line_status, memory_answer, named_answer, refused, trace_answer, usage_answer, words_answer}
 use Rattle.heapsuite.specs.Message.{at_file}
-use Rattle.heapsuite.specs.ReadAnswer.{read_answer}
 use Rattle.heapsuite.specs.RunOutcome.{IsOutcome, IsUnreadable}
-use Rattle.heapsuite.specs.TraceFault.{Refusal, trace_fault}
+use Rattle.heapsuite.specs.SummaryText.{summary_of, summary_text}
+use Rattle.heapsuite.specs.TraceFault.{Bounds, Refusal, trace_fault}
+use Rattle.heapsuite.specs.TraceRead.{HasFailed, IsCurrentWhere, StoppedBefore, TraceRead, read_answer}
 use Rattle.heapsuite.specs.Words.{summary_file}
 
--- the statuses of a trace that was read
-record IsTraceStatus (status : ℕ) : Type 0 where
+-- the statuses of a fault of a trace
+record IsFaultStatus (status : ℕ) : Type 0 where
   pub low : status ≤ 6
   pub not_usage : status ≢ 2
   pub not_unreadable : status ≢ 3
   pub not_write : status ≢ 4
-  pub not_memory : status ≢ 5
 
-fault_statuses : (fault : LineFault) → IsTraceStatus (fault_status fault)
-fault_statuses LaterKind = record { low = omega arith; not_usage = omega arith; not_unreadable = omega arith; not_write = omega arith; not_memory = omega arith }
-fault_statuses FreeOfNothing = record { low = omega arith; not_usage = omega arith; not_unreadable = omega arith; not_write = omega arith; not_memory = omega arith }
-fault_statuses CostTooLarge = record { low = omega arith; not_usage = omega arith; not_unreadable = omega arith; not_write = omega arith; not_memory = omega arith }
+malformed : IsFaultStatus 1
+malformed = record { low = omega arith; not_usage = omega arith; not_unreadable = omega arith; not_write = omega arith }
 
-trace_statuses : (name : List ℕ) (trace : List (List ℕ)) (found : Option Refusal) → IsTraceStatus (trace_answer name trace found).status
-trace_statuses name trace None = record { low = omega arith; not_usage = omega arith; not_unreadable = omega arith; not_write = omega arith; not_memory = omega arith }
-trace_statuses name trace (Some refusal) = fault_statuses refusal.fault
+past_limit : IsFaultStatus 6
+past_limit = record { low = omega arith; not_usage = omega arith; not_unreadable = omega arith; not_write = omega arith }
 
--- the statuses of an answer to a file that was read, or wasn't
+line_statuses : (error : LineError) → IsFaultStatus (line_status error)
+line_statuses line.TooDeep = past_limit
+line_statuses line.TooMany = past_limit
+line_statuses line.NoMemory = malformed
+line_statuses line.BadField = malformed
+line_statuses line.MissingField = malformed
+line_statuses line.ExtraField = malformed
+line_statuses line.NotInterpreted = malformed
+line_statuses line.NotRaw = malformed
+line_statuses line.BadVersion = malformed
+line_statuses line.NoVersion = malformed
+line_statuses line.SecondVersion = malformed
+line_statuses line.UnknownString = malformed
+line_statuses line.UnknownInstruction = malformed
+line_statuses line.UnknownParent = malformed
+line_statuses line.UnknownTrace = malformed
+line_statuses line.UnknownAllocation = malformed
+
+fault_statuses : (fault : TraceFault) → IsFaultStatus (fault_status fault)
+fault_statuses LineTooLong = past_limit
+fault_statuses InputTooLong = past_limit
+fault_statuses (Line error) = line_statuses error
+fault_statuses (event ledger.FreeOfNothing) = malformed
+fault_statuses (event ledger.CostTooLarge) = past_limit
+
+-- the statuses of an answer to a trace that was read, or wasn't
 record IsReadStatus (status : ℕ) : Type 0 where
   pub low : status ≤ 6
   pub not_usage : status ≢ 2
   pub not_write : status ≢ 4
 
-read_statuses : (name : List ℕ) (read : Result (List ℕ) FileFault) → IsReadStatus (read_answer name read).status
-read_statuses name (Ok bytes) =
-    let of_trace = trace_statuses name (lines bytes) (trace_fault (lines bytes)) in
-    record { low = of_trace.low; not_usage = of_trace.not_usage; not_write = of_trace.not_write }
-read_statuses name (Err NoSuchFile) = record { low = omega arith; not_usage = omega arith; not_write = omega arith }
-read_statuses name (Err CannotOpen) = record { low = omega arith; not_usage = omega arith; not_write = omega arith }
-read_statuses name (Err CannotRead) = record { low = omega arith; not_usage = omega arith; not_write = omega arith }
-read_statuses name (Err InputTooLong) = record { low = omega arith; not_usage = omega arith; not_write = omega arith }
-read_statuses name (Err NoMemory) = record { low = omega arith; not_usage = omega arith; not_write = omega arith }
+other_status : (status : ℕ) → status ≤ 6 → status ≢ 2 → status ≢ 4 → IsReadStatus status
+other_status status low usage write = record { low = low; not_usage = usage; not_write = write }
+
+read_statuses : (name : List ℕ) (read : Result Summary ReadFault) → IsReadStatus (read_answer name read).status
+read_statuses name (Ok summary) = other_status 0 (omega arith) (omega arith) (omega arith)
+read_statuses name (Err NoSuchFile) = other_status 3 (omega arith) (omega arith) (omega arith)
+read_statuses name (Err CannotOpen) = other_status 3 (omega arith) (omega arith) (omega arith)
+read_statuses name (Err CannotRead) = other_status 3 (omega arith) (omega arith) (omega arith)
+read_statuses name (Err (At number fault)) =
+    let is = fault_statuses fault in other_status (fault_status fault) is.low is.not_usage is.not_write
+read_statuses name (Err NoMemory) = other_status 5 (omega arith) (omega arith) (omega arith)
 
 -- a failed call is status 3
-not_failed : (name : List ℕ) (read : Result (List ℕ) FileFault) → (read_answer name read).status ≢ 3 → ¬ HasFailed read
-not_failed name (Ok bytes) differs = λ failed. failed
+not_failed : (name : List ℕ) (read : Result Summary ReadFault) → (read_answer name read).status ≢ 3 → ¬ HasFailed read
+not_failed name (Ok summary) differs = λ failed. failed
 not_failed name (Err NoSuchFile) differs = λ failed. failed
 not_failed name (Err CannotOpen) differs = λ failed. differs refl
 not_failed name (Err CannotRead) differs = λ failed. differs refl
-not_failed name (Err InputTooLong) differs = λ failed. failed
+not_failed name (Err (At number fault)) differs = λ failed. failed
 not_failed name (Err NoMemory) differs = λ failed. failed
 
--- a file that was read within the limit, and one that is past it
-pub file_within : (limit : ℕ) (name bytes : List ℕ) → length bytes ≤ limit → file_answer limit name bytes ≡ trace_answer name (lines bytes) (trace_fault (lines bytes))
-file_within limit name bytes within = let test : nat_lt limit (length bytes) ≡ false = le-ltb _ _ within in rw test refl
+-- the answer to a trace without a fault
+pub good_answer : (bounds : Bounds) (name bytes : List ℕ) → trace_fault bounds bytes ≡ None
+    → file_answer bounds name bytes ≡ record { output = summary_text (summary_of (events (lines_of bytes))); message = []; status = 0 }
+good_answer bounds name bytes none = ap (trace_answer name (lines_of bytes)) none
 
-file_past : (limit : ℕ) (name bytes : List ℕ) → limit < length bytes → file_answer limit name bytes ≡ refused (at_file name (codes "input too long")) 6
-file_past limit name bytes past = let test : nat_lt limit (length bytes) ≡ true = lt-ltb _ _ past in rw test refl
+-- the answer of a summary
+abbrev written : Summary → Answer
+written summary = record { output = summary_text summary; message = []; status = 0 }
 
 -- where no call failed and memory wasn't wanting, the answer is the defined one
-defined : (limit : ℕ) (name : List ℕ) (file : Option (List ℕ)) (read : Result (List ℕ) FileFault) → FileRead limit file read → ¬ HasFailed read → (read_answer name read).status ≢ 5 → read_answer name read ≡ named_answer limit name file
-defined limit name file (Ok bytes) is quiet memory = sym (ap (named_answer limit name) is.0 ∙ file_within limit name bytes is.1)
-defined limit name file (Err NoSuchFile) is quiet memory = sym (ap (named_answer limit name) is)
-defined limit name file (Err CannotOpen) is quiet memory = absurd (quiet tt)
-defined limit name file (Err CannotRead) is quiet memory = absurd (quiet tt)
-defined limit name file (Err InputTooLong) is quiet memory = sym (ap (named_answer limit name) is.1 ∙ file_past limit name is.0 is.2)
-defined limit name file (Err NoMemory) is quiet memory = absurd (memory refl)
+defined : (bounds : Bounds) (name : List ℕ) (file left : Option (List ℕ)) (read : Result Summary ReadFault) → TraceRead bounds file left read → ¬ HasFailed read → (read_answer name read).status ≢ 5 → read_answer name read ≡ named_answer bounds name file
+defined bounds name file left (Ok summary) is quiet memory =
+    ap written is.2.1 ∙ sym (ap (named_answer bounds name) is.1 ∙ good_answer bounds name is.0 is.2.0)
+defined bounds name file left (Err NoSuchFile) is quiet memory = sym (ap (named_answer bounds name) is)
+defined bounds name file left (Err CannotOpen) is quiet memory = absurd (quiet tt)
+defined bounds name file left (Err CannotRead) is quiet memory = absurd (quiet tt)
+defined bounds name file left (Err (At number fault)) is quiet memory =
+    sym (ap (named_answer bounds name) is.1 ∙ ap (trace_answer name (lines_of is.0)) is.2)
+defined bounds name file left (Err NoMemory) is quiet memory = absurd (memory refl)
 
 -- no option is both
 none_not_some : (file : Option (List ℕ)) → file ≡ None → IsSome file → ⊥
@@ -82,12 +112,11 @@ none_not_some None none some = cc
 none_not_some (Some bytes) none some = cc
 
 -- a file that could not be opened or read, or is absent
-unreadable : (name : List ℕ) (limit : ℕ) (files : Option Folder) (current : Bool) (rose : Type 0) (read : Result (List ℕ) FileFault)
-    → WhereTold files (λ folder. FileRead limit (file_of folder name) read) → (read ≡ Err NoSuchFile → files ≡ None → rose) → (HasFailed read → rose)
+unreadable : (name : List ℕ) (bounds : Bounds) (files : Option Folder) (left : Option (List ℕ)) (current : Bool) (rose : Type 0) (read : Result Summary ReadFault)
+    → WhereTold files (λ folder. TraceRead bounds (file_of folder name) left read) → (read ≡ Err NoSuchFile → files ≡ None → rose) → (HasFailed read → rose)
     → IsCurrentWhere current read → (read_answer name read).status ≡ 3 → IsUnreadable name files current rose (read_answer name read)
-unreadable name limit files current rose (Ok bytes) told absent failed is_current status =
-    absurd ((trace_statuses name (lines bytes) (trace_fault (lines bytes))).not_unreadable status)
-unreadable name limit files current rose (Err NoSuchFile) told absent failed is_current status = record {
+unreadable name bounds files left current rose (Ok summary) told absent failed is_current status = absurd (omega (arith, status))
+unreadable name bounds files left current rose (Err NoSuchFile) told absent failed is_current status = record {
   cannot_read = λ is. absurd (cc);
   no_such_file = λ folder is lacks. refl;
   cannot_open = λ folder is has closed. absurd (none_not_some (file_of folder name) (told folder is) has);
@@ -95,7 +124,7 @@ unreadable name limit files current rose (Err NoSuchFile) told absent failed is_
   cause_told = λ folder is has. absurd (none_not_some (file_of folder name) (told folder is) has);
   cause_untold = λ is. absent refl is;
 }
-unreadable name limit files current rose (Err CannotOpen) told absent failed is_current status = record {
+unreadable name bounds files left current rose (Err CannotOpen) told absent failed is_current status = record {
   cannot_read = λ is. absurd (cc);
   no_such_file = λ folder is lacks. absurd (none_not_some (file_of folder name) lacks (told folder is));
   cannot_open = λ folder is has closed. refl;
@@ -103,21 +132,31 @@ unreadable name limit files current rose (Err CannotOpen) told absent failed is_
   cause_told = λ folder is has. failed tt;
   cause_untold = λ is. failed tt;
 }
-unreadable name limit files current rose (Err CannotRead) told absent failed is_current status = record {
+unreadable name bounds files left current rose (Err CannotRead) told absent failed is_current status = record {
   cannot_read = λ is. refl;
-  no_such_file = λ folder is lacks. absurd (none_not_some (file_of folder name) lacks (told folder is));
+  no_such_file = λ folder is lacks. absurd (let found = (told folder is).1 in cc);
   cannot_open = λ folder is has closed. absurd (cc);
   untold = λ is closed. absurd (cc);
   cause_told = λ folder is has. failed tt;
   cause_untold = λ is. failed tt;
 }
-unreadable name limit files current rose (Err InputTooLong) told absent failed is_current status = absurd (omega (arith, status))
-unreadable name limit files current rose (Err NoMemory) told absent failed is_current status = absurd (omega (arith, status))
+unreadable name bounds files left current rose (Err (At number fault)) told absent failed is_current status = absurd ((fault_statuses fault).not_unreadable status)
+unreadable name bounds files left current rose (Err NoMemory) told absent failed is_current status = absurd (omega (arith, status))
+
+-- an answer other than those of a failed call and of want of memory is that of some lines
+of_some_lines : (name : List ℕ) (read : Result Summary ReadFault) → IfOk read (λ summary. (lines : List (List ℕ)) × (summary ≡ summary_of (events lines))) → (read_answer name read).status ≢ 3 → (read_answer name read).status ≢ 5
+    → (lines : List (List ℕ)) × ((found : Option Refusal) × (read_answer name read ≡ trace_answer name lines found))
+of_some_lines name (Ok summary) of_lines differs other = (of_lines.0, (None, ap written of_lines.1))
+of_some_lines name (Err NoSuchFile) of_lines differs other = absurd (differs refl)
+of_some_lines name (Err CannotOpen) of_lines differs other = absurd (differs refl)
+of_some_lines name (Err CannotRead) of_lines differs other = absurd (differs refl)
+of_some_lines name (Err (At number fault)) of_lines differs other = ([], (Some (record { number = number; fault = fault }), refl))
+of_some_lines name (Err NoMemory) of_lines differs other = absurd (other refl)
 
 -- memory was wanting
-memory_outcome : (words : List (List ℕ)) (name : List ℕ) (limit : ℕ) (files : Option Folder) (current : Bool) (rose : Type 0) (given : Answer)
-    → summary_file words ≡ Some name → given.status ≡ 5 → given ≡ memory_answer → IsOutcome words limit files current rose given
-memory_outcome words name limit files current rose given taken memory is = record {
+memory_outcome : (words : List (List ℕ)) (name : List ℕ) (bounds : Bounds) (files : Option Folder) (current : Bool) (rose : Type 0) (given : Answer)
+    → summary_file words ≡ Some name → given.status ≡ 5 → given ≡ memory_answer → IsOutcome words bounds files current rose given
+memory_outcome words name bounds files current rose given taken memory is = record {
   statuses = (omega (arith, memory), omega (arith, memory));
   usage = λ none. absurd (cc);
   only_usage = λ status. absurd (omega (arith, memory, status));
@@ -125,57 +164,47 @@ memory_outcome words name limit files current rose given taken memory is = recor
   defined_where_quiet = λ folder told quiet other. absurd (other memory);
   no_memory = λ status. is;
   unreadable = λ other_name other_taken status. absurd (omega (arith, memory, status));
-  of_a_file = λ other_name other_taken differs other. absurd (other memory);
+  of_a_trace = λ other_name other_taken differs other. absurd (other memory);
 }
 
--- an answer other than those of a failed call and of want of memory is that of some file
-of_some_file : (limit : ℕ) (name : List ℕ) (read : Result (List ℕ) FileFault) → IfOk read (λ bytes. length bytes ≤ limit) → (read_answer name read).status ≢ 3 → (read_answer name read).status ≢ 5
-    → (bytes : List ℕ) × (read_answer name read ≡ file_answer limit name bytes)
-of_some_file limit name (Ok bytes) within differs other = (bytes, sym (file_within limit name bytes within))
-of_some_file limit name (Err NoSuchFile) within differs other = absurd (differs refl)
-of_some_file limit name (Err CannotOpen) within differs other = absurd (differs refl)
-of_some_file limit name (Err CannotRead) within differs other = absurd (differs refl)
-of_some_file limit name (Err InputTooLong) within differs other =
-    let past : limit < length (replicate (limit + 1) 0) = omega (arith, length-replicate {A = ℕ} (limit + 1) 0) in
-    (replicate (limit + 1) 0, sym (file_past limit name (replicate (limit + 1) 0) past))
-of_some_file limit name (Err NoMemory) within differs other = absurd (other refl)
-
 -- the answer to what was read
-read_outcome : (words : List (List ℕ)) (name : List ℕ) (limit : ℕ) (files : Option Folder) (current : Bool) (rose : Type 0) (read : Result (List ℕ) FileFault)
+read_outcome : (words : List (List ℕ)) (name : List ℕ) (bounds : Bounds) (files : Option Folder) (left : Option (List ℕ)) (current : Bool) (rose : Type 0) (read : Result Summary ReadFault)
     → summary_file words ≡ Some name
-    → WhereTold files (λ folder. FileRead limit (file_of folder name) read) → (read ≡ Err NoSuchFile → files ≡ None → rose) → (HasFailed read → rose)
-    → IsCurrentWhere current read → IfOk read (λ bytes. length bytes ≤ limit) → (read_answer name read).status ≢ 5 → IsOutcome words limit files current rose (read_answer name read)
-read_outcome words name limit files current rose read taken told absent failed is_current within other =
+    → WhereTold files (λ folder. TraceRead bounds (file_of folder name) left read) → (read ≡ Err NoSuchFile → files ≡ None → rose) → (HasFailed read → rose)
+    → IsCurrentWhere current read → IfOk read (λ summary. (lines : List (List ℕ)) × (summary ≡ summary_of (events lines))) → (read_answer name read).status ≢ 5
+    → IsOutcome words bounds files current rose (read_answer name read)
+read_outcome words name bounds files left current rose read taken told absent failed is_current of_lines other =
     let statuses = read_statuses name read in
-    let named : (folder : Folder) → answer words limit folder ≡ named_answer limit name (file_of folder name) = λ folder. ap (words_answer limit folder) taken in
+    let named : (folder : Folder) → answer words bounds folder ≡ named_answer bounds name (file_of folder name) = λ folder. ap (words_answer bounds folder) taken in
     record {
       statuses = (statuses.low, statuses.not_write);
       usage = λ none. absurd (cc);
       only_usage = λ status. absurd (statuses.not_usage status);
-      defined = λ folder is differs memory. defined limit name (file_of folder name) read (told folder is) (not_failed name read differs) other ∙ sym (named folder);
-      defined_where_quiet = λ folder is quiet memory. defined limit name (file_of folder name) read (told folder is) (λ f. quiet (failed f)) other ∙ sym (named folder);
+      defined = λ folder is differs memory. defined bounds name (file_of folder name) left read (told folder is) (not_failed name read differs) other ∙ sym (named folder);
+      defined_where_quiet = λ folder is quiet memory. defined bounds name (file_of folder name) left read (told folder is) (λ f. quiet (failed f)) other ∙ sym (named folder);
       no_memory = λ status. absurd (other status);
       unreadable = λ other_name other_taken status.
           let same : name ≡ other_name = cc in
-          subst (λ n. IsUnreadable n files current rose (read_answer name read)) same (unreadable name limit files current rose read told absent failed is_current status);
-      of_a_file = λ other_name other_taken differs memory.
+          subst (λ n. IsUnreadable n files current rose (read_answer name read)) same (unreadable name bounds files left current rose read told absent failed is_current status);
+      of_a_trace = λ other_name other_taken differs memory.
           let same : name ≡ other_name = cc in
-          let found = of_some_file limit name read within differs memory in
-          (found.0, subst (λ n. read_answer name read ≡ file_answer limit n found.0) same found.1);
+          let found = of_some_lines name read of_lines differs memory in
+          (found.0, (found.1.0, subst (λ n. read_answer name read ≡ trace_answer n found.0 found.1.0) same found.1.1));
     }
 
 -- given what reading the named file gave, the answer to it is one of the run
-pub is_outcome : (words : List (List ℕ)) (name : List ℕ) (limit : ℕ) (files : Option Folder) (current : Bool) (rose : Type 0) (read : Result (List ℕ) FileFault) (given : Answer)
+pub is_outcome : (words : List (List ℕ)) (name : List ℕ) (bounds : Bounds) (files : Option Folder) (left : Option (List ℕ)) (current : Bool) (rose : Type 0) (read : Result Summary ReadFault) (given : Answer)
     → summary_file words ≡ Some name
-    → WhereTold files (λ folder. FileRead limit (file_of folder name) read) → (read ≡ Err NoSuchFile → files ≡ None → rose) → (HasFailed read → rose)
-    → IsCurrentWhere current read → IfOk read (λ bytes. length bytes ≤ limit) → (given.status ≢ 5 → given ≡ read_answer name read) → (given.status ≡ 5 → given ≡ memory_answer)
-    → IsOutcome words limit files current rose given
-is_outcome words name limit files current rose read given taken told absent failed is_current within is_read no_memory =
+    → WhereTold files (λ folder. TraceRead bounds (file_of folder name) left read) → (read ≡ Err NoSuchFile → files ≡ None → rose) → (HasFailed read → rose)
+    → IsCurrentWhere current read → IfOk read (λ summary. (lines : List (List ℕ)) × (summary ≡ summary_of (events lines)))
+    → (given.status ≢ 5 → given ≡ read_answer name read) → (given.status ≡ 5 → given ≡ memory_answer)
+    → IsOutcome words bounds files current rose given
+is_outcome words name bounds files left current rose read given taken told absent failed is_current of_lines is_read no_memory =
     elim (eqb_tells given.status 5) [
-      | inl memory ↦ memory_outcome words name limit files current rose given taken memory.1 (no_memory memory.1)
+      | inl memory ↦ memory_outcome words name bounds files current rose given taken memory.1 (no_memory memory.1)
       | inr other ↦
           let is : given ≡ read_answer name read = is_read other.1 in
           let status : (read_answer name read).status ≢ 5 = λ five. other.1 (ap (λ a. a.status) is ∙ five) in
-          subst (λ a. IsOutcome words limit files current rose a) (sym is)
-          (read_outcome words name limit files current rose read taken told absent failed is_current within status)
+          subst (λ a. IsOutcome words bounds files current rose a) (sym is)
+          (read_outcome words name bounds files left current rose read taken told absent failed is_current of_lines status)
     ]

@@ -1,8 +1,9 @@
 -- What a run's answer may be, whatever the store tells and does.
 use Rattle.std.specs.Prelude.{◌≡◌, ◌≢◌, ◌≤◌, ◌⊎◌, ℕ, Bool, true, false, List, Option, Some, None, IsSome, codes}
 use Rattle.hp_outside.specs.Folder.{Folder, file_of}
-use Rattle.heapsuite.specs.Answer.{Answer, answer, memory_answer, refused, usage_answer, file_answer}
+use Rattle.heapsuite.specs.Answer.{Answer, answer, memory_answer, refused, trace_answer, usage_answer}
 use Rattle.heapsuite.specs.Message.{at_file}
+use Rattle.heapsuite.specs.TraceFault.{Bounds, Refusal}
 use Rattle.heapsuite.specs.Words.{summary_file}
 
 -- the answer where a call on the store failed or the file is absent: its message names the file, and says
@@ -17,12 +18,12 @@ pub record IsUnreadable (name : List ℕ) (files : Option Folder) (current : Boo
 
 -- an answer to these words over a store that tells these files or none: the defined one, unless the store failed or
 -- memory was wanting
-pub record IsOutcome (words : List (List ℕ)) (limit : ℕ) (files : Option Folder) (current : Bool) (rose : Type 0) (given : Answer) : Type 0 where
+pub record IsOutcome (words : List (List ℕ)) (bounds : Bounds) (files : Option Folder) (current : Bool) (rose : Type 0) (given : Answer) : Type 0 where
   pub statuses : (given.status ≤ 6) × (given.status ≢ 4)
   pub usage : summary_file words ≡ None → given ≡ usage_answer
   pub only_usage : given.status ≡ 2 → summary_file words ≡ None
-  pub defined : (folder : Folder) → files ≡ Some folder → given.status ≢ 3 → given.status ≢ 5 → given ≡ answer words limit folder
-  pub defined_where_quiet : (folder : Folder) → files ≡ Some folder → ¬ rose → given.status ≢ 5 → given ≡ answer words limit folder
+  pub defined : (folder : Folder) → files ≡ Some folder → given.status ≢ 3 → given.status ≢ 5 → given ≡ answer words bounds folder
+  pub defined_where_quiet : (folder : Folder) → files ≡ Some folder → ¬ rose → given.status ≢ 5 → given ≡ answer words bounds folder
   pub no_memory : given.status ≡ 5 → given ≡ memory_answer
   pub unreadable : (name : List ℕ) → summary_file words ≡ Some name → given.status ≡ 3 → IsUnreadable name files current rose given
-  pub of_a_file : (name : List ℕ) → summary_file words ≡ Some name → given.status ≢ 3 → given.status ≢ 5 → (bytes : List ℕ) × (given ≡ file_answer limit name bytes)
+  pub of_a_trace : (name : List ℕ) → summary_file words ≡ Some name → given.status ≢ 3 → given.status ≢ 5 → (lines : List (List ℕ)) × ((found : Option Refusal) × (given ≡ trace_answer name lines found))

@@ -1,7 +1,7 @@
 -- The summary of a trace, and its text: six lines of figures.
 use Rattle.std.specs.Prelude.{ℕ, List, ◌++◌, codes, decimal}
 use Rattle.live_ledger.specs.declared.event.Event.{Event}
-use Rattle.live_ledger.specs.Events.{event_count}
+use Rattle.live_ledger.specs.Events.{counted, event_count}
 use Rattle.live_ledger.specs.LiveBytes.{allocated_bytes, live_bytes}
 use Rattle.live_ledger.specs.LiveBlocks.{calls, live_blocks}
 use Rattle.live_ledger.specs.Temporary.{temporary_count}
@@ -9,7 +9,7 @@ use Rattle.heapsuite.specs.declared.summary.Summary.{Summary}
 use Rattle.heapsuite.specs.Totals.{totals}
 use Rattle.heapsuite.specs.Peak.{peak_of}
 
--- the figures of a trace of these events
+-- the figures of a trace of these events; the peak's moment counts allocations and frees alone
 unfoldable pub summary_of : List Event → Summary
 summary_of events = record {
   totals = record {
@@ -20,7 +20,7 @@ summary_of events = record {
     live = live_bytes events;
     blocks = live_blocks events;
   };
-  peak = peak_of (totals events);
+  peak = peak_of (totals (counted events));
 }
 
 -- a label and a figure

@@ -1,70 +1,80 @@
 -- The first fault of a trace.
-use Rattle.std.specs.Prelude.{ℕ, ◌+◌, List, [], ◌∷◌, ◌++◌, Option, Some, None, length, ◌==◌, Bool, not, if◌then◌else◌}
-use Rattle.std.specs.Option.{option_map}
-use Rattle.ht_lines.specs.declared.item.Item.{Item}
-use Rattle.ht_lines.specs.declared.item.Item.TheVariants.{Version, Info, Alloc, Free}
-use Rattle.ht_lines.specs.ItemOf.{item_of}
+use Rattle.std.specs.Prelude.{ℕ, ◌+◌, ◌&&◌, nat_le, nat_lt, if◌then◌else◌, List, [], ◌∷◌, ◌++◌, length, sum_by, Option, Some, None}
+use Rattle.std.specs.Option.{option_map, option_or}
+use Rattle.hp_outside.specs.Lines.{lines_of}
+use Rattle.hp_outside.specs.declared.limits.Limits.{Limits}
 use Rattle.live_ledger.specs.declared.event.Event.{Event}
 use Rattle.live_ledger.specs.declared.event.EventFault.{EventFault}
-use Rattle.live_ledger.specs.declared.event.EventFault.TheVariants as ledger
 use Rattle.live_ledger.specs.Faults.{fault_of}
-use Rattle.heapsuite.specs.declared.trace.LineFault.{LineFault}
-use Rattle.heapsuite.specs.declared.trace.LineFault.TheVariants.{LaterKind, FreeOfNothing, CostTooLarge}
-use Rattle.heapsuite.specs.TraceEvents.{events, event_of, info_sizes}
+use Rattle.ht_trace.specs.declared.error.LineError.{LineError}
+use Rattle.ht_trace.specs.LineFault as tables
+use Rattle.ht_trace.specs.StepOf.{event_of, step_of}
+use Rattle.ht_trace.specs.TraceEvents.{events}
+use Rattle.heapsuite.specs.declared.fault.TraceFault.{TraceFault}
+use Rattle.heapsuite.specs.declared.fault.TraceFault.TheVariants.{LineTooLong, InputTooLong, Line, Event as event}
 
--- the ledger's fault as a fault of the line
-abbrev pub of_ledger : EventFault → LineFault
-of_ledger ledger.FreeOfNothing = FreeOfNothing
-of_ledger ledger.CostTooLarge = CostTooLarge
+-- the most bytes of a file and of one line
+pub record Bounds : Type 0 where
+  pub input : ℕ
+  pub line : ℕ
 
--- the fault of an event line after earlier events: its info has to be held, and then the ledger judges
-abbrev pub event_fault : List Event → Option Event → Option LineFault
-event_fault earlier None = Some LaterKind
-event_fault earlier (Some event) = option_map of_ledger (fault_of earlier event)
+abbrev pub bounds_of : Limits → Bounds
+bounds_of limits = record { input = limits.input; line = limits.line }
 
--- the version line stands first, and only there
-abbrev pub is_placed : Bool → Item → Bool
-is_placed first (Version heaptrack file) = first
-is_placed first (Info size trace) = not first
-is_placed first (Alloc info) = not first
-is_placed first (Free info) = not first
+-- the bytes of lines that each end with a line feed
+abbrev pub bytes_of_lines : List (List ℕ) → ℕ
+bytes_of_lines lines = sum_by (λ line. length line + 1) lines
 
--- the fault of an item that is placed well, after events and infos of these sizes
-abbrev pub content_fault : List Event → List ℕ → Item → Option LineFault
-content_fault earlier sizes (Version heaptrack file) = None
-content_fault earlier sizes (Info size trace) = None
-content_fault earlier sizes (Alloc info) = event_fault earlier (event_of sizes (Some (Alloc info)))
-content_fault earlier sizes (Free info) = event_fault earlier (event_of sizes (Some (Free info)))
+-- the fault of a line's length, in a file of so many bytes, of which so many stand before the line: its first bytes
+-- up to one more than a line may have stand within the bytes that a file may have, or the file has more than those
+-- and the line with its line feed doesn't end within them
+abbrev pub length_fault : Bounds → ℕ → ℕ → ℕ → Option TraceFault
+length_fault bounds total before line =
+    if nat_lt bounds.line line && nat_le (before + bounds.line + 1) bounds.input then Some LineTooLong
+    else if nat_lt bounds.input total && nat_le bounds.input (before + line) then Some InputTooLong
+    else None
 
--- the fault of an item after earlier lines, if it has one
-abbrev pub item_fault : List (List ℕ) → Option Item → Option LineFault
-item_fault earlier None = Some LaterKind
-item_fault earlier (Some item) =
-    if is_placed (length earlier == 0) item then content_fault (events earlier) (info_sizes earlier) item
-    else Some LaterKind
+-- the ledger's fault of an event after earlier ones
+abbrev pub ledger_fault : List Event → Option Event → Option EventFault
+ledger_fault earlier None = None
+ledger_fault earlier (Some taken) = fault_of earlier taken
 
--- the fault of a line after earlier lines, if it has one
-abbrev pub line_fault : List (List ℕ) → List ℕ → Option LineFault
-line_fault earlier line = item_fault earlier (item_of line)
+-- the fault of what a line says after earlier lines: the tables judge first, and then the ledger
+abbrev pub content_fault : List (List ℕ) → List ℕ → Option TraceFault
+content_fault earlier line =
+    option_or (option_map Line (tables.line_fault earlier line))
+    (option_map event (ledger_fault (events earlier) (event_of (step_of earlier line))))
+
+-- the fault of a line after earlier lines, in a file of so many bytes, if it has one
+abbrev pub line_fault : Bounds → ℕ → List (List ℕ) → List ℕ → Option TraceFault
+line_fault bounds total earlier line =
+    option_or (length_fault bounds total (bytes_of_lines earlier) (length line)) (content_fault earlier line)
 
 -- the fault of each line after those before it
-abbrev pub line_faults : List (List ℕ) → List (List ℕ) → List (Option LineFault)
-line_faults earlier [] = []
-line_faults earlier (line ∷ lines) = line_fault earlier line ∷ line_faults (earlier ++ line ∷ []) lines
+abbrev pub line_faults : Bounds → ℕ → List (List ℕ) → List (List ℕ) → List (Option TraceFault)
+line_faults bounds total earlier [] = []
+line_faults bounds total earlier (line ∷ lines) =
+    line_fault bounds total earlier line ∷ line_faults bounds total (earlier ++ line ∷ []) lines
 
 -- a fault at the line of a number, from 1
 pub record Refusal : Type 0 where
   pub number : ℕ
-  pub fault : LineFault
+  pub fault : TraceFault
 
 -- the first fault of these, the first of which stands at the line of this number
-abbrev pub first_fault : ℕ → List (Option LineFault) → Option Refusal
+abbrev pub first_fault : ℕ → List (Option TraceFault) → Option Refusal
 first_fault number [] = None
 first_fault number (None ∷ faults) = first_fault (number + 1) faults
 first_fault number (Some fault ∷ faults) = Some (record { number = number; fault = fault })
 
--- the refusal of a trace, if it has a fault: that of its first faulty line, and a trace without lines has its
--- fault at line 1
-abbrev pub trace_fault : List (List ℕ) → Option Refusal
-trace_fault [] = Some (record { number = 1; fault = LaterKind })
-trace_fault (line ∷ lines) = first_fault 1 (line_faults [] (line ∷ lines))
+-- the fault of the end of a trace with these lines, which stands at the line after the last
+abbrev pub end_refusal : List (List ℕ) → Option Refusal
+end_refusal lines = option_map (λ fault. record { number = length lines + 1; fault = Line fault }) (tables.end_fault lines)
+
+-- the refusal of a trace of so many bytes with these lines: that of its first faulty line, or of its end
+abbrev pub refusal_of_lines : Bounds → ℕ → List (List ℕ) → Option Refusal
+refusal_of_lines bounds total lines = option_or (first_fault 1 (line_faults bounds total [] lines)) (end_refusal lines)
+
+-- the refusal of a trace of these bytes, if it has a fault
+abbrev pub trace_fault : Bounds → List ℕ → Option Refusal
+trace_fault bounds bytes = refusal_of_lines bounds (length bytes) (lines_of bytes)

@@ -6,11 +6,11 @@
 
 mod command;
 mod deliver;
-mod lines;
+mod fault;
 mod message;
 mod outcome;
 mod peak;
-mod read_file;
+mod read_trace;
 mod run;
 mod summary;
 mod trace;
@@ -23,15 +23,21 @@ use outcome::Outcome;
 use run::heapsuite_run;
 use std::alloc::Global;
 use std::env;
+use std::io::ErrorKind;
 use std::process::ExitCode;
 
-/// The words after the program's name. Where they can't be had, or one isn't UTF-8, there are none.
+/// The words after the program's name. Where they can't be had for another cause than memory, or one isn't UTF-8, there
+/// are none.
 fn given_words(rt: &HostRuntime, alloc: Global) -> Result<Vec<String>, NoMemory> {
     let mut words = Vec::new(alloc);
-    if let Ok(all) = env::args(rt) {
-        for word in all.skip(1) {
-            words.push(word)?;
+    match env::args(rt) {
+        Ok(all) => {
+            for word in all.skip(1) {
+                words.push(word)?;
+            }
         }
+        Err(error) if error.kind() == ErrorKind::OutOfMemory => return Err(NoMemory),
+        Err(_) => {}
     }
     Ok(words)
 }

@@ -2,16 +2,17 @@
 ghost use Rattle.std.specs.Prelude.{◌≡◌, ◌≢◌, ◌+◌, ◌^◌, ◌<◌, ◌≤◌, ℕ, List, [], Some, None, IsSome, true, false, map, string_bytes, length, codes};
 ghost use Rattle.std.specs.Io.KnownBytes.{append_known};
 ghost use Rattle.hp_outside.specs.Faults.{Rose};
+ghost use Rattle.ht_trace.specs.TraceEvents.{events};
+ghost use Rattle.hp_outside.specs.Lines.{lines_of};
 ghost use Rattle.hp_outside.specs.Folder.{Folder, file_of};
 ghost use Rattle.hp_outside.specs.Taken.{WhereTold};
 ghost use Rattle.heapsuite.specs.Answer.{Answer, answer, memory_answer, refused, usage_answer};
 ghost use Rattle.heapsuite.specs.Delivery.{Delivered, GainsFronts};
-ghost use Rattle.heapsuite.specs.Lines.{lines};
 ghost use Rattle.heapsuite.specs.Message.{at_file};
 ghost use Rattle.heapsuite.specs.RunOutcome.{IsOutcome};
 ghost use Rattle.heapsuite.specs.SummaryText.{summary_of, summary_text};
-ghost use Rattle.heapsuite.specs.TraceEvents.{events};
-ghost use Rattle.heapsuite.specs.TraceFault.{trace_fault};
+ghost use Rattle.heapsuite.specs.TraceFault.{bounds_of, trace_fault};
+ghost use Rattle.heapsuite.specs.TraceRead.{StoppedBefore};
 ghost use Rattle.heapsuite.specs.Words.{summary_file};
 
 use crate::command::run_words;
@@ -49,19 +50,19 @@ pub fn heapsuite_run<S: Store, O: Sink, E: Sink>(
     ensures defined { (folder : Folder) → S.files store.old ≡ Some folder
         → ¬ Rose (S.faults store.old) (S.faults store.new) → ¬ Rose (O.faults out.old) (O.faults out.new) → ¬ Rose (E.faults err.old) (E.faults err.new)
         → result ≢ 5
-        → Delivered (answer (map string_bytes words.now) limits.now.input folder) result (O.written out.old) (O.written out.new) (E.written err.old) (E.written err.new) }
+        → Delivered (answer (map string_bytes words.now) (bounds_of limits.now) folder) result (O.written out.old) (O.written out.new) (E.written err.old) (E.written err.new) }
 
     // Completeness: a well formed trace in the folder, within the limit, gives its summary.
     ensures complete { (folder : Folder) (name bytes : List ℕ) → S.files store.old ≡ Some folder
         → summary_file (map string_bytes words.now) ≡ Some name → file_of folder name ≡ Some bytes
-        → length bytes ≤ limits.now.input → trace_fault (lines bytes) ≡ None
+        → trace_fault (bounds_of limits.now) bytes ≡ None
         → ¬ Rose (S.faults store.old) (S.faults store.new) → ¬ Rose (O.faults out.old) (O.faults out.new) → ¬ Rose (E.faults err.old) (E.faults err.new)
         → result ≢ 5
-        → (result ≡ 0) × (O.written out.new ≡ append_known (O.written out.old) (summary_text (summary_of (events (lines bytes))))) × (E.written err.new ≡ E.written err.old) }
+        → (result ≡ 0) × (O.written out.new ≡ append_known (O.written out.old) (summary_text (summary_of (events (lines_of bytes))))) × (E.written err.new ≡ E.written err.old) }
 
     // Whatever failed: one answer that the words and the files allow was delivered whole, or at status 4 in part.
     ensures outcome { (given : Answer)
-        × IsOutcome (map string_bytes words.now) limits.now.input (S.files store.old) (S.current store.new) (Rose (S.faults store.old) (S.faults store.new)) given
+        × IsOutcome (map string_bytes words.now) (bounds_of limits.now) (S.files store.old) (S.current store.new) (Rose (S.faults store.old) (S.faults store.new)) given
         × (result ≢ 4 → Delivered given result (O.written out.old) (O.written out.new) (E.written err.old) (E.written err.new))
         × GainsFronts given (Rose (O.faults out.old) (O.faults out.new)) (Rose (E.faults err.old) (E.faults err.new)) (O.written out.old) (O.written out.new) (E.written err.old) (E.written err.new) }
     ensures statuses { result ≤ 6 }
@@ -76,11 +77,11 @@ pub fn heapsuite_run<S: Store, O: Sink, E: Sink>(
 
     // Statuses 0, 1 and 6: exactly where the words and the files define them.
     ensures judged { (folder : Folder) → S.files store.old ≡ Some folder → result ≢ 3 → result ≢ 4 → result ≢ 5
-        → Delivered (answer (map string_bytes words.now) limits.now.input folder) result (O.written out.old) (O.written out.new) (E.written err.old) (E.written err.new) }
+        → Delivered (answer (map string_bytes words.now) (bounds_of limits.now) folder) result (O.written out.old) (O.written out.new) (E.written err.old) (E.written err.new) }
     ensures malformed { (folder : Folder) → S.files store.old ≡ Some folder → ¬ Rose (S.faults store.old) (S.faults store.new)
-        → (answer (map string_bytes words.now) limits.now.input folder).status ≡ 1 → result ≢ 4 → result ≢ 5 → result ≡ 1 }
+        → (answer (map string_bytes words.now) (bounds_of limits.now) folder).status ≡ 1 → result ≢ 4 → result ≢ 5 → result ≡ 1 }
     ensures past_limit { (folder : Folder) → S.files store.old ≡ Some folder → ¬ Rose (S.faults store.old) (S.faults store.new)
-        → (answer (map string_bytes words.now) limits.now.input folder).status ≡ 6 → result ≢ 4 → result ≢ 5 → result ≡ 6 }
+        → (answer (map string_bytes words.now) (bounds_of limits.now) folder).status ≡ 6 → result ≢ 4 → result ≢ 5 → result ≡ 6 }
 
     // Status 2: exactly where the words aren't taken, and then never 5.
     ensures usage { summary_file (map string_bytes words.now) ≡ None → result ≢ 4 → Delivered usage_answer result (O.written out.old) (O.written out.new) (E.written err.old) (E.written err.new) }
@@ -98,6 +99,12 @@ pub fn heapsuite_run<S: Store, O: Sink, E: Sink>(
     ensures cannot_open { (folder : Folder) (name : List ℕ) → S.files store.old ≡ Some folder → summary_file (map string_bytes words.now) ≡ Some name
         → result ≡ 3 → IsSome (file_of folder name) → S.current store.new ≡ false
         → Delivered (refused (at_file name (codes "cannot open")) 3) result (O.written out.old) (O.written out.new) (E.written err.old) (E.written err.new) }
+
+    // The place of a failed read: the lines that were taken whole before it have no fault, and the bytes after them
+    // show no fault of a line's length.
+    ensures stopped { (folder : Folder) (name bytes : List ℕ) → S.files store.old ≡ Some folder → summary_file (map string_bytes words.now) ≡ Some name
+        → file_of folder name ≡ Some bytes → result ≡ 3 → S.current store.new ≡ true
+        → StoppedBefore (bounds_of limits.now) bytes (S.left store.new) }
 
     // Status 4: only where an output failed.
     ensures write { result ≡ 4 → ¬ Rose (O.faults out.old) (O.faults out.new) → Rose (E.faults err.old) (E.faults err.new) }

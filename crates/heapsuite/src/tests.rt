@@ -12,6 +12,13 @@ const TWO_SIZES: &str = "v 10500 2\na 64 0\na 20 0\n+ 0\n+ 1\n- 0\n+ 0\n";
 const TWO_SIZES_SUMMARY: &str =
     "events: 4\ncalls: 3\ntemporary: 0\nallocated: 232\npeak: 132 at event 2\nleaked: 132 in 2 blocks\n";
 
+/// A trace with strings, instructions, nodes, a command, a clock value and resident memory.
+const WORKED: &str =
+    "v 10500 2\nX demo\nI 1000 3e80\ns app\ns main\ns f\ns a.c\ni 400 1 2 4 14\ni 500 1 3 4 a\nt 1 0\nt 2 1\na 64 2\na 64 1\n+ 0\nc 5\nR 100\n- 0\n+ 1\n";
+
+const WORKED_SUMMARY: &str =
+    "events: 3\ncalls: 2\ntemporary: 1\nallocated: 200\npeak: 100 at event 1\nleaked: 100 in 1 blocks\n";
+
 const NO_EVENTS_SUMMARY: &str =
     "events: 0\ncalls: 0\ntemporary: 0\nallocated: 0\npeak: 0 at event 0\nleaked: 0 in 0 blocks\n";
 
@@ -25,6 +32,7 @@ struct Case {
     trace: &'static str,
     piece: usize,
     input: u32,
+    line: u16,
     failing_store_call: u64,
     out_room: usize,
     failing_out_call: u64,
@@ -48,6 +56,7 @@ const fn summary(
         trace,
         piece: 16,
         input: 1000,
+        line: 1000,
         failing_store_call: 0,
         out_room: 1000,
         failing_out_call: 0,
@@ -86,7 +95,7 @@ fn expect(rt: &impl Abort, alloc: Global, case: &Case) -> Result<(), Fail> {
     let words = words_of(alloc, case.words)?;
     let limits = Limits {
         input: u64::from(case.input),
-        line: 9,
+        line: u32::from(case.line).max(1),
         order: 1,
     };
     let mut store = MemStore::new(alloc, case.piece.max(1));
@@ -108,9 +117,16 @@ fn figures_of_traces(rt: HostRuntime) -> Result<(), Fail> {
     let table = [
         summary("v 10500 2\n", 0, NO_EVENTS_SUMMARY, ""),
         summary("v 10500 2", 0, NO_EVENTS_SUMMARY, ""),
+        summary(
+            "# a comment\nv 10500 3\n\nz what\n",
+            0,
+            NO_EVENTS_SUMMARY,
+            "",
+        ),
+        summary(WORKED, 0, WORKED_SUMMARY, ""),
         // The total 150 stands after events 4 and 7, and the first counts; two allocations are temporary.
         summary(
-            "v 10500 2\na 64 0\na 32 0\n+ 1\n+ 1\n- 1\n+ 0\n- 0\n+ 1\n+ 1\n",
+            "v 10500 2\na 64 0\na 32 0\n+ 1\n+ 1\n- 1\nc 5\n+ 0\n- 0\n+ 1\n+ 1\n",
             0,
             "events: 7\ncalls: 5\ntemporary: 2\nallocated: 300\npeak: 150 at event 4\nleaked: 150 in 3 blocks\n",
             "",
@@ -147,35 +163,70 @@ fn cut_reads(rt: HostRuntime) -> Result<(), Fail> {
 #[test]
 fn refused_traces(rt: HostRuntime) -> Result<(), Fail> {
     let table = [
-        summary("", 1, "", "heapsuite: t:1: later kind\n"),
-        summary("\n", 1, "", "heapsuite: t:1: later kind\n"),
-        summary("a 64 0\n", 1, "", "heapsuite: t:1: later kind\n"),
-        summary("v 10500 3\n", 1, "", "heapsuite: t:1: later kind\n"),
+        summary("", 1, "", "heapsuite: t:1: no version line\n"),
+        summary("# a comment\n", 1, "", "heapsuite: t:2: no version line\n"),
+        summary("\n", 1, "", "heapsuite: t:1: no version line\n"),
+        summary("s main\n", 1, "", "heapsuite: t:1: no version line\n"),
+        summary(
+            "v 10500 4\n",
+            1,
+            "",
+            "heapsuite: t:1: file version not 1 to 3\n",
+        ),
         summary(
             "v 10500 2\nv 10500 2\n",
             1,
             "",
-            "heapsuite: t:2: later kind\n",
+            "heapsuite: t:2: second version line\n",
         ),
-        summary("v 10500 2\n\n", 1, "", "heapsuite: t:2: later kind\n"),
-        summary("v 10500 2\na 64 1\n", 1, "", "heapsuite: t:2: later kind\n"),
+        summary(
+            "v 10500 2\na 64 1\n",
+            1,
+            "",
+            "heapsuite: t:2: unknown trace\n",
+        ),
         summary(
             "v 10500 2\na 64 0\n+ 1\n",
             1,
             "",
-            "heapsuite: t:3: later kind\n",
+            "heapsuite: t:3: unknown allocation\n",
         ),
         summary(
-            "v 10500 2\na 64 0\n+ 100000000\n",
+            "v 10500 2\na 64 0\n+0\n",
             1,
             "",
-            "heapsuite: t:3: later kind\n",
+            "heapsuite: t:3: bad field\n",
         ),
         summary(
-            "v 10500 2\na 64 0\n+ 00\n",
+            "v 10500 2\n+ 40 1 1000\n",
             1,
             "",
-            "heapsuite: t:3: later kind\n",
+            "heapsuite: t:2: raw line\n",
+        ),
+        summary(
+            "v 10500 2\ni 1 1 2 3\n",
+            1,
+            "",
+            "heapsuite: t:2: missing field\n",
+        ),
+        summary("v 10500 2\nR 1 2\n", 1, "", "heapsuite: t:2: extra field\n"),
+        summary(
+            "v 10500 2\ni 400 1\n",
+            1,
+            "",
+            "heapsuite: t:2: unknown string\n",
+        ),
+        summary(
+            "v 10500 2\nt 1 0\n",
+            1,
+            "",
+            "heapsuite: t:2: unknown instruction\n",
+        ),
+        summary(
+            "v 10500 2\nt 0 1\n",
+            1,
+            "",
+            "heapsuite: t:2: unknown parent\n",
         ),
         summary(
             "v 10500 2\na 64 0\n- 0\n",
@@ -184,7 +235,7 @@ fn refused_traces(rt: HostRuntime) -> Result<(), Fail> {
             "heapsuite: t:3: free of nothing\n",
         ),
         summary(
-            "v 10500 2\na 64 0\n+ 0\n- 0\n- 0\nz\n",
+            "v 10500 2\na 64 0\n+ 0\n- 0\n- 0\n+\n",
             1,
             "",
             "heapsuite: t:5: free of nothing\n",
@@ -195,13 +246,49 @@ fn refused_traces(rt: HostRuntime) -> Result<(), Fail> {
             "",
             "heapsuite: t:6: too many bytes allocated\n",
         ),
+    ];
+    for case in table {
+        expect(&rt, rt.alloc(), &case)?;
+    }
+    Ok(())
+}
+
+#[test]
+fn lengths(rt: HostRuntime) -> Result<(), Fail> {
+    let table = [
         Case {
             input: 10,
             ..summary("v 10500 2\n", 0, NO_EVENTS_SUMMARY, "")
         },
         Case {
             input: 9,
-            ..summary("v 10500 2\n", 6, "", "heapsuite: t: input too long\n")
+            ..summary("v 10500 2", 0, NO_EVENTS_SUMMARY, "")
+        },
+        Case {
+            input: 9,
+            ..summary("v 10500 2\n", 6, "", "heapsuite: t:1: input too long\n")
+        },
+        Case {
+            input: 12,
+            ..summary(
+                "v 10500 2\n# abc\n",
+                6,
+                "",
+                "heapsuite: t:2: input too long\n",
+            )
+        },
+        Case {
+            line: 9,
+            ..summary("v 10500 2\n# 2345678\n", 0, NO_EVENTS_SUMMARY, "")
+        },
+        Case {
+            line: 9,
+            ..summary(
+                "v 10500 2\n# 23456789\n",
+                6,
+                "",
+                "heapsuite: t:2: line too long\n",
+            )
         },
     ];
     for case in table {
@@ -252,6 +339,16 @@ fn failing_calls(rt: HostRuntime) -> Result<(), Fail> {
         Case {
             failing_store_call: 3,
             ..summary(TWO_SIZES, 3, "", "heapsuite: t: cannot read\n")
+        },
+        // A line that was taken whole before the failed read is judged first.
+        Case {
+            failing_store_call: 3,
+            ..summary(
+                "s 1\nv 10500 2\na 64 0\n",
+                1,
+                "",
+                "heapsuite: t:1: no version line\n",
+            )
         },
         // The first write to standard output fails, and then one after 7 bytes.
         Case {

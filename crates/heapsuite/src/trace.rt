@@ -1,104 +1,66 @@
-//! Reading a trace line by line, to the figures of its summary. What one line says is `ht_lines`' part, and the
-//! live figures are the ledger's.
-ghost use Rattle.std.specs.Prelude.{◌≡◌, ◌≢◌, ℕ, ◌+◌, ◌-◌, ◌*◌, ◌^◌, ◌<◌, ◌≤◌, List, [], ◌∷◌, ◌++◌, None, Some, length, slice_get, OnOk, OnErr, IfOk, IfErr, IsTrue};
+//! Reading a trace line by line, to the figures of its summary. What a line says and which numbers it may name is the
+//! tables' part, and the live figures are the ledger's. How lines come from a file is no part of it.
+ghost use Rattle.std.specs.Prelude.{◌≡◌, ◌≢◌, ℕ, ◌+◌, ◌*◌, ◌^◌, ◌<◌, ◌≤◌, List, [], ◌∷◌, ◌++◌, None, Some, length, OnOk, IfOk, IfErr};
 ghost use Rattle.std.specs.Option.{option_map, option_to_list};
-ghost use Rattle.ht_lines.specs.ItemOf.{item_of};
-ghost use Rattle.ht_lines.specs.Written.{least_length};
 ghost use Rattle.live_ledger.specs.declared.event.Event.{Event};
-ghost use Rattle.live_ledger.specs.Events.{is_counted};
+ghost use Rattle.live_ledger.specs.Events.{counted, is_counted};
 ghost use Rattle.live_ledger.specs.Faults.{fault_of};
 ghost use Rattle.live_ledger.specs.LedgerState.{IsHeld};
-ghost use Rattle.heapsuite.specs.Lines.{lines};
+ghost use Rattle.live_ledger.specs.StandsFor as ledger_spec;
+ghost use Rattle.ht_trace.specs.LedgerFits.{CanTake, infos_in, least_length, least_length_of, stacks_in};
+ghost use Rattle.ht_trace.specs.LineFault.{end_fault};
+ghost use Rattle.ht_trace.specs.StepOf.{event_of};
+ghost use Rattle.ht_trace.specs.TraceEvents.{events};
+ghost use Rattle.heapsuite.specs.Peak.{peak_of};
 ghost use Rattle.heapsuite.specs.SummaryText.{summary_of};
-ghost use Rattle.heapsuite.specs.TraceEvents.{event_of, events, info_size};
-ghost use Rattle.heapsuite.specs.TraceFault.{line_fault, trace_fault, content_fault, is_placed, of_ledger};
-ghost use Rattle.heapsuite.specs.TraceReader.{HasFigures, HasRead, IsSound, Refuses, Tells, bytes_at_least};
+ghost use Rattle.heapsuite.specs.Totals.{totals};
+ghost use Rattle.heapsuite.specs.TraceFault.{content_fault, ledger_fault};
+ghost use Rattle.heapsuite.specs.TraceReader.{HasRead, IsSound, Tells};
 
-use crate::lines::first_line;
+use crate::fault::TraceFault;
 use crate::peak::Peak;
 use crate::summary::Summary;
 use hp_num::NoMemory;
-use ht_lines::{Form, Item, read_item};
+use ht_trace::{LineError, Step, Tables};
 use live_ledger::{Event, EventFault, Ledger};
 use std::alloc::Global;
 
-/// What is wrong with a line.
-#[derive(Clone, Copy, Debug, PartialEq, Eq)]
-pub enum LineFault {
-    /// The line is of no kind that is read, stands where its kind can't stand, or names an info that isn't held.
-    LaterKind,
-    /// A free whose info has no live block.
-    FreeOfNothing,
-    /// An allocation that makes the sum of all allocated sizes pass 2^62 bytes.
-    CostTooLarge,
-}
-
 /// Why a line isn't taken.
 #[derive(Clone, Copy, Debug, PartialEq, Eq)]
-pub enum LineError {
+pub enum LineRefusal {
     /// The line has a fault.
-    Fault(LineFault),
+    Fault(TraceFault),
     /// Memory was wanting.
     NoMemory,
 }
 
-/// Why a trace isn't taken.
-#[derive(Clone, Copy, Debug, PartialEq, Eq)]
-pub enum TraceError {
-    /// The line of this number, from 1, is the first with a fault.
-    At { number: u64, fault: LineFault },
-    /// Memory was wanting.
-    NoMemory,
-}
+impl From<NoMemory> for LineRefusal {
+    ghost use Rattle.heapsuite.specs.declared.trace.LineRefusal.TheVariants.{NoMemory as OutOfMemory};
 
-impl From<NoMemory> for LineError {
-    ghost use Rattle.heapsuite.specs.declared.trace.LineError.TheVariants.{NoMemory as OutOfMemory};
+    ghost from_gives = { λ _ refusal. refusal ≡ OutOfMemory };
 
-    ghost from_gives = { λ _ error. error ≡ OutOfMemory };
-
-    fn from(_: NoMemory) -> LineError {
-        LineError::NoMemory
+    fn from(_: NoMemory) -> LineRefusal {
+        LineRefusal::NoMemory
     }
 }
 
-impl From<NoMemory> for TraceError {
-    ghost use Rattle.heapsuite.specs.declared.trace.TraceError.TheVariants.{NoMemory as OutOfMemory};
+impl From<EventFault> for LineRefusal {
+    ghost use Rattle.heapsuite.specs.declared.fault.TraceFault.TheVariants.{Event as InEvent};
+    ghost use Rattle.heapsuite.specs.declared.trace.LineRefusal.TheVariants.{Fault};
 
-    ghost from_gives = { λ _ error. error ≡ OutOfMemory };
+    ghost from_gives = { λ fault refusal. refusal ≡ Fault (InEvent fault) };
 
-    fn from(_: NoMemory) -> TraceError {
-        TraceError::NoMemory
-    }
-}
-
-impl From<LineFault> for LineError {
-    ghost use Rattle.heapsuite.specs.declared.trace.LineError.TheVariants.{Fault};
-
-    ghost from_gives = { λ fault error. error ≡ Fault fault };
-
-    fn from(fault: LineFault) -> LineError {
-        LineError::Fault(fault)
-    }
-}
-
-impl From<EventFault> for LineFault {
-    ghost from_gives = { λ fault line_fault. line_fault ≡ of_ledger fault };
-
-    fn from(fault: EventFault) -> LineFault {
-        match fault {
-            EventFault::FreeOfNothing => LineFault::FreeOfNothing,
-            EventFault::CostTooLarge => LineFault::CostTooLarge,
-        }
+    fn from(fault: EventFault) -> LineRefusal {
+        LineRefusal::Fault(TraceFault::Event(fault))
     }
 }
 
 /// What has been read of a trace so far.
 #[derive(Debug, Drop)]
 pub struct TraceReader {
+    tables: Tables,
     ledger: Ledger,
-    sizes: Vec<u64>,
     peak: Peak,
-    lines: u64,
 }
 
 impl TraceReader {
@@ -106,131 +68,51 @@ impl TraceReader {
     pub fn new(alloc: Global) -> Result<TraceReader, NoMemory>
         ensures sound { IfOk result (λ reader. IsSound reader) }
         ensures read { IfOk result (λ reader. HasRead reader []) }
-        ensures bytes { IfOk result (λ reader. bytes_at_least reader ≡ 0) }
+        ensures events { IfOk result (λ reader. reader.ledger.totals.events ≡ 0) }
     {
         let ledger = Ledger::new(alloc)?;
         Ok(TraceReader {
+            tables: Tables::new(alloc),
             ledger,
-            sizes: Vec::new(alloc),
             peak: Peak::new(),
-            lines: 0,
         })
     }
 
-    /// Reads the next line. After an error the reader is of no use.
-    pub fn line(&mut self, line: &[u8]) -> Result<(), LineError>
+    /// Reads the next line. After a refusal the reader is of no use.
+    pub fn line(&mut self, line: &[u8]) -> Result<(), LineRefusal>
         requires sound { IsSound self.old }
-        requires room { bytes_at_least self.old < 2 ^ 34 }
-        requires count { self.old.lines < 2 ^ 34 }
+        requires short { length line.now < 2 ^ 32 }
+        requires room { 4 * self.old.ledger.totals.events + length line.now ≤ 2 ^ 34 }
         ensures sound { OnOk result (IsSound self.new) }
-        ensures read { OnOk result ((trace : List (List ℕ)) → HasRead self.old trace → HasRead self.new (trace ++ line.now ∷ [])) }
-        ensures no_fault { OnOk result ((trace : List (List ℕ)) → HasRead self.old trace → line_fault trace line.now ≡ None) }
-        ensures fault { IfErr result (λ error. (trace : List (List ℕ)) → HasRead self.old trace → Tells error (line_fault trace line.now)) }
-        ensures bytes { OnOk result (bytes_at_least self.new ≤ bytes_at_least self.old + length line.now + 1) }
-        ensures lines { OnOk result (self.new.lines ≡ self.old.lines + 1) }
+        ensures read { OnOk result ((lines : List (List ℕ)) → HasRead self.old lines → HasRead self.new (lines ++ line.now ∷ [])) }
+        ensures no_fault { OnOk result ((lines : List (List ℕ)) → HasRead self.old lines → content_fault lines line.now ≡ None) }
+        ensures fault { IfErr result (λ refusal. (lines : List (List ℕ)) → HasRead self.old lines → Tells refusal (content_fault lines line.now)) }
+        ensures events { OnOk result (4 * self.new.ledger.totals.events ≤ 4 * self.old.ledger.totals.events + length line.now + 1) }
     {
-        let Ok(item) = read_item(Form::Interpreted, 2, line) else {
-            return Err(LineError::Fault(LineFault::LaterKind));
-        };
-        if !is_placed(self.lines == 0, item) {
-            return Err(LineError::Fault(LineFault::LaterKind));
-        }
-        self.take_item(item)?;
-        self.lines += 1;
-        Ok(())
-    }
-
-    /// Takes what an item brings that is placed well.
-    fn take_item(&mut self, item: Item) -> Result<(), LineError>
-        requires sound { IsSound self.old }
-        requires room { bytes_at_least self.old < 2 ^ 34 }
-        ensures sound { OnOk result (IsSound self.new) }
-        ensures figures { OnOk result ((taken : List Event) (sizes : List ℕ) → HasFigures self.old taken sizes →
-            HasFigures self.new (taken ++ option_to_list (event_of sizes (Some item))) (sizes ++ option_to_list (info_size (Some item)))) }
-        ensures no_fault { OnOk result ((taken : List Event) (sizes : List ℕ) → HasFigures self.old taken sizes → content_fault taken sizes item ≡ None) }
-        ensures fault { IfErr result (λ error. (taken : List Event) (sizes : List ℕ) → HasFigures self.old taken sizes → Tells error (content_fault taken sizes item)) }
-        ensures bytes { OnOk result (bytes_at_least self.new ≤ bytes_at_least self.old + least_length item + 1) }
-        ensures lines { self.new.lines ≡ self.old.lines }
-    {
-        match item {
-            Item::Version { .. } => Ok(()),
-            Item::Info { size, .. } => {
-                self.add_info(size)?;
+        match self.tables.line(line) {
+            Ok(step) => {
+                take_step(&mut self.ledger, &mut self.peak, step)?;
                 Ok(())
             }
-            Item::Alloc { .. } | Item::Free { .. } => {
-                let Some(event) = self.event_of(item) else {
-                    return Err(LineError::Fault(LineFault::LaterKind));
-                };
-                self.take_event(event)?;
-                Ok(())
-            }
+            Err(LineError::NoMemory) => Err(LineRefusal::NoMemory),
+            Err(error) => Err(LineRefusal::Fault(TraceFault::Line(error))),
         }
     }
 
-    /// Holds an info for blocks of `size` bytes.
-    fn add_info(&mut self, size: u64) -> Result<(), NoMemory>
-        requires sound { IsSound self.old }
-        requires room { bytes_at_least self.old < 2 ^ 34 }
-        ensures sound { OnOk result (IsSound self.new) }
-        ensures figures { OnOk result ((taken : List Event) (sizes : List ℕ) → HasFigures self.old taken sizes → HasFigures self.new taken (sizes ++ size ∷ [])) }
-        ensures bytes { OnOk result (bytes_at_least self.new ≡ bytes_at_least self.old + 6) }
-        ensures lines { self.new.lines ≡ self.old.lines }
+    /// Whether the trace may end here: the fault of its end, if it has one.
+    pub fn end(&self) -> Result<(), TraceFault>
+        ensures no_fault { OnOk result ((lines : List (List ℕ)) → HasRead self.now lines → end_fault lines ≡ None) }
+        ensures fault { IfErr result (λ fault. (lines : List (List ℕ)) → HasRead self.now lines → option_map TraceFault.Line (end_fault lines) ≡ Some fault) }
     {
-        self.ledger.grow_info(0, size)?;
-        self.sizes.push(size)?;
-        Ok(())
-    }
-
-    /// The event of an item, where it names an info that is held.
-    fn event_of(&self, item: Item) -> Option<Event>
-        requires room { bytes_at_least self.now < 2 ^ 34 }
-        ensures event { result ≡ event_of self.now.sizes.items (Some item) }
-    {
-        match item {
-            Item::Alloc { info } => {
-                let size = *self.sizes.get(info as usize)?;
-                Some(Event::Alloc {
-                    info: info as u32,
-                    stack: 0,
-                    size,
-                })
-            }
-            Item::Free { info } => {
-                let size = *self.sizes.get(info as usize)?;
-                Some(Event::Free {
-                    info: info as u32,
-                    stack: 0,
-                    size,
-                })
-            }
-            Item::Version { .. } | Item::Info { .. } => None,
+        match self.tables.end() {
+            Ok(()) => Ok(()),
+            Err(error) => Err(TraceFault::Line(error)),
         }
     }
 
-    /// Takes an event, which is an allocation or a free of a held info, into the ledger and the peak.
-    fn take_event(&mut self, event: Event) -> Result<(), LineFault>
-        requires held { IsHeld self.old.ledger event }
-        requires counted { IsTrue (is_counted event) }
-        requires room { bytes_at_least self.old < 2 ^ 34 }
-        ensures sound { IsSound self.old → IsSound self.new }
-        ensures figures { OnOk result ((taken : List Event) (sizes : List ℕ) → HasFigures self.old taken sizes → HasFigures self.new (taken ++ event ∷ []) sizes) }
-        ensures no_fault { OnOk result ((taken : List Event) (sizes : List ℕ) → HasFigures self.old taken sizes → fault_of taken event ≡ None) }
-        ensures fault { IfErr result (λ fault. (taken : List Event) (sizes : List ℕ) → HasFigures self.old taken sizes → option_map of_ledger (fault_of taken event) ≡ Some fault) }
-        ensures bytes { OnOk result (bytes_at_least self.new ≡ bytes_at_least self.old + 4) }
-        ensures lines { self.new.lines ≡ self.old.lines }
-    {
-        self.ledger.apply(event)?;
-        let totals = self.ledger.totals();
-        self.peak.take_total(totals.live, totals.events);
-        Ok(())
-    }
-}
-
-impl TraceReader {
     /// The figures of the lines that were read.
     pub fn summary(&self) -> Summary
-        ensures { (trace : List (List ℕ)) → HasRead self.now trace → result ≡ summary_of (events trace) }
+        ensures { (lines : List (List ℕ)) → HasRead self.now lines → result ≡ summary_of (events lines) }
     {
         Summary {
             totals: self.ledger.totals(),
@@ -239,39 +121,62 @@ impl TraceReader {
     }
 }
 
-/// Reads a whole trace, to its summary or its first fault.
-pub fn read_trace(alloc: Global, bytes: &[u8]) -> Result<Summary, TraceError>
-    requires { length bytes.now ≤ 2 ^ 34 }
-    ensures no_fault { OnOk result (trace_fault (lines bytes.now) ≡ None) }
-    ensures summary { IfOk result (λ summary. summary ≡ summary_of (events (lines bytes.now))) }
-    ensures fault { IfErr result (λ error. Refuses error (trace_fault (lines bytes.now))) }
+/// Takes what a line brings beside the tables.
+fn take_step(ledger: &mut Ledger, peak: &mut Peak, step: Step) -> Result<(), LineRefusal>
+    requires can { CanTake ledger.old step }
+    requires room { 4 * ledger.old.totals.events + least_length step ≤ 2 ^ 34 }
+    ensures ledger { OnOk result ((taken : List Event) → ledger_spec.StandsFor ledger.old taken → ledger_spec.StandsFor ledger.new (taken ++ option_to_list (event_of step))) }
+    ensures peak { OnOk result ((taken : List Event) → ledger_spec.StandsFor ledger.old taken → peak.old ≡ peak_of (totals (counted taken)) → peak.new ≡ peak_of (totals (counted (taken ++ option_to_list (event_of step))))) }
+    ensures no_fault { OnOk result ((taken : List Event) → ledger_spec.StandsFor ledger.old taken → ledger_fault taken (event_of step) ≡ None) }
+    ensures fault { IfErr result (λ refusal. (taken : List Event) → ledger_spec.StandsFor ledger.old taken → Tells refusal (option_map TraceFault.Event (ledger_fault taken (event_of step)))) }
+    ensures stacks { OnOk result (ledger.new.stacks ≡ ledger.old.stacks + stacks_in step) }
+    ensures infos { OnOk result (ledger.new.infos ≡ ledger.old.infos ++ infos_in step) }
+    ensures events { OnOk result (4 * ledger.new.totals.events ≤ 4 * ledger.old.totals.events + least_length step + 1) }
 {
-    if bytes.is_empty() {
-        return Err(TraceError::At {
-            number: 1,
-            fault: LineFault::LaterKind,
-        });
-    }
-    let mut reader = TraceReader::new(alloc)?;
-    let mut rest = bytes;
-    'lines: while !rest.is_empty() {
-        let (line, after) = first_line(rest);
-        let number = reader.lines + 1;
-        match reader.line(line) {
-            Ok(()) => rest = after,
-            Err(LineError::Fault(fault)) => return Err(TraceError::At { number, fault }),
-            Err(LineError::NoMemory) => return Err(TraceError::NoMemory),
+    match step {
+        Step::Nothing => Ok(()),
+        Step::Stack => {
+            ledger.grow_stack()?;
+            Ok(())
+        }
+        Step::Info { stack, size } => {
+            ledger.grow_info(stack, size)?;
+            Ok(())
+        }
+        Step::Event { event } => {
+            take_event(ledger, peak, event)?;
+            Ok(())
         }
     }
-    Ok(reader.summary())
 }
 
-/// Whether an item stands where its kind may stand: the version line first, and all others after it.
-fn is_placed(first: bool, item: Item) -> bool
-    ensures { result ≡ is_placed first item }
+/// Takes an event into the ledger and the peak; a clock value changes neither's figures.
+fn take_event(ledger: &mut Ledger, peak: &mut Peak, event: Event) -> Result<(), EventFault>
+    requires held { IsHeld ledger.old event }
+    requires room { 4 * ledger.old.totals.events + least_length_of event ≤ 2 ^ 34 }
+    ensures ledger { OnOk result ((taken : List Event) → ledger_spec.StandsFor ledger.old taken → ledger_spec.StandsFor ledger.new (taken ++ event ∷ [])) }
+    ensures peak { OnOk result ((taken : List Event) → ledger_spec.StandsFor ledger.old taken → peak.old ≡ peak_of (totals (counted taken)) → peak.new ≡ peak_of (totals (counted (taken ++ event ∷ [])))) }
+    ensures no_fault { OnOk result ((taken : List Event) → ledger_spec.StandsFor ledger.old taken → fault_of taken event ≡ None) }
+    ensures fault { IfErr result (λ fault. (taken : List Event) → ledger_spec.StandsFor ledger.old taken → fault_of taken event ≡ Some fault) }
+    ensures stacks { ledger.new.stacks ≡ ledger.old.stacks }
+    ensures infos { ledger.new.infos ≡ ledger.old.infos }
+    ensures events { OnOk result (4 * ledger.new.totals.events ≤ 4 * ledger.old.totals.events + least_length_of event + 1) }
 {
-    match item {
-        Item::Version { .. } => first,
-        Item::Info { .. } | Item::Alloc { .. } | Item::Free { .. } => !first,
+    ledger.apply(event)?;
+    if !is_counted(event) {
+        return Ok(());
+    }
+    let totals = ledger.totals();
+    peak.take_total(totals.live, totals.events);
+    Ok(())
+}
+
+/// Whether an event is an allocation or a free, and so no clock value.
+fn is_counted(event: Event) -> bool
+    ensures { result ≡ is_counted event }
+{
+    match event {
+        Event::Alloc { .. } | Event::Free { .. } => true,
+        Event::Tick { .. } => false,
     }
 }

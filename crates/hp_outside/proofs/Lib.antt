@@ -1,2 +1,4 @@
 pub mod Known
 pub mod HeldFilesLemmas
+pub mod WindowLemmas
+pub mod LineLemmas

@@ -8,3 +8,8 @@ pub mod MemStoreState
 pub mod MemSinkState
 pub mod HeldFiles
 pub mod OpenAnswer
+pub mod Lines
+pub mod Judgement
+pub mod NextLine
+pub mod LineReaderState
+pub mod WindowState

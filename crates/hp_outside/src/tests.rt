@@ -3,6 +3,8 @@
 ghost use Rattle.std.specs.Prelude.{◌^◌, ◌≤◌};
 
 use super::*;
+use hp_num::NoMemory;
+use std::alloc::Global;
 use std::fs;
 use std::test::Fail;
 
@@ -155,5 +157,64 @@ fn std_sink_writes(rt: HostRuntime) -> Result<(), Fail> {
     assert_eq!(rt; write_whole(&mut sink, b"abc"), Ok(()));
     assert_eq!(rt; sink.flush(), Ok(()));
     assert_eq!(rt; bytes.as_slice(), b"abc".as_slice());
+    Ok(())
+}
+
+#[test]
+fn lines_of_a_file(rt: HostRuntime) -> Result<(), Fail> {
+    for piece in 1..5 {
+        let mut store = SureStore::new(rt.alloc(), piece);
+        store.add("a", b"ab\n\ncde")?;
+        let mut reader = LineReader::new(rt.alloc(), &Limits::standard())?;
+        assert_eq!(rt; store.open("a"), Ok(()));
+        let span = reader.next(&mut store)?.ok_or("no line")?;
+        assert_eq!(rt; reader.line(&span), b"ab".as_slice());
+        let span = reader.next(&mut store)?.ok_or("no line")?;
+        assert_eq!(rt; reader.line(&span), b"".as_slice());
+        let span = reader.next(&mut store)?.ok_or("no line")?;
+        assert_eq!(rt; reader.line(&span), b"cde".as_slice());
+        assert_eq!(rt; reader.next(&mut store), Ok(None));
+        assert_eq!(rt; reader.number(), 3);
+    }
+    Ok(())
+}
+
+/// What the first line of these bytes is refused with, or the fault of the second.
+fn fault_of(
+    alloc: Global,
+    input: u64,
+    line: u32,
+    bytes: &[u8],
+) -> Result<Option<LineFault>, NoMemory>
+    requires input { input ≤ 2 ^ 34 }
+    requires line { line ≤ 1048576 }
+    requires some { 1 ≤ line }
+{
+    let mut store = SureStore::new(alloc, 2);
+    store.add("a", bytes)?;
+    let limits = Limits {
+        input,
+        line,
+        order: 1,
+    };
+    let mut reader = LineReader::new(alloc, &limits)?;
+    if store.open("a").is_err() {
+        return Ok(None);
+    }
+    if let Err(fault) = reader.next(&mut store) {
+        return Ok(Some(fault));
+    }
+    Ok(reader.next(&mut store).err())
+}
+
+#[test]
+fn lines_too_long(rt: HostRuntime) -> Result<(), Fail> {
+    let alloc = rt.alloc();
+    let too_long = Some(LineFault::LineTooLong);
+    let input_too_long = Some(LineFault::InputTooLong);
+    assert_eq!(rt; fault_of(alloc, 9, 3, b"abcd")?, too_long);
+    assert_eq!(rt; fault_of(alloc, 9, 3, b"abc")?, None);
+    assert_eq!(rt; fault_of(alloc, 4, 9, b"ab\ncde")?, input_too_long);
+    assert_eq!(rt; fault_of(alloc, 4, 1, b"abcde")?, too_long);
     Ok(())
 }

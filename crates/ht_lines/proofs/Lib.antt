@@ -1,2 +1,13 @@
-pub mod Shortest
-pub mod Reading
+pub mod FieldLemmas
+pub mod NumberLemmas
+pub mod CountedLines
+pub mod VersionLines
+pub mod InstructionLines
+pub mod TextLemmas
+pub mod NameLemmas
+pub mod ModuleLines
+pub mod LineSides
+pub mod ExtendLemmas
+pub mod WordLemmas
+pub mod WrittenLemmas
+pub mod LengthLemmas

@@ -1,3 +1,12 @@
-pub mod ItemOf
+pub mod Fields
+pub mod Content
+pub mod SizedText
+pub mod ModuleName
+pub mod Kinds
+pub mod LeastLength
 pub mod Reads
+pub mod Refuses
+pub mod Reading
+pub mod ItemContent
 pub mod Written
+pub mod Extends

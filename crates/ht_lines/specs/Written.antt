@@ -1,20 +1,70 @@
--- The written form of an item: its kind, one blank, and its fields in shortest lower-case hexadecimal,
--- separated by one blank.
-use Rattle.std.specs.Prelude.{ℕ, List, ◌++◌, codes}
+-- The written form of what a line says: its kind, one blank, and its fields in shortest lower-case hexadecimal,
+-- separated by one blank. Texts and names stand after their size in file version 3.
+use Rattle.std.specs.Prelude.{◌≡◌, ◌≢◌, ◌⊎◌, ℕ, ◌%◌, ◌^◌, ◌<◌, ◌≤◌, ◌==◌, if◌then◌else◌, List, [], ◌∷◌, ◌++◌, length, codes}
+use Rattle.std.specs.List.{AllByRecursion}
 use Rattle.hp_num.specs.Hexadecimal.{hexadecimal}
-use Rattle.ht_lines.specs.declared.item.Item.{Item}
-use Rattle.ht_lines.specs.declared.item.Item.TheVariants.{Version, Info, Alloc, Free}
+use Rattle.ht_lines.specs.Content.{Content, version_line, executable_line, command_line, system_line, string_line, clear_line, module_line, instruction_line, node_line, info_line, allocation_line, free_line, raw_allocation_line, raw_free_line, clock_line, resident_line, attached_line, suppression_line, comment_line, other_line}
+use Rattle.ht_lines.specs.Kinds.{IsOther}
+use Rattle.ht_lines.specs.Reads.{RangesFit}
 
--- the bytes of the item's line, without a line feed
-abbrev pub written : Item → List ℕ
-written (Version heaptrack file) = codes "v " ++ (hexadecimal heaptrack ++ (codes " " ++ hexadecimal file))
-written (Info size trace) = codes "a " ++ (hexadecimal size ++ (codes " " ++ hexadecimal trace))
-written (Alloc info) = codes "+ " ++ hexadecimal info
-written (Free info) = codes "- " ++ hexadecimal info
+-- each number after a blank
+abbrev pub spelled : List ℕ → List ℕ
+spelled [] = []
+spelled (n ∷ ns) = 32 ∷ (hexadecimal n ++ spelled ns)
 
--- the length of the item's line, at least
-abbrev pub least_length : Item → ℕ
-least_length (Version heaptrack file) = 5
-least_length (Info size trace) = 5
-least_length (Alloc info) = 3
-least_length (Free info) = 3
+-- a text or a name, in file version 3 after its size and a blank
+abbrev pub spelled_text : ℕ → List ℕ → List ℕ
+spelled_text version bytes = if version == 3 then hexadecimal (length bytes) ++ (32 ∷ bytes) else bytes
+
+-- the line, without a line feed
+abbrev pub written : ℕ → Content → List ℕ
+written version (version_line heaptrack file) = codes "v" ++ spelled (heaptrack ∷ file ∷ [])
+written version (executable_line bytes) = codes "x " ++ spelled_text version bytes
+written version (command_line bytes) = codes "X " ++ spelled_text version bytes
+written version (suppression_line bytes) = codes "S " ++ spelled_text version bytes
+written version (system_line page pages) = codes "I" ++ spelled (page ∷ pages ∷ [])
+written version (string_line bytes) = codes "s " ++ spelled_text version bytes
+written version clear_line = codes "m -"
+written version (module_line name start ranges) = codes "m " ++ (spelled_text version name ++ spelled (start ∷ ranges))
+written version (instruction_line ip module_string frames) = codes "i" ++ spelled (ip ∷ module_string ∷ frames)
+written version (node_line ip parent) = codes "t" ++ spelled (ip ∷ parent ∷ [])
+written version (info_line size trace) = codes "a" ++ spelled (size ∷ trace ∷ [])
+written version (allocation_line info) = codes "+" ++ spelled (info ∷ [])
+written version (free_line info) = codes "-" ++ spelled (info ∷ [])
+written version (raw_allocation_line size trace ptr) = codes "+" ++ spelled (size ∷ trace ∷ ptr ∷ [])
+written version (raw_free_line ptr) = codes "-" ++ spelled (ptr ∷ [])
+written version (clock_line ms) = codes "c" ++ spelled (ms ∷ [])
+written version (resident_line pages) = codes "R" ++ spelled (pages ∷ [])
+written version attached_line = codes "A"
+written version (comment_line bytes) = codes "#" ++ bytes
+written version (other_line bytes) = bytes
+
+-- the numbers fit 64 bits
+abbrev pub AreWords : List ℕ → Type 0
+AreWords ns = AllByRecursion (λ n. n < 2 ^ 64) ns
+
+-- what some line of an interpreted trace says in this file version
+abbrev pub IsWritable : ℕ → Content → Type 0
+IsWritable version (version_line heaptrack file) = (heaptrack < 2 ^ 64) × (1 ≤ file) × (file ≤ 3)
+IsWritable version (executable_line bytes) = length bytes < 2 ^ 64
+IsWritable version (command_line bytes) = length bytes < 2 ^ 64
+IsWritable version (suppression_line bytes) = length bytes < 2 ^ 64
+IsWritable version (system_line page pages) = AreWords (page ∷ pages ∷ [])
+IsWritable version (string_line bytes) = length bytes < 2 ^ 64
+IsWritable version clear_line = Unit {0}
+IsWritable version (module_line name start ranges) = (length name < 2 ^ 64)
+    × (version ≢ 3 → (0 < length name) × AllByRecursion (λ b. b ≢ 32) name)
+    × AreWords (start ∷ ranges) × (length ranges % 2 ≡ 0) × RangesFit start ranges
+IsWritable version (instruction_line ip module_string frames) = AreWords (ip ∷ module_string ∷ frames)
+    × ((length frames % 3 ≡ 1) ⊎ (length frames % 3 ≡ 0))
+IsWritable version (node_line ip parent) = AreWords (ip ∷ parent ∷ [])
+IsWritable version (info_line size trace) = AreWords (size ∷ trace ∷ [])
+IsWritable version (allocation_line info) = info < 2 ^ 64
+IsWritable version (free_line info) = info < 2 ^ 64
+IsWritable version (raw_allocation_line size trace ptr) = ⊥
+IsWritable version (raw_free_line ptr) = ⊥
+IsWritable version (clock_line ms) = ms ≤ 2 ^ 62
+IsWritable version (resident_line pages) = pages < 2 ^ 64
+IsWritable version attached_line = Unit {0}
+IsWritable version (comment_line bytes) = Unit {0}
+IsWritable version (other_line bytes) = IsOther bytes

@@ -1,6 +1,6 @@
 //! What a line of a trace says, and what may be wrong with it.
 //!
-//! The types alone; `read` has the grammar.
+//! The types alone; `read` has the grammar, and `write` the written forms.
 use thiserror::Error;
 
 /// Whether a trace was interpreted, so that its lines refer to tables, or is as it was recorded.
@@ -13,20 +13,116 @@ pub enum Form {
 /// Why a line is refused.
 #[derive(Clone, Copy, Debug, PartialEq, Eq, Error)]
 pub enum Malformed {
-    /// The line is no written form of the kinds that are read.
-    #[error("later kind")]
-    LaterKind,
+    /// A byte other than a blank follows the kind, a field is no number, or a number is too large.
+    #[error("bad field")]
+    BadField,
+    /// The line has too few fields.
+    #[error("missing field")]
+    MissingField,
+    /// The line has too many fields.
+    #[error("extra field")]
+    ExtraField,
+    /// The line is one of a raw trace.
+    #[error("raw line")]
+    NotInterpreted,
+    /// The line is one of an interpreted trace.
+    #[error("interpreted line")]
+    NotRaw,
+    /// The file version isn't 1 to 3.
+    #[error("file version not 1 to 3")]
+    BadVersion,
 }
 
-/// What one line says.
+/// What one line says. Texts, names and tails are parts of the line.
 #[derive(Clone, Copy, Debug, PartialEq, Eq)]
-pub enum Item {
-    /// `v HEAPTRACK FILE`: the version of heaptrack that wrote the trace, and that of the file format.
-    Version { heaptrack: u64, file: u8 },
-    /// `a SIZE TRACE`: allocations of so many bytes at a node. Infos are numbered from 0.
-    Info { size: u64, trace: u64 },
-    /// `+ INFO`: one allocation.
-    Alloc { info: u64 },
-    /// `- INFO`: one of its blocks is freed.
-    Free { info: u64 },
+pub enum Item<'a> {
+    /// `v`: the version of heaptrack that wrote the trace, and that of the file format.
+    Version {
+        heaptrack: u64,
+        file: u8,
+    },
+    /// `x`: the path of the executable.
+    Executable {
+        text: &'a [u8],
+    },
+    /// `X`: the command that was run.
+    Command {
+        text: &'a [u8],
+    },
+    /// `I`: the size of a page in bytes, and the number of pages.
+    System {
+        page: u64,
+        pages: u64,
+    },
+    /// `s`: a string, numbered from 1.
+    Str {
+        text: &'a [u8],
+    },
+    /// `m -`: all modules are cleared.
+    ModuleClear,
+    /// `m`: a module, where it is loaded, and its ranges. The tail has their offsets and sizes in bytes.
+    Module {
+        name: &'a [u8],
+        start: u64,
+        ranges: u32,
+        tail: &'a [u8],
+    },
+    /// `i`: an instruction, numbered from 1, and the string of its module. The tail has the frames. `fields` counts
+    /// all fields after the kind.
+    Instr {
+        ip: u64,
+        module: u64,
+        fields: u32,
+        tail: &'a [u8],
+    },
+    /// `t`: a node, numbered from 1: an instruction and the parent node.
+    Node {
+        ip: u64,
+        parent: u64,
+    },
+    /// `a`: allocations of so many bytes at a node. Infos are numbered from 0.
+    Info {
+        size: u64,
+        trace: u64,
+    },
+    /// `+`: one allocation, of an info.
+    Alloc {
+        info: u64,
+    },
+    /// `-`: one block of an info is freed.
+    Free {
+        info: u64,
+    },
+    /// `+` of a raw trace: an allocation of so many bytes at a node, and its address.
+    RawAlloc {
+        size: u64,
+        trace: u64,
+        ptr: u64,
+    },
+    /// `-` of a raw trace: the block at an address is freed.
+    RawFree {
+        ptr: u64,
+    },
+    /// `c`: milliseconds since the start.
+    Clock {
+        ms: u64,
+    },
+    /// `R`: resident memory in pages.
+    Rss {
+        pages: u64,
+    },
+    /// `A`: heaptrack was attached to a running process.
+    Attached,
+    /// `S`: a suppression.
+    Suppress {
+        text: &'a [u8],
+    },
+    /// `#`: a comment, all that follows the `#`.
+    Comment {
+        text: &'a [u8],
+    },
+    /// An empty line, or a line of another kind.
+    Other {
+        line: &'a [u8],
+    },
 }

@@ -1,86 +1,113 @@
-//! From a line to its item.
+//! From a line to its item: which kind it is, and what of the line is read.
 //!
-//! Each kind of line has one arm. No reference to another line is checked here.
-ghost use Rattle.std.specs.Prelude.{◌≡◌, ℕ, ◌+◌, ◌^◌, ◌<◌, ◌≤◌, ◌↔◌, All, length, IfOk, IfSome, IsTrue};
-ghost use Rattle.std.specs.Option.{ok_or};
-ghost use Rattle.hp_num.specs.Digits.{IsLowerHexDigit};
-ghost use Rattle.hp_num.specs.Hexadecimal.{hexadecimal};
-ghost use Rattle.ht_lines.specs.ItemOf.{item_of, number_in};
+//! No reference to another line is checked here.
+ghost use Rattle.std.specs.Prelude.{◌≡◌, ℕ, ◌^◌, ◌<◌, ◌≤◌, length, IfErr, IfOk, Ok, Err};
+ghost use Rattle.ht_lines.specs.Content.{Content};
+ghost use Rattle.ht_lines.specs.Kinds.{is_kind};
+ghost use Rattle.ht_lines.specs.LeastLength.{least_length};
+ghost use Rattle.ht_lines.specs.Reading.{reading, reading_kind};
 ghost use Rattle.ht_lines.specs.Reads.{Reads};
-ghost use Rattle.ht_lines.specs.Written.{least_length};
-ghost use Rattle.ht_lines.specs.declared.item.Item.{Item};
+ghost use Rattle.ht_lines.specs.Refuses.{Refuses};
+ghost use Rattle.ht_lines.specs.ItemContent.{Gives, IsWhole, content};
+ghost use Rattle.ht_lines.specs.Written.{IsWritable};
+ghost use Rattle.ht_lines.specs.declared.item.Malformed.{Malformed};
 
 use crate::item::{Form, Item, Malformed};
-use hp_num::parse_hex;
+use crate::numbers::{
+    read_allocation, read_clock, read_free, read_info, read_node, read_resident, read_system,
+    read_version,
+};
+use crate::tailed::{read_instruction, read_module};
+use crate::text::{field_ends, text_of};
 
-/// Reads one line, without its line feed, of an interpreted trace of the file version.
+/// Reads one line of an interpreted trace, without its line feed, in a file version from 1 to 3.
 ///
-/// These written forms are read: `v` with file version 2, `a` with trace 0, `+` and `-`.
-/// Every other line is `LaterKind`.
-pub fn read_item(form: Form, version: u8, line: &[u8]) -> Result<Item, Malformed>
+/// The texts, the name and the tail of the item are parts of the line. A tail has numbers alone, as many as the item
+/// says; `field` gives them. It takes no memory.
+///
+/// # Errors
+///
+/// A wrong second byte comes first, then the number of fields, then their content from the left.
+pub fn read_item(form: Form, version: u8, line: &[u8]) -> Result<Item<'_>, Malformed>
     requires interpreted { form ≡ Form.Interpreted }
     requires low { 1 ≤ version }
     requires high { version ≤ 3 }
-    ensures exact { result ≡ ok_or (item_of line.now) Malformed.LaterKind }
-    ensures item { IfOk result (λ item. Reads line.now item) }
-    ensures only { (item : Item) → Reads line.now item → result ≡ Ok item }
-    ensures length { IfOk result (λ item. least_length item ≤ length line.now) }
+    requires short { length line.now < 2 ^ 32 }
+    ensures exact { Gives result (reading version line.now) }
+    ensures whole { IfOk result (λ item. IsWhole item) }
+    ensures length { IfOk result (λ item. least_length (content item) ≤ length line.now) }
+    ensures writable { IfOk result (λ item. IsWritable version (content item)) }
+
+    // The same by the relations: the item or the fault, and no other.
+    ensures item { IfOk result (λ item. Reads version line.now (content item)) }
+    ensures fault { IfErr result (λ fault. Refuses version line.now fault) }
+    ensures only_item { (said : Content) → Reads version line.now said → reading version line.now ≡ Ok said }
+    ensures only_fault { (fault : Malformed) → Refuses version line.now fault → reading version line.now ≡ Err fault }
 {
-    let item = read_written(line);
-    item.ok_or(Malformed::LaterKind)
+    read_line(version, line)
 }
 
-/// The item whose written form the line is.
-#[tactic(auto, unfolding(crate::specs::ItemOf::item_of))]
-fn read_written(line: &[u8]) -> Option<Item>
-    ensures item { result ≡ item_of line.now }
-    ensures length { IfSome result (λ item. least_length item ≤ length line.now) }
+/// The first byte of each known kind of line but for comments.
+const KINDS: &[u8] = b"vxXSIsmita+-cRA";
+
+fn is_kind(kind: u8) -> bool
+    ensures { result ≡ is_kind kind }
 {
-    if let Some(heaptrack) = number_between(line, b"v ", b" 2") {
-        return Some(Item::Version { heaptrack, file: 2 });
-    }
-    if let Some(size) = number_between(line, b"a ", b" 0") {
-        return Some(Item::Info { size, trace: 0 });
-    }
-    if let Some(info) = number_between(line, b"+ ", b"") {
-        return Some(Item::Alloc { info });
-    }
-    if let Some(info) = number_between(line, b"- ", b"") {
-        return Some(Item::Free { info });
-    }
-    None
+    KINDS.contains(&kind)
 }
 
-/// The number for which the line is `prefix`, the number in hexadecimal, and `suffix`.
-fn number_between(line: &[u8], prefix: &[u8], suffix: &[u8]) -> Option<u64>
-    ensures number { result ≡ number_in prefix.now suffix.now line.now }
-    ensures length { IfSome result (λ n. length prefix.now + length suffix.now < length line.now) }
+/// The item of a line.
+#[tactic(auto, unfolding(crate::specs::Reading::reading))]
+fn read_line(version: u8, line: &[u8]) -> Result<Item<'_>, Malformed>
+    requires { length line.now < 2 ^ 32 }
+    ensures exact { Gives result (reading version line.now) }
+    ensures whole { IfOk result (λ item. IsWhole item) }
 {
-    let rest = line.strip_prefix(prefix)?;
-    let text = rest.strip_suffix(suffix)?;
-    shortest_hex(text)
+    let [kind, rest @ ..] = line else {
+        return Ok(Item::Other { line });
+    };
+    if *kind == b'#' {
+        return Ok(Item::Comment { text: rest });
+    }
+    if !is_kind(*kind) {
+        return Ok(Item::Other { line });
+    }
+    if !field_ends(rest) {
+        return Err(Malformed::BadField);
+    }
+    read_kind(version, *kind, rest)
 }
 
-/// The number whose shortest lower-case hexadecimal text the bytes are.
-fn shortest_hex(text: &[u8]) -> Option<u64>
-    ensures fits { IfSome result (λ n. n < 2 ^ 64) }
-    ensures not_empty { IfSome result (λ n. 0 < length text.now) }
-    ensures number { IfSome result (λ n. text.now ≡ hexadecimal n) }
-    ensures only { (n : ℕ) → n < 2 ^ 64 → text.now ≡ hexadecimal n → result ≡ Some n }
+/// The item of a line of a known kind but a comment. `rest` follows the kind.
+#[tactic(auto, unfolding(crate::specs::Reading::reading_kind))]
+fn read_kind(version: u8, kind: u8, rest: &[u8]) -> Result<Item<'_>, Malformed>
+    requires { length rest.now < 2 ^ 32 }
+    ensures exact { Gives result (reading_kind version kind rest.now) }
+    ensures whole { IfOk result (λ item. IsWhole item) }
 {
-    if text.len() > 1 && text[0] == b'0' {
-        return None;
+    match kind {
+        b'v' => read_version(rest),
+        b'x' => Ok(Item::Executable {
+            text: text_of(version, rest),
+        }),
+        b'X' => Ok(Item::Command {
+            text: text_of(version, rest),
+        }),
+        b'S' => Ok(Item::Suppress {
+            text: text_of(version, rest),
+        }),
+        b'I' => read_system(rest),
+        b's' => Ok(Item::Str {
+            text: text_of(version, rest),
+        }),
+        b'm' => read_module(version, rest),
+        b'i' => read_instruction(rest),
+        b't' => read_node(rest),
+        b'a' => read_info(rest),
+        b'+' => read_allocation(rest),
+        b'-' => read_free(rest),
+        b'c' => read_clock(rest),
+        b'R' => read_resident(rest),
+        _ => Ok(Item::Attached),
     }
-    if !is_lower_case(text) {
-        return None;
-    }
-    parse_hex(text)
-}
-
-/// Whether each byte is a hexadecimal digit, its letters in lower case.
-fn is_lower_case(text: &[u8]) -> bool
-    ensures { IsTrue result ↔ All IsLowerHexDigit text.now }
-{
-    text.iter()
-        .all(|byte| matches!(*byte, b'0'..=b'9' | b'a'..=b'f'))
 }

@@ -1,18 +1,19 @@
 use Rattle.std.proofs.Common.{◌≡◌, ◌≢◌, map, string_bytes, ap, sym, ◌∙◌, refl, arith}
 use Rattle.std.specs.Io.KnownBytes.{append_known}
 use Rattle.heapsuite.specs.Outcome.{answer_of}
+use Rattle.heapsuite.specs.TraceFault.{bounds_of}
 use Rattle.heapsuite.specs.Words.{summary_file}
 use Rattle.heapsuite.proofs.RunLemmas.{append_nothing, delivered_as, summary_answer, unreadable_name}
 use Rattle.heapsuite.proofs.run.heapsuite_run.Goals as goal
 
 pub returns-clause-complete : goal.returns-clause-complete
-returns-clause-complete g c = λ folder name bytes told taken found within none quiet out_quiet err_quiet memory.
+returns-clause-complete g c = λ folder name bytes told taken found none quiet out_quiet err_quiet memory.
     let outcome = c.run_words-outcome.ensures.outcome in
     let wrote : c.deliver.result ≢ 4 = λ four. err_quiet (c.deliver.ensures.cause four out_quiet) in
     let given = c.deliver.ensures.status wrote in
     let status : (answer_of c.run_words-outcome.result).status ≢ 5 = λ five. memory (given.status_is ∙ five) in
     let is = outcome.defined_where_quiet folder told quiet status
-    ∙ summary_answer (map string_bytes c.args.words.now) c.args.limits.now.input folder name bytes taken found within none in (
+    ∙ summary_answer (map string_bytes c.args.words.now) (bounds_of c.args.limits.now) folder name bytes taken found none in (
       given.status_is ∙ ap (λ a. a.status) is,
       given.output ∙ ap (λ a. append_known (g.O.Sink.written c.args.out.now) a.output) is,
       given.message ∙ (ap (λ a. append_known (g.E.Sink.written c.args.err.now) a.message) is ∙ append_nothing (g.E.Sink.written c.args.err.now)),

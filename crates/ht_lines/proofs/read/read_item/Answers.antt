@@ -1,13 +1,23 @@
--- What `item_of` gives is read so, and what is read so `item_of` gives.
-use Rattle.std.proofs.Common.{◌∙◌, ap, subst, sym, IfOk}
-use Rattle.std.specs.Option.{ok_or}
-use Rattle.ht_lines.specs.Reads.{Reads}
-use Rattle.ht_lines.specs.declared.item.Malformed.TheVariants.{LaterKind}
-use Rattle.ht_lines.proofs.Reading.{item_of-IfOk, item_of-complete}
+-- What is read is read so, what is refused is refused so, and no other.
+use Rattle.ht_lines.proofs.LineSides.{Gives-item, Gives-fault, reading-item, reading-fault}
+use Rattle.ht_lines.proofs.LengthLemmas.{IfOk-length}
+use Rattle.ht_lines.proofs.WrittenLemmas.{IfOk-IsWritable}
 use Rattle.ht_lines.proofs.read.read_item.Goals as goal
 
 pub returns-clause-item : goal.returns-clause-item
-returns-clause-item c = subst (λ r. IfOk r (λ item. Reads c.args.line.now item)) (sym c.ok_or.ensures.value) (item_of-IfOk c.args.line.now _ c.read_written-item.ensures.item)
+returns-clause-item c = Gives-item c.args.version c.args.line.now c.read_line.result c.read_line.ensures.exact
 
-pub returns-clause-only : goal.returns-clause-only
-returns-clause-only c item r = c.ok_or.ensures.value ∙ ap (λ o. ok_or o LaterKind) (c.read_written-item.ensures.item ∙ item_of-complete c.args.line.now item r)
+pub returns-clause-fault : goal.returns-clause-fault
+returns-clause-fault c = Gives-fault c.args.version c.args.line.now c.read_line.result c.read_line.ensures.exact
+
+pub returns-clause-only_item : goal.returns-clause-only_item
+returns-clause-only_item c = reading-item c.args.version c.args.line.now
+
+pub returns-clause-only_fault : goal.returns-clause-only_fault
+returns-clause-only_fault c = reading-fault c.args.version c.args.line.now
+
+pub returns-clause-writable : goal.returns-clause-writable
+returns-clause-writable c = IfOk-IsWritable c.args.version c.args.line.now c.read_line.result c.requires.short (Gives-item c.args.version c.args.line.now c.read_line.result c.read_line.ensures.exact)
+
+pub returns-clause-length : goal.returns-clause-length
+returns-clause-length c = IfOk-length c.args.version c.args.line.now c.read_line.result (Gives-item c.args.version c.args.line.now c.read_line.result c.read_line.ensures.exact)

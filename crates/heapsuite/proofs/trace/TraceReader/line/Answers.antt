@@ -1,18 +1,22 @@
-use Rattle.std.proofs.Common.{◌≡◌, ◌+◌, [], ◌∷◌, ◌++◌, Some, ap, ◌∙◌}
-use Rattle.std.proofs.lemmas.List.{length_push}
-use Rattle.ht_lines.specs.ItemOf.{item_of}
-use Rattle.heapsuite.specs.TraceEvents.{events, info_sizes}
-use Rattle.heapsuite.specs.TraceReader.{HasFigures}
-use Rattle.heapsuite.proofs.TraceLemmas.{events-push, info_sizes-push, read_as}
+use Rattle.std.proofs.Common.{◌≡◌, ℕ, List, [], ◌∷◌, ◌++◌, ap, sym, subst, ◌∙◌}
+use Rattle.std.specs.Option.{option_to_list}
+use Rattle.live_ledger.specs.Events.{counted}
+use Rattle.live_ledger.specs.StandsFor.{StandsFor}
+use Rattle.ht_trace.specs.StepOf.{event_of}
+use Rattle.ht_trace.specs.TraceEvents.{events}
+use Rattle.heapsuite.specs.Peak.{peak_of}
+use Rattle.heapsuite.specs.Totals.{totals}
 use Rattle.heapsuite.proofs.trace.TraceReader.line.Goals as goal
 
-pub returns-clause-read : goal.returns-clause-read
-returns-clause-read c = λ trace has.
-    let item : item_of c.args.line.now ≡ Some c.in-Ok.item = read_as _ _ _ c.in-Ok.ensures.exact in
-    let before = c.in_ok-take_item.ensures.figures (events trace) (info_sizes trace) has.figures in
-    let taken : HasFigures c.take_item.new.self (events (trace ++ c.args.line.now ∷ [])) (info_sizes (trace ++ c.args.line.now ∷ [])) =
-    rw (events-push, info_sizes-push, item) before in
+pub take_step-requires-clause-can : goal.take_step-requires-clause-can
+take_step-requires-clause-can c = c.in-Ok.ensures.can_take c.args.self.now.ledger c.requires.sound
+
+pub returns-in_ok-take_step-in-Ok-clause-read : goal.returns-in_ok-take_step-in-Ok-clause-read
+returns-in_ok-take_step-in-Ok-clause-read c = λ lines has.
+    let after : events (lines ++ c.args.line.now ∷ []) ≡ events lines ++ option_to_list (event_of c.in-Ok.step) = c.in-Ok.ensures.events lines has.tables_of in
+    let taken = c.in_ok-take_step-in-Ok.ensures in
     record {
-      figures = record { ledger = taken.ledger; sizes_is = taken.sizes_is; peak = taken.peak; counted = taken.counted };
-      lines = rw length_push (ap (λ n. n + 1) (c.in_ok-take_item.ensures.lines ∙ has.lines));
+      tables_of = c.in-Ok.ensures.stands lines has.tables_of;
+      ledger_of = subst (λ es. StandsFor c.take_step.new.ledger es) (sym after) (taken.ledger (events lines) has.ledger_of);
+      peak = taken.peak (events lines) has.ledger_of has.peak ∙ ap (λ es. peak_of (totals (counted es))) (sym after);
     }

@@ -4,7 +4,8 @@ use Rattle.live_ledger.specs.StandsFor.{AreTotalsOf}
 use Rattle.heapsuite.specs.declared.peak.Peak.{Peak}
 use Rattle.heapsuite.specs.declared.summary.Summary.{Summary}
 use Rattle.heapsuite.specs.SummaryText.{summary_of}
-use Rattle.heapsuite.specs.TraceEvents.{events}
+use Rattle.live_ledger.specs.Events.{counted}
+use Rattle.ht_trace.specs.TraceEvents.{events}
 use Rattle.heapsuite.proofs.trace.TraceReader.summary.Goals as goal
 
 -- figures and a peak
@@ -29,7 +30,7 @@ same_totals x y same_events same_calls same_temporary same_allocated same_live s
 pub returns : goal.returns
 unfolding summary_of
 returns c = λ trace has.
-    let are : AreTotalsOf c.totals.result (events trace) = c.totals.ensures.figures (events trace) has.figures.ledger in
+    let are : AreTotalsOf c.totals.result (events trace) = c.totals.ensures.figures (events trace) has.ledger_of in
     let totals : c.totals.result ≡ (summary_of (events trace)).totals =
     same_totals _ _ are.events_is are.calls_is are.temporary_is are.allocated_is are.live_is are.blocks_is in
-    ap (λ t. summary_with t c.args.self.now.peak) totals ∙ ap (λ p. summary_with (summary_of (events trace)).totals p) has.figures.peak
+    ap (λ t. summary_with t c.args.self.now.peak) totals ∙ ap (λ p. summary_with (summary_of (events trace)).totals p) has.peak

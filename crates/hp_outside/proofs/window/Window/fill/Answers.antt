@@ -1,0 +1,42 @@
+use Rattle.std.proofs.Common.{◌≡◌, ◌+◌, ◌-◌, ◌++◌, ◌∙◌, ap, sym, arith, take, length}
+use Rattle.std.specs.Io.KnownBytes.{prepend_known}
+use Rattle.std.proofs.Math.Seq.{take-length}
+use Rattle.std.proofs.lemmas.Result.{err_from_is_err_and}
+use Rattle.hp_outside.specs.WindowState.{part_of}
+use Rattle.hp_outside.proofs.WindowLemmas.{part_of-front, part_of-further, rest_of_read, front_of_grown}
+use Rattle.hp_outside.proofs.window.Window.fill.Goals as goal
+
+-- a read that failed leaves what is kept
+pub returns-in_err-count-clause-rest : goal.returns-in_err-count-clause-rest
+returns-in_err-count-clause-rest g c =
+    let same : part_of c.read_part.new.buffer.items c.make_room-self-inside.result (c.make_room-self-inside.result + (c.self.inside.end - c.self.inside.start)) ≡ c.args.self.now.kept =
+    part_of-front _ _ c.make_room-self-inside.result _ (omega arith) c.read_part.ensures.front ∙ c.make_room-self-inside.ensures.kept ∙ ap (λ w. w.kept) c.self.view_is in
+    λ i. prepend_known (sym same i) (sym c.in_err-count.ensures.left i)
+
+pub returns-in_err-count-clause-front : goal.returns-in_err-count-clause-front
+returns-in_err-count-clause-front g c =
+    let same : part_of c.read_part.new.buffer.items c.make_room-self-inside.result (c.make_room-self-inside.result + (c.self.inside.end - c.self.inside.start)) ≡ c.args.self.now.kept =
+    part_of-front _ _ c.make_room-self-inside.result _ (omega arith) c.read_part.ensures.front ∙ c.make_room-self-inside.ensures.kept ∙ ap (λ w. w.kept) c.self.view_is in
+    ap (take (length c.args.self.now.kept)) same ∙ take-length c.args.self.now.kept
+
+pub returns-in_err-count-clause-kept : goal.returns-in_err-count-clause-kept
+returns-in_err-count-clause-kept g c =
+    let same : part_of c.read_part.new.buffer.items c.make_room-self-inside.result (c.make_room-self-inside.result + (c.self.inside.end - c.self.inside.start)) ≡ c.args.self.now.kept =
+    part_of-front _ _ c.make_room-self-inside.result _ (omega arith) c.read_part.ensures.front ∙ c.make_room-self-inside.ensures.kept ∙ ap (λ w. w.kept) c.self.view_is in
+    let p = err_from_is_err_and c.from_residual.result c.from_residual.ensures.1 in
+    rw p.1 same
+
+-- a read puts what it gives behind what is kept
+pub returns-clause-rest : goal.returns-clause-rest
+returns-clause-rest g c =
+    let more : part_of c.read_part.new.buffer.items c.make_room-self-inside.result (c.make_room-self-inside.result + (c.self.inside.end - c.self.inside.start) + c.in_ok-count.count) ≡ c.args.self.now.kept ++ part_of c.read_part.new.buffer.items (c.make_room-self-inside.result + (c.self.inside.end - c.self.inside.start)) (c.make_room-self-inside.result + (c.self.inside.end - c.self.inside.start) + c.in_ok-count.count) =
+    part_of-further _ _ c.make_room-self-inside.result _ c.in_ok-count.count (omega arith) c.read_part.ensures.front
+    ∙ ap (λ l. l ++ part_of c.read_part.new.buffer.items (c.make_room-self-inside.result + (c.self.inside.end - c.self.inside.start)) (c.make_room-self-inside.result + (c.self.inside.end - c.self.inside.start) + c.in_ok-count.count)) (c.make_room-self-inside.ensures.kept ∙ ap (λ w. w.kept) c.self.view_is) in
+    rest_of_read _ _ _ _ _ c.in_ok-count.ensures.taken more
+
+pub returns-clause-front : goal.returns-clause-front
+returns-clause-front g c =
+    let more : part_of c.read_part.new.buffer.items c.make_room-self-inside.result (c.make_room-self-inside.result + (c.self.inside.end - c.self.inside.start) + c.in_ok-count.count) ≡ c.args.self.now.kept ++ part_of c.read_part.new.buffer.items (c.make_room-self-inside.result + (c.self.inside.end - c.self.inside.start)) (c.make_room-self-inside.result + (c.self.inside.end - c.self.inside.start) + c.in_ok-count.count) =
+    part_of-further _ _ c.make_room-self-inside.result _ c.in_ok-count.count (omega arith) c.read_part.ensures.front
+    ∙ ap (λ l. l ++ part_of c.read_part.new.buffer.items (c.make_room-self-inside.result + (c.self.inside.end - c.self.inside.start)) (c.make_room-self-inside.result + (c.self.inside.end - c.self.inside.start) + c.in_ok-count.count)) (c.make_room-self-inside.ensures.kept ∙ ap (λ w. w.kept) c.self.view_is) in
+    front_of_grown _ _ _ more

@@ -1,0 +1,25 @@
+use Rattle.std.specs.Prelude.{ℕ, List, Bool, Option}
+use Rattle.hp_outside.specs.declared.span.Span.{Span}
+use Rattle.hp_outside.specs.declared.span.LineFault.{LineFault}
+
+-- a reader of lines: its limits, and how far it is in the current file
+pub record LineReaderState : Type 0 where
+  -- the most bytes of a file
+  pub input : ℕ
+  -- the most bytes of a line
+  pub line_limit : ℕ
+  -- how many bytes of the file stand before those that are kept
+  pub passed : ℕ
+  -- the bytes that were taken from the store and not yet given
+  pub kept : List ℕ
+  -- whether the end of the file was seen
+  pub ended : Bool
+  -- how many lines were given
+  pub number : ℕ
+  -- the sum, over the lines given, of each one's length plus 1
+  pub given : ℕ
+  -- the fault that was answered, if one was
+  pub fault : Option LineFault
+  -- the line that was given last, and where it stands
+  pub line : List ℕ
+  pub span : Span

@@ -1,0 +1,190 @@
+//! A buffer of fixed size over the bytes of a file: those of the line that was shown last, and those
+//! behind it that were taken from the store.
+ghost use Rattle.std.specs.Prelude.{◌≡◌, ◌+◌, ◌*◌, ◌<◌, ◌≤◌, [], IsTrue, IfOk, OnErr, length, vec_len, take, drop, ◌-◌};
+ghost use Rattle.std.specs.Io.KnownBytes.{prepend_known};
+ghost use Rattle.hp_outside.specs.Faults.{Rose};
+ghost use Rattle.hp_outside.specs.Taken.{WhereTold};
+ghost use Rattle.hp_outside.specs.WindowState.{part_of};
+
+use crate::span::Span;
+use crate::store::{Failed, Store};
+use hp_num::NoMemory;
+use std::alloc::Global;
+use std::marker::Model;
+
+/// How many bytes a read asks for at least, beside the room for lines.
+const READ_ROOM: usize = 65_536;
+
+/// Bytes of a file that were taken from a store, of which at most `most` may be kept when more are
+/// taken.
+#[derive(Drop)]
+pub(crate) struct Window {
+    buffer: Vec<u8>,
+    most: usize,
+    shown: Span,
+    start: usize,
+    end: usize,
+}
+
+impl Model for Window {
+    ghost use Rattle.std.specs.Prelude.{◌≡◌, ◌+◌, ◌*◌, ◌≤◌, vec_len};
+    ghost use Rattle.hp_outside.specs.WindowState.{WindowState, part_of};
+
+    ghost Value = { WindowState };
+
+    ghost view = { λ w. record {
+      most = w.most;
+      span = w.shown;
+      shown = part_of w.buffer.items w.shown.start w.shown.end;
+      kept = part_of w.buffer.items w.start w.end;
+    } };
+
+    ghost invariant = { λ w. (w.start ≤ w.end) × (w.end ≤ vec_len w.buffer) × (w.shown.start ≤ w.shown.end)
+        × (w.shown.end ≤ vec_len w.buffer) × (2 * w.most + 65536 ≤ vec_len w.buffer) × (w.most ≤ 1048576) };
+}
+
+impl Window {
+    /// An empty window that has reserved all its memory.
+    pub(crate) fn new(alloc: Global, most: usize) -> Result<Window, NoMemory>
+        requires { most ≤ 1048576 }
+        ensures { IfOk result (λ window. (window.kept ≡ []) × (window.most ≡ most)) }
+    {
+        let mut buffer = Vec::new(alloc);
+        buffer.resize(2 * most + READ_ROOM, 0)?;
+        Ok(Window {
+            buffer,
+            most,
+            shown: Span { start: 0, end: 0 },
+            start: 0,
+            end: 0,
+        })
+    }
+
+    /// Forgets what is kept.
+    pub(crate) fn clear(&mut self)
+        ensures { self.new ≡ record self.old { kept = [] } }
+    {
+        self.start = self.end;
+    }
+
+    /// The bytes that were taken and not yet shown.
+    pub(crate) fn kept(&self) -> &[u8]
+        ensures { result.now ≡ self.now.kept }
+    {
+        &self.buffer.as_slice()[self.start..self.end]
+    }
+
+    /// The bytes that were shown last.
+    pub(crate) fn shown(&self) -> &[u8]
+        ensures { result.now ≡ self.now.shown }
+    {
+        &self.buffer.as_slice()[self.shown.start..self.shown.end]
+    }
+
+    /// Where they stand.
+    pub(crate) fn span(&self) -> Span
+        ensures { result ≡ self.now.span }
+    {
+        self.shown
+    }
+
+    /// Shows the next `count` bytes, and drops `skipped` bytes behind them.
+    pub(crate) fn show(&mut self, count: usize, skipped: usize)
+        requires { count + skipped ≤ length self.old.kept }
+        ensures shown { self.new.shown ≡ take count self.old.kept }
+        ensures kept { self.new.kept ≡ drop (count + skipped) self.old.kept }
+        ensures most { self.new.most ≡ self.old.most }
+    {
+        self.shown = Span {
+            start: self.start,
+            end: self.start + count,
+        };
+        self.start += count + skipped;
+    }
+
+    /// Takes more bytes from the store, at most `limit` of them, and answers their number; 0 is the
+    /// end of the file.
+    pub(crate) fn fill<S: Store>(&mut self, store: &mut S, limit: usize) -> Result<usize, Failed>
+        requires current { IsTrue (S.current store.old) }
+        requires few { length self.old.kept ≤ self.old.most }
+        requires limit { 0 < limit }
+        ensures files { S.files store.new ≡ S.files store.old }
+        ensures current { S.current store.new ≡ S.current store.old }
+        ensures opens { S.opens store.new ≡ S.opens store.old }
+        ensures faults { S.faults store.old ≤ S.faults store.new }
+        ensures most { self.new.most ≡ self.old.most }
+        ensures rest { prepend_known self.old.kept (S.left store.old) ≡ prepend_known self.new.kept (S.left store.new) }
+        ensures front { take (length self.old.kept) self.new.kept ≡ self.old.kept }
+        ensures count { IfOk result (λ count. (count ≤ limit) × (length self.new.kept ≡ length self.old.kept + count)) }
+        ensures end { IfOk result (λ count. count ≡ 0 → WhereTold (S.left store.old) (λ bytes. bytes ≡ [])) }
+        ensures kept { OnErr result (self.new.kept ≡ self.old.kept) }
+        ensures left { OnErr result (S.left store.new ≡ S.left store.old) }
+        ensures failed { OnErr result (Rose (S.faults store.old) (S.faults store.new)) }
+    {
+        let kept = self.end - self.start;
+        self.start = make_room(&mut self.buffer, self.start, self.end, self.most);
+        self.end = self.start + kept;
+        let room = self.buffer.len() - self.end;
+        let end = self.end + limit.min(room);
+        let count = read_part(store, &mut self.buffer, self.end, end)?;
+        self.end += count;
+        Ok(count)
+    }
+}
+
+/// Reads into the part of the buffer from `start` to `end`.
+fn read_part<S: Store>(
+    store: &mut S,
+    buffer: &mut Vec<u8>,
+    start: usize,
+    end: usize,
+) -> Result<usize, Failed>
+    requires current { IsTrue (S.current store.old) }
+    requires part { start < end }
+    requires held { end ≤ vec_len buffer.old }
+    ensures files { S.files store.new ≡ S.files store.old }
+    ensures current { S.current store.new ≡ S.current store.old }
+    ensures opens { S.opens store.new ≡ S.opens store.old }
+    ensures faults { S.faults store.old ≤ S.faults store.new }
+    ensures len { vec_len buffer.new ≡ vec_len buffer.old }
+    ensures front { take start buffer.new.items ≡ take start buffer.old.items }
+    ensures count { IfOk result (λ count. start + count ≤ end) }
+    ensures taken { IfOk result (λ count. S.left store.old
+        ≡ prepend_known (part_of buffer.new.items start (start + count)) (S.left store.new)) }
+    ensures end { IfOk result (λ count. count ≡ 0 → WhereTold (S.left store.old) (λ bytes. bytes ≡ [])) }
+    ensures left { OnErr result (S.left store.new ≡ S.left store.old) }
+    ensures failed { OnErr result (Rose (S.faults store.old) (S.faults store.new)) }
+{
+    store.read(&mut buffer.as_mut_slice()[start..end])
+}
+
+/// Moves what stands from `start` to `end` to the front where no byte would fit behind it, and answers
+/// where it stands then.
+fn make_room(buffer: &mut Vec<u8>, start: usize, end: usize, most: usize) -> usize
+    requires order { start ≤ end }
+    requires held { end ≤ vec_len buffer.old }
+    requires few { end ≤ start + most }
+    requires long { 2 * most + 65536 ≤ vec_len buffer.old }
+    ensures kept { part_of buffer.new.items result (result + (end - start)) ≡ part_of buffer.old.items start end }
+    ensures room { result + (end - start) < vec_len buffer.new }
+    ensures len { vec_len buffer.new ≡ vec_len buffer.old }
+{
+    if end < buffer.len() {
+        return start;
+    }
+    move_to_front(buffer, start, end);
+    0
+}
+
+/// Moves the bytes from `start` to `end`, which are no more than stand before them, to the front.
+fn move_to_front(buffer: &mut Vec<u8>, start: usize, end: usize)
+    requires order { start ≤ end }
+    requires held { end ≤ vec_len buffer.old }
+    requires apart { end ≤ 2 * start }
+    ensures moved { take (end - start) buffer.new.items ≡ take (end - start) (drop start buffer.old.items) }
+    ensures len { vec_len buffer.new ≡ vec_len buffer.old }
+{
+    let count = end - start;
+    let (front, back) = buffer.as_mut_slice().split_at_mut(start);
+    front[..count].copy_from_slice(&back[..count]);
+}

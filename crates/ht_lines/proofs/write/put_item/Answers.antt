@@ -1,0 +1,9 @@
+-- The written form is read again, by the law of hexadecimal texts.
+use Rattle.ht_lines.proofs.WrittenLemmas.{reading-written}
+use Rattle.ht_lines.proofs.write.put_item.Goals as goal
+
+pub returns-then-is_err-clause-reads_back : goal.returns-then-is_err-clause-reads_back
+returns-then-is_err-clause-reads_back c = reading-written c.hexadecimal_texts.ensures.reads_back c.args.version
+
+pub returns-else-is_err-clause-reads_back : goal.returns-else-is_err-clause-reads_back
+returns-else-is_err-clause-reads_back c = reading-written c.hexadecimal_texts.ensures.reads_back c.args.version

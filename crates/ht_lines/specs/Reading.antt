@@ -1,0 +1,108 @@
+-- The content of a line or its fault, as a function of the line: what `Reads` and `Refuses` determine.
+use Rattle.std.specs.Prelude.{ℕ, ◌+◌, ◌%◌, ◌^◌, Bool, true, ◌==◌, ◌&&◌, ◌||◌, if◌then◌else◌, List, [], ◌∷◌, length, drop, map, nat_lt, nat_le, codes, Option, Some, None, Result, Ok, Err}
+use Rattle.std.specs.Str.{bytes_eq}
+use Rattle.hp_num.specs.ParsedHex.{parsed_hex}
+use Rattle.ht_lines.specs.declared.item.Malformed.{Malformed}
+use Rattle.ht_lines.specs.declared.item.Malformed.TheVariants.{BadField, MissingField, ExtraField, NotInterpreted, BadVersion}
+use Rattle.ht_lines.specs.Content.{Content, version_line, executable_line, command_line, system_line, string_line, clear_line, module_line, instruction_line, node_line, info_line, allocation_line, free_line, clock_line, resident_line, attached_line, suppression_line, comment_line, other_line}
+use Rattle.ht_lines.specs.Fields.{fields, field_ends, all_numbers, number}
+use Rattle.ht_lines.specs.SizedText.{text_of}
+use Rattle.ht_lines.specs.ModuleName.{module_name}
+use Rattle.ht_lines.specs.Kinds.{is_kind}
+
+-- go on with the number, where there is one
+abbrev pub with_number : {X : Type 0} → Option ℕ → (ℕ → Result X Malformed) → Result X Malformed
+with_number None next = Err BadField
+with_number (Some n) next = next n
+
+-- the one field's number
+abbrev pub one_number : List (List ℕ) → Result ℕ Malformed
+one_number [] = Err MissingField
+one_number (a ∷ []) = with_number (parsed_hex a) Ok
+one_number (a ∷ b ∷ more) = Err ExtraField
+
+-- the two fields' numbers
+abbrev pub two_numbers : List (List ℕ) → Result (ℕ × ℕ) Malformed
+two_numbers [] = Err MissingField
+two_numbers (a ∷ []) = Err MissingField
+two_numbers (a ∷ b ∷ []) = with_number (parsed_hex a) (λ m. with_number (parsed_hex b) (λ n. Ok (m, n)))
+two_numbers (a ∷ b ∷ c ∷ more) = Err ExtraField
+
+-- what the number or the numbers say
+abbrev pub say : {X : Type 0} → (X → Content) → Result X Malformed → Result Content Malformed
+say f (Ok x) = Ok (f x)
+say f (Err fault) = Err fault
+
+abbrev pub version_of : List (List ℕ) → Result Content Malformed
+version_of [] = Err MissingField
+version_of (a ∷ []) = with_number (parsed_hex a) (λ heaptrack. Ok (version_line heaptrack 1))
+version_of (a ∷ b ∷ []) = with_number (parsed_hex a) (λ heaptrack. with_number (parsed_hex b) (λ file.
+    if nat_le 1 file && nat_le file 3 then Ok (version_line heaptrack file) else Err BadVersion))
+version_of (a ∷ b ∷ c ∷ more) = Err ExtraField
+
+abbrev pub instruction_from : List ℕ → Result Content Malformed
+instruction_from [] = Err MissingField
+instruction_from (ip ∷ []) = Err MissingField
+instruction_from (ip ∷ module_string ∷ frames) = Ok (instruction_line ip module_string frames)
+
+unfoldable pub instruction_of : List (List ℕ) → Result Content Malformed
+instruction_of fs =
+    if length fs == 0 || length fs % 3 == 1 then Err MissingField
+    else if all_numbers fs then instruction_from (map number fs) else Err BadField
+
+abbrev pub allocation_of : List (List ℕ) → Result ℕ Malformed
+allocation_of [] = Err MissingField
+allocation_of (a ∷ []) = with_number (parsed_hex a) Ok
+allocation_of (a ∷ b ∷ []) = Err ExtraField
+allocation_of (a ∷ b ∷ c ∷ []) = Err NotInterpreted
+allocation_of (a ∷ b ∷ c ∷ d ∷ more) = Err ExtraField
+
+abbrev pub clock_from : Result ℕ Malformed → Result Content Malformed
+clock_from (Ok ms) = if nat_le ms (2 ^ 62) then Ok (clock_line ms) else Err BadField
+clock_from (Err fault) = Err fault
+
+-- whether no range of a module ends above 2 ^ 64 - 1
+abbrev pub ranges_fit : ℕ → List ℕ → Bool
+ranges_fit start [] = true
+ranges_fit start (offset ∷ []) = true
+ranges_fit start (offset ∷ size ∷ more) = nat_lt (start + offset + size) (2 ^ 64) && ranges_fit start more
+
+abbrev pub ranges_from : List ℕ → List ℕ → Result Content Malformed
+ranges_from name [] = Err MissingField
+ranges_from name (start ∷ ranges) = if ranges_fit start ranges then Ok (module_line name start ranges) else Err BadField
+
+unfoldable pub named_module : List ℕ → List ℕ → Result Content Malformed
+named_module name tail =
+    if length (fields tail) == 0 && bytes_eq name (codes "-") then Ok clear_line
+    else if length (fields tail) % 2 == 0 then Err MissingField
+    else if all_numbers (fields tail) then ranges_from name (map number (fields tail)) else Err BadField
+
+abbrev pub module_of : Option (List ℕ × List ℕ) → Result Content Malformed
+module_of None = Err MissingField
+module_of (Some x) = named_module x.0 x.1
+
+-- a line of a known kind, of which rest follows the kind
+unfoldable pub reading_kind : ℕ → ℕ → List ℕ → Result Content Malformed
+reading_kind version kind rest =
+    if kind == 118 then version_of (fields rest)
+    else if kind == 120 then Ok (executable_line (text_of version (drop 1 rest)))
+    else if kind == 88 then Ok (command_line (text_of version (drop 1 rest)))
+    else if kind == 83 then Ok (suppression_line (text_of version (drop 1 rest)))
+    else if kind == 73 then say (λ x. system_line x.0 x.1) (two_numbers (fields rest))
+    else if kind == 115 then Ok (string_line (text_of version (drop 1 rest)))
+    else if kind == 109 then module_of (module_name version rest)
+    else if kind == 105 then instruction_of (fields rest)
+    else if kind == 116 then say (λ x. node_line x.0 x.1) (two_numbers (fields rest))
+    else if kind == 97 then say (λ x. info_line x.0 x.1) (two_numbers (fields rest))
+    else if kind == 43 then say allocation_line (allocation_of (fields rest))
+    else if kind == 45 then say free_line (one_number (fields rest))
+    else if kind == 99 then clock_from (one_number (fields rest))
+    else if kind == 82 then say resident_line (one_number (fields rest))
+    else Ok attached_line
+
+unfoldable pub reading : ℕ → List ℕ → Result Content Malformed
+reading version [] = Ok (other_line [])
+reading version (b ∷ rest) =
+    if b == 35 then Ok (comment_line rest)
+    else if is_kind b then (if field_ends rest then reading_kind version b rest else Err BadField)
+    else Ok (other_line (b ∷ rest))

@@ -1,0 +1,160 @@
+//! The kinds of lines whose fields are numbers alone, a fixed count of them but for versions.
+//!
+//! Each call is given what follows the kind.
+ghost use Rattle.std.specs.Prelude.{◌≡◌, ℕ, ◌^◌, ◌<◌, ◌≤◌, length, IfOk, MatchResult, Result, Ok, Err};
+ghost use Rattle.ht_lines.specs.Fields.{fields};
+ghost use Rattle.ht_lines.specs.Content.{allocation_line, free_line, info_line, node_line, resident_line, system_line};
+ghost use Rattle.ht_lines.specs.Reading.{allocation_of, clock_from, one_number, say, two_numbers, version_of};
+ghost use Rattle.ht_lines.specs.ItemContent.{Gives, IsWhole};
+
+use crate::fields::next_field;
+use crate::item::{Item, Malformed};
+use hp_num::parse_hex;
+
+/// The greatest clock value in milliseconds.
+const MAX_MS: u64 = 1 << 62;
+
+/// The number of a line that has one.
+pub fn one_number(rest: &[u8]) -> Result<u64, Malformed>
+    ensures { result ≡ one_number (fields rest.now) }
+{
+    let Some((field, after)) = next_field(rest) else {
+        return Err(Malformed::MissingField);
+    };
+    if next_field(after).is_some() {
+        return Err(Malformed::ExtraField);
+    }
+    parse_hex(field).ok_or(Malformed::BadField)
+}
+
+/// The numbers of a line that has two.
+pub fn two_numbers(rest: &[u8]) -> Result<(u64, u64), Malformed>
+    ensures { result ≡ two_numbers (fields rest.now) }
+{
+    let Some((first, after)) = next_field(rest) else {
+        return Err(Malformed::MissingField);
+    };
+    let Some((second, after)) = next_field(after) else {
+        return Err(Malformed::MissingField);
+    };
+    if next_field(after).is_some() {
+        return Err(Malformed::ExtraField);
+    }
+    let Some(first) = parse_hex(first) else {
+        return Err(Malformed::BadField);
+    };
+    let Some(second) = parse_hex(second) else {
+        return Err(Malformed::BadField);
+    };
+    Ok((first, second))
+}
+
+/// A line of versions: that of heaptrack, and that of the file, which is 1 where it isn't given.
+pub fn read_version(rest: &[u8]) -> Result<Item<'_>, Malformed>
+    ensures exact { Gives result (version_of (fields rest.now)) }
+    ensures whole { IfOk result (λ item. IsWhole item) }
+{
+    let Some((heaptrack, after)) = next_field(rest) else {
+        return Err(Malformed::MissingField);
+    };
+    let Some((file, after)) = next_field(after) else {
+        return match parse_hex(heaptrack) {
+            Some(heaptrack) => Ok(Item::Version { heaptrack, file: 1 }),
+            None => Err(Malformed::BadField),
+        };
+    };
+    if next_field(after).is_some() {
+        return Err(Malformed::ExtraField);
+    }
+    let Some(heaptrack) = parse_hex(heaptrack) else {
+        return Err(Malformed::BadField);
+    };
+    match parse_hex(file) {
+        Some(file) if (1..=3).contains(&file) => Ok(Item::Version {
+            heaptrack,
+            file: file as u8,
+        }),
+        Some(_) => Err(Malformed::BadVersion),
+        None => Err(Malformed::BadField),
+    }
+}
+
+/// A line of an allocation, which has the number of an info. Three fields are those of a raw trace.
+pub fn read_allocation(rest: &[u8]) -> Result<Item<'_>, Malformed>
+    ensures exact { Gives result (say allocation_line (allocation_of (fields rest.now))) }
+    ensures whole { IfOk result (λ item. IsWhole item) }
+{
+    let Some((info, after)) = next_field(rest) else {
+        return Err(Malformed::MissingField);
+    };
+    let Some((_, after)) = next_field(after) else {
+        return match parse_hex(info) {
+            Some(info) => Ok(Item::Alloc { info }),
+            None => Err(Malformed::BadField),
+        };
+    };
+    let Some((_, after)) = next_field(after) else {
+        return Err(Malformed::ExtraField);
+    };
+    match next_field(after) {
+        Some(_) => Err(Malformed::ExtraField),
+        None => Err(Malformed::NotInterpreted),
+    }
+}
+
+/// A line of the clock, in milliseconds, up to 2^62.
+pub fn read_clock(rest: &[u8]) -> Result<Item<'_>, Malformed>
+    ensures exact { Gives result (clock_from (one_number (fields rest.now))) }
+    ensures whole { IfOk result (λ item. IsWhole item) }
+{
+    let ms = one_number(rest)?;
+    if ms > MAX_MS {
+        return Err(Malformed::BadField);
+    }
+    Ok(Item::Clock { ms })
+}
+
+/// A line of the system: the size of a page in bytes, and the number of pages.
+pub fn read_system(rest: &[u8]) -> Result<Item<'_>, Malformed>
+    ensures exact { Gives result (say (λ x. system_line x.0 x.1) (two_numbers (fields rest.now))) }
+    ensures whole { IfOk result (λ item. IsWhole item) }
+{
+    let (page, pages) = two_numbers(rest)?;
+    Ok(Item::System { page, pages })
+}
+
+/// A line of a node: an instruction and the parent node.
+pub fn read_node(rest: &[u8]) -> Result<Item<'_>, Malformed>
+    ensures exact { Gives result (say (λ x. node_line x.0 x.1) (two_numbers (fields rest.now))) }
+    ensures whole { IfOk result (λ item. IsWhole item) }
+{
+    let (ip, parent) = two_numbers(rest)?;
+    Ok(Item::Node { ip, parent })
+}
+
+/// A line of an info: a size in bytes and a node.
+pub fn read_info(rest: &[u8]) -> Result<Item<'_>, Malformed>
+    ensures exact { Gives result (say (λ x. info_line x.0 x.1) (two_numbers (fields rest.now))) }
+    ensures whole { IfOk result (λ item. IsWhole item) }
+{
+    let (size, trace) = two_numbers(rest)?;
+    Ok(Item::Info { size, trace })
+}
+
+/// A line of a free: an info.
+pub fn read_free(rest: &[u8]) -> Result<Item<'_>, Malformed>
+    ensures exact { Gives result (say free_line (one_number (fields rest.now))) }
+    ensures whole { IfOk result (λ item. IsWhole item) }
+{
+    let info = one_number(rest)?;
+    Ok(Item::Free { info })
+}
+
+/// A line of resident memory, in pages.
+pub fn read_resident(rest: &[u8]) -> Result<Item<'_>, Malformed>
+    ensures exact { Gives result (say resident_line (one_number (fields rest.now))) }
+    ensures whole { IfOk result (λ item. IsWhole item) }
+{
+    let pages = one_number(rest)?;
+    Ok(Item::Rss { pages })
+}

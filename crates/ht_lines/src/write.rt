@@ -1,0 +1,202 @@
+//! From an item to its line, in the one written form.
+//!
+//! It knows no table: the numbers of an item are written as they are.
+#![tactic(auto, using(crate::proofs::ExtendLemmas::extends_same, crate::proofs::ExtendLemmas::extends_more, crate::proofs::ExtendLemmas::extends_trans))]
+
+ghost use Rattle.std.specs.Prelude.{◌≡◌, ℕ, ◌^◌, ◌<◌, ◌≤◌, List, [], ◌∷◌, ◌++◌, length, Ok, Err, OnOk, OnErr};
+ghost use Rattle.hp_num.specs.Hexadecimal.{hexadecimal};
+ghost use Rattle.ht_lines.specs.Content.{Content, module_line};
+ghost use Rattle.ht_lines.specs.Extends.{Extends};
+ghost use Rattle.ht_lines.specs.Fields.{numbers};
+ghost use Rattle.ht_lines.specs.ItemContent.{content};
+ghost use Rattle.ht_lines.specs.Reading.{reading};
+ghost use Rattle.ht_lines.specs.Written.{IsWritable, spelled, spelled_text, written};
+
+use crate::fields::next_number;
+use crate::item::Item;
+use hp_num::{NoMemory, hexadecimal_texts, put_bytes, put_hex};
+
+/// Appends the line of an item and its line feed. On `NoMemory`, `out` holds what it held before.
+///
+/// The line is the one written form of what the item says in the file version. Read in that version, the form of
+/// what is read of some line says the same again.
+pub fn put_item(version: u8, item: &Item, out: &mut Vec<u8>) -> Result<(), NoMemory>
+    ensures appended { OnOk result (out.new.items ≡ out.old.items ++ (written version (content item.now) ++ (10 ∷ []))) }
+    ensures unchanged { OnErr result (out.new.items ≡ out.old.items) }
+    ensures reads_back { (said : Content) → IsWritable version said → reading version (written version said) ≡ Ok said }
+{
+    hexadecimal_texts();
+    let start = out.len();
+    let done = put_line(version, item, out);
+    if done.is_err() {
+        out.truncate(start);
+    }
+    done
+}
+
+/// Appends the line of an item and its line feed. On `NoMemory`, a part of it may stand at the end of `out`.
+fn put_line(version: u8, item: &Item, out: &mut Vec<u8>) -> Result<(), NoMemory>
+    ensures appended { OnOk result (out.new.items ≡ out.old.items ++ (written version (content item.now) ++ (10 ∷ []))) }
+    ensures kept { Extends out.old.items out.new.items }
+{
+    put_form(version, item, out)?;
+    put_bytes(out, b"\n")
+}
+
+/// Appends the written form of an item.
+fn put_form(version: u8, item: &Item, out: &mut Vec<u8>) -> Result<(), NoMemory>
+    ensures appended { OnOk result (out.new.items ≡ out.old.items ++ written version (content item.now)) }
+    ensures kept { Extends out.old.items out.new.items }
+{
+    match *item {
+        Item::Version { heaptrack, file } => put_two(out, b"v", heaptrack, u64::from(file)),
+        Item::Executable { text } => put_text_line(out, b"x ", version, text),
+        Item::Command { text } => put_text_line(out, b"X ", version, text),
+        Item::Suppress { text } => put_text_line(out, b"S ", version, text),
+        Item::System { page, pages } => put_two(out, b"I", page, pages),
+        Item::Str { text } => put_text_line(out, b"s ", version, text),
+        Item::ModuleClear => put_bytes_kept(out, b"m -"),
+        Item::Module {
+            name,
+            start,
+            tail,
+            ..
+        } => put_module(out, version, name, start, tail),
+        Item::Instr {
+            ip,
+            module,
+            tail,
+            ..
+        } => put_instruction(out, ip, module, tail),
+        Item::Node { ip, parent } => put_two(out, b"t", ip, parent),
+        Item::Info { size, trace } => put_two(out, b"a", size, trace),
+        Item::Alloc { info } => put_one(out, b"+", info),
+        Item::Free { info } => put_one(out, b"-", info),
+        Item::RawAlloc { size, trace, ptr } => put_three(out, b"+", size, trace, ptr),
+        Item::RawFree { ptr } => put_one(out, b"-", ptr),
+        Item::Clock { ms } => put_one(out, b"c", ms),
+        Item::Rss { pages } => put_one(out, b"R", pages),
+        Item::Attached => put_bytes_kept(out, b"A"),
+        Item::Comment { text } => put_comment(out, text),
+        Item::Other { line } => put_bytes_kept(out, line),
+    }
+}
+
+fn put_module(
+    out: &mut Vec<u8>,
+    version: u8,
+    name: &[u8],
+    start: u64,
+    tail: &[u8],
+) -> Result<(), NoMemory>
+    ensures appended { OnOk result (out.new.items ≡ out.old.items ++ written version (module_line name.now start (numbers tail.now))) }
+    ensures kept { Extends out.old.items out.new.items }
+{
+    put_text_line(out, b"m ", version, name)?;
+    put_number(out, start)?;
+    put_numbers(out, tail)
+}
+
+fn put_instruction(
+    out: &mut Vec<u8>,
+    ip: u64,
+    module_string: u64,
+    tail: &[u8],
+) -> Result<(), NoMemory>
+    ensures appended { OnOk result (out.new.items ≡ out.old.items ++ (105 ∷ spelled (ip ∷ module_string ∷ numbers tail.now))) }
+    ensures kept { Extends out.old.items out.new.items }
+{
+    put_two(out, b"i", ip, module_string)?;
+    put_numbers(out, tail)
+}
+
+fn put_comment(out: &mut Vec<u8>, text: &[u8]) -> Result<(), NoMemory>
+    ensures appended { OnOk result (out.new.items ≡ out.old.items ++ (35 ∷ text.now)) }
+    ensures kept { Extends out.old.items out.new.items }
+{
+    put_bytes(out, b"#")?;
+    put_bytes(out, text)
+}
+
+/// Appends a kind and a number after it.
+fn put_one(out: &mut Vec<u8>, kind: &[u8], n: u64) -> Result<(), NoMemory>
+    ensures appended { OnOk result (out.new.items ≡ out.old.items ++ (kind.now ++ spelled (n ∷ []))) }
+    ensures kept { Extends out.old.items out.new.items }
+{
+    put_bytes(out, kind)?;
+    put_number(out, n)
+}
+
+/// Appends a kind and two numbers after it.
+fn put_two(out: &mut Vec<u8>, kind: &[u8], first: u64, second: u64) -> Result<(), NoMemory>
+    ensures appended { OnOk result (out.new.items ≡ out.old.items ++ (kind.now ++ spelled (first ∷ second ∷ []))) }
+    ensures kept { Extends out.old.items out.new.items }
+{
+    put_one(out, kind, first)?;
+    put_number(out, second)
+}
+
+/// Appends a kind and three numbers after it.
+fn put_three(
+    out: &mut Vec<u8>,
+    kind: &[u8],
+    first: u64,
+    second: u64,
+    third: u64,
+) -> Result<(), NoMemory>
+    ensures appended { OnOk result (out.new.items ≡ out.old.items ++ (kind.now ++ spelled (first ∷ second ∷ third ∷ []))) }
+    ensures kept { Extends out.old.items out.new.items }
+{
+    put_two(out, kind, first, second)?;
+    put_number(out, third)
+}
+
+/// Appends a kind and its blank, and a text after it.
+fn put_text_line(out: &mut Vec<u8>, kind: &[u8], version: u8, text: &[u8]) -> Result<(), NoMemory>
+    ensures appended { OnOk result (out.new.items ≡ out.old.items ++ (kind.now ++ spelled_text version text.now)) }
+    ensures kept { Extends out.old.items out.new.items }
+{
+    put_bytes(out, kind)?;
+    put_text(out, version, text)
+}
+
+fn put_bytes_kept(out: &mut Vec<u8>, bytes: &[u8]) -> Result<(), NoMemory>
+    ensures appended { OnOk result (out.new.items ≡ out.old.items ++ bytes.now) }
+    ensures kept { Extends out.old.items out.new.items }
+{
+    put_bytes(out, bytes)
+}
+
+/// Appends the numbers of a tail, each after a blank.
+fn put_numbers(out: &mut Vec<u8>, tail: &[u8]) -> Result<(), NoMemory>
+    ensures appended { OnOk result (out.new.items ≡ out.old.items ++ spelled (numbers tail.now)) }
+    ensures kept { Extends out.old.items out.new.items }
+{
+    let mut rest = tail;
+    'numbers: while let Some((n, after)) = next_number(rest) {
+        put_number(out, n)?;
+        rest = after;
+    }
+    Ok(())
+}
+
+/// Appends a number after a blank.
+fn put_number(out: &mut Vec<u8>, n: u64) -> Result<(), NoMemory>
+    ensures appended { OnOk result (out.new.items ≡ out.old.items ++ spelled (n ∷ [])) }
+    ensures kept { Extends out.old.items out.new.items }
+{
+    put_bytes(out, b" ")?;
+    put_hex(out, n)
+}
+
+/// Appends a text or a name, in file version 3 after its size and a blank.
+fn put_text(out: &mut Vec<u8>, version: u8, text: &[u8]) -> Result<(), NoMemory>
+    ensures appended { OnOk result (out.new.items ≡ out.old.items ++ spelled_text version text.now) }
+    ensures kept { Extends out.old.items out.new.items }
+{
+    if version == 3 {
+        put_hex(out, text.len() as u64)?;
+        put_bytes(out, b" ")?;
+    }
+    put_bytes(out, text)
+}

@@ -1,0 +1,4 @@
+pub mod FrameLemmas
+pub mod EntryLemmas
+pub mod StackLemmas
+pub mod LineLemmas

@@ -1,0 +1,214 @@
+-- What one line more adds to the lists of a trace.
+use Rattle.std.proofs.Common.{◌≡◌, ℕ, true, false, eqb, List, [], ◌∷◌, ◌++◌, Option, Some, None, Result, Ok, refl, sym, ap, ◌∙◌, ◌⊎◌, inl, inr, arith, append_assoc, append-nil}
+use Rattle.std.specs.Prelude.{◌||◌, is_some, option_and_then, slice_get, unwrap_or}
+use Rattle.std.specs.Option.{option_or, option_to_list}
+use Rattle.std.specs.Result.{result_ok}
+use Rattle.std.specs.List.{filter_map, cons_option, AllByRecursion}
+use Rattle.std.proofs.lemmas.List.Elements.{filter_map-append}
+use Rattle.std.proofs.lemmas.Bool.{false≢true}
+use Rattle.std.proofs.lemmas.Bool.Decides.{nat_tests}
+use Rattle.ht_lines.specs.declared.item.Malformed.{Malformed}
+use Rattle.ht_lines.specs.Content.{Content, version_line, executable_line, command_line, system_line, string_line, clear_line, module_line, instruction_line, node_line, info_line, allocation_line, free_line, raw_allocation_line, raw_free_line, clock_line, resident_line, attached_line, suppression_line, comment_line, other_line}
+use Rattle.ht_lines.specs.Reading.{reading, reading_kind}
+use Rattle.live_ledger.specs.LedgerState.{HeldInfo}
+use Rattle.live_ledger.specs.declared.event.Event.{Event}
+use Rattle.ht_trace.specs.declared.step.Step.{Step}
+use Rattle.ht_trace.specs.Contents.{contents, file_version, version_in, version_of, versions}
+use Rattle.ht_trace.specs.Gathered.{gathered}
+use Rattle.ht_trace.specs.LineFault.{may_stand_first}
+use Rattle.ht_trace.specs.StandsFor.{StandsFor}
+use Rattle.ht_trace.specs.StateAfter.{Takes, state_after}
+use Rattle.ht_trace.specs.StepOf.{event_in, event_of, event_step, step_in}
+use Rattle.ht_trace.specs.TableState.{TableState, tables_of}
+use Rattle.ht_trace.proofs.EntryLemmas.{all-push}
+use Rattle.ht_trace.specs.TraceEvents.{events}
+use Rattle.ht_trace.specs.TraceLists.{strings, string_in, instructions, instruction_in, nodes, node_in, infos, info_in, command, command_in}
+
+-- an element more brings what it gives after all before it
+pub gathered-push : {X Y : Type 0} (f : List X → X → Option Y) (earlier xs : List X) (x : X) → gathered f earlier (xs ++ x ∷ []) ≡ gathered f earlier xs ++ option_to_list (f (earlier ++ xs) x)
+gathered-push f earlier [] x = append-nil _ ∙ ap (λ before. option_to_list (f before x)) (sym (append-nil earlier))
+gathered-push f earlier (y ∷ ys) x =
+    let more = gathered-push f (earlier ++ y ∷ []) ys x in
+    let same = append_assoc earlier (y ∷ []) ys in
+    ap (λ rest. option_to_list (f earlier y) ++ rest) (more ∙ ap (λ before. gathered f (earlier ++ y ∷ []) ys ++ option_to_list (f before x)) same)
+    ∙ sym (append_assoc (option_to_list (f earlier y)) (gathered f (earlier ++ y ∷ []) ys) (option_to_list (f (earlier ++ y ∷ ys) x)))
+
+cons_option-nil : {Y : Type 0} (o : Option Y) → cons_option o [] ≡ option_to_list o
+cons_option-nil None = refl
+cons_option-nil (Some y) = refl
+
+-- an element more at the end adds what it gives
+filter_map-push : {X Y : Type 0} (f : X → Option Y) (xs : List X) (x : X) → filter_map f (xs ++ x ∷ []) ≡ filter_map f xs ++ option_to_list (f x)
+filter_map-push f xs x = filter_map-append f xs (x ∷ []) ∙ ap (λ more. filter_map f xs ++ more) (cons_option-nil (f x))
+
+-- the first of a list with one more at the end
+first-push : {Y : Type 0} (ys : List Y) (o : Option Y) → slice_get (ys ++ option_to_list o) 0 ≡ option_or (slice_get ys 0) o
+first-push [] None = refl
+first-push [] (Some y) = refl
+first-push (y ∷ ys) o = refl
+
+or-none : {Y : Type 0} (o : Option Y) → option_or o None ≡ o
+or-none None = refl
+or-none (Some y) = refl
+
+-- its first byte is that of a comment or of a version line
+byte_of : (b : ℕ) → (eqb b 35 || eqb b 118) ≡ true → (b ≡ 35) ⊎ (b ≡ 118)
+byte_of b may = grind (arith, nat_tests)
+
+-- a line that may stand before the version line reads alike in each file version
+reading-first : (v w : ℕ) (line : List ℕ) → may_stand_first line ≡ true → reading v line ≡ reading w line
+unfolding reading reading_kind
+reading-first v w [] may = absurd (false≢true may)
+reading-first v w (b ∷ rest) may = elim (byte_of b may) [ inl is ↦ rw is refl | inr is ↦ rw is refl ]
+
+-- lines that may stand there
+same-readings : (v w : ℕ) (lines : List (List ℕ)) → AllByRecursion (λ line. may_stand_first line ≡ true) lines → filter_map (λ line. result_ok (reading v line)) lines ≡ filter_map (λ line. result_ok (reading w line)) lines
+same-readings v w [] all = refl
+same-readings v w (line ∷ lines) all =
+    ap (λ (read : Result Content Malformed). cons_option (result_ok read) (filter_map (λ line. result_ok (reading v line)) lines)) (reading-first v w line all.0)
+    ∙ ap (λ (rest : List Content). cons_option (result_ok (reading w line)) rest) (same-readings v w lines all.1)
+
+-- how the version and the contents of lines change with one more
+record Reads (lines : List (List ℕ)) (line : List ℕ) (said : Content) : Type 0 where
+  version : version_of (lines ++ line ∷ []) ≡ option_or (version_of lines) (version_in said)
+  said_is : contents (lines ++ line ∷ []) ≡ contents lines ++ said ∷ []
+  first : is_some (version_of (lines ++ line ∷ [])) ≡ false → AllByRecursion (λ line. may_stand_first line ≡ true) (lines ++ line ∷ [])
+
+-- the version of lines with one more, where the versions so far are known
+version-push : (lines : List (List ℕ)) (line : List ℕ) → version_of (lines ++ line ∷ []) ≡ option_or (version_of lines) (option_and_then version_in (result_ok (reading 1 line)))
+version-push lines line =
+    let version_at = λ (line : List ℕ). option_and_then version_in (result_ok (reading 1 line)) in
+    ap (λ (all : List ℕ). slice_get all 0) (filter_map-push version_at lines line) ∙ first-push (versions lines) (version_at line)
+
+-- what the lines say in a file version, with one more
+readings-push : (v : ℕ) (lines : List (List ℕ)) (line : List ℕ) (said : Content) → reading v line ≡ Ok said → filter_map (λ line. result_ok (reading v line)) (lines ++ line ∷ []) ≡ filter_map (λ line. result_ok (reading v line)) lines ++ said ∷ []
+readings-push v lines line said read =
+    filter_map-push (λ line. result_ok (reading v line)) lines line
+    ∙ ap (λ (r : Result Content Malformed). filter_map (λ line. result_ok (reading v line)) lines ++ option_to_list (result_ok r)) read
+
+-- after the version line its file version stays
+reads-later : (version : ℕ) (lines : List (List ℕ)) (line : List ℕ) (said : Content) → version_of lines ≡ Some version → reading version line ≡ Ok said → Reads lines line said
+reads-later version lines line said is read =
+    let same : version_of (lines ++ line ∷ []) ≡ Some version = version-push lines line ∙ ap (λ (o : Option ℕ). option_or o (option_and_then version_in (result_ok (reading 1 line)))) is in
+    let now : file_version (lines ++ line ∷ []) ≡ version = ap (λ (o : Option ℕ). unwrap_or o 1) same in
+    let before : file_version lines ≡ version = ap (λ (o : Option ℕ). unwrap_or o 1) is in
+    record {
+      version = same ∙ sym (ap (λ (o : Option ℕ). option_or o (version_in said)) is);
+      said_is =
+          ap (λ (v : ℕ). filter_map (λ line. result_ok (reading v line)) (lines ++ line ∷ [])) now
+          ∙ readings-push version lines line said read
+          ∙ ap (λ (v : ℕ). filter_map (λ line. result_ok (reading v line)) lines ++ said ∷ []) (sym before);
+      first = λ none. absurd (false≢true (sym none ∙ ap (λ (o : Option ℕ). is_some o) same));
+    }
+
+-- before the version line, and at it, the lines read alike in each file version
+reads-first : (lines : List (List ℕ)) (line : List ℕ) (said : Content) → version_of lines ≡ None → AllByRecursion (λ line. may_stand_first line ≡ true) lines → may_stand_first line ≡ true → reading 1 line ≡ Ok said → Reads lines line said
+reads-first lines line said none before may read =
+    let all = all-push (λ (line : List ℕ). may_stand_first line ≡ true) lines line before may in
+    let one : file_version lines ≡ 1 = ap (λ (o : Option ℕ). unwrap_or o 1) none in
+    let gives = ap (λ (r : Result Content Malformed). option_or (version_of lines) (option_and_then version_in (result_ok r))) read in
+    record {
+      version = version-push lines line ∙ gives;
+      said_is =
+          same-readings (file_version (lines ++ line ∷ [])) 1 (lines ++ line ∷ []) all
+          ∙ readings-push 1 lines line said read
+          ∙ ap (λ (v : ℕ). filter_map (λ line. result_ok (reading v line)) lines ++ said ∷ []) (sym one);
+      first = λ _. all;
+    }
+
+-- the tables with these lists
+abbrev tables_from : Option ℕ → List Content → TableState
+tables_from version said = record {
+  version = version;
+  strings = strings said;
+  instructions = instructions said;
+  nodes = nodes said;
+  infos = infos said;
+  command = command said;
+}
+
+-- the tables with what one more content gives at the end of each list
+abbrev grown : Option ℕ → List Content → Content → TableState
+grown version said more = record {
+  version = option_or version (version_in more);
+  strings = strings said ++ option_to_list (string_in more);
+  instructions = instructions said ++ option_to_list (instruction_in more);
+  nodes = nodes said ++ option_to_list (node_in (instructions said) more);
+  infos = infos said ++ option_to_list (info_in more);
+  command = option_or (command said) (command_in more);
+}
+
+tables-grown : (version : Option ℕ) (said : List Content) (more : Content) → tables_from (option_or version (version_in more)) (said ++ more ∷ []) ≡ grown version said more
+tables-grown version said more =
+    let a = filter_map-push string_in said more in
+    let b = filter_map-push instruction_in said more in
+    let c = gathered-push (λ earlier. node_in (instructions earlier)) [] said more in
+    let d = filter_map-push info_in said more in
+    let e = ap (λ (all : List (List ℕ)). slice_get all 0) (filter_map-push command_in said more) ∙ first-push (filter_map command_in said) (command_in more) in
+    rw (a, b, c, d, e) refl
+
+grown-after : (version : Option ℕ) (said : List Content) (more : Content) → grown version said more ≡ state_after (tables_from version said) more
+grown-after version said (version_line heaptrack file) = simp (append-nil, or-none)
+grown-after version said (executable_line bytes) = simp (append-nil, or-none)
+grown-after version said (command_line bytes) = simp (append-nil, or-none)
+grown-after version said (system_line page pages) = simp (append-nil, or-none)
+grown-after version said (string_line bytes) = simp (append-nil, or-none)
+grown-after version said clear_line = simp (append-nil, or-none)
+grown-after version said (module_line name start ranges) = simp (append-nil, or-none)
+grown-after version said (instruction_line ip module_string frames) = simp (append-nil, or-none)
+grown-after version said (node_line ip parent) = simp (append-nil, or-none)
+grown-after version said (info_line size trace) = simp (append-nil, or-none)
+grown-after version said (allocation_line info) = simp (append-nil, or-none)
+grown-after version said (free_line info) = simp (append-nil, or-none)
+grown-after version said (raw_allocation_line size trace ptr) = simp (append-nil, or-none)
+grown-after version said (raw_free_line ptr) = simp (append-nil, or-none)
+grown-after version said (clock_line ms) = simp (append-nil, or-none)
+grown-after version said (resident_line pages) = simp (append-nil, or-none)
+grown-after version said attached_line = simp (append-nil, or-none)
+grown-after version said (suppression_line bytes) = simp (append-nil, or-none)
+grown-after version said (comment_line bytes) = simp (append-nil, or-none)
+grown-after version said (other_line bytes) = simp (append-nil, or-none)
+
+-- the line is read in the file version so far, which before the version line may be any
+reads-next : (tables : TableState) (lines : List (List ℕ)) (line : List ℕ) (said : Content) → StandsFor tables lines → (is_some tables.version || may_stand_first line) ≡ true → reading (unwrap_or tables.version 1) line ≡ Ok said → Reads lines line said
+reads-next tables lines line said stands may read =
+    let version = ap (λ (t : TableState). t.version) stands.tables_is in
+    by_version (tables.version) version stands.first may read
+  where
+    by_version : (v : Option ℕ) → v ≡ version_of lines → (is_some v ≡ false → AllByRecursion (λ line. may_stand_first line ≡ true) lines) → (is_some v || may_stand_first line) ≡ true → reading (unwrap_or v 1) line ≡ Ok said → Reads lines line said
+    by_version None is first may read = reads-first lines line said (sym is) (first refl) may read
+    by_version (Some version) is first may read = reads-later version lines line said (sym is) read
+
+-- the tables stand for one more line, once what it says is added
+pub stands-push : (old new : TableState) (said : Content) (step : Step) (line : List ℕ) → (is_some old.version || may_stand_first line) ≡ true → reading (unwrap_or old.version 1) line ≡ Ok said → Takes old said step new → (lines : List (List ℕ)) → StandsFor old lines → StandsFor new (lines ++ line ∷ [])
+stands-push old new said step line may read takes lines stands =
+    let reads = reads-next old lines line said stands may read in
+    let before = takes.added ∙ ap (λ (t : TableState). state_after t said) stands.tables_is in
+    let lists = tables-grown (version_of lines) (contents lines) said ∙ grown-after (version_of lines) (contents lines) said in
+    let after : tables_of (lines ++ line ∷ []) ≡ state_after (tables_of lines) said =
+    ap (λ (v : Option ℕ). tables_from v (contents (lines ++ line ∷ []))) reads.version
+    ∙ ap (λ (all : List Content). tables_from (option_or (version_of lines) (version_in said)) all) reads.said_is ∙ lists in
+    let is : new ≡ tables_of (lines ++ line ∷ []) = before ∙ sym after in
+    record { tables_is = is; first = λ none. reads.first (ap (λ (t : TableState). is_some t.version) (sym is) ∙ none) }
+
+event_of-step : (o : Option Event) → event_of (event_step o) ≡ o
+event_of-step None = refl
+event_of-step (Some event) = refl
+
+-- the event of a step is that of what the line says
+event_of-content : (held : List HeldInfo) (said : Content) → event_of (step_in held said) ≡ event_in held said
+event_of-content held (node_line ip parent) = refl
+event_of-content held (info_line size trace) = refl
+event_of-content held (allocation_line info) = event_of-step (event_in held (allocation_line info))
+event_of-content held (free_line info) = event_of-step (event_in held (free_line info))
+event_of-content held _ = refl
+
+-- the events with that of one more line
+pub events-push : (old new : TableState) (said : Content) (step : Step) (line : List ℕ) → (is_some old.version || may_stand_first line) ≡ true → reading (unwrap_or old.version 1) line ≡ Ok said → Takes old said step new → (lines : List (List ℕ)) → StandsFor old lines → events (lines ++ line ∷ []) ≡ events lines ++ option_to_list (event_of step)
+events-push old new said step line may read takes lines stands =
+    let reads = reads-next old lines line said stands may read in
+    let event_after = λ (earlier : List Content). event_in (infos earlier) in
+    let same : infos (contents lines) ≡ old.infos = sym (ap (λ (t : TableState). t.infos) stands.tables_is) in
+    let brings : event_of step ≡ event_in old.infos said = ap event_of takes.step_is ∙ event_of-content old.infos said in
+    ap (gathered event_after []) reads.said_is ∙ gathered-push event_after [] (contents lines) said
+    ∙ ap (λ (o : Option Event). events lines ++ option_to_list o) (ap (λ (held : List HeldInfo). event_in held said) same ∙ sym brings)

@@ -1,0 +1,36 @@
+use Rattle.std.proofs.Common.{ℕ, ◌≡◌, Bool, true, false, Ok, sym, ap, ◌∙◌, refl}
+use Rattle.std.specs.Prelude.{◌||◌, is_some, unwrap_or}
+use Rattle.std.proofs.lemmas.Result.{MatchResult-weaker}
+use Rattle.ht_lines.specs.ItemContent.{content}
+use Rattle.ht_lines.specs.Reading.{reading}
+use Rattle.ht_trace.specs.LineFault.{may_stand_first}
+use Rattle.ht_trace.specs.TableState.{TableState}
+use Rattle.ht_trace.proofs.LineLemmas.{stands-push, events-push}
+use Rattle.ht_trace.proofs.tables.Tables.line.Goals as goal
+use Rattle.ht_trace.proofs.tables.Tables.line.Goals.{else-is_none-via-then-is_none+else-not-may_stand_first, else-is_none-via-else-is_none}
+
+or-right : (a b : Bool) → b ≡ true → (a || b) ≡ true
+or-right true b is = refl
+or-right false b is = is
+
+-- the line may stand where it stands
+may_stand : (c : goal.After-take) → (is_some c.args.self.now.version || may_stand_first c.args.line.now) ≡ true
+may_stand c =
+    elim c.else-is_none.branch [
+      | else-is_none-via-then-is_none+else-not-may_stand_first w ↦ or-right (is_some c.args.self.now.version) (may_stand_first c.args.line.now) (sym w.may_stand_first.ensures ∙ w.if-not-may_stand_first.false)
+      | else-is_none-via-else-is_none w ↦ ap (λ (t : TableState). is_some t.version || may_stand_first c.args.line.now) (sym c.self.view_is) ∙ ap (λ (versioned : Bool). versioned || may_stand_first c.args.line.now) w.if-is_none.ensures
+    ]
+
+-- what the line says in the file version so far
+read_as : (c : goal.After-take) → reading (unwrap_or c.args.self.now.version 1) c.args.line.now ≡ Ok (content c.in_ok-item.item)
+read_as c =
+    let version = c.unwrap_or.ensures ∙ ap (λ (t : TableState). unwrap_or t.version 1) c.self.view_is in
+    ap (λ (v : ℕ). reading v c.args.line.now) (sym version) ∙ c.in_ok-item.ensures.exact
+
+pub returns-clause-stands : goal.returns-clause-stands
+returns-clause-stands c =
+    MatchResult-weaker c.take.result c.take.ensures.takes (λ step takes. stands-push c.args.self.now c.take.new.self (content c.in_ok-item.item) step c.args.line.now (may_stand c) (read_as c) takes) (λ error all. all)
+
+pub returns-clause-events : goal.returns-clause-events
+returns-clause-events c =
+    MatchResult-weaker c.take.result c.take.ensures.takes (λ step takes. events-push c.args.self.now c.take.new.self (content c.in_ok-item.item) step c.args.line.now (may_stand c) (read_as c) takes) (λ error all. all)

@@ -1,0 +1,7 @@
+-- How the tables are kept.
+use Rattle.live_ledger.specs.LedgerState.{HeldInfo}
+use Rattle.ht_trace.specs.declared.infos.InfoEntry.{InfoEntry}
+
+-- the info of an entry
+abbrev pub held_info : InfoEntry → HeldInfo
+held_info entry = record { stack = entry.stack; size = entry.size }

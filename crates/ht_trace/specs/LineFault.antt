@@ -1,0 +1,101 @@
+-- The fault of a line after earlier lines: the first that holds in the order of the tests here.
+use Rattle.std.specs.Prelude.{◌≡◌, ◌≢◌, ℕ, ◌+◌, ◌-◌, ◌^◌, Bool, false, ◌==◌, ◌&&◌, ◌||◌, if◌then◌else◌, List, [], ◌∷◌, length, nat_le, nat_lt, Option, Some, None, is_some, unwrap_or, Result, Ok, Err}
+use Rattle.std.specs.List.{list_all}
+use Rattle.std.specs.Option.{option_or}
+use Rattle.ht_lines.specs.declared.item.Malformed.{Malformed}
+use Rattle.ht_lines.specs.Content.{Content, version_line, string_line, instruction_line, node_line, info_line, allocation_line, free_line}
+use Rattle.ht_lines.specs.Reading.{reading}
+use Rattle.stack_table.specs.Node.{Node}
+use Rattle.stack_table.specs.Stack.{frame_count}
+use Rattle.ht_trace.specs.declared.frame.Frame.{Frame}
+use Rattle.ht_trace.specs.declared.error.LineError.{LineError}
+use Rattle.ht_trace.specs.declared.error.LineError.TheVariants.{NoVersion, SecondVersion, UnknownString, UnknownInstruction, UnknownParent, UnknownTrace, UnknownAllocation, TooDeep, TooMany, NoMemory}
+use Rattle.ht_trace.specs.FramesSaid.{frames_said}
+use Rattle.ht_trace.specs.Instruction.{frame_count_of}
+use Rattle.ht_trace.specs.TableState.{TableState, tables_of}
+use Rattle.ht_trace.specs.ErrorOf.{of_malformed}
+
+-- whether a line may stand before the version line: it is a comment, or a version line as far as its first byte says
+abbrev pub may_stand_first : List ℕ → Bool
+may_stand_first [] = false
+may_stand_first (b ∷ rest) = b == 35 || b == 118
+
+-- the most strings, instructions and infos of a trace, and the most nodes
+abbrev pub most_entries : ℕ
+most_entries = 2 ^ 32 - 1
+
+abbrev pub most_nodes : ℕ
+most_nodes = 2 ^ 32 - 2
+
+-- a table of so many entries can't grow where it has the most
+abbrev pub growth_fault : ℕ → ℕ → Option LineError
+growth_fault count most = if nat_lt count most then None else Some TooMany
+
+-- whether each frame's function and file is one of so many strings, or 0 for none
+abbrev pub frames_held : ℕ → List Frame → Bool
+frames_held count frames = list_all (λ frame. nat_le frame.function count && nat_le frame.file count) frames
+
+abbrev pub held_fault : ℕ → List Frame → Option LineError
+held_fault count frames = if frames_held count frames then None else Some UnknownString
+
+-- where they are held, one more instruction is wanted
+abbrev pub append_fault : ℕ → ℕ → List Frame → Option LineError
+append_fault string_count count frames = option_or (held_fault string_count frames) (growth_fault count most_entries)
+
+-- the module, functions and files of an instruction are strings, or 0; the line numbers of its frames are no references
+abbrev pub instruction_fault : ℕ → ℕ → ℕ → List Frame → Option LineError
+instruction_fault string_count count module_string frames =
+    if nat_lt string_count module_string then Some UnknownString
+    else append_fault string_count count frames
+
+-- a node whose instruction has so many frames, if it is held: its parent is a node or 0, and its stack has at most
+-- 4,096 frames
+abbrev pub node_fault : List Node → Option ℕ → ℕ → Option LineError
+node_fault nodes None parent = Some UnknownInstruction
+node_fault nodes (Some frames) parent =
+    if nat_lt (length nodes) parent then Some UnknownParent
+    else if nat_lt 4096 (frame_count nodes parent + frames) then Some TooDeep
+    else growth_fault (length nodes) most_nodes
+
+-- an info's trace is a node or 0
+abbrev pub info_fault : ℕ → ℕ → ℕ → Option LineError
+info_fault node_count count trace = if nat_lt node_count trace then Some UnknownTrace else growth_fault count most_entries
+
+-- the info of an allocation or a free is held; infos are numbered from 0
+abbrev pub reference_fault : ℕ → ℕ → Option LineError
+reference_fault count info = if nat_lt info count then None else Some UnknownAllocation
+
+-- the fault of what a line says, beside the tables so far
+abbrev pub content_fault : TableState → Content → Option LineError
+content_fault tables (version_line heaptrack file) = if is_some tables.version then Some SecondVersion else None
+content_fault tables (string_line bytes) = growth_fault (length tables.strings) most_entries
+content_fault tables (instruction_line ip module_string numbers) =
+    instruction_fault (length tables.strings) (length tables.instructions) module_string (frames_said numbers)
+content_fault tables (node_line instruction parent) = node_fault tables.nodes (frame_count_of tables.instructions instruction) parent
+content_fault tables (info_line size trace) = info_fault (length tables.nodes) (length tables.infos) trace
+content_fault tables (allocation_line info) = reference_fault (length tables.infos) info
+content_fault tables (free_line info) = reference_fault (length tables.infos) info
+content_fault tables _ = None
+
+-- the fault of a line that is read as this
+abbrev pub reading_fault : TableState → Result Content Malformed → Option LineError
+reading_fault tables (Ok said) = content_fault tables said
+reading_fault tables (Err fault) = Some (of_malformed fault)
+
+-- the fault of a line beside the tables so far
+abbrev pub fault_in : TableState → List ℕ → Option LineError
+fault_in tables line =
+    if is_some tables.version || may_stand_first line then reading_fault tables (reading (unwrap_or tables.version 1) line)
+    else Some NoVersion
+
+-- the fault of a line after earlier lines, if it has one
+abbrev pub line_fault : List (List ℕ) → List ℕ → Option LineError
+line_fault earlier line = fault_in (tables_of earlier) line
+
+-- the fault of a trace's end, if it has one
+abbrev pub end_fault : List (List ℕ) → Option LineError
+end_fault lines = if is_some (tables_of lines).version then None else Some NoVersion
+
+-- the error is this fault, unless memory was wanting
+abbrev pub Tells : LineError → Option LineError → Type 0
+Tells error found = error ≢ NoMemory → found ≡ Some error

@@ -1,0 +1,37 @@
+-- What one line adds to the tables.
+use Rattle.std.specs.Prelude.{◌≡◌, [], ◌∷◌, ◌++◌, Some, None, unwrap_or}
+use Rattle.std.specs.Option.{option_or}
+use Rattle.ht_lines.specs.Content.{Content, version_line, command_line, string_line, instruction_line, node_line, info_line}
+use Rattle.ht_trace.specs.declared.error.LineError.{LineError}
+use Rattle.ht_trace.specs.declared.step.Step.{Step}
+use Rattle.ht_trace.specs.FramesSaid.{frames_said}
+use Rattle.ht_trace.specs.Instruction.{frame_count_of}
+use Rattle.ht_trace.specs.LineFault.{Tells, content_fault}
+use Rattle.ht_trace.specs.StepOf.{step_in}
+use Rattle.ht_trace.specs.TableState.{TableState}
+
+-- the tables with what a line says at the end of the list that it belongs to
+abbrev pub state_after : TableState → Content → TableState
+state_after tables (version_line heaptrack file) = record tables { version = option_or tables.version (Some file) }
+state_after tables (command_line bytes) = record tables { command = option_or tables.command (Some bytes) }
+state_after tables (string_line bytes) = record tables { strings = tables.strings ++ bytes ∷ [] }
+state_after tables (instruction_line ip module_string numbers) = record tables {
+  instructions = tables.instructions ++ record { ip = ip; module_string = module_string; frames = frames_said numbers } ∷ [];
+}
+state_after tables (node_line instruction parent) = record tables {
+  nodes = tables.nodes
+      ++ record { ip = instruction; parent = parent; frames = unwrap_or (frame_count_of tables.instructions instruction) 0 } ∷ [];
+}
+state_after tables (info_line size trace) = record tables { infos = tables.infos ++ record { stack = trace; size = size } ∷ [] }
+state_after tables _ = tables
+
+-- what the line says has no fault, is added, and brings this step
+pub record Takes (old : TableState) (said : Content) (step : Step) (new : TableState) : Type 0 where
+  pub no_fault : content_fault old said ≡ None
+  pub step_is : step ≡ step_in old.infos said
+  pub added : new ≡ state_after old said
+
+-- the error is the fault of what the line says, unless memory was wanting, and the tables are as before
+pub record Refuses (old : TableState) (said : Content) (error : LineError) (new : TableState) : Type 0 where
+  pub fault : Tells error (content_fault old said)
+  pub unchanged : new ≡ old

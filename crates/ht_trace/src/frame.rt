@@ -1,0 +1,19 @@
+//! Frames: what an instruction line says of one, and how those of a stack are named. Their texts are no part of it.
+
+/// One frame of an instruction, as its line gives it: the numbers of the strings of function and file, 0 for none,
+/// and the line in the file.
+#[derive(Clone, Copy, Debug, PartialEq, Eq)]
+pub struct Frame {
+    pub function: u32,
+    pub file: u32,
+    pub line: u64,
+}
+
+/// The place of a frame of a stack: its instruction, and its place there, from 0 for the innermost frame.
+///
+/// Instruction 0, which stands for none, has the one frame 0. Place 1 of instruction 0 is the frame of stack 0.
+#[derive(Clone, Copy, Debug, PartialEq, Eq)]
+pub struct FrameAt {
+    pub instruction: u32,
+    pub index: u32,
+}

@@ -1,0 +1,328 @@
+//! The tables, and what each line of a trace adds to them or why it is refused.
+//! What one line says is the grammar's part. The frames of a stack are the part of `stack_frames`.
+ghost use Rattle.std.specs.Prelude.{◌≡◌, ℕ, ◌+◌, ◌-◌, ◌^◌, ◌<◌, ◌≤◌, ◌↔◌, List, [], ◌∷◌, ◌++◌, length, None, Some, Ok, Err, IsNone, IfErr, IfOk, IfSome, OnOk, OnErr, slice_get, unwrap_or};
+ghost use Rattle.std.specs.Option.{option_copied, option_map, option_to_list};
+ghost use Rattle.ht_lines.specs.Content.{Content, allocation_line, command_line, free_line, info_line, instruction_line, node_line, string_line, version_line};
+ghost use Rattle.ht_lines.specs.Fields.{fields, numbers};
+ghost use Rattle.ht_lines.specs.ItemContent.{IsWhole, content};
+ghost use Rattle.ht_lines.specs.Written.{IsWritable};
+ghost use Rattle.live_ledger.specs.LedgerState.{LedgerState};
+ghost use Rattle.ht_trace.specs.KeepsStacks.{KeepsStacks};
+ghost use Rattle.ht_trace.specs.LedgerFits.{CanTake, Grows, IsBeside, least_length};
+ghost use Rattle.ht_trace.specs.LineFault.{Tells, end_fault, line_fault, may_stand_first};
+ghost use Rattle.ht_trace.specs.StackFrames.{frames, stack_frames};
+ghost use Rattle.ht_trace.specs.StandsFor.{StandsFor};
+ghost use Rattle.ht_trace.specs.StateAfter.{Refuses, Takes};
+ghost use Rattle.ht_trace.specs.StepOf.{event_of, step_of};
+ghost use Rattle.ht_trace.specs.TableState.{TableState};
+ghost use Rattle.ht_trace.specs.TraceEvents.{events};
+
+use crate::error::LineError;
+use crate::frame::FrameAt;
+use crate::infos::{InfoEntry, InfoTable};
+use crate::instructions::InstructionTable;
+use crate::stack_frames::replace_by_stack;
+use crate::step::Step;
+use crate::strings::StringTable;
+use hp_num::{NoMemory, Text};
+use ht_lines::{Form, Item, read_item};
+use live_ledger::Event;
+use stack_table::Nodes;
+use std::alloc::Global;
+use std::marker::Model;
+
+/// The tables of an interpreted trace: they stand for the lines that were read so far.
+///
+/// Contracts see the file version, the lists of strings, instructions, nodes and infos, and the command. Memory grows
+/// with these lists and never with events; a text that comes as many strings is kept once.
+#[derive(Debug, Drop)]
+pub struct Tables {
+    version: Option<u8>,
+    strings: StringTable,
+    instructions: InstructionTable,
+    nodes: Nodes,
+    infos: InfoTable,
+    command: Option<Text>,
+    alloc: Global,
+}
+
+impl Model for Tables {
+    ghost use Rattle.ht_trace.specs.KeepsStacks.{IsSound};
+    ghost use Rattle.ht_trace.specs.TableState.{TableState};
+
+    ghost Value = { TableState };
+
+    ghost view = { λ tables. record {
+      version = tables.version;
+      strings = tables.strings;
+      instructions = tables.instructions;
+      nodes = tables.nodes;
+      infos = tables.infos;
+      command = tables.command;
+    } };
+
+    ghost invariant = { λ tables. IsSound tables.version tables.instructions tables.nodes };
+}
+
+#[tactic(auto, using(crate::proofs::StackLemmas::keeps_same))]
+impl Tables {
+    /// The tables of no lines. It takes no memory.
+    pub fn new(alloc: Global) -> Self
+        ensures stands { StandsFor result [] }
+        ensures version { result.version ≡ None }
+        ensures nodes { result.nodes ≡ [] }
+        ensures infos { result.infos ≡ [] }
+    {
+        Tables {
+            version: None,
+            strings: StringTable::new(alloc),
+            instructions: InstructionTable::new(alloc),
+            nodes: Nodes::new(alloc),
+            infos: InfoTable::new(alloc),
+            command: None,
+            alloc,
+        }
+    }
+
+    /// Reads the next line, without its line feed, and answers what it brings.
+    ///
+    /// A line is refused exactly where it has a fault after the lines before it, and the tables are then as before.
+    /// `NoVersion` comes first, then the refusals of the grammar, then the other faults in the order of `LineError`.
+    /// Only a line that adds to a table, or is the first with a command, takes memory.
+    pub fn line(&mut self, line: &[u8]) -> Result<Step, LineError>
+        requires { length line.now < 2 ^ 32 }
+        // For all lines that the tables stand for.
+        ensures stands { OnOk result ((lines : List (List ℕ)) → StandsFor self.old lines → StandsFor self.new (lines ++ line.now ∷ [])) }
+        ensures no_fault { OnOk result ((lines : List (List ℕ)) → StandsFor self.old lines → line_fault lines line.now ≡ None) }
+        ensures step { IfOk result (λ step. (lines : List (List ℕ)) → StandsFor self.old lines → step ≡ step_of lines line.now) }
+        ensures events { IfOk result (λ step. (lines : List (List ℕ)) → StandsFor self.old lines →
+            events (lines ++ line.now ∷ []) ≡ events lines ++ option_to_list (event_of step)) }
+        ensures fault { IfErr result (λ error. (lines : List (List ℕ)) → StandsFor self.old lines → Tells error (line_fault lines line.now)) }
+        ensures stays { OnOk result (KeepsStacks self.old self.new) }
+        ensures unchanged { OnErr result (self.new ≡ self.old) }
+
+        // For a ledger that is kept beside the tables.
+        ensures can_take { IfOk result (λ step. (ledger : LedgerState) → IsBeside self.old ledger → CanTake ledger step) }
+        ensures grows { IfOk result (λ step. Grows self.old step self.new) }
+        ensures least_length { IfOk result (λ step. least_length step ≤ length line.now) }
+    {
+        if self.version.is_none() && !may_stand_first(line) {
+            return Err(LineError::NoVersion);
+        }
+        let item = read_item(Form::Interpreted, self.version.unwrap_or(1), line)?;
+        self.take(&item)
+    }
+
+    /// Whether a version line was read: `NoVersion` exactly where none was.
+    pub fn end(&self) -> Result<(), LineError>
+        ensures no_version { (result ≡ Err LineError.NoVersion) ↔ IsNone self.now.version }
+        ensures only { IfErr result (λ error. error ≡ LineError.NoVersion) }
+        ensures no_fault { OnOk result ((lines : List (List ℕ)) → StandsFor self.now lines → end_fault lines ≡ None) }
+        ensures fault { IfErr result (λ error. (lines : List (List ℕ)) → StandsFor self.now lines → end_fault lines ≡ Some error) }
+    {
+        if self.version.is_none() {
+            return Err(LineError::NoVersion);
+        }
+        Ok(())
+    }
+
+    /// How many stacks there are: the nodes, and stack 0.
+    pub fn stacks(&self) -> u32
+        ensures count { result ≡ length self.now.nodes + 1 }
+        ensures bound { result ≤ 2 ^ 32 - 1 }
+    {
+        self.nodes.len() + 1
+    }
+
+    /// Size and stack of info `n`: `None` exactly where no info has that number. It takes no memory.
+    pub fn info(&self, n: u32) -> Option<(u64, u32)>
+        ensures entry { result ≡ option_map (λ info. record { 0 = info.size; 1 = info.stack }) (slice_get self.now.infos n) }
+    {
+        let InfoEntry { size, stack } = self.infos.get(u64::from(n))?;
+        Some((size, stack))
+    }
+
+    /// The text of the first command line: `None` exactly where none was read.
+    pub fn command(&self) -> Option<&[u8]>
+        ensures text { option_copied result ≡ self.now.command }
+    {
+        match &self.command {
+            Some(text) => Some(text.bytes()),
+            None => None,
+        }
+    }
+
+    /// Replaces `out` by the frames of a stack, from the innermost on: those of its node's instruction, then those of
+    /// its parents'. Stack 0 has one frame of its own. On `NoMemory`, `out` holds what it held before.
+    pub fn frames_into(&self, stack: u32, out: &mut Vec<FrameAt>) -> Result<(), NoMemory>
+        requires { stack ≤ length self.now.nodes }
+        ensures of_tables { OnOk result (out.new.items ≡ stack_frames self.now.instructions self.now.nodes stack) }
+        ensures frames { OnOk result ((lines : List (List ℕ)) → StandsFor self.now lines → out.new.items ≡ frames lines stack) }
+        ensures unchanged { OnErr result (out.new.items ≡ out.old.items) }
+    {
+        replace_by_stack(&self.instructions, &self.nodes, stack, out)
+    }
+
+    /// Takes what a line says.
+    fn take(&mut self, item: &Item) -> Result<Step, LineError>
+        requires whole { IsWhole item.now }
+        requires writable { IsWritable (unwrap_or self.old.version 1) (content item.now) }
+        ensures takes { IfOk result (λ step. Takes self.old (content item.now) step self.new) }
+        ensures refuses { IfErr result (λ error. Refuses self.old (content item.now) error self.new) }
+        ensures stays { OnOk result (KeepsStacks self.old self.new) }
+    {
+        match *item {
+            Item::Version { file, .. } => self.set_version(file),
+            Item::Command { text } => self.keep_command(text),
+            Item::Str { text } => self.add_string(text),
+            Item::Instr {
+                ip,
+                module,
+                fields,
+                tail,
+            } => self.add_instruction(ip, module, fields, tail),
+            Item::Node { ip, parent } => self.add_node(ip, parent),
+            Item::Info { size, trace } => self.add_info(size, trace),
+            Item::Alloc { info } => self.allocation(info),
+            Item::Free { info } => self.free(info),
+            Item::Clock { ms } => Ok(Step::Event {
+                event: Event::Tick { ms },
+            }),
+            Item::Executable { .. }
+            | Item::System { .. }
+            | Item::ModuleClear
+            | Item::Module { .. }
+            | Item::RawAlloc { .. }
+            | Item::RawFree { .. }
+            | Item::Rss { .. }
+            | Item::Attached
+            | Item::Suppress { .. }
+            | Item::Comment { .. }
+            | Item::Other { .. } => Ok(Step::Nothing),
+        }
+    }
+}
+
+// What each kind of line does.
+#[tactic(auto, using(crate::proofs::StackLemmas::keeps_same))]
+impl Tables {
+    fn set_version(&mut self, file: u8) -> Result<Step, LineError>
+        requires low { 1 ≤ file }
+        requires high { file ≤ 3 }
+        ensures takes { IfOk result (λ step. (heaptrack : ℕ) → Takes self.old (version_line heaptrack file) step self.new) }
+        ensures refuses { IfErr result (λ error. (heaptrack : ℕ) → Refuses self.old (version_line heaptrack file) error self.new) }
+        ensures stays { OnOk result (KeepsStacks self.old self.new) }
+    {
+        if self.version.is_some() {
+            return Err(LineError::SecondVersion);
+        }
+        self.version = Some(file);
+        Ok(Step::Nothing)
+    }
+
+    fn keep_command(&mut self, text: &[u8]) -> Result<Step, LineError>
+        ensures takes { IfOk result (λ step. Takes self.old (command_line text.now) step self.new) }
+        ensures refuses { IfErr result (λ error. Refuses self.old (command_line text.now) error self.new) }
+        ensures stays { OnOk result (KeepsStacks self.old self.new) }
+    {
+        if self.command.is_none() {
+            let command = Text::new(self.alloc, text)?;
+            self.command = Some(command);
+        }
+        Ok(Step::Nothing)
+    }
+
+    fn add_string(&mut self, text: &[u8]) -> Result<Step, LineError>
+        ensures takes { IfOk result (λ step. Takes self.old (string_line text.now) step self.new) }
+        ensures refuses { IfErr result (λ error. Refuses self.old (string_line text.now) error self.new) }
+        ensures stays { OnOk result (KeepsStacks self.old self.new) }
+    {
+        self.strings.add(text)?;
+        Ok(Step::Nothing)
+    }
+
+    fn add_instruction(
+        &mut self,
+        ip: u64,
+        module: u64,
+        field_count: u32,
+        tail: &[u8],
+    ) -> Result<Step, LineError>
+        requires { length (fields tail.now) + 2 ≡ field_count }
+        ensures takes { IfOk result (λ step. Takes self.old (instruction_line ip «module» (numbers tail.now)) step self.new) }
+        ensures refuses { IfErr result (λ error. Refuses self.old (instruction_line ip «module» (numbers tail.now)) error self.new) }
+        ensures stays { OnOk result (KeepsStacks self.old self.new) }
+    {
+        let strings = self.strings.len();
+        self.instructions
+            .add(ip, module, field_count, tail, strings)?;
+        Ok(Step::Nothing)
+    }
+
+    fn add_node(&mut self, instruction: u64, parent: u64) -> Result<Step, LineError>
+        ensures takes { IfOk result (λ step. Takes self.old (node_line instruction parent) step self.new) }
+        ensures refuses { IfErr result (λ error. Refuses self.old (node_line instruction parent) error self.new) }
+        ensures stays { OnOk result (KeepsStacks self.old self.new) }
+    {
+        let Some(frames) = self.instructions.frame_count(instruction) else {
+            return Err(LineError::UnknownInstruction);
+        };
+        self.nodes.add(instruction, parent, frames)?;
+        Ok(Step::Stack)
+    }
+
+    fn add_info(&mut self, size: u64, trace: u64) -> Result<Step, LineError>
+        ensures takes { IfOk result (λ step. Takes self.old (info_line size trace) step self.new) }
+        ensures refuses { IfErr result (λ error. Refuses self.old (info_line size trace) error self.new) }
+        ensures stays { OnOk result (KeepsStacks self.old self.new) }
+    {
+        if trace > u64::from(self.nodes.len()) {
+            return Err(LineError::UnknownTrace);
+        }
+        let stack = trace as u32;
+        self.infos.add(size, stack)?;
+        Ok(Step::Info { stack, size })
+    }
+
+    fn allocation(&self, info: u64) -> Result<Step, LineError>
+        ensures takes { IfOk result (λ step. Takes self.now (allocation_line info) step self.now) }
+        ensures refuses { IfErr result (λ error. Refuses self.now (allocation_line info) error self.now) }
+    {
+        let Some(InfoEntry { size, stack }) = self.infos.get(info) else {
+            return Err(LineError::UnknownAllocation);
+        };
+        Ok(Step::Event {
+            event: Event::Alloc {
+                info: info as u32,
+                stack,
+                size,
+            },
+        })
+    }
+
+    fn free(&self, info: u64) -> Result<Step, LineError>
+        ensures takes { IfOk result (λ step. Takes self.now (free_line info) step self.now) }
+        ensures refuses { IfErr result (λ error. Refuses self.now (free_line info) error self.now) }
+    {
+        let Some(InfoEntry { size, stack }) = self.infos.get(info) else {
+            return Err(LineError::UnknownAllocation);
+        };
+        Ok(Step::Event {
+            event: Event::Free {
+                info: info as u32,
+                stack,
+                size,
+            },
+        })
+    }
+}
+
+/// Whether a line may stand before the version line: a comment, or a line of the version line's kind.
+fn may_stand_first(line: &[u8]) -> bool
+    ensures { result ≡ may_stand_first line.now }
+{
+    match line {
+        [] => false,
+        [kind, ..] => *kind == b'#' || *kind == b'v',
+    }
+}

@@ -1,0 +1,250 @@
+//! Worked traces line by line, and each public call with ample memory.
+
+use crate::{FrameAt, LineError, Step, Tables};
+use hp_num::{put_bytes, put_hex};
+use live_ledger::Event;
+use std::alloc::Global;
+use std::process::Abort;
+use std::test::Fail;
+
+/// Reads a short line.
+fn read(rt: &impl Abort, tables: &mut Tables, line: &[u8]) -> Result<Step, LineError> {
+    assert!(rt; line.len() < 100);
+    tables.line(line)
+}
+
+/// Reads lines that bring nothing.
+fn read_all(rt: &impl Abort, tables: &mut Tables, lines: &[&[u8]]) -> Result<(), LineError> {
+    for line in lines {
+        assert_eq!(rt; read(rt, tables, line)?, Step::Nothing, "at {line:?}");
+    }
+    Ok(())
+}
+
+/// The places of the frames of a stack, as pairs of instruction and index.
+fn has_frames(
+    rt: &impl Abort,
+    alloc: Global,
+    tables: &Tables,
+    stack: u32,
+    want: &[(u32, u32)],
+) -> Result<(), Fail> {
+    assert!(rt; stack < tables.stacks());
+    let mut frames = Vec::new(alloc);
+    frames.push(FrameAt {
+        instruction: 9,
+        index: 9,
+    })?;
+    tables.frames_into(stack, &mut frames)?;
+    let mut places = Vec::new(alloc);
+    for frame in frames.iter() {
+        places.push((frame.instruction, frame.index))?;
+    }
+    assert_eq!(rt; places.as_slice(), want, "stack {stack}");
+    Ok(())
+}
+
+/// The tables of a trace of two nested calls, of which each allocates 100 bytes.
+fn worked_trace(rt: &impl Abort, alloc: Global) -> Result<Tables, Fail> {
+    let nothing = Step::Nothing;
+    let info = |stack| Step::Info { stack, size: 100 };
+    let alloc_event = |info, stack| Step::Event {
+        event: Event::Alloc {
+            info,
+            stack,
+            size: 100,
+        },
+    };
+    let lines: [(&[u8], Step); 18] = [
+        (b"v 10500 2", nothing),
+        (b"X demo", nothing),
+        (b"I 1000 3e80", nothing),
+        (b"s app", nothing),
+        (b"s main", nothing),
+        (b"s f", nothing),
+        (b"s a.c", nothing),
+        (b"i 400 1 2 4 14", nothing),
+        (b"i 500 1 3 4 a", nothing),
+        (b"t 1 0", Step::Stack),
+        (b"t 2 1", Step::Stack),
+        (b"a 64 2", info(2)),
+        (b"a 64 1", info(1)),
+        (b"+ 0", alloc_event(0, 2)),
+        (
+            b"c 5",
+            Step::Event {
+                event: Event::Tick { ms: 5 },
+            },
+        ),
+        (b"R 100", nothing),
+        (
+            b"- 0",
+            Step::Event {
+                event: Event::Free {
+                    info: 0,
+                    stack: 2,
+                    size: 100,
+                },
+            },
+        ),
+        (b"+ 1", alloc_event(1, 1)),
+    ];
+    let mut tables = Tables::new(alloc);
+    for (line, step) in lines {
+        assert_eq!(rt; read(rt, &mut tables, line), Ok(step), "at {line:?}");
+    }
+    Ok(tables)
+}
+
+#[test]
+fn fills_the_tables(rt: HostRuntime) -> Result<(), Fail> {
+    let tables = worked_trace(&rt, rt.alloc())?;
+    assert_eq!(rt; tables.end(), Ok(()));
+    assert_eq!(rt; tables.stacks(), 3);
+    assert_eq!(rt; tables.info(0), Some((100, 2)));
+    assert_eq!(rt; tables.info(1), Some((100, 1)));
+    assert_eq!(rt; tables.info(2), None);
+    assert_eq!(rt; tables.command(), Some(b"demo".as_slice()));
+    has_frames(&rt, rt.alloc(), &tables, 0, &[(0, 1)])?;
+    has_frames(&rt, rt.alloc(), &tables, 1, &[(1, 0)])?;
+    has_frames(&rt, rt.alloc(), &tables, 2, &[(2, 0), (1, 0)])
+}
+
+#[test]
+fn refuses_lines(rt: HostRuntime) -> Result<(), Fail> {
+    let lines: [(&[u8], LineError); 17] = [
+        (b"v 10500 2", LineError::SecondVersion),
+        (b"v 10500 4", LineError::BadVersion),
+        (b"i 1 5", LineError::UnknownString),
+        (b"i 1 4 5", LineError::UnknownString),
+        (b"i 1 4 4 5 1", LineError::UnknownString),
+        (b"i 1 4 4 4 1 4 5 1", LineError::UnknownString),
+        (b"i 1 1 2 3", LineError::MissingField),
+        (b"t 3 0", LineError::UnknownInstruction),
+        (b"t 9 0", LineError::UnknownInstruction),
+        (b"t 9 5", LineError::UnknownInstruction),
+        (b"t 1 3", LineError::UnknownParent),
+        (b"t 1 5", LineError::UnknownParent),
+        (b"a 1 3", LineError::UnknownTrace),
+        (b"+ 2", LineError::UnknownAllocation),
+        (b"- 2", LineError::UnknownAllocation),
+        (b"+ 40 1 1000", LineError::NotInterpreted),
+        (b"+0", LineError::BadField),
+    ];
+    let mut tables = worked_trace(&rt, rt.alloc())?;
+    for (line, error) in lines {
+        assert_eq!(rt; read(&rt, &mut tables, line), Err(error), "at {line:?}");
+    }
+    read_all(&rt, &mut tables, &[b"z what", b"", b"X other"])?;
+    assert_eq!(rt; tables.stacks(), 3);
+    assert_eq!(rt; tables.info(2), None);
+    assert_eq!(rt; tables.command(), Some(b"demo".as_slice()));
+    Ok(())
+}
+
+#[test]
+fn wants_a_version_line(rt: HostRuntime) -> Result<(), Fail> {
+    let mut tables = Tables::new(rt.alloc());
+    read_all(&rt, &mut tables, &[b"# made by hand"])?;
+    assert_eq!(rt; tables.end(), Err(LineError::NoVersion));
+    let lines: [&[u8]; 4] = [b"s main", b"+0", b"", b"z"];
+    for line in lines {
+        assert_eq!(rt;
+            read(&rt, &mut tables, line),
+            Err(LineError::NoVersion),
+            "at {line:?}"
+        );
+    }
+    assert_eq!(rt;
+        read(&rt, &mut tables, b"v 1 9"),
+        Err(LineError::BadVersion)
+    );
+    assert_eq!(rt; read(&rt, &mut tables, b"vx"), Err(LineError::BadField));
+    assert_eq!(rt; tables.end(), Err(LineError::NoVersion));
+    assert_eq!(rt; tables.command(), None);
+    read_all(&rt, &mut tables, &[b"v 10500"])?;
+    assert_eq!(rt; tables.end(), Ok(()));
+    Ok(())
+}
+
+// A string that comes twice has two numbers, and a module that is named by its size is read in version 3.
+#[test]
+fn numbers_strings(rt: HostRuntime) -> Result<(), Fail> {
+    let mut tables = Tables::new(rt.alloc());
+    let lines: [&[u8]; 5] = [b"v 10500 3", b"s 4 main", b"s main", b"m 1 -", b"i 1 2 2"];
+    read_all(&rt, &mut tables, &lines)?;
+    assert_eq!(rt;
+        read(&rt, &mut tables, b"i 1 3"),
+        Err(LineError::UnknownString)
+    );
+    assert_eq!(rt;
+        read(&rt, &mut tables, b"i 1 0 0 0 ffffffffffffffff"),
+        Ok(Step::Nothing)
+    );
+    Ok(())
+}
+
+#[test]
+fn gives_inlined_frames(rt: HostRuntime) -> Result<(), Fail> {
+    let mut tables = Tables::new(rt.alloc());
+    let lines: [&[u8]; 9] = [
+        b"v 10500 2",
+        b"s app",
+        b"s main",
+        b"s a.c",
+        b"i 10 1",
+        b"i 20 1 2",
+        b"i 30 1 2 3 5",
+        b"i 40 1 2 2 3 6",
+        b"i 50 1 2 3 7 2 3 8 2 3 9",
+    ];
+    read_all(&rt, &mut tables, &lines)?;
+    let nodes: [&[u8]; 6] = [b"t 1 0", b"t 2 1", b"t 3 0", b"t 4 2", b"t 0 4", b"t 5 5"];
+    for node in nodes {
+        assert_eq!(rt;
+            read(&rt, &mut tables, node),
+            Ok(Step::Stack),
+            "at {node:?}"
+        );
+    }
+    has_frames(&rt, rt.alloc(), &tables, 2, &[(2, 0), (1, 0)])?;
+    has_frames(&rt, rt.alloc(), &tables, 3, &[(3, 0)])?;
+    let five = [(0, 0), (4, 0), (4, 1), (2, 0), (1, 0)];
+    has_frames(&rt, rt.alloc(), &tables, 5, &five)?;
+    let six = [
+        (5, 0),
+        (5, 1),
+        (5, 2),
+        (0, 0),
+        (4, 0),
+        (4, 1),
+        (2, 0),
+        (1, 0),
+    ];
+    has_frames(&rt, rt.alloc(), &tables, 6, &six)
+}
+
+// A chain of 4,096 nodes is taken, and nothing below it.
+#[test]
+fn refuses_a_stack_too_deep(rt: HostRuntime) -> Result<(), Fail> {
+    let mut tables = Tables::new(rt.alloc());
+    read_all(&rt, &mut tables, &[b"v 10500 2", b"i 10 0"])?;
+    let mut line = Vec::new(rt.alloc());
+    for parent in 0..4096u64 {
+        line.clear();
+        put_bytes(&mut line, b"t 1 ")?;
+        put_hex(&mut line, parent)?;
+        assert_eq!(rt;
+            read(&rt, &mut tables, &line),
+            Ok(Step::Stack),
+            "below {parent}"
+        );
+    }
+    assert_eq!(rt; tables.stacks(), 4097);
+    assert_eq!(rt;
+        read(&rt, &mut tables, b"t 1 1000"),
+        Err(LineError::TooDeep)
+    );
+    assert_eq!(rt; read(&rt, &mut tables, b"t 1 fff"), Ok(Step::Stack));
+    Ok(())
+}

@@ -1,0 +1,37 @@
+use Rattle.std.proofs.Common.{ℕ, ◌+◌, List, length, refl, ap, arith}
+use Rattle.stack_table.specs.Entries.{IsTable, nodes_of}
+use Rattle.stack_table.specs.Node.{Node}
+use Rattle.stack_table.proofs.Stacks.{stack-older, stack-newest, frame_count-older, frame_count-newest}
+use Rattle.stack_table.proofs.EntryLemmas.{AreNodes-table, length-nodes_of, nodes_of-push, IsTable-push}
+use Rattle.stack_table.proofs.nodes.Nodes.add.Goals as goal
+
+-- the entries with the new one are a table
+grown : (c : goal.In_ok-push) → IsTable c.push.new.self.items
+grown c =
+    let entries = length-nodes_of c.self.inside.entries.items in
+    let nodes = ap (λ (nodes : List Node). length nodes) c.self.view_is in
+    rw c.in_ok-push.ensures.items (
+    IsTable-push c.self.inside.entries.items _ c.self.invariant (omega arith)
+    (rw c.self.view_is (ap (λ (outer : ℕ). outer + c.args.frames) c.frames_of-outer.ensures.frames))
+    (omega arith) (omega arith)
+    )
+
+pub invariant_of-self-2 : goal.invariant_of-self-2
+invariant_of-self-2 c = grown c
+
+pub returns-clause-nodes : goal.returns-clause-nodes
+returns-clause-nodes c = AreNodes-table c.push.new.self.items (nodes_of c.push.new.self.items) refl (grown c)
+
+pub returns-clause-new_stack : goal.returns-clause-new_stack
+returns-clause-new_stack c =
+    rw (c.in_ok-push.ensures.items, nodes_of-push, c.self.view_is) (stack-newest c.args.self.now _ (length c.args.self.now + 1) refl)
+
+pub returns-clause-new_frames : goal.returns-clause-new_frames
+returns-clause-new_frames c =
+    rw (c.in_ok-push.ensures.items, nodes_of-push, c.self.view_is) (frame_count-newest c.args.self.now _ (length c.args.self.now + 1) refl)
+
+pub returns-clause-stacks_stay : goal.returns-clause-stacks_stay
+returns-clause-stacks_stay c = λ n held. rw (c.in_ok-push.ensures.items, nodes_of-push, c.self.view_is) (stack-older c.args.self.now _ n held)
+
+pub returns-clause-frames_stay : goal.returns-clause-frames_stay
+returns-clause-frames_stay c = λ n held. rw (c.in_ok-push.ensures.items, nodes_of-push, c.self.view_is) (frame_count-older c.args.self.now _ n held)

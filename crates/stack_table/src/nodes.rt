@@ -1,0 +1,188 @@
+//! The list of nodes, and the walk from a node outwards.
+ghost use Rattle.std.specs.Prelude.{◌≡◌, ℕ, ◌+◌, ◌-◌, ◌^◌, ◌<◌, ◌≤◌, ◌↔◌, [], ◌∷◌, ◌++◌, length, map, vec_len, vec_capacity, IsSome, IfSome, IsOk, IfOk, OnOk, OnErr};
+ghost use Rattle.std.specs.Option.{option_map};
+ghost use Rattle.stack_table.specs.Node.{Node, node_at};
+ghost use Rattle.stack_table.specs.Stack.{stack, frame_count};
+ghost use Rattle.stack_table.specs.AreNodes.{AreNodes};
+ghost use Rattle.stack_table.specs.CanAdd.{CanAdd};
+ghost use Rattle.stack_table.specs.Entries.{IsTable, nodes_of};
+
+use crate::fault::NodeFault;
+use hp_num::NoMemory;
+use std::alloc::Global;
+use std::marker::Model;
+
+/// The greatest number of frames of one stack.
+const MAX_FRAMES: u32 = 4096;
+
+/// The greatest number of nodes.
+const MAX_NODES: u32 = u32::MAX - 1;
+
+/// One node: its instruction pointer, its parent's number, the frames that it adds, and those of its whole stack.
+#[derive(Clone, Copy, Debug)]
+struct NodeEntry {
+    ip: u64,
+    parent: u32,
+    frames: u16,
+    depth: u16,
+}
+
+/// The nodes of a trace, numbered from 1.
+///
+/// Contracts see it as the list of the nodes' instruction pointers, parents and frames. Each parent is below its
+/// node's number, and 0 stands for no parent.
+#[derive(Debug, Drop)]
+pub struct Nodes {
+    entries: Vec<NodeEntry>,
+}
+
+impl Model for Nodes {
+    ghost use Rattle.std.specs.Prelude.{List};
+    ghost use Rattle.stack_table.specs.Node.{Node};
+    ghost use Rattle.stack_table.specs.Entries.{IsTable, nodes_of};
+
+    ghost Value = { List Node };
+
+    ghost view = { λ nodes. nodes_of nodes.entries.items };
+
+    ghost invariant = { λ nodes. IsTable nodes.entries.items };
+}
+
+impl Nodes {
+    /// No nodes. It takes no memory.
+    pub fn new(alloc: Global) -> Self
+        ensures empty { result ≡ [] }
+    {
+        Nodes {
+            entries: Vec::new(alloc),
+        }
+    }
+
+    /// Adds a node of `frames` frames and answers its number, which is the new count.
+    ///
+    /// After an error the nodes are as before. It takes the same time for any stack.
+    pub fn add(&mut self, ip: u64, parent: u64, frames: u32) -> Result<u32, NodeFault>
+        ensures added { OnOk result (self.new ≡ self.old ++ record { ip = ip; parent = parent; frames = frames } ∷ []) }
+        ensures number { IfOk result (λ number. number ≡ length self.old + 1) }
+        ensures count { OnOk result (length self.new ≡ length self.old + 1) }
+        ensures fits { OnOk result (CanAdd self.old parent frames) }
+
+        // When each fault comes.
+        ensures unknown_parent { (result ≡ Err NodeFault.UnknownParent) ↔ (length self.old < parent) }
+        ensures too_deep { (result ≡ Err NodeFault.TooDeep) ↔ ((parent ≤ length self.old) × (4096 < frame_count self.old parent + frames)) }
+        ensures full { (result ≡ Err NodeFault.Full) ↔ ((parent ≤ length self.old) × (frame_count self.old parent + frames ≤ 4096) × (length self.old ≡ 2 ^ 32 - 2)) }
+        ensures unchanged { OnErr result (self.new ≡ self.old) }
+
+        // The stacks.
+        ensures new_stack { OnOk result (stack self.new (length self.old + 1) ≡ ip ∷ stack self.old parent) }
+        ensures new_frames { OnOk result (frame_count self.new (length self.old + 1) ≡ frame_count self.old parent + frames) }
+        ensures stacks_stay { (n : ℕ) → n ≤ length self.old → stack self.new n ≡ stack self.old n }
+        ensures frames_stay { (n : ℕ) → n ≤ length self.old → frame_count self.new n ≡ frame_count self.old n }
+        ensures nodes { AreNodes self.new }
+    {
+        let count = self.len();
+        if parent > u64::from(count) {
+            return Err(NodeFault::UnknownParent);
+        }
+        let parent = parent as u32;
+        let outer = self.frames_of(parent);
+        if frames > MAX_FRAMES - outer {
+            return Err(NodeFault::TooDeep);
+        }
+        if count == MAX_NODES {
+            return Err(NodeFault::Full);
+        }
+        self.entries.push(NodeEntry {
+            ip,
+            parent,
+            frames: frames as u16,
+            depth: (outer + frames) as u16,
+        })?;
+        Ok(count + 1)
+    }
+
+    // The frames of stack `n`, from its entry.
+    fn frames_of(&self, n: u32) -> u32
+        requires { n ≤ length self.now }
+        ensures frames { result ≡ frame_count self.now n }
+        ensures few { result ≤ 4096 }
+    {
+        if n == 0 {
+            return 0;
+        }
+        u32::from(self.entries[n as usize - 1].depth)
+    }
+
+    /// The instruction pointer and the parent of node `n`: `None` exactly where no node has that number.
+    /// It takes no memory.
+    pub fn node(&self, n: u32) -> Option<(u64, u32)>
+        ensures found { IsSome result ↔ ((1 ≤ n) × (n ≤ length self.now)) }
+        ensures entry { result ≡ option_map (λ node. record { 0 = node.ip; 1 = node.parent }) (node_at self.now n) }
+        ensures lower_parent { IfSome result (λ found. found.1 < n) }
+        ensures stack { IfSome result (λ found. stack self.now n ≡ found.0 ∷ stack self.now found.1) }
+    {
+        if n == 0 || n > self.len() {
+            return None;
+        }
+        let entry = self.entries[n as usize - 1];
+        Some((entry.ip, entry.parent))
+    }
+
+    /// Replaces `out` by the instruction pointers of stack `n`, from node `n` outwards; stack 0 is empty.
+    ///
+    /// On `NoMemory`, `out` holds what it held before. It can't fail where `out` has room for the stack, and its
+    /// time is in the length of the stack alone.
+    pub fn stack_into(&self, n: u32, out: &mut Vec<u64>) -> Result<(), NoMemory>
+        requires { n ≤ length self.now }
+        ensures ips { OnOk result (out.new.items ≡ stack self.now n) }
+        ensures unchanged { OnErr result (out.new.items ≡ out.old.items) }
+        ensures room { length (stack self.now n) ≤ vec_capacity out.old → IsOk result }
+        ensures nodes { AreNodes self.now }
+    {
+        let len = stack_len(&self.entries, n);
+        out.reserve(len.saturating_sub(out.len()))?;
+        out.clear();
+        push_stack(&self.entries, n, out)
+    }
+
+    /// How many nodes are held, which is the greatest number of a node.
+    pub fn len(&self) -> u32
+        ensures count { result ≡ length self.now }
+        ensures bound { result ≤ 2 ^ 32 - 2 }
+        ensures nodes { AreNodes self.now }
+    {
+        self.entries.len() as u32
+    }
+}
+
+// How many instruction pointers stack `n` has.
+fn stack_len(entries: &[NodeEntry], n: u32) -> usize
+    requires table { IsTable entries.now }
+    requires held { n ≤ length entries.now }
+    ensures { result ≡ length (stack (nodes_of entries.now) n) }
+{
+    let mut len = 0;
+    let mut at = n;
+    'outwards: while at > 0 {
+        len += 1;
+        at = entries[at as usize - 1].parent;
+    }
+    len
+}
+
+// Appends stack `n` to `out`, which has room for it.
+fn push_stack(entries: &[NodeEntry], n: u32, out: &mut Vec<u64>) -> Result<(), NoMemory>
+    requires table { IsTable entries.now }
+    requires held { n ≤ length entries.now }
+    requires room { vec_len out.old + length (stack (nodes_of entries.now) n) ≤ vec_capacity out.old }
+    ensures succeeds { IsOk result }
+    ensures ips { out.new.items ≡ out.old.items ++ stack (nodes_of entries.now) n }
+{
+    let mut at = n;
+    'outwards: while at > 0 {
+        let entry = entries[at as usize - 1];
+        out.push(entry.ip)?;
+        at = entry.parent;
+    }
+    Ok(())
+}
