@@ -1,0 +1,10 @@
+pub mod Complete
+pub mod LineLemmas
+pub mod NoTruncation
+pub mod Profiles
+pub mod ReadTexts
+pub mod ReadingLemmas
+pub mod RoundTrip
+pub mod Sound
+pub mod TreeLemmas
+pub mod WrittenLemmas

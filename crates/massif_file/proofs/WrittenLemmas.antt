@@ -1,0 +1,62 @@
+-- How the text of a profile grows, piece by piece.
+use Rattle.std.proofs.Common.{◌≡◌, ℕ, zero, suc, ◌+◌, ◌-◌, ◌<◌, List, [], ◌∷◌, ◌++◌, length, get_or, drop, refl, sym, ap, ◌∙◌, append_assoc, add-one, drop-cons}
+use Rattle.massif_file.specs.declared.profile.TreeLine.{TreeLine}
+use Rattle.massif_file.specs.declared.profile.Snap.{Snap}
+use Rattle.massif_file.specs.Blanks.{blanks}
+use Rattle.massif_file.specs.Levels.{after_line}
+use Rattle.massif_file.specs.MassifText.{text_of, node_text, tree_lines, snap_lines, snaps_lines}
+
+-- one more blank
+blanks_suc : (n : ℕ) → blanks (suc n) ≡ blanks n ++ 32 ∷ []
+blanks_suc zero = refl
+blanks_suc (suc n) = ap (λ (ms : List ℕ). 32 ∷ ms) (blanks_suc n)
+
+-- the same, as the code counts
+pub blanks_more : (n : ℕ) → blanks (n + 1) ≡ blanks n ++ 32 ∷ []
+blanks_more n = ap blanks (add-one n) ∙ blanks_suc n
+
+-- the text of lines after lines
+pub text_of_append : (xs ys : List (List ℕ)) → text_of (xs ++ ys) ≡ text_of xs ++ text_of ys
+text_of_append [] ys = refl
+text_of_append (x ∷ xs) ys = ap (λ (t : List ℕ). x ++ (10 ∷ t)) (text_of_append xs ys) ∙ sym (append_assoc x (10 ∷ text_of xs) (text_of ys))
+
+-- Of a text that is to follow, the front is written.
+pub goes_on : (out next old front text rest whole : List ℕ) → next ≡ out ++ front → text ≡ front ++ rest → out ++ text ≡ old ++ whole → next ++ rest ≡ old ++ whole
+goes_on out next old front text rest whole written parts all =
+    ap (λ (t : List ℕ). t ++ rest) written ∙ append_assoc out front rest ∙ ap (λ (t : List ℕ). out ++ t) (sym parts) ∙ all
+
+-- the text of the snapshots from one on begins with its own
+pub snaps_step : (n : ℕ) (snaps : List Snap) (snap : Snap) → n < length snaps → snap ≡ get_or snaps n snap → text_of (snaps_lines n (drop n snaps)) ≡ text_of (snap_lines n snap) ++ text_of (snaps_lines (n + 1) (drop (n + 1) snaps))
+snaps_step n snaps snap lt e =
+    let d : drop n snaps ≡ snap ∷ drop (suc n) snaps = drop-cons snaps n snap lt ∙ ap (λ (s : Snap). s ∷ drop (suc n) snaps) (sym e) in
+    ap (λ (ss : List Snap). text_of (snaps_lines n ss)) d
+    ∙ text_of_append (snap_lines n snap) (snaps_lines (suc n) (drop (suc n) snaps))
+    ∙ ap (λ (k : ℕ). text_of (snap_lines n snap) ++ text_of (snaps_lines k (drop k snaps))) (sym (add-one n))
+
+-- the text of the lines of a tree from one on begins with its own
+pub tree_step : (i : ℕ) (levels : List ℕ) (lines : List TreeLine) (line : TreeLine) → i < length lines → line ≡ get_or lines i line
+    → text_of (tree_lines levels (drop i lines)) ≡ (blanks (length levels - 1) ++ (node_text line ++ 10 ∷ [])) ++ text_of (tree_lines (after_line line.children levels) (drop (i + 1) lines))
+tree_step i levels lines line lt e =
+    let d : drop i lines ≡ line ∷ drop (suc i) lines = drop-cons lines i line lt ∙ ap (λ (l : TreeLine). l ∷ drop (suc i) lines) (sym e) in
+    let rest : ℕ → List ℕ = λ (k : ℕ). text_of (tree_lines (after_line line.children levels) (drop k lines)) in
+    ap (λ (ls : List TreeLine). text_of (tree_lines levels ls)) d
+    ∙ append_assoc (blanks (length levels - 1)) (node_text line) (10 ∷ rest (suc i))
+    ∙ ap (λ (t : List ℕ). blanks (length levels - 1) ++ t) (sym (append_assoc (node_text line) (10 ∷ []) (rest (suc i))))
+    ∙ sym (append_assoc (blanks (length levels - 1)) (node_text line ++ 10 ∷ []) (rest (suc i)))
+    ∙ ap (λ (k : ℕ). (blanks (length levels - 1) ++ (node_text line ++ 10 ∷ [])) ++ rest k) (sym (add-one i))
+
+-- pieces that were written one after another
+pub chain_2 : (o p q a b : List ℕ) → p ≡ o ++ a → q ≡ p ++ b → q ≡ o ++ (a ++ b)
+chain_2 o p q a b e f = f ∙ ap (λ (t : List ℕ). t ++ b) e ∙ append_assoc o a b
+
+-- lines that were written one after another
+pub text_2 : (o p q : List ℕ) (ls ms : List (List ℕ)) → p ≡ o ++ text_of ls → q ≡ p ++ text_of ms → q ≡ o ++ text_of (ls ++ ms)
+text_2 o p q ls ms e f = chain_2 o p q (text_of ls) (text_of ms) e f ∙ ap (λ (t : List ℕ). o ++ t) (sym (text_of_append ls ms))
+
+-- three pieces
+pub text_3 : (o p q r : List ℕ) (ls ms ns : List (List ℕ)) → p ≡ o ++ text_of ls → q ≡ p ++ text_of ms → r ≡ q ++ text_of ns → r ≡ o ++ text_of (ls ++ (ms ++ ns))
+text_3 o p q r ls ms ns e f g = text_2 o p r ls (ms ++ ns) e (text_2 p q r ms ns f g)
+
+-- four pieces
+pub text_4 : (o p q r s : List ℕ) (ls ms ns ds : List (List ℕ)) → p ≡ o ++ text_of ls → q ≡ p ++ text_of ms → r ≡ q ++ text_of ns → s ≡ r ++ text_of ds → s ≡ o ++ text_of (ls ++ (ms ++ (ns ++ ds)))
+text_4 o p q r s ls ms ns ds e f g h = text_2 o p s ls (ms ++ (ns ++ ds)) e (text_3 p q r s ms ns ds f g h)

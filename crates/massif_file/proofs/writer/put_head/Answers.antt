@@ -1,0 +1,14 @@
+-- Four lines, one after another.
+use Rattle.std.proofs.Common.{[], ◌∷◌, ◌++◌, decimal}
+use Rattle.std.specs.Prelude.{codes}
+use Rattle.std.proofs.lemmas.Result.{on_ok_weaker}
+use Rattle.massif_file.specs.MassifText.{separator}
+use Rattle.massif_file.proofs.WrittenLemmas.{text_4}
+use Rattle.massif_file.proofs.writer.put_head.Goals as goal
+
+pub returns-clause-appended : goal.returns-clause-appended
+returns-clause-appended c =
+    on_ok_weaker c.put_number-2.result
+    (λ h. text_4 _ _ _ _ _ (separator ∷ []) ((codes "snapshot=" ++ decimal c.args.n) ∷ []) (separator ∷ []) ((codes "time=" ++ decimal c.args.time) ∷ [])
+    c.in_ok-put_bytes.ensures.appended c.in_ok-put_number.ensures.appended c.in_ok-put_bytes-2.ensures.appended h)
+    c.put_number-2.ensures.appended

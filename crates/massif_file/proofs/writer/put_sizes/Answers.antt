@@ -1,0 +1,13 @@
+-- Three lines, one after another.
+use Rattle.std.proofs.Common.{[], ◌∷◌, ◌++◌, decimal}
+use Rattle.std.specs.Prelude.{codes}
+use Rattle.std.proofs.lemmas.Result.{on_ok_weaker}
+use Rattle.massif_file.proofs.WrittenLemmas.{text_3}
+use Rattle.massif_file.proofs.writer.put_sizes.Goals as goal
+
+pub returns-clause-appended : goal.returns-clause-appended
+returns-clause-appended c =
+    on_ok_weaker c.put_number-3.result
+    (λ h. text_3 _ _ _ _ ((codes "mem_heap_B=" ++ decimal c.args.snap.now.heap) ∷ []) ((codes "mem_heap_extra_B=" ++ decimal c.args.snap.now.extra) ∷ []) ((codes "mem_stacks_B=" ++ decimal c.args.snap.now.stacks) ∷ [])
+    c.in_ok-put_number.ensures.appended c.in_ok-put_number-2.ensures.appended h)
+    c.put_number-3.ensures.appended

@@ -1,0 +1,10 @@
+-- What is written so far and the text of the lines that are left is the whole.
+use Rattle.std.proofs.Common.{◌≡◌, ◌++◌, [], ◌∷◌, take, drop, vec_len}
+use Rattle.massif_file.specs.MassifText.{tree_lines, text_of}
+use Rattle.massif_file.proofs.writer.put_tree.Given as goal
+
+abbrev pub invariant-loop-line : goal.invariant-loop-line
+invariant-loop-line l = record {
+  kept : take (vec_len l.fn.out) l.out.items ≡ l.fn.out.items;
+  written : l.out.items ++ text_of (tree_lines l.levels (drop l.line-index l.fn.tree)) ≡ l.fn.out.items ++ text_of (tree_lines (1 ∷ []) l.fn.tree);
+}

@@ -1,0 +1,16 @@
+pub mod Blanks
+pub mod Fields
+pub mod IsProfile
+pub mod IsRight
+pub mod IsWritable
+pub mod Items
+pub mod Levels
+pub mod MassifText
+pub mod ProfileFault
+pub mod ProfileOf
+pub mod Progress
+pub mod Reading
+pub mod StandsFor
+pub mod TreeLineOf
+pub mod Trees
+pub mod UnlessNoMemory

@@ -1,0 +1,301 @@
+//! Reading a Massif file line by line: one short step for each line that may come next.
+//! The lines' own forms are read elsewhere; skipped lines and repeated faults are the reader's part.
+ghost use Rattle.std.specs.Prelude.{◌≡◌, [], Err, None, OnOk, IfErr};
+ghost use Rattle.massif_file.specs.declared.fault.ProfileFault.{ProfileFault};
+ghost use Rattle.massif_file.specs.declared.fault.ProfileFault.TheVariants as faults;
+ghost use Rattle.massif_file.specs.Progress.{at_extra, at_heap, at_mark, at_snapshot, at_stacks, at_time, at_unit, in_descriptions, in_tree, refused_for, after, end_of, fault_in, joined, last_time, taken, whole, with_snap};
+ghost use Rattle.massif_file.specs.Reading.{Goes, profile_in, shown};
+ghost use Rattle.massif_file.specs.UnlessNoMemory.{UnlessNoMemory};
+
+use crate::fault::ProfileFault;
+use crate::levels::Levels;
+use crate::line::{header_value, is_skipped, key_number, mark_after, tree_fields, unit_after};
+use crate::lists::{Snaps, Tree};
+use crate::profile::{HeapTree, Profile, Snap, TimeUnit, TreeLine};
+use hp_num::{NoMemory, Text};
+use std::alloc::Global;
+use std::mem;
+
+/// The levels that a tree may have: the root's is 0.
+const MAX_LEVELS: usize = 257;
+
+/// What comes next.
+#[derive(Clone, Copy, Debug)]
+pub enum Stage {
+    Descriptions,
+    Unit,
+    Snapshot,
+    Time,
+    Heap,
+    Extra,
+    Stacks,
+    Mark,
+    Tree,
+    Refused(ProfileFault),
+}
+
+/// What the lines said so far. Only what the stage implies to be read has a meaning.
+#[derive(Debug, Drop)]
+pub struct Reading {
+    alloc: Global,
+    pub stage: Stage,
+    desc: Vec<u8>,
+    cmd: Text,
+    unit: TimeUnit,
+    snaps: Snaps,
+    // The snapshot that is being read.
+    snap: Snap,
+    levels: Levels,
+}
+
+impl Reading {
+    pub fn new(alloc: Global) -> Reading
+        ensures { shown result ≡ in_descriptions [] }
+    {
+        Reading {
+            alloc,
+            stage: Stage::Descriptions,
+            desc: Vec::new(alloc),
+            cmd: Text::from(Vec::new(alloc)),
+            unit: TimeUnit::Bytes,
+            snaps: Snaps::new(alloc),
+            snap: empty_snap(alloc),
+            levels: Levels::new(alloc),
+        }
+    }
+
+    /// Takes the next line, or answers why it is refused, and from then on that again.
+    pub fn line(&mut self, line: &[u8]) -> Result<(), ProfileFault>
+        ensures taken { OnOk result (shown self.new ≡ after (shown self.old) line.now) }
+        ensures not_refused { OnOk result (fault_in (shown self.new) ≡ None) }
+        ensures kept { IfErr result (λ fault. shown self.new ≡ refused_for fault) }
+        ensures refused { IfErr result (λ fault. UnlessNoMemory fault (after (shown self.old) line.now ≡ refused_for fault)) }
+        ensures again { (fault : ProfileFault) → shown self.old ≡ refused_for fault → result ≡ Err fault }
+    {
+        if let Stage::Refused(fault) = self.stage {
+            return Err(fault);
+        }
+        if is_skipped(line) {
+            return Ok(());
+        }
+        let result = self.take(line);
+        if let Err(fault) = result {
+            self.stage = Stage::Refused(fault);
+        }
+        result
+    }
+
+    /// Takes a line that isn't skipped.
+    fn take(&mut self, line: &[u8]) -> Result<(), ProfileFault>
+        ensures { Goes result (taken (shown self.old) line.now) (shown self.new) }
+    {
+        match self.stage {
+            Stage::Descriptions => self.header(line),
+            Stage::Unit => self.unit(line),
+            Stage::Snapshot => self.number(line),
+            Stage::Time => self.time(line),
+            Stage::Heap => self.heap(line),
+            Stage::Extra => self.extra(line),
+            Stage::Stacks => self.stacks(line),
+            Stage::Mark => self.mark(line),
+            Stage::Tree => self.tree_line(line),
+            Stage::Refused(fault) => Err(fault),
+        }
+    }
+
+    /// The profile, where the lines may end here.
+    pub fn end(self) -> Result<Profile, ProfileFault>
+        ensures { result ≡ end_of (shown self) }
+    {
+        match self.stage {
+            Stage::Refused(fault) => Err(fault),
+            Stage::Snapshot => self.whole(),
+            _ => Err(ProfileFault::Truncated),
+        }
+    }
+
+    #[tactic(auto, unfolding(crate::specs::Progress::taken))]
+    fn header(&mut self, line: &[u8]) -> Result<(), ProfileFault>
+        requires { self.old.stage ≡ Stage.Descriptions }
+        ensures { Goes result (taken (in_descriptions self.old.desc.items) line.now) (shown self.new) }
+    {
+        if let Some(value) = header_value(b"desc:", line) {
+            join(&mut self.desc, value)?;
+            return Ok(());
+        }
+        let Some(cmd) = header_value(b"cmd:", line) else {
+            return Err(ProfileFault::BadHeader);
+        };
+        self.cmd = Text::new(self.alloc, cmd)?;
+        self.stage = Stage::Unit;
+        Ok(())
+    }
+
+    #[tactic(auto, unfolding(crate::specs::Progress::taken))]
+    fn unit(&mut self, line: &[u8]) -> Result<(), ProfileFault>
+        ensures { Goes result (taken (at_unit self.old.desc.items self.old.cmd) line.now) (shown self.new) }
+    {
+        let Some(unit) = unit_after(line) else {
+            return Err(ProfileFault::BadHeader);
+        };
+        self.unit = unit;
+        self.snaps = Snaps::new(self.alloc);
+        self.stage = Stage::Snapshot;
+        Ok(())
+    }
+
+    #[tactic(auto, unfolding(crate::specs::Progress::taken))]
+    fn number(&mut self, line: &[u8]) -> Result<(), ProfileFault>
+        ensures { Goes result (taken (at_snapshot (profile_in self.old)) line.now) (shown self.new) }
+    {
+        let number = key_number(b"snapshot=", line)?;
+        if number != self.snaps.len() as u64 {
+            return Err(ProfileFault::WrongOrder);
+        }
+        self.stage = Stage::Time;
+        Ok(())
+    }
+
+    #[tactic(auto, unfolding(crate::specs::Progress::taken))]
+    fn time(&mut self, line: &[u8]) -> Result<(), ProfileFault>
+        ensures { Goes result (taken (at_time (profile_in self.old)) line.now) (shown self.new) }
+    {
+        let time = key_number(b"time=", line)?;
+        if time < last_time(&self.snaps) {
+            return Err(ProfileFault::WrongOrder);
+        }
+        self.snap.time = time;
+        self.stage = Stage::Heap;
+        Ok(())
+    }
+
+    #[tactic(auto, unfolding(crate::specs::Progress::taken))]
+    fn heap(&mut self, line: &[u8]) -> Result<(), ProfileFault>
+        ensures { Goes result (taken (at_heap (profile_in self.old) self.old.snap.time) line.now) (shown self.new) }
+    {
+        self.snap.heap = key_number(b"mem_heap_B=", line)?;
+        self.stage = Stage::Extra;
+        Ok(())
+    }
+
+    #[tactic(auto, unfolding(crate::specs::Progress::taken))]
+    fn extra(&mut self, line: &[u8]) -> Result<(), ProfileFault>
+        ensures { Goes result (taken (at_extra (profile_in self.old) self.old.snap.time self.old.snap.heap) line.now) (shown self.new) }
+    {
+        self.snap.extra = key_number(b"mem_heap_extra_B=", line)?;
+        self.stage = Stage::Stacks;
+        Ok(())
+    }
+
+    #[tactic(auto, unfolding(crate::specs::Progress::taken))]
+    fn stacks(&mut self, line: &[u8]) -> Result<(), ProfileFault>
+        ensures { Goes result (taken (at_stacks (profile_in self.old) self.old.snap.time self.old.snap.heap self.old.snap.extra) line.now) (shown self.new) }
+    {
+        self.snap.stacks = key_number(b"mem_stacks_B=", line)?;
+        self.stage = Stage::Mark;
+        Ok(())
+    }
+
+    #[tactic(auto, unfolding(crate::specs::Progress::taken))]
+    fn mark(&mut self, line: &[u8]) -> Result<(), ProfileFault>
+        ensures { Goes result
+            (taken (at_mark (profile_in self.old) self.old.snap.time self.old.snap.heap self.old.snap.extra self.old.snap.stacks) line.now)
+            (shown self.new) }
+    {
+        let Some(mark) = mark_after(line) else {
+            return Err(ProfileFault::BadSnapshot);
+        };
+        self.snap.mark = mark;
+        self.snap.tree = Tree::new(self.alloc);
+        if mark == HeapTree::Empty {
+            return self.end_snap();
+        }
+        self.levels.begin()?;
+        self.stage = Stage::Tree;
+        Ok(())
+    }
+
+    #[tactic(auto, unfolding(crate::specs::Progress::taken))]
+    fn tree_line(&mut self, line: &[u8]) -> Result<(), ProfileFault>
+        requires { self.old.stage ≡ Stage.Tree }
+        ensures { Goes result (taken (in_tree (profile_in self.old) self.old.snap self.old.levels) line.now) (shown self.new) }
+    {
+        if self.levels.len() > MAX_LEVELS {
+            return Err(ProfileFault::BadTree);
+        }
+        let Some(fields) = tree_fields(line) else {
+            return Err(ProfileFault::BadTree);
+        };
+        let label = Text::new(self.alloc, fields.label)?;
+        self.snap.tree.push(TreeLine {
+            children: fields.children,
+            bytes: fields.bytes,
+            label,
+        })?;
+        self.levels.line(fields.children)?;
+        if self.levels.len() == 0 {
+            return self.end_snap();
+        }
+        Ok(())
+    }
+
+    /// The snapshot that is being read is whole.
+    fn end_snap(&mut self) -> Result<(), ProfileFault>
+        ensures ok { OnOk result (shown self.new ≡ at_snapshot (with_snap (profile_in self.old) self.old.snap)) }
+        ensures err { IfErr result (λ fault. fault ≡ faults.NoMemory) }
+    {
+        let snap = mem::replace(&mut self.snap, empty_snap(self.alloc));
+        self.snaps.push(snap)?;
+        self.stage = Stage::Snapshot;
+        Ok(())
+    }
+
+    fn whole(self) -> Result<Profile, ProfileFault>
+        ensures { result ≡ whole (profile_in self) }
+    {
+        if self.snaps.len() == 0 {
+            return Err(ProfileFault::Truncated);
+        }
+        Ok(Profile {
+            desc: Text::from(self.desc),
+            cmd: self.cmd,
+            unit: self.unit,
+            snaps: self.snaps,
+        })
+    }
+}
+
+fn empty_snap(alloc: Global) -> Snap {
+    Snap {
+        time: 0,
+        heap: 0,
+        extra: 0,
+        stacks: 0,
+        mark: HeapTree::Empty,
+        tree: Tree::new(alloc),
+    }
+}
+
+/// The time of the last snapshot, and 0 where there is none.
+fn last_time(snaps: &Snaps) -> u64
+    ensures { result ≡ last_time snaps.now }
+{
+    match snaps.as_slice().last() {
+        None => 0,
+        Some(snap) => snap.time,
+    }
+}
+
+/// Joins the value to the description by one blank, where neither is empty.
+fn join(desc: &mut Vec<u8>, value: &[u8]) -> Result<(), NoMemory>
+    ensures { OnOk result (desc.new.items ≡ joined desc.old.items value.now) }
+{
+    if value.is_empty() {
+        return Ok(());
+    }
+    if !desc.is_empty() {
+        desc.push(b' ')?;
+    }
+    desc.extend_from_slice(value)?;
+    Ok(())
+}

@@ -1,0 +1,152 @@
+//! A profile written as the text of Massif's output file. Reading such a text is the reader's part.
+ghost use Rattle.std.specs.Prelude.{◌≡◌, ℕ, ◌-◌, ◌<◌, [], ◌∷◌, ◌++◌, length, take, decimal, codes, vec_len, OnOk, OnErr};
+ghost use Rattle.massif_file.specs.Blanks.{blanks};
+ghost use Rattle.massif_file.specs.Fields.{unit_name, mark_name};
+ghost use Rattle.massif_file.specs.MassifText.{head_lines, massif_text, node_text, size_lines, snap_lines, snaps_lines, text_of, tree_lines};
+
+use crate::levels::Levels;
+use crate::lists::{Snaps, Tree};
+use crate::profile::{HeapTree, Profile, Snap, TimeUnit, TreeLine};
+use hp_num::{NoMemory, put_bytes, put_dec};
+
+/// Appends the profile's text in the form of Massif's output file. On `NoMemory`, `out` holds what it held before.
+///
+/// A profile that is to be read again meets `IsWritable`.
+pub fn put_profile(profile: &Profile, out: &mut Vec<u8>) -> Result<(), NoMemory>
+    ensures appended { OnOk result (out.new.items ≡ out.old.items ++ massif_text profile.now) }
+    ensures unchanged { OnErr result (out.new.items ≡ out.old.items) }
+{
+    let before = out.len();
+    let result = put_all(out, profile);
+    if result.is_err() {
+        out.truncate(before);
+    }
+    result
+}
+
+fn put_all(out: &mut Vec<u8>, profile: &Profile) -> Result<(), NoMemory>
+    ensures kept { take (vec_len out.old) out.new.items ≡ out.old.items }
+    ensures appended { OnOk result (out.new.items ≡ out.old.items ++ massif_text profile.now) }
+{
+    put_line(out, b"desc: ", profile.desc.bytes())?;
+    put_line(out, b"cmd: ", profile.cmd.bytes())?;
+    put_line(out, b"time_unit: ", unit_name(profile.unit))?;
+    put_snaps(out, &profile.snaps)
+}
+
+fn put_snaps(out: &mut Vec<u8>, snaps: &Snaps) -> Result<(), NoMemory>
+    ensures kept { take (vec_len out.old) out.new.items ≡ out.old.items }
+    ensures appended { OnOk result (out.new.items ≡ out.old.items ++ text_of (snaps_lines 0 snaps.now)) }
+{
+    for (n, snap) in snaps.as_slice().iter().enumerate() {
+        put_snap(out, n as u64, snap)?;
+    }
+    Ok(())
+}
+
+#[tactic(auto, using(crate::proofs::WrittenLemmas::text_of_append))]
+fn put_snap(out: &mut Vec<u8>, n: u64, snap: &Snap) -> Result<(), NoMemory>
+    ensures kept { take (vec_len out.old) out.new.items ≡ out.old.items }
+    ensures appended { OnOk result (out.new.items ≡ out.old.items ++ text_of (snap_lines n snap.now)) }
+{
+    put_head(out, n, snap.time)?;
+    put_sizes(out, snap)?;
+    put_line(out, b"heap_tree=", mark_name(snap.mark))?;
+    put_tree(out, &snap.tree)
+}
+
+fn put_head(out: &mut Vec<u8>, n: u64, time: u64) -> Result<(), NoMemory>
+    ensures kept { take (vec_len out.old) out.new.items ≡ out.old.items }
+    ensures appended { OnOk result (out.new.items ≡ out.old.items ++ text_of (head_lines n time)) }
+{
+    put_bytes(out, b"#-----------\n")?;
+    put_number(out, b"snapshot=", n)?;
+    put_bytes(out, b"#-----------\n")?;
+    put_number(out, b"time=", time)
+}
+
+fn put_sizes(out: &mut Vec<u8>, snap: &Snap) -> Result<(), NoMemory>
+    ensures kept { take (vec_len out.old) out.new.items ≡ out.old.items }
+    ensures appended { OnOk result (out.new.items ≡ out.old.items ++ text_of (size_lines snap.now)) }
+{
+    put_number(out, b"mem_heap_B=", snap.heap)?;
+    put_number(out, b"mem_heap_extra_B=", snap.extra)?;
+    put_number(out, b"mem_stacks_B=", snap.stacks)
+}
+
+fn put_tree(out: &mut Vec<u8>, tree: &Tree) -> Result<(), NoMemory>
+    ensures kept { take (vec_len out.old) out.new.items ≡ out.old.items }
+    ensures appended { OnOk result (out.new.items ≡ out.old.items ++ text_of (tree_lines (1 ∷ []) tree.now)) }
+{
+    let mut levels = Levels::new(*out.allocator());
+    levels.begin()?;
+    for line in tree.as_slice() {
+        put_blanks(out, levels.len().saturating_sub(1))?;
+        put_node(out, line)?;
+        levels.line(line.children)?;
+    }
+    Ok(())
+}
+
+fn put_node(out: &mut Vec<u8>, line: &TreeLine) -> Result<(), NoMemory>
+    ensures kept { take (vec_len out.old) out.new.items ≡ out.old.items }
+    ensures appended { OnOk result (out.new.items ≡ out.old.items ++ text_of (node_text line.now ∷ [])) }
+{
+    put_bytes(out, b"n")?;
+    put_dec(out, u64::from(line.children))?;
+    put_bytes(out, b": ")?;
+    put_dec(out, line.bytes)?;
+    put_line(out, b" ", line.label.bytes())
+}
+
+#[tactic(auto, using(crate::proofs::WrittenLemmas::blanks_more))]
+fn put_blanks(out: &mut Vec<u8>, count: usize) -> Result<(), NoMemory>
+    ensures kept { take (vec_len out.old) out.new.items ≡ out.old.items }
+    ensures appended { OnOk result (out.new.items ≡ out.old.items ++ blanks count) }
+{
+    for _ in 0..count {
+        put_bytes(out, b" ")?;
+    }
+    Ok(())
+}
+
+// A line of a key and a number.
+fn put_number(out: &mut Vec<u8>, key: &[u8], n: u64) -> Result<(), NoMemory>
+    ensures kept { take (vec_len out.old) out.new.items ≡ out.old.items }
+    ensures appended { OnOk result (out.new.items ≡ out.old.items ++ text_of ((key.now ++ decimal n) ∷ [])) }
+{
+    put_bytes(out, key)?;
+    put_dec(out, n)?;
+    put_bytes(out, b"\n")
+}
+
+// A line of a key and a text.
+fn put_line(out: &mut Vec<u8>, key: &[u8], text: &[u8]) -> Result<(), NoMemory>
+    ensures kept { take (vec_len out.old) out.new.items ≡ out.old.items }
+    ensures appended { OnOk result (out.new.items ≡ out.old.items ++ text_of ((key.now ++ text.now) ∷ [])) }
+{
+    put_bytes(out, key)?;
+    put_bytes(out, text)?;
+    put_bytes(out, b"\n")
+}
+
+fn unit_name(unit: TimeUnit) -> &'static [u8]
+    ensures { result.now ≡ unit_name unit }
+{
+    match unit {
+        TimeUnit::Instructions => b"i",
+        TimeUnit::Milliseconds => b"ms",
+        TimeUnit::Bytes => b"B",
+        TimeUnit::Events => b"e",
+    }
+}
+
+fn mark_name(mark: HeapTree) -> &'static [u8]
+    ensures { result.now ≡ mark_name mark }
+{
+    match mark {
+        HeapTree::Empty => b"empty",
+        HeapTree::Detailed => b"detailed",
+        HeapTree::Peak => b"peak",
+    }
+}
