@@ -8,6 +8,7 @@ ghost use Rattle.hp_num.specs.Hexadecimal.{hexadecimal};
 ghost use Rattle.hp_num.specs.ParsedHex.{parsed_hex};
 
 use crate::bytes::put_bytes;
+use crate::hex_digit::hex_digit_value;
 use crate::memory::NoMemory;
 
 /// The digits of the greatest number.
@@ -25,7 +26,7 @@ pub fn parse_hex(text: &[u8]) -> Option<u64>
     }
     let mut value = 0;
     for byte in text {
-        let digit = char::from(*byte).to_digit(16)?;
+        let digit = hex_digit_value(*byte)?;
         value = value * 16 + u64::from(digit);
     }
     Some(value)

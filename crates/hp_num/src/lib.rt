@@ -4,6 +4,7 @@
 
 mod bytes;
 mod decimal;
+mod hex_digit;
 mod hexadecimal;
 mod memory;
 mod text;

@@ -9,8 +9,8 @@ pub record Settings : Type 0 where
   pub detailed_freq : ℕ
   pub inaccuracy : ℕ
 
--- the entries, the least time between normal offers taken, the total of the last peak taken, and how many
--- normal offers were taken
+-- the entries, the least time from the last of them to the next normal offer taken, the total of the last peak
+-- taken, and how many normal offers were taken
 pub record Kept : Type 0 where
   pub entries : List SnapEntry
   pub interval : ℕ

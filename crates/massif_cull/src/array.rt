@@ -26,8 +26,9 @@ const WHOLE: u64 = 10_000;
 /// Snapshots in the order of their offers, each with a load of the caller's, fewer than a set maximum.
 /// It stands for the list of offers that were made to it.
 ///
-/// Contracts see the settings, the entries, the loads, the least time between normal offers that are taken, the
-/// total of the last peak taken, and the number of normal offers taken modulo `detailed_freq`.
+/// Contracts see the settings, the entries, the loads, the interval, which is the least time from the last entry to
+/// the next normal offer that is taken, the total of the last peak taken, and the number of normal offers taken modulo
+/// `detailed_freq`.
 #[derive(Drop)]
 pub struct SnapArray<T: Drop> {
     max: u32,
@@ -297,7 +298,7 @@ fn snapshot(offer: &Offer, kind: Kind) -> SnapEntry
     }
 }
 
-/// By how much a total must at least be above the last peak's not to be taken as one, in bytes.
+/// By how much at most a total may be above the last peak's and not be taken as one, in bytes.
 fn allowance(last_peak: u64, inaccuracy: u64) -> u64
     requires last_peak { last_peak ≤ 2 ^ 62 }
     requires inaccuracy { inaccuracy ≤ 10000 }

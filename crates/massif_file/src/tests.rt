@@ -249,6 +249,12 @@ fn refuses_faulty_lines(rt: HostRuntime) {
 }
 
 #[test]
+fn refuses_an_unknown_unit_after_the_command(rt: HostRuntime) {
+    let found = read(rt.alloc(), b"cmd: a\ntime_unit: q\n");
+    assert_eq!(rt; found.err(), Some((2, ProfileFault::BadHeader)));
+}
+
+#[test]
 fn takes_unusual_lines(rt: HostRuntime) {
     let rows: [(usize, &[u8]); 9] = [
         (1, b"desc:"),

@@ -19,7 +19,7 @@ returns-then-is_empty-clause-parsed c =
 pub returns-in_err-digit-clause-parsed : goal.returns-in_err-digit-clause-parsed
 returns-in_err-digit-clause-parsed c =
     c.from_residual.ensures ∙ sym (not_parsed c.args.text.now (not_hex_text_at c.args.text.now c.loop-byte.byte-index (omega arith)
-    (λ small. c.in_err-digit.ensures.value (subst (λ b. digit_value b < 16) (sym c.from.ensures) small))))
+    c.in_err-digit.ensures))
 
 pub overflow_mul-value : goal.overflow_mul-value
 overflow_mul-value c = omega (arith, c.loop-byte.invariant.value, room_for_digit c.args.text.now c.loop-byte.byte-index (omega arith) (omega arith) c.loop-byte.invariant.digits)
@@ -29,17 +29,16 @@ overflow_add-value c =
     omega (
       arith,
       c.loop-byte.invariant.value,
-      c.from-in-loop-byte.ensures,
-      c.in_ok-digit.ensures.value,
+      c.from.ensures,
+      c.in_ok-digit.ensures,
       room_for_digit c.args.text.now c.loop-byte.byte-index (omega arith) (omega arith) c.loop-byte.invariant.digits,
     )
 
 pub loop-byte-preserved : goal.loop-byte-preserved
 loop-byte-preserved c =
-    let digit : digit_value (get_or c.args.text.now c.loop-byte.byte-index 0) < 16 = subst (λ b. digit_value b < 16) c.from.ensures c.in_ok-digit.ensures.value.0 in
-    let read : c.from-in-loop-byte.result ≡ digit_value (get_or c.args.text.now c.loop-byte.byte-index 0) = c.from-in-loop-byte.ensures ∙ c.in_ok-digit.ensures.value.1 ∙ ap digit_value c.from.ensures in
+    let read : c.from.result ≡ digit_value (get_or c.args.text.now c.loop-byte.byte-index 0) = c.from.ensures ∙ c.in_ok-digit.ensures.1 in
     record {
-      digits = digits_more 16 c.args.text.now c.loop-byte.byte-index (omega arith) c.loop-byte.invariant.digits digit;
+      digits = digits_more 16 c.args.text.now c.loop-byte.byte-index (omega arith) c.loop-byte.invariant.digits c.in_ok-digit.ensures.0;
       value = omega (arith, digits_value_more 16 c.args.text.now c.loop-byte.byte-index (omega arith), c.loop-byte.invariant.value, read);
     }
 
