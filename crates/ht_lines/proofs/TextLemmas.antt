@@ -1,15 +1,15 @@
 -- Sized and plain texts, and the names of modules: what the functions give is what the relations say.
-use Rattle.std.proofs.Common.{◌≡◌, ◌≢◌, ℕ, ◌<◌, Bool, true, false, eqb, List, [], ◌∷◌, ◌++◌, length, Option, Some, None, IsTrue, refl, sym, ap, ◌∙◌, inl, inr, arith, ◌⊎◌}
+use Rattle.std.proofs.Common.{◌≡◌, ◌≢◌, ℕ, ◌<◌, Bool, true, false, eqb, List, [], ◌∷◌, ◌++◌, length, Option, Some, None, IsTrue, refl, sym, ap, ◌∙◌, subst, inl, inr, arith, ◌⊎◌, append-nil}
 use Rattle.std.specs.Prelude.{unwrap_or}
 use Rattle.std.specs.List.{AllByRecursion}
 use Rattle.std.proofs.lemmas.Bool.{false≢true}
 use Rattle.std.proofs.lemmas.Bool.Decides.{eqb_tells}
 use borrow.Author.Tests.{eqb-true, eq-eqb, ne_eqb}
 use Rattle.hp_num.specs.ParsedHex.{parsed_hex}
-use Rattle.ht_lines.specs.Fields.{is_blank, after_blanks, before_blank, from_blank, first_field, after_field, field_ends}
+use Rattle.ht_lines.specs.Fields.{is_blank, fields, after_blanks, before_blank, from_blank, first_field, after_field, field_ends}
 use Rattle.ht_lines.specs.SizedText.{IsSizedText, of_size, sized_text, text_of, IsText}
-use Rattle.ht_lines.proofs.FieldLemmas.{from_blank-ends, before_blank-from_blank}
-use Rattle.ht_lines.proofs.NumberLemmas.{number-no_blank}
+use Rattle.ht_lines.proofs.FieldLemmas.{from_blank-ends, before_blank-from_blank, fields-blank, fields-before_blank}
+use Rattle.ht_lines.proofs.NumberLemmas.{number-no_blank, number-not_empty}
 
 abbrev pub NoBlank : List ℕ → Type 0
 NoBlank bs = AllByRecursion (λ b. b ≢ 32) bs
@@ -46,6 +46,25 @@ module _ (blanks f after : List ℕ) (all : AllBlank blanks) (some : 0 < length 
 
   pub after_field-at : after_field (blanks ++ (f ++ after)) ≡ after
   after_field-at = ap from_blank whole ∙ from_blank-at f after none ends
+
+-- a number after one blank is the first field
+pub fields-number : (digits after : List ℕ) (n : ℕ) → parsed_hex digits ≡ Some n → IsTrue (field_ends after) → fields (32 ∷ digits ++ after) ≡ digits ∷ fields after
+fields-number digits after n is ends =
+    let none = number-no_blank digits n is in
+    let front = before_blank-at digits after none ends in
+    let back = from_blank-at digits after none ends in
+    fields-blank 32 (digits ++ after) refl
+    ∙ fields-before_blank (digits ++ after) (subst (λ l. 0 < length l) (sym front) (number-not_empty digits n is))
+    ∙ (λ i. front i ∷ fields (back i))
+
+fields-nil : fields [] ≡ []
+unfolding fields
+fields-nil = refl
+
+-- and the only one, where nothing follows
+pub fields-lone_number : (digits : List ℕ) (n : ℕ) → parsed_hex digits ≡ Some n → fields (32 ∷ digits) ≡ digits ∷ []
+fields-lone_number digits n is =
+    ap (λ l. fields (32 ∷ l)) (sym (append-nil digits)) ∙ fields-number digits [] n is refl ∙ ap (λ l. digits ∷ l) fields-nil
 
 -- how a text is made of its parts
 

@@ -14,9 +14,8 @@ use Rattle.ht_lines.specs.Kinds.{IsOther, after_kind, plain_text, fields_of}
 use Rattle.ht_lines.specs.Reads.{Reads}
 use Rattle.ht_lines.specs.Reading.{reading}
 use Rattle.ht_lines.specs.Written.{spelled, spelled_text, written, AreWords, IsWritable}
-use Rattle.ht_lines.proofs.FieldLemmas.{fields-blank, fields-before_blank}
 use Rattle.ht_lines.proofs.NumberLemmas.{number-no_blank, number-not_empty, AreNumbers-length}
-use Rattle.ht_lines.proofs.TextLemmas.{before_blank-at, from_blank-at}
+use Rattle.ht_lines.proofs.TextLemmas.{before_blank-at, from_blank-at, fields-number}
 use Rattle.ht_lines.proofs.NameLemmas.{sized_name-is}
 use Rattle.ht_lines.proofs.InstructionLines.{IsInstructionCount}
 use Rattle.ht_lines.proofs.LineSides.{reading-item}
@@ -35,13 +34,7 @@ fields-nil = refl
 module _ (reads : (n : ℕ) → n < 2 ^ 64 → parsed_hex (hexadecimal n) ≡ Some n) where
   -- what is spelled is fields again
   fields-spelled : (n : ℕ) (ns : List ℕ) → n < 2 ^ 64 → fields (spelled (n ∷ ns)) ≡ hexadecimal n ∷ fields (spelled ns)
-  fields-spelled n ns h =
-      let none = number-no_blank (hexadecimal n) n (reads n h) in
-      let front = before_blank-at (hexadecimal n) (spelled ns) none (spelled-ends ns) in
-      let back = from_blank-at (hexadecimal n) (spelled ns) none (spelled-ends ns) in
-      fields-blank 32 (hexadecimal n ++ spelled ns) refl
-      ∙ fields-before_blank (hexadecimal n ++ spelled ns) (subst (λ l. 0 < length l) (sym front) (number-not_empty (hexadecimal n) n (reads n h)))
-      ∙ (λ i. front i ∷ fields (back i))
+  fields-spelled n ns h = fields-number (hexadecimal n) (spelled ns) n (reads n h) (spelled-ends ns)
 
   pub spelled-AreNumbers : (ns : List ℕ) → AreWords ns → AreNumbers (fields (spelled ns)) ns
   spelled-AreNumbers [] h = ap (map parsed_hex) fields-nil

@@ -1,7 +1,8 @@
 //! The kinds of lines whose fields are numbers alone, a fixed count of them but for versions.
 //!
 //! Each call is given what follows the kind.
-ghost use Rattle.std.specs.Prelude.{◌≡◌, ℕ, ◌^◌, ◌<◌, ◌≤◌, length, IfOk, MatchResult, Result, Ok, Err};
+ghost use Rattle.std.specs.Prelude.{◌≡◌, ℕ, ◌^◌, ◌<◌, ◌≤◌, List, [], ◌∷◌, length, Some, IfOk, IfSome, MatchResult, Result, Ok, Err};
+ghost use Rattle.hp_num.specs.ParsedHex.{parsed_hex};
 ghost use Rattle.ht_lines.specs.Fields.{fields};
 ghost use Rattle.ht_lines.specs.Content.{allocation_line, free_line, info_line, node_line, resident_line, system_line};
 ghost use Rattle.ht_lines.specs.Reading.{allocation_of, clock_from, one_number, say, two_numbers, version_of};
@@ -14,8 +15,31 @@ use hp_num::parse_hex;
 /// The greatest clock value in milliseconds.
 const MAX_MS: u64 = 1 << 62;
 
+/// The number of a text that is one blank and a number, as the lines of events are written: one walk over the text.
+fn lone_number(rest: &[u8]) -> Option<u64>
+    ensures { IfSome result (λ n. (digits : List ℕ) × (fields rest.now ≡ digits ∷ []) × (parsed_hex digits ≡ Some n)) }
+{
+    let [blank, digits @ ..] = rest else {
+        return None;
+    };
+    if *blank != b' ' {
+        return None;
+    }
+    parse_hex(digits)
+}
+
 /// The number of a line that has one.
 pub fn one_number(rest: &[u8]) -> Result<u64, Malformed>
+    ensures { result ≡ one_number (fields rest.now) }
+{
+    match lone_number(rest) {
+        Some(number) => Ok(number),
+        None => one_number_by_fields(rest),
+    }
+}
+
+/// The number of a line that has one, field by field.
+fn one_number_by_fields(rest: &[u8]) -> Result<u64, Malformed>
     ensures { result ≡ one_number (fields rest.now) }
 {
     let Some((field, after)) = next_field(rest) else {
@@ -84,14 +108,22 @@ pub fn read_allocation(rest: &[u8]) -> Result<Item<'_>, Malformed>
     ensures exact { Gives result (say allocation_line (allocation_of (fields rest.now))) }
     ensures whole { IfOk result (λ item. IsWhole item) }
 {
+    let info = match lone_number(rest) {
+        Some(info) => info,
+        None => allocation_by_fields(rest)?,
+    };
+    Ok(Item::Alloc { info })
+}
+
+/// The info of an allocation, field by field.
+fn allocation_by_fields(rest: &[u8]) -> Result<u64, Malformed>
+    ensures { result ≡ allocation_of (fields rest.now) }
+{
     let Some((info, after)) = next_field(rest) else {
         return Err(Malformed::MissingField);
     };
     let Some((_, after)) = next_field(after) else {
-        return match parse_hex(info) {
-            Some(info) => Ok(Item::Alloc { info }),
-            None => Err(Malformed::BadField),
-        };
+        return parse_hex(info).ok_or(Malformed::BadField);
     };
     let Some((_, after)) = next_field(after) else {
         return Err(Malformed::ExtraField);

@@ -47,13 +47,27 @@ pub fn read_item(form: Form, version: u8, line: &[u8]) -> Result<Item<'_>, Malfo
     read_line(version, line)
 }
 
-/// The first byte of each known kind of line but for comments.
-const KINDS: &[u8] = b"vxXSIsmita+-cRA";
-
+/// Whether lines of a known kind but comments begin with this byte.
 fn is_kind(kind: u8) -> bool
     ensures { result ≡ is_kind kind }
 {
-    KINDS.contains(&kind)
+    matches!(
+        kind,
+        b'v' | b'x'
+            | b'X'
+            | b'S'
+            | b'I'
+            | b's'
+            | b'm'
+            | b'i'
+            | b't'
+            | b'a'
+            | b'+'
+            | b'-'
+            | b'c'
+            | b'R'
+            | b'A'
+    )
 }
 
 /// The item of a line.
