@@ -1,10 +1,11 @@
 -- What an item says.
-use Rattle.std.specs.Prelude.{◌≡◌, ◌+◌, ◌*◌, length, IsTrue, Result, Ok, Err}
+use Rattle.std.specs.Prelude.{◌≡◌, ℕ, ◌+◌, ◌*◌, List, length, IsTrue, IfSome, Result, Ok, Err}
 use Rattle.ht_lines.specs.declared.item.Item.{Item}
 use Rattle.ht_lines.specs.declared.item.Item.TheVariants.{Version, Executable, Command, System, Str, ModuleClear, Module, Instr, Node, Info, Alloc, Free, RawAlloc, RawFree, Clock, Rss, Attached, Suppress, Comment, Other}
 use Rattle.ht_lines.specs.declared.item.Malformed.{Malformed}
 use Rattle.ht_lines.specs.Content.{Content, version_line, executable_line, command_line, system_line, string_line, clear_line, module_line, instruction_line, node_line, info_line, allocation_line, free_line, raw_allocation_line, raw_free_line, clock_line, resident_line, attached_line, suppression_line, comment_line, other_line}
-use Rattle.ht_lines.specs.Fields.{fields, numbers, all_numbers}
+use Rattle.ht_lines.specs.Fields.{after_field, fields, numbers, all_numbers}
+use Rattle.ht_lines.specs.ModuleName.{module_name}
 
 abbrev pub content : Item → Content
 content (Version heaptrack file) = version_line heaptrack file
@@ -33,6 +34,12 @@ abbrev pub IsWhole : Item → Type 0
 IsWhole (Module name start ranges tail) = IsTrue (all_numbers (fields tail.now)) × (length (numbers tail.now) ≡ 2 * ranges)
 IsWhole (Instr ip module_string count tail) = IsTrue (all_numbers (fields tail.now)) × (length (numbers tail.now) + 2 ≡ count)
 IsWhole _ = Unit {0}
+
+-- the tail is what follows the fields before it; rest follows the kind
+abbrev pub HasTail : ℕ → List ℕ → Item → Type 0
+HasTail version rest (Module name start ranges tail) = IfSome (module_name version rest) (λ found. tail.now ≡ after_field found.1)
+HasTail version rest (Instr ip module_string count tail) = tail.now ≡ after_field (after_field rest)
+HasTail version rest _ = Unit {0}
 
 -- the result is what is read, up to where the texts lie
 abbrev pub Gives : Result Item Malformed → Result Content Malformed → Type 0

@@ -2,7 +2,7 @@
 use Rattle.std.specs.Prelude.{ℕ}
 use Rattle.ht_lines.specs.Content.{Content, version_line, system_line, instruction_line, node_line, info_line, allocation_line, free_line, clock_line, resident_line, other_line}
 
--- the kind, and a blank and a digit for each field that it has in any case
+-- the kind, and in a line of numbers alone a blank and a digit for each field that it has in any case
 abbrev pub least_length : Content → ℕ
 least_length (version_line heaptrack file) = 3
 least_length (system_line page pages) = 5

@@ -37,11 +37,14 @@ pub fn next_field(text: &[u8]) -> Option<(&[u8], &[u8])>
 /// Takes the number in the first field off a tail: that number, and what follows the field. `None` where there is no
 /// field. A field that is no number, which the tail of an item never has, gives 0.
 ///
-/// It gives the numbers of a tail one after another in one walk, where `field` seeks each from the front.
+/// It gives the numbers of a tail one after another in one walk, where `field` seeks each from the front. It takes no
+/// memory.
 pub fn next_number(text: &[u8]) -> Option<(u64, &[u8])>
     ensures none { IfNone result (fields text.now ≡ []) }
     ensures no_number { IfNone result (numbers text.now ≡ []) }
     ensures some { IfSome result (λ found. numbers text.now ≡ found.0 ∷ numbers found.1.now) }
+    ensures first { IfSome result (λ found. found.0 ≡ number (first_field text.now)) }
+    ensures after { IfSome result (λ found. found.1.now ≡ after_field text.now) }
     ensures count { IfSome result (λ found. length (fields text.now) ≡ length (fields found.1.now) + 1) }
     ensures all { IfSome result (λ found. IsTrue (all_numbers (fields text.now)) → IsTrue (all_numbers (fields found.1.now))) }
     ensures shorter { IfSome result (λ found. length found.1.now < length text.now) }
@@ -69,7 +72,7 @@ pub fn count_fields(text: &[u8]) -> FieldCount
 
 /// The number in the field of a tail at place `k`, from 0. `None` where there is no such field, or it is no number.
 ///
-/// A tail is one of an item: the ranges of a module, or the frames of an instruction.
+/// A tail is one of an item: the ranges of a module, or the frames of an instruction. It takes no memory.
 pub fn field(tail: &[u8], k: u32) -> Option<u64>
     ensures exact { result ≡ option_and_then parsed_hex (slice_get (fields tail.now) k) }
     ensures number { IsTrue (all_numbers (fields tail.now)) → result ≡ slice_get (numbers tail.now) k }

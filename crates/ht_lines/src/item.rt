@@ -6,26 +6,29 @@ use thiserror::Error;
 /// Whether a trace was interpreted, so that its lines refer to tables, or is as it was recorded.
 #[derive(Clone, Copy, Debug, PartialEq, Eq)]
 pub enum Form {
+    /// As `heaptrack` records it: lines give addresses and sizes themselves.
     Raw,
+    /// As its interpreter leaves it: lines refer to the strings, instructions, nodes and infos before them.
     Interpreted,
 }
 
 /// Why a line is refused.
 #[derive(Clone, Copy, Debug, PartialEq, Eq, Error)]
 pub enum Malformed {
-    /// A byte other than a blank follows the kind, a field is no number, or a number is too large.
+    /// A byte other than a blank follows the kind, a field is no number, a number is too large, or a module's range
+    /// ends above 2^64 - 1.
     #[error("bad field")]
     BadField,
-    /// The line has too few fields.
+    /// The line has too few fields, or a number of them that the kind never has, where more could make it one.
     #[error("missing field")]
     MissingField,
     /// The line has too many fields.
     #[error("extra field")]
     ExtraField,
-    /// The line is one of a raw trace.
+    /// The line is an allocation of a raw trace.
     #[error("raw line")]
     NotInterpreted,
-    /// The line is one of an interpreted trace.
+    /// The line is one of an interpreted trace, where a raw one is read. Lines of interpreted traces never get it.
     #[error("interpreted line")]
     NotRaw,
     /// The file version isn't 1 to 3.
@@ -36,7 +39,8 @@ pub enum Malformed {
 /// What one line says. Texts, names and tails are parts of the line.
 #[derive(Clone, Copy, Debug, PartialEq, Eq)]
 pub enum Item<'a> {
-    /// `v`: the version of heaptrack that wrote the trace, and that of the file format.
+    /// `v`: the version of heaptrack that wrote the trace, and that of the file, from 1 to 3, which is 1 where the
+    /// line doesn't give it.
     Version {
         heaptrack: u64,
         file: u8,
@@ -60,15 +64,17 @@ pub enum Item<'a> {
     },
     /// `m -`: all modules are cleared.
     ModuleClear,
-    /// `m`: a module, where it is loaded, and its ranges. The tail has their offsets and sizes in bytes.
+    /// `m`: a module, the address where it starts, and how many ranges it has. The tail has an offset from the start
+    /// and a size in bytes for each range.
     Module {
         name: &'a [u8],
         start: u64,
         ranges: u32,
         tail: &'a [u8],
     },
-    /// `i`: an instruction, numbered from 1, and the string of its module. The tail has the frames. `fields` counts
-    /// all fields after the kind.
+    /// `i`: an instruction, numbered from 1: its address, and the string of its module, 0 for none. The tail has the
+    /// frames from the innermost on, each as a function, a file and a line, where the last may be a function alone.
+    /// `fields` counts all fields after the kind.
     Instr {
         ip: u64,
         module: u64,
@@ -103,7 +109,7 @@ pub enum Item<'a> {
     RawFree {
         ptr: u64,
     },
-    /// `c`: milliseconds since the start.
+    /// `c`: milliseconds since the start, at most 2^62.
     Clock {
         ms: u64,
     },

@@ -6,7 +6,7 @@ ghost use Rattle.hp_num.specs.ParsedHex.{parsed_hex};
 ghost use Rattle.ht_lines.specs.Fields.{fields};
 ghost use Rattle.ht_lines.specs.Content.{allocation_line, free_line, info_line, node_line, resident_line, system_line};
 ghost use Rattle.ht_lines.specs.Reading.{allocation_of, clock_from, one_number, say, two_numbers, version_of};
-ghost use Rattle.ht_lines.specs.ItemContent.{Gives, IsWhole};
+ghost use Rattle.ht_lines.specs.ItemContent.{Gives, HasTail, IsWhole};
 
 use crate::fields::next_field;
 use crate::item::{Item, Malformed};
@@ -77,6 +77,7 @@ pub fn two_numbers(rest: &[u8]) -> Result<(u64, u64), Malformed>
 pub fn read_version(rest: &[u8]) -> Result<Item<'_>, Malformed>
     ensures exact { Gives result (version_of (fields rest.now)) }
     ensures whole { IfOk result (λ item. IsWhole item) }
+    ensures tail { (version : ℕ) → IfOk result (λ item. HasTail version rest.now item) }
 {
     let Some((heaptrack, after)) = next_field(rest) else {
         return Err(Malformed::MissingField);
@@ -107,6 +108,7 @@ pub fn read_version(rest: &[u8]) -> Result<Item<'_>, Malformed>
 pub fn read_allocation(rest: &[u8]) -> Result<Item<'_>, Malformed>
     ensures exact { Gives result (say allocation_line (allocation_of (fields rest.now))) }
     ensures whole { IfOk result (λ item. IsWhole item) }
+    ensures tail { (version : ℕ) → IfOk result (λ item. HasTail version rest.now item) }
 {
     let info = match lone_number(rest) {
         Some(info) => info,
@@ -138,6 +140,7 @@ fn allocation_by_fields(rest: &[u8]) -> Result<u64, Malformed>
 pub fn read_clock(rest: &[u8]) -> Result<Item<'_>, Malformed>
     ensures exact { Gives result (clock_from (one_number (fields rest.now))) }
     ensures whole { IfOk result (λ item. IsWhole item) }
+    ensures tail { (version : ℕ) → IfOk result (λ item. HasTail version rest.now item) }
 {
     let ms = one_number(rest)?;
     if ms > MAX_MS {
@@ -150,6 +153,7 @@ pub fn read_clock(rest: &[u8]) -> Result<Item<'_>, Malformed>
 pub fn read_system(rest: &[u8]) -> Result<Item<'_>, Malformed>
     ensures exact { Gives result (say (λ x. system_line x.0 x.1) (two_numbers (fields rest.now))) }
     ensures whole { IfOk result (λ item. IsWhole item) }
+    ensures tail { (version : ℕ) → IfOk result (λ item. HasTail version rest.now item) }
 {
     let (page, pages) = two_numbers(rest)?;
     Ok(Item::System { page, pages })
@@ -159,6 +163,7 @@ pub fn read_system(rest: &[u8]) -> Result<Item<'_>, Malformed>
 pub fn read_node(rest: &[u8]) -> Result<Item<'_>, Malformed>
     ensures exact { Gives result (say (λ x. node_line x.0 x.1) (two_numbers (fields rest.now))) }
     ensures whole { IfOk result (λ item. IsWhole item) }
+    ensures tail { (version : ℕ) → IfOk result (λ item. HasTail version rest.now item) }
 {
     let (ip, parent) = two_numbers(rest)?;
     Ok(Item::Node { ip, parent })
@@ -168,6 +173,7 @@ pub fn read_node(rest: &[u8]) -> Result<Item<'_>, Malformed>
 pub fn read_info(rest: &[u8]) -> Result<Item<'_>, Malformed>
     ensures exact { Gives result (say (λ x. info_line x.0 x.1) (two_numbers (fields rest.now))) }
     ensures whole { IfOk result (λ item. IsWhole item) }
+    ensures tail { (version : ℕ) → IfOk result (λ item. HasTail version rest.now item) }
 {
     let (size, trace) = two_numbers(rest)?;
     Ok(Item::Info { size, trace })
@@ -177,6 +183,7 @@ pub fn read_info(rest: &[u8]) -> Result<Item<'_>, Malformed>
 pub fn read_free(rest: &[u8]) -> Result<Item<'_>, Malformed>
     ensures exact { Gives result (say free_line (one_number (fields rest.now))) }
     ensures whole { IfOk result (λ item. IsWhole item) }
+    ensures tail { (version : ℕ) → IfOk result (λ item. HasTail version rest.now item) }
 {
     let info = one_number(rest)?;
     Ok(Item::Free { info })
@@ -186,6 +193,7 @@ pub fn read_free(rest: &[u8]) -> Result<Item<'_>, Malformed>
 pub fn read_resident(rest: &[u8]) -> Result<Item<'_>, Malformed>
     ensures exact { Gives result (say resident_line (one_number (fields rest.now))) }
     ensures whole { IfOk result (λ item. IsWhole item) }
+    ensures tail { (version : ℕ) → IfOk result (λ item. HasTail version rest.now item) }
 {
     let pages = one_number(rest)?;
     Ok(Item::Rss { pages })

@@ -3,12 +3,12 @@
 //! No reference to another line is checked here.
 ghost use Rattle.std.specs.Prelude.{◌≡◌, ℕ, ◌^◌, ◌<◌, ◌≤◌, length, IfErr, IfOk, Ok, Err};
 ghost use Rattle.ht_lines.specs.Content.{Content};
-ghost use Rattle.ht_lines.specs.Kinds.{is_kind};
+ghost use Rattle.ht_lines.specs.Kinds.{after_kind, is_kind};
 ghost use Rattle.ht_lines.specs.LeastLength.{least_length};
 ghost use Rattle.ht_lines.specs.Reading.{reading, reading_kind};
 ghost use Rattle.ht_lines.specs.Reads.{Reads};
 ghost use Rattle.ht_lines.specs.Refuses.{Refuses};
-ghost use Rattle.ht_lines.specs.ItemContent.{Gives, IsWhole, content};
+ghost use Rattle.ht_lines.specs.ItemContent.{Gives, HasTail, IsWhole, content};
 ghost use Rattle.ht_lines.specs.Written.{IsWritable};
 ghost use Rattle.ht_lines.specs.declared.item.Malformed.{Malformed};
 
@@ -20,14 +20,25 @@ use crate::numbers::{
 use crate::tailed::{read_instruction, read_module};
 use crate::text::{field_ends, text_of};
 
-/// Reads one line of an interpreted trace, without its line feed, in a file version from 1 to 3.
+/// Reads one line of an interpreted trace, without its line feed, in a file version from 1 to 3. The line must have
+/// fewer than 2^32 bytes, and the form must be `Interpreted`: the lines of raw traces aren't read yet.
 ///
-/// The texts, the name and the tail of the item are parts of the line. A tail has numbers alone, as many as the item
-/// says; `field` gives them. It takes no memory.
+/// The texts, the name and the tail of the item are parts of the line. A tail is what follows the fields before it; it
+/// has numbers alone, as many as the item says, and `field` and `next_number` give them. It takes no memory.
 ///
 /// # Errors
 ///
-/// A wrong second byte comes first, then the number of fields, then their content from the left.
+/// The byte after the kind is judged first, then the number of fields, then their content from the left.
+///
+/// - `BadField`: a byte other than a blank follows a known kind but `#`; a field is no number of 1 to 16 hexadecimal
+///   digits; a clock value is above 2^62; start, offset and size of a module's range are together above 2^64 - 1.
+/// - `MissingField`: there are too few fields; after `i` none, or 1, 4, 7 and so on; after `m` no name, or after its
+///   name an even number of fields, but for the name `-` alone.
+/// - `ExtraField`: there are too many fields.
+/// - `NotInterpreted`: `+` with exactly three fields, whatever they are, as an allocation of a raw trace has them.
+/// - `BadVersion`: the file version of a `v` line is a number and not 1 to 3.
+///
+/// `NotRaw` never comes from a line of an interpreted trace.
 pub fn read_item(form: Form, version: u8, line: &[u8]) -> Result<Item<'_>, Malformed>
     requires interpreted { form ≡ Form.Interpreted }
     requires low { 1 ≤ version }
@@ -35,6 +46,7 @@ pub fn read_item(form: Form, version: u8, line: &[u8]) -> Result<Item<'_>, Malfo
     requires short { length line.now < 2 ^ 32 }
     ensures exact { Gives result (reading version line.now) }
     ensures whole { IfOk result (λ item. IsWhole item) }
+    ensures tail { IfOk result (λ item. HasTail version (after_kind line.now) item) }
     ensures length { IfOk result (λ item. least_length (content item) ≤ length line.now) }
     ensures writable { IfOk result (λ item. IsWritable version (content item)) }
 
@@ -76,6 +88,7 @@ fn read_line(version: u8, line: &[u8]) -> Result<Item<'_>, Malformed>
     requires { length line.now < 2 ^ 32 }
     ensures exact { Gives result (reading version line.now) }
     ensures whole { IfOk result (λ item. IsWhole item) }
+    ensures tail { IfOk result (λ item. HasTail version (after_kind line.now) item) }
 {
     let [kind, rest @ ..] = line else {
         return Ok(Item::Other { line });
@@ -98,6 +111,7 @@ fn read_kind(version: u8, kind: u8, rest: &[u8]) -> Result<Item<'_>, Malformed>
     requires { length rest.now < 2 ^ 32 }
     ensures exact { Gives result (reading_kind version kind rest.now) }
     ensures whole { IfOk result (λ item. IsWhole item) }
+    ensures tail { IfOk result (λ item. HasTail version rest.now item) }
 {
     match kind {
         b'v' => read_version(rest),

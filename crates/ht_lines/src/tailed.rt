@@ -1,11 +1,11 @@
 //! The two kinds of lines whose items have a tail: modules with their ranges, and instructions with their frames.
 //!
 //! Each call is given what follows the kind. That all numbers of a tail are numbers is tested here.
-ghost use Rattle.std.specs.Prelude.{◌≡◌, ℕ, ◌^◌, ◌<◌, ◌≤◌, length, IfOk};
+ghost use Rattle.std.specs.Prelude.{◌≡◌, ℕ, ◌^◌, ◌<◌, ◌≤◌, List, length, Some, IfOk};
 ghost use Rattle.ht_lines.specs.Fields.{fields, numbers};
 ghost use Rattle.ht_lines.specs.ModuleName.{module_name};
 ghost use Rattle.ht_lines.specs.Reading.{instruction_of, module_of, named_module, ranges_fit};
-ghost use Rattle.ht_lines.specs.ItemContent.{Gives, IsWhole};
+ghost use Rattle.ht_lines.specs.ItemContent.{Gives, HasTail, IsWhole};
 
 use crate::fields::{count_fields, next_number};
 use crate::item::{Item, Malformed};
@@ -17,6 +17,7 @@ pub fn read_instruction(rest: &[u8]) -> Result<Item<'_>, Malformed>
     requires { length rest.now < 2 ^ 32 }
     ensures exact { Gives result (instruction_of (fields rest.now)) }
     ensures whole { IfOk result (λ item. IsWhole item) }
+    ensures tail { (version : ℕ) → IfOk result (λ item. HasTail version rest.now item) }
 {
     let counted = count_fields(rest);
     if counted.count == 0 || counted.count % 3 == 1 {
@@ -44,6 +45,7 @@ pub fn read_module(version: u8, rest: &[u8]) -> Result<Item<'_>, Malformed>
     requires { length rest.now < 2 ^ 32 }
     ensures exact { Gives result (module_of (module_name version rest.now)) }
     ensures whole { IfOk result (λ item. IsWhole item) }
+    ensures tail { IfOk result (λ item. HasTail version rest.now item) }
 {
     match module_name(version, rest) {
         Some((name, tail)) => read_named_module(name, tail),
@@ -57,6 +59,7 @@ fn read_named_module<'a>(name: &'a [u8], tail: &'a [u8]) -> Result<Item<'a>, Mal
     requires { length tail.now < 2 ^ 32 }
     ensures exact { Gives result (named_module name.now tail.now) }
     ensures whole { IfOk result (λ item. IsWhole item) }
+    ensures tail { (version : ℕ) (rest : List ℕ) → module_name version rest ≡ Some (name.now, tail.now) → IfOk result (λ item. HasTail version rest item) }
 {
     let counted = count_fields(tail);
     if counted.count == 0 && matches!(name, [b'-']) {

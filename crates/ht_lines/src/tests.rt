@@ -232,6 +232,120 @@ fn refuses_malformed_lines(rt: HostRuntime) {
 }
 
 #[test]
+fn reads_unusual_lines(rt: HostRuntime) {
+    let lines: [(u8, &[u8], Item); 16] = [
+        (1, b"s 4 main", Item::Str { text: b"4 main" }),
+        (
+            1,
+            b"m 3 a b 10",
+            Item::Module {
+                name: b"3",
+                start: 10,
+                ranges: 1,
+                tail: b" b 10",
+            },
+        ),
+        (
+            2,
+            b"m a 1 fffffffffffffffe 0",
+            Item::Module {
+                name: b"a",
+                start: 1,
+                ranges: 1,
+                tail: b" fffffffffffffffe 0",
+            },
+        ),
+        (
+            2,
+            b"i 1 1 2",
+            Item::Instr {
+                ip: 1,
+                module: 1,
+                fields: 3,
+                tail: b" 2",
+            },
+        ),
+        (
+            2,
+            b"i 1 1 2 3 4 5 6 7",
+            Item::Instr {
+                ip: 1,
+                module: 1,
+                fields: 8,
+                tail: b" 2 3 4 5 6 7",
+            },
+        ),
+        (3, b"m -", Item::ModuleClear),
+        (3, b"m 1 - ", Item::ModuleClear),
+        (
+            3,
+            b"m 1 - 10",
+            Item::Module {
+                name: b"-",
+                start: 16,
+                ranges: 0,
+                tail: b"",
+            },
+        ),
+        (
+            3,
+            b"m  3 a b 10",
+            Item::Module {
+                name: b"a b",
+                start: 16,
+                ranges: 0,
+                tail: b"",
+            },
+        ),
+        (
+            3,
+            b"m 0 10",
+            Item::Module {
+                name: b"0",
+                start: 16,
+                ranges: 0,
+                tail: b"",
+            },
+        ),
+        (3, b"s 5 main", Item::Str { text: b"5 main" }),
+        (
+            3,
+            b"s A 0123456789",
+            Item::Str {
+                text: b"0123456789",
+            },
+        ),
+        (2, b"A", Item::Attached),
+        (2, b"#", Item::Comment { text: b"" }),
+        (2, b"zx", Item::Other { line: b"zx" }),
+        (2, b"+   1  ", Item::Alloc { info: 1 }),
+    ];
+    for (version, line, item) in lines {
+        assert_eq!(rt; read(&rt, version, line), Ok(item), "at {line:?}");
+    }
+}
+
+#[test]
+fn refuses_more_malformed_lines(rt: HostRuntime) {
+    let lines: [(u8, &[u8], Malformed); 11] = [
+        (2, b"m a 0 ffffffffffffffff 1", Malformed::BadField),
+        (3, b"m 2 - ", Malformed::MissingField),
+        (3, b"m 3 a b", Malformed::MissingField),
+        (3, b"m 1 -x", Malformed::BadField),
+        (2, b"+", Malformed::MissingField),
+        (2, b"-", Malformed::MissingField),
+        (2, b"c", Malformed::MissingField),
+        (2, b"- 1 2", Malformed::ExtraField),
+        (2, b"c 1 2", Malformed::ExtraField),
+        (2, b"s\tmain", Malformed::BadField),
+        (2, b"- 1g", Malformed::BadField),
+    ];
+    for (version, line, fault) in lines {
+        assert_eq!(rt; read(&rt, version, line), Err(fault), "at {line:?}");
+    }
+}
+
+#[test]
 fn gives_the_numbers_of_a_tail(rt: HostRuntime) {
     assert_eq!(rt; field(b" 2 4 14", 0), Some(2));
     assert_eq!(rt; field(b" 2 4 14", 2), Some(20));
@@ -276,5 +390,15 @@ fn writes_the_one_form(rt: HostRuntime) -> Result<(), Fail> {
         put_item(version, &item, &mut out)?;
         assert_eq!(rt; out.as_slice(), form, "at {line:?}");
     }
+    Ok(())
+}
+
+#[test]
+fn appends_lines(rt: HostRuntime) -> Result<(), Fail> {
+    let mut out = Vec::new(rt.alloc());
+    put_item(3, &Item::Comment { text: b"" }, &mut out)?;
+    let module = read(&rt, 3, b"m 3 a b 010").expect(&rt, "an item");
+    put_item(3, &module, &mut out)?;
+    assert_eq!(rt; out.as_slice(), b"#\nm 3 a b 10\n".as_slice());
     Ok(())
 }

@@ -18,8 +18,10 @@ use hp_num::{NoMemory, hexadecimal_texts, put_bytes, put_hex};
 
 /// Appends the line of an item and its line feed. On `NoMemory`, `out` holds what it held before.
 ///
-/// The line is the one written form of what the item says in the file version. Read in that version, the form of
-/// what is read of some line says the same again.
+/// The line is the one written form of what the item says in the file version: texts and names stand after their size
+/// in version 3 and alone in every other, numbers in their shortest form, one blank between fields. The numbers of the
+/// tail are written, and not how many the item says. The line of an item that `read_item` gave in this version is
+/// read in it as an item with the same content.
 pub fn put_item(version: u8, item: &Item, out: &mut Vec<u8>) -> Result<(), NoMemory>
     ensures appended { OnOk result (out.new.items ≡ out.old.items ++ (written version (content item.now) ++ (10 ∷ []))) }
     ensures unchanged { OnErr result (out.new.items ≡ out.old.items) }
