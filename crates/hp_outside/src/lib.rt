@@ -1,5 +1,6 @@
-//! Files and outputs: what a program reads from and writes to, as two traits, with the system's
-//! own, those in memory that can fail at named calls, and those that never fail.
+//! Files, their lines, and outputs: what a program reads from and writes to, as two traits, with the
+//! system's own, those in memory that can fail at named calls, and those that never fail; and files
+//! read whole or line by line, within limits.
 #![tactic(auto)]
 
 mod calls;

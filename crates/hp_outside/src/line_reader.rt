@@ -1,6 +1,6 @@
 //! The lines of a file, taken from a store in reads of any length. Which bytes are one line is
 //! judged elsewhere; how bytes are kept between reads too.
-ghost use Rattle.std.specs.Prelude.{◌≡◌, ◌+◌, ◌-◌, ◌<◌, ◌≤◌, [], ◌⊎◌, None, Some, Option, IsTrue, IfOk, IfErr, IfSome, IfNone, IsSome, OnOk, OnErr, ◌↔◌, is_some, is_ok, true, false, length, take, drop, if◌then◌else◌};
+ghost use Rattle.std.specs.Prelude.{◌≡◌, ◌≢◌, ◌+◌, ◌-◌, ◌<◌, ◌≤◌, [], ◌⊎◌, None, Some, Option, IsTrue, IfOk, IfErr, IfSome, IfNone, IsSome, OnOk, OnErr, ◌↔◌, is_some, is_ok, true, false, length, take, drop, if◌then◌else◌};
 ghost use Rattle.std.specs.Io.KnownBytes.{prepend_known};
 ghost use Rattle.hp_outside.specs.Faults.{Rose};
 ghost use Rattle.hp_outside.specs.Taken.{WhereTold};
@@ -56,7 +56,8 @@ impl Model for LineReader {
 }
 
 impl LineReader {
-    /// A reader with room for lines of `limits.line` bytes.
+    /// A reader with room for lines of `limits.line` bytes. It reserves 2 * `limits.line` + 65,536
+    /// bytes, and answers `NoMemory` where memory is wanting.
     pub fn new(alloc: Global, limits: &Limits) -> Result<LineReader, NoMemory>
         ensures input { IfOk result (λ reader. reader.input ≡ limits.now.input) }
         ensures line { IfOk result (λ reader. reader.line_limit ≡ limits.now.line) }
@@ -75,7 +76,9 @@ impl LineReader {
         })
     }
 
-    /// Begins a new file, and forgets an earlier fault.
+    /// Begins a new file, the one that is current in the store at the next call of `next`, and
+    /// forgets an earlier fault. Bytes that were taken and not given are dropped, and the count of
+    /// lines begins again at 0.
     pub fn start(&mut self)
         ensures { self.new ≡ record self.old { passed = 0; kept = []; ended = false; number = 0; given = 0; fault = None } }
     {
@@ -87,7 +90,8 @@ impl LineReader {
         self.fault = None;
     }
 
-    /// The line that `next` gave last, without its line feed.
+    /// The line that `next` gave last, without its line feed. The span must be the one that came
+    /// with it.
     pub fn line(&self, span: &Span) -> &[u8]
         requires { span.now ≡ self.now.span }
         ensures { result.now ≡ self.now.line }
@@ -100,9 +104,18 @@ impl LineReader {
     /// It reads only where the bytes that were taken show neither the next line nor a length fault,
     /// and not behind the end of the file.
     ///
-    /// `ReadFailed` comes only where the store's faults rose. `LineTooLong` comes where the next
-    /// line has more than `limits.line` bytes within the first `limits.input` of the file, and
-    /// `InputTooLong` where the file has more than those and the next line does not end within them.
+    /// A file must be current in the store, and once its end was seen, the store must have nothing
+    /// left of it.
+    ///
+    /// A line of at most `limits.line` bytes is given only where it ends with its line feed within the
+    /// first `limits.input` bytes of the file, or with the file within those. `LineTooLong` comes
+    /// where the next line has more than `limits.line` bytes within the first `limits.input`, and
+    /// `InputTooLong` where the file has more than those and the next line with its line feed is not
+    /// within them. Where both hold, `LineTooLong` comes.
+    ///
+    /// A new `ReadFailed` comes only where the store's faults rose, and another answer only where they
+    /// did not. A fault of a length yields to a read that failed before the bytes that show it were
+    /// taken.
     pub fn next<S: Store>(&mut self, store: &mut S) -> Result<Option<Span>, LineFault>
         requires current { IsTrue (S.current store.old) }
         requires ended { self.old.ended ≡ true → WhereTold (S.left store.old) (λ bytes. bytes ≡ []) }
@@ -126,6 +139,7 @@ impl LineReader {
         ensures unread { self.old.ended ≡ true → store.new ≡ store.old }
         ensures failed { self.old.fault ≡ None → result ≡ Err LineFault.ReadFailed
             → Rose (S.faults store.old) (S.faults store.new) }
+        ensures sound { result ≢ Err LineFault.ReadFailed → S.faults store.new ≡ S.faults store.old }
         ensures kept_fault { IfErr result (λ fault. self.new.fault ≡ Some fault) }
         ensures no_fault { OnOk result (self.new.fault ≡ None) }
         ensures span { IfOk result (λ place. IfSome place (λ span. self.new.span ≡ span)) }
@@ -133,16 +147,21 @@ impl LineReader {
         ensures given { IfOk result (λ place. IfSome place (λ span. self.new.given ≡ self.old.given + length self.new.line + 1)) }
         ensures bounded { self.new.given ≤ self.new.input + 1 }
         ensures within { self.new.passed ≤ self.new.input }
+        ensures moved { IfOk result (λ place. IfSome place (λ span.
+            (self.new.passed ≡ self.old.passed + length self.new.line + 1)
+            ⊎ ((self.new.passed ≡ self.old.passed + length self.new.line) × (self.new.ended ≡ true)))) }
         ensures short { IfOk result (λ place. IfSome place (λ span. length self.new.line ≤ self.new.line_limit)) }
 
         // Where no line is given, nothing of the file is passed over or lost; a failed read comes where the bytes that
         // were taken show neither the next line nor a fault of its length.
         ensures unmoved { ¬ IsLine result → (self.new.passed ≡ self.old.passed)
+            × (self.new.number ≡ self.old.number) × (self.new.given ≡ self.old.given)
             × (prepend_known self.new.kept (S.left store.new) ≡ prepend_known self.old.kept (S.left store.old)) }
         ensures place { self.old.fault ≡ None → result ≡ Err LineFault.ReadFailed
             → IsUndecided self.new.input self.new.line_limit self.new.passed self.new.kept }
         ensures end_seen { IfOk result (λ place. IfNone place (self.new.ended ≡ true)) }
         ensures end { self.new.ended ≡ true → WhereTold (S.left store.new) (λ bytes. bytes ≡ []) }
+        ensures stays_ended { self.old.ended ≡ true → self.new.ended ≡ true }
     {
         if let Some(fault) = self.fault {
             return Err(fault);
@@ -164,7 +183,7 @@ impl LineReader {
         }
     }
 
-    /// How many lines were given since `start`.
+    /// How many lines were given since `start`. A fault leaves the number as it was.
     pub fn number(&self) -> u64
         ensures count { result ≡ self.now.number }
         ensures within { result ≤ self.now.given }
@@ -246,6 +265,7 @@ impl LineReader {
         ensures given { self.new.given ≡ self.old.given }
         ensures rest { prepend_known self.old.kept (S.left store.old) ≡ prepend_known self.new.kept (S.left store.new) }
         ensures front { take (length self.old.kept) self.new.kept ≡ self.old.kept }
+        ensures sound { OnOk result (S.faults store.new ≡ S.faults store.old) }
         ensures failed { IfErr result (λ fault. (fault ≡ LineFault.ReadFailed) × Rose (S.faults store.old) (S.faults store.new)) }
         ensures fault { self.new.fault ≡ (if is_ok result then self.old.fault else Some LineFault.ReadFailed) }
         ensures more { OnOk result ((self.new.ended ≡ true) ⊎ (self.new.ended ≡ false) × (length self.old.kept < length self.new.kept)) }

@@ -68,7 +68,7 @@ pub trait Store {
     /// number; 0 is the end of the file. After a failed read the file stands where it stood, and
     /// the buffer may hold anything.
     ///
-    /// `Failed` comes only where `faults` rose.
+    /// `Failed` comes only where `faults` rose, and a read that gives bytes or the end raises none.
     fn read(&mut self, buf: &mut [u8]) -> Result<usize, Failed>
         requires current { IsTrue (current self.old) }
         requires room { 0 < length buf.old }
@@ -82,6 +82,7 @@ pub trait Store {
         ensures end { IfOk result
             (λ count. count ≡ 0 → WhereTold (left self.old) (λ bytes. bytes ≡ [])) }
         ensures kept { OnErr result (left self.new ≡ left self.old) }
+        ensures sound { OnOk result (faults self.new ≡ faults self.old) }
         ensures failed { OnErr result (Rose (faults self.old) (faults self.new)) };
 
     /// A store that tells its files tells what is left wherever a file is current.

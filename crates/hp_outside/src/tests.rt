@@ -1,11 +1,12 @@
 //! Each call once at a type of its own, and what no clause says: that memory is enough, and that
 //! the system's files and writers pass on what they are given.
-ghost use Rattle.std.specs.Prelude.{◌^◌, ◌≤◌};
+ghost use Rattle.std.specs.Prelude.{◌≡◌, ◌^◌, ◌≤◌, [], IfOk, IsSome, true};
+ghost use Rattle.hp_outside.specs.Taken.{WhereTold};
 
 use super::*;
-use hp_num::NoMemory;
 use std::alloc::Global;
 use std::fs;
+use std::process::Abort;
 use std::test::Fail;
 
 /// Limits of so many bytes a file.
@@ -179,42 +180,203 @@ fn lines_of_a_file(rt: HostRuntime) -> Result<(), Fail> {
     Ok(())
 }
 
-/// What the first line of these bytes is refused with, or the fault of the second.
-fn fault_of(
-    alloc: Global,
-    input: u64,
-    line: u32,
-    bytes: &[u8],
-) -> Result<Option<LineFault>, NoMemory>
-    requires input { input ≤ 2 ^ 34 }
-    requires line { line ≤ 1048576 }
-    requires some { 1 ≤ line }
-{
-    let mut store = SureStore::new(alloc, 2);
-    store.add("a", bytes)?;
-    let limits = Limits {
+/// A file, a reader's limits, and what four calls must give: the lines, each with a line feed, and
+/// what the last call answers. A store's call of number 0 never fails.
+#[derive(Clone, Copy)]
+struct Case {
+    bytes: &'static str,
+    input: u32,
+    line: u16,
+    piece: usize,
+    failing_call: u64,
+    lines: &'static str,
+    last: Result<Option<Span>, LineFault>,
+}
+
+/// A file under these limits, all calls sound.
+const fn limited_to(
+    bytes: &'static str,
+    input: u32,
+    line: u16,
+    lines: &'static str,
+    last: Result<Option<Span>, LineFault>,
+) -> Case {
+    Case {
+        bytes,
         input,
         line,
+        piece: 9,
+        failing_call: 0,
+        lines,
+        last,
+    }
+}
+
+/// The limits of a case.
+fn limits_of(case: &Case) -> Limits {
+    Limits {
+        input: u64::from(case.input),
+        line: u32::from(case.line).max(1),
         order: 1,
-    };
-    let mut reader = LineReader::new(alloc, &limits)?;
-    if store.open("a").is_err() {
-        return Ok(None);
     }
-    if let Err(fault) = reader.next(&mut store) {
-        return Ok(Some(fault));
+}
+
+/// Four calls give what the case says.
+fn expect(rt: &impl Abort, alloc: Global, case: &Case) -> Result<(), Fail> {
+    let (bytes, piece) = (case.bytes, case.piece.max(1));
+    let mut store = MemStore::new(alloc, piece);
+    store.add("a", bytes.as_bytes())?;
+    store.fail_at(case.failing_call)?;
+    assert_eq!(rt; store.open("a"), Ok(()));
+    let mut reader = LineReader::new(alloc, &limits_of(case))?;
+    let mut lines = Vec::new(alloc);
+    let mut last = Ok(None);
+    'calls: for _ in 0..4 {
+        last = reader.next(&mut store);
+        if let Ok(Some(span)) = last {
+            lines.extend_from_slice(reader.line(&span))?;
+            lines.push(b'\n')?;
+        }
     }
-    Ok(reader.next(&mut store).err())
+    assert_eq!(rt;
+        lines.as_slice(),
+        case.lines.as_bytes(),
+        "{bytes:?} by {piece}"
+    );
+    assert_eq!(rt; last, case.last, "{bytes:?} by {piece}");
+    Ok(())
 }
 
 #[test]
-fn lines_too_long(rt: HostRuntime) -> Result<(), Fail> {
-    let alloc = rt.alloc();
-    let too_long = Some(LineFault::LineTooLong);
-    let input_too_long = Some(LineFault::InputTooLong);
-    assert_eq!(rt; fault_of(alloc, 9, 3, b"abcd")?, too_long);
-    assert_eq!(rt; fault_of(alloc, 9, 3, b"abc")?, None);
-    assert_eq!(rt; fault_of(alloc, 4, 9, b"ab\ncde")?, input_too_long);
-    assert_eq!(rt; fault_of(alloc, 4, 1, b"abcde")?, too_long);
+fn lengths(rt: HostRuntime) -> Result<(), Fail> {
+    let end = Ok(None);
+    let line_too_long = Err(LineFault::LineTooLong);
+    let input_too_long = Err(LineFault::InputTooLong);
+    let cases = [
+        limited_to("abcd", 9, 3, "", line_too_long),
+        limited_to("abc", 9, 3, "abc\n", end),
+        limited_to("abc\n", 9, 3, "abc\n", end),
+        limited_to("ab\ncde", 4, 9, "ab\n", input_too_long),
+        limited_to("abcde", 4, 1, "", line_too_long),
+        limited_to("abc", 3, 3, "abc\n", end),
+        limited_to("abc\n", 3, 3, "", input_too_long),
+        limited_to("abcd", 3, 3, "", input_too_long),
+        limited_to("abcde", 4, 3, "", line_too_long),
+        limited_to("", 0, 9, "", end),
+        limited_to("", 1, 9, "", end),
+        limited_to("\n", 0, 9, "", input_too_long),
+        limited_to("\n", 1, 9, "\n", end),
+    ];
+    for case in &cases {
+        for piece in [1, 2, 3, 9] {
+            expect(&rt, rt.alloc(), &Case { piece, ..*case })?;
+        }
+    }
+    Ok(())
+}
+
+/// A file of which a call of the store fails; call 1 is the open.
+const fn failing(
+    bytes: &'static str,
+    piece: usize,
+    failing_call: u64,
+    lines: &'static str,
+    last: Result<Option<Span>, LineFault>,
+) -> Case {
+    Case {
+        bytes,
+        input: 9,
+        line: 3,
+        piece,
+        failing_call,
+        lines,
+        last,
+    }
+}
+
+#[test]
+fn failed_reads(rt: HostRuntime) -> Result<(), Fail> {
+    let read_failed = Err(LineFault::ReadFailed);
+    let cases = [
+        failing("abcdef", 2, 3, "", read_failed),
+        failing("abc\n", 2, 3, "", read_failed),
+        failing("abc", 2, 4, "", read_failed),
+        failing("a\nb", 9, 3, "a\n", read_failed),
+        failing("abcd", 9, 3, "", Err(LineFault::LineTooLong)),
+        failing("ab", 9, 4, "ab\n", Ok(None)),
+    ];
+    for case in &cases {
+        expect(&rt, rt.alloc(), case)?;
+    }
+    Ok(())
+}
+
+/// The open file of the case, which may fail, and beside it a file of two bytes.
+fn two_files(rt: &impl Abort, alloc: Global, case: &Case) -> Result<MemStore, Fail>
+    ensures current { IfOk result (λ store. IsSome store.store.left) }
+    ensures opens { IfOk result (λ store. store.store.opens ≡ 1) }
+{
+    let mut store = MemStore::new(alloc, 9);
+    store.add("a", case.bytes.as_bytes())?;
+    store.add("b", b"ef")?;
+    store.fail_at(case.failing_call)?;
+    assert_eq!(rt; store.open("a"), Ok(()));
+    Ok(store)
+}
+
+/// The next line is this one, and the first.
+fn expect_line(
+    rt: &impl Abort,
+    reader: &mut LineReader,
+    store: &mut MemStore,
+    line: &str,
+) -> Result<(), Fail>
+    requires current { IsSome store.old.store.left }
+    requires ended { reader.old.ended ≡ true → WhereTold store.old.store.left (λ bytes. bytes ≡ []) }
+    ensures current { IsSome store.new.store.left }
+    ensures ended { reader.new.ended ≡ true → WhereTold store.new.store.left (λ bytes. bytes ≡ []) }
+    ensures opens { store.new.store.opens ≡ store.old.store.opens }
+{
+    let span = reader.next(store)?.ok_or("no line")?;
+    assert_eq!(rt; reader.line(&span), line.as_bytes());
+    assert_eq!(rt; reader.number(), 1);
+    Ok(())
+}
+
+/// The next answer is that of the case, and one line was given before.
+fn expect_fault(rt: &impl Abort, reader: &mut LineReader, store: &mut MemStore, case: &Case)
+    requires current { IsSome store.old.store.left }
+    requires ended { reader.old.ended ≡ true → WhereTold store.old.store.left (λ bytes. bytes ≡ []) }
+    ensures current { IsSome store.new.store.left }
+    ensures ended { reader.new.ended ≡ true → WhereTold store.new.store.left (λ bytes. bytes ≡ []) }
+    ensures opens { store.new.store.opens ≡ store.old.store.opens }
+{
+    assert_eq!(rt; reader.next(store), case.last);
+    assert_eq!(rt; reader.number(), 1);
+}
+
+/// After a line and the fault of the case: the fault again, and then the line of a new file.
+fn expect_new_file(rt: &impl Abort, alloc: Global, case: &Case) -> Result<(), Fail> {
+    let mut store = two_files(rt, alloc, case)?;
+    let mut reader = LineReader::new(alloc, &limits_of(case))?;
+    expect_line(rt, &mut reader, &mut store, case.lines)?;
+    expect_fault(rt, &mut reader, &mut store, case);
+    expect_fault(rt, &mut reader, &mut store, case);
+    assert_eq!(rt; store.open("b"), Ok(()));
+    reader.start();
+    assert_eq!(rt; reader.number(), 0);
+    expect_line(rt, &mut reader, &mut store, "ef")
+}
+
+#[test]
+fn new_file_after_a_fault(rt: HostRuntime) -> Result<(), Fail> {
+    let cases = [
+        failing("a\nb", 9, 3, "a", Err(LineFault::ReadFailed)),
+        limited_to("a\nbcd", 9, 2, "a", Err(LineFault::LineTooLong)),
+        limited_to("a\nbcd", 3, 2, "a", Err(LineFault::InputTooLong)),
+    ];
+    for case in &cases {
+        expect_new_file(&rt, rt.alloc(), case)?;
+    }
     Ok(())
 }

@@ -1,6 +1,6 @@
 //! Whole files and whole outputs: all the bytes that a store has left, and all the bytes of a
 //! slice into a sink. Neither looks at a byte.
-ghost use Rattle.std.specs.Prelude.{◌≡◌, ◌+◌, ◌^◌, ◌<◌, ◌≤◌, ℕ, List, [], IsTrue, IfOk, OnOk, OnErr, length, vec_len, take};
+ghost use Rattle.std.specs.Prelude.{◌≡◌, ◌≢◌, ◌+◌, ◌^◌, ◌<◌, ◌≤◌, ℕ, List, [], IsTrue, IfOk, OnOk, OnErr, length, vec_len, take};
 ghost use Rattle.std.specs.Io.KnownBytes.{append_known, prepend_known};
 ghost use Rattle.hp_outside.specs.Faults.{Rose};
 ghost use Rattle.hp_outside.specs.Taken.{WhereTold, LosesFront, GainsFront};
@@ -41,7 +41,7 @@ pub enum WholeFault {
     /// A read failed.
     #[error("a read failed")]
     ReadFailed,
-    /// The file has more bytes than the limit.
+    /// More bytes are left of the file than the limit.
     #[error("the input is too long")]
     InputTooLong,
     /// Memory was wanting.
@@ -71,9 +71,11 @@ const FIRST_READ: usize = 65_536;
 
 /// Reads all that is left of the current file, at most `limits.input` bytes of it.
 ///
-/// `InputTooLong` comes where more than that is left and no read failed, `ReadFailed` only where
-/// the store's faults rose. At most one byte more than the limit is taken from the store, and after
-/// a fault what was taken is gone.
+/// `InputTooLong` comes only where more than that is left, `ReadFailed` only where the store's faults
+/// rose, and no other answer where they did. `NoMemory` comes where memory is wanting: for the bytes
+/// themselves, up to one more than the limit, since the buffer begins with at most 65,536 and doubles
+/// when it is full. At most one byte more than the limit is taken from the store, and after a fault
+/// what was taken is gone.
 pub fn read_whole<S: Store>(
     alloc: Global,
     limits: &Limits,
@@ -89,6 +91,7 @@ pub fn read_whole<S: Store>(
     ensures within { IfOk result (λ whole. length whole ≤ limits.now.input) }
     ensures ended { OnOk result (WhereTold (S.left store.new) (λ bytes. bytes ≡ [])) }
     ensures failed { result ≡ Err WholeFault.ReadFailed → Rose (S.faults store.old) (S.faults store.new) }
+    ensures sound { result ≢ Err WholeFault.ReadFailed → S.faults store.new ≡ S.faults store.old }
     ensures taken { LosesFront (S.left store.old) (S.left store.new) (limits.now.input + 1) }
 {
     let most = limits.input as usize + 1;

@@ -1,6 +1,6 @@
 //! A buffer of fixed size over the bytes of a file: those of the line that was shown last, and those
 //! behind it that were taken from the store.
-ghost use Rattle.std.specs.Prelude.{◌≡◌, ◌+◌, ◌*◌, ◌<◌, ◌≤◌, [], IsTrue, IfOk, OnErr, length, vec_len, take, drop, ◌-◌};
+ghost use Rattle.std.specs.Prelude.{◌≡◌, ◌+◌, ◌*◌, ◌<◌, ◌≤◌, [], IsTrue, IfOk, OnOk, OnErr, length, vec_len, take, drop, ◌-◌};
 ghost use Rattle.std.specs.Io.KnownBytes.{prepend_known};
 ghost use Rattle.hp_outside.specs.Faults.{Rose};
 ghost use Rattle.hp_outside.specs.Taken.{WhereTold};
@@ -12,7 +12,7 @@ use hp_num::NoMemory;
 use std::alloc::Global;
 use std::marker::Model;
 
-/// How many bytes a read asks for at least, beside the room for lines.
+/// How many bytes of the buffer a read may fill at least.
 const READ_ROOM: usize = 65_536;
 
 /// Bytes of a file that were taken from a store, of which at most `most` may be kept when more are
@@ -119,6 +119,7 @@ impl Window {
         ensures end { IfOk result (λ count. count ≡ 0 → WhereTold (S.left store.old) (λ bytes. bytes ≡ [])) }
         ensures kept { OnErr result (self.new.kept ≡ self.old.kept) }
         ensures left { OnErr result (S.left store.new ≡ S.left store.old) }
+        ensures sound { OnOk result (S.faults store.new ≡ S.faults store.old) }
         ensures failed { OnErr result (Rose (S.faults store.old) (S.faults store.new)) }
     {
         let kept = self.end - self.start;
@@ -153,23 +154,24 @@ fn read_part<S: Store>(
         ≡ prepend_known (part_of buffer.new.items start (start + count)) (S.left store.new)) }
     ensures end { IfOk result (λ count. count ≡ 0 → WhereTold (S.left store.old) (λ bytes. bytes ≡ [])) }
     ensures left { OnErr result (S.left store.new ≡ S.left store.old) }
+    ensures sound { OnOk result (S.faults store.new ≡ S.faults store.old) }
     ensures failed { OnErr result (Rose (S.faults store.old) (S.faults store.new)) }
 {
     store.read(&mut buffer.as_mut_slice()[start..end])
 }
 
-/// Moves what stands from `start` to `end` to the front where no byte would fit behind it, and answers
-/// where it stands then.
+/// Moves what stands from `start` to `end` to the front where fewer than `READ_ROOM` bytes fit behind
+/// it, and answers where it stands then.
 fn make_room(buffer: &mut Vec<u8>, start: usize, end: usize, most: usize) -> usize
     requires order { start ≤ end }
     requires held { end ≤ vec_len buffer.old }
     requires few { end ≤ start + most }
     requires long { 2 * most + 65536 ≤ vec_len buffer.old }
     ensures kept { part_of buffer.new.items result (result + (end - start)) ≡ part_of buffer.old.items start end }
-    ensures room { result + (end - start) < vec_len buffer.new }
+    ensures room { result + (end - start) + 65536 ≤ vec_len buffer.new }
     ensures len { vec_len buffer.new ≡ vec_len buffer.old }
 {
-    if end < buffer.len() {
+    if buffer.len() - end >= READ_ROOM {
         return start;
     }
     move_to_front(buffer, start, end);

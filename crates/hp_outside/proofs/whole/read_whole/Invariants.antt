@@ -10,7 +10,7 @@ invariant-reads g l = record {
   files : g.S.Store.files l.store ≡ g.S.Store.files l.initial.store;
   current : g.S.Store.current l.store ≡ g.S.Store.current l.initial.store;
   opens : g.S.Store.opens l.store ≡ g.S.Store.opens l.initial.store;
-  faults : g.S.Store.faults l.initial.store ≤ g.S.Store.faults l.store;
+  faults : g.S.Store.faults l.store ≡ g.S.Store.faults l.initial.store;
 }
 
 abbrev pub decreases-reads : goal.decreases-reads

@@ -20,7 +20,7 @@ invariant-reads g l = record {
   files : g.S.Store.files l.store ≡ g.S.Store.files l.initial.store;
   current : g.S.Store.current l.store ≡ g.S.Store.current l.initial.store;
   opens : g.S.Store.opens l.store ≡ g.S.Store.opens l.initial.store;
-  faults : g.S.Store.faults l.initial.store ≤ g.S.Store.faults l.store;
+  faults : g.S.Store.faults l.store ≡ g.S.Store.faults l.initial.store;
   ended : l.self.ended ≡ true → WhereTold (g.S.Store.left l.store) (λ bytes. bytes ≡ []);
   waited : ¬ (IsUndecided l.initial.self.input l.initial.self.line_limit l.initial.self.passed l.initial.self.kept)
       → (l.store ≡ l.initial.store) × (l.self.kept ≡ l.initial.self.kept);
