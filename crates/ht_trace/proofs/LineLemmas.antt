@@ -15,7 +15,8 @@ use Rattle.live_ledger.specs.declared.event.Event.{Event}
 use Rattle.ht_trace.specs.declared.step.Step.{Step}
 use Rattle.ht_trace.specs.Contents.{contents, file_version, version_in, version_of, versions}
 use Rattle.ht_trace.specs.Gathered.{gathered}
-use Rattle.ht_trace.specs.LineFault.{may_stand_first}
+use Rattle.ht_trace.specs.declared.error.LineError.{LineError}
+use Rattle.ht_trace.specs.LineFault.{content_fault, fault_in, line_fault, may_stand_first}
 use Rattle.ht_trace.specs.StandsFor.{StandsFor}
 use Rattle.ht_trace.specs.StateAfter.{Takes, state_after}
 use Rattle.ht_trace.specs.StepOf.{event_in, event_of, event_step, step_in}
@@ -179,6 +180,16 @@ reads-next tables lines line said stands may read =
     by_version None is first may read = reads-first lines line said (sym is) (first refl) may read
     by_version (Some version) is first may read = reads-later version lines line said (sym is) read
 
+-- a line that may stand there and says something without a fault has none
+no_fault_in : (tables : TableState) (said : Content) (line : List ℕ) → (is_some tables.version || may_stand_first line) ≡ true → reading (unwrap_or tables.version 1) line ≡ Ok said → content_fault tables said ≡ None → fault_in tables line ≡ None
+no_fault_in tables said line may read good = rw (may, read) good
+
+-- where no line has a fault, one more without a fault leaves it so
+no_faults-push : (lines : List (List ℕ)) (line : List ℕ) → gathered line_fault [] lines ≡ [] → line_fault lines line ≡ None → gathered line_fault [] (lines ++ line ∷ []) ≡ []
+no_faults-push lines line before good =
+    gathered-push line_fault [] lines line
+    ∙ (ap (λ (found : Option LineError). gathered line_fault [] lines ++ option_to_list found) good ∙ (append-nil (gathered line_fault [] lines) ∙ before))
+
 -- the tables stand for one more line, once what it says is added
 pub stands-push : (old new : TableState) (said : Content) (step : Step) (line : List ℕ) → (is_some old.version || may_stand_first line) ≡ true → reading (unwrap_or old.version 1) line ≡ Ok said → Takes old said step new → (lines : List (List ℕ)) → StandsFor old lines → StandsFor new (lines ++ line ∷ [])
 stands-push old new said step line may read takes lines stands =
@@ -189,7 +200,13 @@ stands-push old new said step line may read takes lines stands =
     ap (λ (v : Option ℕ). tables_from v (contents (lines ++ line ∷ []))) reads.version
     ∙ ap (λ (all : List Content). tables_from (option_or (version_of lines) (version_in said)) all) reads.said_is ∙ lists in
     let is : new ≡ tables_of (lines ++ line ∷ []) = before ∙ sym after in
-    record { tables_is = is; first = λ none. reads.first (ap (λ (t : TableState). is_some t.version) (sym is) ∙ none) }
+    let good : line_fault lines line ≡ None =
+    ap (λ (t : TableState). fault_in t line) (sym stands.tables_is) ∙ no_fault_in old said line may read takes.no_fault in
+    record {
+      tables_is = is;
+      no_fault = no_faults-push lines line stands.no_fault good;
+      first = λ none. reads.first (ap (λ (t : TableState). is_some t.version) (sym is) ∙ none);
+    }
 
 event_of-step : (o : Option Event) → event_of (event_step o) ≡ o
 event_of-step None = refl

@@ -11,7 +11,8 @@ use thiserror::Error;
 /// Why a line can't follow the lines before it. The first six are the refusals of the grammar.
 #[derive(Clone, Copy, Debug, PartialEq, Eq, Error)]
 pub enum LineError {
-    /// A byte other than a blank follows the kind, a field is no number, or a number is too large.
+    /// A byte other than a blank follows the kind, a field isn't 1 to 16 hexadecimal digits, a clock value is above
+    /// 2^62, or a module's range ends above 2^64 - 1.
     #[error("bad field")]
     BadField,
     /// The line has too few fields.
@@ -20,7 +21,7 @@ pub enum LineError {
     /// The line has too many fields.
     #[error("extra field")]
     ExtraField,
-    /// The line is one of a raw trace.
+    /// The line is an allocation of a raw trace: `+` with three fields.
     #[error("raw line")]
     NotInterpreted,
     /// The line is one of an interpreted trace. The tables, which are those of interpreted traces, never answer it.
@@ -29,32 +30,32 @@ pub enum LineError {
     /// The file version isn't 1 to 3.
     #[error("file version not 1 to 3")]
     BadVersion,
-    /// No version line stands before a line that is no comment.
+    /// No version line stands before a line that is neither a comment nor begins with `v`, or before the trace's end.
     #[error("no version line")]
     NoVersion,
     /// A version line was read before.
     #[error("second version line")]
     SecondVersion,
-    /// A module, function or file is no string that is held.
+    /// The number of a module, function or file is above the count of the strings; 0, which is none, is always held.
     #[error("unknown string")]
     UnknownString,
-    /// A node's instruction isn't held.
+    /// The number of a node's instruction is above the count of the instructions; 0 is always held.
     #[error("unknown instruction")]
     UnknownInstruction,
-    /// A node's parent isn't held.
+    /// The number of a node's parent is above the count of the nodes; 0 is always held.
     #[error("unknown parent")]
     UnknownParent,
-    /// An info's node isn't held.
+    /// The number of an info's node is above the count of the nodes; 0 is always held.
     #[error("unknown trace")]
     UnknownTrace,
-    /// The info of an allocation or a free isn't held.
+    /// The number of the info of an allocation or a free isn't below the count of the infos.
     #[error("unknown allocation")]
     UnknownAllocation,
     /// A node's stack would have more than 4,096 frames.
     #[error("stack too deep")]
     TooDeep,
     /// The table that would grow is full: 2^32 - 1 strings, instructions or infos, or 2^32 - 2 nodes.
-    #[error("too many entries")]
+    #[error("table full")]
     TooMany,
     /// Memory is wanting.
     #[error("out of memory")]

@@ -86,9 +86,10 @@ impl Tables {
 
     /// Reads the next line, without its line feed, and answers what it brings.
     ///
-    /// A line is refused exactly where it has a fault after the lines before it, and the tables are then as before.
-    /// `NoVersion` comes first, then the refusals of the grammar, then the other faults in the order of `LineError`.
-    /// Only a line that adds to a table, or is the first with a command, takes memory.
+    /// A line is refused exactly where it has a fault after the lines before it, or memory is wanting, in place of any
+    /// answer; the tables are then as before. `NoVersion` comes first, then the refusals of the grammar, then the other
+    /// faults in the order of `LineError`. Only a line of a string, an instruction, a node or an info, or the first with
+    /// a command, takes memory; one that is refused may keep some too.
     pub fn line(&mut self, line: &[u8]) -> Result<Step, LineError>
         requires { length line.now < 2 ^ 32 }
         // For all lines that the tables stand for.
@@ -134,7 +135,7 @@ impl Tables {
         self.nodes.len() + 1
     }
 
-    /// Size and stack of info `n`: `None` exactly where no info has that number. It takes no memory.
+    /// Size in bytes and stack of info `n`: `None` exactly where no info has that number. It takes no memory.
     pub fn info(&self, n: u32) -> Option<(u64, u32)>
         ensures entry { result ≡ option_map (λ info. record { 0 = info.size; 1 = info.stack }) (slice_get self.now.infos n) }
     {
@@ -153,7 +154,8 @@ impl Tables {
     }
 
     /// Replaces `out` by the frames of a stack, from the innermost on: those of its node's instruction, then those of
-    /// its parents'. Stack 0 has one frame of its own. On `NoMemory`, `out` holds what it held before.
+    /// its parents'. Stack 0 has one frame of its own. The stack must be below `stacks()`. On `NoMemory`, `out` holds
+    /// what it held before.
     pub fn frames_into(&self, stack: u32, out: &mut Vec<FrameAt>) -> Result<(), NoMemory>
         requires { stack ≤ length self.now.nodes }
         ensures of_tables { OnOk result (out.new.items ≡ stack_frames self.now.instructions self.now.nodes stack) }

@@ -224,27 +224,48 @@ fn gives_inlined_frames(rt: HostRuntime) -> Result<(), Fail> {
     has_frames(&rt, rt.alloc(), &tables, 6, &six)
 }
 
+/// Adds a chain of nodes of instruction 1 to tables without nodes.
+fn add_chain(rt: &impl Abort, alloc: Global, tables: &mut Tables, nodes: u32) -> Result<(), Fail> {
+    let mut line = Vec::new(alloc);
+    for parent in 0..nodes {
+        line.clear();
+        put_bytes(&mut line, b"t 1 ")?;
+        put_hex(&mut line, u64::from(parent))?;
+        assert_eq!(rt; read(rt, tables, &line), Ok(Step::Stack), "below {parent}");
+    }
+    Ok(())
+}
+
 // A chain of 4,096 nodes is taken, and nothing below it.
 #[test]
 fn refuses_a_stack_too_deep(rt: HostRuntime) -> Result<(), Fail> {
     let mut tables = Tables::new(rt.alloc());
     read_all(&rt, &mut tables, &[b"v 10500 2", b"i 10 0"])?;
-    let mut line = Vec::new(rt.alloc());
-    for parent in 0..4096u64 {
-        line.clear();
-        put_bytes(&mut line, b"t 1 ")?;
-        put_hex(&mut line, parent)?;
-        assert_eq!(rt;
-            read(&rt, &mut tables, &line),
-            Ok(Step::Stack),
-            "below {parent}"
-        );
-    }
+    add_chain(&rt, rt.alloc(), &mut tables, 4096)?;
     assert_eq!(rt; tables.stacks(), 4097);
     assert_eq!(rt;
         read(&rt, &mut tables, b"t 1 1000"),
         Err(LineError::TooDeep)
     );
     assert_eq!(rt; read(&rt, &mut tables, b"t 1 fff"), Ok(Step::Stack));
+    Ok(())
+}
+
+// Inlined frames count: a chain of 2,048 nodes of two frames each has 4,096.
+#[test]
+fn counts_inlined_frames(rt: HostRuntime) -> Result<(), Fail> {
+    let mut tables = Tables::new(rt.alloc());
+    let lines: [&[u8]; 4] = [b"v 10500 2", b"s main", b"i 10 0 1 1 0 6", b"i 20 0"];
+    read_all(&rt, &mut tables, &lines)?;
+    add_chain(&rt, rt.alloc(), &mut tables, 2048)?;
+    let lines: [(&[u8], Result<Step, LineError>); 4] = [
+        (b"t 2 800", Err(LineError::TooDeep)),
+        (b"t 2 7ff", Ok(Step::Stack)),
+        (b"t 1 801", Err(LineError::TooDeep)),
+        (b"t 2 801", Ok(Step::Stack)),
+    ];
+    for (line, answer) in lines {
+        assert_eq!(rt; read(&rt, &mut tables, line), answer, "at {line:?}");
+    }
     Ok(())
 }
