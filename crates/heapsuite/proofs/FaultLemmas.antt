@@ -2,7 +2,7 @@
 use Rattle.std.proofs.Common.{◌≡◌, ℕ, ◌+◌, List, [], ◌∷◌, ◌++◌, length, Option, Some, None, refl, ap, sym, ◌∙◌, append-nil, append_assoc, arith}
 use Rattle.std.proofs.lemmas.List.Sums.{sum_by-append}
 use Rattle.heapsuite.specs.declared.fault.TraceFault.{TraceFault}
-use Rattle.heapsuite.specs.TraceFault.{Bounds, Refusal, bytes_of_lines, content_fault, first_fault, length_fault, line_fault, line_faults}
+use Rattle.heapsuite.specs.TraceFault.{Bounds, bytes_of_lines, content_fault, first_fault, length_fault, line_fault, line_faults}
 
 -- a line without a fault passes
 pub fault_passes : (bounds : Bounds) (total number : ℕ) (earlier : List (List ℕ)) (line : List ℕ) (rest : List (List ℕ)) → line_fault bounds total earlier line ≡ None

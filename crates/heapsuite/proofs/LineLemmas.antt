@@ -1,7 +1,7 @@
 -- The first line of bytes, and the faults of a line's length.
-use Rattle.std.proofs.Common.{◌≡◌, ◌≢◌, ℕ, zero, suc, ◌+◌, ◌-◌, ◌<◌, ◌≤◌, ◌&&◌, Bool, true, false, nat_le, nat_lt, List, [], ◌∷◌, ◌++◌, length, take, drop, Some, None, refl, ap, sym, ◌∙◌, add-one, length-take, length-drop, arith, rules}
-use Rattle.std.proofs.lemmas.Bool.{cases_Bool, false_from_ne_true, ltb-true, leb-true, lt-ltb, le-leb}
-use Rattle.std.specs.List.{position_or_len, prefix_len}
+use Rattle.std.proofs.Common.{◌≡◌, ℕ, suc, ◌+◌, ◌<◌, ◌≤◌, ◌&&◌, Bool, true, false, nat_le, nat_lt, List, [], ◌∷◌, length, take, drop, Some, None, refl, ap, sym, ◌∙◌, length-take, length-drop, arith}
+use Rattle.std.proofs.lemmas.Bool.{false_from_ne_true, ltb-true, leb-true, lt-ltb, le-leb}
+use Rattle.std.specs.List.{position_or_len}
 use Rattle.heapsuite.specs.declared.fault.TraceFault.TheVariants.{LineTooLong, InputTooLong}
 use Rattle.heapsuite.specs.TraceFault.{Bounds, length_fault}
 use Rattle.hp_outside.specs.Lines.{after_line, first_line, is_line_feed, lines_of, put_first}
@@ -40,6 +40,11 @@ lines_of_first (byte ∷ rest) some = by_first (is_line_feed byte) byte rest ref
 -- where something is behind the first line, a line feed is between
 pub after_line_length : (rest : List ℕ) → 0 < length (after_line rest) → length rest ≡ length (first_line rest) + 1 + length (after_line rest)
 after_line_length rest some =
+    omega (arith, length-take (position_or_len is_line_feed rest) rest, length-drop (position_or_len is_line_feed rest + 1) rest)
+
+-- with its line feed, the first line reaches to what is behind it
+pub first_line_reaches : (rest : List ℕ) → length rest ≤ length (first_line rest) + 1 + length (after_line rest)
+first_line_reaches rest =
     omega (arith, length-take (position_or_len is_line_feed rest) rest, length-drop (position_or_len is_line_feed rest + 1) rest)
 
 -- both tests are true

@@ -1,6 +1,6 @@
 -- What holds while the lines of a trace are read.
-use Rattle.std.proofs.Common.{◌≡◌, ◌≢◌, ℕ, ◌+◌, ◌-◌, ◌*◌, ◌<◌, ◌≤◌, Bool, true, false, List, [], ◌∷◌, ◌++◌, length, Option, Some, None, IsSome, Result, Ok, Err, refl, ap, sym, subst, ◌∙◌, append-nil, append_assoc, length-append, arith, rules}
-use Rattle.std.proofs.lemmas.List.{length_push, nil_from_length}
+use Rattle.std.proofs.Common.{◌≡◌, ◌≢◌, ℕ, ◌+◌, ◌-◌, ◌<◌, ◌≤◌, List, [], ◌∷◌, ◌++◌, length, Option, Some, None, IsSome, Result, Ok, Err, refl, ap, sym, subst, ◌∙◌, append-nil, append_assoc, arith}
+use Rattle.std.proofs.lemmas.List.{length_push}
 use Rattle.std.specs.Option.{option_map, option_or}
 use Rattle.std.specs.Io.KnownBytes.{prepend_known}
 use Rattle.hp_outside.specs.declared.span.Span.{Span}
@@ -20,11 +20,11 @@ use Rattle.heapsuite.specs.declared.read_trace.ReadFault.TheVariants.{NoSuchFile
 use Rattle.heapsuite.specs.declared.summary.Summary.{Summary}
 use Rattle.heapsuite.specs.declared.trace.TraceReader.{TraceReader}
 use Rattle.heapsuite.specs.SummaryText.{summary_of}
-use Rattle.heapsuite.specs.TraceFault.{Bounds, Refusal, bytes_of_lines, content_fault, end_refusal, first_fault, length_fault, line_fault, line_faults, refusal_of_lines, trace_fault}
+use Rattle.heapsuite.specs.TraceFault.{Bounds, Refusal, bytes_of_lines, content_fault, end_refusal, first_fault, length_fault, line_fault, line_faults, trace_fault}
 use Rattle.heapsuite.specs.TraceRead.{GivesSummary, IsAfterOpening, LinesRead, StoppedBefore, TraceRead}
-use Rattle.heapsuite.specs.TraceReader.{HasRead, IsSound}
+use Rattle.heapsuite.specs.TraceReader.{HasRead}
 use Rattle.heapsuite.proofs.FaultLemmas.{bytes_of_lines-push, fault_found, fault_passes, good_push, line_has_content_fault, line_has_length_fault, line_is_good}
-use Rattle.heapsuite.proofs.LineLemmas.{after_line_length, input_is_too_long, length_is_good, line_is_too_long, lines_of_first}
+use Rattle.heapsuite.proofs.LineLemmas.{after_line_length, first_line_reaches, input_is_too_long, length_is_good, line_is_too_long, lines_of_first}
 
 -- a fault at a line
 abbrev refusal : ℕ → TraceFault → Refusal
@@ -47,6 +47,7 @@ pub record ToldReading (bounds : Bounds) (reader : LineReaderState) (bytes : Lis
   pub good : first_fault 1 (line_faults bounds (length bytes) [] taken) ≡ None
   pub passed : reader.passed + length rest ≡ length bytes
   pub before : 0 < length rest → reader.passed ≡ bytes_of_lines taken
+  pub reached : reader.passed ≤ bytes_of_lines taken
 
 -- the lines that were taken so far
 pub record Reading (bounds : Bounds) (reader : LineReaderState) (trace : TraceReader) (start left : Option (List ℕ)) : Type 0 where
@@ -69,6 +70,7 @@ reading_new bounds reader trace start kept passed number read = record {
     good = refl;
     passed = omega (arith, passed);
     before = λ some. passed;
+    reached = omega (arith, passed);
   };
 }
 
@@ -126,6 +128,9 @@ told_more bounds reader next bytes taken left new_left line before some short wi
           let size : length before.rest ≡ length (first_line before.rest) + 1 + length (after_line before.rest) = after_line_length before.rest more in
           let same : length line ≡ length (first_line before.rest) = ap length is in
           omega (arith, passed, size, same, before.before some, bytes_of_lines-push taken line);
+      reached =
+          let same : length line ≡ length (first_line before.rest) = ap length is in
+          omega (arith, passed, first_line_reaches before.rest, same, before.before some, bytes_of_lines-push taken line);
     }
 
 -- the refusal of a trace whose next line has a fault
@@ -210,6 +215,7 @@ told_stopped bounds reader next bytes taken left new_left before passed same und
       unread = unread.0;
       left_is = unread.1;
       lines_are = before.lines_are ∙ ap (λ rest. taken ++ lines_of rest) unread.2;
+      reached = omega (arith, before.reached, before.passed, ap length unread.2);
       no_fault = before.good;
       undecided = subst (λ n. IsUndecided bounds.input bounds.line n next.kept) place undecided;
     }

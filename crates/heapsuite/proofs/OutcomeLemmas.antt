@@ -1,5 +1,5 @@
 -- From what reading the named file gave to what the run's answer may be.
-use Rattle.std.proofs.Common.{◌≡◌, ◌≢◌, ℕ, ◌≤◌, Bool, true, false, List, [], Option, Some, None, IsSome, IfOk, Result, Ok, Err, codes, ap, sym, subst, refl, ◌∙◌, inl, inr, ◌⊎◌, arith, rules}
+use Rattle.std.proofs.Common.{◌≡◌, ◌≢◌, ℕ, ◌≤◌, Bool, List, [], Option, Some, None, IsSome, IfOk, Result, Ok, Err, ap, sym, subst, refl, ◌∙◌, inl, inr, arith}
 use Rattle.std.proofs.lemmas.Bool.Decides.{eqb_tells}
 use Rattle.hp_outside.specs.Folder.{Folder, file_of}
 use Rattle.hp_outside.specs.Lines.{lines_of}
@@ -13,8 +13,7 @@ use Rattle.heapsuite.specs.declared.fault.TraceFault.TheVariants.{LineTooLong, I
 use Rattle.heapsuite.specs.declared.read_trace.ReadFault.{ReadFault}
 use Rattle.heapsuite.specs.declared.read_trace.ReadFault.TheVariants.{NoSuchFile, CannotOpen, CannotRead, At, NoMemory}
 use Rattle.heapsuite.specs.declared.summary.Summary.{Summary}
-use Rattle.heapsuite.specs.Answer.{Answer, answer, fault_status, fault_text, file_answer, line_status, memory_answer, named_answer, refused, trace_answer, usage_answer, words_answer}
-use Rattle.heapsuite.specs.Message.{at_file}
+use Rattle.heapsuite.specs.Answer.{Answer, answer, fault_status, file_answer, line_status, memory_answer, named_answer, trace_answer, words_answer}
 use Rattle.heapsuite.specs.RunOutcome.{IsOutcome, IsUnreadable}
 use Rattle.heapsuite.specs.SummaryText.{summary_of, summary_text}
 use Rattle.heapsuite.specs.TraceFault.{Bounds, Refusal, trace_fault}
@@ -114,10 +113,11 @@ none_not_some (Some bytes) none some = cc
 -- a file that could not be opened or read, or is absent
 unreadable : (name : List ℕ) (bounds : Bounds) (files : Option Folder) (left : Option (List ℕ)) (current : Bool) (rose : Type 0) (read : Result Summary ReadFault)
     → WhereTold files (λ folder. TraceRead bounds (file_of folder name) left read) → (read ≡ Err NoSuchFile → files ≡ None → rose) → (HasFailed read → rose)
-    → IsCurrentWhere current read → (read_answer name read).status ≡ 3 → IsUnreadable name files current rose (read_answer name read)
+    → IsCurrentWhere current read → (read_answer name read).status ≡ 3 → IsUnreadable name bounds files current left rose (read_answer name read)
 unreadable name bounds files left current rose (Ok summary) told absent failed is_current status = absurd (omega (arith, status))
 unreadable name bounds files left current rose (Err NoSuchFile) told absent failed is_current status = record {
   cannot_read = λ is. absurd (cc);
+  stopped = λ folder bytes is found opened. absurd (cc);
   no_such_file = λ folder is lacks. refl;
   cannot_open = λ folder is has closed. absurd (none_not_some (file_of folder name) (told folder is) has);
   untold = λ is closed. inl refl;
@@ -126,6 +126,7 @@ unreadable name bounds files left current rose (Err NoSuchFile) told absent fail
 }
 unreadable name bounds files left current rose (Err CannotOpen) told absent failed is_current status = record {
   cannot_read = λ is. absurd (cc);
+  stopped = λ folder bytes is found opened. absurd (cc);
   no_such_file = λ folder is lacks. absurd (none_not_some (file_of folder name) lacks (told folder is));
   cannot_open = λ folder is has closed. refl;
   untold = λ is closed. inr refl;
@@ -134,6 +135,11 @@ unreadable name bounds files left current rose (Err CannotOpen) told absent fail
 }
 unreadable name bounds files left current rose (Err CannotRead) told absent failed is_current status = record {
   cannot_read = λ is. refl;
+  stopped = λ folder bytes is found opened.
+      let read = told folder is in
+      let there = read.1 in
+      let same : read.0 ≡ bytes = cc in
+      subst (λ all. StoppedBefore bounds all left) same read.2;
   no_such_file = λ folder is lacks. absurd (let found = (told folder is).1 in cc);
   cannot_open = λ folder is has closed. absurd (cc);
   untold = λ is closed. absurd (cc);
@@ -154,9 +160,9 @@ of_some_lines name (Err (At number fault)) of_lines differs other = ([], (Some (
 of_some_lines name (Err NoMemory) of_lines differs other = absurd (other refl)
 
 -- memory was wanting
-memory_outcome : (words : List (List ℕ)) (name : List ℕ) (bounds : Bounds) (files : Option Folder) (current : Bool) (rose : Type 0) (given : Answer)
-    → summary_file words ≡ Some name → given.status ≡ 5 → given ≡ memory_answer → IsOutcome words bounds files current rose given
-memory_outcome words name bounds files current rose given taken memory is = record {
+memory_outcome : (words : List (List ℕ)) (name : List ℕ) (bounds : Bounds) (files : Option Folder) (left : Option (List ℕ)) (current : Bool) (rose : Type 0) (given : Answer)
+    → summary_file words ≡ Some name → given.status ≡ 5 → given ≡ memory_answer → IsOutcome words bounds files current left rose given
+memory_outcome words name bounds files left current rose given taken memory is = record {
   statuses = (omega (arith, memory), omega (arith, memory));
   usage = λ none. absurd (cc);
   only_usage = λ status. absurd (omega (arith, memory, status));
@@ -172,7 +178,7 @@ read_outcome : (words : List (List ℕ)) (name : List ℕ) (bounds : Bounds) (fi
     → summary_file words ≡ Some name
     → WhereTold files (λ folder. TraceRead bounds (file_of folder name) left read) → (read ≡ Err NoSuchFile → files ≡ None → rose) → (HasFailed read → rose)
     → IsCurrentWhere current read → IfOk read (λ summary. (lines : List (List ℕ)) × (summary ≡ summary_of (events lines))) → (read_answer name read).status ≢ 5
-    → IsOutcome words bounds files current rose (read_answer name read)
+    → IsOutcome words bounds files current left rose (read_answer name read)
 read_outcome words name bounds files left current rose read taken told absent failed is_current of_lines other =
     let statuses = read_statuses name read in
     let named : (folder : Folder) → answer words bounds folder ≡ named_answer bounds name (file_of folder name) = λ folder. ap (words_answer bounds folder) taken in
@@ -185,7 +191,7 @@ read_outcome words name bounds files left current rose read taken told absent fa
       no_memory = λ status. absurd (other status);
       unreadable = λ other_name other_taken status.
           let same : name ≡ other_name = cc in
-          subst (λ n. IsUnreadable n files current rose (read_answer name read)) same (unreadable name bounds files left current rose read told absent failed is_current status);
+          subst (λ n. IsUnreadable n bounds files current left rose (read_answer name read)) same (unreadable name bounds files left current rose read told absent failed is_current status);
       of_a_trace = λ other_name other_taken differs memory.
           let same : name ≡ other_name = cc in
           let found = of_some_lines name read of_lines differs memory in
@@ -198,13 +204,13 @@ pub is_outcome : (words : List (List ℕ)) (name : List ℕ) (bounds : Bounds) (
     → WhereTold files (λ folder. TraceRead bounds (file_of folder name) left read) → (read ≡ Err NoSuchFile → files ≡ None → rose) → (HasFailed read → rose)
     → IsCurrentWhere current read → IfOk read (λ summary. (lines : List (List ℕ)) × (summary ≡ summary_of (events lines)))
     → (given.status ≢ 5 → given ≡ read_answer name read) → (given.status ≡ 5 → given ≡ memory_answer)
-    → IsOutcome words bounds files current rose given
+    → IsOutcome words bounds files current left rose given
 is_outcome words name bounds files left current rose read given taken told absent failed is_current of_lines is_read no_memory =
     elim (eqb_tells given.status 5) [
-      | inl memory ↦ memory_outcome words name bounds files current rose given taken memory.1 (no_memory memory.1)
+      | inl memory ↦ memory_outcome words name bounds files left current rose given taken memory.1 (no_memory memory.1)
       | inr other ↦
           let is : given ≡ read_answer name read = is_read other.1 in
           let status : (read_answer name read).status ≢ 5 = λ five. other.1 (ap (λ a. a.status) is ∙ five) in
-          subst (λ a. IsOutcome words bounds files current rose a) (sym is)
+          subst (λ a. IsOutcome words bounds files current left rose a) (sym is)
           (read_outcome words name bounds files left current rose read taken told absent failed is_current of_lines status)
     ]

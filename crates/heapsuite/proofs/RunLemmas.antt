@@ -1,10 +1,10 @@
 -- From the answer of a run to what its outputs hold.
-use Rattle.std.proofs.Common.{◌≡◌, ℕ, ◌≤◌, Bool, List, [], length, Option, Some, None, ap, subst, refl, ◌∙◌, append-nil, arith}
+use Rattle.std.proofs.Common.{◌≡◌, ℕ, Bool, List, [], Option, Some, None, ap, subst, refl, ◌∙◌, append-nil, arith}
 use Rattle.std.specs.Io.KnownBytes.{append_known}
 use Rattle.ht_trace.specs.TraceEvents.{events}
 use Rattle.hp_outside.specs.Lines.{lines_of}
 use Rattle.hp_outside.specs.Folder.{Folder, file_of}
-use Rattle.heapsuite.specs.Answer.{Answer, answer, named_answer, trace_answer, words_answer}
+use Rattle.heapsuite.specs.Answer.{Answer, answer, named_answer, words_answer}
 use Rattle.heapsuite.specs.Delivery.{Delivered}
 use Rattle.heapsuite.specs.RunOutcome.{IsOutcome}
 use Rattle.heapsuite.specs.SummaryText.{summary_of, summary_text}
@@ -30,8 +30,8 @@ pub delivered_as : (given other : Answer) (status : ℕ) (out_old out_new err_ol
 delivered_as given other status out_old out_new err_old err_new is = subst (λ a. Delivered a status out_old out_new err_old err_new) is
 
 -- status 3 has a file
-pub unreadable_name : (words : List (List ℕ)) (bounds : Bounds) (files : Option Folder) (current : Bool) (rose : Type 0) (given : Answer) (taken : Option (List ℕ))
-    → IsOutcome words bounds files current rose given → given.status ≡ 3 → summary_file words ≡ taken → (name : List ℕ) × (summary_file words ≡ Some name)
-unreadable_name words bounds files current rose given None outcome status is =
+pub unreadable_name : (words : List (List ℕ)) (bounds : Bounds) (files : Option Folder) (current : Bool) (left : Option (List ℕ)) (rose : Type 0) (given : Answer) (taken : Option (List ℕ))
+    → IsOutcome words bounds files current left rose given → given.status ≡ 3 → summary_file words ≡ taken → (name : List ℕ) × (summary_file words ≡ Some name)
+unreadable_name words bounds files current left rose given None outcome status is =
     let usage : given.status ≡ 2 = ap (λ a. a.status) (outcome.usage is) in absurd (omega arith)
-unreadable_name words bounds files current rose given (Some name) outcome status is = (name, is)
+unreadable_name words bounds files current left rose given (Some name) outcome status is = (name, is)

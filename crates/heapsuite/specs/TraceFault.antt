@@ -6,7 +6,6 @@ use Rattle.hp_outside.specs.declared.limits.Limits.{Limits}
 use Rattle.live_ledger.specs.declared.event.Event.{Event}
 use Rattle.live_ledger.specs.declared.event.EventFault.{EventFault}
 use Rattle.live_ledger.specs.Faults.{fault_of}
-use Rattle.ht_trace.specs.declared.error.LineError.{LineError}
 use Rattle.ht_trace.specs.LineFault as tables
 use Rattle.ht_trace.specs.StepOf.{event_of, step_of}
 use Rattle.ht_trace.specs.TraceEvents.{events}

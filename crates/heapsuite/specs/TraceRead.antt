@@ -1,5 +1,5 @@
 -- What reading a trace from a named file gives.
-use Rattle.std.specs.Prelude.{◌≡◌, ◌+◌, ◌-◌, codes, ℕ, Bool, true, false, List, [], ◌++◌, length, Option, Some, None, IsSome, Result, Ok, Err}
+use Rattle.std.specs.Prelude.{◌≡◌, ◌≤◌, ◌+◌, ◌-◌, codes, ℕ, Bool, true, false, List, [], ◌++◌, length, Option, Some, None, IsSome, Result, Ok, Err}
 use Rattle.hp_outside.specs.Lines.{lines_of}
 use Rattle.hp_outside.specs.LineReaderState.{LineReaderState}
 use Rattle.hp_outside.specs.NextLine.{IsUndecided}
@@ -10,16 +10,18 @@ use Rattle.heapsuite.specs.declared.summary.Summary.{Summary}
 use Rattle.heapsuite.specs.Answer.{Answer, memory_answer, refused, fault_text, fault_status}
 use Rattle.heapsuite.specs.Message.{at_file, at_line}
 use Rattle.heapsuite.specs.SummaryText.{summary_of, summary_text}
-use Rattle.heapsuite.specs.TraceFault.{Bounds, Refusal, bytes_of_lines, first_fault, line_faults, trace_fault}
+use Rattle.heapsuite.specs.TraceFault.{Bounds, bytes_of_lines, first_fault, line_faults, trace_fault}
 
--- a failed read came before any fault: the lines that were taken whole before it have none, and the bytes taken after
--- them, which are kept, show no fault of the next line's length
+-- a failed read came before any fault: the lines that were taken whole before it, each with its line feed, have none,
+-- and the bytes taken after them, which are kept, show no fault of the next line's length. The lines taken, each with
+-- a line feed, reach to the bytes that are kept, so that the line feed before those isn't left out
 pub record StoppedBefore (bounds : Bounds) (bytes : List ℕ) (left : Option (List ℕ)) : Type 0 where
   pub taken : List (List ℕ)
   pub kept : List ℕ
   pub unread : List ℕ
   pub left_is : left ≡ Some unread
   pub lines_are : lines_of bytes ≡ taken ++ lines_of (kept ++ unread)
+  pub reached : length bytes ≤ bytes_of_lines taken + length (kept ++ unread)
   pub no_fault : first_fault 1 (line_faults bounds (length bytes) [] taken) ≡ None
   pub undecided : IsUndecided bounds.input bounds.line (length bytes - length (kept ++ unread)) kept
 

@@ -1,7 +1,6 @@
 //! From the words and the files to the outcome. How an outcome is written is the business of `deliver`.
 ghost use Rattle.std.specs.Prelude.{◌≡◌, ◌≢◌, ◌+◌, ◌-◌, ◌^◌, ◌<◌, ◌≤◌, ℕ, List, [], Some, None, true, map, string_bytes, IfOk};
 ghost use Rattle.hp_outside.specs.Faults.{Rose};
-ghost use Rattle.hp_outside.specs.Folder.{Folder, file_of};
 ghost use Rattle.hp_outside.specs.Taken.{WhereTold};
 ghost use Rattle.heapsuite.specs.Answer.{Answer, memory_answer, refused};
 ghost use Rattle.heapsuite.specs.Message.{at_file};
@@ -9,7 +8,7 @@ ghost use Rattle.heapsuite.specs.Outcome.{answer_of, code_of};
 ghost use Rattle.heapsuite.specs.RunOutcome.{IsOutcome};
 ghost use Rattle.heapsuite.specs.SummaryText.{summary_text};
 ghost use Rattle.heapsuite.specs.TraceFault.{bounds_of};
-ghost use Rattle.heapsuite.specs.TraceRead.{StoppedBefore, fault_answer, read_answer};
+ghost use Rattle.heapsuite.specs.TraceRead.{fault_answer, read_answer};
 ghost use Rattle.heapsuite.specs.Words.{summary_file as summary_file_of};
 
 use crate::message::Message;
@@ -30,16 +29,13 @@ pub fn run_words<S: Store>(
 ) -> Outcome
     requires { S.opens store.old < 2 ^ 64 - 1 }
     ensures outcome { IsOutcome (map string_bytes words.now) (bounds_of limits.now) (S.files store.old) (S.current store.new)
-        (Rose (S.faults store.old) (S.faults store.new)) (answer_of result) }
+        (S.left store.new) (Rose (S.faults store.old) (S.faults store.new)) (answer_of result) }
     ensures opens { S.opens store.new ≤ S.opens store.old + 1 }
     ensures unopened { summary_file_of (map string_bytes words.now) ≡ None → S.opens store.new ≡ S.opens store.old }
     ensures current { code_of result.status ≡ 0 → S.current store.new ≡ true }
     ensures files { S.files store.new ≡ S.files store.old }
     ensures opened { code_of result.status ≡ 0 → S.opens store.new ≡ S.opens store.old + 1 }
     ensures ended { code_of result.status ≡ 0 → WhereTold (S.left store.new) (λ left. left ≡ []) }
-    ensures stopped { (folder : Folder) (name bytes : List ℕ) → S.files store.old ≡ Some folder → summary_file_of (map string_bytes words.now) ≡ Some name
-        → file_of folder name ≡ Some bytes → code_of result.status ≡ 3 → S.current store.new ≡ true
-        → StoppedBefore (bounds_of limits.now) bytes (S.left store.new) }
 {
     let Some(name) = summary_file(words) else {
         return Outcome::usage(alloc);

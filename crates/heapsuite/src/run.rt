@@ -29,10 +29,13 @@ use std::alloc::Global;
 /// - 0: the report was written, and the file was read to its end.
 /// - 1: the trace has a faulty line, the first of which the message names.
 /// - 2: the words aren't taken; the message is the usage text.
-/// - 3: the file is absent, or a call on the store failed.
+/// - 3: the file is absent, or a call on the store failed. A fault of a line that was taken whole before the failed
+///   call is told in its stead, and so is one of a line's length that the bytes taken show.
 /// - 4: a write or a flush failed.
 /// - 5: memory was wanting.
 /// - 6: the trace is past a limit.
+///
+/// `limits` bounds the bytes of the file, and those of each of its lines without its line feed.
 ///
 /// The store must have counted fewer than 2^63 calls of `open`.
 pub fn heapsuite_run<S: Store, O: Sink, E: Sink>(
@@ -62,7 +65,7 @@ pub fn heapsuite_run<S: Store, O: Sink, E: Sink>(
 
     // Whatever failed: one answer that the words and the files allow was delivered whole, or at status 4 in part.
     ensures outcome { (given : Answer)
-        × IsOutcome (map string_bytes words.now) (bounds_of limits.now) (S.files store.old) (S.current store.new) (Rose (S.faults store.old) (S.faults store.new)) given
+        × IsOutcome (map string_bytes words.now) (bounds_of limits.now) (S.files store.old) (S.current store.new) (S.left store.new) (Rose (S.faults store.old) (S.faults store.new)) given
         × (result ≢ 4 → Delivered given result (O.written out.old) (O.written out.new) (E.written err.old) (E.written err.new))
         × GainsFronts given (Rose (O.faults out.old) (O.faults out.new)) (Rose (E.faults err.old) (E.faults err.new)) (O.written out.old) (O.written out.new) (E.written err.old) (E.written err.new) }
     ensures statuses { result ≤ 6 }

@@ -13,10 +13,10 @@ const TWO_SIZES_SUMMARY: &str =
     "events: 4\ncalls: 3\ntemporary: 0\nallocated: 232\npeak: 132 at event 2\nleaked: 132 in 2 blocks\n";
 
 /// A trace with strings, instructions, nodes, a command, a clock value and resident memory.
-const WORKED: &str =
+pub const WORKED: &str =
     "v 10500 2\nX demo\nI 1000 3e80\ns app\ns main\ns f\ns a.c\ni 400 1 2 4 14\ni 500 1 3 4 a\nt 1 0\nt 2 1\na 64 2\na 64 1\n+ 0\nc 5\nR 100\n- 0\n+ 1\n";
 
-const WORKED_SUMMARY: &str =
+pub const WORKED_SUMMARY: &str =
     "events: 3\ncalls: 2\ntemporary: 1\nallocated: 200\npeak: 100 at event 1\nleaked: 100 in 1 blocks\n";
 
 const NO_EVENTS_SUMMARY: &str =
@@ -26,25 +26,25 @@ const USAGE: &str = "usage: heapsuite COMMAND [OPTION]... [FILE]\ncommands: summ
 
 /// A run over a folder with one file, and what is expected of it. A call of number 0 never fails.
 #[derive(Clone, Copy)]
-struct Case {
-    words: &'static [&'static str],
-    file: &'static str,
-    trace: &'static str,
-    piece: usize,
-    input: u32,
-    line: u16,
-    failing_store_call: u64,
-    out_room: usize,
-    failing_out_call: u64,
-    err_room: usize,
-    failing_err_call: u64,
-    status: u8,
-    output: &'static str,
-    message: &'static str,
+pub struct Case {
+    pub words: &'static [&'static str],
+    pub file: &'static str,
+    pub trace: &'static str,
+    pub piece: usize,
+    pub input: u32,
+    pub line: u16,
+    pub failing_store_call: u64,
+    pub out_room: usize,
+    pub failing_out_call: u64,
+    pub err_room: usize,
+    pub failing_err_call: u64,
+    pub status: u8,
+    pub output: &'static str,
+    pub message: &'static str,
 }
 
 /// `summary t` over a trace, all calls sound.
-const fn summary(
+pub const fn summary(
     trace: &'static str,
     status: u8,
     output: &'static str,
@@ -91,7 +91,24 @@ fn words_of(alloc: Global, words: &[&str]) -> Result<Vec<String>, Fail> {
 }
 
 /// Runs a case, and asserts the status and what both outputs hold.
-fn expect(rt: &impl Abort, alloc: Global, case: &Case) -> Result<(), Fail> {
+pub fn expect(rt: &impl Abort, alloc: Global, case: &Case) -> Result<(), Fail> {
+    expect_of(
+        rt,
+        alloc,
+        case,
+        case.trace.as_bytes(),
+        case.message.as_bytes(),
+    )
+}
+
+/// Runs a case over another trace, of which another message is expected.
+pub fn expect_of(
+    rt: &impl Abort,
+    alloc: Global,
+    case: &Case,
+    trace: &[u8],
+    message: &[u8],
+) -> Result<(), Fail> {
     let words = words_of(alloc, case.words)?;
     let limits = Limits {
         input: u64::from(case.input),
@@ -99,7 +116,7 @@ fn expect(rt: &impl Abort, alloc: Global, case: &Case) -> Result<(), Fail> {
         order: 1,
     };
     let mut store = MemStore::new(alloc, case.piece.max(1));
-    store.add(case.file, case.trace.as_bytes())?;
+    store.add(case.file, trace)?;
     store.fail_at(case.failing_store_call)?;
     let mut out = MemSink::new(alloc, case.out_room)?;
     out.fail_at(case.failing_out_call)?;
@@ -107,7 +124,7 @@ fn expect(rt: &impl Abort, alloc: Global, case: &Case) -> Result<(), Fail> {
     err.fail_at(case.failing_err_call)?;
     let status = heapsuite_run(alloc, &words, &limits, &mut store, &mut out, &mut err);
     assert_eq!(rt; out.bytes(), case.output.as_bytes(), "standard output");
-    assert_eq!(rt; err.bytes(), case.message.as_bytes(), "standard error");
+    assert_eq!(rt; err.bytes(), message, "standard error");
     assert_eq!(rt; status, case.status, "status");
     Ok(())
 }

@@ -1,4 +1,4 @@
-use Rattle.std.proofs.Common.{◌≡◌, ◌+◌, ◌*◌, ◌≤◌, ℕ, [], ◌∷◌, ◌++◌, length, Some, None, Ok, Err, IfSome, is_some, if◌then◌else◌, ap, sym, subst, refl, ◌∙◌, arith, rules}
+use Rattle.std.proofs.Common.{◌≡◌, ◌+◌, ◌≤◌, [], ◌∷◌, ◌++◌, length, Some, None, Ok, Err, IfSome, is_some, if◌then◌else◌, ap, subst, refl, ◌∙◌, arith}
 use Rattle.hp_outside.specs.declared.span.LineFault.TheVariants as reading
 use Rattle.hp_outside.specs.NextLine.{IsLine}
 use Rattle.heapsuite.specs.TraceFault.{content_fault}

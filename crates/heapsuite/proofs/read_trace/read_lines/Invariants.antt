@@ -2,7 +2,6 @@
 -- store has left.
 use Rattle.std.proofs.Common.{◌≡◌, ◌+◌, ◌-◌, ◌*◌, ◌≤◌, [], None, true}
 use Rattle.hp_outside.specs.Taken.{WhereTold}
-use Rattle.heapsuite.specs.TraceFault.{Bounds}
 use Rattle.heapsuite.specs.TraceReader.{IsSound}
 use Rattle.heapsuite.proofs.LinesLoop.{Reading, bounds_at}
 use Rattle.heapsuite.proofs.read_trace.read_lines.Given as goal

@@ -1,4 +1,4 @@
-use Rattle.std.proofs.Common.{◌≡◌, subst}
+use Rattle.std.proofs.Common.{subst}
 use Rattle.hp_outside.specs.Folder.{file_of}
 use Rattle.hp_outside.specs.Taken.{WhereTold}
 use Rattle.heapsuite.specs.TraceRead.{LinesRead}

@@ -28,13 +28,18 @@ pub returns-clause-unreadable_untold : goal.returns-clause-unreadable_untold
 returns-clause-unreadable_untold g c = λ untold three.
     let given = c.deliver.ensures.status (omega (arith, three)) in
     let status : (answer_of c.run_words-outcome.result).status ≡ 3 = sym given.status_is ∙ three in
-    let named = unreadable_name _ _ _ _ _ _ (summary_file (map string_bytes c.args.words.now)) c.run_words-outcome.ensures.outcome status refl in
+    let named = unreadable_name _ _ _ _ _ _ _ (summary_file (map string_bytes c.args.words.now)) c.run_words-outcome.ensures.outcome status refl in
     (c.run_words-outcome.ensures.outcome.unreadable named.0 named.1 status).cause_untold untold
 
 pub returns-clause-cannot_read : goal.returns-clause-cannot_read
 returns-clause-cannot_read g c = λ name taken three current.
     let given = c.deliver.ensures.status (omega (arith, three)) in
     delivered_as _ _ _ _ _ _ _ ((c.run_words-outcome.ensures.outcome.unreadable name taken (sym given.status_is ∙ three)).cannot_read current) given
+
+pub returns-clause-stopped : goal.returns-clause-stopped
+returns-clause-stopped g c = λ folder name bytes told taken found three current.
+    let given = c.deliver.ensures.status (omega (arith, three)) in
+    (c.run_words-outcome.ensures.outcome.unreadable name taken (sym given.status_is ∙ three)).stopped folder bytes told found current
 
 pub returns-clause-no_such_file : goal.returns-clause-no_such_file
 returns-clause-no_such_file g c = λ folder name told taken three lacks.

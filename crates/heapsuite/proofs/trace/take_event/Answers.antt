@@ -1,7 +1,7 @@
-use Rattle.std.proofs.Common.{◌≡◌, ℕ, ◌+◌, List, [], ◌∷◌, ◌++◌, length, ap, sym, ◌∙◌, arith}
+use Rattle.std.proofs.Common.{◌≡◌, List, [], ◌∷◌, ◌++◌, length, ap, sym, ◌∙◌}
 use Rattle.std.proofs.lemmas.List.{length_push}
 use Rattle.live_ledger.specs.declared.event.Event.{Event}
-use Rattle.live_ledger.specs.Events.{counted, event_count}
+use Rattle.live_ledger.specs.Events.{counted}
 use Rattle.live_ledger.specs.LiveBytes.{live_bytes}
 use Rattle.live_ledger.specs.StandsFor.{StandsFor}
 use Rattle.heapsuite.specs.Peak.{peak_of}

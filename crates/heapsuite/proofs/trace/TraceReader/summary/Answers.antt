@@ -4,7 +4,6 @@ use Rattle.live_ledger.specs.StandsFor.{AreTotalsOf}
 use Rattle.heapsuite.specs.declared.peak.Peak.{Peak}
 use Rattle.heapsuite.specs.declared.summary.Summary.{Summary}
 use Rattle.heapsuite.specs.SummaryText.{summary_of}
-use Rattle.live_ledger.specs.Events.{counted}
 use Rattle.ht_trace.specs.TraceEvents.{events}
 use Rattle.heapsuite.proofs.trace.TraceReader.summary.Goals as goal
 
