@@ -30,7 +30,7 @@ impl Model for Names {
 }
 
 impl Names {
-    /// No names. It takes no memory.
+    /// No names. It takes no memory; that of the names to come is taken from `alloc`.
     pub fn new(alloc: Global) -> Self
         ensures empty { result ≡ [] }
     {
@@ -39,9 +39,10 @@ impl Names {
         }
     }
 
-    /// The number of the name `bytes`, which is added with the next number where it is new.
+    /// The number of the name `bytes`, which is added with the next number where it is new: the new count.
     ///
-    /// A name that is present takes no memory, so it is never refused. On `NoMemory` the names are as before.
+    /// A name may have any bytes, and none too. One that is present keeps its number and takes no memory, so it is never
+    /// refused. A new one is copied; `NoMemory` comes only where memory for it is wanting, and the names are then as before.
     pub fn intern(&mut self, bytes: &[u8]) -> Result<usize, NoMemory>
         ensures present { IfSome (number_of self.old bytes.now) (λ n. (result ≡ Ok n) × (self.new ≡ self.old)) }
         ensures added { IfNone (number_of self.old bytes.now) (OnOk result (self.new ≡ self.old ++ bytes.now ∷ [])) }
@@ -68,7 +69,7 @@ impl Names {
         Ok(self.names.len())
     }
 
-    /// The number of the name `bytes`: `None` exactly where no name is equal to it. It takes no memory.
+    /// The number of the name `bytes`: `None` exactly where no name has the same bytes. It takes no memory.
     pub fn find(&self, bytes: &[u8]) -> Option<usize>
         ensures number { result ≡ number_of self.now bytes.now }
         ensures found { IsSome result ↔ Contains self.now bytes.now }
@@ -80,7 +81,9 @@ impl Names {
         Some(place + 1)
     }
 
-    /// The name with the number `n`: `None` exactly where no name has that number. It takes no memory.
+    /// The bytes of the name with the number `n`.
+    ///
+    /// It is `None` exactly where no name has that number: for 0, and above `len`. It takes no memory.
     pub fn name(&self, n: usize) -> Option<&[u8]>
         ensures found { IsSome result ↔ ((1 ≤ n) × (n ≤ length self.now)) }
         ensures name { IfSome result (λ name. name_at self.now n ≡ Some name.now) }
@@ -90,7 +93,7 @@ impl Names {
         Some(name.as_slice())
     }
 
-    /// How many names there are, which is the greatest number of a name.
+    /// How many names there are, which is the greatest number of a name. It takes no memory.
     pub fn len(&self) -> usize
         ensures count { result ≡ length self.now }
         ensures small { result < 2 ^ 63 }

@@ -27,7 +27,7 @@ fn names_by_first_appearance(rt: HostRuntime) -> Result<(), NoMemory> {
     Ok(())
 }
 
-// Enough names for the table to grow several times.
+// Enough names for the table to grow several times: each keeps its number, and both ways of asking know it.
 #[test]
 fn thousand_names(rt: HostRuntime) -> Result<(), NoMemory> {
     let mut names = Names::new(rt.alloc());
@@ -38,5 +38,16 @@ fn thousand_names(rt: HostRuntime) -> Result<(), NoMemory> {
         }
     }
     assert_eq!(rt; names.len(), 1000);
+    for i in 0..1000usize {
+        let name = [(i % 256) as u8, (i / 256) as u8];
+        assert_eq!(rt; names.find(&name), Some(i + 1), "the number of name {i}");
+        assert_eq!(rt;
+            names.name(i + 1),
+            Some(name.as_slice()),
+            "the name with the number {i} + 1"
+        );
+    }
+    assert_eq!(rt; names.find(&[232, 3]), None);
+    assert_eq!(rt; names.name(1001), None);
     Ok(())
 }

@@ -4,19 +4,19 @@ ghost use Rattle.std.specs.Prelude.{◌≡◌};
 use std::alloc::AllocFailed;
 use thiserror::Error;
 
-/// Why a node can't be added to the nodes that are held.
+/// Why a node can't be added to the nodes that are held. Where several apply, the first of these is told.
 #[derive(Clone, Copy, Debug, PartialEq, Eq, Error)]
 pub enum NodeFault {
-    /// The parent is no node that is held.
+    /// The parent isn't 0, and no node that is held has its number.
     #[error("unknown parent")]
     UnknownParent,
-    /// The new stack would have more than 4,096 frames.
+    /// The new stack would have more than 4,096 frames, with those of the parent's stack.
     #[error("stack too deep")]
     TooDeep,
-    /// 2^32 - 2 nodes are held.
+    /// 2^32 - 2 nodes are held, so that there is no number for one more.
     #[error("too many nodes")]
     Full,
-    /// Memory is wanting.
+    /// Memory for one more node is wanting.
     #[error("out of memory")]
     NoMemory,
 }

@@ -27,7 +27,9 @@ struct NodeEntry {
     depth: u16,
 }
 
-/// The nodes of a trace, numbered from 1.
+/// The nodes of a trace, numbered from 1 in the order in which they were added.
+///
+/// Stack `n` is node `n`, its parent, that one's parent, and so on outwards to a node with no parent; stack 0 is empty.
 ///
 /// Contracts see it as the list of the nodes' instruction pointers, parents and frames. Each parent is below its
 /// node's number, and 0 stands for no parent.
@@ -49,7 +51,7 @@ impl Model for Nodes {
 }
 
 impl Nodes {
-    /// No nodes. It takes no memory.
+    /// No nodes. It takes no memory; that of the nodes to come is taken from `alloc`.
     pub fn new(alloc: Global) -> Self
         ensures empty { result ≡ [] }
     {
@@ -58,9 +60,20 @@ impl Nodes {
         }
     }
 
-    /// Adds a node of `frames` frames and answers its number, which is the new count.
+    /// Adds a node and answers its number, which is the new count.
     ///
-    /// After an error the nodes are as before. It takes the same time for any stack.
+    /// `ip` is the node's instruction pointer, and may be any number. `parent` is the number of the node that it is
+    /// called from, or 0 where it has no parent. `frames` is how many frames it adds to its parent's stack, and may be 0.
+    ///
+    /// The faults, in the order in which they are looked for, so that the first that applies is the one that comes:
+    ///
+    /// - `UnknownParent` exactly where `parent` is above the count;
+    /// - `TooDeep` exactly where the parent is known and the new stack would have more than 4,096 frames: those of the
+    ///   parent's stack, which are none for parent 0, and `frames`;
+    /// - `Full` exactly where neither applies and 2^32 - 2 nodes are held;
+    /// - `NoMemory` only where none of these applies and memory is wanting.
+    ///
+    /// After a fault the nodes are as before. It takes the same time for any stack.
     pub fn add(&mut self, ip: u64, parent: u64, frames: u32) -> Result<u32, NodeFault>
         ensures added { OnOk result (self.new ≡ self.old ++ record { ip = ip; parent = parent; frames = frames } ∷ []) }
         ensures number { IfOk result (λ number. number ≡ length self.old + 1) }
@@ -113,8 +126,9 @@ impl Nodes {
         u32::from(self.entries[n as usize - 1].depth)
     }
 
-    /// The instruction pointer and the parent of node `n`: `None` exactly where no node has that number.
-    /// It takes no memory.
+    /// The instruction pointer and the parent of node `n`, as they were added, where parent 0 stands for none.
+    ///
+    /// It is `None` exactly where no node has that number: for 0, and above `len`. It takes no memory.
     pub fn node(&self, n: u32) -> Option<(u64, u32)>
         ensures found { IsSome result ↔ ((1 ≤ n) × (n ≤ length self.now)) }
         ensures entry { result ≡ option_map (λ node. record { 0 = node.ip; 1 = node.parent }) (node_at self.now n) }
@@ -128,10 +142,11 @@ impl Nodes {
         Some((entry.ip, entry.parent))
     }
 
-    /// Replaces `out` by the instruction pointers of stack `n`, from node `n` outwards; stack 0 is empty.
+    /// Replaces what `out` holds by the instruction pointers of stack `n`, from that of node `n` outwards.
     ///
-    /// On `NoMemory`, `out` holds what it held before. It can't fail where `out` has room for the stack, and its
-    /// time is in the length of the stack alone.
+    /// `n` has to be at most `len`; for 0 `out` is left empty. `NoMemory` comes only where the capacity of `out` is below
+    /// the length of the stack and memory is wanting; `out` then holds what it held before. The time is in the length of
+    /// the stack alone.
     pub fn stack_into(&self, n: u32, out: &mut Vec<u64>) -> Result<(), NoMemory>
         requires { n ≤ length self.now }
         ensures ips { OnOk result (out.new.items ≡ stack self.now n) }
@@ -145,7 +160,7 @@ impl Nodes {
         push_stack(&self.entries, n, out)
     }
 
-    /// How many nodes are held, which is the greatest number of a node.
+    /// How many nodes are held, which is the greatest number of a node: 2^32 - 2 at most. It takes no memory.
     pub fn len(&self) -> u32
         ensures count { result ≡ length self.now }
         ensures bound { result ≤ 2 ^ 32 - 2 }
