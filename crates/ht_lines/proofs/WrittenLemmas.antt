@@ -14,8 +14,8 @@ use Rattle.ht_lines.specs.Kinds.{IsOther, after_kind, plain_text, fields_of}
 use Rattle.ht_lines.specs.Reads.{Reads}
 use Rattle.ht_lines.specs.Reading.{reading}
 use Rattle.ht_lines.specs.Written.{spelled, spelled_text, written, AreWords, IsWritable}
-use Rattle.ht_lines.proofs.NumberLemmas.{number-no_blank, number-not_empty, AreNumbers-length}
-use Rattle.ht_lines.proofs.TextLemmas.{before_blank-at, from_blank-at, fields-number}
+use Rattle.ht_lines.proofs.NumberLemmas.{AreNumbers-length}
+use Rattle.ht_lines.proofs.TextLemmas.{fields-number}
 use Rattle.ht_lines.proofs.NameLemmas.{sized_name-is}
 use Rattle.ht_lines.proofs.InstructionLines.{IsInstructionCount}
 use Rattle.ht_lines.proofs.LineSides.{reading-item}

@@ -85,7 +85,7 @@ returns-in-Err-ReadFailed-clause-told g c =
     let unmoved = next.unmoved (λ line. subst IsLine is line) in
     read_stopped (bounds_at c.args.lines.now) c.lines.lines c.next.new.self c.lines.trace
     (g.S.Store.left c.args.store.now) (g.S.Store.left c.lines.store) (g.S.Store.left c.next.new.store)
-    held.reading (next.input ∙ held.input) (next.limit ∙ held.line_limit) unmoved.0 unmoved.1 (next.place held.no_fault is)
+    held.reading (next.input ∙ held.input) (next.limit ∙ held.line_limit) unmoved.0 unmoved.3 (next.place held.no_fault is)
 
 pub returns-in-Err-LineTooLong-clause-told : goal.returns-in-Err-LineTooLong-clause-told
 returns-in-Err-LineTooLong-clause-told g c =
