@@ -3,8 +3,10 @@ use Rattle.std.specs.Prelude.{ℕ, List, [], Option, Some, None, codes}
 use Rattle.hp_outside.specs.Folder.{Folder, file_of}
 use Rattle.hp_outside.specs.Lines.{lines_of}
 use Rattle.live_ledger.specs.declared.event.EventFault.TheVariants as ledger
+use Rattle.live_ledger.specs.FaultText as ledger_text
 use Rattle.ht_trace.specs.declared.error.LineError.{LineError}
-use Rattle.ht_trace.specs.declared.error.LineError.TheVariants.{BadField, MissingField, ExtraField, NotInterpreted, NotRaw, BadVersion, NoVersion, SecondVersion, UnknownString, UnknownInstruction, UnknownParent, UnknownTrace, UnknownAllocation, TooDeep, TooMany, NoMemory}
+use Rattle.ht_trace.specs.declared.error.LineError.TheVariants.{TooDeep, TooMany}
+use Rattle.ht_trace.specs.ErrorText.{error_text}
 use Rattle.ht_trace.specs.TraceEvents.{events}
 use Rattle.heapsuite.specs.declared.fault.TraceFault.{TraceFault}
 use Rattle.heapsuite.specs.declared.fault.TraceFault.TheVariants.{LineTooLong, InputTooLong, Line, Event as event}
@@ -19,25 +21,6 @@ pub record Answer : Type 0 where
   pub message : List ℕ
   pub status : ℕ
 
--- what the fault of a line is called
-abbrev pub line_text : LineError → List ℕ
-line_text BadField = codes "bad field"
-line_text MissingField = codes "missing field"
-line_text ExtraField = codes "extra field"
-line_text NotInterpreted = codes "raw line"
-line_text NotRaw = codes "interpreted line"
-line_text BadVersion = codes "file version not 1 to 3"
-line_text NoVersion = codes "no version line"
-line_text SecondVersion = codes "second version line"
-line_text UnknownString = codes "unknown string"
-line_text UnknownInstruction = codes "unknown instruction"
-line_text UnknownParent = codes "unknown parent"
-line_text UnknownTrace = codes "unknown trace"
-line_text UnknownAllocation = codes "unknown allocation"
-line_text TooDeep = codes "stack too deep"
-line_text TooMany = codes "table full"
-line_text NoMemory = codes "out of memory"
-
 -- the status of the fault of a line; want of memory is no fault of a line, and never told as one
 abbrev pub line_status : LineError → ℕ
 line_status TooDeep = 6
@@ -48,9 +31,8 @@ line_status _ = 1
 abbrev pub fault_text : TraceFault → List ℕ
 fault_text LineTooLong = codes "line too long"
 fault_text InputTooLong = codes "input too long"
-fault_text (Line error) = line_text error
-fault_text (event ledger.FreeOfNothing) = codes "free of nothing"
-fault_text (event ledger.CostTooLarge) = codes "too many bytes allocated"
+fault_text (Line error) = error_text error
+fault_text (event fault) = ledger_text.fault_text fault
 
 -- the status of a fault of a trace: 6 past a limit, 1 where it is malformed
 abbrev pub fault_status : TraceFault → ℕ

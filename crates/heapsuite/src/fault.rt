@@ -1,7 +1,7 @@
 //! The faults of a trace at a line, what they are called, and their statuses. When each comes is decided where the
 //! line is read.
 ghost use Rattle.std.specs.Prelude.{◌≡◌, ◌⊎◌};
-ghost use Rattle.heapsuite.specs.Answer.{fault_status, fault_text, line_text, line_status};
+ghost use Rattle.heapsuite.specs.Answer.{fault_status, fault_text, line_status};
 ghost use Rattle.heapsuite.specs.Outcome.{code_of};
 
 use crate::outcome::Status;
@@ -29,9 +29,8 @@ impl TraceFault {
         match self {
             TraceFault::LineTooLong => "line too long",
             TraceFault::InputTooLong => "input too long",
-            TraceFault::Line(error) => line_error_text(error),
-            TraceFault::Event(EventFault::FreeOfNothing) => "free of nothing",
-            TraceFault::Event(EventFault::CostTooLarge) => "too many bytes allocated",
+            TraceFault::Line(error) => error.text(),
+            TraceFault::Event(fault) => fault.text(),
         }
     }
 
@@ -46,30 +45,6 @@ impl TraceFault {
             TraceFault::Event(EventFault::FreeOfNothing) => Status::Malformed,
             TraceFault::Event(EventFault::CostTooLarge) => Status::PastLimit,
         }
-    }
-}
-
-/// What the fault of a line is called.
-fn line_error_text(error: LineError) -> &'static str
-    ensures { result.now ≡ line_text error }
-{
-    match error {
-        LineError::BadField => "bad field",
-        LineError::MissingField => "missing field",
-        LineError::ExtraField => "extra field",
-        LineError::NotInterpreted => "raw line",
-        LineError::NotRaw => "interpreted line",
-        LineError::BadVersion => "file version not 1 to 3",
-        LineError::NoVersion => "no version line",
-        LineError::SecondVersion => "second version line",
-        LineError::UnknownString => "unknown string",
-        LineError::UnknownInstruction => "unknown instruction",
-        LineError::UnknownParent => "unknown parent",
-        LineError::UnknownTrace => "unknown trace",
-        LineError::UnknownAllocation => "unknown allocation",
-        LineError::TooDeep => "stack too deep",
-        LineError::TooMany => "table full",
-        LineError::NoMemory => "out of memory",
     }
 }
 

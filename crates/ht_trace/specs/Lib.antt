@@ -5,6 +5,7 @@ pub mod Gathered
 pub mod TraceLists
 pub mod TableState
 pub mod ErrorOf
+pub mod ErrorText
 pub mod LineFault
 pub mod StepOf
 pub mod TraceEvents

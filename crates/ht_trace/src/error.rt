@@ -1,6 +1,7 @@
-//! Why a line of a trace is refused. The words of the programs' messages are no part of it.
+//! Why a line of a trace is refused, and what each reason is called. Where the line stands is no part of it.
 ghost use Rattle.std.specs.Prelude.{◌≡◌};
 ghost use Rattle.ht_trace.specs.ErrorOf.{of_malformed, of_node_fault};
+ghost use Rattle.ht_trace.specs.ErrorText.{error_text};
 
 use hp_num::NoMemory;
 use ht_lines::Malformed;
@@ -10,56 +11,67 @@ use thiserror::Error;
 
 /// Why a line can't follow the lines before it. The first six are the refusals of the grammar.
 #[derive(Clone, Copy, Debug, PartialEq, Eq, Error)]
+#[error("{}", self.text())]
 pub enum LineError {
     /// A byte other than a blank follows the kind, a field isn't 1 to 16 hexadecimal digits, a clock value is above
     /// 2^62, or a module's range ends above 2^64 - 1.
-    #[error("bad field")]
     BadField,
     /// The line has too few fields.
-    #[error("missing field")]
     MissingField,
     /// The line has too many fields.
-    #[error("extra field")]
     ExtraField,
     /// The line is an allocation of a raw trace: `+` with three fields.
-    #[error("raw line")]
     NotInterpreted,
     /// The line is one of an interpreted trace. The tables, which are those of interpreted traces, never answer it.
-    #[error("interpreted line")]
     NotRaw,
     /// The file version isn't 1 to 3.
-    #[error("file version not 1 to 3")]
     BadVersion,
     /// No version line stands before a line that is neither a comment nor begins with `v`, or before the trace's end.
-    #[error("no version line")]
     NoVersion,
     /// A version line was read before.
-    #[error("second version line")]
     SecondVersion,
     /// The number of a module, function or file is above the count of the strings; 0, which is none, is always held.
-    #[error("unknown string")]
     UnknownString,
     /// The number of a node's instruction is above the count of the instructions; 0 is always held.
-    #[error("unknown instruction")]
     UnknownInstruction,
     /// The number of a node's parent is above the count of the nodes; 0 is always held.
-    #[error("unknown parent")]
     UnknownParent,
     /// The number of an info's node is above the count of the nodes; 0 is always held.
-    #[error("unknown trace")]
     UnknownTrace,
     /// The number of the info of an allocation or a free isn't below the count of the infos.
-    #[error("unknown allocation")]
     UnknownAllocation,
     /// A node's stack would have more than 4,096 frames.
-    #[error("stack too deep")]
     TooDeep,
     /// The table that would grow is full: 2^32 - 1 strings, instructions or infos, or 2^32 - 2 nodes.
-    #[error("table full")]
     TooMany,
     /// Memory is wanting.
-    #[error("out of memory")]
     NoMemory,
+}
+
+impl LineError {
+    /// What the error is called, in few words and without the line's number.
+    pub fn text(self) -> &'static str
+        ensures { result.now ≡ error_text self }
+    {
+        match self {
+            LineError::BadField => "bad field",
+            LineError::MissingField => "missing field",
+            LineError::ExtraField => "extra field",
+            LineError::NotInterpreted => "raw line",
+            LineError::NotRaw => "interpreted line",
+            LineError::BadVersion => "file version not 1 to 3",
+            LineError::NoVersion => "no version line",
+            LineError::SecondVersion => "second version line",
+            LineError::UnknownString => "unknown string",
+            LineError::UnknownInstruction => "unknown instruction",
+            LineError::UnknownParent => "unknown parent",
+            LineError::UnknownTrace => "unknown trace",
+            LineError::UnknownAllocation => "unknown allocation",
+            LineError::TooDeep => "stack too deep",
+            LineError::TooMany => "table full",
+            LineError::NoMemory => "out of memory",
+        }
+    }
 }
 
 impl From<Malformed> for LineError {

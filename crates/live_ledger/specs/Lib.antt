@@ -4,6 +4,7 @@ pub mod LiveBlocks
 pub mod InfoBlocks
 pub mod Temporary
 pub mod Faults
+pub mod FaultText
 pub mod LedgerState
 pub mod StandsFor
 pub mod Consistent
