@@ -21,6 +21,29 @@ fn read_all(rt: &impl Abort, tables: &mut Tables, lines: &[&[u8]]) -> Result<(),
     Ok(())
 }
 
+/// Reads lines, each with its answer.
+fn answers(rt: &impl Abort, tables: &mut Tables, lines: &[(&[u8], Result<Step, LineError>)]) {
+    for (line, answer) in lines {
+        assert_eq!(rt; read(rt, tables, line), *answer, "at {line:?}");
+    }
+}
+
+/// Whether the trace may end here.
+fn ends(rt: &impl Abort, tables: &Tables, want: Result<(), LineError>) {
+    assert_eq!(rt; tables.end(), want);
+}
+
+/// How many stacks there are, and the first command.
+fn holds(rt: &impl Abort, tables: &Tables, stacks: u32, command: Option<&[u8]>) {
+    assert_eq!(rt; tables.stacks(), stacks);
+    assert_eq!(rt; tables.command(), command);
+}
+
+/// The size and the stack of an info.
+fn has_info(rt: &impl Abort, tables: &Tables, n: u32, want: Option<(u64, u32)>) {
+    assert_eq!(rt; tables.info(n), want, "info {n}");
+}
+
 /// The places of the frames of a stack, as pairs of instruction and index.
 fn has_frames(
     rt: &impl Abort,
@@ -99,12 +122,11 @@ fn worked_trace(rt: &impl Abort, alloc: Global) -> Result<Tables, Fail> {
 #[test]
 fn fills_the_tables(rt: HostRuntime) -> Result<(), Fail> {
     let tables = worked_trace(&rt, rt.alloc())?;
-    assert_eq!(rt; tables.end(), Ok(()));
-    assert_eq!(rt; tables.stacks(), 3);
-    assert_eq!(rt; tables.info(0), Some((100, 2)));
-    assert_eq!(rt; tables.info(1), Some((100, 1)));
-    assert_eq!(rt; tables.info(2), None);
-    assert_eq!(rt; tables.command(), Some(b"demo".as_slice()));
+    ends(&rt, &tables, Ok(()));
+    holds(&rt, &tables, 3, Some(b"demo"));
+    has_info(&rt, &tables, 0, Some((100, 2)));
+    has_info(&rt, &tables, 1, Some((100, 1)));
+    has_info(&rt, &tables, 2, None);
     has_frames(&rt, rt.alloc(), &tables, 0, &[(0, 1)])?;
     has_frames(&rt, rt.alloc(), &tables, 1, &[(1, 0)])?;
     has_frames(&rt, rt.alloc(), &tables, 2, &[(2, 0), (1, 0)])
@@ -112,33 +134,30 @@ fn fills_the_tables(rt: HostRuntime) -> Result<(), Fail> {
 
 #[test]
 fn refuses_lines(rt: HostRuntime) -> Result<(), Fail> {
-    let lines: [(&[u8], LineError); 17] = [
-        (b"v 10500 2", LineError::SecondVersion),
-        (b"v 10500 4", LineError::BadVersion),
-        (b"i 1 5", LineError::UnknownString),
-        (b"i 1 4 5", LineError::UnknownString),
-        (b"i 1 4 4 5 1", LineError::UnknownString),
-        (b"i 1 4 4 4 1 4 5 1", LineError::UnknownString),
-        (b"i 1 1 2 3", LineError::MissingField),
-        (b"t 3 0", LineError::UnknownInstruction),
-        (b"t 9 0", LineError::UnknownInstruction),
-        (b"t 9 5", LineError::UnknownInstruction),
-        (b"t 1 3", LineError::UnknownParent),
-        (b"t 1 5", LineError::UnknownParent),
-        (b"a 1 3", LineError::UnknownTrace),
-        (b"+ 2", LineError::UnknownAllocation),
-        (b"- 2", LineError::UnknownAllocation),
-        (b"+ 40 1 1000", LineError::NotInterpreted),
-        (b"+0", LineError::BadField),
+    let lines: [(&[u8], Result<Step, LineError>); 17] = [
+        (b"v 10500 2", Err(LineError::SecondVersion)),
+        (b"v 10500 4", Err(LineError::BadVersion)),
+        (b"i 1 5", Err(LineError::UnknownString)),
+        (b"i 1 4 5", Err(LineError::UnknownString)),
+        (b"i 1 4 4 5 1", Err(LineError::UnknownString)),
+        (b"i 1 4 4 4 1 4 5 1", Err(LineError::UnknownString)),
+        (b"i 1 1 2 3", Err(LineError::MissingField)),
+        (b"t 3 0", Err(LineError::UnknownInstruction)),
+        (b"t 9 0", Err(LineError::UnknownInstruction)),
+        (b"t 9 5", Err(LineError::UnknownInstruction)),
+        (b"t 1 3", Err(LineError::UnknownParent)),
+        (b"t 1 5", Err(LineError::UnknownParent)),
+        (b"a 1 3", Err(LineError::UnknownTrace)),
+        (b"+ 2", Err(LineError::UnknownAllocation)),
+        (b"- 2", Err(LineError::UnknownAllocation)),
+        (b"+ 40 1 1000", Err(LineError::NotInterpreted)),
+        (b"+0", Err(LineError::BadField)),
     ];
     let mut tables = worked_trace(&rt, rt.alloc())?;
-    for (line, error) in lines {
-        assert_eq!(rt; read(&rt, &mut tables, line), Err(error), "at {line:?}");
-    }
+    answers(&rt, &mut tables, &lines);
     read_all(&rt, &mut tables, &[b"z what", b"", b"X other"])?;
-    assert_eq!(rt; tables.stacks(), 3);
-    assert_eq!(rt; tables.info(2), None);
-    assert_eq!(rt; tables.command(), Some(b"demo".as_slice()));
+    holds(&rt, &tables, 3, Some(b"demo"));
+    has_info(&rt, &tables, 2, None);
     Ok(())
 }
 
@@ -146,24 +165,20 @@ fn refuses_lines(rt: HostRuntime) -> Result<(), Fail> {
 fn wants_a_version_line(rt: HostRuntime) -> Result<(), Fail> {
     let mut tables = Tables::new(rt.alloc());
     read_all(&rt, &mut tables, &[b"# made by hand"])?;
-    assert_eq!(rt; tables.end(), Err(LineError::NoVersion));
-    let lines: [&[u8]; 4] = [b"s main", b"+0", b"", b"z"];
-    for line in lines {
-        assert_eq!(rt;
-            read(&rt, &mut tables, line),
-            Err(LineError::NoVersion),
-            "at {line:?}"
-        );
-    }
-    assert_eq!(rt;
-        read(&rt, &mut tables, b"v 1 9"),
-        Err(LineError::BadVersion)
-    );
-    assert_eq!(rt; read(&rt, &mut tables, b"vx"), Err(LineError::BadField));
-    assert_eq!(rt; tables.end(), Err(LineError::NoVersion));
-    assert_eq!(rt; tables.command(), None);
+    ends(&rt, &tables, Err(LineError::NoVersion));
+    let lines: [(&[u8], Result<Step, LineError>); 6] = [
+        (b"s main", Err(LineError::NoVersion)),
+        (b"+0", Err(LineError::NoVersion)),
+        (b"", Err(LineError::NoVersion)),
+        (b"z", Err(LineError::NoVersion)),
+        (b"v 1 9", Err(LineError::BadVersion)),
+        (b"vx", Err(LineError::BadField)),
+    ];
+    answers(&rt, &mut tables, &lines);
+    ends(&rt, &tables, Err(LineError::NoVersion));
+    holds(&rt, &tables, 1, None);
     read_all(&rt, &mut tables, &[b"v 10500"])?;
-    assert_eq!(rt; tables.end(), Ok(()));
+    ends(&rt, &tables, Ok(()));
     Ok(())
 }
 
@@ -201,11 +216,7 @@ fn gives_inlined_frames(rt: HostRuntime) -> Result<(), Fail> {
     read_all(&rt, &mut tables, &lines)?;
     let nodes: [&[u8]; 6] = [b"t 1 0", b"t 2 1", b"t 3 0", b"t 4 2", b"t 0 4", b"t 5 5"];
     for node in nodes {
-        assert_eq!(rt;
-            read(&rt, &mut tables, node),
-            Ok(Step::Stack),
-            "at {node:?}"
-        );
+        answers(&rt, &mut tables, &[(node, Ok(Step::Stack))]);
     }
     has_frames(&rt, rt.alloc(), &tables, 2, &[(2, 0), (1, 0)])?;
     has_frames(&rt, rt.alloc(), &tables, 3, &[(3, 0)])?;
@@ -264,8 +275,6 @@ fn counts_inlined_frames(rt: HostRuntime) -> Result<(), Fail> {
         (b"t 1 801", Err(LineError::TooDeep)),
         (b"t 2 801", Ok(Step::Stack)),
     ];
-    for (line, answer) in lines {
-        assert_eq!(rt; read(&rt, &mut tables, line), answer, "at {line:?}");
-    }
+    answers(&rt, &mut tables, &lines);
     Ok(())
 }
