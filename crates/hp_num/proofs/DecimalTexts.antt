@@ -44,7 +44,7 @@ unfolding parsed_dec
 parsed_numeral text h fits = rw (numeral_test 10 20 text h, lt-ltb (digits_value 10 text) (2 ^ 64) fits)
 
 -- what a text that has a number is
-parsed_is : (text : List ℕ) (n : ℕ) → parsed_dec text ≡ Some n → Numeral 10 20 text × (digits_value 10 text < 2 ^ 64) × (digits_value 10 text ≡ n)
+pub parsed_is : (text : List ℕ) (n : ℕ) → parsed_dec text ≡ Some n → Numeral 10 20 text × (digits_value 10 text < 2 ^ 64) × (digits_value 10 text ≡ n)
 unfolding parsed_dec
 parsed_is text n h =
     let p = cond_some (is_numeral 10 20 text && nat_lt (digits_value 10 text) (2 ^ 64)) (digits_value 10 text) n h in

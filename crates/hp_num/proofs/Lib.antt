@@ -1,4 +1,7 @@
+pub mod CommaTexts
 pub mod DecimalTexts
 pub mod HexSteps
 pub mod HexTexts
 pub mod Numerals
+pub mod PercentParts
+pub mod PercentTexts

@@ -1,7 +1,12 @@
+pub mod Commas
 pub mod DecText
 pub mod Digits
 pub mod HexText
 pub mod Hexadecimal
+pub mod Hundredths
 pub mod Numeral
 pub mod ParsedDec
 pub mod ParsedHex
+pub mod ParsedPercent
+pub mod Percent
+pub mod Right

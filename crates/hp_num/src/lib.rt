@@ -3,16 +3,22 @@
 #![tactic(auto)]
 
 mod bytes;
+mod commas;
 mod decimal;
 mod hex_digit;
 mod hexadecimal;
 mod memory;
+mod percent;
+mod right;
 mod text;
 
 pub use bytes::put_bytes;
+pub use commas::{comma_texts, put_commas};
 pub use decimal::{decimal_texts, parse_dec, put_dec};
 pub use hexadecimal::{hexadecimal_texts, parse_hex, put_hex};
 pub use memory::NoMemory;
+pub use percent::{hundredths, parse_percent, percent_texts, put_percent};
+pub use right::put_right;
 pub use text::Text;
 
 #[cfg(test)]

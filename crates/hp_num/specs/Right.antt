@@ -1,0 +1,6 @@
+-- How bytes are set to the right.
+use Rattle.std.specs.Prelude.{ℕ, ◌-◌, List, ◌++◌, length, replicate}
+
+-- blanks up to the width, and the bytes; bytes that are longer stand whole
+abbrev pub right_aligned : ℕ → List ℕ → List ℕ
+right_aligned width bytes = replicate (width - length bytes) 32 ++ bytes
