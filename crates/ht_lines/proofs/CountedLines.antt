@@ -1,11 +1,12 @@
 -- The lines of numbers: what is read is read so and what is refused is refused so, and the other way round.
-use Rattle.std.proofs.Common.{◌≡◌, ℕ, List, [], ◌∷◌, Option, Some, None, Ok, Err, MatchResult, refl, ap, arith}
+use Rattle.std.proofs.Common.{◌≡◌, ℕ, List, [], ◌∷◌, Option, Some, None, Result, Ok, Err, MatchResult, refl, ap, arith}
 use Rattle.hp_num.specs.ParsedHex.{parsed_hex}
 use Rattle.ht_lines.specs.declared.item.Malformed.{Malformed}
 use Rattle.ht_lines.specs.declared.item.Malformed.TheVariants.{BadField, MissingField, ExtraField, NotInterpreted, NotRaw, BadVersion}
+use Rattle.ht_lines.specs.declared.item.Form.TheVariants.{Raw, Interpreted}
 use Rattle.ht_lines.specs.Fields.{AreNumbers}
 use Rattle.ht_lines.specs.Refuses.{AreNoNumbers, RefusesNumbers, RefusesAllocation}
-use Rattle.ht_lines.specs.Reading.{with_number, one_number, two_numbers, allocation_of}
+use Rattle.ht_lines.specs.Reading.{with_number, one_number, two_numbers, info_number, three_numbers}
 use Rattle.ht_lines.proofs.NumberLemmas.{not_all-AreNoNumbers}
 
 -- one number
@@ -86,48 +87,108 @@ two_numbers-fault fs NotInterpreted r = absurd r
 two_numbers-fault fs NotRaw r = absurd r
 two_numbers-fault fs BadVersion r = absurd r
 
--- an allocation
+-- one number, and three fields are those of a raw trace
 
-allocation_field : (f : List ℕ) (o : Option ℕ) → parsed_hex f ≡ o → MatchResult (with_number {X = ℕ} o Ok) (λ n. AreNumbers (f ∷ []) (n ∷ [])) (λ fault. RefusesAllocation (f ∷ []) fault)
-allocation_field f None e = (refl, not_all-AreNoNumbers (f ∷ []) (rw e refl))
-allocation_field f (Some n) e = ap (λ o. o ∷ []) e
+info_field : (f : List ℕ) (o : Option ℕ) → parsed_hex f ≡ o → MatchResult (with_number {X = ℕ} o Ok) (λ n. AreNumbers (f ∷ []) (n ∷ [])) (λ fault. RefusesAllocation Interpreted (f ∷ []) fault)
+info_field f None e = (refl, not_all-AreNoNumbers (f ∷ []) (rw e refl))
+info_field f (Some n) e = ap (λ o. o ∷ []) e
 
-pub allocation-sound : (fs : List (List ℕ)) → MatchResult (allocation_of fs) (λ n. AreNumbers fs (n ∷ [])) (λ fault. RefusesAllocation fs fault)
-allocation-sound [] = refl
-allocation-sound (a ∷ []) = allocation_field a (parsed_hex a) refl
-allocation-sound (a ∷ b ∷ []) = (omega arith, λ e. omega arith)
-allocation-sound (a ∷ b ∷ c ∷ []) = refl
-allocation-sound (a ∷ b ∷ c ∷ d ∷ more) = (omega arith, λ e. omega arith)
+pub info_number-sound : (fs : List (List ℕ)) → MatchResult (info_number fs) (λ n. AreNumbers fs (n ∷ [])) (λ fault. RefusesAllocation Interpreted fs fault)
+info_number-sound [] = refl
+info_number-sound (a ∷ []) = info_field a (parsed_hex a) refl
+info_number-sound (a ∷ b ∷ []) = (omega arith, λ e. omega arith)
+info_number-sound (a ∷ b ∷ c ∷ []) = refl
+info_number-sound (a ∷ b ∷ c ∷ d ∷ more) = (omega arith, λ e. omega arith)
 
-pub allocation-item : (fs : List (List ℕ)) (n : ℕ) → AreNumbers fs (n ∷ []) → allocation_of fs ≡ Ok n
-allocation-item [] n e = absurd (cc)
-allocation-item (a ∷ []) n e = let is : parsed_hex a ≡ Some n = cc in rw is refl
-allocation-item (a ∷ b ∷ more) n e = absurd (cc)
+pub info_number-item : (fs : List (List ℕ)) (n : ℕ) → AreNumbers fs (n ∷ []) → info_number fs ≡ Ok n
+info_number-item [] n e = absurd (cc)
+info_number-item (a ∷ []) n e = let is : parsed_hex a ≡ Some n = cc in rw is refl
+info_number-item (a ∷ b ∷ more) n e = absurd (cc)
 
-allocation_fault : (f : List ℕ) (o : Option ℕ) → parsed_hex f ≡ o → AreNoNumbers (f ∷ []) → with_number {X = ℕ} o Ok ≡ Err BadField
-allocation_fault f None e never = refl
-allocation_fault f (Some n) e never = absurd (never (n ∷ []) (ap (λ o. o ∷ []) e))
+info_fault : (f : List ℕ) (o : Option ℕ) → parsed_hex f ≡ o → AreNoNumbers (f ∷ []) → with_number {X = ℕ} o Ok ≡ Err BadField
+info_fault f None e never = refl
+info_fault f (Some n) e never = absurd (never (n ∷ []) (ap (λ o. o ∷ []) e))
 
-pub allocation-fault : (fs : List (List ℕ)) (fault : Malformed) → RefusesAllocation fs fault → allocation_of fs ≡ Err fault
-allocation-fault [] MissingField r = refl
-allocation-fault [] ExtraField r = absurd (omega (arith, r.0))
-allocation-fault [] BadField r = absurd (omega (arith, r.0))
-allocation-fault [] NotInterpreted r = absurd (omega arith)
-allocation-fault (a ∷ []) MissingField r = absurd (omega arith)
-allocation-fault (a ∷ []) ExtraField r = absurd (omega (arith, r.0))
-allocation-fault (a ∷ []) BadField r = allocation_fault a (parsed_hex a) refl r.1
-allocation-fault (a ∷ []) NotInterpreted r = absurd (omega arith)
-allocation-fault (a ∷ b ∷ []) MissingField r = absurd (omega arith)
-allocation-fault (a ∷ b ∷ []) ExtraField r = refl
-allocation-fault (a ∷ b ∷ []) BadField r = absurd (omega (arith, r.0))
-allocation-fault (a ∷ b ∷ []) NotInterpreted r = absurd (omega arith)
-allocation-fault (a ∷ b ∷ c ∷ []) MissingField r = absurd (omega arith)
-allocation-fault (a ∷ b ∷ c ∷ []) ExtraField r = absurd (r.1 refl)
-allocation-fault (a ∷ b ∷ c ∷ []) BadField r = absurd (omega (arith, r.0))
-allocation-fault (a ∷ b ∷ c ∷ []) NotInterpreted r = refl
-allocation-fault (a ∷ b ∷ c ∷ d ∷ more) MissingField r = absurd (omega arith)
-allocation-fault (a ∷ b ∷ c ∷ d ∷ more) ExtraField r = refl
-allocation-fault (a ∷ b ∷ c ∷ d ∷ more) BadField r = absurd (omega (arith, r.0))
-allocation-fault (a ∷ b ∷ c ∷ d ∷ more) NotInterpreted r = absurd (omega arith)
-allocation-fault fs NotRaw r = absurd r
-allocation-fault fs BadVersion r = absurd r
+pub info_number-fault : (fs : List (List ℕ)) (fault : Malformed) → RefusesAllocation Interpreted fs fault → info_number fs ≡ Err fault
+info_number-fault [] MissingField r = refl
+info_number-fault [] ExtraField r = absurd (omega (arith, r.0))
+info_number-fault [] BadField r = absurd (omega (arith, r.0))
+info_number-fault [] NotInterpreted r = absurd (omega arith)
+info_number-fault (a ∷ []) MissingField r = absurd (omega arith)
+info_number-fault (a ∷ []) ExtraField r = absurd (omega (arith, r.0))
+info_number-fault (a ∷ []) BadField r = info_fault a (parsed_hex a) refl r.1
+info_number-fault (a ∷ []) NotInterpreted r = absurd (omega arith)
+info_number-fault (a ∷ b ∷ []) MissingField r = absurd (omega arith)
+info_number-fault (a ∷ b ∷ []) ExtraField r = refl
+info_number-fault (a ∷ b ∷ []) BadField r = absurd (omega (arith, r.0))
+info_number-fault (a ∷ b ∷ []) NotInterpreted r = absurd (omega arith)
+info_number-fault (a ∷ b ∷ c ∷ []) MissingField r = absurd (omega arith)
+info_number-fault (a ∷ b ∷ c ∷ []) ExtraField r = absurd (r.1 refl)
+info_number-fault (a ∷ b ∷ c ∷ []) BadField r = absurd (omega (arith, r.0))
+info_number-fault (a ∷ b ∷ c ∷ []) NotInterpreted r = refl
+info_number-fault (a ∷ b ∷ c ∷ d ∷ more) MissingField r = absurd (omega arith)
+info_number-fault (a ∷ b ∷ c ∷ d ∷ more) ExtraField r = refl
+info_number-fault (a ∷ b ∷ c ∷ d ∷ more) BadField r = absurd (omega (arith, r.0))
+info_number-fault (a ∷ b ∷ c ∷ d ∷ more) NotInterpreted r = absurd (omega arith)
+info_number-fault fs NotRaw r = absurd r
+info_number-fault fs BadVersion r = absurd r
+
+-- three numbers, and one field is that of an interpreted trace
+
+abbrev three_of : Option ℕ → Option ℕ → Option ℕ → Result (ℕ × ℕ × ℕ) Malformed
+three_of o p q = with_number o (λ l. with_number p (λ m. with_number q (λ n. Ok (l, m, n))))
+
+three_fields : (f g h : List ℕ) (o p q : Option ℕ) → parsed_hex f ≡ o → parsed_hex g ≡ p → parsed_hex h ≡ q
+    → MatchResult (three_of o p q) (λ x. AreNumbers (f ∷ g ∷ h ∷ []) (x.0 ∷ x.1 ∷ x.2 ∷ [])) (λ fault. RefusesAllocation Raw (f ∷ g ∷ h ∷ []) fault)
+three_fields f g h None p q d e i = (refl, not_all-AreNoNumbers (f ∷ g ∷ h ∷ []) (rw d refl))
+three_fields f g h (Some l) None q d e i = (refl, not_all-AreNoNumbers (f ∷ g ∷ h ∷ []) (rw (d, e) refl))
+three_fields f g h (Some l) (Some m) None d e i = (refl, not_all-AreNoNumbers (f ∷ g ∷ h ∷ []) (rw (d, e, i) refl))
+three_fields f g h (Some l) (Some m) (Some n) d e i = λ k. d k ∷ e k ∷ i k ∷ []
+
+pub three_numbers-sound : (fs : List (List ℕ)) → MatchResult (three_numbers fs) (λ x. AreNumbers fs (x.0 ∷ x.1 ∷ x.2 ∷ [])) (λ fault. RefusesAllocation Raw fs fault)
+three_numbers-sound [] = (omega arith, λ e. omega arith)
+three_numbers-sound (a ∷ []) = refl
+three_numbers-sound (a ∷ b ∷ []) = (omega arith, λ e. omega arith)
+three_numbers-sound (a ∷ b ∷ c ∷ []) = three_fields a b c (parsed_hex a) (parsed_hex b) (parsed_hex c) refl refl refl
+three_numbers-sound (a ∷ b ∷ c ∷ d ∷ more) = omega arith
+
+pub three_numbers-item : (fs : List (List ℕ)) (l m n : ℕ) → AreNumbers fs (l ∷ m ∷ n ∷ []) → three_numbers fs ≡ Ok (l, m, n)
+three_numbers-item [] l m n e = absurd (cc)
+three_numbers-item (a ∷ []) l m n e = absurd (cc)
+three_numbers-item (a ∷ b ∷ []) l m n e = absurd (cc)
+three_numbers-item (a ∷ b ∷ c ∷ []) l m n e =
+    let first : parsed_hex a ≡ Some l = cc in
+    let second : parsed_hex b ≡ Some m = cc in
+    let third : parsed_hex c ≡ Some n = cc in
+    rw (first, second, third) refl
+three_numbers-item (a ∷ b ∷ c ∷ d ∷ more) l m n e = absurd (cc)
+
+three_fault : (f g h : List ℕ) (o p q : Option ℕ) → parsed_hex f ≡ o → parsed_hex g ≡ p → parsed_hex h ≡ q → AreNoNumbers (f ∷ g ∷ h ∷ []) → three_of o p q ≡ Err BadField
+three_fault f g h None p q d e i never = refl
+three_fault f g h (Some l) None q d e i never = refl
+three_fault f g h (Some l) (Some m) None d e i never = refl
+three_fault f g h (Some l) (Some m) (Some n) d e i never = absurd (never (l ∷ m ∷ n ∷ []) (λ k. d k ∷ e k ∷ i k ∷ []))
+
+pub three_numbers-fault : (fs : List (List ℕ)) (fault : Malformed) → RefusesAllocation Raw fs fault → three_numbers fs ≡ Err fault
+three_numbers-fault [] MissingField r = refl
+three_numbers-fault [] ExtraField r = absurd (omega arith)
+three_numbers-fault [] BadField r = absurd (omega (arith, r.0))
+three_numbers-fault [] NotRaw r = absurd (omega arith)
+three_numbers-fault (a ∷ []) MissingField r = absurd (r.1 refl)
+three_numbers-fault (a ∷ []) ExtraField r = absurd (omega arith)
+three_numbers-fault (a ∷ []) BadField r = absurd (omega (arith, r.0))
+three_numbers-fault (a ∷ []) NotRaw r = refl
+three_numbers-fault (a ∷ b ∷ []) MissingField r = refl
+three_numbers-fault (a ∷ b ∷ []) ExtraField r = absurd (omega arith)
+three_numbers-fault (a ∷ b ∷ []) BadField r = absurd (omega (arith, r.0))
+three_numbers-fault (a ∷ b ∷ []) NotRaw r = absurd (omega arith)
+three_numbers-fault (a ∷ b ∷ c ∷ []) MissingField r = absurd (omega (arith, r.0))
+three_numbers-fault (a ∷ b ∷ c ∷ []) ExtraField r = absurd (omega arith)
+three_numbers-fault (a ∷ b ∷ c ∷ []) BadField r = three_fault a b c (parsed_hex a) (parsed_hex b) (parsed_hex c) refl refl refl r.1
+three_numbers-fault (a ∷ b ∷ c ∷ []) NotRaw r = absurd (omega arith)
+three_numbers-fault (a ∷ b ∷ c ∷ d ∷ more) MissingField r = absurd (omega (arith, r.0))
+three_numbers-fault (a ∷ b ∷ c ∷ d ∷ more) ExtraField r = refl
+three_numbers-fault (a ∷ b ∷ c ∷ d ∷ more) BadField r = absurd (omega (arith, r.0))
+three_numbers-fault (a ∷ b ∷ c ∷ d ∷ more) NotRaw r = absurd (omega arith)
+three_numbers-fault fs NotInterpreted r = absurd r
+three_numbers-fault fs BadVersion r = absurd r

@@ -4,6 +4,7 @@ use Rattle.std.proofs.lemmas.Bool.Decides.{eqb_tells}
 use borrow.Author.Tests.{eq-eqb}
 use Rattle.ht_lines.specs.declared.item.Item.{Item}
 use Rattle.ht_lines.specs.declared.item.Malformed.{Malformed}
+use Rattle.ht_lines.specs.declared.item.Form.{Form}
 use Rattle.ht_lines.specs.Content.{Content, version_line, executable_line, command_line, system_line, string_line, clear_line, module_line, instruction_line, node_line, info_line, allocation_line, free_line, raw_allocation_line, raw_free_line, clock_line, resident_line, attached_line, suppression_line, comment_line, other_line}
 use Rattle.ht_lines.specs.Fields.{is_blank, fields, field_ends, after_blanks, after_field, AreNumbers}
 use Rattle.ht_lines.specs.ItemContent.{content}
@@ -54,29 +55,29 @@ counted kind line ns k a = omega (arith, ap length (kind_first kind line k), fie
 kind_byte : (kind : ℕ) (line : List ℕ) → IsOfKind kind line → 1 ≤ length line
 kind_byte kind line k = omega (arith, ap length (kind_first kind line k))
 
-pub Reads-length : (version : ℕ) (line : List ℕ) (said : Content) → Reads version line said → least_length said ≤ length line
-Reads-length version line (version_line h f) (k, inl r) = counted 118 line (h ∷ []) k r.0
-Reads-length version line (version_line h f) (k, inr r) = omega (arith, counted 118 line (h ∷ f ∷ []) k r.0)
-Reads-length version line (executable_line bytes) r = kind_byte 120 line r.0
-Reads-length version line (command_line bytes) r = kind_byte 88 line r.0
-Reads-length version line (suppression_line bytes) r = kind_byte 83 line r.0
-Reads-length version line (string_line bytes) r = kind_byte 115 line r.0
-Reads-length version line (system_line p q) r = counted 73 line (p ∷ q ∷ []) r.0 r.1
-Reads-length version line clear_line r = kind_byte 109 line r.0
-Reads-length version line (module_line name start ranges) r = kind_byte 109 line r.0
-Reads-length version line (instruction_line ip m frames) r = omega (arith, counted 105 line (ip ∷ m ∷ frames) r.0 r.1)
-Reads-length version line (node_line ip parent) r = counted 116 line (ip ∷ parent ∷ []) r.0 r.1
-Reads-length version line (info_line size trace) r = counted 97 line (size ∷ trace ∷ []) r.0 r.1
-Reads-length version line (allocation_line info) r = counted 43 line (info ∷ []) r.0 r.1
-Reads-length version line (free_line info) r = counted 45 line (info ∷ []) r.0 r.1
-Reads-length version line (raw_allocation_line size trace ptr) r = absurd r
-Reads-length version line (raw_free_line ptr) r = absurd r
-Reads-length version line (clock_line ms) r = counted 99 line (ms ∷ []) r.0 r.1
-Reads-length version line (resident_line pages) r = counted 82 line (pages ∷ []) r.0 r.1
-Reads-length version line attached_line r = kind_byte 65 line r
-Reads-length version line (comment_line bytes) r = omega (arith, ap length r)
-Reads-length version line (other_line bytes) r = omega arith
+pub Reads-length : (form : Form) (version : ℕ) (line : List ℕ) (said : Content) → Reads form version line said → least_length said ≤ length line
+Reads-length form version line (version_line h f) (k, inl r) = counted 118 line (h ∷ []) k r.0
+Reads-length form version line (version_line h f) (k, inr r) = omega (arith, counted 118 line (h ∷ f ∷ []) k r.0)
+Reads-length form version line (executable_line bytes) r = kind_byte 120 line r.0
+Reads-length form version line (command_line bytes) r = kind_byte 88 line r.0
+Reads-length form version line (suppression_line bytes) r = kind_byte 83 line r.0
+Reads-length form version line (string_line bytes) r = kind_byte 115 line r.0
+Reads-length form version line (system_line p q) r = counted 73 line (p ∷ q ∷ []) r.0 r.1
+Reads-length form version line clear_line r = kind_byte 109 line r.0
+Reads-length form version line (module_line name start ranges) r = kind_byte 109 line r.0
+Reads-length form version line (instruction_line ip m frames) r = omega (arith, counted 105 line (ip ∷ m ∷ frames) r.0 r.1)
+Reads-length form version line (node_line ip parent) r = counted 116 line (ip ∷ parent ∷ []) r.0 r.1
+Reads-length form version line (info_line size trace) r = counted 97 line (size ∷ trace ∷ []) r.0 r.1
+Reads-length form version line (allocation_line info) r = counted 43 line (info ∷ []) r.0 r.1
+Reads-length form version line (free_line info) r = counted 45 line (info ∷ []) r.0 r.1
+Reads-length form version line (raw_allocation_line size trace ptr) r = counted 43 line (size ∷ trace ∷ ptr ∷ []) r.0 r.1
+Reads-length form version line (raw_free_line ptr) r = counted 45 line (ptr ∷ []) r.0 r.1
+Reads-length form version line (clock_line ms) r = counted 99 line (ms ∷ []) r.0 r.1
+Reads-length form version line (resident_line pages) r = counted 82 line (pages ∷ []) r.0 r.1
+Reads-length form version line attached_line r = kind_byte 65 line r
+Reads-length form version line (comment_line bytes) r = omega (arith, ap length r)
+Reads-length form version line (other_line bytes) r = omega arith
 
-pub IfOk-length : (version : ℕ) (line : List ℕ) (r : Result Item Malformed) → IfOk r (λ item. Reads version line (content item)) → IfOk r (λ item. least_length (content item) ≤ length line)
-IfOk-length version line (Ok item) r = Reads-length version line (content item) r
-IfOk-length version line (Err fault) r = tt
+pub IfOk-length : (form : Form) (version : ℕ) (line : List ℕ) (r : Result Item Malformed) → IfOk r (λ item. Reads form version line (content item)) → IfOk r (λ item. least_length (content item) ≤ length line)
+IfOk-length form version line (Ok item) r = Reads-length form version line (content item) r
+IfOk-length form version line (Err fault) r = tt

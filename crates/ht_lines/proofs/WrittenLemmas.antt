@@ -6,6 +6,7 @@ use borrow.Author.Tests.{eqb-true, eq-eqb}
 use Rattle.hp_num.specs.Hexadecimal.{hexadecimal}
 use Rattle.hp_num.specs.ParsedHex.{parsed_hex}
 use Rattle.ht_lines.specs.declared.item.Malformed.{Malformed}
+use Rattle.ht_lines.specs.declared.item.Form.{Form}
 use Rattle.ht_lines.specs.Content.{Content, version_line, executable_line, command_line, system_line, string_line, clear_line, module_line, instruction_line, node_line, info_line, allocation_line, free_line, raw_allocation_line, raw_free_line, clock_line, resident_line, attached_line, suppression_line, comment_line, other_line}
 use Rattle.ht_lines.specs.Fields.{fields, field_ends, AreNumbers}
 use Rattle.ht_lines.specs.SizedText.{IsText}
@@ -96,14 +97,14 @@ module _ (reads : (n : ℕ) → n < 2 ^ 64 → parsed_hex (hexadecimal n) ≡ So
   count_again ip m frames h c =
       subst IsInstructionCount (sym (AreNumbers-length (fields (spelled (ip ∷ m ∷ frames))) (ip ∷ m ∷ frames) (spelled-AreNumbers (ip ∷ m ∷ frames) h))) (instruction-count (length frames) c)
 
-  pub written-Reads : (version : ℕ) (said : Content) → IsWritable version said → Reads version (written version said) said
-  written-Reads version (version_line h f) w = ((refl, refl), inr (spelled-AreNumbers (h ∷ f ∷ []) (w.0, (omega (arith, w.2), tt)), w.1, w.2))
-  written-Reads version (executable_line bytes) w = ((refl, refl), spelled-IsText version bytes w)
-  written-Reads version (command_line bytes) w = ((refl, refl), spelled-IsText version bytes w)
-  written-Reads version (suppression_line bytes) w = ((refl, refl), spelled-IsText version bytes w)
-  written-Reads version (system_line page pages) w = ((refl, refl), spelled-AreNumbers (page ∷ pages ∷ []) w)
-  written-Reads version (string_line bytes) w = ((refl, refl), spelled-IsText version bytes w)
-  written-Reads version clear_line w = (
+  pub written-Reads : (form : Form) (version : ℕ) (said : Content) → IsWritable form version said → Reads form version (written version said) said
+  written-Reads form version (version_line h f) w = ((refl, refl), inr (spelled-AreNumbers (h ∷ f ∷ []) (w.0, (omega (arith, w.2), tt)), w.1, w.2))
+  written-Reads form version (executable_line bytes) w = ((refl, refl), spelled-IsText version bytes w)
+  written-Reads form version (command_line bytes) w = ((refl, refl), spelled-IsText version bytes w)
+  written-Reads form version (suppression_line bytes) w = ((refl, refl), spelled-IsText version bytes w)
+  written-Reads form version (system_line page pages) w = ((refl, refl), spelled-AreNumbers (page ∷ pages ∷ []) w)
+  written-Reads form version (string_line bytes) w = ((refl, refl), spelled-IsText version bytes w.0, w.1)
+  written-Reads form version clear_line w = (
     (refl, refl),
     (
       [],
@@ -121,23 +122,23 @@ module _ (reads : (n : ℕ) → n < 2 ^ 64 → parsed_hex (hexadecimal n) ≡ So
       fields-nil,
     ),
   )
-  written-Reads version (module_line name start ranges) w =
+  written-Reads form version (module_line name start ranges) w =
       ((refl, refl), (spelled (start ∷ ranges), spelled-name version name (spelled (start ∷ ranges)) refl w.0 w.1, spelled-AreNumbers (start ∷ ranges) w.2, w.3, w.4))
-  written-Reads version (instruction_line ip m frames) w = ((refl, refl), spelled-AreNumbers (ip ∷ m ∷ frames) w.0, count_again ip m frames w.0 w.1)
-  written-Reads version (node_line ip parent) w = ((refl, refl), spelled-AreNumbers (ip ∷ parent ∷ []) w)
-  written-Reads version (info_line size trace) w = ((refl, refl), spelled-AreNumbers (size ∷ trace ∷ []) w)
-  written-Reads version (allocation_line info) w = ((refl, refl), spelled-AreNumbers (info ∷ []) (w, tt))
-  written-Reads version (free_line info) w = ((refl, refl), spelled-AreNumbers (info ∷ []) (w, tt))
-  written-Reads version (raw_allocation_line size trace ptr) w = absurd w
-  written-Reads version (raw_free_line ptr) w = absurd w
-  written-Reads version (clock_line ms) w = ((refl, refl), spelled-AreNumbers (ms ∷ []) (omega arith, tt), w)
-  written-Reads version (resident_line pages) w = ((refl, refl), spelled-AreNumbers (pages ∷ []) (w, tt))
-  written-Reads version attached_line w = refl
-  written-Reads version (comment_line bytes) w = refl
-  written-Reads version (other_line bytes) w = (w, refl)
+  written-Reads form version (instruction_line ip m frames) w = ((refl, refl), spelled-AreNumbers (ip ∷ m ∷ frames) w.0, count_again ip m frames w.0 w.1, w.2)
+  written-Reads form version (node_line ip parent) w = ((refl, refl), spelled-AreNumbers (ip ∷ parent ∷ []) w)
+  written-Reads form version (info_line size trace) w = ((refl, refl), spelled-AreNumbers (size ∷ trace ∷ []) w.0, w.1)
+  written-Reads form version (allocation_line info) w = ((refl, refl), spelled-AreNumbers (info ∷ []) (w.0, tt), w.1)
+  written-Reads form version (free_line info) w = ((refl, refl), spelled-AreNumbers (info ∷ []) (w.0, tt), w.1)
+  written-Reads form version (raw_allocation_line size trace ptr) w = ((refl, refl), spelled-AreNumbers (size ∷ trace ∷ ptr ∷ []) w.0, w.1)
+  written-Reads form version (raw_free_line ptr) w = ((refl, refl), spelled-AreNumbers (ptr ∷ []) (w.0, tt), w.1)
+  written-Reads form version (clock_line ms) w = ((refl, refl), spelled-AreNumbers (ms ∷ []) (omega arith, tt), w)
+  written-Reads form version (resident_line pages) w = ((refl, refl), spelled-AreNumbers (pages ∷ []) (w, tt))
+  written-Reads form version attached_line w = refl
+  written-Reads form version (comment_line bytes) w = refl
+  written-Reads form version (other_line bytes) w = (w, refl)
 
-  pub reading-written : (version : ℕ) (said : Content) → IsWritable version said → reading version (written version said) ≡ Ok said
-  reading-written version said w = reading-item version (written version said) said (written-Reads version said w)
+  pub reading-written : (form : Form) (version : ℕ) (said : Content) → IsWritable form version said → reading form version (written version said) ≡ Ok said
+  reading-written form version said w = reading-item form version (written version said) said (written-Reads form version said w)
 
 -- what is read of a line is writable
 
@@ -161,38 +162,39 @@ frames_count : (n : ℕ) → IsInstructionCount (suc (suc n)) → (n % 3 ≡ 1) 
 frames_count n (inl e) = inl (omega arith)
 frames_count n (inr e) = inr (omega arith)
 
-pub Reads-IsWritable : (version : ℕ) (line : List ℕ) (said : Content) → length line < 2 ^ 32 → Reads version line said → IsWritable version said
-Reads-IsWritable version line (version_line heaptrack file) h (k, inl r) = ((AreNumbers-AreWords (fields_of line) (heaptrack ∷ []) r.0).0, omega (arith, r.1), omega (arith, r.1))
-Reads-IsWritable version line (version_line heaptrack file) h (k, inr r) = ((AreNumbers-AreWords (fields_of line) (heaptrack ∷ file ∷ []) r.0).0, r.1, r.2)
-Reads-IsWritable version line (executable_line bytes) h r = text-writable version line bytes h r.1
-Reads-IsWritable version line (command_line bytes) h r = text-writable version line bytes h r.1
-Reads-IsWritable version line (suppression_line bytes) h r = text-writable version line bytes h r.1
-Reads-IsWritable version line (string_line bytes) h r = text-writable version line bytes h r.1
-Reads-IsWritable version line (system_line page pages) h r = AreNumbers-AreWords (fields_of line) (page ∷ pages ∷ []) r.1
-Reads-IsWritable version line clear_line h r = tt
-Reads-IsWritable version line (module_line name start ranges) h r = (
+pub Reads-IsWritable : (form : Form) (version : ℕ) (line : List ℕ) (said : Content) → length line < 2 ^ 32 → Reads form version line said → IsWritable form version said
+Reads-IsWritable form version line (version_line heaptrack file) h (k, inl r) = ((AreNumbers-AreWords (fields_of line) (heaptrack ∷ []) r.0).0, omega (arith, r.1), omega (arith, r.1))
+Reads-IsWritable form version line (version_line heaptrack file) h (k, inr r) = ((AreNumbers-AreWords (fields_of line) (heaptrack ∷ file ∷ []) r.0).0, r.1, r.2)
+Reads-IsWritable form version line (executable_line bytes) h r = text-writable version line bytes h r.1
+Reads-IsWritable form version line (command_line bytes) h r = text-writable version line bytes h r.1
+Reads-IsWritable form version line (suppression_line bytes) h r = text-writable version line bytes h r.1
+Reads-IsWritable form version line (string_line bytes) h r = (text-writable version line bytes h r.1, r.2)
+Reads-IsWritable form version line (system_line page pages) h r = AreNumbers-AreWords (fields_of line) (page ∷ pages ∷ []) r.1
+Reads-IsWritable form version line clear_line h r = tt
+Reads-IsWritable form version line (module_line name start ranges) h r = (
   omega (arith, name_length version (after_kind line) name r.1.0 r.1.1, length-drop 1 line),
   name-writable version (after_kind line) name r.1.0 r.1.1,
   AreNumbers-AreWords (fields r.1.0) (start ∷ ranges) r.1.2,
   r.1.3,
   r.1.4,
 )
-Reads-IsWritable version line (instruction_line ip m frames) h r = (
+Reads-IsWritable form version line (instruction_line ip m frames) h r = (
   AreNumbers-AreWords (fields_of line) (ip ∷ m ∷ frames) r.1,
   frames_count (length frames) (subst IsInstructionCount (AreNumbers-length (fields_of line) (ip ∷ m ∷ frames) r.1) r.2),
+  r.3,
 )
-Reads-IsWritable version line (node_line ip parent) h r = AreNumbers-AreWords (fields_of line) (ip ∷ parent ∷ []) r.1
-Reads-IsWritable version line (info_line size trace) h r = AreNumbers-AreWords (fields_of line) (size ∷ trace ∷ []) r.1
-Reads-IsWritable version line (allocation_line info) h r = (AreNumbers-AreWords (fields_of line) (info ∷ []) r.1).0
-Reads-IsWritable version line (free_line info) h r = (AreNumbers-AreWords (fields_of line) (info ∷ []) r.1).0
-Reads-IsWritable version line (raw_allocation_line size trace ptr) h r = absurd r
-Reads-IsWritable version line (raw_free_line ptr) h r = absurd r
-Reads-IsWritable version line (clock_line ms) h r = r.2
-Reads-IsWritable version line (resident_line pages) h r = (AreNumbers-AreWords (fields_of line) (pages ∷ []) r.1).0
-Reads-IsWritable version line attached_line h r = tt
-Reads-IsWritable version line (comment_line bytes) h r = tt
-Reads-IsWritable version line (other_line bytes) h r = subst IsOther (sym r.1) r.0
+Reads-IsWritable form version line (node_line ip parent) h r = AreNumbers-AreWords (fields_of line) (ip ∷ parent ∷ []) r.1
+Reads-IsWritable form version line (info_line size trace) h r = (AreNumbers-AreWords (fields_of line) (size ∷ trace ∷ []) r.1, r.2)
+Reads-IsWritable form version line (allocation_line info) h r = ((AreNumbers-AreWords (fields_of line) (info ∷ []) r.1).0, r.2)
+Reads-IsWritable form version line (free_line info) h r = ((AreNumbers-AreWords (fields_of line) (info ∷ []) r.1).0, r.2)
+Reads-IsWritable form version line (raw_allocation_line size trace ptr) h r = (AreNumbers-AreWords (fields_of line) (size ∷ trace ∷ ptr ∷ []) r.1, r.2)
+Reads-IsWritable form version line (raw_free_line ptr) h r = ((AreNumbers-AreWords (fields_of line) (ptr ∷ []) r.1).0, r.2)
+Reads-IsWritable form version line (clock_line ms) h r = r.2
+Reads-IsWritable form version line (resident_line pages) h r = (AreNumbers-AreWords (fields_of line) (pages ∷ []) r.1).0
+Reads-IsWritable form version line attached_line h r = tt
+Reads-IsWritable form version line (comment_line bytes) h r = tt
+Reads-IsWritable form version line (other_line bytes) h r = subst IsOther (sym r.1) r.0
 
-pub IfOk-IsWritable : (version : ℕ) (line : List ℕ) (r : Result Item Malformed) → length line < 2 ^ 32 → IfOk r (λ item. Reads version line (content item)) → IfOk r (λ item. IsWritable version (content item))
-IfOk-IsWritable version line (Ok item) h r = Reads-IsWritable version line (content item) h r
-IfOk-IsWritable version line (Err fault) h r = tt
+pub IfOk-IsWritable : (form : Form) (version : ℕ) (line : List ℕ) (r : Result Item Malformed) → length line < 2 ^ 32 → IfOk r (λ item. Reads form version line (content item)) → IfOk r (λ item. IsWritable form version (content item))
+IfOk-IsWritable form version line (Ok item) h r = Reads-IsWritable form version line (content item) h r
+IfOk-IsWritable form version line (Err fault) h r = tt

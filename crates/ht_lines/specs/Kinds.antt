@@ -1,6 +1,8 @@
 -- The kinds of lines by their first byte.
 use Rattle.std.specs.Prelude.{◌≡◌, ◌≢◌, ℕ, Bool, ◌==◌, List, [], ◌∷◌, drop, codes, false, IsTrue}
 use Rattle.std.specs.List.{list_any}
+use Rattle.ht_lines.specs.declared.item.Form.{Form}
+use Rattle.ht_lines.specs.declared.item.Form.TheVariants.{Raw, Interpreted}
 use Rattle.ht_lines.specs.Fields.{fields}
 
 -- the known kinds other than the comment
@@ -9,6 +11,19 @@ kinds = codes "vxXSIsmita+-cRA"
 
 abbrev pub is_kind : ℕ → Bool
 is_kind b = list_any (λ k. k == b) kinds
+
+-- the kinds of lines of tables that a raw trace has none of
+abbrev pub table_kinds : List ℕ
+table_kinds = codes "sia"
+
+-- lines of that kind stand in traces of the other form alone
+abbrev pub is_foreign : Form → ℕ → Bool
+is_foreign Raw b = list_any (λ k. k == b) table_kinds
+is_foreign Interpreted b = false
+
+abbrev pub IsForeign : Form → List ℕ → Type 0
+IsForeign form [] = ⊥
+IsForeign form (b ∷ rest) = IsTrue (is_foreign form b)
 
 -- the line has this kind, and nothing after it or a blank there
 abbrev pub IsOfKind : ℕ → List ℕ → Type 0

@@ -3,6 +3,8 @@
 use Rattle.std.specs.Prelude.{◌≡◌, ◌≢◌, ◌⊎◌, ℕ, ◌%◌, ◌^◌, ◌<◌, ◌≤◌, ◌==◌, if◌then◌else◌, List, [], ◌∷◌, ◌++◌, length, codes}
 use Rattle.std.specs.List.{AllByRecursion}
 use Rattle.hp_num.specs.Hexadecimal.{hexadecimal}
+use Rattle.ht_lines.specs.declared.item.Form.{Form}
+use Rattle.ht_lines.specs.declared.item.Form.TheVariants.{Raw, Interpreted}
 use Rattle.ht_lines.specs.Content.{Content, version_line, executable_line, command_line, system_line, string_line, clear_line, module_line, instruction_line, node_line, info_line, allocation_line, free_line, raw_allocation_line, raw_free_line, clock_line, resident_line, attached_line, suppression_line, comment_line, other_line}
 use Rattle.ht_lines.specs.Kinds.{IsOther}
 use Rattle.ht_lines.specs.Reads.{RangesFit}
@@ -43,28 +45,28 @@ written version (other_line bytes) = bytes
 abbrev pub AreWords : List ℕ → Type 0
 AreWords ns = AllByRecursion (λ n. n < 2 ^ 64) ns
 
--- what some line of an interpreted trace says in this file version
-abbrev pub IsWritable : ℕ → Content → Type 0
-IsWritable version (version_line heaptrack file) = (heaptrack < 2 ^ 64) × (1 ≤ file) × (file ≤ 3)
-IsWritable version (executable_line bytes) = length bytes < 2 ^ 64
-IsWritable version (command_line bytes) = length bytes < 2 ^ 64
-IsWritable version (suppression_line bytes) = length bytes < 2 ^ 64
-IsWritable version (system_line page pages) = AreWords (page ∷ pages ∷ [])
-IsWritable version (string_line bytes) = length bytes < 2 ^ 64
-IsWritable version clear_line = Unit {0}
-IsWritable version (module_line name start ranges) = (length name < 2 ^ 64)
+-- what some line of a trace of this form says in this file version
+abbrev pub IsWritable : Form → ℕ → Content → Type 0
+IsWritable form version (version_line heaptrack file) = (heaptrack < 2 ^ 64) × (1 ≤ file) × (file ≤ 3)
+IsWritable form version (executable_line bytes) = length bytes < 2 ^ 64
+IsWritable form version (command_line bytes) = length bytes < 2 ^ 64
+IsWritable form version (suppression_line bytes) = length bytes < 2 ^ 64
+IsWritable form version (system_line page pages) = AreWords (page ∷ pages ∷ [])
+IsWritable form version (string_line bytes) = (length bytes < 2 ^ 64) × (form ≡ Interpreted)
+IsWritable form version clear_line = Unit {0}
+IsWritable form version (module_line name start ranges) = (length name < 2 ^ 64)
     × (version ≢ 3 → (0 < length name) × AllByRecursion (λ b. b ≢ 32) name)
     × AreWords (start ∷ ranges) × (length ranges % 2 ≡ 0) × RangesFit start ranges
-IsWritable version (instruction_line ip module_string frames) = AreWords (ip ∷ module_string ∷ frames)
-    × ((length frames % 3 ≡ 1) ⊎ (length frames % 3 ≡ 0))
-IsWritable version (node_line ip parent) = AreWords (ip ∷ parent ∷ [])
-IsWritable version (info_line size trace) = AreWords (size ∷ trace ∷ [])
-IsWritable version (allocation_line info) = info < 2 ^ 64
-IsWritable version (free_line info) = info < 2 ^ 64
-IsWritable version (raw_allocation_line size trace ptr) = ⊥
-IsWritable version (raw_free_line ptr) = ⊥
-IsWritable version (clock_line ms) = ms ≤ 2 ^ 62
-IsWritable version (resident_line pages) = pages < 2 ^ 64
-IsWritable version attached_line = Unit {0}
-IsWritable version (comment_line bytes) = Unit {0}
-IsWritable version (other_line bytes) = IsOther bytes
+IsWritable form version (instruction_line ip module_string frames) = AreWords (ip ∷ module_string ∷ frames)
+    × ((length frames % 3 ≡ 1) ⊎ (length frames % 3 ≡ 0)) × (form ≡ Interpreted)
+IsWritable form version (node_line ip parent) = AreWords (ip ∷ parent ∷ [])
+IsWritable form version (info_line size trace) = AreWords (size ∷ trace ∷ []) × (form ≡ Interpreted)
+IsWritable form version (allocation_line info) = (info < 2 ^ 64) × (form ≡ Interpreted)
+IsWritable form version (free_line info) = (info < 2 ^ 64) × (form ≡ Interpreted)
+IsWritable form version (raw_allocation_line size trace ptr) = AreWords (size ∷ trace ∷ ptr ∷ []) × (form ≡ Raw)
+IsWritable form version (raw_free_line ptr) = (ptr < 2 ^ 64) × (form ≡ Raw)
+IsWritable form version (clock_line ms) = ms ≤ 2 ^ 62
+IsWritable form version (resident_line pages) = pages < 2 ^ 64
+IsWritable form version attached_line = Unit {0}
+IsWritable form version (comment_line bytes) = Unit {0}
+IsWritable form version (other_line bytes) = IsOther bytes

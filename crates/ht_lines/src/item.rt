@@ -3,12 +3,13 @@
 //! The types alone; `read` has the grammar, and `write` the written forms.
 use thiserror::Error;
 
-/// Whether a trace was interpreted, so that its lines refer to tables, or is as it was recorded.
+/// What the lines of a trace refer to: addresses and sizes, or tables that stand in the trace itself. Both forms are this
+/// format's own.
 #[derive(Clone, Copy, Debug, PartialEq, Eq)]
 pub enum Form {
-    /// As `heaptrack` records it: lines give addresses and sizes themselves.
+    /// A node gives the address of its instruction, an allocation its size, node and address, and a free the address.
     Raw,
-    /// As its interpreter leaves it: lines refer to the strings, instructions, nodes and infos before them.
+    /// Lines refer to the strings, instructions, nodes and infos before them by number.
     Interpreted,
 }
 
@@ -25,10 +26,10 @@ pub enum Malformed {
     /// The line has too many fields.
     #[error("extra field")]
     ExtraField,
-    /// The line is an allocation of a raw trace.
+    /// The line is an allocation of a raw trace, where an interpreted one is read.
     #[error("raw line")]
     NotInterpreted,
-    /// The line is one of an interpreted trace, where a raw one is read. Lines of interpreted traces never get it.
+    /// The line is a string, an instruction, an info or an allocation of an interpreted trace, where a raw one is read.
     #[error("interpreted line")]
     NotRaw,
     /// The file version isn't 1 to 3.
@@ -81,7 +82,7 @@ pub enum Item<'a> {
         fields: u32,
         tail: &'a [u8],
     },
-    /// `t`: a node, numbered from 1: an instruction and the parent node.
+    /// `t`: a node, numbered from 1: an instruction, which in a raw trace is an address, and the parent node.
     Node {
         ip: u64,
         parent: u64,

@@ -4,12 +4,12 @@
 ghost use Rattle.std.specs.Prelude.{◌≡◌, ℕ, ◌^◌, ◌<◌, ◌≤◌, List, [], ◌∷◌, length, Some, IfOk, IfSome, MatchResult, Result, Ok, Err};
 ghost use Rattle.hp_num.specs.ParsedHex.{parsed_hex};
 ghost use Rattle.ht_lines.specs.Fields.{fields};
-ghost use Rattle.ht_lines.specs.Content.{allocation_line, free_line, info_line, node_line, resident_line, system_line};
-ghost use Rattle.ht_lines.specs.Reading.{allocation_of, clock_from, one_number, say, two_numbers, version_of};
+ghost use Rattle.ht_lines.specs.Content.{info_line, node_line, resident_line, system_line};
+ghost use Rattle.ht_lines.specs.Reading.{allocation_of, clock_from, free_of, info_number, one_number, say, three_numbers, two_numbers, version_of};
 ghost use Rattle.ht_lines.specs.ItemContent.{Gives, HasTail, IsWhole};
 
 use crate::fields::next_field;
-use crate::item::{Item, Malformed};
+use crate::item::{Form, Item, Malformed};
 use hp_num::parse_hex;
 
 /// The greatest clock value in milliseconds.
@@ -104,22 +104,65 @@ pub fn read_version(rest: &[u8]) -> Result<Item<'_>, Malformed>
     }
 }
 
-/// A line of an allocation, which has the number of an info. Three fields are those of a raw trace.
-pub fn read_allocation(rest: &[u8]) -> Result<Item<'_>, Malformed>
-    ensures exact { Gives result (say allocation_line (allocation_of (fields rest.now))) }
+/// The numbers of an allocation of a raw trace. One field is that of an interpreted trace.
+pub fn three_numbers(rest: &[u8]) -> Result<(u64, u64, u64), Malformed>
+    ensures { result ≡ three_numbers (fields rest.now) }
+{
+    let Some((first, after)) = next_field(rest) else {
+        return Err(Malformed::MissingField);
+    };
+    let Some((second, after)) = next_field(after) else {
+        return Err(Malformed::NotRaw);
+    };
+    let Some((third, after)) = next_field(after) else {
+        return Err(Malformed::MissingField);
+    };
+    if next_field(after).is_some() {
+        return Err(Malformed::ExtraField);
+    }
+    let Some(first) = parse_hex(first) else {
+        return Err(Malformed::BadField);
+    };
+    let Some(second) = parse_hex(second) else {
+        return Err(Malformed::BadField);
+    };
+    let Some(third) = parse_hex(third) else {
+        return Err(Malformed::BadField);
+    };
+    Ok((first, second, third))
+}
+
+/// A line of an allocation, which has the number of an info, and in a raw trace a size, a node and an address.
+pub fn read_allocation(form: Form, rest: &[u8]) -> Result<Item<'_>, Malformed>
+    ensures exact { Gives result (allocation_of form (fields rest.now)) }
     ensures whole { IfOk result (λ item. IsWhole item) }
     ensures tail { (version : ℕ) → IfOk result (λ item. HasTail version rest.now item) }
 {
-    let info = match lone_number(rest) {
-        Some(info) => info,
-        None => allocation_by_fields(rest)?,
-    };
-    Ok(Item::Alloc { info })
+    match form {
+        Form::Interpreted => {
+            let info = info_number(rest)?;
+            Ok(Item::Alloc { info })
+        }
+        Form::Raw => {
+            let (size, trace, ptr) = three_numbers(rest)?;
+            Ok(Item::RawAlloc { size, trace, ptr })
+        }
+    }
+}
+
+/// The info of an allocation. Three fields are those of a raw trace.
+fn info_number(rest: &[u8]) -> Result<u64, Malformed>
+    ensures { result ≡ info_number (fields rest.now) }
+{
+    match lone_number(rest) {
+        Some(number) => Ok(number),
+        None => info_number_by_fields(rest),
+    }
 }
 
 /// The info of an allocation, field by field.
-fn allocation_by_fields(rest: &[u8]) -> Result<u64, Malformed>
-    ensures { result ≡ allocation_of (fields rest.now) }
+fn info_number_by_fields(rest: &[u8]) -> Result<u64, Malformed>
+    ensures { result ≡ info_number (fields rest.now) }
 {
     let Some((info, after)) = next_field(rest) else {
         return Err(Malformed::MissingField);
@@ -179,14 +222,17 @@ pub fn read_info(rest: &[u8]) -> Result<Item<'_>, Malformed>
     Ok(Item::Info { size, trace })
 }
 
-/// A line of a free: an info.
-pub fn read_free(rest: &[u8]) -> Result<Item<'_>, Malformed>
-    ensures exact { Gives result (say free_line (one_number (fields rest.now))) }
+/// A line of a free: an info, and in a raw trace an address.
+pub fn read_free(form: Form, rest: &[u8]) -> Result<Item<'_>, Malformed>
+    ensures exact { Gives result (free_of form (fields rest.now)) }
     ensures whole { IfOk result (λ item. IsWhole item) }
     ensures tail { (version : ℕ) → IfOk result (λ item. HasTail version rest.now item) }
 {
-    let info = one_number(rest)?;
-    Ok(Item::Free { info })
+    let number = one_number(rest)?;
+    Ok(match form {
+        Form::Interpreted => Item::Free { info: number },
+        Form::Raw => Item::RawFree { ptr: number },
+    })
 }
 
 /// A line of resident memory, in pages.

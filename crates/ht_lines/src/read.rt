@@ -3,7 +3,7 @@
 //! No reference to another line is checked here.
 ghost use Rattle.std.specs.Prelude.{◌≡◌, ℕ, ◌^◌, ◌<◌, ◌≤◌, length, IfErr, IfOk, Ok, Err};
 ghost use Rattle.ht_lines.specs.Content.{Content};
-ghost use Rattle.ht_lines.specs.Kinds.{after_kind, is_kind};
+ghost use Rattle.ht_lines.specs.Kinds.{after_kind, is_foreign, is_kind};
 ghost use Rattle.ht_lines.specs.LeastLength.{least_length};
 ghost use Rattle.ht_lines.specs.Reading.{reading, reading_kind};
 ghost use Rattle.ht_lines.specs.Reads.{Reads};
@@ -20,43 +20,42 @@ use crate::numbers::{
 use crate::tailed::{read_instruction, read_module};
 use crate::text::{field_ends, text_of};
 
-/// Reads one line of an interpreted trace, without its line feed, in a file version from 1 to 3. The line must have
-/// fewer than 2^32 bytes, and the form must be `Interpreted`: the lines of raw traces aren't read yet.
+/// Reads one line of a trace of the form, without its line feed, in a file version from 1 to 3. The line must have
+/// fewer than 2^32 bytes.
 ///
 /// The texts, the name and the tail of the item are parts of the line. A tail is what follows the fields before it; it
 /// has numbers alone, as many as the item says, and `field` and `next_number` give them. It takes no memory.
 ///
 /// # Errors
 ///
-/// The byte after the kind is judged first, then the number of fields, then their content from the left.
+/// Whether the kind stands in traces of the form is judged first, then the byte after the kind, then the number of
+/// fields, then their content from the left.
 ///
 /// - `BadField`: a byte other than a blank follows a known kind but `#`; a field is no number of 1 to 16 hexadecimal
 ///   digits; a clock value is above 2^62; start, offset and size of a module's range are together above 2^64 - 1.
 /// - `MissingField`: there are too few fields; after `i` none, or 1, 4, 7 and so on; after `m` no name, or after its
 ///   name an even number of fields, but for the name `-` alone.
 /// - `ExtraField`: there are too many fields.
-/// - `NotInterpreted`: `+` with exactly three fields, whatever they are, as an allocation of a raw trace has them.
+/// - `NotInterpreted`: in an interpreted trace `+` with exactly three fields, whatever they are.
+/// - `NotRaw`: in a raw trace a line whose first byte is `s`, `i` or `a`, or `+` with exactly one field, whatever it is.
 /// - `BadVersion`: the file version of a `v` line is a number and not 1 to 3.
-///
-/// `NotRaw` never comes from a line of an interpreted trace.
 pub fn read_item(form: Form, version: u8, line: &[u8]) -> Result<Item<'_>, Malformed>
-    requires interpreted { form ≡ Form.Interpreted }
     requires low { 1 ≤ version }
     requires high { version ≤ 3 }
     requires short { length line.now < 2 ^ 32 }
-    ensures exact { Gives result (reading version line.now) }
+    ensures exact { Gives result (reading form version line.now) }
     ensures whole { IfOk result (λ item. IsWhole item) }
     ensures tail { IfOk result (λ item. HasTail version (after_kind line.now) item) }
     ensures length { IfOk result (λ item. least_length (content item) ≤ length line.now) }
-    ensures writable { IfOk result (λ item. IsWritable version (content item)) }
+    ensures writable { IfOk result (λ item. IsWritable form version (content item)) }
 
     // The same by the relations: the item or the fault, and no other.
-    ensures item { IfOk result (λ item. Reads version line.now (content item)) }
-    ensures fault { IfErr result (λ fault. Refuses version line.now fault) }
-    ensures only_item { (said : Content) → Reads version line.now said → reading version line.now ≡ Ok said }
-    ensures only_fault { (fault : Malformed) → Refuses version line.now fault → reading version line.now ≡ Err fault }
+    ensures item { IfOk result (λ item. Reads form version line.now (content item)) }
+    ensures fault { IfErr result (λ fault. Refuses form version line.now fault) }
+    ensures only_item { (said : Content) → Reads form version line.now said → reading form version line.now ≡ Ok said }
+    ensures only_fault { (fault : Malformed) → Refuses form version line.now fault → reading form version line.now ≡ Err fault }
 {
-    read_line(version, line)
+    read_line(form, version, line)
 }
 
 /// Whether lines of a known kind but comments begin with this byte.
@@ -82,11 +81,21 @@ fn is_kind(kind: u8) -> bool
     )
 }
 
+/// Whether lines that begin with this byte stand in traces of the other form alone.
+fn is_foreign(form: Form, kind: u8) -> bool
+    ensures { result ≡ is_foreign form kind }
+{
+    match form {
+        Form::Raw => matches!(kind, b's' | b'i' | b'a'),
+        Form::Interpreted => false,
+    }
+}
+
 /// The item of a line.
 #[tactic(auto, unfolding(crate::specs::Reading::reading))]
-fn read_line(version: u8, line: &[u8]) -> Result<Item<'_>, Malformed>
+fn read_line(form: Form, version: u8, line: &[u8]) -> Result<Item<'_>, Malformed>
     requires { length line.now < 2 ^ 32 }
-    ensures exact { Gives result (reading version line.now) }
+    ensures exact { Gives result (reading form version line.now) }
     ensures whole { IfOk result (λ item. IsWhole item) }
     ensures tail { IfOk result (λ item. HasTail version (after_kind line.now) item) }
 {
@@ -96,20 +105,23 @@ fn read_line(version: u8, line: &[u8]) -> Result<Item<'_>, Malformed>
     if *kind == b'#' {
         return Ok(Item::Comment { text: rest });
     }
+    if is_foreign(form, *kind) {
+        return Err(Malformed::NotRaw);
+    }
     if !is_kind(*kind) {
         return Ok(Item::Other { line });
     }
     if !field_ends(rest) {
         return Err(Malformed::BadField);
     }
-    read_kind(version, *kind, rest)
+    read_kind(form, version, *kind, rest)
 }
 
 /// The item of a line of a known kind but a comment. `rest` follows the kind.
 #[tactic(auto, unfolding(crate::specs::Reading::reading_kind))]
-fn read_kind(version: u8, kind: u8, rest: &[u8]) -> Result<Item<'_>, Malformed>
+fn read_kind(form: Form, version: u8, kind: u8, rest: &[u8]) -> Result<Item<'_>, Malformed>
     requires { length rest.now < 2 ^ 32 }
-    ensures exact { Gives result (reading_kind version kind rest.now) }
+    ensures exact { Gives result (reading_kind form version kind rest.now) }
     ensures whole { IfOk result (λ item. IsWhole item) }
     ensures tail { IfOk result (λ item. HasTail version rest.now item) }
 {
@@ -132,8 +144,8 @@ fn read_kind(version: u8, kind: u8, rest: &[u8]) -> Result<Item<'_>, Malformed>
         b'i' => read_instruction(rest),
         b't' => read_node(rest),
         b'a' => read_info(rest),
-        b'+' => read_allocation(rest),
-        b'-' => read_free(rest),
+        b'+' => read_allocation(form, rest),
+        b'-' => read_free(form, rest),
         b'c' => read_clock(rest),
         b'R' => read_resident(rest),
         _ => Ok(Item::Attached),

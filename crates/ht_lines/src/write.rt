@@ -5,6 +5,7 @@
 
 ghost use Rattle.std.specs.Prelude.{◌≡◌, ℕ, ◌^◌, ◌<◌, ◌≤◌, List, [], ◌∷◌, ◌++◌, length, Ok, Err, OnOk, OnErr};
 ghost use Rattle.hp_num.specs.Hexadecimal.{hexadecimal};
+ghost use Rattle.ht_lines.specs.declared.item.Form.{Form};
 ghost use Rattle.ht_lines.specs.Content.{Content, module_line};
 ghost use Rattle.ht_lines.specs.Extends.{Extends};
 ghost use Rattle.ht_lines.specs.Fields.{numbers};
@@ -25,7 +26,7 @@ use hp_num::{NoMemory, hexadecimal_texts, put_bytes, put_hex};
 pub fn put_item(version: u8, item: &Item, out: &mut Vec<u8>) -> Result<(), NoMemory>
     ensures appended { OnOk result (out.new.items ≡ out.old.items ++ (written version (content item.now) ++ (10 ∷ []))) }
     ensures unchanged { OnErr result (out.new.items ≡ out.old.items) }
-    ensures reads_back { (said : Content) → IsWritable version said → reading version (written version said) ≡ Ok said }
+    ensures reads_back { (form : Form) (said : Content) → IsWritable form version said → reading form version (written version said) ≡ Ok said }
 {
     hexadecimal_texts();
     let start = out.len();

@@ -3,7 +3,7 @@ use Rattle.ht_lines.proofs.WrittenLemmas.{reading-written}
 use Rattle.ht_lines.proofs.write.put_item.Goals as goal
 
 pub returns-then-is_err-clause-reads_back : goal.returns-then-is_err-clause-reads_back
-returns-then-is_err-clause-reads_back c = reading-written c.hexadecimal_texts.ensures.reads_back c.args.version
+returns-then-is_err-clause-reads_back c = λ form. reading-written c.hexadecimal_texts.ensures.reads_back form c.args.version
 
 pub returns-else-is_err-clause-reads_back : goal.returns-else-is_err-clause-reads_back
-returns-else-is_err-clause-reads_back c = reading-written c.hexadecimal_texts.ensures.reads_back c.args.version
+returns-else-is_err-clause-reads_back c = λ form. reading-written c.hexadecimal_texts.ensures.reads_back form c.args.version
