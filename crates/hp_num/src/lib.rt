@@ -15,6 +15,7 @@ mod text;
 pub use bytes::put_bytes;
 pub use commas::{comma_texts, put_commas};
 pub use decimal::{decimal_texts, parse_dec, put_dec};
+pub use hex_digit::hex_digit_value;
 pub use hexadecimal::{hexadecimal_texts, parse_hex, put_hex};
 pub use memory::NoMemory;
 pub use percent::{hundredths, parse_percent, percent_texts, put_percent};

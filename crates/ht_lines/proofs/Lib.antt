@@ -11,3 +11,4 @@ pub mod ExtendLemmas
 pub mod WordLemmas
 pub mod WrittenLemmas
 pub mod LengthLemmas
+pub mod EventLines

@@ -10,3 +10,4 @@ pub mod Reading
 pub mod ItemContent
 pub mod Written
 pub mod Extends
+pub mod EventLine

@@ -3,6 +3,7 @@
 //! This crate reads and writes one line at a time. It knows no file and keeps no table.
 #![tactic(auto)]
 
+mod event;
 mod fields;
 mod item;
 mod numbers;
@@ -11,6 +12,7 @@ mod tailed;
 mod text;
 mod write;
 
+pub use event::{EventKind, EventLine, event_line};
 pub use fields::{field, next_number};
 pub use item::{Form, Item, Malformed};
 pub use read::read_item;
