@@ -12,3 +12,4 @@ pub mod WordLemmas
 pub mod WrittenLemmas
 pub mod LengthLemmas
 pub mod EventLines
+pub mod OneLineTexts

@@ -9,6 +9,7 @@ ghost use Rattle.ht_lines.specs.Reading.{reading, reading_kind};
 ghost use Rattle.ht_lines.specs.Reads.{Reads};
 ghost use Rattle.ht_lines.specs.Refuses.{Refuses};
 ghost use Rattle.ht_lines.specs.ItemContent.{Gives, HasTail, IsWhole, content};
+ghost use Rattle.ht_lines.specs.OneLine.{HasOneLineTexts, IsOneLine};
 ghost use Rattle.ht_lines.specs.Written.{IsWritable};
 ghost use Rattle.ht_lines.specs.declared.item.Malformed.{Malformed};
 
@@ -47,6 +48,7 @@ pub fn read_item(form: Form, version: u8, line: &[u8]) -> Result<Item<'_>, Malfo
     ensures whole { IfOk result (λ item. IsWhole item) }
     ensures tail { IfOk result (λ item. HasTail version (after_kind line.now) item) }
     ensures length { IfOk result (λ item. least_length (content item) ≤ length line.now) }
+    ensures texts { IsOneLine line.now → IfOk result (λ item. HasOneLineTexts (content item)) }
     ensures writable { IfOk result (λ item. IsWritable form version (content item)) }
 
     // The same by the relations: the item or the fault, and no other.

@@ -10,6 +10,7 @@ ghost use Rattle.ht_lines.specs.Content.{Content, module_line};
 ghost use Rattle.ht_lines.specs.Extends.{Extends};
 ghost use Rattle.ht_lines.specs.Fields.{numbers};
 ghost use Rattle.ht_lines.specs.ItemContent.{content};
+ghost use Rattle.ht_lines.specs.OneLine.{HasOneLineTexts, IsOneLine};
 ghost use Rattle.ht_lines.specs.Reading.{reading};
 ghost use Rattle.ht_lines.specs.Written.{IsWritable, spelled, spelled_text, written};
 
@@ -22,10 +23,12 @@ use hp_num::{NoMemory, hexadecimal_texts, put_bytes, put_hex};
 /// The line is the one written form of what the item says in the file version: texts and names stand after their size
 /// in version 3 and alone in every other, numbers in their shortest form, one blank between fields. The numbers of the
 /// tail are written, and not how many the item says. The line of an item that `read_item` gave in this version is
-/// read in it as an item with the same content.
+/// read in it as an item with the same content, in a trace of the same form. It has no line feed but the one at its end
+/// where the item's texts have none.
 pub fn put_item(version: u8, item: &Item, out: &mut Vec<u8>) -> Result<(), NoMemory>
     ensures appended { OnOk result (out.new.items ≡ out.old.items ++ (written version (content item.now) ++ (10 ∷ []))) }
     ensures unchanged { OnErr result (out.new.items ≡ out.old.items) }
+    ensures one_line { HasOneLineTexts (content item.now) → IsOneLine (written version (content item.now)) }
     ensures reads_back { (form : Form) (said : Content) → IsWritable form version said → reading form version (written version said) ≡ Ok said }
 {
     hexadecimal_texts();

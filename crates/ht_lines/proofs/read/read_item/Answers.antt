@@ -1,6 +1,7 @@
 -- What is read is read so, what is refused is refused so, and no other.
 use Rattle.ht_lines.proofs.LineSides.{Gives-item, Gives-fault, reading-item, reading-fault}
 use Rattle.ht_lines.proofs.LengthLemmas.{IfOk-length}
+use Rattle.ht_lines.proofs.OneLineTexts.{IfOk-one_line}
 use Rattle.ht_lines.proofs.WrittenLemmas.{IfOk-IsWritable}
 use Rattle.ht_lines.proofs.read.read_item.Goals as goal
 
@@ -18,6 +19,9 @@ returns-clause-only_fault c = reading-fault c.args.form c.args.version c.args.li
 
 pub returns-clause-writable : goal.returns-clause-writable
 returns-clause-writable c = IfOk-IsWritable c.args.form c.args.version c.args.line.now c.read_line.result c.requires.short (Gives-item c.args.form c.args.version c.args.line.now c.read_line.result c.read_line.ensures.exact)
+
+pub returns-clause-texts : goal.returns-clause-texts
+returns-clause-texts c one = IfOk-one_line c.args.form c.args.version c.args.line.now one c.read_line.result (Gives-item c.args.form c.args.version c.args.line.now c.read_line.result c.read_line.ensures.exact)
 
 pub returns-clause-length : goal.returns-clause-length
 returns-clause-length c = IfOk-length c.args.form c.args.version c.args.line.now c.read_line.result (Gives-item c.args.form c.args.version c.args.line.now c.read_line.result c.read_line.ensures.exact)
