@@ -17,6 +17,3 @@ pub use fields::{field, next_number};
 pub use item::{Form, Item, Malformed};
 pub use read::read_item;
 pub use write::put_item;
-
-#[cfg(test)]
-mod tests;

@@ -1,0 +1,194 @@
+//! Lines with what each says or why it is refused, and the numbers of tails.
+use ht_lines::{
+    EventKind, EventLine, Form, Item, Malformed, event_line, field, next_number, read_item,
+};
+use std::process::Abort;
+
+/// A file version, a line, and its fault.
+type Refused = (u8, &'static [u8], Malformed);
+
+/// Reads each line of a trace of the form, which must be refused with the fault beside it.
+fn refuses(rt: &impl Abort, form: Form, lines: &[Refused]) {
+    for (version, line, fault) in lines {
+        assert_eq!(rt; read(rt, form, *version, line), Err(*fault), "at {line:?}");
+    }
+}
+
+/// Reads a short line.
+fn read<'a>(
+    rt: &impl Abort,
+    form: Form,
+    version: u8,
+    line: &'a [u8],
+) -> Result<Item<'a>, Malformed> {
+    assert!(rt; version >= 1);
+    assert!(rt; version <= 3);
+    assert!(rt; line.len() < 100);
+    read_item(form, version, line)
+}
+
+#[test]
+fn refuses_lines_of_interpreted_traces(rt: HostRuntime) {
+    let lines: [Refused; 47] = [
+        (2, b"v", Malformed::MissingField),
+        (2, b"v 1 2 3", Malformed::ExtraField),
+        (2, b"v 1 4", Malformed::BadVersion),
+        (2, b"v 1 0", Malformed::BadVersion),
+        (2, b"v g 4", Malformed::BadField),
+        (2, b"v 1 g", Malformed::BadField),
+        (2, b"I 1", Malformed::MissingField),
+        (2, b"I g 1 2", Malformed::ExtraField),
+        (2, b"sx", Malformed::BadField),
+        (2, b"s\tmain", Malformed::BadField),
+        (2, b"m", Malformed::MissingField),
+        (2, b"m  ", Malformed::MissingField),
+        (2, b"m a", Malformed::MissingField),
+        (2, b"m a 1 2", Malformed::MissingField),
+        (2, b"m a g", Malformed::BadField),
+        (2, b"m a 1 ffffffffffffffff 0", Malformed::BadField),
+        (2, b"m a 0 ffffffffffffffff 1", Malformed::BadField),
+        (2, b"m a 1 1 1 ffffffffffffffff 0", Malformed::BadField),
+        (2, b"m 1 -", Malformed::BadField),
+        (3, b"m 0 ", Malformed::MissingField),
+        (3, b"m 2 10", Malformed::MissingField),
+        (3, b"m 2 - ", Malformed::MissingField),
+        (3, b"m 3 a b", Malformed::MissingField),
+        (3, b"m 3 abcd 10", Malformed::MissingField),
+        (3, b"m 1 -x", Malformed::BadField),
+        (2, b"i", Malformed::MissingField),
+        (2, b"i 1", Malformed::MissingField),
+        (2, b"i 1 1 2 3", Malformed::MissingField),
+        (2, b"i 1 1 2 3 4 5 6", Malformed::MissingField),
+        (2, b"i 1 g", Malformed::BadField),
+        (2, b"t 1", Malformed::MissingField),
+        (2, b"a 1 2 3", Malformed::ExtraField),
+        (2, b"+", Malformed::MissingField),
+        (2, b"+ 1 2", Malformed::ExtraField),
+        (2, b"+ 40 1 1000", Malformed::NotInterpreted),
+        (2, b"+ g h i", Malformed::NotInterpreted),
+        (2, b"+ 1 2 3 4", Malformed::ExtraField),
+        (2, b"+0", Malformed::BadField),
+        (2, b"-", Malformed::MissingField),
+        (2, b"- 1 2", Malformed::ExtraField),
+        (2, b"- 1g", Malformed::BadField),
+        (2, b"- 10000000000000000", Malformed::BadField),
+        (2, b"c", Malformed::MissingField),
+        (2, b"c 1 2", Malformed::ExtraField),
+        (2, b"c 4000000000000001", Malformed::BadField),
+        (2, b"R", Malformed::MissingField),
+        (2, b"Ax", Malformed::BadField),
+    ];
+    refuses(&rt, Form::Interpreted, &lines);
+}
+
+#[test]
+fn refuses_lines_of_raw_traces(rt: HostRuntime) {
+    let lines: [Refused; 17] = [
+        (2, b"s main", Malformed::NotRaw),
+        (2, b"s", Malformed::NotRaw),
+        (2, b"sx", Malformed::NotRaw),
+        (2, b"i 1", Malformed::NotRaw),
+        (2, b"a 1 2", Malformed::NotRaw),
+        (2, b"+ 0", Malformed::NotRaw),
+        (2, b"+ g", Malformed::NotRaw),
+        (2, b"+0", Malformed::BadField),
+        (2, b"+", Malformed::MissingField),
+        (2, b"+ 1 2", Malformed::MissingField),
+        (2, b"+ 1 g 3", Malformed::BadField),
+        (2, b"+ 1 2 3 4", Malformed::ExtraField),
+        (2, b"-", Malformed::MissingField),
+        (2, b"- 1 2", Malformed::ExtraField),
+        (2, b"t 1", Malformed::MissingField),
+        (2, b"m a 1 2", Malformed::MissingField),
+        (2, b"v 1 4", Malformed::BadVersion),
+    ];
+    refuses(&rt, Form::Raw, &lines);
+}
+
+/// Reads a line of version 2 that says the item.
+fn says(rt: &impl Abort, form: Form, line: &'static [u8], item: Item) {
+    assert_eq!(rt; read(rt, form, 2, line), Ok(item), "at {line:?}");
+}
+
+#[test]
+fn gives_the_fields_of_items(rt: HostRuntime) {
+    says(&rt, Form::Interpreted, b"+ 0A", Item::Alloc { info: 10 });
+    says(
+        &rt,
+        Form::Raw,
+        b"+ 40 2 9000",
+        Item::RawAlloc {
+            size: 64,
+            trace: 2,
+            ptr: 0x9000,
+        },
+    );
+    says(&rt, Form::Interpreted, b"- 10", Item::Free { info: 16 });
+    says(&rt, Form::Raw, b"- 10", Item::RawFree { ptr: 16 });
+    says(
+        &rt,
+        Form::Interpreted,
+        b"i 1 1 2 3 4 5",
+        Item::Instr {
+            ip: 1,
+            module: 1,
+            fields: 6,
+            tail: b" 2 3 4 5",
+        },
+    );
+    says(
+        &rt,
+        Form::Raw,
+        b"m app 1000 0 1000",
+        Item::Module {
+            name: b"app",
+            start: 4096,
+            ranges: 1,
+            tail: b" 0 1000",
+        },
+    );
+}
+
+#[test]
+fn gives_the_numbers_of_a_tail(rt: HostRuntime) {
+    let fields: [(&[u8], u32, Option<u64>); 5] = [
+        (b" 2 4 14", 0, Some(2)),
+        (b" 2 4 14", 2, Some(20)),
+        (b" 2 4 14", 3, None),
+        (b" 2 g 14", 1, None),
+        (b"", 0, None),
+    ];
+    for (tail, k, number) in fields {
+        assert_eq!(rt; field(tail, k), number);
+    }
+    assert_eq!(rt; next_number(b" 2 4 14"), Some((2, b" 4 14".as_slice())));
+    assert_eq!(rt; next_number(b"  "), None);
+}
+
+/// The event at the front of a text, as its kind, its info and the bytes of its line.
+fn event(text: &[u8]) -> Option<(EventKind, u64, usize)> {
+    let EventLine { kind, info, bytes } = event_line(text)?;
+    Some((kind, info, bytes))
+}
+
+#[test]
+fn finds_lines_of_events(rt: HostRuntime) {
+    let texts: [(&[u8], Option<(EventKind, u64, usize)>); 10] = [
+        (b"+ 0\n- 0\n+ 1\n", Some((EventKind::Allocation, 0, 4))),
+        (b"- 1aF\n+ 0\n+ 0\n", Some((EventKind::Free, 0x1af, 6))),
+        (
+            b"+ ffffffff\n",
+            Some((EventKind::Allocation, 0xffff_ffff, 11)),
+        ),
+        (b"+ 100000000\n+ 0\n", None),
+        (b"+ 0\n", None),
+        (b"+ 40 2 9000\n+ 0\n", None),
+        (b"+  0\n+ 0\n+ 0\n", None),
+        (b"+ \n+ 0\n+ 0\n+ 0\n", None),
+        (b"+0\n+ 0\n+ 0\n+ 0\n", None),
+        (b"c 5\n+ 0\n+ 0\n+ 0\n", None),
+    ];
+    for (text, found) in texts {
+        assert_eq!(rt; event(text), found, "at {text:?}");
+    }
+}
