@@ -1,5 +1,5 @@
 -- What a ledger stands for after one more event, stack or info.
-use Rattle.std.proofs.Common.{◌≡◌, ℕ, ◌+◌, List, [], ◌∷◌, ◌++◌, Bool, cond, Option, inl, inr, refl, sym, ap, subst, ◌∙◌, arith}
+use Rattle.std.proofs.Common.{◌≡◌, ℕ, ◌+◌, List, [], ◌∷◌, ◌++◌, Bool, cond, Option, true, false, inl, inr, refl, add-zero, sym, ap, subst, ◌∙◌, arith}
 use Rattle.std.specs.Option.{option_eq}
 use Rattle.std.specs.Prelude.{nat_eq, ◌==◌, Some, None, slice_index}
 use Rattle.std.proofs.lemmas.List.Sums.{sum_by_push}
@@ -7,17 +7,21 @@ use Rattle.std.proofs.lemmas.Bool.Decides.{nat_tests, eqb_tells}
 use Rattle.live_ledger.specs.declared.event.Event.{Event}
 use Rattle.live_ledger.specs.declared.event.Event.TheVariants.{Alloc, Free, Tick}
 use Rattle.live_ledger.specs.declared.event.EventFault.TheVariants.{FreeOfNothing}
+use Rattle.live_ledger.specs.declared.figures.Figures.{Figures}
 use Rattle.live_ledger.specs.declared.totals.Totals.{Totals}
 use Rattle.live_ledger.specs.Events.{is_alloc, is_free, is_counted, event_count}
 use Rattle.live_ledger.specs.LiveBytes.{alloc_size, free_size, allocated_bytes, freed_bytes}
 use Rattle.live_ledger.specs.LiveBlocks.{calls, frees}
 use Rattle.live_ledger.specs.InfoBlocks.{is_alloc_of, is_free_of, allocs_of, frees_of}
-use Rattle.live_ledger.specs.Temporary.{temporary_count}
+use Rattle.live_ledger.specs.InStack.{alloc_size_in, allocated_in, calls_in, free_size_in, freed_in, frees_in, is_alloc_in, is_free_in, temporary_in}
+use Rattle.live_ledger.specs.Temporary.{last_allocated, temporary_count}
 use Rattle.live_ledger.specs.Faults.{fault_of, fault_at}
-use Rattle.live_ledger.specs.LedgerState.{LedgerState}
-use Rattle.live_ledger.specs.StandsFor.{StandsFor, AreTotalsOf}
-use Rattle.live_ledger.specs.Steps.{Allocates, Frees}
-use Rattle.live_ledger.proofs.Lists.{temporary-tick, temporary-alloc, temporary-free, last-tick, last-alloc, last-free}
+use Rattle.live_ledger.specs.LedgerState.{HeldInfo, IsHeld, LedgerState, figures_at}
+use Rattle.live_ledger.specs.Possible.{AreAmong}
+use Rattle.live_ledger.specs.StandsFor.{StandsFor, AreFiguresOf, AreTotalsOf}
+use Rattle.live_ledger.specs.Changes.{Allocates, Frees, GainsBlock, LosesBlock, ended_by_free}
+use Rattle.live_ledger.proofs.PossibleLemmas.{among-more, faultless-more}
+use Rattle.live_ledger.proofs.Lists.{temporary_in-tick, temporary_in-alloc, temporary_in-free, temporary_in-free_other, temporary-tick, temporary-alloc, temporary-free, last-tick, last-alloc, last-free}
 
 -- whether a number is 0 is whether the two that it stands between are equal
 equal-from_zero : (between less more : ℕ) → between + less ≡ more → (between == 0) ≡ (more == less)
@@ -33,7 +37,7 @@ fault_at-is state events (Tick ms) stands = refl
 -- each info's live blocks after an allocation
 each-alloc :
     (old new : LedgerState) (events : List Event) (info stack size : ℕ)
-    → Allocates old new info size
+    → Allocates old new info stack size
     → StandsFor old events
     → (other : ℕ)
     → slice_index new.blocks other + frees_of other (events ++ Alloc info stack size ∷ []) ≡ allocs_of other (events ++ Alloc info stack size ∷ [])
@@ -57,7 +61,7 @@ each-alloc old new events info stack size step stands other =
 -- each info's live blocks after a free
 each-free :
     (old new : LedgerState) (events : List Event) (info stack size : ℕ)
-    → Frees old new info size
+    → Frees old new info stack size
     → StandsFor old events
     → (other : ℕ)
     → slice_index new.blocks other + frees_of other (events ++ Free info stack size ∷ []) ≡ allocs_of other (events ++ Free info stack size ∷ [])
@@ -78,13 +82,191 @@ each-free old new events info stack size step stands other =
           omega arith
     ]
 
+-- each info's allocations after an allocation
+each_calls-alloc :
+    (old new : LedgerState) (events : List Event) (info stack size : ℕ)
+    → Allocates old new info stack size
+    → StandsFor old events
+    → (other : ℕ)
+    → slice_index new.info_calls other ≡ allocs_of other (events ++ Alloc info stack size ∷ [])
+each_calls-alloc old new events info stack size step stands other =
+    let event : Event = Alloc info stack size in
+    let more : allocs_of other (events ++ event ∷ []) ≡ allocs_of other events + cond (info == other) 1 0 = sum_by_push (λ (e : Event). cond (is_alloc_of other e) 1 0) events event in
+    let was = stands.each_info_calls other in
+    elim (eqb_tells info other) [
+      | inl same ↦
+          let calls : slice_index new.info_calls other ≡ slice_index old.info_calls other + 1 =
+          subst (λ (n : ℕ). slice_index new.info_calls n ≡ slice_index old.info_calls n + 1) same.1 step.calls_of_info in
+          let one : cond {A = ℕ} (info == other) 1 0 ≡ 1 = ap (λ (b : Bool). cond {A = ℕ} b 1 0) same.0 in
+          omega arith
+      | inr apart ↦
+          let calls = step.calls_of_others other (λ e. apart.1 (sym e)) in
+          let none : cond {A = ℕ} (info == other) 1 0 ≡ 0 = ap (λ (b : Bool). cond {A = ℕ} b 1 0) apart.0 in
+          omega arith
+    ]
+
+-- each info's allocations after a free
+each_calls-free :
+    (old new : LedgerState) (events : List Event) (info stack size : ℕ)
+    → Frees old new info stack size
+    → StandsFor old events
+    → (other : ℕ)
+    → slice_index new.info_calls other ≡ allocs_of other (events ++ Free info stack size ∷ [])
+each_calls-free old new events info stack size step stands other =
+    let event : Event = Free info stack size in
+    let more : allocs_of other (events ++ event ∷ []) ≡ allocs_of other events + 0 = sum_by_push (λ (e : Event). cond (is_alloc_of other e) 1 0) events event in
+    let was = stands.each_info_calls other in
+    let same : slice_index new.info_calls other ≡ slice_index old.info_calls other = ap (λ (xs : List ℕ). slice_index xs other) step.info_calls in
+    omega arith
+
+-- what one more event adds to what a list says of a stack
+record Adds (n : ℕ) (events : List Event) (event : Event) (calls frees allocated freed temporary : ℕ) : Type 0 where
+  calls_more : calls_in n (events ++ event ∷ []) ≡ calls_in n events + calls
+  frees_more : frees_in n (events ++ event ∷ []) ≡ frees_in n events + frees
+  allocated_more : allocated_in n (events ++ event ∷ []) ≡ allocated_in n events + allocated
+  freed_more : freed_in n (events ++ event ∷ []) ≡ freed_in n events + freed
+  temporary_more : temporary_in n (events ++ event ∷ []) ≡ temporary_in n events + temporary
+
+-- figures that change by so much are those of the list with the event
+figures-more :
+    (old new : Figures) (n : ℕ) (events : List Event) (event : Event) (calls frees allocated freed temporary : ℕ)
+    → AreFiguresOf old n events
+    → Adds n events event calls frees allocated freed temporary
+    → new.live + freed ≡ old.live + allocated
+    → new.blocks + frees ≡ old.blocks + calls
+    → new.calls ≡ old.calls + calls
+    → new.temporary ≡ old.temporary + temporary
+    → new.allocated ≡ old.allocated + allocated
+    → AreFiguresOf new n (events ++ event ∷ [])
+figures-more old new n events event calls frees allocated freed temporary were adds live blocks more_calls more_temporary more_allocated =
+    let live_and_freed : new.live + freed_in n (events ++ event ∷ []) ≡ allocated_in n (events ++ event ∷ []) = omega (arith, were.live_and_freed, adds.freed_more, adds.allocated_more, live) in
+    let blocks_and_frees : new.blocks + frees_in n (events ++ event ∷ []) ≡ calls_in n (events ++ event ∷ []) = omega (arith, were.blocks_and_frees, adds.frees_more, adds.calls_more, blocks) in
+    record {
+      calls_is = omega (arith, were.calls_is, adds.calls_more, more_calls);
+      temporary_is = omega (arith, were.temporary_is, adds.temporary_more, more_temporary);
+      allocated_is = omega (arith, were.allocated_is, adds.allocated_more, more_allocated);
+      live_is = omega (arith, live_and_freed);
+      blocks_is = omega (arith, blocks_and_frees);
+      live_and_freed = live_and_freed;
+      blocks_and_frees = blocks_and_frees;
+    }
+
+-- an allocation adds to its stack
+adds-alloc : (n : ℕ) (events : List Event) (info stack size : ℕ) → (stack == n) ≡ true → Adds n events (Alloc info stack size) 1 0 size 0 0
+adds-alloc n events info stack size is =
+    let event : Event = Alloc info stack size in
+    record {
+      calls_more = sum_by_push (λ (e : Event). cond (is_alloc_in n e) 1 0) events event ∙ ap (λ (b : Bool). calls_in n events + cond {A = ℕ} b 1 0) is;
+      frees_more = sum_by_push (λ (e : Event). cond (is_free_in n e) 1 0) events event;
+      allocated_more = sum_by_push (alloc_size_in n) events event ∙ ap (λ (b : Bool). allocated_in n events + cond {A = ℕ} b size 0) is;
+      freed_more = sum_by_push (free_size_in n) events event;
+      temporary_more = temporary_in-alloc n events info stack size ∙ sym (add-zero (temporary_in n events));
+    }
+
+-- and nothing to another
+adds-alloc_other : (n : ℕ) (events : List Event) (info stack size : ℕ) → (stack == n) ≡ false → Adds n events (Alloc info stack size) 0 0 0 0 0
+adds-alloc_other n events info stack size is =
+    let event : Event = Alloc info stack size in
+    record {
+      calls_more = sum_by_push (λ (e : Event). cond (is_alloc_in n e) 1 0) events event ∙ ap (λ (b : Bool). calls_in n events + cond {A = ℕ} b 1 0) is;
+      frees_more = sum_by_push (λ (e : Event). cond (is_free_in n e) 1 0) events event;
+      allocated_more = sum_by_push (alloc_size_in n) events event ∙ ap (λ (b : Bool). allocated_in n events + cond {A = ℕ} b size 0) is;
+      freed_more = sum_by_push (free_size_in n) events event;
+      temporary_more = temporary_in-alloc n events info stack size ∙ sym (add-zero (temporary_in n events));
+    }
+
+-- a free adds to the frees of its stack
+adds-free : (n : ℕ) (events : List Event) (info stack size : ℕ) → (stack == n) ≡ true → Adds n events (Free info stack size) 0 1 0 size (cond (option_eq nat_eq (last_allocated events) (Some info)) 1 0)
+adds-free n events info stack size is =
+    let event : Event = Free info stack size in
+    record {
+      calls_more = sum_by_push (λ (e : Event). cond (is_alloc_in n e) 1 0) events event;
+      frees_more = sum_by_push (λ (e : Event). cond (is_free_in n e) 1 0) events event ∙ ap (λ (b : Bool). frees_in n events + cond {A = ℕ} b 1 0) is;
+      allocated_more = sum_by_push (alloc_size_in n) events event;
+      freed_more = sum_by_push (free_size_in n) events event ∙ ap (λ (b : Bool). freed_in n events + cond {A = ℕ} b size 0) is;
+      temporary_more = temporary_in-free n events info stack size is;
+    }
+
+-- and nothing to another's
+adds-free_other : (n : ℕ) (events : List Event) (info stack size : ℕ) → (stack == n) ≡ false → Adds n events (Free info stack size) 0 0 0 0 0
+adds-free_other n events info stack size is =
+    let event : Event = Free info stack size in
+    record {
+      calls_more = sum_by_push (λ (e : Event). cond (is_alloc_in n e) 1 0) events event;
+      frees_more = sum_by_push (λ (e : Event). cond (is_free_in n e) 1 0) events event ∙ ap (λ (b : Bool). frees_in n events + cond {A = ℕ} b 1 0) is;
+      allocated_more = sum_by_push (alloc_size_in n) events event;
+      freed_more = sum_by_push (free_size_in n) events event ∙ ap (λ (b : Bool). freed_in n events + cond {A = ℕ} b size 0) is;
+      temporary_more = temporary_in-free_other n events info stack size is ∙ sym (add-zero (temporary_in n events));
+    }
+
+-- a clock value adds nothing to any
+adds-tick : (n : ℕ) (events : List Event) (ms : ℕ) → Adds n events (Tick ms) 0 0 0 0 0
+adds-tick n events ms =
+    let event : Event = Tick ms in
+    record {
+      calls_more = sum_by_push (λ (e : Event). cond (is_alloc_in n e) 1 0) events event;
+      frees_more = sum_by_push (λ (e : Event). cond (is_free_in n e) 1 0) events event;
+      allocated_more = sum_by_push (alloc_size_in n) events event;
+      freed_more = sum_by_push (free_size_in n) events event;
+      temporary_more = temporary_in-tick n events ms ∙ sym (add-zero (temporary_in n events));
+    }
+
+-- figures that nothing is added to stay those of the list
+figures-stay : (figures : Figures) (n : ℕ) (events : List Event) (event : Event) → AreFiguresOf figures n events → Adds n events event 0 0 0 0 0 → AreFiguresOf figures n (events ++ event ∷ [])
+figures-stay figures n events event were adds =
+    figures-more figures figures n events event 0 0 0 0 0 were adds refl refl (sym (add-zero figures.calls)) (sym (add-zero figures.temporary)) (sym (add-zero figures.allocated))
+
+-- each stack's figures after an allocation
+each_stack-alloc :
+    (old new : LedgerState) (events : List Event) (info stack size : ℕ)
+    → Allocates old new info stack size
+    → StandsFor old events
+    → (n : ℕ)
+    → AreFiguresOf (figures_at new n) n (events ++ Alloc info stack size ∷ [])
+each_stack-alloc old new events info stack size step stands n =
+    elim (eqb_tells stack n) [
+      | inl same ↦
+          let gains : GainsBlock (figures_at old n) (figures_at new n) size = subst (λ (m : ℕ). GainsBlock (figures_at old m) (figures_at new m) size) same.1 step.figures in
+          figures-more (figures_at old n) (figures_at new n) n events (Alloc info stack size) 1 0 size 0 0 (stands.each_stack n) (adds-alloc n events info stack size same.0)
+          (add-zero _ ∙ gains.live) (add-zero _ ∙ gains.blocks) gains.calls (gains.temporary ∙ sym (add-zero _)) gains.allocated
+      | inr apart ↦
+          subst (λ (f : Figures). AreFiguresOf f n (events ++ Alloc info stack size ∷ [])) (sym (step.figures_of_others n (λ e. apart.1 (sym e))))
+          (figures-stay (figures_at old n) n events (Alloc info stack size) (stands.each_stack n) (adds-alloc_other n events info stack size apart.0))
+    ]
+
+-- each stack's figures after a free
+each_stack-free :
+    (old new : LedgerState) (events : List Event) (info stack size : ℕ)
+    → Frees old new info stack size
+    → StandsFor old events
+    → (n : ℕ)
+    → AreFiguresOf (figures_at new n) n (events ++ Free info stack size ∷ [])
+each_stack-free old new events info stack size step stands n =
+    elim (eqb_tells stack n) [
+      | inl same ↦
+          let loses : LosesBlock (figures_at old n) (figures_at new n) size (ended_by_free old info) = subst (λ (m : ℕ). LosesBlock (figures_at old m) (figures_at new m) size (ended_by_free old info)) same.1 step.figures in
+          let ended : (figures_at new n).temporary ≡ (figures_at old n).temporary + cond (option_eq nat_eq (last_allocated events) (Some info)) 1 0 =
+          loses.temporary ∙ ap (λ (o : Option ℕ). (figures_at old n).temporary + cond {A = ℕ} (option_eq nat_eq o (Some info)) 1 0) stands.last_is in
+          figures-more (figures_at old n) (figures_at new n) n events (Free info stack size) 0 1 0 size _ (stands.each_stack n) (adds-free n events info stack size same.0)
+          (loses.live ∙ sym (add-zero _)) (loses.blocks ∙ sym (add-zero _)) (loses.calls ∙ sym (add-zero _)) ended (loses.allocated ∙ sym (add-zero _))
+      | inr apart ↦
+          subst (λ (f : Figures). AreFiguresOf f n (events ++ Free info stack size ∷ [])) (sym (step.figures_of_others n (λ e. apart.1 (sym e))))
+          (figures-stay (figures_at old n) n events (Free info stack size) (stands.each_stack n) (adds-free_other n events info stack size apart.0))
+    ]
+
+-- each stack's figures after a clock value
+each_stack-tick : (state : LedgerState) (events : List Event) (ms : ℕ) → StandsFor state events → (n : ℕ) → AreFiguresOf (figures_at state n) n (events ++ Tick ms ∷ [])
+each_stack-tick state events ms stands n = figures-stay (figures_at state n) n events (Tick ms) (stands.each_stack n) (adds-tick n events ms)
+
 -- a ledger after an allocation stands for the list with that event at its end
 pub stands-alloc :
     (old new : LedgerState) (events : List Event) (info stack size : ℕ)
-    → Allocates old new info size
+    → IsHeld old (Alloc info stack size)
+    → fault_of events (Alloc info stack size) ≡ None
+    → Allocates old new info stack size
     → StandsFor old events
     → StandsFor new (events ++ Alloc info stack size ∷ [])
-stands-alloc old new events info stack size step stands =
+stands-alloc old new events info stack size held no_fault step stands =
     let event : Event = Alloc info stack size in
     let more : event_count (events ++ event ∷ []) ≡ event_count events + 1 = sum_by_push (λ (e : Event). cond (is_counted e) 1 0) events event in
     let more_calls : calls (events ++ event ∷ []) ≡ calls events + 1 = sum_by_push (λ (e : Event). cond (is_alloc e) 1 0) events event in
@@ -92,6 +274,8 @@ stands-alloc old new events info stack size step stands =
     let more_bytes : allocated_bytes (events ++ event ∷ []) ≡ allocated_bytes events + size = sum_by_push alloc_size events event in
     let more_freed : freed_bytes (events ++ event ∷ []) ≡ freed_bytes events + 0 = sum_by_push free_size events event in
     record {
+      held = subst (λ (infos : List HeldInfo). AreAmong infos (events ++ Alloc info stack size ∷ [])) (sym step.infos) (among-more old.infos events (Alloc info stack size) stands.held held);
+      no_fault = faultless-more events (Alloc info stack size) stands.no_fault no_fault;
       figures = record {
         events_is = omega arith;
         calls_is = omega arith;
@@ -102,17 +286,21 @@ stands-alloc old new events info stack size step stands =
         live_and_freed = omega arith;
         blocks_and_frees = omega arith;
       };
+      each_stack = each_stack-alloc old new events info stack size step stands;
       each_info = each-alloc old new events info stack size step stands;
+      each_info_calls = each_calls-alloc old new events info stack size step stands;
       last_is = step.last ∙ sym (last-alloc events info stack size);
     }
 
 -- a ledger after a free stands for the list with that event at its end
 pub stands-free :
     (old new : LedgerState) (events : List Event) (info stack size : ℕ)
-    → Frees old new info size
+    → IsHeld old (Free info stack size)
+    → fault_of events (Free info stack size) ≡ None
+    → Frees old new info stack size
     → StandsFor old events
     → StandsFor new (events ++ Free info stack size ∷ [])
-stands-free old new events info stack size step stands =
+stands-free old new events info stack size held no_fault step stands =
     let event : Event = Free info stack size in
     let more : event_count (events ++ event ∷ []) ≡ event_count events + 1 = sum_by_push (λ (e : Event). cond (is_counted e) 1 0) events event in
     let more_calls : calls (events ++ event ∷ []) ≡ calls events + 0 = sum_by_push (λ (e : Event). cond (is_alloc e) 1 0) events event in
@@ -120,6 +308,8 @@ stands-free old new events info stack size step stands =
     let more_bytes : allocated_bytes (events ++ event ∷ []) ≡ allocated_bytes events + 0 = sum_by_push alloc_size events event in
     let more_freed : freed_bytes (events ++ event ∷ []) ≡ freed_bytes events + size = sum_by_push free_size events event in
     record {
+      held = subst (λ (infos : List HeldInfo). AreAmong infos (events ++ Free info stack size ∷ [])) (sym step.infos) (among-more old.infos events (Free info stack size) stands.held held);
+      no_fault = faultless-more events (Free info stack size) stands.no_fault no_fault;
       figures = record {
         events_is = omega arith;
         calls_is = omega arith;
@@ -130,7 +320,9 @@ stands-free old new events info stack size step stands =
         live_and_freed = omega arith;
         blocks_and_frees = omega arith;
       };
+      each_stack = each_stack-free old new events info stack size step stands;
       each_info = each-free old new events info stack size step stands;
+      each_info_calls = each_calls-free old new events info stack size step stands;
       last_is = step.last ∙ sym (last-free events info stack size);
     }
 
@@ -157,6 +349,8 @@ stands-tick state events ms stands =
     let more_bytes : allocated_bytes (events ++ event ∷ []) ≡ allocated_bytes events + 0 = sum_by_push alloc_size events event in
     let more_freed : freed_bytes (events ++ event ∷ []) ≡ freed_bytes events + 0 = sum_by_push free_size events event in
     record {
+      held = among-more state.infos events event stands.held tt;
+      no_fault = faultless-more events event stands.no_fault refl;
       figures = record {
         events_is = omega arith;
         calls_is = omega arith;
@@ -167,20 +361,30 @@ stands-tick state events ms stands =
         live_and_freed = omega arith;
         blocks_and_frees = omega arith;
       };
+      each_stack = each_stack-tick state events ms stands;
       each_info = each-tick state events ms stands;
+      each_info_calls = λ info. (let more : allocs_of info (events ++ event ∷ []) ≡ allocs_of info events + 0 = sum_by_push (λ (e : Event). cond (is_alloc_of info e) 1 0) events event in let was = stands.each_info_calls info in omega arith);
       last_is = stands.last_is ∙ sym (last-tick events ms);
     }
 
--- what a ledger stands for is told by its figures, each info's live blocks and the last event
+-- what a ledger stands for is told by its figures, those of each stack and info, and the last event; more infos may
+-- be held
 pub stands-same :
     (old new : LedgerState) (events : List Event)
+    → AreAmong new.infos events
     → new.totals ≡ old.totals
+    → ((stack : ℕ) → figures_at new stack ≡ figures_at old stack)
     → ((info : ℕ) → slice_index new.blocks info ≡ slice_index old.blocks info)
+    → ((info : ℕ) → slice_index new.info_calls info ≡ slice_index old.info_calls info)
     → new.last ≡ old.last
     → StandsFor old events
     → StandsFor new events
-stands-same old new events totals blocks last stands = record {
+stands-same old new events held totals figures blocks calls last stands = record {
+  held = held;
+  no_fault = stands.no_fault;
   figures = subst (λ (t : Totals). AreTotalsOf t events) (sym totals) stands.figures;
+  each_stack = λ stack. subst (λ (f : Figures). AreFiguresOf f stack events) (sym (figures stack)) (stands.each_stack stack);
   each_info = λ info. ap (λ (n : ℕ). n + frees_of info events) (blocks info) ∙ stands.each_info info;
+  each_info_calls = λ info. calls info ∙ stands.each_info_calls info;
   last_is = last ∙ stands.last_is;
 }

@@ -1,28 +1,73 @@
--- What a ledger's fields keep: its figures are sums over its infos, and none can pass its bound.
-use Rattle.std.specs.Prelude.{◌≡◌, ℕ, ◌*◌, ◌^◌, ◌≤◌, List, sum_by}
+-- What a ledger's fields keep: its sums are those of its stacks, and what a stack's sums leave live is what its infos
+-- have live.
+use Rattle.std.specs.Prelude.{◌≡◌, ℕ, ◌+◌, ◌*◌, ◌^◌, ◌<◌, ◌≤◌, Bool, true, ◌==◌, if◌then◌else◌, List, length, map, sum_by, slice_index_or}
+use Rattle.std.specs.List.{All}
 use Rattle.live_ledger.specs.declared.ledger.InfoEntry.{InfoEntry}
-use Rattle.live_ledger.specs.declared.totals.Totals.{Totals}
+use Rattle.live_ledger.specs.declared.sums.Sums.{Sums}
 use Rattle.live_ledger.specs.LedgerState.{HeldInfo}
+use Rattle.live_ledger.specs.Sums.{no_sums}
 
 -- an entry's info, as contracts see it
 abbrev pub info_of : InfoEntry → HeldInfo
 info_of entry = record { stack = entry.stack; size = entry.size }
 
+-- an entry's stack
+abbrev pub stack_of : InfoEntry → ℕ
+stack_of entry = entry.stack
+
 -- an entry's live blocks
 abbrev pub blocks_of : InfoEntry → ℕ
 blocks_of entry = entry.blocks
 
--- an entry's live bytes
-abbrev pub bytes_of : InfoEntry → ℕ
-bytes_of entry = entry.blocks * entry.size
+-- an entry's allocations
+abbrev pub calls_of : InfoEntry → ℕ
+calls_of entry = entry.calls
 
--- the live figures are sums over the entries, and no figure passes its bound
-pub record AreConsistent (entries : List InfoEntry) (totals : Totals) : Type 0 where
-  pub live : totals.live ≡ sum_by bytes_of entries
-  pub blocks : totals.blocks ≡ sum_by blocks_of entries
-  pub live_within : totals.live ≤ totals.allocated
-  pub allocated_within : totals.allocated ≤ 2 ^ 62
-  pub blocks_within : totals.blocks ≤ totals.calls
-  pub calls_within : totals.calls ≤ totals.events
-  pub temporary_within : totals.temporary ≤ totals.events
-  pub events_within : totals.events ≤ 2 ^ 32
+-- every entry is meant
+abbrev pub any_entry : InfoEntry → Bool
+any_entry entry = true
+
+-- the entries of stack `n` are meant
+abbrev pub is_of : ℕ → InfoEntry → Bool
+is_of n entry = entry.stack == n
+
+-- the live bytes, live blocks and allocations of an entry that is meant
+abbrev pub bytes_where : (InfoEntry → Bool) → InfoEntry → ℕ
+bytes_where meant entry = if meant entry then entry.blocks * entry.size else 0
+
+abbrev pub blocks_where : (InfoEntry → Bool) → InfoEntry → ℕ
+blocks_where meant entry = if meant entry then entry.blocks else 0
+
+abbrev pub calls_where : (InfoEntry → Bool) → InfoEntry → ℕ
+calls_where meant entry = if meant entry then entry.calls else 0
+
+-- these sums are those of the entries that are meant
+pub record Balances (sums : Sums) (meant : InfoEntry → Bool) (infos : List InfoEntry) : Type 0 where
+  pub bytes : sums.freed + sum_by (bytes_where meant) infos ≡ sums.allocated
+  pub blocks : sums.frees + sum_by (blocks_where meant) infos ≡ sums.calls
+  pub calls : sum_by (calls_where meant) infos ≡ sums.calls
+  pub temporary : sums.temporary ≤ sums.frees
+
+-- these sums are those of all stacks together
+pub record AreSumsOf (sums : Sums) (stacks : List Sums) : Type 0 where
+  pub calls : sum_by (λ (own : Sums). own.calls) stacks ≡ sums.calls
+  pub allocated : sum_by (λ (own : Sums). own.allocated) stacks ≡ sums.allocated
+  pub frees : sum_by (λ (own : Sums). own.frees) stacks ≡ sums.frees
+  pub freed : sum_by (λ (own : Sums). own.freed) stacks ≡ sums.freed
+  pub temporary : sum_by (λ (own : Sums). own.temporary) stacks ≡ sums.temporary
+
+-- the sums of a stack by its number; one that isn't held yet has none
+abbrev pub sums_at : List Sums → ℕ → Sums
+sums_at stacks stack = slice_index_or stacks stack no_sums
+
+-- the sums of the stacks and of the trace agree with the entries, and nothing passes its bound
+pub record AreConsistent (stacks : List Sums) (infos : List InfoEntry) (sums : Sums) : Type 0 where
+  pub stack_0 : 0 < length stacks
+  pub stacks_within : length stacks < 2 ^ 32
+  pub infos_within : length infos < 2 ^ 32
+  pub held : All (λ stack. stack < length stacks) (map stack_of infos)
+  pub sums_of : AreSumsOf sums stacks
+  pub whole : Balances sums any_entry infos
+  pub each_stack : (stack : ℕ) → Balances (sums_at stacks stack) (is_of stack) infos
+  pub allocated_within : sums.allocated ≤ 2 ^ 62
+  pub events_within : sums.calls + sums.frees ≤ 2 ^ 32

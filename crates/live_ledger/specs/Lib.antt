@@ -3,9 +3,13 @@ pub mod LiveBytes
 pub mod LiveBlocks
 pub mod InfoBlocks
 pub mod Temporary
+pub mod InStack
 pub mod Faults
 pub mod FaultText
 pub mod LedgerState
+pub mod Possible
 pub mod StandsFor
+pub mod Sums
 pub mod Consistent
-pub mod Steps
+pub mod Changes
+pub mod Sound

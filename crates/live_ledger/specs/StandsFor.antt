@@ -1,13 +1,16 @@
 -- Which lists of events a ledger stands for.
 use Rattle.std.specs.Prelude.{◌≡◌, ℕ, ◌+◌, List, slice_index}
 use Rattle.live_ledger.specs.declared.event.Event.{Event}
+use Rattle.live_ledger.specs.declared.figures.Figures.{Figures}
 use Rattle.live_ledger.specs.declared.totals.Totals.{Totals}
 use Rattle.live_ledger.specs.Events.{event_count}
 use Rattle.live_ledger.specs.LiveBytes.{allocated_bytes, freed_bytes, live_bytes}
 use Rattle.live_ledger.specs.LiveBlocks.{calls, frees, live_blocks}
 use Rattle.live_ledger.specs.InfoBlocks.{allocs_of, frees_of}
+use Rattle.live_ledger.specs.InStack.{allocated_in, blocks_in, calls_in, freed_in, frees_in, live_in, temporary_in}
 use Rattle.live_ledger.specs.Temporary.{temporary_count, last_allocated}
-use Rattle.live_ledger.specs.LedgerState.{LedgerState}
+use Rattle.live_ledger.specs.LedgerState.{LedgerState, figures_at}
+use Rattle.live_ledger.specs.Possible.{AreAmong, HaveNoFault}
 
 -- the six figures are those of the list of events; no free goes below zero
 pub record AreTotalsOf (totals : Totals) (events : List Event) : Type 0 where
@@ -20,8 +23,23 @@ pub record AreTotalsOf (totals : Totals) (events : List Event) : Type 0 where
   pub live_and_freed : totals.live + freed_bytes events ≡ allocated_bytes events
   pub blocks_and_frees : totals.blocks + frees events ≡ calls events
 
--- the ledger's figures, each info's live blocks and the last event are those of the list of events
+-- the five figures are those of one stack in the list of events; no free goes below zero
+pub record AreFiguresOf (figures : Figures) (stack : ℕ) (events : List Event) : Type 0 where
+  pub calls_is : figures.calls ≡ calls_in stack events
+  pub temporary_is : figures.temporary ≡ temporary_in stack events
+  pub allocated_is : figures.allocated ≡ allocated_in stack events
+  pub live_is : figures.live ≡ live_in stack events
+  pub blocks_is : figures.blocks ≡ blocks_in stack events
+  pub live_and_freed : figures.live + freed_in stack events ≡ allocated_in stack events
+  pub blocks_and_frees : figures.blocks + frees_in stack events ≡ calls_in stack events
+
+-- the events are of held infos and have no fault, and the ledger's figures, those of every stack, each info's blocks
+-- and the last event are those of the list of events
 pub record StandsFor (state : LedgerState) (events : List Event) : Type 0 where
+  pub held : AreAmong state.infos events
+  pub no_fault : HaveNoFault events
   pub figures : AreTotalsOf state.totals events
+  pub each_stack : (stack : ℕ) → AreFiguresOf (figures_at state stack) stack events
   pub each_info : (info : ℕ) → slice_index state.blocks info + frees_of info events ≡ allocs_of info events
+  pub each_info_calls : (info : ℕ) → slice_index state.info_calls info ≡ allocs_of info events
   pub last_is : state.last ≡ last_allocated events

@@ -1,15 +1,20 @@
-//! The ledger: the figures of a heap trace, kept up event by event.
-//! Where the total was greatest, and the figures of single stacks, are no part of it.
-ghost use Rattle.std.specs.Prelude.{◌≡◌, ℕ, ◌+◌, ◌-◌, ◌^◌, ◌<◌, ◌≤◌, List, [], ◌∷◌, ◌++◌, length, slice_index, IfOk, OnOk, OnErr, IsTrue};
+//! The ledger: the figures of a heap trace and of each of its stacks, kept up event by event.
+//! Where the total was greatest is no part of it.
+ghost use Rattle.std.specs.Prelude.{◌≡◌, ℕ, ◌+◌, ◌-◌, ◌^◌, ◌<◌, ◌≤◌, List, [], ◌∷◌, ◌++◌, length, None, Some, slice_get, slice_index, IfNone, IfOk, IfSome, OnOk, OnErr, IsTrue};
 ghost use Rattle.std.specs.Result.{result_err};
 ghost use Rattle.live_ledger.specs.declared.event.Event.{Event};
+ghost use Rattle.live_ledger.specs.Changes.{Allocates, Changes, Frees};
 ghost use Rattle.live_ledger.specs.Events.{IsTick, is_counted};
 ghost use Rattle.live_ledger.specs.Faults.{fault_at, fault_of};
-ghost use Rattle.live_ledger.specs.LedgerState.{IsHeld, IsInfo};
-ghost use Rattle.live_ledger.specs.Steps.{Allocates, Frees};
-ghost use Rattle.live_ledger.specs.StandsFor.{AreTotalsOf, StandsFor};
+ghost use Rattle.live_ledger.specs.InfoBlocks.{allocs_of};
+ghost use Rattle.live_ledger.specs.LedgerState.{IsHeld, figures_at, no_figures};
+ghost use Rattle.live_ledger.specs.Possible.{ArePossible};
+ghost use Rattle.live_ledger.specs.Sound.{IsSound};
+ghost use Rattle.live_ledger.specs.StandsFor.{AreFiguresOf, AreTotalsOf, StandsFor};
 
 use crate::event::{Event, EventFault};
+use crate::figures::Figures;
+use crate::sums::Sums;
 use crate::totals::Totals;
 use hp_num::NoMemory;
 use std::alloc::Global;
@@ -18,12 +23,13 @@ use std::marker::Model;
 /// The greatest sum of allocated sizes, in bytes.
 const MAX_ALLOCATED: u64 = 0x4000_0000_0000_0000;
 
-/// One info: the stack and the size of its blocks, and how many of them are live.
+/// One info: the stack and the size of its blocks, how many of them are live, and how many were allocated.
 #[derive(Clone, Copy, Debug)]
 struct InfoEntry {
     stack: u32,
     size: u64,
     blocks: u64,
+    calls: u64,
 }
 
 /// The live figures of a trace: it stands for the list of events that it was given.
@@ -31,28 +37,31 @@ struct InfoEntry {
 /// Stacks and infos may be added at any moment between events.
 #[derive(Debug, Drop)]
 pub struct Ledger {
-    stacks: u32,
+    stacks: Vec<Sums>,
     infos: Vec<InfoEntry>,
-    totals: Totals,
+    sums: Sums,
     last_allocated: Option<u32>,
 }
 
 impl Model for Ledger {
-    ghost use Rattle.std.specs.Prelude.{map};
+    ghost use Rattle.std.specs.Prelude.{length, map};
     ghost use Rattle.live_ledger.specs.LedgerState.{LedgerState};
-    ghost use Rattle.live_ledger.specs.Consistent.{AreConsistent, info_of, blocks_of};
+    ghost use Rattle.live_ledger.specs.Consistent.{AreConsistent, info_of, blocks_of, calls_of};
+    ghost use Rattle.live_ledger.specs.Sums.{figures_of, totals_of};
 
     ghost Value = { LedgerState };
 
     ghost view = { λ ledger. record {
-      stacks = ledger.stacks;
+      stacks = length ledger.stacks.items;
       infos = map info_of ledger.infos.items;
+      figures = map figures_of ledger.stacks.items;
       blocks = map blocks_of ledger.infos.items;
-      totals = ledger.totals;
+      info_calls = map calls_of ledger.infos.items;
+      totals = totals_of ledger.sums;
       last = ledger.last_allocated;
     } };
 
-    ghost invariant = { λ ledger. AreConsistent ledger.infos.items ledger.totals };
+    ghost invariant = { λ ledger. AreConsistent ledger.stacks.items ledger.infos.items ledger.sums };
 }
 
 impl Ledger {
@@ -62,17 +71,12 @@ impl Ledger {
         ensures stacks { IfOk result (λ ledger. ledger.stacks ≡ 1) }
         ensures infos { IfOk result (λ ledger. ledger.infos ≡ []) }
     {
+        let mut stacks = Vec::new(alloc);
+        stacks.push(Sums::new())?;
         Ok(Ledger {
-            stacks: 1,
+            stacks,
             infos: Vec::new(alloc),
-            totals: Totals {
-                events: 0,
-                calls: 0,
-                temporary: 0,
-                allocated: 0,
-                live: 0,
-                blocks: 0,
-            },
+            sums: Sums::new(),
             last_allocated: None,
         })
     }
@@ -82,12 +86,13 @@ impl Ledger {
     pub fn grow_stack(&mut self) -> Result<u32, NoMemory>
         requires { self.old.stacks < 2 ^ 32 - 1 }
         ensures number { IfOk result (λ number. number ≡ self.old.stacks) }
-        ensures grown { OnOk result (self.new ≡ record self.old { stacks = self.old.stacks + 1 }) }
+        ensures grown { OnOk result (self.new ≡ record self.old { stacks = self.old.stacks + 1; figures = self.old.figures ++ no_figures ∷ [] }) }
+        ensures figures { (stack : ℕ) → figures_at self.new stack ≡ figures_at self.old stack }
         ensures stands { (events : List Event) → StandsFor self.old events → StandsFor self.new events }
         ensures unchanged { OnErr result (self.new ≡ self.old) }
     {
-        let number = self.stacks;
-        self.stacks += 1;
+        let number = self.stacks.len() as u32;
+        self.stacks.push(Sums::new())?;
         Ok(number)
     }
 
@@ -99,7 +104,9 @@ impl Ledger {
         ensures number { IfOk result (λ number. number ≡ length self.old.infos) }
         ensures infos { OnOk result (self.new.infos ≡ self.old.infos ++ record { stack = stack; size = size } ∷ []) }
         ensures stacks { self.new.stacks ≡ self.old.stacks }
+        ensures figures { self.new.figures ≡ self.old.figures }
         ensures totals { self.new.totals ≡ self.old.totals }
+        ensures info_calls { (info : ℕ) → slice_index self.new.info_calls info ≡ slice_index self.old.info_calls info }
         ensures stands { (events : List Event) → StandsFor self.old events → StandsFor self.new events }
         ensures unchanged { OnErr result (self.new ≡ self.old) }
     {
@@ -108,6 +115,7 @@ impl Ledger {
             stack,
             size,
             blocks: 0,
+            calls: 0,
         })?;
         Ok(number)
     }
@@ -122,10 +130,12 @@ impl Ledger {
         requires count { self.now.totals.events < 2 ^ 32 }
         ensures by_figures { result_err result ≡ fault_at self.now event }
         ensures fault { (events : List Event) → StandsFor self.now events → result_err result ≡ fault_of events event }
+        ensures possible { OnOk result ((events : List Event) → StandsFor self.now events → ArePossible (events ++ event ∷ [])) }
+        ensures sound { IsSound self.now }
     {
         match event {
             Event::Alloc { size, .. } => {
-                if size > MAX_ALLOCATED - self.totals.allocated {
+                if size > MAX_ALLOCATED - self.sums.allocated {
                     return Err(EventFault::CostTooLarge);
                 }
                 Ok(())
@@ -151,51 +161,52 @@ impl Ledger {
         ensures fault { (events : List Event) → StandsFor self.old events → result_err result ≡ fault_of events event }
         ensures stands { OnOk result
             ((events : List Event) → StandsFor self.old events → StandsFor self.new (events ++ event ∷ [])) }
+        ensures changes { OnOk result (Changes self.old self.new event) }
         ensures counted { IsTrue (is_counted event) → OnOk result (self.new.totals.events ≡ self.old.totals.events + 1) }
         ensures at_most_one_more { self.new.totals.events ≤ self.old.totals.events + 1 }
         ensures stacks { self.new.stacks ≡ self.old.stacks }
         ensures infos { self.new.infos ≡ self.old.infos }
         ensures tick { IsTick event → self.new ≡ self.old }
         ensures unchanged { OnErr result (self.new ≡ self.old) }
+        ensures sound { IsSound self.new }
     {
         self.check(event)?;
         match event {
-            Event::Alloc { info, size, .. } => self.allocate(info, size),
-            Event::Free { info, size, .. } => self.free(info, size),
+            Event::Alloc { info, stack, size } => self.allocate(info, stack, size),
+            Event::Free { info, stack, size } => self.free(info, stack, size),
             Event::Tick { .. } => {}
         }
         Ok(())
     }
 
     /// Counts a block of the info as allocated.
-    fn allocate(&mut self, info: u32, size: u64)
+    fn allocate(&mut self, info: u32, stack: u32, size: u64)
         requires fits { self.old.totals.allocated + size ≤ 2 ^ 62 }
-        requires held { IsInfo self.old info size }
+        requires held { slice_get self.old.infos info ≡ Some (record { stack = stack; size = size }) }
         requires count { self.old.totals.events < 2 ^ 32 }
-        ensures { Allocates self.old self.new info size }
+        ensures allocates { Allocates self.old self.new info stack size }
+        ensures sound { IsSound self.new }
     {
-        self.infos[info as usize].blocks += 1;
-        self.totals.events += 1;
-        self.totals.calls += 1;
-        self.totals.allocated += size;
-        self.totals.live += size;
-        self.totals.blocks += 1;
+        let entry = &mut self.infos[info as usize];
+        entry.blocks += 1;
+        entry.calls += 1;
+        self.stacks[stack as usize].allocate(size);
+        self.sums.allocate(size);
         self.last_allocated = Some(info);
     }
 
     /// Counts a live block of the info as freed.
-    fn free(&mut self, info: u32, size: u64)
+    fn free(&mut self, info: u32, stack: u32, size: u64)
         requires live { 0 < slice_index self.old.blocks info }
-        requires held { IsInfo self.old info size }
+        requires held { slice_get self.old.infos info ≡ Some (record { stack = stack; size = size }) }
         requires count { self.old.totals.events < 2 ^ 32 }
-        ensures { Frees self.old self.new info size }
+        ensures frees { Frees self.old self.new info stack size }
+        ensures sound { IsSound self.new }
     {
-        let freed_at_once = self.last_allocated == Some(info);
+        let ended = u64::from(self.last_allocated == Some(info));
         self.infos[info as usize].blocks -= 1;
-        self.totals.events += 1;
-        self.totals.temporary += u64::from(freed_at_once);
-        self.totals.live -= size;
-        self.totals.blocks -= 1;
+        self.stacks[stack as usize].free(size, ended);
+        self.sums.free(size, ended);
         self.last_allocated = None;
     }
 
@@ -203,7 +214,55 @@ impl Ledger {
     pub fn totals(&self) -> Totals
         ensures value { result ≡ self.now.totals }
         ensures figures { (events : List Event) → StandsFor self.now events → AreTotalsOf result events }
+        ensures sound { IsSound self.now }
     {
-        self.totals
+        self.sums.totals()
+    }
+
+    /// The figures of a stack that is held.
+    pub fn stack(&self, stack: u32) -> Figures
+        requires { stack < self.now.stacks }
+        ensures value { result ≡ figures_at self.now stack }
+        ensures figures { (events : List Event) → StandsFor self.now events → AreFiguresOf result stack events }
+        ensures sound { IsSound self.now }
+    {
+        self.stacks[stack as usize].figures()
+    }
+
+    /// How many blocks of an info that is held were allocated.
+    pub fn info_calls(&self, info: u32) -> u64
+        requires { info < length self.now.infos }
+        ensures value { result ≡ slice_index self.now.info_calls info }
+        ensures calls { (events : List Event) → StandsFor self.now events → result ≡ allocs_of info events }
+        ensures within { result ≤ self.now.totals.calls }
+    {
+        self.infos[info as usize].calls
+    }
+
+    /// The size in bytes and the stack of an info; `None` exactly where there is no such info.
+    pub fn info(&self, n: u32) -> Option<(u64, u32)>
+        ensures none { IfNone result (length self.now.infos ≤ n) }
+        ensures some { IfSome result (λ info. slice_get self.now.infos n ≡ Some (record { stack = info.1; size = info.0 })) }
+        ensures stack_held { IfSome result (λ info. info.1 < self.now.stacks) }
+    {
+        match self.infos.get(n as usize) {
+            Some(entry) => Some((entry.size, entry.stack)),
+            None => None,
+        }
+    }
+
+    /// How many stacks are held, stack 0 among them.
+    pub fn stacks(&self) -> u32
+        ensures value { result ≡ self.now.stacks }
+        ensures sound { IsSound self.now }
+    {
+        self.stacks.len() as u32
+    }
+
+    /// How many infos are held.
+    pub fn infos(&self) -> u32
+        ensures { result ≡ length self.now.infos }
+    {
+        self.infos.len() as u32
     }
 }

@@ -2,12 +2,19 @@
 //! Lines of trace files and the texts of reports are no part of it.
 #![tactic(auto)]
 
+mod cells;
 mod event;
+mod figures;
 mod ledger;
+mod steps;
+mod sums;
 #[cfg(test)]
 mod tests;
 mod totals;
 
+pub use cells::Cells;
 pub use event::{Event, EventFault};
+pub use figures::Figures;
 pub use ledger::Ledger;
+pub use steps::Steps;
 pub use totals::Totals;
