@@ -1,17 +1,19 @@
 -- Lemmas on the entries of a table, and what is read of one.
-use Rattle.std.proofs.Common.{◌≡◌, ℕ, zero, suc, ◌+◌, ◌-◌, ◌^◌, ◌<◌, ◌≤◌, List, [], ◌∷◌, ◌++◌, length, get_or, refl, sym, ap, ◌∙◌, arith, subst, ◌⊎◌, inl, inr, length-append}
+use Rattle.std.proofs.Common.{◌≡◌, ℕ, zero, suc, ◌+◌, ◌-◌, ◌^◌, ◌<◌, ◌≤◌, List, [], ◌∷◌, ◌++◌, length, take, drop, get_or, refl, sym, ap, ◌∙◌, arith, subst, ◌⊎◌, inl, inr, length-append}
 use Rattle.std.specs.Prelude.{slice_get, Some}
 use Rattle.std.proofs.lemmas.Bool.{cases_lt}
 use Rattle.std.proofs.lemmas.Bool.Decides.{nat_tests}
-use Rattle.std.proofs.lemmas.List.{length-map, map-append}
+use Rattle.std.proofs.lemmas.List.{length-map, map-append, take-append-drop, take-map}
 use Rattle.std.proofs.lemmas.Option.{same_Some, slice_get-map, slice_get-get_or, slice_get_read, slice_get_within}
-use Rattle.stack_table.specs.declared.nodes.NodeEntry.{NodeEntry}
+use Rattle.stack_table.specs.declared.node_entry.NodeEntry.{NodeEntry}
 use Rattle.stack_table.specs.Node.{Node, node_at}
 use Rattle.stack_table.specs.Stack.{stack, frame_count}
 use Rattle.stack_table.specs.AreNodes.{AreNodes}
 use Rattle.stack_table.specs.LowerParents.{HasLowerParents}
 use Rattle.stack_table.specs.Entries.{IsTable, node_of, nodes_of}
-use Rattle.stack_table.proofs.Stacks.{slice_get-front, slice_get-end, frame_count-zero, frame_count-older, frame_count-newest, frame_count-unfold, HasLowerParents-push, stack-zero, stack-unfold}
+use Rattle.stack_table.specs.Continues.{Continues}
+use Rattle.stack_table.proofs.Continuing.{Continues-append}
+use Rattle.stack_table.proofs.Stacks.{node_at-within, slice_get-front, slice_get-end, frame_count-zero, frame_count-older, frame_count-newest, frame_count-unfold, HasLowerParents-push, stack-zero, stack-unfold}
 
 -- as many nodes as entries
 pub length-nodes_of : (entries : List NodeEntry) → length (nodes_of entries) ≡ length entries
@@ -107,6 +109,17 @@ read entries nodes n entry table same above held is =
 abbrev pub past_end : NodeEntry
 past_end = record { ip = 0; parent = 0; frames = 0; depth = 0 }
 
+-- the node of an entry that is read by its place
+pub node_at-entry : (entries : List NodeEntry) (place : ℕ) → place < length entries → node_at (nodes_of entries) (place + 1) ≡ Some (node_of (get_or entries place past_end))
+node_at-entry entries place within =
+    let back : place + 1 - 1 ≡ place = omega arith in
+    let P : ℕ → Type 0 = λ k. slice_get entries k ≡ Some (get_or entries place past_end) in
+    node_at-read entries (nodes_of entries) (place + 1) (get_or entries place past_end) refl (omega arith) (subst P (sym back) (slice_get-get_or entries place past_end within))
+
+pub node_at-number : (entries : List NodeEntry) (n : ℕ) → 0 < n → n ≤ length entries → node_at (nodes_of entries) n ≡ Some (node_of (get_or entries (n - 1) past_end))
+node_at-number entries n above held =
+    node_at-read entries (nodes_of entries) n (get_or entries (n - 1) past_end) refl above (slice_get-get_or entries (n - 1) past_end (omega arith))
+
 -- the same of an entry that a loop over a slice reads
 pub read_slice :
     (entries : List NodeEntry) (n : ℕ) → IsTable entries → 0 < n → n ≤ length entries → Reads (nodes_of entries) n (get_or entries (n - 1) past_end)
@@ -137,3 +150,30 @@ AreNodes-table entries nodes same table =
       frames_n = frame_count-unfold (nodes_of entries) table.parents;
       few_frames = few_frames-table entries table;
     })
+
+-- the nodes of the first entries
+pub nodes_of-take : (len : ℕ) (entries : List NodeEntry) → nodes_of (take len entries) ≡ take len (nodes_of entries)
+nodes_of-take len entries = sym (take-map node_of len entries)
+
+-- the first entries of a table
+IsTable-front : (front more : List NodeEntry) → IsTable (front ++ more) → IsTable front
+IsTable-front front more table = record {
+  parents = record { lower = λ n node is. let within = node_at-within (nodes_of front) n node is in table.parents.lower n node (subst (λ (nodes : List Node). node_at nodes n ≡ Some node) (sym whole) (shared.nodes n within.1 ∙ is)) };
+  depths = λ k entry is.
+      let within = slice_get_within front k entry is in
+      let count = length-nodes_of front in
+      table.depths k entry (slice_get-front front more k within ∙ is)
+      ∙ ap (λ (nodes : List Node). frame_count nodes (k + 1)) whole ∙ shared.frame_counts (k + 1) (omega arith);
+  few_frames = λ k entry is. table.few_frames k entry (slice_get-front front more k (slice_get_within front k entry is) ∙ is);
+  few_nodes = let count = length-append front more in let few = table.few_nodes in omega arith;
+}
+  where
+    whole : nodes_of (front ++ more) ≡ nodes_of front ++ nodes_of more
+    whole = map-append node_of front more
+
+    shared : Continues (nodes_of front) (nodes_of front ++ nodes_of more)
+    shared = Continues-append (nodes_of front) (nodes_of more)
+
+pub IsTable-take : (len : ℕ) (entries : List NodeEntry) → IsTable entries → IsTable (take len entries)
+IsTable-take len entries table =
+    IsTable-front (take len entries) (drop len entries) (subst (λ (whole : List NodeEntry). IsTable whole) (sym (take-append-drop len entries)) table)

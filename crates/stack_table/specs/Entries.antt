@@ -1,6 +1,6 @@
 -- How the nodes are kept: each entry also has the frames of its whole stack.
 use Rattle.std.specs.Prelude.{◌≡◌, ℕ, ◌+◌, ◌-◌, ◌^◌, ◌≤◌, List, length, map, slice_get, Some}
-use Rattle.stack_table.specs.declared.nodes.NodeEntry.{NodeEntry}
+use Rattle.stack_table.specs.declared.node_entry.NodeEntry.{NodeEntry}
 use Rattle.stack_table.specs.Node.{Node}
 use Rattle.stack_table.specs.Stack.{frame_count}
 use Rattle.stack_table.specs.LowerParents.{HasLowerParents}

@@ -1,6 +1,10 @@
 pub mod AreNodes
 pub mod CanAdd
+pub mod Continues
 pub mod Entries
+pub mod NodeIndexed
+pub mod Interned
 pub mod LowerParents
 pub mod Node
+pub mod NodeNumber
 pub mod Stack

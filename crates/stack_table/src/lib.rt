@@ -3,6 +3,8 @@
 #![tactic(auto)]
 
 mod fault;
+mod node_entry;
+mod node_index;
 mod nodes;
 
 pub use fault::NodeFault;

@@ -1,13 +1,18 @@
 //! The list of nodes, and the walk from a node outwards.
-ghost use Rattle.std.specs.Prelude.{◌≡◌, ℕ, ◌+◌, ◌-◌, ◌^◌, ◌<◌, ◌≤◌, ◌↔◌, [], ◌∷◌, ◌++◌, length, map, vec_len, vec_capacity, IsSome, IfSome, IsOk, IfOk, OnOk, OnErr};
+ghost use Rattle.std.specs.Prelude.{◌≡◌, ◌≢◌, ℕ, ◌+◌, ◌-◌, ◌^◌, ◌<◌, ◌≤◌, ◌↔◌, [], ◌∷◌, ◌++◌, length, map, take, vec_len, vec_capacity, None, Some, IfErr, IfNone, IsSome, IfSome, IsOk, IfOk, OnOk, OnErr};
 ghost use Rattle.std.specs.Option.{option_map};
 ghost use Rattle.stack_table.specs.Node.{Node, node_at};
 ghost use Rattle.stack_table.specs.Stack.{stack, frame_count};
 ghost use Rattle.stack_table.specs.AreNodes.{AreNodes};
 ghost use Rattle.stack_table.specs.CanAdd.{CanAdd};
+ghost use Rattle.stack_table.specs.Continues.{Continues};
 ghost use Rattle.stack_table.specs.Entries.{IsTable, nodes_of};
+ghost use Rattle.stack_table.specs.Interned.{node_interned, node_interned_fault, stack_fault, stack_interned};
+ghost use Rattle.stack_table.specs.NodeNumber.{node_number};
 
 use crate::fault::NodeFault;
+use crate::node_entry::NodeEntry;
+use crate::node_index::NodeIndex;
 use hp_num::NoMemory;
 use std::alloc::Global;
 use std::marker::Model;
@@ -18,15 +23,6 @@ const MAX_FRAMES: u32 = 4096;
 /// The greatest number of nodes.
 const MAX_NODES: u32 = u32::MAX - 1;
 
-/// One node: its instruction pointer, its parent's number, the frames that it adds, and those of its whole stack.
-#[derive(Clone, Copy, Debug)]
-struct NodeEntry {
-    ip: u64,
-    parent: u32,
-    frames: u16,
-    depth: u16,
-}
-
 /// The nodes of a trace, numbered from 1 in the order in which they were added.
 ///
 /// Stack `n` is node `n`, its parent, that one's parent, and so on outwards to a node with no parent; stack 0 is empty.
@@ -36,18 +32,20 @@ struct NodeEntry {
 #[derive(Debug, Drop)]
 pub struct Nodes {
     entries: Vec<NodeEntry>,
+    index: NodeIndex,
 }
 
 impl Model for Nodes {
     ghost use Rattle.std.specs.Prelude.{List};
     ghost use Rattle.stack_table.specs.Node.{Node};
     ghost use Rattle.stack_table.specs.Entries.{IsTable, nodes_of};
+    ghost use Rattle.stack_table.specs.NodeIndexed.{IsIndexed};
 
     ghost Value = { List Node };
 
     ghost view = { λ nodes. nodes_of nodes.entries.items };
 
-    ghost invariant = { λ nodes. IsTable nodes.entries.items };
+    ghost invariant = { λ nodes. IsTable nodes.entries.items × IsIndexed (nodes_of nodes.entries.items) nodes.index };
 }
 
 impl Nodes {
@@ -57,6 +55,7 @@ impl Nodes {
     {
         Nodes {
             entries: Vec::new(alloc),
+            index: NodeIndex::new(alloc),
         }
     }
 
@@ -89,6 +88,7 @@ impl Nodes {
         // The stacks.
         ensures new_stack { OnOk result (stack self.new (length self.old + 1) ≡ ip ∷ stack self.old parent) }
         ensures new_frames { OnOk result (frame_count self.new (length self.old + 1) ≡ frame_count self.old parent + frames) }
+        ensures continues { Continues self.old self.new }
         ensures stacks_stay { (n : ℕ) → n ≤ length self.old → stack self.new n ≡ stack self.old n }
         ensures frames_stay { (n : ℕ) → n ≤ length self.old → frame_count self.new n ≡ frame_count self.old n }
         ensures nodes { AreNodes self.new }
@@ -112,6 +112,98 @@ impl Nodes {
             depth: (outer + frames) as u16,
         })?;
         Ok(count + 1)
+    }
+
+    /// The least number of a node with this instruction pointer and parent, or that of a new one.
+    ///
+    /// `ip` and `parent` are as for `add`, and so is `frames`, which counts for a new node alone. A node that is held is
+    /// answered as it is, in expected constant time, and takes no memory but for the index of nodes that `add` has added
+    /// since the last look-up; it is never refused.
+    ///
+    /// The faults, in the order in which they are looked for:
+    ///
+    /// - `UnknownParent` exactly where `parent` is above the count;
+    /// - `TooDeep` exactly where a new node is needed and its stack would have more than 4,096 frames;
+    /// - `Full` exactly where a new node is needed, its stack has no more frames than that, and 2^32 - 2 nodes are held;
+    /// - `NoMemory` only where a new node is needed, none of these applies, and memory is wanting.
+    ///
+    /// After a fault the nodes are as before.
+    pub fn intern(&mut self, ip: u64, parent: u64, frames: u32) -> Result<u32, NodeFault>
+        ensures interned { IfOk result (λ number. node_interned self.old (record { ip = ip; parent = parent; frames = frames }) ≡ record { nodes = self.new; number = number }) }
+        ensures held { IfSome (node_number self.old ip parent) (λ number. (result ≡ Ok number) × (self.new ≡ self.old)) }
+        ensures added { IfNone (node_number self.old ip parent) (OnOk result (self.new ≡ self.old ++ record { ip = ip; parent = parent; frames = frames } ∷ [])) }
+        ensures number { IfOk result (λ number. node_number self.new ip parent ≡ Some number) }
+        ensures stack { IfOk result (λ number. stack self.new number ≡ ip ∷ stack self.new parent) }
+        ensures within { IfOk result (λ number. (parent < number) × (number ≤ length self.new)) }
+
+        // When each fault comes.
+        ensures unknown_parent { (result ≡ Err NodeFault.UnknownParent) ↔ (length self.old < parent) }
+        ensures too_deep { (result ≡ Err NodeFault.TooDeep) ↔ ((parent ≤ length self.old) × (node_number self.old ip parent ≡ None) × (4096 < frame_count self.old parent + frames)) }
+        ensures full { (result ≡ Err NodeFault.Full) ↔ ((parent ≤ length self.old) × (node_number self.old ip parent ≡ None) × (frame_count self.old parent + frames ≤ 4096) × (length self.old ≡ 2 ^ 32 - 2)) }
+        ensures fault { IfErr result (λ fault. fault ≢ NodeFault.NoMemory → node_interned_fault self.old (record { ip = ip; parent = parent; frames = frames }) ≡ Some fault) }
+        ensures no_fault { OnOk result (node_interned_fault self.old (record { ip = ip; parent = parent; frames = frames }) ≡ None) }
+        ensures unchanged { OnErr result (self.new ≡ self.old) }
+
+        // The nodes.
+        ensures continues { Continues self.old self.new }
+        ensures one_more { length self.new ≤ length self.old + 1 }
+        ensures nodes { AreNodes self.new }
+    {
+        if parent > u64::from(self.len()) {
+            return Err(NodeFault::UnknownParent);
+        }
+        self.index.fill(&self.entries);
+        if let Some(number) = self.index.find(&self.entries, ip, parent as u32) {
+            return Ok(number);
+        }
+        self.add(ip, parent, frames)
+    }
+
+    /// The number of the stack with these instruction pointers, from the innermost outwards; 0 for none.
+    ///
+    /// From the outermost on, each is interned as a node of one frame, called from the one before it.
+    ///
+    /// A fault is that of the outermost node that can't be had, and the nodes are then as before. `UnknownParent` never
+    /// comes, and a stack whose nodes are all held is never refused.
+    pub fn intern_stack(&mut self, ips: &[u64]) -> Result<u32, NodeFault>
+        ensures interned { IfOk result (λ number. stack_interned self.old ips.now ≡ record { nodes = self.new; number = number }) }
+        ensures stack { IfOk result (λ number. stack self.new number ≡ ips.now) }
+        ensures within { IfOk result (λ number. number ≤ length self.new) }
+        ensures fault { IfErr result (λ fault. fault ≢ NodeFault.NoMemory → stack_fault self.old ips.now ≡ Some fault) }
+        ensures no_fault { OnOk result (stack_fault self.old ips.now ≡ None) }
+        ensures parents_known { IfErr result (λ fault. fault ≢ NodeFault.UnknownParent) }
+        ensures held { (stack_interned self.old ips.now).nodes ≡ self.old → IsOk result }
+        ensures unchanged { OnErr result (self.new ≡ self.old) }
+
+        // The nodes.
+        ensures continues { Continues self.old self.new }
+        ensures few_more { length self.new ≤ length self.old + length ips.now }
+        ensures nodes { AreNodes self.new }
+    {
+        let len = self.len();
+        let mut number = 0;
+        for ip in ips.iter().rev() {
+            match self.intern(*ip, u64::from(number), 1) {
+                Ok(called) => number = called,
+                Err(fault) => {
+                    self.cut(len);
+                    return Err(fault);
+                }
+            }
+        }
+        Ok(number)
+    }
+
+    /// Keeps the first `len` nodes, of which there are at least as many. It takes no memory.
+    pub fn cut(&mut self, len: u32)
+        requires { len ≤ length self.old }
+        ensures nodes_left { self.new ≡ take len self.old }
+        ensures count { length self.new ≡ len }
+        ensures continued { Continues self.new self.old }
+        ensures nodes { AreNodes self.new }
+    {
+        self.entries.truncate(len as usize);
+        self.index.cut(len);
     }
 
     // The frames of stack `n`, from its entry.

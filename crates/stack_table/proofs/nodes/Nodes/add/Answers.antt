@@ -1,7 +1,9 @@
-use Rattle.std.proofs.Common.{ℕ, ◌+◌, List, length, refl, ap, arith}
-use Rattle.stack_table.specs.Entries.{IsTable, nodes_of}
+use Rattle.std.proofs.Common.{ℕ, ◌+◌, List, [], ◌∷◌, ◌++◌, length, length-append, refl, ap, arith}
+use Rattle.stack_table.specs.Entries.{IsTable, node_of, nodes_of}
 use Rattle.stack_table.specs.Node.{Node}
-use Rattle.stack_table.proofs.Stacks.{stack-older, stack-newest, frame_count-older, frame_count-newest}
+use Rattle.stack_table.proofs.Continuing.{Continues-push}
+use Rattle.stack_table.proofs.IndexLemmas.{indexed-shared}
+use Rattle.stack_table.proofs.Stacks.{node_at-older, stack-older, stack-newest, frame_count-older, frame_count-newest}
 use Rattle.stack_table.proofs.EntryLemmas.{AreNodes-table, length-nodes_of, nodes_of-push, IsTable-push}
 use Rattle.stack_table.proofs.nodes.Nodes.add.Goals as goal
 
@@ -11,13 +13,22 @@ grown c =
     let entries = length-nodes_of c.self.inside.entries.items in
     let nodes = ap (λ (nodes : List Node). length nodes) c.self.view_is in
     rw c.in_ok-push.ensures.items (
-    IsTable-push c.self.inside.entries.items _ c.self.invariant (omega arith)
+    IsTable-push c.self.inside.entries.items _ c.self.invariant.0 (omega arith)
     (rw c.self.view_is (ap (λ (outer : ℕ). outer + c.args.frames) c.frames_of-outer.ensures.frames))
     (omega arith) (omega arith)
     )
 
 pub invariant_of-self-2 : goal.invariant_of-self-2
-invariant_of-self-2 c = grown c
+invariant_of-self-2 c =
+    let nodes = nodes_of c.self.inside.entries.items in
+    let node = node_of (record { ip = c.args.ip; parent = c.args.parent; frames = c.args.frames; depth = 0 }) in
+    let count = length-append nodes (node ∷ []) in (
+      grown c,
+      rw (c.in_ok-push.ensures.items, nodes_of-push) (
+          indexed-shared nodes (nodes ++ node ∷ []) c.self.inside.index c.self.inside.index (length nodes) c.self.invariant.1
+          (λ m held. node_at-older nodes node m held) (λ ip parent. refl) (omega arith) c.self.invariant.1.within (omega arith)
+          ),
+    )
 
 pub returns-clause-nodes : goal.returns-clause-nodes
 returns-clause-nodes c = AreNodes-table c.push.new.self.items (nodes_of c.push.new.self.items) refl (grown c)
@@ -35,3 +46,6 @@ returns-clause-stacks_stay c = λ n held. rw (c.in_ok-push.ensures.items, nodes_
 
 pub returns-clause-frames_stay : goal.returns-clause-frames_stay
 returns-clause-frames_stay c = λ n held. rw (c.in_ok-push.ensures.items, nodes_of-push, c.self.view_is) (frame_count-older c.args.self.now _ n held)
+
+pub returns-clause-continues : goal.returns-clause-continues
+returns-clause-continues c = rw (c.in_ok-push.ensures.items, nodes_of-push, c.self.view_is) (Continues-push c.args.self.now _)
