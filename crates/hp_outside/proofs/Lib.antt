@@ -2,3 +2,4 @@ pub mod Known
 pub mod HeldFilesLemmas
 pub mod WindowLemmas
 pub mod LineLemmas
+pub mod WholeLinesLemmas

@@ -1,5 +1,5 @@
 -- Where the first line feed stands, and what that says of the next line of a file.
-use Rattle.std.proofs.Common.{◌≡◌, ◌≢◌, ◌+◌, ◌-◌, ◌<◌, ◌≤◌, ℕ, zero, suc, Bool, true, false, cond, not, List, [], ◌∷◌, ◌++◌, Option, None, Some, length, take, drop, zero-add, refl, ap, sym, subst, ◌∙◌, arith, length-append, length-drop, add-one, append-nil, drop_of_length-le, IsSome, IfSome, ◌↔◌}
+use Rattle.std.proofs.Common.{◌≡◌, ◌≢◌, ◌+◌, ◌-◌, ◌<◌, ◌≤◌, ℕ, zero, suc, Bool, true, false, cond, not, List, [], ◌∷◌, ◌++◌, Option, None, Some, length, take, drop, zero-add, refl, ap, sym, subst, ◌∙◌, arith, length-append, length-drop, add-one, append-nil, drop_of_length-le, IsSome, IfSome, ◌↔◌, lt-ltb, le-ltb}
 use Rattle.std.proofs.Math.Seq.{take-length}
 use Rattle.std.proofs.lemmas.List.{take-append-drop, take-append-le, drop-append-le}
 use Rattle.std.proofs.lemmas.List.Folds.{length-prefix_len}
@@ -8,7 +8,7 @@ use Rattle.std.specs.List.{prefix_len, position_or_len}
 use Rattle.std.specs.Io.KnownBytes.{prepend_known}
 use Rattle.hp_outside.specs.Lines.{is_line_feed, put_first, lines_of, first_line, after_line}
 use Rattle.hp_outside.specs.Judgement.{IsJudgement}
-use Rattle.hp_outside.specs.NextLine.{IsLineTooLong, IsInputTooLong, NextAnswer, GivesLine}
+use Rattle.hp_outside.specs.NextLine.{has_line_feed, IsLineTooLong, IsInputTooLong, NextAnswer, GivesLine}
 use Rattle.hp_outside.specs.declared.span.Span.{Span}
 use Rattle.hp_outside.specs.declared.line_end.Judgement.{Judgement}
 use Rattle.hp_outside.specs.declared.line_end.Judgement.TheVariants.{Line, LineTooLong, InputTooLong}
@@ -106,6 +106,18 @@ line_given input limit passed kept left rest count span new_passed new_kept line
       lines_of-step rest (λ none. omega (arith, judged.1, ap length none)) ∙ ap (λ l. l ∷ lines_of (after_line rest)) (sym (line_is ∙ line_as)),
       omega (arith, passed_is, ap length rest_as, length-append (drop (count + 1) kept) left, length-drop (count + 1) kept),
     )
+
+-- and its line feed stands behind it
+pub line_has_feed : (kept left rest : List ℕ) (count : ℕ) → position_or_len is_line_feed kept ≡ count → count < length kept → rest ≡ kept ++ left → has_line_feed rest ≡ true
+line_has_feed kept left rest count place within is =
+    let found : length (first_line rest) ≡ count = length-first_line rest ∙ (ap (position_or_len is_line_feed) is ∙ (prefix_len-append_ended (λ x. not (is_line_feed x)) kept left (omega (arith, place, within)) ∙ place)) in
+    lt-ltb (length (first_line rest)) (length rest) (omega (arith, found, within, ap length is, length-append kept left))
+
+-- behind the last line none stands, where none stands among the bytes that are left
+pub last_has_none : (kept left rest : List ℕ) → position_or_len is_line_feed kept ≡ length kept → rest ≡ kept ++ left → left ≡ [] → has_line_feed rest ≡ false
+last_has_none kept left rest none is end =
+    let whole : rest ≡ kept = is ∙ (ap (λ l. kept ++ l) end ∙ append-nil kept) in
+    le-ltb (length (first_line rest)) (length rest) (omega (arith, length-first_line rest, ap (position_or_len is_line_feed) whole, none, ap length whole))
 
 -- a line that is judged too long is too long
 pub line_too_long : (input limit passed : ℕ) (kept left rest : List ℕ) → IsJudgement limit (input - passed) kept LineTooLong → rest ≡ kept ++ left → IsLineTooLong input limit passed rest

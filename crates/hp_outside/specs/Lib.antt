@@ -12,4 +12,5 @@ pub mod Lines
 pub mod Judgement
 pub mod NextLine
 pub mod LineReaderState
+pub mod WholeLines
 pub mod WindowState

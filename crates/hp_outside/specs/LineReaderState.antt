@@ -18,6 +18,8 @@ pub record LineReaderState : Type 0 where
   pub number : ℕ
   -- the sum, over the lines given, of each one's length plus 1
   pub given : ℕ
+  -- whether the line given last ended with its line feed; true where none was given
+  pub line_ended : Bool
   -- the fault that was answered, if one was
   pub fault : Option LineFault
   -- the line that was given last, and where it stands

@@ -1,4 +1,4 @@
-use Rattle.std.specs.Prelude.{◌≡◌, ◌≢◌, ◌+◌, ◌<◌, ◌≤◌, ℕ, List, [], ◌∷◌, Option, None, Some, Result, Ok, Err, length}
+use Rattle.std.specs.Prelude.{◌≡◌, ◌≢◌, ◌+◌, ◌<◌, ◌≤◌, ℕ, List, [], ◌∷◌, Option, None, Some, Result, Ok, Err, Bool, nat_lt, length}
 use Rattle.std.specs.List.{position_or_len}
 use Rattle.hp_outside.specs.Lines.{is_line_feed, lines_of, first_line, after_line}
 use Rattle.hp_outside.specs.declared.span.Span.{Span}
@@ -35,6 +35,10 @@ GivesLine passed rest new_passed new_rest line (Err fault) = Unit {0}
 abbrev pub IsUndecided : ℕ → ℕ → ℕ → List ℕ → Type 0
 IsUndecided input line passed kept =
     (position_or_len is_line_feed kept ≡ length kept) × (length kept ≤ line) × (passed + length kept ≤ input)
+
+-- whether a line feed ends the first line of bytes
+abbrev pub has_line_feed : List ℕ → Bool
+has_line_feed rest = nat_lt (length (first_line rest)) (length rest)
 
 -- a line was given
 abbrev pub IsLine : Result (Option Span) LineFault → Type 0

@@ -1,4 +1,4 @@
-use Rattle.std.specs.Prelude.{◌≡◌, ◌≤◌, ℕ, List, Option, Some, length, take}
+use Rattle.std.specs.Prelude.{◌≡◌, ◌<◌, ◌≤◌, ℕ, List, Option, Some, length, take}
 use Rattle.std.specs.Io.KnownBytes.{prepend_known, append_known}
 
 -- where a value is told, a fact of it
@@ -8,6 +8,10 @@ WhereTold {X} told P = (value : X) → told ≡ Some value → P value
 -- a source lost a front of what it had left, of at most so many bytes
 abbrev pub LosesFront : Option (List ℕ) → Option (List ℕ) → ℕ → Type 0
 LosesFront old new most = (front : List ℕ) × (length front ≤ most) × (old ≡ prepend_known front new)
+
+-- an output gained a front of these bytes, and not all of them
+abbrev pub GainsCutFront : Option (List ℕ) → Option (List ℕ) → List ℕ → Type 0
+GainsCutFront old new bytes = (count : ℕ) × (count < length bytes) × (new ≡ append_known old (take count bytes))
 
 -- an output gained a front of these bytes
 abbrev pub GainsFront : Option (List ℕ) → Option (List ℕ) → List ℕ → Type 0

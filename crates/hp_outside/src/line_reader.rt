@@ -1,11 +1,13 @@
 //! The lines of a file, taken from a store in reads of any length. Which bytes are one line is
 //! judged elsewhere; how bytes are kept between reads too.
-ghost use Rattle.std.specs.Prelude.{◌≡◌, ◌≢◌, ◌+◌, ◌-◌, ◌<◌, ◌≤◌, [], ◌⊎◌, None, Some, Option, IsTrue, IfOk, IfErr, IfSome, IfNone, IsSome, OnOk, OnErr, ◌↔◌, is_some, is_ok, true, false, length, take, drop, if◌then◌else◌};
+ghost use Rattle.std.specs.Prelude.{◌≡◌, ◌≢◌, ◌+◌, ◌-◌, ◌<◌, ◌≤◌, [], ◌⊎◌, None, Some, Option, IsTrue, IfOk, IfErr, IfSome, IfNone, IsSome, OnOk, OnErr, ◌↔◌, is_some, is_ok, true, false, length, take, drop, if◌then◌else◌, ◌++◌, ℕ, List, All, nat_eq};
 ghost use Rattle.std.specs.Io.KnownBytes.{prepend_known};
 ghost use Rattle.hp_outside.specs.Faults.{Rose};
 ghost use Rattle.hp_outside.specs.Taken.{WhereTold};
 ghost use Rattle.hp_outside.specs.LineReaderState.{LineReaderState};
-ghost use Rattle.hp_outside.specs.NextLine.{NextAnswer, GivesLine, IsLine, IsUndecided};
+ghost use Rattle.hp_outside.specs.Lines.{lines_of};
+ghost use Rattle.hp_outside.specs.NextLine.{NextAnswer, GivesLine, IsLine, IsUndecided, has_line_feed};
+ghost use Rattle.hp_outside.specs.WholeLines.{IsLineText, IsWholeLines, text_of_lines};
 
 use crate::limits::Limits;
 use crate::line_end::{Judgement, judge};
@@ -15,6 +17,9 @@ use crate::window::Window;
 use hp_num::NoMemory;
 use std::alloc::Global;
 use std::marker::Model;
+
+/// A line must be allowed so many bytes where lines are lent before they are judged.
+const LONGEST_READY: u32 = 16;
 
 /// Reads a file line by line. All its memory was reserved by `new`.
 ///
@@ -26,12 +31,12 @@ pub struct LineReader {
     passed: u64,
     ended: bool,
     number: u64,
-    given: u64,
+    line_ended: bool,
     fault: Option<LineFault>,
 }
 
 impl Model for LineReader {
-    ghost use Rattle.std.specs.Prelude.{◌≡◌, ◌+◌, ◌<◌, ◌≤◌, true, false, length};
+    ghost use Rattle.std.specs.Prelude.{◌≡◌, ◌+◌, ◌<◌, ◌≤◌, true, false, length, if◌then◌else◌};
     ghost use Rattle.hp_outside.specs.LineReaderState.{LineReaderState};
 
     ghost Value = { LineReaderState };
@@ -43,26 +48,29 @@ impl Model for LineReader {
       kept = r.window.kept;
       ended = r.ended;
       number = r.number;
-      given = r.given;
+      given = if r.line_ended then r.passed else r.passed + 1;
+      line_ended = r.line_ended;
       fault = r.fault;
       line = r.window.shown;
       span = r.window.span;
     } };
 
     ghost invariant = { λ r. (r.window.most ≡ r.limits.line) × (r.passed + length r.window.kept ≤ r.limits.input + 1)
-        × (r.passed ≤ r.limits.input) × (r.number ≤ r.given) × (r.given ≤ r.passed + 1)
-        × (r.ended ≡ false → r.given ≤ r.passed) × (0 < length r.window.kept → r.given ≤ r.passed)
+        × (r.passed ≤ r.limits.input) × (r.number ≤ (if r.line_ended then r.passed else r.passed + 1))
+        × (r.ended ≡ false → r.line_ended ≡ true) × (0 < length r.window.kept → r.line_ended ≡ true)
         × (r.ended ≡ true → r.passed + length r.window.kept ≤ r.limits.input) };
 }
 
 impl LineReader {
     /// A reader with room for lines of `limits.line` bytes. It reserves 2 * `limits.line` + 65,536
-    /// bytes, and answers `NoMemory` where memory is wanting.
+    /// bytes, of which it touches only what reads need, and answers `NoMemory` where memory is
+    /// wanting.
     pub fn new(alloc: Global, limits: &Limits) -> Result<LineReader, NoMemory>
         ensures input { IfOk result (λ reader. reader.input ≡ limits.now.input) }
         ensures line { IfOk result (λ reader. reader.line_limit ≡ limits.now.line) }
         ensures new { IfOk result (λ reader. (reader.kept ≡ []) × (reader.passed ≡ 0) × (reader.ended ≡ false)
             × (reader.number ≡ 0) × (reader.given ≡ 0) × (reader.fault ≡ None)) }
+        ensures line_ended { IfOk result (λ reader. reader.line_ended ≡ true) }
     {
         let window = Window::new(alloc, limits.line as usize)?;
         Ok(LineReader {
@@ -71,7 +79,7 @@ impl LineReader {
             passed: 0,
             ended: false,
             number: 0,
-            given: 0,
+            line_ended: true,
             fault: None,
         })
     }
@@ -80,13 +88,13 @@ impl LineReader {
     /// forgets an earlier fault. Bytes that were taken and not given are dropped, and the count of
     /// lines begins again at 0.
     pub fn start(&mut self)
-        ensures { self.new ≡ record self.old { passed = 0; kept = []; ended = false; number = 0; given = 0; fault = None } }
+        ensures { self.new ≡ record self.old { passed = 0; kept = []; ended = false; number = 0; given = 0; line_ended = true; fault = None } }
     {
         self.window.clear();
         self.passed = 0;
         self.ended = false;
         self.number = 0;
-        self.given = 0;
+        self.line_ended = true;
         self.fault = None;
     }
 
@@ -152,6 +160,15 @@ impl LineReader {
             ⊎ ((self.new.passed ≡ self.old.passed + length self.new.line) × (self.new.ended ≡ true)))) }
         ensures short { IfOk result (λ place. IfSome place (λ span. length self.new.line ≤ self.new.line_limit)) }
 
+        // Whether a line feed ends the line: what is told of the file says so, and how far the reader moved.
+        ensures line_ended { self.old.fault ≡ None
+            → WhereTold (prepend_known self.old.kept (S.left store.old))
+            (λ rest. IfOk result (λ place. IfSome place (λ span. self.new.line_ended ≡ has_line_feed rest))) }
+        ensures step { IfOk result (λ place. IfSome place (λ span. self.new.passed
+            ≡ self.old.passed + length self.new.line + (if self.new.line_ended then 1 else 0))) }
+        ensures last { self.new.line_ended ≡ false → (self.new.ended ≡ true) × (self.new.kept ≡ []) }
+        ensures same_end { ¬ IsLine result → self.new.line_ended ≡ self.old.line_ended }
+
         // Where no line is given, nothing of the file is passed over or lost; a failed read comes where the bytes that
         // were taken show neither the next line nor a fault of its length.
         ensures unmoved { ¬ IsLine result → (self.new.passed ≡ self.old.passed)
@@ -191,6 +208,59 @@ impl LineReader {
         self.number
     }
 
+    /// Whether the line given last ended with its line feed, which only the last line of a file may lack. It is true
+    /// where no line was given since `start`.
+    pub fn ended(&self) -> bool
+        ensures { result ≡ self.now.line_ended }
+    {
+        self.line_ended
+    }
+
+    /// Lends a front of the bytes that were taken and not yet given, within the limit of the file. It is for whole lines
+    /// of fewer than 16 bytes each, which `pass` then drops; it is empty where a line may have fewer bytes than those,
+    /// and after a fault.
+    pub fn ready_lines(&self) -> &[u8]
+        ensures front { take (length result.now) self.now.kept ≡ result.now }
+        ensures held { length result.now ≤ length self.now.kept }
+        ensures within { self.now.passed + length result.now ≤ self.now.input }
+        ensures short { 0 < length result.now → 16 ≤ self.now.line_limit }
+        ensures sound { 0 < length result.now → self.now.fault ≡ None }
+    {
+        if self.limits.line < LONGEST_READY || self.fault.is_some() {
+            return &[];
+        }
+        let kept = self.window.kept();
+        let within = self.limits.input - self.passed;
+        &kept[..kept.len().min(within as usize)]
+    }
+
+    /// Drops the next `count` bytes, which are `lines` whole lines with their line feeds, as if `next` had given them.
+    /// They must stand within the limit of the file. What `next` gave last is what `line` goes on to give.
+    pub fn pass(&mut self, count: usize, lines: u64)
+        requires held { count ≤ length self.old.kept }
+        requires within { self.old.passed + count ≤ self.old.input }
+        requires whole { IsWholeLines (take count self.old.kept) lines }
+        ensures kept { self.new.kept ≡ drop count self.old.kept }
+        ensures passed { self.new.passed ≡ self.old.passed + count }
+        ensures number { self.new.number ≡ self.old.number + lines }
+        ensures given { self.new.given ≡ self.old.given + count }
+        ensures input { self.new.input ≡ self.old.input }
+        ensures limit { self.new.line_limit ≡ self.old.line_limit }
+        ensures ended { self.new.ended ≡ self.old.ended }
+        ensures fault { self.new.fault ≡ self.old.fault }
+        ensures line_ended { self.new.line_ended ≡ self.old.line_ended }
+
+        // Whatever the store has left: the lines of the file's rest are those that are passed, and those of what is left.
+        ensures lines { (lines : List (List ℕ)) → All IsLineText lines → take count self.old.kept ≡ text_of_lines lines
+            → (left : List ℕ) → lines_of (self.old.kept ++ left) ≡ lines ++ lines_of (self.new.kept ++ left) }
+        ensures rest { (left : Option (List ℕ)) → prepend_known (take count self.old.kept) (prepend_known self.new.kept left)
+            ≡ prepend_known self.old.kept left }
+    {
+        self.window.pass(count);
+        self.passed += count as u64;
+        self.number += lines;
+    }
+
     /// Gives the next `count` bytes as a line, and passes over `skipped` bytes behind them.
     fn give(&mut self, count: usize, skipped: usize) -> Span
         requires held { count + skipped ≤ length self.old.kept }
@@ -202,6 +272,7 @@ impl LineReader {
         ensures kept { self.new.kept ≡ drop (count + skipped) self.old.kept }
         ensures passed { self.new.passed ≡ self.old.passed + count + skipped }
         ensures given { self.new.given ≡ self.old.given + count + 1 }
+        ensures line_ended { self.new.line_ended ≡ nat_eq skipped 1 }
         ensures number { self.new.number ≡ self.old.number + 1 }
         ensures input { self.new.input ≡ self.old.input }
         ensures limit { self.new.line_limit ≡ self.old.line_limit }
@@ -210,7 +281,7 @@ impl LineReader {
     {
         self.window.show(count, skipped);
         self.passed += (count + skipped) as u64;
-        self.given += count as u64 + 1;
+        self.line_ended = skipped == 1;
         self.number += 1;
         self.window.span()
     }
@@ -227,6 +298,7 @@ impl LineReader {
         ensures kept { self.new.kept ≡ [] }
         ensures passed { self.new.passed ≡ self.old.passed + count }
         ensures given { IfSome result (λ span. self.new.given ≡ self.old.given + count + 1) }
+        ensures line_ended { IfSome result (λ span. self.new.line_ended ≡ false) }
         ensures number { self.new.number ≡ self.old.number + (if is_some result then 1 else 0) }
         ensures input { self.new.input ≡ self.old.input }
         ensures limit { self.new.line_limit ≡ self.old.line_limit }
@@ -263,6 +335,7 @@ impl LineReader {
         ensures passed { self.new.passed ≡ self.old.passed }
         ensures number { self.new.number ≡ self.old.number }
         ensures given { self.new.given ≡ self.old.given }
+        ensures line_ended { self.new.line_ended ≡ self.old.line_ended }
         ensures rest { prepend_known self.old.kept (S.left store.old) ≡ prepend_known self.new.kept (S.left store.new) }
         ensures front { take (length self.old.kept) self.new.kept ≡ self.old.kept }
         ensures sound { OnOk result (S.faults store.new ≡ S.faults store.old) }

@@ -1,5 +1,5 @@
 //! What a program writes to. Where the bytes go is each sink's own matter.
-ghost use Rattle.std.specs.Prelude.{◌≡◌, ◌<◌, ◌≤◌, ℕ, List, Option, IfOk, OnErr, length, take};
+ghost use Rattle.std.specs.Prelude.{◌≡◌, ◌<◌, ◌≤◌, ℕ, List, Option, IfOk, OnOk, OnErr, length, take};
 ghost use Rattle.std.specs.Io.KnownBytes.{append_known};
 ghost use Rattle.hp_outside.specs.Faults.{Rose};
 
@@ -19,7 +19,7 @@ pub trait Sink {
     /// Takes a front of the piece and answers its length, which is above 0 where the piece is not
     /// empty. A call that fails takes nothing.
     ///
-    /// `Failed` comes only where `faults` rose; a sink that can take nothing of a piece that is
+    /// `Failed` comes only where `faults` rose, and a call that takes bytes raises none; a sink that can take nothing of a piece that is
     /// not empty counts a fault and answers it.
     fn write(&mut self, piece: &[u8]) -> Result<usize, Failed>
         ensures faults { faults self.old ≤ faults self.new }
@@ -28,13 +28,15 @@ pub trait Sink {
         ensures taken { IfOk result
             (λ count. written self.new ≡ append_known (written self.old) (take count piece.now)) }
         ensures kept { OnErr result (written self.new ≡ written self.old) }
+        ensures sound { OnOk result (faults self.new ≡ faults self.old) }
         ensures failed { OnErr result (Rose (faults self.old) (faults self.new)) };
 
     /// Passes on what the sink holds back, if it holds anything back. It takes no bytes.
     ///
-    /// `Failed` comes only where `faults` rose.
+    /// `Failed` comes only where `faults` rose, and another answer only where they did not.
     fn flush(&mut self) -> Result<(), Failed>
         ensures faults { faults self.old ≤ faults self.new }
         ensures kept { written self.new ≡ written self.old }
+        ensures sound { OnOk result (faults self.new ≡ faults self.old) }
         ensures failed { OnErr result (Rose (faults self.old) (faults self.new)) };
 }

@@ -47,7 +47,7 @@ pub trait Store {
     /// After a refusal no file is current.
     ///
     /// `Absent` comes where a store that tells its files lacks the name; in another store it comes
-    /// only where `faults` rose. `Failed` comes only where `faults` rose.
+    /// only where `faults` rose. `Failed` comes only where `faults` rose. A file that is opened raises none.
     fn open(&mut self, name: &str) -> Result<(), OpenFault>
         requires { opens self.old < 2 ^ 64 - 1 }
         ensures files { files self.new ≡ files self.old }
@@ -60,6 +60,7 @@ pub trait Store {
             (λ folder. OnOk result (IsSome (file_of folder name.now))) }
         ensures absent { WhereTold (files self.old)
             (λ folder. (result ≡ Err OpenFault.Absent) ↔ (file_of folder name.now ≡ None)) }
+        ensures sound { OnOk result (faults self.new ≡ faults self.old) }
         ensures absent_untold { files self.old ≡ None → result ≡ Err OpenFault.Absent
             → Rose (faults self.old) (faults self.new) }
         ensures failed { result ≡ Err OpenFault.Failed → Rose (faults self.old) (faults self.new) };

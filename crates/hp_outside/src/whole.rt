@@ -3,7 +3,7 @@
 ghost use Rattle.std.specs.Prelude.{◌≡◌, ◌≢◌, ◌+◌, ◌^◌, ◌<◌, ◌≤◌, ℕ, List, [], IsTrue, IfOk, OnOk, OnErr, length, vec_len, take};
 ghost use Rattle.std.specs.Io.KnownBytes.{append_known, prepend_known};
 ghost use Rattle.hp_outside.specs.Faults.{Rose};
-ghost use Rattle.hp_outside.specs.Taken.{WhereTold, LosesFront, GainsFront};
+ghost use Rattle.hp_outside.specs.Taken.{WhereTold, LosesFront, GainsFront, GainsCutFront};
 ghost use Rattle.hp_outside.specs.Whole.{WholeAnswer};
 ghost use Rattle.hp_outside.specs.declared.whole.WholeFault.TheVariants.{NoMemory, ReadFailed};
 
@@ -129,11 +129,14 @@ fn make_room(bytes: &mut Vec<u8>, filled: usize, most: usize) -> Result<(), Allo
 }
 
 /// Writes all the bytes. After `Failed`, which comes only where the sink's faults rose, a front
-/// of them was taken.
+/// of them was taken, and not all. A write that failed is not tried again: where all bytes were
+/// taken, the sink's faults are what they were.
 pub fn write_whole<O: Sink>(sink: &mut O, bytes: &[u8]) -> Result<(), Failed>
     ensures faults { O.faults sink.old ≤ O.faults sink.new }
     ensures written { OnOk result (O.written sink.new ≡ append_known (O.written sink.old) bytes.now) }
     ensures front { GainsFront (O.written sink.old) (O.written sink.new) bytes.now }
+    ensures cut { OnErr result (GainsCutFront (O.written sink.old) (O.written sink.new) bytes.now) }
+    ensures sound { OnOk result (O.faults sink.new ≡ O.faults sink.old) }
     ensures failed { OnErr result (Rose (O.faults sink.old) (O.faults sink.new)) }
 {
     let mut done = 0;

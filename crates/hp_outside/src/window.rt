@@ -1,6 +1,6 @@
 //! A buffer of fixed size over the bytes of a file: those of the line that was shown last, and those
 //! behind it that were taken from the store.
-ghost use Rattle.std.specs.Prelude.{◌≡◌, ◌+◌, ◌*◌, ◌<◌, ◌≤◌, [], IsTrue, IfOk, OnOk, OnErr, length, vec_len, take, drop, ◌-◌};
+ghost use Rattle.std.specs.Prelude.{◌≡◌, ◌+◌, ◌*◌, ◌<◌, ◌≤◌, ℕ, [], IsTrue, IfOk, OnOk, OnErr, length, vec_len, vec_capacity, take, drop, ◌-◌};
 ghost use Rattle.std.specs.Io.KnownBytes.{prepend_known};
 ghost use Rattle.hp_outside.specs.Faults.{Rose};
 ghost use Rattle.hp_outside.specs.Taken.{WhereTold};
@@ -12,8 +12,12 @@ use hp_num::NoMemory;
 use std::alloc::Global;
 use std::marker::Model;
 
-/// How many bytes of the buffer a read may fill at least.
+/// How many bytes a read may fill at most. A buffer that reads fill further from its front, or a longer one, would cost
+/// a processor's nearest memory.
 const READ_ROOM: usize = 65_536;
+
+/// What a buffer is lengthened by, a block at a time.
+static ZEROS: [u8; 4096] = [0; 4096];
 
 /// Bytes of a file that were taken from a store, of which at most `most` may be kept when more are
 /// taken.
@@ -27,7 +31,7 @@ pub(crate) struct Window {
 }
 
 impl Model for Window {
-    ghost use Rattle.std.specs.Prelude.{◌≡◌, ◌+◌, ◌*◌, ◌≤◌, vec_len};
+    ghost use Rattle.std.specs.Prelude.{◌≡◌, ◌+◌, ◌*◌, ◌≤◌, vec_len, vec_capacity};
     ghost use Rattle.hp_outside.specs.WindowState.{WindowState, part_of};
 
     ghost Value = { WindowState };
@@ -40,7 +44,7 @@ impl Model for Window {
     } };
 
     ghost invariant = { λ w. (w.start ≤ w.end) × (w.end ≤ vec_len w.buffer) × (w.shown.start ≤ w.shown.end)
-        × (w.shown.end ≤ vec_len w.buffer) × (2 * w.most + 65536 ≤ vec_len w.buffer) × (w.most ≤ 1048576) };
+        × (w.shown.end ≤ vec_len w.buffer) × (2 * w.most + 65536 ≤ vec_capacity w.buffer) × (w.most ≤ 1048576) };
 }
 
 impl Window {
@@ -49,8 +53,7 @@ impl Window {
         requires { most ≤ 1048576 }
         ensures { IfOk result (λ window. (window.kept ≡ []) × (window.most ≡ most)) }
     {
-        let mut buffer = Vec::new(alloc);
-        buffer.resize(2 * most + READ_ROOM, 0)?;
+        let buffer = Vec::with_capacity(alloc, 2 * most + READ_ROOM)?;
         Ok(Window {
             buffer,
             most,
@@ -102,6 +105,17 @@ impl Window {
         self.start += count + skipped;
     }
 
+    /// Drops the next `count` bytes; what was shown last stays.
+    pub(crate) fn pass(&mut self, count: usize)
+        requires { count ≤ length self.old.kept }
+        ensures kept { self.new.kept ≡ drop count self.old.kept }
+        ensures shown { self.new.shown ≡ self.old.shown }
+        ensures span { self.new.span ≡ self.old.span }
+        ensures most { self.new.most ≡ self.old.most }
+    {
+        self.start += count;
+    }
+
     /// Takes more bytes from the store, at most `limit` of them, and answers their number; 0 is the
     /// end of the file.
     pub(crate) fn fill<S: Store>(&mut self, store: &mut S, limit: usize) -> Result<usize, Failed>
@@ -125,15 +139,30 @@ impl Window {
         let kept = self.end - self.start;
         self.start = make_room(&mut self.buffer, self.start, self.end, self.most);
         self.end = self.start + kept;
-        let room = self.buffer.len() - self.end;
-        let end = self.end + limit.min(room);
+        let end = self.end + limit.min(READ_ROOM);
         let count = read_part(store, &mut self.buffer, self.end, end)?;
         self.end += count;
         Ok(count)
     }
 }
 
-/// Reads into the part of the buffer from `start` to `end`.
+/// Lengthens a buffer that has room for it to `len` bytes, where it is shorter. It takes no memory.
+fn fill_to(buffer: &mut Vec<u8>, len: usize)
+    requires { len ≤ vec_capacity buffer.old }
+    ensures front { (count : ℕ) → count ≤ vec_len buffer.old → take count buffer.new.items ≡ take count buffer.old.items }
+    ensures len { len ≤ vec_len buffer.new }
+    ensures longer { vec_len buffer.old ≤ vec_len buffer.new }
+    ensures capacity { vec_capacity buffer.old ≤ vec_capacity buffer.new }
+{
+    'growth: while buffer.len() < len {
+        let count = (len - buffer.len()).min(ZEROS.len());
+        if buffer.extend_from_slice(&ZEROS[..count]).is_err() {
+            unreachable!();
+        }
+    }
+}
+
+/// Reads into the part of the buffer from `start` to `end`, to which it is lengthened where it is shorter.
 fn read_part<S: Store>(
     store: &mut S,
     buffer: &mut Vec<u8>,
@@ -142,12 +171,15 @@ fn read_part<S: Store>(
 ) -> Result<usize, Failed>
     requires current { IsTrue (S.current store.old) }
     requires part { start < end }
-    requires held { end ≤ vec_len buffer.old }
+    requires held { start ≤ vec_len buffer.old }
+    requires room { end ≤ vec_capacity buffer.old }
     ensures files { S.files store.new ≡ S.files store.old }
     ensures current { S.current store.new ≡ S.current store.old }
     ensures opens { S.opens store.new ≡ S.opens store.old }
     ensures faults { S.faults store.old ≤ S.faults store.new }
-    ensures len { vec_len buffer.new ≡ vec_len buffer.old }
+    ensures len { end ≤ vec_len buffer.new }
+    ensures longer { vec_len buffer.old ≤ vec_len buffer.new }
+    ensures capacity { vec_capacity buffer.old ≤ vec_capacity buffer.new }
     ensures front { take start buffer.new.items ≡ take start buffer.old.items }
     ensures count { IfOk result (λ count. start + count ≤ end) }
     ensures taken { IfOk result (λ count. S.left store.old
@@ -157,21 +189,24 @@ fn read_part<S: Store>(
     ensures sound { OnOk result (S.faults store.new ≡ S.faults store.old) }
     ensures failed { OnErr result (Rose (S.faults store.old) (S.faults store.new)) }
 {
+    fill_to(buffer, end);
     store.read(&mut buffer.as_mut_slice()[start..end])
 }
 
-/// Moves what stands from `start` to `end` to the front where fewer than `READ_ROOM` bytes fit behind
-/// it, and answers where it stands then.
+/// Moves what stands from `start` to `end` to the front where no more bytes than that stand before it, and answers where it
+/// stands then. There is room for `READ_ROOM` bytes behind it.
 fn make_room(buffer: &mut Vec<u8>, start: usize, end: usize, most: usize) -> usize
     requires order { start ≤ end }
     requires held { end ≤ vec_len buffer.old }
     requires few { end ≤ start + most }
-    requires long { 2 * most + 65536 ≤ vec_len buffer.old }
+    requires long { 2 * most + 65536 ≤ vec_capacity buffer.old }
     ensures kept { part_of buffer.new.items result (result + (end - start)) ≡ part_of buffer.old.items start end }
-    ensures room { result + (end - start) + 65536 ≤ vec_len buffer.new }
+    ensures room { result + (end - start) + 65536 ≤ vec_capacity buffer.new }
+    ensures within { result + (end - start) ≤ vec_len buffer.new }
+    ensures capacity { vec_capacity buffer.new ≡ vec_capacity buffer.old }
     ensures len { vec_len buffer.new ≡ vec_len buffer.old }
 {
-    if buffer.len() - end >= READ_ROOM {
+    if end - start > start {
         return start;
     }
     move_to_front(buffer, start, end);
@@ -185,6 +220,7 @@ fn move_to_front(buffer: &mut Vec<u8>, start: usize, end: usize)
     requires apart { end ≤ 2 * start }
     ensures moved { take (end - start) buffer.new.items ≡ take (end - start) (drop start buffer.old.items) }
     ensures len { vec_len buffer.new ≡ vec_len buffer.old }
+    ensures capacity { vec_capacity buffer.new ≡ vec_capacity buffer.old }
 {
     let count = end - start;
     let (front, back) = buffer.as_mut_slice().split_at_mut(start);

@@ -6,7 +6,7 @@ abbrev pub invariant-pieces : goal.invariant-pieces
 invariant-pieces g l = record {
   within : l.done ≤ length l.bytes;
   written : g.O.Sink.written l.sink ≡ append_known (g.O.Sink.written l.initial.sink) (take l.done l.bytes);
-  faults : g.O.Sink.faults l.initial.sink ≤ g.O.Sink.faults l.sink;
+  faults : g.O.Sink.faults l.sink ≡ g.O.Sink.faults l.initial.sink;
 }
 
 abbrev pub decreases-pieces : goal.decreases-pieces

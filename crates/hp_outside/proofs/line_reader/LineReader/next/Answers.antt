@@ -1,9 +1,9 @@
-use Rattle.std.proofs.Common.{rules, ◌≡◌, ◌+◌, ◌-◌, ◌≤◌, ◌∙◌, ap, sym, subst, true, false, length, List, ℕ, ◌<◌, IsSome, ◌↔◌, arith, length-take}
+use Rattle.std.proofs.Common.{rules, ◌≡◌, ◌+◌, ◌-◌, ◌≤◌, ◌++◌, ◌∙◌, ap, sym, subst, true, false, length, List, ℕ, ◌<◌, IsSome, ◌↔◌, arith, length-take}
 use Rattle.std.specs.List.{position_or_len}
 use Rattle.hp_outside.specs.Lines.{is_line_feed}
 use Rattle.hp_outside.specs.declared.line_end.Judgement.TheVariants.{Line, LineTooLong, InputTooLong, Open}
 use Rattle.hp_outside.specs.NextLine.{IsUndecided}
-use Rattle.hp_outside.proofs.LineLemmas.{told_rest, line_answer, line_given, line_too_long, input_too_long, position_or_len-grown, judged_at, last_given}
+use Rattle.hp_outside.proofs.LineLemmas.{told_rest, line_answer, line_given, line_has_feed, last_has_none, line_too_long, input_too_long, position_or_len-grown, judged_at, last_given}
 use Rattle.hp_outside.proofs.line_reader.LineReader.next.Goals as goal
 
 pub returns-in-Line-clause-answer : goal.returns-in-Line-clause-answer
@@ -31,6 +31,12 @@ returns-in-Line-clause-line g c = λ none rest told.
     let new_passed : c.give.new.self.passed ≡ c.args.self.now.passed + c.in-Line.count + 1 = omega (arith, c.give.ensures.passed, c.reads.invariant.passed) in
     let given = line_given _ _ _ c.reads.self.kept told_as.0 _ _ c.give.result _ _ _ judged told_as.2 c.give.ensures.line c.give.ensures.kept new_passed in
     rw told_as.1 given
+
+pub returns-in-Line-clause-line_ended : goal.returns-in-Line-clause-line_ended
+returns-in-Line-clause-line_ended g c = λ none rest told.
+    let told_as = told_rest _ _ _ (sym c.reads.invariant.rest ∙ told) in
+    let kept : c.kept.result.now ≡ c.reads.self.kept = c.kept.ensures ∙ ap (λ s. s.kept) c.self-in-reads.view_is in
+    c.give.ensures.line_ended ∙ sym (line_has_feed c.kept.result.now told_as.0 rest c.in-Line.count c.in-Line.ensures.0 c.in-Line.ensures.1 (told_as.2 ∙ ap (λ l. l ++ told_as.0) (sym kept)))
 
 pub returns-in-LineTooLong-clause-answer : goal.returns-in-LineTooLong-clause-answer
 returns-in-LineTooLong-clause-answer g c = λ none rest told.
@@ -68,6 +74,15 @@ returns-then-self-clause-line g c = λ empty rest told.
     let passed : c.give_last.new.self.passed ≡ c.args.self.now.passed + length c.reads.self.kept = omega (arith, c.give_last.ensures.passed, c.reads.invariant.passed, ap length seen) in
     last_given _ _ c.reads.self.kept told_as.0 _ _ _ c.give_last.result _ told_as.1 none told_as.2 end some c.give_last.ensures.line c.give_last.ensures.kept passed
 
+pub returns-then-self-clause-line_ended : goal.returns-then-self-clause-line_ended
+returns-then-self-clause-line_ended g c = λ empty rest told.
+    let kept : c.kept.result.now ≡ c.reads.self.kept = c.kept.ensures ∙ ap (λ s. s.kept) c.self-in-reads.view_is in
+    let none : position_or_len is_line_feed c.reads.self.kept ≡ length c.reads.self.kept = sym (ap (position_or_len is_line_feed) kept) ∙ c.in-Open.ensures.0 ∙ ap length kept in
+    let told_as = told_rest _ _ _ (sym c.reads.invariant.rest ∙ told) in
+    let ended : c.reads.self.ended ≡ true = sym (ap (λ s. s.ended) c.self-in-reads.view_is) ∙ c.if-self.true in
+    let end = c.reads.invariant.ended ended told_as.0 told_as.1 in
+    rw (last_has_none c.reads.self.kept told_as.0 rest none told_as.2 end) c.give_last.ensures.line_ended
+
 pub reads-preserved : goal.reads-preserved
 reads-preserved g c =
     let line : c.self-in-reads.inside.limits.line ≡ c.args.self.now.line_limit = ap (λ s. s.line_limit) c.self-in-reads.view_is ∙ c.reads.invariant.line_limit in
@@ -84,6 +99,7 @@ reads-preserved g c =
       passed = search rules;
       number = search rules;
       given = search rules;
+      line_ended = search rules;
       rest = c.reads.invariant.rest ∙ c.take_more.ensures.rest;
       scanned = omega (arith, ap length seen, ap length c.take_more.ensures.front, length-take (length c.reads.self.kept) c.take_more.new.self.kept);
       known = omega (arith, ap length seen, none, later);

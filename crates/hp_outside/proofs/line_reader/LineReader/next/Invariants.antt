@@ -14,6 +14,7 @@ invariant-reads g l = record {
   passed : l.self.passed ≡ l.initial.self.passed;
   number : l.self.number ≡ l.initial.self.number;
   given : l.self.given ≡ l.initial.self.given;
+  line_ended : l.self.line_ended ≡ l.initial.self.line_ended;
   rest : prepend_known l.initial.self.kept (g.S.Store.left l.initial.store) ≡ prepend_known l.self.kept (g.S.Store.left l.store);
   scanned : l.scanned ≤ length l.self.kept;
   known : l.scanned ≤ position_or_len is_line_feed l.self.kept;
