@@ -13,7 +13,9 @@ const LONGEST: usize = 11;
 /// Whether an event allocates or frees.
 #[derive(Clone, Copy, Debug, PartialEq, Eq)]
 pub enum EventKind {
+    /// `+`: one allocation of the info.
     Allocation,
+    /// `-`: one block of the info is freed.
     Free,
 }
 
@@ -23,13 +25,15 @@ pub struct EventLine {
     pub kind: EventKind,
     /// The info, from 0.
     pub info: u64,
-    /// How many bytes the line has, with its line feed.
+    /// How many bytes the line has, with its line feed: 4 to 11.
     pub bytes: usize,
 }
 
-/// The line of an event at the front of the bytes, where it stands there in its usual form, `+` or `-`, a blank, and one
-/// to eight hexadecimal digits, with its line feed. `None` promises nothing: then `read_item` judges the line. It takes
-/// no memory.
+/// The line of an event at the front of the bytes, where it stands there in its usual form: `+` or `-`, a blank, one to
+/// eight hexadecimal digits, and its line feed. In an interpreted trace `read_item` gives that event for the line in
+/// every file version. It takes no memory.
+///
+/// `None` promises nothing, and then `read_item` judges the line. It always comes where there are fewer than 11 bytes.
 pub fn event_line(bytes: &[u8]) -> Option<EventLine>
     ensures { IfSome result (λ event. BeginsWithEvent bytes.now event) }
 {
