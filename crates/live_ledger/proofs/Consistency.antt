@@ -152,27 +152,6 @@ consistent-stack stacks infos sums old room = record {
   events_within = old.events_within;
 }
 
--- the fields stay consistent with one more info
-pub consistent-info :
-    (stacks : List Sums) (infos : List InfoEntry) (sums : Sums) (entry : InfoEntry)
-    → AreConsistent stacks infos sums
-    → length infos < 2 ^ 32 - 1
-    → entry.stack < length stacks
-    → entry.blocks ≡ 0
-    → entry.calls ≡ 0
-    → AreConsistent stacks (infos ++ entry ∷ []) sums
-consistent-info stacks infos sums entry old room held no_blocks no_calls = record {
-  stack_0 = old.stack_0;
-  stacks_within = old.stacks_within;
-  infos_within = omega (arith, length_push infos entry, room);
-  held = subst (λ (xs : List ℕ). All (λ (held : ℕ). held < length stacks) xs) (sym (map-append stack_of infos (entry ∷ []))) (All-push (λ held. held < length stacks) (map stack_of infos) entry.stack old.held held);
-  sums_of = old.sums_of;
-  whole = balance-push sums any_entry infos entry no_blocks no_calls old.whole;
-  each_stack = λ n. balance-push (sums_at stacks n) (is_of n) infos entry no_blocks no_calls (old.each_stack n);
-  allocated_within = old.allocated_within;
-  events_within = old.events_within;
-}
-
 -- what an allocation may add without passing any number's range
 pub alloc-fits :
     (stacks : List Sums) (infos : List InfoEntry) (sums : Sums) (stack size : ℕ) (own : Sums)
