@@ -1,3 +1,5 @@
+pub mod Linking
+pub mod LinksLemmas
 pub mod Search
 pub mod Places
 pub mod Differences

@@ -11,3 +11,5 @@ pub mod ArrayState
 pub mod StandsFor
 pub mod View
 pub mod Origins
+pub mod LinksState
+pub mod Linked

@@ -3,6 +3,7 @@
 #![tactic(auto)]
 
 mod array;
+mod links;
 mod peak;
 mod removal;
 mod snapshot;
@@ -10,4 +11,5 @@ mod snapshot;
 mod tests;
 
 pub use array::SnapArray;
+pub use links::Links;
 pub use snapshot::{Kind, Offer, SnapEntry, Taken};
