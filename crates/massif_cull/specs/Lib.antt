@@ -11,5 +11,7 @@ pub mod ArrayState
 pub mod StandsFor
 pub mod View
 pub mod Origins
+pub mod SnapsState
+pub mod Held
 pub mod LinksState
 pub mod Linked

@@ -1,5 +1,5 @@
 -- How contracts see the fields of an array.
-use Rattle.std.specs.Prelude.{◌≤◌, vec_capacity}
+use Rattle.std.specs.Prelude.{◌≡◌, length}
 use Rattle.massif_cull.specs.declared.array.SnapArray.TheInside.{Inside}
 use Rattle.massif_cull.specs.ArrayState.{ArrayState}
 
@@ -7,11 +7,11 @@ use Rattle.massif_cull.specs.ArrayState.{ArrayState}
 abbrev pub state_of : {T : Type 0} → Inside T → ArrayState T
 state_of array = record {
   settings = record { max = array.max; detailed_freq = array.detailed_freq; inaccuracy = array.inaccuracy };
-  kept = record { entries = array.entries.items; interval = array.interval; last_peak = array.last_peak; normals = array.normals };
-  loads = array.loads.items;
+  kept = record { entries = array.snaps.entries; interval = array.interval; last_peak = array.last_peak; normals = array.normals };
+  loads = array.snaps.loads;
 }
 
--- both vectors have room for the maximum, so that none ever grows
-pub record HasRoom {T : Type 0} (array : Inside T) : Type 0 where
-  pub for_entries : array.max ≤ vec_capacity array.entries
-  pub for_loads : array.max ≤ vec_capacity array.loads
+-- there are as many places as the maximum says, and one is taken for each entry
+pub record IsBeside {T : Type 0} (array : Inside T) : Type 0 where
+  pub max : array.snaps.max ≡ array.max
+  pub places : length array.snaps.places ≡ length array.snaps.entries

@@ -1,6 +1,6 @@
 //! The array of snapshots: which offers it takes, and what it keeps of them.
 //! How entries are removed is in `removal`.
-ghost use Rattle.std.specs.Prelude.{◌≡◌, ◌+◌, ◌*◌, ◌/◌, ◌^◌, ◌<◌, ◌≤◌, List, [], ◌∷◌, ◌++◌, false, length, map, slice_get, Some, IfOk, vec_capacity};
+ghost use Rattle.std.specs.Prelude.{◌≡◌, ◌+◌, ◌*◌, ◌/◌, ◌^◌, ◌<◌, ◌≤◌, List, [], ◌∷◌, ◌++◌, false, length, map, slice_get, Some, IfOk};
 ghost use Rattle.massif_cull.specs.declared.snapshot.Offer.{Offer};
 ghost use Rattle.massif_cull.specs.Among.{AreAmong};
 ghost use Rattle.massif_cull.specs.ArrayState.{AreSound, IsSound};
@@ -13,8 +13,7 @@ ghost use Rattle.massif_cull.specs.KeptOf.{kept_of};
 ghost use Rattle.massif_cull.specs.Loads.{loads_cull, loads_bounded, loads_step};
 ghost use Rattle.massif_cull.specs.StandsFor.{StandsFor, held_of};
 
-use crate::peak::end_peaks;
-use crate::removal::cull_entries;
+use crate::linked::LinkedSnaps;
 use crate::snapshot::{Kind, Offer, SnapEntry, Taken};
 use hp_num::NoMemory;
 use std::alloc::Global;
@@ -34,8 +33,7 @@ pub struct SnapArray<T: Drop> {
     max: u32,
     detailed_freq: u64,
     inaccuracy: u64,
-    entries: Vec<SnapEntry>,
-    loads: Vec<T>,
+    snaps: LinkedSnaps<T>,
     interval: u64,
     last_peak: u64,
     normals: u64,
@@ -46,11 +44,11 @@ impl<T: Drop> Model for SnapArray<T> {
 
     ghost Value = { ArrayState T };
 
-    ghost use Rattle.massif_cull.specs.View.{state_of, HasRoom};
+    ghost use Rattle.massif_cull.specs.View.{state_of, IsBeside};
 
     ghost view = { state_of };
 
-    ghost invariant = { λ array. IsSound (state_of array) × HasRoom array };
+    ghost invariant = { λ array. IsSound (state_of array) × IsBeside array };
 }
 
 impl<T: Drop> SnapArray<T> {
@@ -75,8 +73,7 @@ impl<T: Drop> SnapArray<T> {
             max,
             detailed_freq,
             inaccuracy,
-            entries: Vec::with_capacity(alloc, max as usize)?,
-            loads: Vec::with_capacity(alloc, max as usize)?,
+            snaps: LinkedSnaps::new(alloc, max)?,
             interval: 0,
             last_peak: 0,
             normals: 0,
@@ -157,7 +154,7 @@ impl<T: Drop> SnapArray<T> {
         ensures last { last_time self.new.kept.entries ≡ last_time self.old.kept.entries }
         ensures length { length self.new.kept.entries + length self.old.kept.entries / 2 ≡ length self.old.kept.entries }
     {
-        self.interval = cull_entries(&mut self.entries, &mut self.loads);
+        self.interval = self.snaps.cull();
     }
 
     /// The number of snapshots that are held.
@@ -166,7 +163,7 @@ impl<T: Drop> SnapArray<T> {
         ensures loads { result ≡ length self.now.loads }
         ensures sound { IsSound self.now }
     {
-        self.entries.len() as u32
+        self.snaps.len()
     }
 
     /// The snapshot at place `i`, from 0, which must be held.
@@ -176,7 +173,7 @@ impl<T: Drop> SnapArray<T> {
         ensures time_most { result.time ≤ 2 ^ 62 }
         ensures total_most { result.total ≤ 2 ^ 62 }
     {
-        self.entries[i as usize]
+        self.snaps.entry(self.snaps.spot(i))
     }
 
     /// The load of the snapshot at place `i`, from 0, which must be held.
@@ -184,7 +181,7 @@ impl<T: Drop> SnapArray<T> {
         requires { i < length self.now.kept.entries }
         ensures { slice_get self.now.loads i ≡ Some result.now }
     {
-        &self.loads[i as usize]
+        self.snaps.load(self.snaps.spot(i))
     }
 
     /// The least time at which a normal offer is taken: the last snapshot's and the interval, and 0 where none is held.
@@ -192,7 +189,7 @@ impl<T: Drop> SnapArray<T> {
         ensures time { result ≡ next_time_after self.now.kept.entries self.now.kept.interval }
         ensures most { result ≤ 2 ^ 63 }
     {
-        match self.entries.last() {
+        match self.snaps.last() {
             None => 0,
             Some(entry) => entry.time + self.interval,
         }
@@ -213,14 +210,7 @@ impl<T: Drop> SnapArray<T> {
         ensures below_max { length self.new.kept.entries < self.new.settings.max }
     {
         self.normals = (self.normals + 1) % self.detailed_freq;
-        self.interval = append(
-            &mut self.entries,
-            &mut self.loads,
-            entry,
-            load,
-            self.max as usize,
-            self.interval,
-        );
+        self.interval = append(&mut self.snaps, entry, load, self.interval);
     }
 
     /// Takes an entry as the peak.
@@ -236,54 +226,44 @@ impl<T: Drop> SnapArray<T> {
         ensures not_empty { 0 < length self.new.kept.entries }
         ensures below_max { length self.new.kept.entries < self.new.settings.max }
     {
-        end_peaks(&mut self.entries);
+        self.snaps.end_peaks();
         self.last_peak = entry.total;
-        self.interval = append(
-            &mut self.entries,
-            &mut self.loads,
-            entry,
-            load,
-            self.max as usize,
-            self.interval,
-        );
+        self.interval = append(&mut self.snaps, entry, load, self.interval);
     }
 }
 
-/// Appends the entry and its load, culls where the entries then reach `max`, and answers the interval.
+/// Appends the entry and its load, culls where the entries then reach the maximum, and answers the interval.
 fn append<T: Drop>(
-    entries: &mut Vec<SnapEntry>,
-    loads: &mut Vec<T>,
+    snaps: &mut LinkedSnaps<T>,
     entry: SnapEntry,
     load: T,
-    max: usize,
     interval: u64,
 ) -> u64
-    requires max { 10 ≤ max }
-    requires below_max { length entries.old.items < max }
-    requires entries_room { max ≤ vec_capacity entries.old }
-    requires loads_room { max ≤ vec_capacity loads.old }
-    requires beside { length loads.old.items ≡ length entries.old.items }
+    requires max { 10 ≤ snaps.old.max }
+    requires below_max { length snaps.old.entries < snaps.old.max }
+    requires places_beside { length snaps.old.places ≡ length snaps.old.entries }
+    requires loads_beside { length snaps.old.loads ≡ length snaps.old.entries }
     requires interval { interval ≤ 2 ^ 62 }
-    requires sound { AreSound (entries.old.items ++ entry ∷ []) }
-    ensures entries { entries.new.items ≡ entries_bounded max (entries.old.items ++ entry ∷ []) }
-    ensures loads { loads.new.items ≡ loads_bounded max (entries.old.items ++ entry ∷ []) (loads.old.items ++ load ∷ []) }
-    ensures interval { result ≡ interval_bounded max (entries.old.items ++ entry ∷ []) interval }
+    requires sound { AreSound (snaps.old.entries ++ entry ∷ []) }
+    ensures max { snaps.new.max ≡ snaps.old.max }
+    ensures entries { snaps.new.entries ≡ entries_bounded snaps.old.max (snaps.old.entries ++ entry ∷ []) }
+    ensures loads { snaps.new.loads ≡ loads_bounded snaps.old.max (snaps.old.entries ++ entry ∷ []) (snaps.old.loads ++ load ∷ []) }
+    ensures interval { result ≡ interval_bounded snaps.old.max (snaps.old.entries ++ entry ∷ []) interval }
     ensures interval_most { result ≤ 2 ^ 62 }
-    ensures last { last_time entries.new.items ≡ entry.time }
-    ensures not_empty { 0 < length entries.new.items }
-    ensures below_max { length entries.new.items < max }
-    ensures beside { length loads.new.items ≡ length entries.new.items }
-    ensures sound { AreSound entries.new.items }
-    ensures among { AreAmong (entries.old.items ++ entry ∷ []) (loads.old.items ++ load ∷ []) entries.new.items loads.new.items }
-    ensures entries_room { vec_capacity entries.new ≡ vec_capacity entries.old }
-    ensures loads_room { vec_capacity loads.new ≡ vec_capacity loads.old }
+    ensures last { last_time snaps.new.entries ≡ entry.time }
+    ensures not_empty { 0 < length snaps.new.entries }
+    ensures below_max { length snaps.new.entries < snaps.new.max }
+    ensures places_beside { length snaps.new.places ≡ length snaps.new.entries }
+    ensures loads_beside { length snaps.new.loads ≡ length snaps.new.entries }
+    ensures sound { AreSound snaps.new.entries }
+    ensures among { AreAmong (snaps.old.entries ++ entry ∷ []) (snaps.old.loads ++ load ∷ []) snaps.new.entries snaps.new.loads }
 {
-    entries.push_reserved(entry);
-    loads.push_reserved(load);
-    if entries.len() < max {
+    let max = snaps.max();
+    snaps.push(entry, load);
+    if snaps.len() < max {
         return interval;
     }
-    cull_entries(entries, loads)
+    snaps.cull()
 }
 
 /// The entry of an offer.

@@ -3,6 +3,7 @@
 #![tactic(auto)]
 
 mod array;
+mod linked;
 mod links;
 mod peak;
 mod removal;

@@ -84,7 +84,7 @@ impl Links {
     }
 
     /// The last place, and None in the empty list.
-    pub fn last(&self) -> Option<u32>
+    pub(crate) fn last(&self) -> Option<u32>
         ensures place { result ≡ slice_get self.now.places (length self.now.places - 1) }
         ensures below { IfSome result (λ place. place < self.now.max) }
     {
@@ -108,6 +108,13 @@ impl Links {
         ensures below { IfSome result (λ prev. prev < self.now.max) }
     {
         unless_end(self.max, self.prev[place as usize])
+    }
+
+    /// The number that each place is below.
+    pub(crate) fn max(&self) -> u32
+        ensures { result ≡ self.now.max }
+    {
+        self.max
     }
 
     /// The number of places in the list.

@@ -1,22 +1,12 @@
 //! The peak among the entries.
 //! When a peak is taken is decided by the array.
-ghost use Rattle.std.specs.Prelude.{◌≡◌, map, vec_capacity};
-ghost use Rattle.massif_cull.specs.Entries.{end_peak, is_peak, kind_after_peak};
+ghost use Rattle.std.specs.Prelude.{◌≡◌};
+ghost use Rattle.massif_cull.specs.Entries.{is_peak, kind_after_peak};
 
 use crate::snapshot::{Kind, SnapEntry};
 
-/// Makes the earlier peak a normal entry, where one is kept.
-pub(crate) fn end_peaks(entries: &mut Vec<SnapEntry>)
-    ensures items { entries.new.items ≡ map end_peak entries.old.items }
-    ensures room { vec_capacity entries.new ≡ vec_capacity entries.old }
-{
-    for entry in entries.iter_mut() {
-        entry.kind = after_peak(entry.kind);
-    }
-}
-
 /// The kind that an entry has once a later peak is taken.
-fn after_peak(kind: Kind) -> Kind
+pub(crate) fn after_peak(kind: Kind) -> Kind
     ensures { result ≡ kind_after_peak kind }
 {
     match kind {

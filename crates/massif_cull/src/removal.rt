@@ -1,96 +1,120 @@
-//! Removing entries from a list of snapshots by their times, and the interval of what is left.
-//! When a list is culled is decided by the array.
-ghost use Rattle.std.specs.Prelude.{◌≡◌, ◌+◌, ◌/◌, ◌<◌, ◌≤◌, ◌^◌, true, length, Some, vec_capacity};
+//! Removing snapshots by their times, and the interval of what is left.
+//! When they are culled is decided by the array.
+ghost use Rattle.std.specs.Prelude.{◌≡◌, ◌+◌, ◌-◌, ◌/◌, ◌<◌, ◌≤◌, ◌^◌, true, length, slice_index, Some};
 ghost use Rattle.massif_cull.specs.Among.{AreAmong};
 ghost use Rattle.massif_cull.specs.ArrayState.{AreSound};
 ghost use Rattle.massif_cull.specs.Culling.{may_go, gap_at, removed_place, cull};
-ghost use Rattle.massif_cull.specs.Entries.{is_peak_at, last_time};
+ghost use Rattle.massif_cull.specs.Entries.{is_peak_at, last_time, times};
 ghost use Rattle.massif_cull.specs.Interval.{least_interval};
 ghost use Rattle.massif_cull.specs.Loads.{loads_cull};
+ghost use Rattle.massif_cull.specs.SnapsState.{IsSpot};
 
+use crate::linked::LinkedSnaps;
 use crate::peak::is_peak_entry;
-use crate::snapshot::SnapEntry;
+use crate::snapshot::Spot;
 
-/// Removes entries with their loads, half of them rounded down, and answers the least time between two
-/// neighbours that are left. It takes no memory.
-pub(crate) fn cull_entries<T: Drop>(entries: &mut Vec<SnapEntry>, loads: &mut Vec<T>) -> u64
-    requires long { 6 ≤ length entries.old.items }
-    requires sound { AreSound entries.old.items }
-    requires beside { length loads.old.items ≡ length entries.old.items }
-    ensures entries { entries.new.items ≡ cull entries.old.items }
-    ensures loads { loads.new.items ≡ loads_cull entries.old.items loads.old.items }
-    ensures interval { result ≡ least_interval entries.new.items }
-    ensures interval_most { result ≤ 2 ^ 62 }
-    ensures length { length entries.new.items + length entries.old.items / 2 ≡ length entries.old.items }
-    ensures beside_still { length loads.new.items ≡ length entries.new.items }
-    ensures sound_still { AreSound entries.new.items }
-    ensures last { last_time entries.new.items ≡ last_time entries.old.items }
-    ensures among { AreAmong entries.old.items loads.old.items entries.new.items loads.new.items }
-    ensures entries_room { vec_capacity entries.new ≡ vec_capacity entries.old }
-    ensures loads_room { vec_capacity loads.new ≡ vec_capacity loads.old }
-{
-    let removals = entries.len() / 2;
-    'each_removal: for _ in 0..removals {
-        let place = least_gap_place(entries);
-        let _ = entries.remove(place);
-        let _ = loads.remove(place);
-    }
-    least_difference(entries)
-}
-
-/// The place of the entry that goes next: of those that are neither first, last nor the peak, the first with the
-/// least difference between the times of its neighbours.
-fn least_gap_place(entries: &[SnapEntry]) -> usize
-    requires long { 4 ≤ length entries.now }
-    requires sound { AreSound entries.now }
-    ensures place { removed_place entries.now ≡ Some result }
-    ensures inside { result + 1 < length entries.now }
-{
-    let mut place = first_removable(entries);
-    let mut least = neighbour_gap(entries, place);
-    for other in place + 1..entries.len() - 1 {
-        if is_peak_entry(&entries[other]) {
-            continue;
+impl<T: Drop> LinkedSnaps<T> {
+    /// Removes snapshots with their loads, half of them rounded down, and answers the least time between two
+    /// neighbours that are left. It takes no memory.
+    pub fn cull(&mut self) -> u64
+        requires long { 6 ≤ length self.old.entries }
+        requires sound { AreSound self.old.entries }
+        ensures max { self.new.max ≡ self.old.max }
+        ensures entries { self.new.entries ≡ cull self.old.entries }
+        ensures loads { self.new.loads ≡ loads_cull self.old.entries self.old.loads }
+        ensures interval { result ≡ least_interval self.new.entries }
+        ensures interval_most { result ≤ 2 ^ 62 }
+        ensures length { length self.new.entries + length self.old.entries / 2 ≡ length self.old.entries }
+        ensures loads_beside { length self.new.loads ≡ length self.new.entries }
+        ensures places_beside { length self.new.places ≡ length self.new.entries }
+        ensures sound_still { AreSound self.new.entries }
+        ensures last { last_time self.new.entries ≡ last_time self.old.entries }
+        ensures among { AreAmong self.old.entries self.old.loads self.new.entries self.new.loads }
+    {
+        let removals = self.len() / 2;
+        'each_removal: for _ in 0..removals {
+            let spot = self.least_gap();
+            let _ = self.remove(spot);
         }
-        let gap = neighbour_gap(entries, other);
-        if gap < least {
-            place = other;
-            least = gap;
+        self.least_difference()
+    }
+
+    /// Where the snapshot stands that goes next: of those that are neither first, last nor the peak, the first with the
+    /// least difference between the times of its neighbours.
+    fn least_gap(&self) -> Spot
+        requires long { 4 ≤ length self.now.entries }
+        requires sound { AreSound self.now.entries }
+        ensures spot { IsSpot self.now result }
+        ensures place { removed_place self.now.entries ≡ Some result.index }
+        ensures inside { result.index + 1 < length self.now.entries }
+    {
+        let mut least = self.first_removable();
+        let mut least_gap = self.neighbour_gap(least);
+        let mut spot = least;
+        'others: for _ in least.index + 1..self.len() - 1 {
+            spot = self.after(spot);
+            if is_peak_entry(&self.entry(spot)) {
+                continue;
+            }
+            let gap = self.neighbour_gap(spot);
+            if gap < least_gap {
+                least = spot;
+                least_gap = gap;
+            }
+        }
+        least
+    }
+
+    /// Where the first one stands that may go.
+    fn first_removable(&self) -> Spot
+        requires long { 4 ≤ length self.now.entries }
+        requires sound { AreSound self.now.entries }
+        ensures spot { IsSpot self.now result }
+        ensures may_go { may_go self.now.entries result.index ≡ true }
+        ensures early { (0 < result.index) × (result.index ≤ 2) }
+        ensures second { result.index ≡ 2 → is_peak_at self.now.entries 1 ≡ true }
+    {
+        let second = self.spot(1);
+        if is_peak_entry(&self.entry(second)) {
+            self.after(second)
+        } else {
+            second
         }
     }
-    place
-}
 
-/// The first place whose entry may go.
-fn first_removable(entries: &[SnapEntry]) -> usize
-    requires long { 4 ≤ length entries.now }
-    requires sound { AreSound entries.now }
-    ensures may_go { may_go entries.now result ≡ true }
-    ensures early { (0 < result) × (result ≤ 2) }
-    ensures second { result ≡ 2 → is_peak_at entries.now 1 ≡ true }
-{
-    if is_peak_entry(&entries[1]) { 2 } else { 1 }
-}
-
-/// The difference between the times of the entries before and after the one at `place`.
-fn neighbour_gap(entries: &[SnapEntry], place: usize) -> u64
-    requires inside { (0 < place) × (place + 1 < length entries.now) }
-    requires sound { AreSound entries.now }
-    ensures { result ≡ gap_at entries.now place }
-{
-    entries[place + 1].time - entries[place - 1].time
-}
-
-/// The least difference between the times of neighbours.
-fn least_difference(entries: &[SnapEntry]) -> u64
-    requires long { 2 ≤ length entries.now }
-    requires sound { AreSound entries.now }
-    ensures value { result ≡ least_interval entries.now }
-    ensures most { result ≤ 2 ^ 62 }
-{
-    let mut least = entries[1].time - entries[0].time;
-    for place in 2..entries.len() {
-        least = least.min(entries[place].time - entries[place - 1].time);
+    /// The difference between the times of the snapshots before and after the one at the spot.
+    fn neighbour_gap(&self, spot: Spot) -> u64
+        requires spot { IsSpot self.now spot }
+        requires inside { (0 < spot.index) × (spot.index + 1 < length self.now.entries) }
+        requires sound { AreSound self.now.entries }
+        ensures { result ≡ gap_at self.now.entries spot.index }
+    {
+        self.entry(self.after(spot)).time - self.entry(self.before(spot)).time
     }
-    least
+
+    /// The least difference between the times of neighbours.
+    fn least_difference(&self) -> u64
+        requires long { 2 ≤ length self.now.entries }
+        requires sound { AreSound self.now.entries }
+        ensures value { result ≡ least_interval self.now.entries }
+        ensures most { result ≤ 2 ^ 62 }
+    {
+        let mut spot = self.spot(1);
+        let mut least = self.gap_before(spot);
+        'spots: for _ in 2..self.len() {
+            spot = self.after(spot);
+            least = least.min(self.gap_before(spot));
+        }
+        least
+    }
+
+    /// The difference between the times of the snapshot at the spot and of the one before it.
+    fn gap_before(&self, spot: Spot) -> u64
+        requires spot { IsSpot self.now spot }
+        requires inside { (0 < spot.index) × (spot.index < length self.now.entries) }
+        requires sound { AreSound self.now.entries }
+        ensures { result ≡ slice_index (times self.now.entries) spot.index - slice_index (times self.now.entries) (spot.index - 1) }
+    {
+        self.entry(spot).time - self.entry(self.before(spot)).time
+    }
 }

@@ -50,3 +50,10 @@ pub struct SnapEntry {
     /// What it's kept as.
     pub kind: Kind,
 }
+
+/// Where a snapshot stands: how many stand before it, and its place.
+#[derive(Clone, Copy)]
+pub(crate) struct Spot {
+    pub index: u32,
+    pub place: u32,
+}

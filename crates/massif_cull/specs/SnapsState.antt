@@ -1,0 +1,15 @@
+-- What contracts see of linked snapshots, and where one stands among them.
+use Rattle.std.specs.Prelude.{◌≡◌, ℕ, List, slice_get, Some}
+use Rattle.massif_cull.specs.declared.snapshot.SnapEntry.{SnapEntry}
+use Rattle.massif_cull.specs.declared.snapshot.Spot.{Spot}
+
+-- how many places there are, those that are taken in their order, and the entry and the load that stand at each
+pub record SnapsState (T : Type 0) : Type 0 where
+  pub max : ℕ
+  pub places : List ℕ
+  pub entries : List SnapEntry
+  pub loads : List T
+
+-- the spot is one of a place that is taken
+abbrev pub IsSpot : {T : Type 0} → SnapsState T → Spot → Type 0
+IsSpot state spot = slice_get state.places spot.index ≡ Some spot.place

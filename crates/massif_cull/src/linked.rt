@@ -1,0 +1,218 @@
+//! Snapshots with their loads: each stays at its place, and links keep their order.
+//! Which of them are removed is decided in `removal`.
+ghost use Rattle.std.specs.Prelude.{◌≡◌, ◌+◌, ◌-◌, ◌<◌, ◌≤◌, [], ◌∷◌, ◌++◌, length, map, slice_get, remove, Some, IfOk, IfSome};
+ghost use Rattle.std.specs.Option.{option_map};
+ghost use Rattle.massif_cull.specs.Entries.{end_peak};
+ghost use Rattle.massif_cull.specs.SnapsState.{IsSpot};
+
+use crate::links::Links;
+use crate::peak::after_peak;
+use crate::snapshot::{SnapEntry, Spot};
+use hp_num::NoMemory;
+use std::alloc::Global;
+use std::marker::Model;
+
+/// A snapshot that is held, with its load.
+#[derive(Drop)]
+pub(crate) struct Held<T: Drop> {
+    pub entry: SnapEntry,
+    pub load: T,
+}
+
+/// Snapshots with their loads, in an order of their own.
+#[derive(Drop)]
+pub(crate) struct LinkedSnaps<T: Drop> {
+    links: Links,
+    // What stands at each place; nothing at those that are free.
+    slots: Vec<Option<Held<T>>>,
+}
+
+impl<T: Drop> Model for LinkedSnaps<T> {
+    ghost use Rattle.massif_cull.specs.SnapsState.{SnapsState};
+    ghost use Rattle.massif_cull.specs.Held.{snaps_of, AreHeld};
+
+    ghost Value = { SnapsState T };
+
+    ghost view = { snaps_of };
+
+    ghost invariant = { AreHeld };
+}
+
+impl<T: Drop> LinkedSnaps<T> {
+    /// No snapshot, with room for `max`, which is at most 1000. No other call takes memory.
+    pub fn new(alloc: Global, max: u32) -> Result<Self, NoMemory>
+        requires { max ≤ 1000 }
+        ensures max { IfOk result (λ snaps. snaps.max ≡ max) }
+        ensures places { IfOk result (λ snaps. snaps.places ≡ []) }
+        ensures entries { IfOk result (λ snaps. snaps.entries ≡ []) }
+        ensures loads { IfOk result (λ snaps. snaps.loads ≡ []) }
+    {
+        let links = Links::new(alloc, max)?;
+        let slots = empty_slots(alloc, max as usize)?;
+        Ok(LinkedSnaps { links, slots })
+    }
+
+    /// Appends a snapshot. Fewer than `max` must be held.
+    pub fn push(&mut self, entry: SnapEntry, load: T)
+        requires { length self.old.places < self.old.max }
+        ensures max { self.new.max ≡ self.old.max }
+        ensures entries { self.new.entries ≡ self.old.entries ++ entry ∷ [] }
+        ensures loads { self.new.loads ≡ self.old.loads ++ load ∷ [] }
+        ensures beside { length self.new.places ≡ length self.new.entries }
+    {
+        let place = self.links.push();
+        self.slots[place as usize] = Some(Held { entry, load });
+    }
+
+    /// Removes the snapshot at the spot and gives it with its load. The others keep their order and their places.
+    pub fn remove(&mut self, spot: Spot) -> Held<T>
+        requires { IsSpot self.old spot }
+        ensures max { self.new.max ≡ self.old.max }
+        ensures places { self.new.places ≡ remove self.old.places spot.index }
+        ensures entries { self.new.entries ≡ remove self.old.entries spot.index }
+        ensures loads { self.new.loads ≡ remove self.old.loads spot.index }
+        ensures beside { length self.new.places ≡ length self.new.entries }
+        ensures entry { slice_get self.old.entries spot.index ≡ Some result.entry }
+        ensures load { slice_get self.old.loads spot.index ≡ Some result.load }
+    {
+        self.links.unlink(spot.place);
+        self.slots[spot.place as usize].take().unwrap()
+    }
+
+    /// The number of snapshots.
+    pub fn len(&self) -> u32
+        ensures places { result ≡ length self.now.places }
+        ensures entries { result ≡ length self.now.entries }
+        ensures loads { result ≡ length self.now.loads }
+        ensures most { result ≤ self.now.max }
+    {
+        self.links.len()
+    }
+
+    /// How many may be held.
+    pub fn max(&self) -> u32
+        ensures { result ≡ self.now.max }
+    {
+        self.links.max()
+    }
+
+    /// Where the first one stands. One must be held.
+    pub fn first(&self) -> Spot
+        requires { 0 < length self.now.places }
+        ensures spot { IsSpot self.now result }
+        ensures index { result.index ≡ 0 }
+    {
+        Spot {
+            index: 0,
+            place: self.links.first().unwrap(),
+        }
+    }
+
+    /// Where the next one stands. The spot must not be the last.
+    pub fn after(&self, spot: Spot) -> Spot
+        requires spot { IsSpot self.now spot }
+        requires inside { spot.index + 1 < length self.now.places }
+        ensures spot { IsSpot self.now result }
+        ensures index { result.index ≡ spot.index + 1 }
+    {
+        Spot {
+            index: spot.index + 1,
+            place: self.links.next(spot.place).unwrap(),
+        }
+    }
+
+    /// Where the one before stands. The spot must not be the first.
+    pub fn before(&self, spot: Spot) -> Spot
+        requires spot { IsSpot self.now spot }
+        requires inside { 0 < spot.index }
+        ensures spot { IsSpot self.now result }
+        ensures index { result.index + 1 ≡ spot.index }
+    {
+        Spot {
+            index: spot.index - 1,
+            place: self.links.prev(spot.place).unwrap(),
+        }
+    }
+
+    /// Where the one stands before which `index` stand.
+    pub fn spot(&self, index: u32) -> Spot
+        requires { index < length self.now.places }
+        ensures spot { IsSpot self.now result }
+        ensures index { result.index ≡ index }
+    {
+        let mut spot = self.first();
+        'steps: for _ in 0..index {
+            spot = self.after(spot);
+        }
+        spot
+    }
+
+    /// The entry at the spot.
+    pub fn entry(&self, spot: Spot) -> SnapEntry
+        requires { IsSpot self.now spot }
+        ensures { slice_get self.now.entries spot.index ≡ Some result }
+    {
+        self.held(spot).entry
+    }
+
+    /// The load at the spot.
+    pub fn load(&self, spot: Spot) -> &T
+        requires { IsSpot self.now spot }
+        ensures { slice_get self.now.loads spot.index ≡ Some result.now }
+    {
+        &self.held(spot).load
+    }
+
+    /// The last entry, and None where none is held.
+    pub fn last(&self) -> Option<SnapEntry>
+        ensures { result ≡ slice_get self.now.entries (length self.now.entries - 1) }
+    {
+        match self.len() {
+            0 => None,
+            len => Some(self.entry(Spot {
+                index: len - 1,
+                place: self.links.last().unwrap(),
+            })),
+        }
+    }
+
+    fn held(&self, spot: Spot) -> &Held<T>
+        requires { IsSpot self.now spot }
+        ensures entry { slice_get self.now.entries spot.index ≡ Some result.now.entry }
+        ensures load { slice_get self.now.loads spot.index ≡ Some result.now.load }
+    {
+        self.slots[spot.place as usize].as_ref().unwrap()
+    }
+
+    /// Makes the earlier peak a normal entry, where one is held.
+    pub fn end_peaks(&mut self)
+        ensures max { self.new.max ≡ self.old.max }
+        ensures places { self.new.places ≡ self.old.places }
+        ensures entries { self.new.entries ≡ map end_peak self.old.entries }
+        ensures loads { self.new.loads ≡ self.old.loads }
+    {
+        'slots: for slot in self.slots.iter_mut() {
+            end_peak_at(slot);
+        }
+    }
+}
+
+/// So many slots at which nothing stands.
+fn empty_slots<T: Drop>(alloc: Global, count: usize) -> Result<Vec<Option<Held<T>>>, NoMemory>
+    ensures { IfOk result (λ slots. length slots.items ≡ count) }
+{
+    let mut slots = Vec::with_capacity(alloc, count)?;
+    'slots: for _ in 0..count {
+        slots.push_reserved(None);
+    }
+    Ok(slots)
+}
+
+/// Makes what stands there a normal entry, where it is a peak.
+fn end_peak_at<T: Drop>(slot: &mut Option<Held<T>>)
+    ensures { slot.new ≡ option_map (λ held. record held { entry = end_peak held.entry }) slot.old }
+{
+    if let Some(held) = slot {
+        held.entry.kind = after_peak(held.entry.kind);
+    }
+}
