@@ -1,11 +1,10 @@
 -- The least difference of neighbours, number by number.
-use Rattle.std.proofs.Common.{◌≡◌, ℕ, ◌+◌, ◌-◌, ◌<◌, ◌≤◌, min, List, [], ◌∷◌, ◌++◌, length, get_or, take, refl, ap, ◌∙◌, arith}
-use Rattle.std.specs.Prelude.{fold}
+use Rattle.std.proofs.Common.{◌≡◌, ℕ, ◌+◌, ◌-◌, ◌<◌, ◌≤◌, min, List, [], ◌∷◌, ◌++◌, length, get_or, take, refl, sym, ap, ◌∙◌, arith}
+use Rattle.std.specs.Prelude.{fold, slice_index}
 use Rattle.std.proofs.lemmas.List.{take_more, take_all, get_or-take, length-take-le, length-map}
 use Rattle.massif_cull.specs.declared.snapshot.SnapEntry.{SnapEntry}
 use Rattle.massif_cull.specs.Entries.{times}
 use Rattle.massif_cull.specs.Interval.{differences, least, least_interval}
-use Rattle.massif_cull.proofs.Places.{time-at}
 
 -- the last number of a list that is not empty
 abbrev pub last_number : List ℕ → ℕ
@@ -64,20 +63,16 @@ abbrev pub least_of_first : List SnapEntry → ℕ → ℕ
 least_of_first entries p = least (differences (take p (times entries)))
 
 -- of two entries
-pub interval-first : (entries : List SnapEntry) (d : SnapEntry) → 2 ≤ length entries → (get_or entries 1 d).time - (get_or entries 0 d).time ≡ least_of_first entries 2
-interval-first entries d two =
+pub interval-first : (entries : List SnapEntry) → 2 ≤ length entries → slice_index (times entries) 1 - slice_index (times entries) 0 ≡ least_of_first entries 2
+interval-first entries two =
     let long : length (times entries) ≡ length entries = length-map entries (λ (entry : SnapEntry). entry.time) in
-    let first = time-at entries 0 d (omega arith) in
-    let second = time-at entries 1 d (omega arith) in
-    rw (least-first (times entries) (omega arith)) (omega arith)
+    sym (least-first (times entries) (omega arith))
 
 -- after one more entry
-pub interval-more : (entries : List SnapEntry) (p : ℕ) (d : SnapEntry) → 2 ≤ p → p < length entries → min (least_of_first entries p) ((get_or entries p d).time - (get_or entries (p - 1) d).time) ≡ least_of_first entries (p + 1)
-interval-more entries p d two inside =
+pub interval-more : (entries : List SnapEntry) (p : ℕ) → 2 ≤ p → p < length entries → min (least_of_first entries p) (slice_index (times entries) p - slice_index (times entries) (p - 1)) ≡ least_of_first entries (p + 1)
+interval-more entries p two inside =
     let long : length (times entries) ≡ length entries = length-map entries (λ (entry : SnapEntry). entry.time) in
-    let here = time-at entries p d (omega arith) in
-    let before = time-at entries (p - 1) d (omega arith) in
-    rw (least-more (times entries) p two (omega arith), here, before) refl
+    sym (least-more (times entries) p two (omega arith))
 
 -- of all entries
 pub interval-all : (entries : List SnapEntry) (p : ℕ) → p ≡ length entries → least_of_first entries p ≡ least_interval entries

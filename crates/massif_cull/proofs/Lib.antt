@@ -1,10 +1,11 @@
 pub mod Linking
 pub mod LinksLemmas
+pub mod HeldLemmas
+pub mod SnapsLemmas
 pub mod Search
 pub mod Places
 pub mod Differences
 pub mod Removals
-pub mod Peaks
 pub mod Standing
 pub mod Sound
 pub mod Taking

@@ -1,9 +1,10 @@
 -- The entry that goes: what a loop over the places keeps, and that it ends at the defined place.
 use Rattle.std.proofs.Common.{◌≡◌, ℕ, ◌+◌, ◌-◌, ◌<◌, ◌≤◌, ◌&&◌, true, false, List, length, get_or, inl, inr, refl, sym, ap, subst, ◌∙◌, arith}
-use Rattle.std.specs.Prelude.{Some, slice_index, nat_le}
+use Rattle.std.specs.Prelude.{Some, slice_get, slice_index, nat_le}
 use Rattle.std.proofs.lemmas.Bool.{cases_Bool, cases_eq}
 use Rattle.std.proofs.lemmas.Bool.Decides.{nat_tests, leb_tells}
 use Rattle.std.proofs.lemmas.List.{get_or-map}
+use Rattle.std.proofs.lemmas.Option.{slice_get_within, get_or_from_slice_get}
 use Rattle.massif_cull.specs.declared.snapshot.Kind.TheVariants.{Normal}
 use Rattle.massif_cull.specs.declared.snapshot.SnapEntry.{SnapEntry}
 use Rattle.massif_cull.specs.ArrayState.{AreSound}
@@ -22,6 +23,23 @@ time-at entries k d inside = get_or-map (λ (entry : SnapEntry). entry.time) ent
 -- the entry at a place is a peak where the place is a peak's
 pub peak-at : (entries : List SnapEntry) (k : ℕ) (d : SnapEntry) → k < length entries → is_peak_at entries k ≡ is_peak (get_or entries k d)
 peak-at entries k d inside = get_or-map is_peak entries k d false inside
+
+-- the same of the entry that is there
+pub time-of : (entries : List SnapEntry) (k : ℕ) (entry : SnapEntry) → slice_get entries k ≡ Some entry → slice_index (times entries) k ≡ entry.time
+time-of entries k entry here =
+    time-at entries k entry (slice_get_within entries k entry here) ∙ ap (λ (e : SnapEntry). e.time) (get_or_from_slice_get entries k entry entry here)
+
+pub peak-of : (entries : List SnapEntry) (k : ℕ) (entry : SnapEntry) → slice_get entries k ≡ Some entry → is_peak_at entries k ≡ is_peak entry
+peak-of entries k entry here =
+    peak-at entries k entry (slice_get_within entries k entry here) ∙ ap is_peak (get_or_from_slice_get entries k entry entry here)
+
+-- no later entry has an earlier time
+pub order-of : (entries : List SnapEntry) (i j : ℕ) (earlier later : SnapEntry) → AreSound entries → i < j → slice_get entries i ≡ Some earlier → slice_get entries j ≡ Some later → earlier.time ≤ later.time
+order-of entries i j earlier later sound less here there =
+    let order = sound.in_order i j earlier less (slice_get_within entries j later there) in
+    let first = get_or_from_slice_get entries i earlier earlier here in
+    let second = get_or_from_slice_get entries j later earlier there in
+    omega (arith, ap (λ (e : SnapEntry). e.time) first, ap (λ (e : SnapEntry). e.time) second)
 
 -- an entry that is neither first, last nor the peak may go
 pub may_go-inside : (entries : List SnapEntry) (k : ℕ) → 0 < k → k + 1 < length entries → is_peak_at entries k ≡ false → may_go entries k ≡ true
@@ -49,9 +67,18 @@ second-may_go entries sound long first =
     may_go-inside entries 2 (omega arith) (omega arith) (two ∙ second)
 
 -- the difference at a place is that of the times of the entries beside it
-pub gap-at : (entries : List SnapEntry) (k : ℕ) (d : SnapEntry) → 0 < k → k + 1 < length entries → (get_or entries (k + 1) d).time - (get_or entries (k - 1) d).time ≡ gap_at entries k
+pub gap-of :
+    (entries : List SnapEntry) (k i j : ℕ) (earlier later : SnapEntry)
+    → i + 1 ≡ k
+    → j ≡ k + 1
+    → slice_get entries i ≡ Some earlier
+    → slice_get entries j ≡ Some later
+    → later.time - earlier.time ≡ gap_at entries k
 unfolding gap_at
-gap-at entries k d low high = rw (time-at entries (k + 1) d (omega arith), time-at entries (k - 1) d (omega arith)) refl
+gap-of entries k i j earlier later before after here there =
+    ap (λ (t : ℕ). t - earlier.time) (sym (time-of entries j later there) ∙ ap (slice_index (times entries)) after)
+    ∙ ap (λ (t : ℕ). slice_index (times entries) (k + 1) - t)
+    (sym (time-of entries i earlier here) ∙ ap (slice_index (times entries)) {x = i} {y = k - 1} (omega arith))
 
 -- of the places below `other` that may go, `place` is the first with the least difference
 pub record IsFirstLeast (entries : List SnapEntry) (place other : ℕ) : Type 0 where

@@ -1,5 +1,5 @@
 -- What is left while entries are removed with their loads.
-use Rattle.std.proofs.Common.{◌≡◌, ℕ, ◌+◌, ◌-◌, ◌/◌, ◌^◌, ◌<◌, ◌≤◌, zero, suc, false, ◌&&◌, List, [], ◌∷◌, length, Option, inl, inr, refl, sym, ap, subst, ◌∙◌, arith}
+use Rattle.std.proofs.Common.{◌≡◌, ℕ, ◌+◌, ◌-◌, ◌/◌, ◌^◌, ◌<◌, ◌≤◌, zero, suc, false, ◌&&◌, List, [], ◌∷◌, length, map, Option, inl, inr, refl, sym, ap, subst, ◌∙◌, arith}
 use Rattle.std.specs.Prelude.{remove, slice_get, slice_index, Some, All}
 use Rattle.std.specs.Option.{option_map_or}
 use Rattle.std.proofs.lemmas.Bool.{cases_lt}
@@ -28,6 +28,13 @@ get-remove_above [] (suc p) k most = refl
 get-remove_above (x ∷ xs) zero k most = refl
 get-remove_above (x ∷ xs) (suc p) zero most = absurd (omega arith)
 get-remove_above (x ∷ xs) (suc p) (suc k) most = get-remove_above xs p k (omega arith)
+
+-- what is made of each element is made of those left
+pub map-remove : {X Y : Type 0} (f : X → Y) (xs : List X) (p : ℕ) → map f (remove xs p) ≡ remove (map f xs) p
+map-remove f [] zero = refl
+map-remove f [] (suc p) = refl
+map-remove f (x ∷ xs) zero = refl
+map-remove {X} {Y} f (x ∷ xs) (suc p) = ap (λ (ys : List Y). f x ∷ ys) (map-remove f xs p)
 
 -- what is true of each element is true of those left
 pub All-remove : {X : Type 0} (P : X → Type 0) (xs : List X) (p : ℕ) → p < length xs → All P xs → All P (remove xs p)
@@ -81,18 +88,12 @@ pub record AreLeft {T : Type 0} (rest : ℕ) (earlier : List SnapEntry) (earlier
   pub among : AreAmong earlier earlier_loads entries loads
 
 -- where an entry before the last goes, the last stays
-pub times-remove : (entries : List SnapEntry) (p : ℕ) → times (remove entries p) ≡ remove (times entries) p
-times-remove [] zero = refl
-times-remove [] (suc p) = refl
-times-remove (entry ∷ entries) zero = refl
-times-remove (entry ∷ entries) (suc p) = ap (λ (ts : List ℕ). entry.time ∷ ts) (times-remove entries p)
-
 pub last-remove : (entries : List SnapEntry) (p : ℕ) → p + 1 < length entries → last_time (remove entries p) ≡ last_time entries
 last-remove entries p inside =
     let long : length (times entries) ≡ length entries = length-map entries (λ (entry : SnapEntry). entry.time) in
     let shorter = length-remove entries p (omega arith) in
     let end : length (remove entries p) - 1 + 1 ≡ length entries - 1 = omega arith in
-    ap (λ (ts : List ℕ). slice_index ts (length (remove entries p) - 1)) (times-remove entries p)
+    ap (λ (ts : List ℕ). slice_index ts (length (remove entries p) - 1)) (map-remove (λ (entry : SnapEntry). entry.time) entries p)
     ∙ get_or-remove_above (times entries) p 0 (length (remove entries p) - 1) (omega arith) (omega arith)
     ∙ ap (slice_index (times entries)) end
 

@@ -1,9 +1,10 @@
 -- What linked snapshots hold, by their fields.
-use Rattle.std.specs.Prelude.{◌≡◌, ℕ, List, length, map, Option, None, IsSome}
+use Rattle.std.specs.Prelude.{◌≡◌, ℕ, ◌≤◌, List, length, map, Option, None, IsSome}
 use Rattle.std.specs.List.{slice_index_or, filter_map}
 use Rattle.massif_cull.specs.declared.snapshot.SnapEntry.{SnapEntry}
 use Rattle.massif_cull.specs.declared.linked.Held.{Held}
 use Rattle.massif_cull.specs.declared.linked.LinkedSnaps.TheInside.{Inside}
+use Rattle.massif_cull.specs.Entries.{end_peak}
 use Rattle.massif_cull.specs.Linked.{EachOf, AreBelow, AreDifferent}
 use Rattle.massif_cull.specs.SnapsState.{SnapsState}
 
@@ -30,3 +31,9 @@ pub record AreHeld {T : Type 0} (snaps : Inside T) : Type 0 where
   pub each : EachOf (λ place. IsSome (held_at snaps.slots.items place)) snaps.links.places
   pub different : AreDifferent snaps.links.places
   pub below : AreBelow snaps.links.max snaps.links.places
+  pub most : length snaps.links.places ≤ snaps.links.max
+  pub max_most : snaps.links.max ≤ 1000
+
+-- the snapshot once a later peak is taken
+abbrev pub ended : {T : Type 0} → Held T → Held T
+ended held = record held { entry = end_peak held.entry }

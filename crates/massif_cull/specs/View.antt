@@ -1,5 +1,5 @@
 -- How contracts see the fields of an array.
-use Rattle.std.specs.Prelude.{◌≡◌, length}
+use Rattle.std.specs.Prelude.{◌≡◌}
 use Rattle.massif_cull.specs.declared.array.SnapArray.TheInside.{Inside}
 use Rattle.massif_cull.specs.ArrayState.{ArrayState}
 
@@ -11,7 +11,6 @@ state_of array = record {
   loads = array.snaps.loads;
 }
 
--- there are as many places as the maximum says, and one is taken for each entry
-pub record IsBeside {T : Type 0} (array : Inside T) : Type 0 where
+-- there are as many places as the maximum says
+pub record IsAsLarge {T : Type 0} (array : Inside T) : Type 0 where
   pub max : array.snaps.max ≡ array.max
-  pub places : length array.snaps.places ≡ length array.snaps.entries

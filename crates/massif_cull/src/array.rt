@@ -1,6 +1,6 @@
 //! The array of snapshots: which offers it takes, and what it keeps of them.
 //! How entries are removed is in `removal`.
-ghost use Rattle.std.specs.Prelude.{◌≡◌, ◌+◌, ◌*◌, ◌/◌, ◌^◌, ◌<◌, ◌≤◌, List, [], ◌∷◌, ◌++◌, false, length, map, slice_get, Some, IfOk};
+ghost use Rattle.std.specs.Prelude.{◌≡◌, ◌+◌, ◌*◌, ◌/◌, ◌^◌, ◌<◌, ◌≤◌, List, [], ◌∷◌, ◌++◌, false, length, map, slice_get, Some, None, IfOk, IfSome};
 ghost use Rattle.massif_cull.specs.declared.snapshot.Offer.{Offer};
 ghost use Rattle.massif_cull.specs.Among.{AreAmong};
 ghost use Rattle.massif_cull.specs.ArrayState.{AreSound, IsSound};
@@ -13,7 +13,7 @@ ghost use Rattle.massif_cull.specs.KeptOf.{kept_of};
 ghost use Rattle.massif_cull.specs.Loads.{loads_cull, loads_bounded, loads_step};
 ghost use Rattle.massif_cull.specs.StandsFor.{StandsFor, held_of};
 
-use crate::linked::LinkedSnaps;
+use crate::linked::{Held, LinkedSnaps};
 use crate::snapshot::{Kind, Offer, SnapEntry, Taken};
 use hp_num::NoMemory;
 use std::alloc::Global;
@@ -44,11 +44,11 @@ impl<T: Drop> Model for SnapArray<T> {
 
     ghost Value = { ArrayState T };
 
-    ghost use Rattle.massif_cull.specs.View.{state_of, IsBeside};
+    ghost use Rattle.massif_cull.specs.View.{state_of, IsAsLarge};
 
     ghost view = { state_of };
 
-    ghost invariant = { λ array. IsSound (state_of array) × IsBeside array };
+    ghost invariant = { λ array. IsSound (state_of array) × IsAsLarge array };
 }
 
 impl<T: Drop> SnapArray<T> {
@@ -157,6 +157,24 @@ impl<T: Drop> SnapArray<T> {
         self.interval = self.snaps.cull();
     }
 
+    /// Takes the first snapshot out and gives it with its load, and None where none is held. It takes no memory.
+    ///
+    /// The array need stand for no list of offers from then on.
+    pub fn take_first(&mut self) -> Option<(SnapEntry, T)>
+        ensures settings { self.new.settings ≡ self.old.settings }
+        ensures kept { self.new.kept ≡ record self.old.kept { entries = self.new.kept.entries } }
+        ensures entry { IfSome result (λ taken. self.old.kept.entries ≡ taken.0 ∷ self.new.kept.entries) }
+        ensures load { IfSome result (λ taken. self.old.loads ≡ taken.1 ∷ self.new.loads) }
+        ensures none { result ≡ None → self.old.kept.entries ≡ [] }
+        ensures unchanged { result ≡ None → self.new ≡ self.old }
+    {
+        if self.snaps.len() == 0 {
+            return None;
+        }
+        let Held { entry, load } = self.snaps.remove(self.snaps.first());
+        Some((entry, load))
+    }
+
     /// The number of snapshots that are held.
     pub fn len(&self) -> u32
         ensures entries { result ≡ length self.now.kept.entries }
@@ -241,7 +259,6 @@ fn append<T: Drop>(
 ) -> u64
     requires max { 10 ≤ snaps.old.max }
     requires below_max { length snaps.old.entries < snaps.old.max }
-    requires places_beside { length snaps.old.places ≡ length snaps.old.entries }
     requires loads_beside { length snaps.old.loads ≡ length snaps.old.entries }
     requires interval { interval ≤ 2 ^ 62 }
     requires sound { AreSound (snaps.old.entries ++ entry ∷ []) }
@@ -253,7 +270,6 @@ fn append<T: Drop>(
     ensures last { last_time snaps.new.entries ≡ entry.time }
     ensures not_empty { 0 < length snaps.new.entries }
     ensures below_max { length snaps.new.entries < snaps.new.max }
-    ensures places_beside { length snaps.new.places ≡ length snaps.new.entries }
     ensures loads_beside { length snaps.new.loads ≡ length snaps.new.entries }
     ensures sound { AreSound snaps.new.entries }
     ensures among { AreAmong (snaps.old.entries ++ entry ∷ []) (snaps.old.loads ++ load ∷ []) snaps.new.entries snaps.new.loads }

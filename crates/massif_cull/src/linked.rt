@@ -3,6 +3,7 @@
 ghost use Rattle.std.specs.Prelude.{◌≡◌, ◌+◌, ◌-◌, ◌<◌, ◌≤◌, [], ◌∷◌, ◌++◌, length, map, slice_get, remove, Some, IfOk, IfSome};
 ghost use Rattle.std.specs.Option.{option_map};
 ghost use Rattle.massif_cull.specs.Entries.{end_peak};
+ghost use Rattle.massif_cull.specs.Held.{ended};
 ghost use Rattle.massif_cull.specs.SnapsState.{IsSpot};
 
 use crate::links::Links;
@@ -54,11 +55,10 @@ impl<T: Drop> LinkedSnaps<T> {
 
     /// Appends a snapshot. Fewer than `max` must be held.
     pub fn push(&mut self, entry: SnapEntry, load: T)
-        requires { length self.old.places < self.old.max }
+        requires { length self.old.entries < self.old.max }
         ensures max { self.new.max ≡ self.old.max }
         ensures entries { self.new.entries ≡ self.old.entries ++ entry ∷ [] }
         ensures loads { self.new.loads ≡ self.old.loads ++ load ∷ [] }
-        ensures beside { length self.new.places ≡ length self.new.entries }
     {
         let place = self.links.push();
         self.slots[place as usize] = Some(Held { entry, load });
@@ -71,7 +71,6 @@ impl<T: Drop> LinkedSnaps<T> {
         ensures places { self.new.places ≡ remove self.old.places spot.index }
         ensures entries { self.new.entries ≡ remove self.old.entries spot.index }
         ensures loads { self.new.loads ≡ remove self.old.loads spot.index }
-        ensures beside { length self.new.places ≡ length self.new.entries }
         ensures entry { slice_get self.old.entries spot.index ≡ Some result.entry }
         ensures load { slice_get self.old.loads spot.index ≡ Some result.load }
     {
@@ -81,7 +80,6 @@ impl<T: Drop> LinkedSnaps<T> {
 
     /// The number of snapshots.
     pub fn len(&self) -> u32
-        ensures places { result ≡ length self.now.places }
         ensures entries { result ≡ length self.now.entries }
         ensures loads { result ≡ length self.now.loads }
         ensures most { result ≤ self.now.max }
@@ -98,26 +96,25 @@ impl<T: Drop> LinkedSnaps<T> {
 
     /// Where the first one stands. One must be held.
     pub fn first(&self) -> Spot
-        requires { 0 < length self.now.places }
+        requires { 0 < length self.now.entries }
         ensures spot { IsSpot self.now result }
         ensures index { result.index ≡ 0 }
     {
-        Spot {
-            index: 0,
-            place: self.links.first().unwrap(),
-        }
+        let place = self.links.first().unwrap();
+        Spot { index: 0, place }
     }
 
     /// Where the next one stands. The spot must not be the last.
     pub fn after(&self, spot: Spot) -> Spot
         requires spot { IsSpot self.now spot }
-        requires inside { spot.index + 1 < length self.now.places }
+        requires inside { spot.index + 1 < length self.now.entries }
         ensures spot { IsSpot self.now result }
         ensures index { result.index ≡ spot.index + 1 }
     {
+        let place = self.links.next(spot.place).unwrap();
         Spot {
             index: spot.index + 1,
-            place: self.links.next(spot.place).unwrap(),
+            place,
         }
     }
 
@@ -128,15 +125,16 @@ impl<T: Drop> LinkedSnaps<T> {
         ensures spot { IsSpot self.now result }
         ensures index { result.index + 1 ≡ spot.index }
     {
+        let place = self.links.prev(spot.place).unwrap();
         Spot {
             index: spot.index - 1,
-            place: self.links.prev(spot.place).unwrap(),
+            place,
         }
     }
 
     /// Where the one stands before which `index` stand.
     pub fn spot(&self, index: u32) -> Spot
-        requires { index < length self.now.places }
+        requires { index < length self.now.entries }
         ensures spot { IsSpot self.now result }
         ensures index { result.index ≡ index }
     {
@@ -167,13 +165,9 @@ impl<T: Drop> LinkedSnaps<T> {
     pub fn last(&self) -> Option<SnapEntry>
         ensures { result ≡ slice_get self.now.entries (length self.now.entries - 1) }
     {
-        match self.len() {
-            0 => None,
-            len => Some(self.entry(Spot {
-                index: len - 1,
-                place: self.links.last().unwrap(),
-            })),
-        }
+        let place = self.links.last()?;
+        let index = self.len() - 1;
+        Some(self.entry(Spot { index, place }))
     }
 
     fn held(&self, spot: Spot) -> &Held<T>
@@ -191,9 +185,7 @@ impl<T: Drop> LinkedSnaps<T> {
         ensures entries { self.new.entries ≡ map end_peak self.old.entries }
         ensures loads { self.new.loads ≡ self.old.loads }
     {
-        'slots: for slot in self.slots.iter_mut() {
-            end_peak_at(slot);
-        }
+        end_peaks_at(&mut self.slots);
     }
 }
 
@@ -208,9 +200,18 @@ fn empty_slots<T: Drop>(alloc: Global, count: usize) -> Result<Vec<Option<Held<T
     Ok(slots)
 }
 
+/// Makes what stands at each slot a normal entry, where it is a peak.
+fn end_peaks_at<T: Drop>(slots: &mut Vec<Option<Held<T>>>)
+    ensures { slots.new.items ≡ map (option_map ended) slots.old.items }
+{
+    'slots: for slot in slots.iter_mut() {
+        end_peak_at(slot);
+    }
+}
+
 /// Makes what stands there a normal entry, where it is a peak.
 fn end_peak_at<T: Drop>(slot: &mut Option<Held<T>>)
-    ensures { slot.new ≡ option_map (λ held. record held { entry = end_peak held.entry }) slot.old }
+    ensures { slot.new ≡ option_map ended slot.old }
 {
     if let Some(held) = slot {
         held.entry.kind = after_peak(held.entry.kind);

@@ -26,7 +26,6 @@ impl<T: Drop> LinkedSnaps<T> {
         ensures interval_most { result ≤ 2 ^ 62 }
         ensures length { length self.new.entries + length self.old.entries / 2 ≡ length self.old.entries }
         ensures loads_beside { length self.new.loads ≡ length self.new.entries }
-        ensures places_beside { length self.new.places ≡ length self.new.entries }
         ensures sound_still { AreSound self.new.entries }
         ensures last { last_time self.new.entries ≡ last_time self.old.entries }
         ensures among { AreAmong self.old.entries self.old.loads self.new.entries self.new.loads }

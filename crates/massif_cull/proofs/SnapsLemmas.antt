@@ -1,0 +1,168 @@
+-- What contracts see of linked snapshots, by their fields, before and after a call.
+use Rattle.std.proofs.Common.{◌≡◌, ℕ, ◌+◌, ◌-◌, ◌<◌, ◌≤◌, List, [], ◌∷◌, ◌++◌, length, map, set, get_or, Option, refl, sym, ap, subst, ◌∙◌, arith}
+use Rattle.std.specs.Prelude.{slice_get, remove, Contains, Some, None, IsSome, is_some}
+use Rattle.std.specs.Option.{option_map}
+use Rattle.std.proofs.lemmas.List.{get_or_default, length-map, map-append, length-set, length_push}
+use Rattle.std.proofs.lemmas.List.Edits.{length-remove}
+use Rattle.std.proofs.lemmas.Simd.{map-map}
+use Rattle.std.proofs.lemmas.Option.{slice_get-map, slice_get_within, slice_get-get_or, get_or_from_slice_get}
+use Rattle.massif_cull.specs.declared.snapshot.SnapEntry.{SnapEntry}
+use Rattle.massif_cull.specs.declared.linked.Held.{Held}
+use Rattle.massif_cull.specs.declared.linked.LinkedSnaps.TheInside.{Inside}
+use Rattle.massif_cull.specs.Entries.{end_peak}
+use Rattle.massif_cull.specs.Linked.{EachOf, IsOutside, AreDifferent, AreBelow}
+use Rattle.massif_cull.specs.LinksState.{LinksState}
+use Rattle.massif_cull.specs.Held.{held_at, held_in, snaps_of, AreHeld, ended}
+use Rattle.massif_cull.proofs.Linking.{each-append, each-at, each-remove, different-pop}
+use Rattle.massif_cull.proofs.HeldLemmas.{AreTaken, some-of, length-held, held-at, held-push, taken-push, held-remove, taken-remove, held-ended, taken-ended}
+use Rattle.massif_cull.proofs.Removals.{map-remove}
+
+-- the place of a spot is one of the list
+pub contains-at : (places : List ℕ) (k p : ℕ) → slice_get places k ≡ Some p → Contains places p
+contains-at places k p at = (k, slice_get_within places k p at, get_or_from_slice_get places k p p at)
+
+-- within a list there is something
+pub some-inside : (xs : List ℕ) (k : ℕ) (o : Option ℕ) → o ≡ slice_get xs k → k < length xs → IsSome o
+some-inside xs k o is inside = ap is_some (is ∙ slice_get-get_or xs k 0 inside)
+
+-- where one list ends, another of its length does
+pub none-last : {X Y : Type 0} (xs : List X) (ys : List Y) → length xs ≡ length ys → slice_get ys (length ys - 1) ≡ None → None ≡ slice_get xs (length xs - 1)
+none-last [] ys same none = refl
+none-last (x ∷ xs) [] same none = absurd (omega arith)
+none-last (x ∷ xs) (y ∷ ys) same none =
+    absurd (let some = slice_get-get_or (y ∷ ys) (length (y ∷ ys) - 1) y (omega arith) in cc)
+
+-- for each place there is an entry, and a load
+pub entries-beside : {T : Type 0} (snaps : Inside T) → AreHeld snaps → length (snaps_of snaps).entries ≡ length snaps.links.places
+entries-beside snaps is = length-map (held_in snaps.slots.items snaps.links.places) (λ held. held.entry) ∙ length-held snaps.slots.items snaps.links.places is.each
+
+pub loads-beside : {T : Type 0} (snaps : Inside T) → AreHeld snaps → length (snaps_of snaps).loads ≡ length snaps.links.places
+loads-beside snaps is = length-map (held_in snaps.slots.items snaps.links.places) (λ held. held.load) ∙ length-held snaps.slots.items snaps.links.places is.each
+
+-- what is read of a slot stands there
+pub slot-there : {T : Type 0} (slots : List (Option (Held T))) (p : ℕ) (x : Option (Held T)) → p < length slots → x ≡ get_or slots p x → held_at slots p ≡ x
+slot-there slots p x inside e = get_or_default slots p None x inside ∙ sym e
+
+-- what stands at a spot
+pub held-there : {T : Type 0} (snaps : Inside T) (k p : ℕ) → AreHeld snaps → slice_get snaps.links.places k ≡ Some p → (held : Held T) × (held_at snaps.slots.items p ≡ Some held)
+held-there snaps k p is at = some-of (held_at snaps.slots.items p) (each-at (λ place. IsSome (held_at snaps.slots.items place)) snaps.links.places k p at is.each)
+
+pub place-inside : {T : Type 0} (snaps : Inside T) (k p : ℕ) → AreHeld snaps → slice_get snaps.links.places k ≡ Some p → p < length snaps.slots.items
+place-inside snaps k p is at = omega (arith, each-at (λ place. place < snaps.links.max) snaps.links.places k p at is.below, is.slots)
+
+pub entry-there : {T : Type 0} (snaps : Inside T) (k p : ℕ) (held : Held T) → AreHeld snaps → slice_get snaps.links.places k ≡ Some p → held_at snaps.slots.items p ≡ Some held → slice_get (snaps_of snaps).entries k ≡ Some held.entry
+entry-there {T} snaps k p held is at there =
+    slice_get-map (λ h. h.entry) (held_in snaps.slots.items snaps.links.places) k
+    ∙ ap (option_map (λ (h : Held T). h.entry)) (held-at snaps.slots.items snaps.links.places k p is.each at ∙ there)
+
+pub load-there : {T : Type 0} (snaps : Inside T) (k p : ℕ) (held : Held T) → AreHeld snaps → slice_get snaps.links.places k ≡ Some p → held_at snaps.slots.items p ≡ Some held → slice_get (snaps_of snaps).loads k ≡ Some held.load
+load-there {T} snaps k p held is at there =
+    slice_get-map (λ h. h.load) (held_in snaps.slots.items snaps.links.places) k
+    ∙ ap (option_map (λ (h : Held T). h.load)) (held-at snaps.slots.items snaps.links.places k p is.each at ∙ there)
+
+-- ---- one more
+
+pub record IsGrown {T : Type 0} (snaps new : Inside T) (place : ℕ) (held : Held T) : Type 0 where
+  pub same_max : new.links.max ≡ snaps.links.max
+  pub places : new.links.places ≡ snaps.links.places ++ place ∷ []
+  pub different : AreDifferent new.links.places
+  pub below : place < snaps.links.max
+  pub room : length snaps.links.places < snaps.links.max
+  pub slots : new.slots.items ≡ set snaps.slots.items place (Some held)
+
+grown-outside : {T : Type 0} (snaps new : Inside T) (place : ℕ) (held : Held T) → IsGrown snaps new place held → IsOutside place snaps.links.places
+grown-outside snaps new place held grown = (different-pop snaps.links.places place (subst AreDifferent grown.places grown.different)).0
+
+-- what is held then
+grown-held : {T : Type 0} (snaps new : Inside T) (place : ℕ) (held : Held T) → AreHeld snaps → IsGrown snaps new place held → held_in new.slots.items new.links.places ≡ held_in snaps.slots.items snaps.links.places ++ held ∷ []
+grown-held {T} snaps new place held is grown =
+    ap (λ (slots : List (Option (Held T))). held_in slots new.links.places) grown.slots
+    ∙ ap (held_in (set snaps.slots.items place (Some held))) grown.places
+    ∙ held-push snaps.slots.items snaps.links.places place held (grown-outside snaps new place held grown) (omega (arith, grown.below, is.slots))
+
+pub grown-entries : {T : Type 0} (snaps new : Inside T) (place : ℕ) (held : Held T) → AreHeld snaps → IsGrown snaps new place held → (snaps_of new).entries ≡ (snaps_of snaps).entries ++ held.entry ∷ []
+grown-entries {T} snaps new place held is grown =
+    ap (map (λ (h : Held T). h.entry)) (grown-held snaps new place held is grown) ∙ map-append (λ (h : Held T). h.entry) (held_in snaps.slots.items snaps.links.places) (held ∷ [])
+
+pub grown-loads : {T : Type 0} (snaps new : Inside T) (place : ℕ) (held : Held T) → AreHeld snaps → IsGrown snaps new place held → (snaps_of new).loads ≡ (snaps_of snaps).loads ++ held.load ∷ []
+grown-loads {T} snaps new place held is grown =
+    ap (map (λ (h : Held T). h.load)) (grown-held snaps new place held is grown) ∙ map-append (λ (h : Held T). h.load) (held_in snaps.slots.items snaps.links.places) (held ∷ [])
+
+pub grown-stays : {T : Type 0} (snaps new : Inside T) (place : ℕ) (held : Held T) → AreHeld snaps → IsGrown snaps new place held → AreHeld new
+grown-stays {T} snaps new place held is grown =
+    let taken = taken-push snaps.slots.items snaps.links.places place held (grown-outside snaps new place held grown) (omega (arith, grown.below, is.slots)) is.each in
+    let below = each-append (λ p. p < snaps.links.max) snaps.links.places (place ∷ []) is.below (grown.below, tt) in
+    record {
+      slots = ap length grown.slots ∙ length-set snaps.slots.items place (Some held) ∙ is.slots ∙ sym grown.same_max;
+      each = subst (λ (slots : List (Option (Held T))). AreTaken slots new.links.places) (sym grown.slots)
+          (subst (AreTaken (set snaps.slots.items place (Some held))) (sym grown.places) taken);
+      different = grown.different;
+      below = subst (λ (max : ℕ). AreBelow max new.links.places) (sym grown.same_max) (subst (AreBelow snaps.links.max) (sym grown.places) below);
+      most = omega (arith, ap length grown.places, length_push snaps.links.places place, grown.room, grown.same_max);
+      max_most = omega (arith, is.max_most, grown.same_max);
+    }
+
+-- ---- one fewer
+
+pub record IsShrunk {T : Type 0} (snaps new : Inside T) (k place : ℕ) : Type 0 where
+  pub same_max : new.links.max ≡ snaps.links.max
+  pub at : slice_get snaps.links.places k ≡ Some place
+  pub places : new.links.places ≡ remove snaps.links.places k
+  pub different : AreDifferent new.links.places
+  pub slots : new.slots.items ≡ set snaps.slots.items place None
+
+shrunk-held : {T : Type 0} (snaps new : Inside T) (k place : ℕ) → AreHeld snaps → IsShrunk snaps new k place → held_in new.slots.items new.links.places ≡ remove (held_in snaps.slots.items snaps.links.places) k
+shrunk-held {T} snaps new k place is shrunk =
+    ap (λ (slots : List (Option (Held T))). held_in slots new.links.places) shrunk.slots
+    ∙ ap (held_in (set snaps.slots.items place None)) shrunk.places
+    ∙ held-remove snaps.slots.items snaps.links.places k place shrunk.at is.different is.each
+
+pub shrunk-entries : {T : Type 0} (snaps new : Inside T) (k place : ℕ) → AreHeld snaps → IsShrunk snaps new k place → (snaps_of new).entries ≡ remove (snaps_of snaps).entries k
+shrunk-entries {T} snaps new k place is shrunk =
+    ap (map (λ (h : Held T). h.entry)) (shrunk-held snaps new k place is shrunk) ∙ map-remove (λ (h : Held T). h.entry) (held_in snaps.slots.items snaps.links.places) k
+
+pub shrunk-loads : {T : Type 0} (snaps new : Inside T) (k place : ℕ) → AreHeld snaps → IsShrunk snaps new k place → (snaps_of new).loads ≡ remove (snaps_of snaps).loads k
+shrunk-loads {T} snaps new k place is shrunk =
+    ap (map (λ (h : Held T). h.load)) (shrunk-held snaps new k place is shrunk) ∙ map-remove (λ (h : Held T). h.load) (held_in snaps.slots.items snaps.links.places) k
+
+pub shrunk-stays : {T : Type 0} (snaps new : Inside T) (k place : ℕ) → AreHeld snaps → IsShrunk snaps new k place → AreHeld new
+shrunk-stays {T} snaps new k place is shrunk =
+    let taken = taken-remove snaps.slots.items snaps.links.places k place shrunk.at is.different is.each in
+    let below = each-remove (λ p. p < snaps.links.max) snaps.links.places k is.below in
+    record {
+      slots = ap length shrunk.slots ∙ length-set snaps.slots.items place None ∙ is.slots ∙ sym shrunk.same_max;
+      each = subst (λ (slots : List (Option (Held T))). AreTaken slots new.links.places) (sym shrunk.slots)
+          (subst (AreTaken (set snaps.slots.items place None)) (sym shrunk.places) taken);
+      different = shrunk.different;
+      below = subst (λ (max : ℕ). AreBelow max new.links.places) (sym shrunk.same_max) (subst (AreBelow snaps.links.max) (sym shrunk.places) below);
+      most = omega (arith, ap length shrunk.places, length-remove snaps.links.places k (slice_get_within snaps.links.places k place shrunk.at), is.most, shrunk.same_max);
+      max_most = omega (arith, is.max_most, shrunk.same_max);
+    }
+
+-- ---- a later peak
+
+pub ended-entries : {T : Type 0} (snaps new : Inside T) → new.links ≡ snaps.links → new.slots.items ≡ map (option_map ended) snaps.slots.items → (snaps_of new).entries ≡ map end_peak (snaps_of snaps).entries
+ended-entries {T} snaps new same slots =
+    ap (λ (ss : List (Option (Held T))). map (λ (h : Held T). h.entry) (held_in ss new.links.places)) slots
+    ∙ ap (λ (links : LinksState). map (λ (h : Held T). h.entry) (held_in (map (option_map ended) snaps.slots.items) links.places)) same
+    ∙ ap (map (λ (h : Held T). h.entry)) (held-ended snaps.slots.items snaps.links.places)
+    ∙ map-map (λ (h : Held T). h.entry) ended (held_in snaps.slots.items snaps.links.places)
+    ∙ sym (map-map end_peak (λ (h : Held T). h.entry) (held_in snaps.slots.items snaps.links.places))
+
+pub ended-loads : {T : Type 0} (snaps new : Inside T) → new.links ≡ snaps.links → new.slots.items ≡ map (option_map ended) snaps.slots.items → (snaps_of new).loads ≡ (snaps_of snaps).loads
+ended-loads {T} snaps new same slots =
+    ap (λ (ss : List (Option (Held T))). map (λ (h : Held T). h.load) (held_in ss new.links.places)) slots
+    ∙ ap (λ (links : LinksState). map (λ (h : Held T). h.load) (held_in (map (option_map ended) snaps.slots.items) links.places)) same
+    ∙ ap (map (λ (h : Held T). h.load)) (held-ended snaps.slots.items snaps.links.places)
+    ∙ map-map (λ (h : Held T). h.load) ended (held_in snaps.slots.items snaps.links.places)
+
+pub ended-stays : {T : Type 0} (snaps new : Inside T) → AreHeld snaps → new.links ≡ snaps.links → new.slots.items ≡ map (option_map ended) snaps.slots.items → AreHeld new
+ended-stays {T} snaps new is same slots = record {
+  slots = ap length slots ∙ length-map snaps.slots.items (option_map ended) ∙ is.slots ∙ ap (λ (links : LinksState). links.max) (sym same);
+  each = subst (λ (ss : List (Option (Held T))). AreTaken ss new.links.places) (sym slots)
+      (subst (λ (links : LinksState). AreTaken (map (option_map ended) snaps.slots.items) links.places) (sym same) (taken-ended snaps.slots.items snaps.links.places is.each));
+  different = subst (λ (links : LinksState). AreDifferent links.places) (sym same) is.different;
+  below = subst (λ (links : LinksState). AreBelow links.max links.places) (sym same) is.below;
+  most = subst (λ (links : LinksState). length links.places ≤ links.max) (sym same) is.most;
+  max_most = subst (λ (links : LinksState). links.max ≤ 1000) (sym same) is.max_most;
+}

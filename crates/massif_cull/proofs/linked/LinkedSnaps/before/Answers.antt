@@ -1,0 +1,20 @@
+use Rattle.std.proofs.Common.{◌≡◌, ℕ, ◌+◌, ◌-◌, ap, sym, ◌∙◌, arith}
+use Rattle.std.specs.Prelude.{slice_get}
+use Rattle.std.proofs.lemmas.Option.{slice_get_within}
+use Rattle.massif_cull.proofs.SnapsLemmas.{some-inside}
+use Rattle.massif_cull.proofs.linked.LinkedSnaps.before.Goals as goal
+
+pub unwrap-place-requires : goal.unwrap-place-requires
+unwrap-place-requires g c =
+    let here = rw (← c.self.view_is) at c.requires.spot in
+    let same : c.args.spot.index - 1 + 1 ≡ c.args.spot.index = omega (arith, c.requires.inside) in
+    let within = slice_get_within c.self.inside.links.places c.args.spot.index c.args.spot.place here in
+    some-inside c.self.inside.links.places (c.args.spot.index - 1) _
+    (c.prev.ensures.place (c.args.spot.index - 1) (ap (slice_get c.self.inside.links.places) same ∙ here)) (omega arith)
+
+pub returns-clause-spot : goal.returns-clause-spot
+returns-clause-spot g c =
+    let here = rw (← c.self.view_is) at c.requires.spot in
+    let same : c.args.spot.index - 1 + 1 ≡ c.args.spot.index = omega (arith, c.requires.inside) in
+    rw (← c.self.view_is)
+    (sym (c.prev.ensures.place (c.args.spot.index - 1) (ap (slice_get c.self.inside.links.places) same ∙ here)) ∙ c.unwrap-place.ensures)
