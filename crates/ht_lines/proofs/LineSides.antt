@@ -107,9 +107,68 @@ module _ (form : Form) (version : ℕ) (rest : List ℕ) (ends : IsTrue (field_e
   abbrev KindSides : ℕ → Type 0
   KindSides kind = is_foreign form kind ≡ false → Sides form version (kind ∷ rest) (reading_kind form version kind rest)
 
-  each_kind : AllByRecursion KindSides kinds
+  version_kind : KindSides 118
   unfolding reading_kind
-  each_kind = ((λ native. line-sides form version (118 ∷ rest) _ _ (version_of (fields rest)) (version-sound (fields rest)) versions-said (λ fault r. in_version (of_kind 118 rest ends) r)), ((λ native. (of_kind 120 rest ends, text_of-IsText version (drop 1 rest))), ((λ native. (of_kind 88 rest ends, text_of-IsText version (drop 1 rest))), ((λ native. (of_kind 83 rest ends, text_of-IsText version (drop 1 rest))), ((λ native. say-sides form version (73 ∷ rest) _ _ (λ x. system_line x.0 x.1) (two_numbers (fields rest)) (two_numbers-sound (fields rest)) (λ x a. (of_kind 73 rest ends, a)) (λ fault r. in_system (of_kind 73 rest ends) r)), ((λ native. (of_kind 115 rest ends, text_of-IsText version (drop 1 rest), own_kind form 115 refl native)), ((λ native. module-by (module_name version rest) refl), ((λ native. line-sides form version (105 ∷ rest) _ _ (instruction_of (fields rest)) (instruction-sound (fields rest)) (instruction-said (own_kind form 105 refl native)) (λ fault r. in_instruction (own_kind form 105 refl native) (of_kind 105 rest ends) r)), ((λ native. say-sides form version (116 ∷ rest) _ _ (λ x. node_line x.0 x.1) (two_numbers (fields rest)) (two_numbers-sound (fields rest)) (λ x a. (of_kind 116 rest ends, a)) (λ fault r. in_node (of_kind 116 rest ends) r)), ((λ native. say-sides form version (97 ∷ rest) _ _ (λ x. info_line x.0 x.1) (two_numbers (fields rest)) (two_numbers-sound (fields rest)) (λ x a. (of_kind 97 rest ends, a, own_kind form 97 refl native)) (λ fault r. in_info (own_kind form 97 refl native) (of_kind 97 rest ends) r)), ((λ native. allocation-sides version rest ends form), ((λ native. free-sides version rest ends form), ((λ native. line-sides form version (99 ∷ rest) _ _ (clock_from (one_number (fields rest))) (clock-sound (fields rest)) clock-said (λ fault r. in_clock (of_kind 99 rest ends) r)), ((λ native. say-sides form version (82 ∷ rest) _ _ resident_line (one_number (fields rest)) (one_number-sound (fields rest)) (λ x a. (of_kind 82 rest ends, a)) (λ fault r. in_resident (of_kind 82 rest ends) r)), ((λ native. of_kind 65 rest ends), tt)))))))))))))))
+  version_kind native = line-sides form version (118 ∷ rest) _ _ (version_of (fields rest)) (version-sound (fields rest)) versions-said (λ fault r. in_version (of_kind 118 rest ends) r)
+
+  system_kind : KindSides 73
+  unfolding reading_kind
+  system_kind native = say-sides form version (73 ∷ rest) _ _ (λ x. system_line x.0 x.1) (two_numbers (fields rest)) (two_numbers-sound (fields rest)) (λ x a. (of_kind 73 rest ends, a)) (λ fault r. in_system (of_kind 73 rest ends) r)
+
+  instruction_kind : KindSides 105
+  unfolding reading_kind
+  instruction_kind native = line-sides form version (105 ∷ rest) _ _ (instruction_of (fields rest)) (instruction-sound (fields rest)) (instruction-said (own_kind form 105 refl native)) (λ fault r. in_instruction (own_kind form 105 refl native) (of_kind 105 rest ends) r)
+
+  node_kind : KindSides 116
+  unfolding reading_kind
+  node_kind native = say-sides form version (116 ∷ rest) _ _ (λ x. node_line x.0 x.1) (two_numbers (fields rest)) (two_numbers-sound (fields rest)) (λ x a. (of_kind 116 rest ends, a)) (λ fault r. in_node (of_kind 116 rest ends) r)
+
+  info_kind : KindSides 97
+  unfolding reading_kind
+  info_kind native = say-sides form version (97 ∷ rest) _ _ (λ x. info_line x.0 x.1) (two_numbers (fields rest)) (two_numbers-sound (fields rest)) (λ x a. (of_kind 97 rest ends, a, own_kind form 97 refl native)) (λ fault r. in_info (own_kind form 97 refl native) (of_kind 97 rest ends) r)
+
+  clock_kind : KindSides 99
+  unfolding reading_kind
+  clock_kind native = line-sides form version (99 ∷ rest) _ _ (clock_from (one_number (fields rest))) (clock-sound (fields rest)) clock-said (λ fault r. in_clock (of_kind 99 rest ends) r)
+
+  resident_kind : KindSides 82
+  unfolding reading_kind
+  resident_kind native = say-sides form version (82 ∷ rest) _ _ resident_line (one_number (fields rest)) (one_number-sound (fields rest)) (λ x a. (of_kind 82 rest ends, a)) (λ fault r. in_resident (of_kind 82 rest ends) r)
+
+  executable_kind : KindSides 120
+  unfolding reading_kind
+  executable_kind native = (of_kind 120 rest ends, text_of-IsText version (drop 1 rest))
+
+  command_kind : KindSides 88
+  unfolding reading_kind
+  command_kind native = (of_kind 88 rest ends, text_of-IsText version (drop 1 rest))
+
+  suppression_kind : KindSides 83
+  unfolding reading_kind
+  suppression_kind native = (of_kind 83 rest ends, text_of-IsText version (drop 1 rest))
+
+  string_kind : KindSides 115
+  unfolding reading_kind
+  string_kind native = (of_kind 115 rest ends, text_of-IsText version (drop 1 rest), own_kind form 115 refl native)
+
+  module_kind : KindSides 109
+  unfolding reading_kind
+  module_kind native = module-by (module_name version rest) refl
+
+  allocation_kind : KindSides 43
+  unfolding reading_kind
+  allocation_kind native = allocation-sides version rest ends form
+
+  free_kind : KindSides 45
+  unfolding reading_kind
+  free_kind native = free-sides version rest ends form
+
+  attached_kind : KindSides 65
+  unfolding reading_kind
+  attached_kind native = of_kind 65 rest ends
+
+  each_kind : AllByRecursion KindSides kinds
+  each_kind = (version_kind, (executable_kind, (command_kind, (suppression_kind, (system_kind, (string_kind, (module_kind, (instruction_kind, (node_kind, (info_kind, (allocation_kind, (free_kind, (clock_kind, (resident_kind, (attached_kind, tt)))))))))))))))
 
 -- one of the kinds
 
