@@ -1,19 +1,18 @@
 -- How an event keeps the ledger's fields consistent.
-use Rattle.std.proofs.Common.{◌≡◌, ◌≢◌, ℕ, ◌+◌, ◌-◌, ◌^◌, ◌<◌, ◌≤◌, List, [], ◌∷◌, ◌++◌, length, set, map, Bool, true, false, refl, inl, inr, sym, ap, subst, ◌∙◌, arith}
-use Rattle.std.specs.Prelude.{◌==◌, sum_by, slice_index}
+use Rattle.std.proofs.Common.{◌≡◌, ◌≢◌, ℕ, ◌+◌, ◌-◌, ◌^◌, ◌<◌, ◌≤◌, List, [], ◌∷◌, ◌++◌, length, set, map, true, false, refl, inl, inr, sym, ap, subst, ◌∙◌, arith}
+use Rattle.std.specs.Prelude.{sum_by, slice_index}
 use Rattle.std.specs.List.{All}
 use Rattle.std.proofs.lemmas.Bool.Decides.{eqb_tells}
 use Rattle.std.proofs.lemmas.List.{length-set, length_push}
-use Rattle.std.proofs.lemmas.List.Elements.{All-push, All-weaker}
+use Rattle.std.proofs.lemmas.List.Elements.{All-weaker}
 use Rattle.std.proofs.lemmas.List.Sums.{sum_by_push}
 use Rattle.std.proofs.Math.Seq.{map-set_same}
-use Rattle.std.proofs.lemmas.List.{map-append}
 use Rattle.live_ledger.specs.declared.ledger.InfoEntry.{InfoEntry}
 use Rattle.live_ledger.specs.declared.sums.Sums.{Sums}
 use Rattle.live_ledger.specs.Consistent.{AreConsistent, AreSumsOf, Balances, any_entry, blocks_of, blocks_where, calls_where, is_of, stack_of, sums_at}
 use Rattle.live_ledger.specs.Sums.{no_sums, with_alloc, with_free}
 use Rattle.live_ledger.proofs.Entries.{IsEntry, IsOwn, entry-in_sum, number-at, one_fewer, one_more, own-at, own-in_total, own-others, own-push, own-written, total-after}
-use Rattle.live_ledger.proofs.Balances.{balance-alloc, balance-free, balance-live, balance-others, balance-push}
+use Rattle.live_ledger.proofs.Balances.{balance-alloc, balance-free, balance-live, balance-others}
 
 -- the sums of all stacks after those of one are written
 sums-written :

@@ -1,6 +1,6 @@
 -- What contracts see of the ledger's fields.
-use Rattle.std.proofs.Common.{◌≡◌, ◌≢◌, ℕ, ◌+◌, ◌-◌, ◌^◌, ◌<◌, ◌≤◌, List, [], ◌∷◌, ◌++◌, length, get_or, set, map, Option, Bool, cond, refl, inl, inr, sym, ap, subst, ◌∙◌, arith}
-use Rattle.std.specs.Prelude.{nat_eq, nat_lt, ◌==◌, if◌then◌else◌, slice_get, slice_index, sum, sum_by, Some, None}
+use Rattle.std.proofs.Common.{◌≡◌, ◌≢◌, ℕ, ◌+◌, ◌-◌, ◌^◌, ◌<◌, ◌≤◌, List, [], ◌∷◌, ◌++◌, length, get_or, set, map, Option, cond, refl, inl, inr, sym, ap, subst, ◌∙◌, arith}
+use Rattle.std.specs.Prelude.{nat_eq, nat_lt, ◌==◌, if◌then◌else◌, slice_get, slice_index, sum_by, Some, None}
 use Rattle.std.specs.List.{All}
 use Rattle.std.specs.Option.{option_eq}
 use Rattle.std.proofs.lemmas.Bool.{cases_lt}
@@ -17,13 +17,13 @@ use Rattle.live_ledger.specs.declared.figures.Figures.{Figures}
 use Rattle.live_ledger.specs.declared.ledger.InfoEntry.{InfoEntry}
 use Rattle.live_ledger.specs.declared.sums.Sums.{Sums}
 use Rattle.live_ledger.specs.LedgerState.{HeldInfo, LedgerState, figures_at, no_figures}
-use Rattle.live_ledger.specs.Changes.{Allocates, Frees, GainsBlock, LosesBlock, ended_by_free}
+use Rattle.live_ledger.specs.Changes.{Allocates, Frees, GainsBlock, LosesBlock}
 use Rattle.live_ledger.specs.Consistent.{AreConsistent, AreSumsOf, any_entry, blocks_of, calls_of, info_of, is_of, stack_of, sums_at}
 use Rattle.live_ledger.specs.Faults.{fault_at}
 use Rattle.live_ledger.specs.Sound.{AreSums, AreWithin, IsSound}
 use Rattle.live_ledger.specs.Sums.{IsPaired, figures_of, no_sums, totals_of, with_alloc, with_free}
 use Rattle.live_ledger.proofs.Balances.{balance-paired}
-use Rattle.live_ledger.proofs.Consistency.{FreeFits, free-fits_own, free-fits_whole}
+use Rattle.live_ledger.proofs.Consistency.{free-fits_own, free-fits_whole}
 use Rattle.live_ledger.proofs.Entries.{IsEntry, IsOwn, entry-info, entry-within, number-at, number-at_others, number-at_set, one_fewer, one_more, own-at, own-others, own-push, own-written}
 
 -- the state that contracts see

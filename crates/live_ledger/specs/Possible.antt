@@ -1,5 +1,5 @@
 -- Which lists of events a trace can have.
-use Rattle.std.specs.Prelude.{◌≡◌, ℕ, List, take, Option, None, Some, slice_get}
+use Rattle.std.specs.Prelude.{◌≡◌, ℕ, List, take, None, Some, slice_get}
 use Rattle.live_ledger.specs.declared.event.Event.{Event}
 use Rattle.live_ledger.specs.Faults.{fault_of}
 use Rattle.live_ledger.specs.LedgerState.{HeldInfo, IsAmong}

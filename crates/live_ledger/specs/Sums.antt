@@ -1,5 +1,5 @@
 -- The figures that follow from sums of allocations and frees.
-use Rattle.std.specs.Prelude.{◌≡◌, ℕ, ◌+◌, ◌-◌, ◌≤◌}
+use Rattle.std.specs.Prelude.{ℕ, ◌+◌, ◌-◌, ◌≤◌}
 use Rattle.live_ledger.specs.declared.figures.Figures.{Figures}
 use Rattle.live_ledger.specs.declared.sums.Sums.{Sums}
 use Rattle.live_ledger.specs.declared.totals.Totals.{Totals}

@@ -1,6 +1,6 @@
 use Rattle.std.proofs.Common.{arith}
 use Rattle.live_ledger.proofs.Consistency.{alloc-fits, consistent-alloc, entry-fits}
-use Rattle.live_ledger.proofs.Entries.{IsEntry, IsOwn, entry-is_held}
+use Rattle.live_ledger.proofs.Entries.{IsOwn, entry-is_held}
 use Rattle.live_ledger.proofs.Views.{fields-alloc, sound, stack-held}
 use Rattle.live_ledger.proofs.ledger.Ledger.allocate.Goals as goal
 

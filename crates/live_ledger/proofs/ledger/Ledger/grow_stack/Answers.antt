@@ -1,4 +1,4 @@
-use Rattle.std.proofs.Common.{refl, arith}
+use Rattle.std.proofs.Common.{refl}
 use Rattle.live_ledger.proofs.Consistency.{consistent-stack}
 use Rattle.live_ledger.proofs.Stands.{stands-same}
 use Rattle.live_ledger.proofs.Views.{figures-push}

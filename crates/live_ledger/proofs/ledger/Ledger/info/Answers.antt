@@ -1,4 +1,4 @@
-use Rattle.std.proofs.Common.{◌<◌, arith, ap, length}
+use Rattle.std.proofs.Common.{◌<◌, arith, length}
 use Rattle.std.proofs.lemmas.Bool.Decides.{nat_tests}
 use Rattle.std.proofs.lemmas.Grind.{common_steps}
 use Rattle.live_ledger.proofs.Views.{stack-of_entry}
