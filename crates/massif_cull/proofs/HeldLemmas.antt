@@ -55,9 +55,10 @@ held-elsewhere {T} slots p o (q ∷ qs) out =
 
 pub taken-elsewhere : {T : Type 0} (slots : List (Option (Held T))) (p : ℕ) (o : Option (Held T)) (places : List ℕ) → IsOutside p places → AreTaken slots places → AreTaken (set slots p o) places
 taken-elsewhere slots p o [] out taken = tt
-taken-elsewhere {T} slots p o (q ∷ qs) out taken =
-    (subst (λ (h : Option (Held T)). IsSome h) (sym (get_or-set_other slots p q o None (λ e. out.0 (sym e)))) taken.0,
-    taken-elsewhere slots p o qs out.1 taken.1)
+taken-elsewhere {T} slots p o (q ∷ qs) out taken = (
+  subst (λ (h : Option (Held T)). IsSome h) (sym (get_or-set_other slots p q o None (λ e. out.0 (sym e)))) taken.0,
+  taken-elsewhere slots p o qs out.1 taken.1,
+)
 
 -- one more at the end
 pub held-push : {T : Type 0} (slots : List (Option (Held T))) (places : List ℕ) (p : ℕ) (held : Held T) → IsOutside p places → p < length slots → held_in (set slots p (Some held)) (places ++ p ∷ []) ≡ held_in slots places ++ held ∷ []
@@ -69,9 +70,10 @@ held-push {T} slots places p held out inside =
 
 pub taken-push : {T : Type 0} (slots : List (Option (Held T))) (places : List ℕ) (p : ℕ) (held : Held T) → IsOutside p places → p < length slots → AreTaken slots places → AreTaken (set slots p (Some held)) (places ++ p ∷ [])
 taken-push {T} slots [] p held out inside taken = (subst (λ (h : Option (Held T)). IsSome h) (sym (get_or-set_same slots p (Some held) None inside)) refl, tt)
-taken-push {T} slots (q ∷ qs) p held out inside taken =
-    (subst (λ (h : Option (Held T)). IsSome h) (sym (get_or-set_other slots p q (Some held) None (λ e. out.0 (sym e)))) taken.0,
-    taken-push slots qs p held out.1 inside taken.1)
+taken-push {T} slots (q ∷ qs) p held out inside taken = (
+  subst (λ (h : Option (Held T)). IsSome h) (sym (get_or-set_other slots p q (Some held) None (λ e. out.0 (sym e)))) taken.0,
+  taken-push slots qs p held out.1 inside taken.1,
+)
 
 -- one fewer
 pub held-remove :
@@ -102,9 +104,10 @@ taken-remove slots [] k p e different taken = absurd cc
 taken-remove {T} slots (q ∷ qs) zero p e different taken =
     taken-elsewhere slots p None qs (subst (λ (x : ℕ). IsOutside x qs) (same_Some q p e) different.0) taken.1
 taken-remove {T} slots (q ∷ qs) (suc k) p e different taken =
-    let apart : q ≢ p = each-at (λ y. q ≢ y) qs k p e different.0 in
-    (subst (λ (h : Option (Held T)). IsSome h) (sym (get_or-set_other slots p q None None apart)) taken.0,
-    taken-remove slots qs k p e different.1 taken.1)
+    let apart : q ≢ p = each-at (λ y. q ≢ y) qs k p e different.0 in (
+      subst (λ (h : Option (Held T)). IsSome h) (sym (get_or-set_other slots p q None None apart)) taken.0,
+      taken-remove slots qs k p e different.1 taken.1,
+    )
 
 -- ---- a later peak
 

@@ -214,10 +214,11 @@ pub linked-elsewhere :
     → AreLinked (set next i v) (set prev j w) first places last
 linked-elsewhere next prev first [] last i v j w out out_prev apart h =
     (get_or-set_other next i first v 0 (λ e. out.0 (sym e)) ∙ h.0, get_or-set_other prev j last w 0 (λ e. apart (sym e)) ∙ h.1)
-linked-elsewhere next prev first (p ∷ ps) last i v j w out out_prev apart h =
-    (get_or-set_other next i first v 0 (λ e. out.0 (sym e)) ∙ h.0,
-    get_or-set_other prev j p w 0 (λ e. out_prev.0 (sym e)) ∙ h.1,
-    linked-elsewhere next prev p ps last i v j w out.1 out_prev.1 apart h.2)
+linked-elsewhere next prev first (p ∷ ps) last i v j w out out_prev apart h = (
+  get_or-set_other next i first v 0 (λ e. out.0 (sym e)) ∙ h.0,
+  get_or-set_other prev j p w 0 (λ e. out_prev.0 (sym e)) ∙ h.1,
+  linked-elsewhere next prev p ps last i v j w out.1 out_prev.1 apart h.2,
+)
 
 -- two neighbours are linked by the links between them
 link-there : (next prev : List ℕ) (first last : ℕ) → first < length next → last < length prev → (slice_index (set next first last) first ≡ last) × (slice_index (set prev last first) last ≡ first)
@@ -258,10 +259,11 @@ linked-remove next prev first (p ∷ ps) last (suc k) place before after e b a o
     let not_before : first ≢ before =
     λ same. prev-holds (λ x. first ≢ x) next prev p ps last k place e h.2 out_first.0 out_first.1 (same ∙ b) in
     let not_after : p ≢ after =
-    λ same. next-holds (λ x. p ≢ x) next prev p ps last k place e h.2 different.0 (λ e. out_last.0 (sym e)) (same ∙ a) in
-    (get_or-set_other next before first after 0 not_before ∙ h.0,
-    get_or-set_other prev after p before 0 not_after ∙ h.1,
-    linked-remove next prev p ps last k place before after e b a different.0 out_last.1 different.1 in_next.0 in_next.1 last_in in_prev.1 h.2)
+    λ same. next-holds (λ x. p ≢ x) next prev p ps last k place e h.2 different.0 (λ e. out_last.0 (sym e)) (same ∙ a) in (
+      get_or-set_other next before first after 0 not_before ∙ h.0,
+      get_or-set_other prev after p before 0 not_after ∙ h.1,
+      linked-remove next prev p ps last k place before after e b a different.0 out_last.1 different.1 in_next.0 in_next.1 last_in in_prev.1 h.2,
+    )
 
 -- one comes at the end
 pub linked-push :
@@ -281,13 +283,15 @@ pub linked-push :
     → AreLinked (set (set next before place) place last) (set (set prev place before) last place) first (places ++ place ∷ []) last
 linked-push next prev first [] last place before b out apart out_first out_last different first_in in_next place_in last_in place_within h =
     let is_before : first ≡ before = sym (b ∙ h.1) in
-    subst (λ (x : ℕ). AreLinked (set (set next x place) place last) (set (set prev place x) last place) first (place ∷ []) last) is_before
-    (get_or-set_other (set next first place) place first last 0 (λ e. out.0 (sym e)) ∙ get_or-set_same next first place 0 first_in,
-    get_or-set_other (set prev place first) last place place 0 apart ∙ get_or-set_same prev place first 0 place_within,
-    (get_or-set_same (set next first place) place last 0 (omega (arith, place_in, length-set next first place)), get_or-set_same (set prev place first) last place 0 (omega (arith, last_in, length-set prev place first))))
+    subst (λ (x : ℕ). AreLinked (set (set next x place) place last) (set (set prev place x) last place) first (place ∷ []) last) is_before (
+      get_or-set_other (set next first place) place first last 0 (λ e. out.0 (sym e)) ∙ get_or-set_same next first place 0 first_in,
+      get_or-set_other (set prev place first) last place place 0 apart ∙ get_or-set_same prev place first 0 place_within,
+      (get_or-set_same (set next first place) place last 0 (omega (arith, place_in, length-set next first place)), get_or-set_same (set prev place first) last place 0 (omega (arith, last_in, length-set prev place first))),
+    )
 linked-push next prev first (p ∷ ps) last place before b out apart out_first out_last different first_in in_next place_in last_in place_within h =
     let not_before : first ≢ before =
-    λ same. last-holds (λ x. first ≢ x) next prev p ps last h.2 out_first.0 out_first.1 (same ∙ b) in
-    (get_or-set_other (set next before place) place first last 0 (λ e. out.0 (sym e)) ∙ get_or-set_other next before first place 0 not_before ∙ h.0,
-    get_or-set_other (set prev place before) last p place 0 (λ e. out_last.0 (sym e)) ∙ get_or-set_other prev place p before 0 (λ e. out.1.0 (sym e)) ∙ h.1,
-    linked-push next prev p ps last place before b out.1 apart different.0 out_last.1 different.1 in_next.0 in_next.1 place_in last_in place_within h.2)
+    λ same. last-holds (λ x. first ≢ x) next prev p ps last h.2 out_first.0 out_first.1 (same ∙ b) in (
+      get_or-set_other (set next before place) place first last 0 (λ e. out.0 (sym e)) ∙ get_or-set_other next before first place 0 not_before ∙ h.0,
+      get_or-set_other (set prev place before) last p place 0 (λ e. out_last.0 (sym e)) ∙ get_or-set_other prev place p before 0 (λ e. out.1.0 (sym e)) ∙ h.1,
+      linked-push next prev p ps last place before b out.1 apart different.0 out_last.1 different.1 in_next.0 in_next.1 place_in last_in place_within h.2,
+    )

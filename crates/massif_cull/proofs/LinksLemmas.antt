@@ -61,7 +61,7 @@ before-most links place before is held read =
     let inside = contained-below links place is held in
     let same = read-link links.prev.items place before (omega (arith, is.prev_length)) read in
     let most = prev-holds (λ p. p ≤ links.max) links.next.items links.prev.items links.max (places_of links) links.max at.0 place at.1 is.linked (omega arith)
-        (each-weaker (λ p. p < links.max) (λ p. p ≤ links.max) (places_of links) (λ p less. omega arith) (places-below links is)) in
+    (each-weaker (λ p. p < links.max) (λ p. p ≤ links.max) (places_of links) (λ p less. omega arith) (places-below links is)) in
     omega arith
 
 pub after-most : (links : Inside) (place after : ℕ) → IsLinked links → Contains (places_of links) place → after ≡ get_or links.next.items place after → after ≤ links.max
@@ -70,14 +70,14 @@ after-most links place after is held read =
     let inside = contained-below links place is held in
     let same = read-link links.next.items place after (omega (arith, is.next_length)) read in
     let most = next-holds (λ p. p ≤ links.max) links.next.items links.prev.items links.max (places_of links) links.max at.0 place at.1 is.linked
-        (each-weaker (λ p. p < links.max) (λ p. p ≤ links.max) (places_of links) (λ p less. omega arith) (places-below links is)) (omega arith) in
+    (each-weaker (λ p. p < links.max) (λ p. p ≤ links.max) (places_of links) (λ p less. omega arith) (places-below links is)) (omega arith) in
     omega arith
 
 pub last-most : (links : Inside) (before : ℕ) → IsLinked links → before ≡ get_or links.prev.items links.max before → before ≤ links.max
 last-most links before is read =
     let same = read-link links.prev.items links.max before (omega (arith, is.prev_length)) read in
     let most = last-holds (λ p. p ≤ links.max) links.next.items links.prev.items links.max (places_of links) links.max is.linked (omega arith)
-        (each-weaker (λ p. p < links.max) (λ p. p ≤ links.max) (places_of links) (λ p less. omega arith) (places-below links is)) in
+    (each-weaker (λ p. p < links.max) (λ p. p ≤ links.max) (places_of links) (λ p less. omega arith) (places-below links is)) in
     omega arith
 
 pub last-is : (links : Inside) (x : ℕ) (o : Option ℕ) → IsLinked links → x ≡ get_or links.prev.items links.max x → o ≡ unless_end links.max x → o ≡ slice_get (places_of links) (length (places_of links) - 1)

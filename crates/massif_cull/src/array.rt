@@ -251,12 +251,7 @@ impl<T: Drop> SnapArray<T> {
 }
 
 /// Appends the entry and its load, culls where the entries then reach the maximum, and answers the interval.
-fn append<T: Drop>(
-    snaps: &mut LinkedSnaps<T>,
-    entry: SnapEntry,
-    load: T,
-    interval: u64,
-) -> u64
+fn append<T: Drop>(snaps: &mut LinkedSnaps<T>, entry: SnapEntry, load: T, interval: u64) -> u64
     requires max { 10 ≤ snaps.old.max }
     requires below_max { length snaps.old.entries < snaps.old.max }
     requires loads_beside { length snaps.old.loads ≡ length snaps.old.entries }

@@ -2,7 +2,7 @@
 ghost use Rattle.std.specs.Prelude.{◌^◌, ◌<◌, ◌≤◌, length};
 ghost use Rattle.massif_cull.specs.Entries.{last_time};
 
-use crate::{Kind, Offer, SnapArray, SnapEntry, Taken};
+use crate::{Kind, Links, Offer, SnapArray, SnapEntry, Taken};
 use std::cell::Cell;
 use std::process::Abort;
 use std::test::Fail;
@@ -63,6 +63,43 @@ fn assert_kept(rt: &impl Abort, array: &SnapArray<u64>, kept: &[(u64, Kind, u64)
         assert_eq!(rt; entry.kind, kind, "kind {i}");
         assert_eq!(rt; *array.load(i), load, "load {i}");
     }
+}
+
+#[test]
+fn links_places(rt: HostRuntime) -> Result<(), Fail> {
+    let mut links = Links::new(rt.alloc(), 3)?;
+    assert_eq!(rt; links.first(), None);
+    let first = links.push();
+    let middle = links.push();
+    let third = links.push();
+    links.unlink(middle);
+    assert_eq!(rt; links.first(), Some(first));
+    assert_eq!(rt; links.next(first), Some(third));
+    assert_eq!(rt; links.prev(third), Some(first));
+    assert_eq!(rt; links.prev(first), None);
+    assert_eq!(rt; links.push(), middle);
+    assert_eq!(rt; links.next(third), Some(middle));
+    assert_eq!(rt; links.next(middle), None);
+    assert_eq!(rt; links.len(), 3);
+    Ok(())
+}
+
+#[test]
+fn gives_back_what_it_holds(rt: HostRuntime) -> Result<(), Fail> {
+    let mut array = SnapArray::new(rt.alloc(), 10, 1, 0)?;
+    offer_times(&rt, &mut array, 0, 2);
+    let entry = SnapEntry {
+        place: 0,
+        time: 0,
+        total: 0,
+        kind: Kind::Detailed,
+    };
+    assert_eq!(rt; array.take_first(), Some((entry, 0)));
+    assert_kept(&rt, &array, &[(1, Kind::Detailed, 1)]);
+    let last = array.take_first();
+    assert_eq!(rt; last.map(|(_, load)| load), Some(1));
+    assert_eq!(rt; array.take_first(), None);
+    Ok(())
 }
 
 #[test]
