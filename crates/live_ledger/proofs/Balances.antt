@@ -1,5 +1,6 @@
 -- How an event keeps the balance between sums and entries.
-use Rattle.std.proofs.Common.{◌≡◌, ℕ, ◌+◌, ◌-◌, ◌*◌, ◌<◌, ◌≤◌, List, set, Bool, true, false, cond, ap, arith}
+use Rattle.std.proofs.Common.{◌≡◌, ℕ, ◌+◌, ◌-◌, ◌*◌, ◌<◌, ◌≤◌, List, [], ◌∷◌, ◌++◌, set, Bool, true, false, cond, refl, ap, ◌∙◌, zero-mul, arith}
+use Rattle.std.proofs.lemmas.List.Sums.{sum_by_push}
 use Rattle.live_ledger.specs.declared.ledger.InfoEntry.{InfoEntry}
 use Rattle.live_ledger.specs.declared.sums.Sums.{Sums}
 use Rattle.live_ledger.specs.Consistent.{Balances, bytes_where, blocks_where, calls_where}
@@ -92,6 +93,22 @@ balance-free own meant infos i stack size ended entry old e live few before afte
     let temporary : own.temporary + ended ≤ own.frees + 1 = omega (arith, old.temporary) in
     balance-written own (with_free own size ended) meant infos i stack size entry (one_fewer entry) _ _ _ _ _ _ old e (parts-meant meant entry before) (parts-meant meant (one_fewer entry) after)
     (omega arith) (omega arith) (omega arith) temporary
+
+-- nothing is nothing, meant or not
+nothing-meant : (test : Bool) (n : ℕ) → n ≡ 0 → cond {A = ℕ} test n 0 ≡ 0
+nothing-meant true n none = none
+nothing-meant false n none = refl
+
+-- a new entry without blocks and allocations keeps the balance
+pub balance-push : (own : Sums) (meant : InfoEntry → Bool) (infos : List InfoEntry) (entry : InfoEntry) → entry.blocks ≡ 0 → entry.calls ≡ 0 → Balances own meant infos → Balances own meant (infos ++ entry ∷ [])
+balance-push own meant infos entry no_blocks no_calls old =
+    let no_bytes : entry.blocks * entry.size ≡ 0 = ap (λ (n : ℕ). n * entry.size) no_blocks ∙ zero-mul entry.size in
+    record {
+      bytes = omega (arith, sum_by_push (bytes_where meant) infos entry, old.bytes, nothing-meant (meant entry) (entry.blocks * entry.size) no_bytes);
+      blocks = omega (arith, sum_by_push (blocks_where meant) infos entry, old.blocks, nothing-meant (meant entry) entry.blocks no_blocks);
+      calls = omega (arith, sum_by_push (calls_where meant) infos entry, old.calls, nothing-meant (meant entry) entry.calls no_calls);
+      temporary = old.temporary;
+    }
 
 -- sums that balance are paired
 pub balance-paired : (own : Sums) (meant : InfoEntry → Bool) (infos : List InfoEntry) → Balances own meant infos → IsPaired own

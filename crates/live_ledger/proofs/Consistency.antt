@@ -4,15 +4,16 @@ use Rattle.std.specs.Prelude.{sum_by, slice_index}
 use Rattle.std.specs.List.{All}
 use Rattle.std.proofs.lemmas.Bool.Decides.{eqb_tells}
 use Rattle.std.proofs.lemmas.List.{length-set, length_push}
-use Rattle.std.proofs.lemmas.List.Elements.{All-weaker}
+use Rattle.std.proofs.lemmas.List.Elements.{All-push, All-weaker}
 use Rattle.std.proofs.lemmas.List.Sums.{sum_by_push}
 use Rattle.std.proofs.Math.Seq.{map-set_same}
+use Rattle.std.proofs.lemmas.List.{map-append}
 use Rattle.live_ledger.specs.declared.ledger.InfoEntry.{InfoEntry}
 use Rattle.live_ledger.specs.declared.sums.Sums.{Sums}
 use Rattle.live_ledger.specs.Consistent.{AreConsistent, AreSumsOf, Balances, any_entry, blocks_of, blocks_where, calls_where, is_of, stack_of, sums_at}
 use Rattle.live_ledger.specs.Sums.{no_sums, with_alloc, with_free}
 use Rattle.live_ledger.proofs.Entries.{IsEntry, IsOwn, entry-in_sum, number-at, one_fewer, one_more, own-at, own-in_total, own-others, own-push, own-written, total-after}
-use Rattle.live_ledger.proofs.Balances.{balance-alloc, balance-free, balance-live, balance-others}
+use Rattle.live_ledger.proofs.Balances.{balance-alloc, balance-free, balance-live, balance-others, balance-push}
 
 -- the sums of all stacks after those of one are written
 sums-written :
@@ -147,6 +148,27 @@ consistent-stack stacks infos sums old room = record {
   };
   whole = old.whole;
   each_stack = λ n. subst (λ (s : Sums). Balances s (is_of n) infos) (sym (own-push stacks n)) (old.each_stack n);
+  allocated_within = old.allocated_within;
+  events_within = old.events_within;
+}
+
+-- the fields stay consistent with one more info
+pub consistent-info :
+    (stacks : List Sums) (infos : List InfoEntry) (sums : Sums) (entry : InfoEntry)
+    → AreConsistent stacks infos sums
+    → length infos < 2 ^ 32 - 1
+    → entry.stack < length stacks
+    → entry.blocks ≡ 0
+    → entry.calls ≡ 0
+    → AreConsistent stacks (infos ++ entry ∷ []) sums
+consistent-info stacks infos sums entry old room held no_blocks no_calls = record {
+  stack_0 = old.stack_0;
+  stacks_within = old.stacks_within;
+  infos_within = omega (arith, length_push infos entry, room);
+  held = subst (λ (xs : List ℕ). All (λ (held : ℕ). held < length stacks) xs) (sym (map-append stack_of infos (entry ∷ []))) (All-push (λ held. held < length stacks) (map stack_of infos) entry.stack old.held held);
+  sums_of = old.sums_of;
+  whole = balance-push sums any_entry infos entry no_blocks no_calls old.whole;
+  each_stack = λ n. balance-push (sums_at stacks n) (is_of n) infos entry no_blocks no_calls (old.each_stack n);
   allocated_within = old.allocated_within;
   events_within = old.events_within;
 }

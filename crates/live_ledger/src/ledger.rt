@@ -70,6 +70,7 @@ impl Ledger {
         ensures stands { IfOk result (λ ledger. StandsFor ledger []) }
         ensures stacks { IfOk result (λ ledger. ledger.stacks ≡ 1) }
         ensures infos { IfOk result (λ ledger. ledger.infos ≡ []) }
+        ensures sound { IfOk result (λ ledger. IsSound ledger) }
     {
         let mut stacks = Vec::new(alloc);
         stacks.push(Sums::new())?;
@@ -90,6 +91,7 @@ impl Ledger {
         ensures figures { (stack : ℕ) → figures_at self.new stack ≡ figures_at self.old stack }
         ensures stands { (events : List Event) → StandsFor self.old events → StandsFor self.new events }
         ensures unchanged { OnErr result (self.new ≡ self.old) }
+        ensures sound { IsSound self.new }
     {
         let number = self.stacks.len() as u32;
         self.stacks.push(Sums::new())?;
@@ -109,6 +111,7 @@ impl Ledger {
         ensures info_calls { (info : ℕ) → slice_index self.new.info_calls info ≡ slice_index self.old.info_calls info }
         ensures stands { (events : List Event) → StandsFor self.old events → StandsFor self.new events }
         ensures unchanged { OnErr result (self.new ≡ self.old) }
+        ensures sound { IsSound self.new }
     {
         let number = self.infos.len() as u32;
         self.infos.push(InfoEntry {
