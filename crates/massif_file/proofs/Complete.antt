@@ -13,27 +13,24 @@ use Rattle.massif_file.specs.declared.profile.Snap.{Snap}
 use Rattle.massif_file.specs.declared.profile.Profile.{Profile}
 use Rattle.massif_file.specs.Blanks.{without_blanks, is_skipped}
 use Rattle.massif_file.specs.Fields.{value_after, header_value, key_number, or_fault}
-use Rattle.massif_file.specs.IsProfile.{Describe}
+use Rattle.massif_file.specs.IsProfile.{Describe, saying}
 use Rattle.massif_file.specs.Items.{Item, node_item, Say, snap_items, snaps_items, items_of}
 use Rattle.massif_file.specs.Levels.{after_line}
 use Rattle.massif_file.specs.TreeLineOf.{tree_line_of}
 use Rattle.massif_file.specs.Progress.{Progress, in_descriptions, at_unit, at_snapshot, at_time, at_heap, at_extra, at_stacks, at_mark, in_tree, refused_for, go_on, joined, last_time, with_snap, with_line, after_header_line, unit_in, mark_in, after_mark, after_levels, after_tree_line, taken, after_all}
 use Rattle.massif_file.specs.IsRight.{IsTreeOf, AreRight}
-use Rattle.massif_file.proofs.TreeLemmas.{Leads, leads_tree}
+use Rattle.massif_file.specs.Leads.{Leads}
+use Rattle.massif_file.proofs.TreeLemmas.{leads_tree}
 use Rattle.massif_file.proofs.Sound.{take_all, time_from, last_time-is}
 
 -- ---- skipped lines make no difference
 
--- the lines that are not skipped
-abbrev pub kept : List (List ℕ) → List (List ℕ)
-kept lines = filter (λ line. not (is_skipped line)) lines
-
 -- skipped lines leave everything as it is
-pub after_all-kept : (p : Progress) (lines : List (List ℕ)) → after_all p lines ≡ take_all p (kept lines)
-after_all-kept p [] = refl
-after_all-kept p (line ∷ lines) = by (is_skipped line) (λ q. after_all-kept q lines)
+pub after_all-saying : (p : Progress) (lines : List (List ℕ)) → after_all p lines ≡ take_all p (saying lines)
+after_all-saying p [] = refl
+after_all-saying p (line ∷ lines) = by (is_skipped line) (λ q. after_all-saying q lines)
   where
-    by : (t : Bool) → ((q : Progress) → after_all q lines ≡ take_all q (kept lines)) → after_all (cond t p (taken p line)) lines ≡ take_all p (cond (not t) (line ∷ kept lines) (kept lines))
+    by : (t : Bool) → ((q : Progress) → after_all q lines ≡ take_all q (saying lines)) → after_all (cond t p (taken p line)) lines ≡ take_all p (cond (not t) (line ∷ saying lines) (saying lines))
     by true rest = rest p
     by false rest = rest (taken p line)
 
@@ -55,14 +52,14 @@ no_description (b ∷ bs) cmd e = by (eqb b 99) refl
     by false q = absurd (let f : None ≡ Some cmd = ap (λ (t : Bool). option_map without_blanks (cond t (value_after (codes "md:") bs) None)) (sym q) ∙ e in cc)
 
 -- descriptions are joined
-run_descriptions : (before : List ℕ) (lines : List (List ℕ)) (desc : List ℕ) → Describe before lines desc → take_all (in_descriptions before) lines ≡ in_descriptions desc
+pub run_descriptions : (before : List ℕ) (lines : List (List ℕ)) (desc : List ℕ) → Describe before lines desc → take_all (in_descriptions before) lines ≡ in_descriptions desc
 unfolding taken
 run_descriptions before [] desc h = ap in_descriptions h
 run_descriptions before (line ∷ lines) desc h =
     ap (λ (o : Option (List ℕ)). take_all (after_header_line before line o) lines) h.1 ∙ run_descriptions (joined before h.0) lines desc h.2
 
 -- the command ends the descriptions
-run_command : (desc cmd : List ℕ) (line : List ℕ) → header_value (codes "cmd:") line ≡ Some cmd → taken (in_descriptions desc) line ≡ at_unit desc cmd
+pub run_command : (desc cmd : List ℕ) (line : List ℕ) → header_value (codes "cmd:") line ≡ Some cmd → taken (in_descriptions desc) line ≡ at_unit desc cmd
 unfolding taken
 run_command desc cmd line e =
     ap (after_header_line desc line) (no_description line cmd e) ∙ ap (λ (o : Option (List ℕ)). go_on (at_unit desc) (or_fault BadHeader o)) e
@@ -75,36 +72,36 @@ run_unit desc cmd unit line e = ap (λ (o : Option TimeUnit). go_on (λ u. at_sn
 -- ---- the six lines of a snapshot
 
 -- the number of the snapshot
-run_place : (profile : Profile) (line : List ℕ) → key_number (codes "snapshot=") line ≡ Ok (length profile.snaps) → taken (at_snapshot profile) line ≡ at_time profile
+pub run_place : (profile : Profile) (line : List ℕ) → key_number (codes "snapshot=") line ≡ Ok (length profile.snaps) → taken (at_snapshot profile) line ≡ at_time profile
 unfolding taken
 run_place profile line e =
     ap (go_on (λ n. cond (eqb n (length profile.snaps)) (at_time profile) (refused_for WrongOrder))) e
     ∙ ap (λ (t : Bool). cond t (at_time profile) (refused_for WrongOrder)) (eq-eqb (length profile.snaps) (length profile.snaps) refl)
 
 -- its time
-run_time : (profile : Profile) (time : ℕ) (line : List ℕ) → last_time profile.snaps ≤ time → key_number (codes "time=") line ≡ Ok time → taken (at_time profile) line ≡ at_heap profile time
+pub run_time : (profile : Profile) (time : ℕ) (line : List ℕ) → last_time profile.snaps ≤ time → key_number (codes "time=") line ≡ Ok time → taken (at_time profile) line ≡ at_heap profile time
 unfolding taken
 run_time profile time line later e =
     ap (go_on (λ t. cond (ltb t (last_time profile.snaps)) (refused_for WrongOrder) (at_heap profile t))) e
     ∙ ap (λ (t : Bool). cond t (refused_for WrongOrder) (at_heap profile time)) (le-ltb time (last_time profile.snaps) later)
 
 -- its heap bytes
-run_heap : (profile : Profile) (time heap : ℕ) (line : List ℕ) → key_number (codes "mem_heap_B=") line ≡ Ok heap → taken (at_heap profile time) line ≡ at_extra profile time heap
+pub run_heap : (profile : Profile) (time heap : ℕ) (line : List ℕ) → key_number (codes "mem_heap_B=") line ≡ Ok heap → taken (at_heap profile time) line ≡ at_extra profile time heap
 unfolding taken
 run_heap profile time heap line e = ap (go_on (at_extra profile time)) e
 
 -- its extra bytes
-run_extra : (profile : Profile) (time heap extra : ℕ) (line : List ℕ) → key_number (codes "mem_heap_extra_B=") line ≡ Ok extra → taken (at_extra profile time heap) line ≡ at_stacks profile time heap extra
+pub run_extra : (profile : Profile) (time heap extra : ℕ) (line : List ℕ) → key_number (codes "mem_heap_extra_B=") line ≡ Ok extra → taken (at_extra profile time heap) line ≡ at_stacks profile time heap extra
 unfolding taken
 run_extra profile time heap extra line e = ap (go_on (at_stacks profile time heap)) e
 
 -- its stack bytes
-run_stacks : (profile : Profile) (time heap extra stacks : ℕ) (line : List ℕ) → key_number (codes "mem_stacks_B=") line ≡ Ok stacks → taken (at_stacks profile time heap extra) line ≡ at_mark profile time heap extra stacks
+pub run_stacks : (profile : Profile) (time heap extra stacks : ℕ) (line : List ℕ) → key_number (codes "mem_stacks_B=") line ≡ Ok stacks → taken (at_stacks profile time heap extra) line ≡ at_mark profile time heap extra stacks
 unfolding taken
 run_stacks profile time heap extra stacks line e = ap (go_on (at_mark profile time heap extra)) e
 
 -- its mark
-run_mark : (profile : Profile) (time heap extra stacks : ℕ) (mark : HeapTree) (line : List ℕ) → mark_in (value_after (codes "heap_tree=") line) ≡ Some mark
+pub run_mark : (profile : Profile) (time heap extra stacks : ℕ) (mark : HeapTree) (line : List ℕ) → mark_in (value_after (codes "heap_tree=") line) ≡ Some mark
     → taken (at_mark profile time heap extra stacks) line ≡ after_mark profile (record { time = time; heap = heap; extra = extra; stacks = stacks; mark = mark; tree = [] }) mark
 unfolding taken
 run_mark profile time heap extra stacks mark line e =
@@ -113,18 +110,18 @@ run_mark profile time heap extra stacks mark line e =
 -- ---- a tree
 
 -- one line of a tree
-run_node : (profile : Profile) (snap : Snap) (to_come : List ℕ) (node : TreeLine) (line : List ℕ) → length to_come ≤ 257 → tree_line_of line ≡ Some node → taken (in_tree profile snap to_come) line ≡ after_tree_line profile snap to_come node
+pub run_node : (profile : Profile) (snap : Snap) (to_come : List ℕ) (node : TreeLine) (line : List ℕ) → length to_come ≤ 257 → tree_line_of line ≡ Some node → taken (in_tree profile snap to_come) line ≡ after_tree_line profile snap to_come node
 unfolding taken
 run_node profile snap to_come node line few e =
     ap (λ (t : Bool). cond t (refused_for BadTree) (go_on (after_tree_line profile snap to_come) (or_fault BadTree (tree_line_of line)))) (le-ltb 257 (length to_come) few)
     ∙ ap (λ (o : Option TreeLine). go_on (after_tree_line profile snap to_come) (or_fault BadTree o)) e
 
 -- the snapshot with these lines at the end of its tree
-abbrev with_lines : Snap → List TreeLine → Snap
+abbrev pub with_lines : Snap → List TreeLine → Snap
 with_lines snap nodes = record snap { tree = snap.tree ++ nodes }
 
 -- a line, and then the others
-mutual_lines : (snap : Snap) (node : TreeLine) (nodes : List TreeLine) → with_lines (with_line snap node) nodes ≡ with_lines snap (node ∷ nodes)
+pub mutual_lines : (snap : Snap) (node : TreeLine) (nodes : List TreeLine) → with_lines (with_line snap node) nodes ≡ with_lines snap (node ∷ nodes)
 mutual_lines snap node nodes = ap (λ (tree : List TreeLine). record snap { tree = tree }) (append_assoc snap.tree (node ∷ []) nodes)
 
 -- no line is left where none is to come
@@ -176,7 +173,7 @@ last_time-push : (snaps : List Snap) (snap : Snap) → last_time (snaps ++ snap 
 last_time-push snaps snap = last_time-is (snaps ++ snap ∷ []) ∙ time_from-push 0 snaps snap
 
 -- the snapshot before its tree
-abbrev started : Snap → Snap
+abbrev pub started : Snap → Snap
 started snap = record snap { tree = [] }
 
 -- from the mark to the snapshot's end
@@ -227,7 +224,7 @@ run_snaps profile (snap ∷ snaps) lines s right =
 -- ---- all lines
 
 -- all lines after the descriptions
-run_items : (desc : List ℕ) (profile : Profile) (lines : List (List ℕ)) → desc ≡ profile.desc → Say lines (items_of profile) → AreRight 0 profile.snaps → take_all (in_descriptions desc) lines ≡ at_snapshot profile
+pub run_items : (desc : List ℕ) (profile : Profile) (lines : List (List ℕ)) → desc ≡ profile.desc → Say lines (items_of profile) → AreRight 0 profile.snaps → take_all (in_descriptions desc) lines ≡ at_snapshot profile
 run_items desc profile [] d s right = absurd s
 run_items desc profile (a ∷ []) d s right = absurd s.1
 run_items desc profile (a ∷ b ∷ lines) d s right =
@@ -239,9 +236,9 @@ run_items desc profile (a ∷ b ∷ lines) d s right =
     ∙ ap (λ (text : List ℕ). at_snapshot (record profile { desc = text })) d
 
 -- all lines of a profile
-pub run_all : (lines descriptions others : List (List ℕ)) (profile : Profile) → kept lines ≡ descriptions ++ others → Describe [] descriptions profile.desc → Say others (items_of profile) → AreRight 0 profile.snaps → after_all (in_descriptions []) lines ≡ at_snapshot profile
+pub run_all : (lines descriptions others : List (List ℕ)) (profile : Profile) → saying lines ≡ descriptions ++ others → Describe [] descriptions profile.desc → Say others (items_of profile) → AreRight 0 profile.snaps → after_all (in_descriptions []) lines ≡ at_snapshot profile
 run_all lines descriptions others profile parts described said right =
-    after_all-kept (in_descriptions []) lines
+    after_all-saying (in_descriptions []) lines
     ∙ ap (take_all (in_descriptions [])) parts
     ∙ take_all-append (in_descriptions []) descriptions others
     ∙ ap (λ (p : Progress). take_all p others) (run_descriptions [] descriptions profile.desc described)

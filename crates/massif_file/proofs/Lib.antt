@@ -5,6 +5,8 @@ pub mod Profiles
 pub mod ReadTexts
 pub mod ReadingLemmas
 pub mod RoundTrip
+pub mod Refusing
 pub mod Sound
+pub mod Stopping
 pub mod TreeLemmas
 pub mod WrittenLemmas

@@ -4,16 +4,20 @@ use Rattle.std.specs.Prelude.{◌⊎◌, All, IfOk, IfErr}
 use Rattle.massif_file.specs.declared.fault.ProfileFault.{ProfileFault}
 use Rattle.massif_file.specs.declared.fault.ProfileFault.TheVariants.{Truncated}
 use Rattle.massif_file.specs.declared.profile.Profile.{Profile}
-use Rattle.massif_file.specs.IsProfile.{is_profile}
+use Rattle.massif_file.specs.Blanks.{is_skipped}
+use Rattle.massif_file.specs.IsProfile.{is_profile, saying}
 use Rattle.massif_file.specs.ProfileFault.{IsRefusedLine, IsTruncated, profile_fault}
 use Rattle.massif_file.specs.ProfileOf.{at_line, unless_refused, read_from, profile_of}
 use Rattle.massif_file.specs.StandsFor.{StandsFor}
-use Rattle.massif_file.specs.Progress.{Progress, in_descriptions, at_unit, at_snapshot, at_time, at_heap, at_extra, at_stacks, at_mark, in_tree, refused_for, after, after_all, progress_of, fault_in, end_of}
-use Rattle.massif_file.proofs.Complete.{kept, after_all-kept, run_all}
+use Rattle.massif_file.specs.Progress.{Progress, in_descriptions, at_unit, at_snapshot, at_time, at_heap, at_extra, at_stacks, at_mark, in_tree, refused_for, taken, after, after_all, progress_of, fault_in, end_of}
+use Rattle.massif_file.proofs.Complete.{after_all-saying, run_all}
 use Rattle.massif_file.specs.IsWritable.{IsLine, IsWritable}
 use Rattle.massif_file.proofs.ReadTexts.{is_writable}
 use Rattle.massif_file.proofs.ReadingLemmas.{profile_of-append, after_all-append, at_end}
-use Rattle.massif_file.proofs.Sound.{reads}
+use Rattle.massif_file.specs.Refuses.{Refuses, EndsEarly}
+use Rattle.massif_file.proofs.Refusing.{refused_is, ends_early}
+use Rattle.massif_file.proofs.Sound.{Stands, take_all, reads, stands_after}
+use Rattle.massif_file.proofs.Stopping.{stops, stops_at_end}
 
 -- ---- an answer by cases
 
@@ -92,7 +96,7 @@ pub read_is : (lines : List (List ℕ)) (profile : Profile) → profile_of lines
 unfolding profile_of
 read_is lines profile e =
     let w = whole_is (progress_of lines) profile (read_ok (in_descriptions []) 1 lines profile e) in
-    let r = reads (kept lines) profile (sym (after_all-kept (in_descriptions []) lines) ∙ w.0) in
+    let r = reads (saying lines) profile (sym (after_all-saying (in_descriptions []) lines) ∙ w.0) in
     record { descriptions = r.descriptions; others = r.others; parts = r.parts; described = r.described; said = r.said; right = record { some = w.1; snaps = r.right } }
 
 -- a profile is read
@@ -139,40 +143,61 @@ read_err p n (line ∷ lines) k fault t e = by (fault_in (after p line)) refl e 
         let r = pair_err n k f fault h in
         inl (record { before = []; line = line; later = lines; parts = refl; place = omega (arith, r.0); taken = t; refused = q ∙ ap Some r.1 })
 
+-- where the reader stands, the lines that say something stand too
+stands_there : (lines : List (List ℕ)) → Stands (saying lines) (progress_of lines)
+stands_there lines =
+    subst (Stands (saying lines)) (sym (after_all-saying (in_descriptions []) lines)) (stands_after [] (saying lines) (in_descriptions []) refl)
+
+-- a refused line says something, and can't follow
+refused_after : (before : List (List ℕ)) (line : List ℕ) (fault : ProfileFault) → fault_in (progress_of before) ≡ None → fault_in (after (progress_of before) line) ≡ Some fault → (is_skipped line ≡ false) × Refuses (saying before) line fault
+refused_after before line fault t e = by (is_skipped line) refl e
+  where
+    by : (s : Bool) → is_skipped line ≡ s → fault_in (cond s (progress_of before) (taken (progress_of before) line)) ≡ Some fault → (is_skipped line ≡ false) × Refuses (saying before) line fault
+    by true q f = absurd (let other : None ≡ Some fault = sym t ∙ f in cc)
+    by false q f = (q, refused_is (saying before) line fault (progress_of before) (stands_there before) t f)
+
 -- what is refused has a fault
 pub fault_is : (lines : List (List ℕ)) (k : ℕ) (fault : ProfileFault) → profile_of lines ≡ Err (k, fault) → profile_fault lines k fault
 unfolding profile_of
 fault_is lines k fault e = by (read_err (in_descriptions []) 1 lines k fault refl e)
   where
     by : RefusedFrom (in_descriptions []) 1 lines k fault ⊎ EndsFrom (in_descriptions []) 1 lines k fault → profile_fault lines k fault
-    by (inl r) = inl (record { before = r.before; line = r.line; later = r.later; parts = r.parts; place = omega (arith, r.place); taken = r.taken; refused = r.refused })
-    by (inr r) = inr (record {
-      truncated = truncated_is (progress_of lines) fault r.taken r.truncated;
-      place = omega (arith, r.place);
-      taken = r.taken;
-      no_profile = λ profile h. ok_is_no_err profile (k, fault) (sym (is_read lines profile h) ∙ e);
-    })
+    by (inl r) =
+        let why = refused_after r.before r.line fault r.taken (ap fault_in (sym (after_all-append (in_descriptions []) r.before (r.line ∷ []))) ∙ r.refused) in
+        inl (record { before = r.before; line = r.line; later = r.later; parts = r.parts; place = omega (arith, r.place); says = why.0; refused = why.1 })
+    by (inr r) =
+        let same = truncated_is (progress_of lines) fault r.taken r.truncated in
+        inr (record {
+          truncated = same;
+          place = omega (arith, r.place);
+          early = ends_early (saying lines) (progress_of lines) (stands_there lines) r.taken (r.truncated ∙ ap Err same);
+        })
 
 -- a refused line of the whole list
 refused_line : (lines : List (List ℕ)) (k : ℕ) (fault : ProfileFault) → IsRefusedLine lines k fault → profile_of lines ≡ Err (k, fault)
 refused_line lines k fault r =
-    let next : fault_in (after (progress_of r.before) r.line) ≡ Some fault = ap fault_in (sym (after_all-append (in_descriptions []) r.before (r.line ∷ []))) ∙ r.refused in
+    let stop = stops (saying r.before) r.line fault r.refused in
+    let here : progress_of r.before ≡ stop.progress = after_all-saying (in_descriptions []) r.before ∙ stop.leads.runs in
+    let taken_before : fault_in (progress_of r.before) ≡ None = ap fault_in here ∙ stop.leads.taken_so_far in
+    let next : fault_in (after (progress_of r.before) r.line) ≡ Some fault =
+    ap (λ (s : Bool). fault_in (cond s (progress_of r.before) (taken (progress_of r.before) r.line))) r.says
+    ∙ ap (λ (p : Progress). fault_in (taken p r.line)) here
+    ∙ stop.refused in
     ap profile_of r.parts
-    ∙ profile_of-append r.before (r.line ∷ r.later) r.taken
+    ∙ profile_of-append r.before (r.line ∷ r.later) taken_before
     ∙ ap (λ (o : Option ProfileFault). unless_refused o (length r.before + 1) (read_from (after (progress_of r.before) r.line) (suc (length r.before + 1)) r.later)) next
     ∙ ap (λ (n : ℕ). Err (n, fault)) (sym r.place)
 
 -- lines that end too early
 too_short : (lines : List (List ℕ)) (k : ℕ) (fault : ProfileFault) → IsTruncated lines k fault → profile_of lines ≡ Err (k, fault)
-too_short lines k fault r = by (end_of (progress_of lines)) refl
-  where
-    by : (e : Result Profile ProfileFault) → end_of (progress_of lines) ≡ e → profile_of lines ≡ Err (k, fault)
-    by (Ok profile) q = absurd (r.no_profile profile (read_is lines profile (at_end (progress_of lines) lines (record { progress = refl; taken = r.taken }) ∙ ap (at_line (length lines + 1)) q)))
-    by (Err f) q =
-        at_end (progress_of lines) lines (record { progress = refl; taken = r.taken })
-        ∙ ap (at_line (length lines + 1)) q
-        ∙ ap (λ (g : ProfileFault). Err (length lines + 1, g)) (truncated_is (progress_of lines) f r.taken q ∙ sym r.truncated)
-        ∙ ap (λ (n : ℕ). Err (n, fault)) (sym r.place)
+too_short lines k fault r =
+    let stop = stops_at_end (saying lines) r.early in
+    let here : progress_of lines ≡ stop.progress = after_all-saying (in_descriptions []) lines ∙ stop.leads.runs in
+    at_end (progress_of lines) lines (record { progress = refl; taken = ap fault_in here ∙ stop.leads.taken_so_far })
+    ∙ ap (λ (p : Progress). at_line (length lines + 1) (end_of p)) here
+    ∙ ap (at_line (length lines + 1)) stop.truncated
+    ∙ ap (λ (g : ProfileFault). Err (length lines + 1, g)) (sym r.truncated)
+    ∙ ap (λ (n : ℕ). Err (n, fault)) (sym r.place)
 
 -- what has a fault is refused
 pub is_fault : (lines : List (List ℕ)) (k : ℕ) (fault : ProfileFault) → profile_fault lines k fault → profile_of lines ≡ Err (k, fault)
@@ -195,6 +220,10 @@ one_profile lines p q h k = same (sym (is_read lines p h) ∙ is_read lines q k)
   where
     same : (let r : Answer = Ok p in r ≡ Ok q) → p ≡ q
     same e = cc
+
+-- lines have at most one first fault
+pub one_fault : (lines : List (List ℕ)) (n m : ℕ) (f g : ProfileFault) → profile_fault lines n f → profile_fault lines m g → (n ≡ m) × (f ≡ g)
+one_fault lines n m f g h k = pair_err n m f g (sym (is_fault lines n f h) ∙ is_fault lines m g k)
 
 -- a profile has no fault
 pub not_both : (lines : List (List ℕ)) (profile : Profile) (number : ℕ) (fault : ProfileFault) → is_profile lines profile → profile_fault lines number fault → ⊥

@@ -18,14 +18,13 @@ use Rattle.massif_file.specs.declared.profile.Snap.{Snap}
 use Rattle.massif_file.specs.declared.profile.Profile.{Profile}
 use Rattle.massif_file.specs.Blanks.{is_blank, without_blanks, before_byte, from_byte, is_skipped, blanks}
 use Rattle.massif_file.specs.Fields.{value_after, header_value, at_most, number_of, max_number, or_fault, number_in, key_number, unit_of, unit_name, mark_of, mark_name}
-use Rattle.massif_file.specs.IsProfile.{is_profile}
+use Rattle.massif_file.specs.IsProfile.{is_profile, saying}
 use Rattle.massif_file.specs.Items.{Item, node_item, Say, snap_items, snaps_items}
 use Rattle.massif_file.specs.Levels.{after_line}
 use Rattle.massif_file.specs.TreeLineOf.{sized_line, counted_line, tree_line_of}
 use Rattle.massif_file.specs.Progress.{joined, unit_in, mark_in}
 use Rattle.massif_file.specs.IsWritable.{IsLine, IsText, IsWritableLine, IsWritableSnap, IsWritable}
 use Rattle.massif_file.specs.MassifText.{node_text, tree_lines, separator, head_lines, size_lines, mark_lines, snap_lines, snaps_lines, massif_lines}
-use Rattle.massif_file.proofs.Complete.{kept}
 
 -- what is known of decimal texts
 pub record Decimals : Type 0 where
@@ -120,11 +119,11 @@ module _ (d : Decimals) where
   -- ---- the lines of a tree
 
   -- which counts
-  kept_node : (n : ℕ) (line : TreeLine) (lines : List (List ℕ)) → kept ((blanks n ++ node_text line) ∷ lines) ≡ (blanks n ++ node_text line) ∷ kept lines
-  kept_node n line lines = ap (λ (t : Bool). cond (not t) ((blanks n ++ node_text line) ∷ kept lines) (kept lines)) (indent_kept n (decimal line.children ++ (58 ∷ 32 ∷ (decimal line.bytes ++ (32 ∷ line.label)))))
+  kept_node : (n : ℕ) (line : TreeLine) (lines : List (List ℕ)) → saying ((blanks n ++ node_text line) ∷ lines) ≡ (blanks n ++ node_text line) ∷ saying lines
+  kept_node n line lines = ap (λ (t : Bool). cond (not t) ((blanks n ++ node_text line) ∷ saying lines) (saying lines)) (indent_kept n (decimal line.children ++ (58 ∷ 32 ∷ (decimal line.bytes ++ (32 ∷ line.label)))))
 
   -- and all lines of a tree
-  tree_again : (to_come : List ℕ) (nodes : List TreeLine) → All IsWritableLine nodes → Say (kept (tree_lines to_come nodes)) (map node_item nodes)
+  tree_again : (to_come : List ℕ) (nodes : List TreeLine) → All IsWritableLine nodes → Say (saying (tree_lines to_come nodes)) (map node_item nodes)
   tree_again to_come [] h = tt
   tree_again to_come (node ∷ nodes) h =
       subst (λ (ls : List (List ℕ)). Say ls (map node_item (node ∷ nodes)))
@@ -141,7 +140,7 @@ module _ (d : Decimals) where
   mark_again Peak = refl
 
   -- and the lines of a snapshot
-  snap_again : (n : ℕ) (snap : Snap) → n ≤ 2 ^ 62 → IsWritableSnap snap → Say (kept (snap_lines n snap)) (snap_items n snap)
+  snap_again : (n : ℕ) (snap : Snap) → n ≤ 2 ^ 62 → IsWritableSnap snap → Say (saying (snap_lines n snap)) (snap_items n snap)
   unfolding key_number
   snap_again n snap le h =
       (key_again n le, (key_again snap.time h.time, (key_again snap.heap h.heap, (key_again snap.extra h.extra, (key_again snap.stacks h.stacks, (mark_again snap.mark, tree_again (1 ∷ []) snap.tree h.tree))))))
@@ -154,12 +153,12 @@ module _ (d : Decimals) where
   Say-append (x ∷ xs) ys (i ∷ is) back a b = (a.0, Say-append xs ys is back a.1 b)
 
   -- and the lines of all snapshots
-  snaps_again : (n : ℕ) (snaps : List Snap) → n + length snaps ≤ 2 ^ 62 + 1 → All IsWritableSnap snaps → Say (kept (snaps_lines n snaps)) (snaps_items n snaps)
+  snaps_again : (n : ℕ) (snaps : List Snap) → n + length snaps ≤ 2 ^ 62 + 1 → All IsWritableSnap snaps → Say (saying (snaps_lines n snaps)) (snaps_items n snaps)
   snaps_again n [] le h = tt
   snaps_again n (snap ∷ snaps) le h =
       subst (λ (ls : List (List ℕ)). Say ls (snap_items n snap ++ snaps_items (suc n) snaps))
       (sym (filter-append (λ line. not (is_skipped line)) (snap_lines n snap) (snaps_lines (suc n) snaps)))
-      (Say-append (kept (snap_lines n snap)) (kept (snaps_lines (suc n) snaps)) (snap_items n snap) (snaps_items (suc n) snaps)
+      (Say-append (saying (snap_lines n snap)) (saying (snaps_lines (suc n) snaps)) (snap_items n snap) (snaps_items (suc n) snaps)
       (snap_again n snap (omega arith) (All-head IsWritableSnap snap snaps h))
       (snaps_again (suc n) snaps (omega arith) (All-tail IsWritableSnap snap snaps h)))
 
@@ -182,7 +181,7 @@ module _ (d : Decimals) where
   pub reads_again : (profile : Profile) → IsWritable profile → is_profile (massif_lines profile) profile
   reads_again profile h = record {
     descriptions = (codes "desc: " ++ profile.desc) ∷ [];
-    others = (codes "cmd: " ++ profile.cmd) ∷ (codes "time_unit: " ++ unit_name profile.unit) ∷ kept (snaps_lines 0 profile.snaps);
+    others = (codes "cmd: " ++ profile.cmd) ∷ (codes "time_unit: " ++ unit_name profile.unit) ∷ saying (snaps_lines 0 profile.snaps);
     parts = refl;
     described = (without_blanks profile.desc, refl, joined_nothing (without_blanks profile.desc) ∙ no_leading profile.desc h.desc.begin);
     said = (ap Some (no_leading profile.cmd h.cmd.begin), (unit_again profile.unit, snaps_again 0 profile.snaps (omega (arith, h.numbers)) h.snaps));

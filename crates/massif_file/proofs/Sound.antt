@@ -19,7 +19,9 @@ use Rattle.massif_file.specs.TreeLineOf.{tree_line_of}
 use Rattle.massif_file.specs.Progress.{Progress, in_descriptions, at_unit, at_snapshot, at_time, at_heap, at_extra, at_stacks, at_mark, in_tree, refused_for, go_on, joined, time_of, last_time, with_snap, with_line, after_header_line, unit_in, mark_in, after_mark, after_levels, after_tree_line, taken}
 use Rattle.massif_file.specs.IsRight.{IsTreeOf, AreRight}
 use Rattle.massif_file.specs.Trees.{IsTree}
-use Rattle.massif_file.proofs.TreeLemmas.{Leads, tree_leads}
+use Rattle.massif_file.specs.Begins.{Begins, HasTree}
+use Rattle.massif_file.specs.Leads.{Leads}
+use Rattle.massif_file.proofs.TreeLemmas.{tree_leads}
 
 -- ---- lists with one more at the end
 
@@ -77,17 +79,9 @@ items_of-with_snap profile snap =
 
 -- ---- what the lines so far say
 
--- The lines are descriptions, and others that say these items.
-record Behind (lines : List (List ℕ)) (desc : List ℕ) (items : List Item) : Type 0 where
-  pub descriptions : List (List ℕ)
-  pub others : List (List ℕ)
-  pub parts : lines ≡ descriptions ++ others
-  pub described : Describe [] descriptions desc
-  pub said : Say others items
-
 -- one line more says one item more
-Behind-push : (lines : List (List ℕ)) (desc : List ℕ) (items front : List Item) (line : List ℕ) (item : Item) → Behind lines desc (items ++ front) → Says line item → Behind (lines ++ line ∷ []) desc (items ++ (front ++ item ∷ []))
-Behind-push lines desc items front line item h s = record {
+Begins-push : (lines : List (List ℕ)) (desc : List ℕ) (items front : List Item) (line : List ℕ) (item : Item) → Begins lines desc (items ++ front) → Says line item → Begins (lines ++ line ∷ []) desc (items ++ (front ++ item ∷ []))
+Begins-push lines desc items front line item h s = record {
   descriptions = h.descriptions;
   others = h.others ++ line ∷ [];
   parts = ap (λ (ls : List (List ℕ)). ls ++ line ∷ []) h.parts ∙ append_assoc h.descriptions h.others (line ∷ []);
@@ -96,49 +90,55 @@ Behind-push lines desc items front line item h s = record {
 }
 
 -- the first items of a snapshot that is being read: its number
-abbrev one_item : Profile → List Item
+abbrev pub one_item : Profile → List Item
 one_item profile = number_item (codes "snapshot=") (length profile.snaps) ∷ []
 
 -- and its time
-abbrev two_items : Profile → ℕ → List Item
+abbrev pub two_items : Profile → ℕ → List Item
 two_items profile time = number_item (codes "snapshot=") (length profile.snaps) ∷ number_item (codes "time=") time ∷ []
 
 -- and its heap bytes
-abbrev three_items : Profile → ℕ → ℕ → List Item
+abbrev pub three_items : Profile → ℕ → ℕ → List Item
 three_items profile time heap = number_item (codes "snapshot=") (length profile.snaps) ∷ number_item (codes "time=") time ∷ number_item (codes "mem_heap_B=") heap ∷ []
 
 -- and its extra bytes
-abbrev four_items : Profile → ℕ → ℕ → ℕ → List Item
+abbrev pub four_items : Profile → ℕ → ℕ → ℕ → List Item
 four_items profile time heap extra = number_item (codes "snapshot=") (length profile.snaps) ∷ number_item (codes "time=") time ∷ number_item (codes "mem_heap_B=") heap ∷ number_item (codes "mem_heap_extra_B=") extra ∷ []
 
 -- and its stack bytes
-abbrev five_items : Profile → ℕ → ℕ → ℕ → ℕ → List Item
+abbrev pub five_items : Profile → ℕ → ℕ → ℕ → ℕ → List Item
 five_items profile time heap extra stacks = number_item (codes "snapshot=") (length profile.snaps) ∷ number_item (codes "time=") time ∷ number_item (codes "mem_heap_B=") heap ∷ number_item (codes "mem_heap_extra_B=") extra ∷ number_item (codes "mem_stacks_B=") stacks ∷ []
 
+-- a whole tree is that of a mark that has one
+tree_of : (mark : HeapTree) → HasTree mark → (tree : List TreeLine) → IsTree tree → IsTreeOf mark tree
+tree_of Empty has tree is = absurd has
+tree_of Detailed has tree is = is
+tree_of Peak has tree is = is
+
 -- the tree of a snapshot, as far as it has come
-record IsBegun (snap : Snap) (to_come : List ℕ) : Type 0 where
-  pub marked : (tree : List TreeLine) → IsTree tree → IsTreeOf snap.mark tree
+pub record IsBegun (snap : Snap) (to_come : List ℕ) : Type 0 where
+  pub marked : HasTree snap.mark
   pub leads : Leads (1 ∷ []) snap.tree to_come
   pub more : 0 < length to_come
 
 -- what the lines say, up to where they are
-abbrev Stands : List (List ℕ) → Progress → Type 0
+abbrev pub Stands : List (List ℕ) → Progress → Type 0
 Stands lines (in_descriptions desc) = Describe [] lines desc
-Stands lines (at_unit desc cmd) = Behind lines desc (command_item cmd ∷ [])
-Stands lines (at_snapshot profile) = Behind lines profile.desc (items_of profile) × AreRight 0 profile.snaps
-Stands lines (at_time profile) = Behind lines profile.desc (items_of profile ++ one_item profile) × AreRight 0 profile.snaps
-Stands lines (at_heap profile time) = Behind lines profile.desc (items_of profile ++ two_items profile time) × AreRight 0 profile.snaps × (last_time profile.snaps ≤ time)
-Stands lines (at_extra profile time heap) = Behind lines profile.desc (items_of profile ++ three_items profile time heap) × AreRight 0 profile.snaps × (last_time profile.snaps ≤ time)
-Stands lines (at_stacks profile time heap extra) = Behind lines profile.desc (items_of profile ++ four_items profile time heap extra) × AreRight 0 profile.snaps × (last_time profile.snaps ≤ time)
-Stands lines (at_mark profile time heap extra stacks) = Behind lines profile.desc (items_of profile ++ five_items profile time heap extra stacks) × AreRight 0 profile.snaps × (last_time profile.snaps ≤ time)
-Stands lines (in_tree profile snap to_come) = Behind lines profile.desc (items_of profile ++ snap_items (length profile.snaps) snap) × AreRight 0 profile.snaps × (last_time profile.snaps ≤ snap.time) × IsBegun snap to_come
+Stands lines (at_unit desc cmd) = Begins lines desc (command_item cmd ∷ [])
+Stands lines (at_snapshot profile) = Begins lines profile.desc (items_of profile) × AreRight 0 profile.snaps
+Stands lines (at_time profile) = Begins lines profile.desc (items_of profile ++ one_item profile) × AreRight 0 profile.snaps
+Stands lines (at_heap profile time) = Begins lines profile.desc (items_of profile ++ two_items profile time) × AreRight 0 profile.snaps × (last_time profile.snaps ≤ time)
+Stands lines (at_extra profile time heap) = Begins lines profile.desc (items_of profile ++ three_items profile time heap) × AreRight 0 profile.snaps × (last_time profile.snaps ≤ time)
+Stands lines (at_stacks profile time heap extra) = Begins lines profile.desc (items_of profile ++ four_items profile time heap extra) × AreRight 0 profile.snaps × (last_time profile.snaps ≤ time)
+Stands lines (at_mark profile time heap extra stacks) = Begins lines profile.desc (items_of profile ++ five_items profile time heap extra stacks) × AreRight 0 profile.snaps × (last_time profile.snaps ≤ time)
+Stands lines (in_tree profile snap to_come) = Begins lines profile.desc (items_of profile ++ snap_items (length profile.snaps) snap) × AreRight 0 profile.snaps × (last_time profile.snaps ≤ snap.time) × IsBegun snap to_come
 Stands lines (refused_for fault) = Unit {0}
 
 -- a snapshot that is whole
-ended : (lines : List (List ℕ)) (profile : Profile) (snap : Snap) → Behind lines profile.desc (items_of profile ++ snap_items (length profile.snaps) snap) → AreRight 0 profile.snaps → last_time profile.snaps ≤ snap.time → IsTreeOf snap.mark snap.tree
+ended : (lines : List (List ℕ)) (profile : Profile) (snap : Snap) → Begins lines profile.desc (items_of profile ++ snap_items (length profile.snaps) snap) → AreRight 0 profile.snaps → last_time profile.snaps ≤ snap.time → IsTreeOf snap.mark snap.tree
     → Stands lines (at_snapshot (with_snap profile snap))
 ended lines profile snap b right later tree =
-    (subst (Behind lines profile.desc) (items_of-with_snap profile snap) b, AreRight-push 0 profile.snaps snap right (omega (arith, later, last_time-is profile.snaps)) tree)
+    (subst (Begins lines profile.desc) (items_of-with_snap profile snap) b, AreRight-push 0 profile.snaps snap right (omega (arith, later, last_time-is profile.snaps)) tree)
 
 -- ---- one line more, by what was awaited
 
@@ -160,18 +160,18 @@ module _ (lines : List (List ℕ)) (line : List ℕ) where
   step_header desc (Some value) h e = Describe-push [] lines desc line value h e
 
   -- at the unit
-  step_unit : (desc cmd : List ℕ) (o : Option TimeUnit) → Behind lines desc (command_item cmd ∷ []) → unit_in (header_value (codes "time_unit:") line) ≡ o
+  step_unit : (desc cmd : List ℕ) (o : Option TimeUnit) → Begins lines desc (command_item cmd ∷ []) → unit_in (header_value (codes "time_unit:") line) ≡ o
       → Stands all (go_on (λ unit. at_snapshot (record { desc = desc; cmd = cmd; unit = unit; snaps = [] })) (or_fault BadHeader o))
   unfolding all
   step_unit desc cmd None h e = tt
-  step_unit desc cmd (Some unit) h e = (Behind-push lines desc (command_item cmd ∷ []) [] line (unit_item unit) h e, tt)
+  step_unit desc cmd (Some unit) h e = (Begins-push lines desc (command_item cmd ∷ []) [] line (unit_item unit) h e, tt)
 
   -- at a snapshot's number, which has to be the count
   step_place : (profile : Profile) (n : ℕ) (t : Bool) → Stands lines (at_snapshot profile) → key_number (codes "snapshot=") line ≡ Ok n → eqb n (length profile.snaps) ≡ t → Stands all (cond t (at_time profile) (refused_for WrongOrder))
   unfolding all
   step_place profile n false h e q = tt
   step_place profile n true h e q =
-      (Behind-push lines profile.desc (items_of profile) [] line (number_item (codes "snapshot=") (length profile.snaps)) (subst (Behind lines profile.desc) (sym (append-nil (items_of profile))) h.0) (subst (λ (k : ℕ). key_number (codes "snapshot=") line ≡ Ok k) (eqb-true n (length profile.snaps) q) e), h.1)
+      (Begins-push lines profile.desc (items_of profile) [] line (number_item (codes "snapshot=") (length profile.snaps)) (subst (Begins lines profile.desc) (sym (append-nil (items_of profile))) h.0) (subst (λ (k : ℕ). key_number (codes "snapshot=") line ≡ Ok k) (eqb-true n (length profile.snaps) q) e), h.1)
 
   -- at a snapshot's number
   step_snapshot : (profile : Profile) (r : Result ℕ ProfileFault) → Stands lines (at_snapshot profile) → key_number (codes "snapshot=") line ≡ r → Stands all (go_on (λ n. cond (eqb n (length profile.snaps)) (at_time profile) (refused_for WrongOrder)) r)
@@ -182,7 +182,7 @@ module _ (lines : List (List ℕ)) (line : List ℕ) where
   step_order : (profile : Profile) (time : ℕ) (t : Bool) → Stands lines (at_time profile) → key_number (codes "time=") line ≡ Ok time → ltb time (last_time profile.snaps) ≡ t → Stands all (cond t (refused_for WrongOrder) (at_heap profile time))
   unfolding all
   step_order profile time true h e q = tt
-  step_order profile time false h e q = (Behind-push lines profile.desc (items_of profile) (one_item profile) line (number_item (codes "time=") time) h.0 e, h.1, ltb-false time (last_time profile.snaps) q)
+  step_order profile time false h e q = (Begins-push lines profile.desc (items_of profile) (one_item profile) line (number_item (codes "time=") time) h.0 e, h.1, ltb-false time (last_time profile.snaps) q)
 
   -- at its time
   step_time : (profile : Profile) (r : Result ℕ ProfileFault) → Stands lines (at_time profile) → key_number (codes "time=") line ≡ r → Stands all (go_on (λ time. cond (ltb time (last_time profile.snaps)) (refused_for WrongOrder) (at_heap profile time)) r)
@@ -193,19 +193,19 @@ module _ (lines : List (List ℕ)) (line : List ℕ) where
   step_heap : (profile : Profile) (time : ℕ) (r : Result ℕ ProfileFault) → Stands lines (at_heap profile time) → key_number (codes "mem_heap_B=") line ≡ r → Stands all (go_on (at_extra profile time) r)
   unfolding all
   step_heap profile time (Err fault) h e = tt
-  step_heap profile time (Ok heap) h e = (Behind-push lines profile.desc (items_of profile) (two_items profile time) line (number_item (codes "mem_heap_B=") heap) h.0 e, h.1, h.2)
+  step_heap profile time (Ok heap) h e = (Begins-push lines profile.desc (items_of profile) (two_items profile time) line (number_item (codes "mem_heap_B=") heap) h.0 e, h.1, h.2)
 
   -- at its extra bytes
   step_extra : (profile : Profile) (time heap : ℕ) (r : Result ℕ ProfileFault) → Stands lines (at_extra profile time heap) → key_number (codes "mem_heap_extra_B=") line ≡ r → Stands all (go_on (at_stacks profile time heap) r)
   unfolding all
   step_extra profile time heap (Err fault) h e = tt
-  step_extra profile time heap (Ok extra) h e = (Behind-push lines profile.desc (items_of profile) (three_items profile time heap) line (number_item (codes "mem_heap_extra_B=") extra) h.0 e, h.1, h.2)
+  step_extra profile time heap (Ok extra) h e = (Begins-push lines profile.desc (items_of profile) (three_items profile time heap) line (number_item (codes "mem_heap_extra_B=") extra) h.0 e, h.1, h.2)
 
   -- at its stack bytes
   step_stacks : (profile : Profile) (time heap extra : ℕ) (r : Result ℕ ProfileFault) → Stands lines (at_stacks profile time heap extra) → key_number (codes "mem_stacks_B=") line ≡ r → Stands all (go_on (at_mark profile time heap extra) r)
   unfolding all
   step_stacks profile time heap extra (Err fault) h e = tt
-  step_stacks profile time heap extra (Ok stacks) h e = (Behind-push lines profile.desc (items_of profile) (four_items profile time heap extra) line (number_item (codes "mem_stacks_B=") stacks) h.0 e, h.1, h.2)
+  step_stacks profile time heap extra (Ok stacks) h e = (Begins-push lines profile.desc (items_of profile) (four_items profile time heap extra) line (number_item (codes "mem_stacks_B=") stacks) h.0 e, h.1, h.2)
 
   -- the snapshot without a tree
   marked : Profile → ℕ → ℕ → ℕ → ℕ → HeapTree → Snap
@@ -217,25 +217,25 @@ module _ (lines : List (List ℕ)) (line : List ℕ) where
   unfolding all marked
   step_mark profile time heap extra stacks None h e = tt
   step_mark profile time heap extra stacks (Some Empty) h e =
-      ended all profile (marked profile time heap extra stacks Empty) (Behind-push lines profile.desc (items_of profile) (five_items profile time heap extra stacks) line (mark_item Empty) h.0 e) h.1 h.2 refl
+      ended all profile (marked profile time heap extra stacks Empty) (Begins-push lines profile.desc (items_of profile) (five_items profile time heap extra stacks) line (mark_item Empty) h.0 e) h.1 h.2 refl
   step_mark profile time heap extra stacks (Some Detailed) h e =
-      (Behind-push lines profile.desc (items_of profile) (five_items profile time heap extra stacks) line (mark_item Detailed) h.0 e, h.1, h.2, record { marked = λ tree is. is; leads = refl; more = omega arith })
+      (Begins-push lines profile.desc (items_of profile) (five_items profile time heap extra stacks) line (mark_item Detailed) h.0 e, h.1, h.2, record { marked = tt; leads = refl; more = omega arith })
   step_mark profile time heap extra stacks (Some Peak) h e =
-      (Behind-push lines profile.desc (items_of profile) (five_items profile time heap extra stacks) line (mark_item Peak) h.0 e, h.1, h.2, record { marked = λ tree is. is; leads = refl; more = omega arith })
+      (Begins-push lines profile.desc (items_of profile) (five_items profile time heap extra stacks) line (mark_item Peak) h.0 e, h.1, h.2, record { marked = tt; leads = refl; more = omega arith })
 
   -- the snapshot with one line more in its tree
-  grown : (profile : Profile) (snap : Snap) (to_come : List ℕ) (node : TreeLine) → Stands lines (in_tree profile snap to_come) → tree_line_of line ≡ Some node → Behind all profile.desc (items_of profile ++ snap_items (length profile.snaps) (with_line snap node))
+  grown : (profile : Profile) (snap : Snap) (to_come : List ℕ) (node : TreeLine) → Stands lines (in_tree profile snap to_come) → tree_line_of line ≡ Some node → Begins all profile.desc (items_of profile ++ snap_items (length profile.snaps) (with_line snap node))
   unfolding all
   grown profile snap to_come node h e =
-      subst (λ (nodes : List Item). Behind (lines ++ line ∷ []) profile.desc (items_of profile ++ (number_item (codes "snapshot=") (length profile.snaps) ∷ number_item (codes "time=") snap.time ∷ number_item (codes "mem_heap_B=") snap.heap ∷ number_item (codes "mem_heap_extra_B=") snap.extra ∷ number_item (codes "mem_stacks_B=") snap.stacks ∷ mark_item snap.mark ∷ nodes)))
+      subst (λ (nodes : List Item). Begins (lines ++ line ∷ []) profile.desc (items_of profile ++ (number_item (codes "snapshot=") (length profile.snaps) ∷ number_item (codes "time=") snap.time ∷ number_item (codes "mem_heap_B=") snap.heap ∷ number_item (codes "mem_heap_extra_B=") snap.extra ∷ number_item (codes "mem_stacks_B=") snap.stacks ∷ mark_item snap.mark ∷ nodes)))
       (sym (map-append node_item snap.tree (node ∷ [])))
-      (Behind-push lines profile.desc (items_of profile) (snap_items (length profile.snaps) snap) line (node_item node) h.0 e)
+      (Begins-push lines profile.desc (items_of profile) (snap_items (length profile.snaps) snap) line (node_item node) h.0 e)
 
   -- in its tree, by what is to come then
   step_levels : (profile : Profile) (snap : Snap) (to_come : List ℕ) (node : TreeLine) (next : List ℕ) → Stands lines (in_tree profile snap to_come) → length to_come ≤ 257 → tree_line_of line ≡ Some node → after_line node.children to_come ≡ next
       → Stands all (after_levels profile (with_line snap node) next)
   step_levels profile snap to_come node [] h few e q =
-      ended all profile (with_line snap node) (grown profile snap to_come node h e) h.1 h.2 (h.3.marked (snap.tree ++ node ∷ []) (tree_leads (snap.tree ++ node ∷ []) (subst (Leads (1 ∷ []) (snap.tree ++ node ∷ [])) q (Leads-push (1 ∷ []) snap.tree to_come node h.3.leads h.3.more few))))
+      ended all profile (with_line snap node) (grown profile snap to_come node h e) h.1 h.2 (tree_of snap.mark h.3.marked (snap.tree ++ node ∷ []) (tree_leads (snap.tree ++ node ∷ []) (subst (Leads (1 ∷ []) (snap.tree ++ node ∷ [])) q (Leads-push (1 ∷ []) snap.tree to_come node h.3.leads h.3.more few))))
   step_levels profile snap to_come node (n ∷ outer) h few e q =
       (grown profile snap to_come node h e, h.1, h.2, record { marked = h.3.marked; leads = subst (Leads (1 ∷ []) (snap.tree ++ node ∷ [])) q (Leads-push (1 ∷ []) snap.tree to_come node h.3.leads h.3.more few); more = omega arith })
 
@@ -271,7 +271,7 @@ take_all p [] = p
 take_all p (line ∷ lines) = take_all (taken p line) lines
 
 -- after all lines
-stands_after : (front lines : List (List ℕ)) (p : Progress) → Stands front p → Stands (front ++ lines) (take_all p lines)
+pub stands_after : (front lines : List (List ℕ)) (p : Progress) → Stands front p → Stands (front ++ lines) (take_all p lines)
 stands_after front [] p h = subst (λ (ls : List (List ℕ)). Stands ls p) (sym (append-nil front)) h
 stands_after front (line ∷ lines) p h =
     subst (λ (ls : List (List ℕ)). Stands ls (take_all (taken p line) lines)) (append_assoc front (line ∷ []) lines) (stands_after (front ++ line ∷ []) lines (taken p line) (step front line p h))

@@ -2,13 +2,9 @@
 use Rattle.std.proofs.Common.{◌≡◌, ℕ, zero, suc, ◌+◌, ◌-◌, ◌<◌, ◌≤◌, List, [], ◌∷◌, ◌++◌, length, refl, sym, ap, subst, ◌∙◌, append_assoc, arith}
 use Rattle.std.proofs.lemmas.List.{append-nil}
 use Rattle.massif_file.specs.declared.profile.TreeLine.{TreeLine}
+use Rattle.massif_file.specs.Leads.{Leads}
 use Rattle.massif_file.specs.Levels.{without_done, after_line}
 use Rattle.massif_file.specs.Trees.{Trees, no_tree, a_tree, count_of, levels_of, lines_of, IsTree}
-
--- The lines lead from what is to come before them to what is to come after them. Each is awaited, and none stands above level 256.
-abbrev pub Leads : List ℕ → List TreeLine → List ℕ → Type 0
-Leads before [] after = before ≡ after
-Leads before (line ∷ lines) after = (0 < length before) × (length before ≤ 257) × Leads (after_line line.children before) lines after
 
 -- lines after lines
 Leads-append : (a : List ℕ) (xs : List TreeLine) (b : List ℕ) (ys : List TreeLine) (c : List ℕ) → Leads a xs b → Leads b ys c → Leads a (xs ++ ys) c

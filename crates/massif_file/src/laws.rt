@@ -22,6 +22,8 @@ pub fn massif_profiles()
     // Any lines are a profile or have a fault, and not both.
     ensures one { (lines : List (List ℕ)) → ((profile : Profile) × is_profile lines profile)
         ⊎ ((number : ℕ) × (fault : ProfileFault) × profile_fault lines number fault) }
+    ensures one_fault { (lines : List (List ℕ)) (n m : ℕ) (f g : ProfileFault) →
+        profile_fault lines n f → profile_fault lines m g → (n ≡ m) × (f ≡ g) }
     ensures one_profile { (lines : List (List ℕ)) (p q : Profile) → is_profile lines p → is_profile lines q → p ≡ q }
     ensures not_both { (lines : List (List ℕ)) (profile : Profile) (number : ℕ) (fault : ProfileFault) →
         is_profile lines profile → profile_fault lines number fault → ⊥ }

@@ -1,4 +1,4 @@
-use Rattle.massif_file.proofs.Profiles.{read_is, is_read, fault_is, is_fault, one_of, one_profile, not_both}
+use Rattle.massif_file.proofs.Profiles.{read_is, is_read, fault_is, is_fault, one_of, one_fault, one_profile, not_both}
 use Rattle.massif_file.proofs.laws.massif_profiles.Goals as goal
 
 pub returns-clause-profile : goal.returns-clause-profile
@@ -15,3 +15,6 @@ returns-clause-one_profile c = one_profile
 
 pub returns-clause-not_both : goal.returns-clause-not_both
 returns-clause-not_both c = not_both
+
+pub returns-clause-one_fault : goal.returns-clause-one_fault
+returns-clause-one_fault c = one_fault
