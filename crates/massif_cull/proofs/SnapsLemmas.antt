@@ -1,16 +1,15 @@
 -- What contracts see of linked snapshots, by their fields, before and after a call.
-use Rattle.std.proofs.Common.{◌≡◌, ℕ, ◌+◌, ◌-◌, ◌<◌, ◌≤◌, List, [], ◌∷◌, ◌++◌, length, map, set, get_or, Option, refl, sym, ap, subst, ◌∙◌, arith}
+use Rattle.std.proofs.Common.{◌≡◌, ℕ, ◌-◌, ◌<◌, ◌≤◌, List, [], ◌∷◌, ◌++◌, length, map, set, get_or, Option, refl, sym, ap, subst, ◌∙◌, arith}
 use Rattle.std.specs.Prelude.{slice_get, remove, Contains, Some, None, IsSome, is_some}
 use Rattle.std.specs.Option.{option_map}
 use Rattle.std.proofs.lemmas.List.{get_or_default, length-map, map-append, length-set, length_push}
 use Rattle.std.proofs.lemmas.List.Edits.{length-remove}
 use Rattle.std.proofs.lemmas.Simd.{map-map}
 use Rattle.std.proofs.lemmas.Option.{slice_get-map, slice_get_within, slice_get-get_or, get_or_from_slice_get}
-use Rattle.massif_cull.specs.declared.snapshot.SnapEntry.{SnapEntry}
 use Rattle.massif_cull.specs.declared.linked.Held.{Held}
 use Rattle.massif_cull.specs.declared.linked.LinkedSnaps.TheInside.{Inside}
 use Rattle.massif_cull.specs.Entries.{end_peak}
-use Rattle.massif_cull.specs.Linked.{EachOf, IsOutside, AreDifferent, AreBelow}
+use Rattle.massif_cull.specs.Linked.{IsOutside, AreDifferent, AreBelow}
 use Rattle.massif_cull.specs.LinksState.{LinksState}
 use Rattle.massif_cull.specs.Held.{held_at, held_in, snaps_of, AreHeld, ended}
 use Rattle.massif_cull.proofs.Linking.{each-append, each-at, each-remove, different-pop}

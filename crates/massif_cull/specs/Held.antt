@@ -1,7 +1,6 @@
 -- What linked snapshots hold, by their fields.
 use Rattle.std.specs.Prelude.{◌≡◌, ℕ, ◌≤◌, List, length, map, Option, None, IsSome}
 use Rattle.std.specs.List.{slice_index_or, filter_map}
-use Rattle.massif_cull.specs.declared.snapshot.SnapEntry.{SnapEntry}
 use Rattle.massif_cull.specs.declared.linked.Held.{Held}
 use Rattle.massif_cull.specs.declared.linked.LinkedSnaps.TheInside.{Inside}
 use Rattle.massif_cull.specs.Entries.{end_peak}

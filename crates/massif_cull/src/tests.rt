@@ -77,9 +77,10 @@ fn links_places(rt: HostRuntime) -> Result<(), Fail> {
     assert_eq!(rt; links.next(first), Some(third));
     assert_eq!(rt; links.prev(third), Some(first));
     assert_eq!(rt; links.prev(first), None);
-    assert_eq!(rt; links.push(), middle);
-    assert_eq!(rt; links.next(third), Some(middle));
-    assert_eq!(rt; links.next(middle), None);
+    let again = links.push();
+    assert_eq!(rt; again, middle);
+    assert_eq!(rt; links.next(third), Some(again));
+    assert_eq!(rt; links.next(again), None);
     assert_eq!(rt; links.len(), 3);
     Ok(())
 }

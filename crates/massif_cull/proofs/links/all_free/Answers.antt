@@ -1,4 +1,4 @@
-use Rattle.std.proofs.Common.{◌≡◌, ◌≢◌, ◌-◌, ◌<◌, ◌≤◌, [], ◌∷◌, ◌++◌, length, List, ℕ, ap, subst, sym, arith}
+use Rattle.std.proofs.Common.{◌≢◌, ◌-◌, ◌<◌, ◌≤◌, [], ◌∷◌, length, ℕ, ap, subst, sym, arith}
 use Rattle.std.proofs.lemmas.List.{length_push}
 use Rattle.massif_cull.specs.Linked.{EachOf, AreBelow, AreDifferent}
 use Rattle.massif_cull.proofs.Linking.{each-append, each-weaker, different-push}

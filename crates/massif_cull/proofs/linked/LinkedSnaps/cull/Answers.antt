@@ -1,4 +1,4 @@
-use Rattle.std.proofs.Common.{◌≡◌, length, refl, ◌∙◌, arith}
+use Rattle.std.proofs.Common.{refl, ◌∙◌, arith}
 use Rattle.massif_cull.proofs.Removals.{left-at_start, left-at_more, left-at_end, left-entries, left-loads, left-long}
 use Rattle.massif_cull.proofs.linked.LinkedSnaps.cull.Goals as goal
 

@@ -1,4 +1,4 @@
-use Rattle.std.proofs.Common.{◌≡◌, ◌∙◌, ℕ, ◌+◌, true, false, ap, sym, subst, arith}
+use Rattle.std.proofs.Common.{◌≡◌, ◌∙◌, ℕ, true, ap, sym, subst, arith}
 use Rattle.massif_cull.specs.Culling.{may_go}
 use Rattle.massif_cull.specs.Entries.{is_peak_at}
 use Rattle.massif_cull.proofs.Places.{second-may_go, may_go-inside, peak-of}

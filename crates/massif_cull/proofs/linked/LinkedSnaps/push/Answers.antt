@@ -1,8 +1,7 @@
-use Rattle.std.proofs.Common.{◌∙◌, ◌++◌, ◌∷◌, [], ap, refl, arith}
+use Rattle.std.proofs.Common.{refl, arith}
 use Rattle.std.specs.Prelude.{Some}
 use Rattle.std.specs.Vec.{with_item}
 use Rattle.massif_cull.specs.declared.linked.LinkedSnaps.TheInside.{Inside}
-use Rattle.massif_cull.specs.SnapsState.{SnapsState}
 use Rattle.massif_cull.proofs.SnapsLemmas.{IsGrown, entries-beside, grown-entries, grown-loads, grown-stays}
 use Rattle.massif_cull.proofs.linked.LinkedSnaps.push.Goals as goal
 use Rattle.massif_cull.proofs.linked.LinkedSnaps.push.Given.{Over}

@@ -1,5 +1,5 @@
-use Rattle.std.proofs.Common.{◌≡◌, ◌∙◌, Option, ap, subst, sym, arith, set}
-use Rattle.std.specs.Prelude.{IsSome, None}
+use Rattle.std.proofs.Common.{◌∙◌, Option, ap, subst, sym, set}
+use Rattle.std.specs.Prelude.{IsSome}
 use Rattle.std.specs.Vec.{with_item}
 use Rattle.massif_cull.specs.declared.linked.Held.{Held}
 use Rattle.massif_cull.specs.declared.linked.LinkedSnaps.TheInside.{Inside}

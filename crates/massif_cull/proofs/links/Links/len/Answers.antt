@@ -1,4 +1,4 @@
-use Rattle.std.proofs.Common.{◌≡◌, ◌+◌, length, arith}
+use Rattle.std.proofs.Common.{◌≡◌, length, arith}
 use Rattle.massif_cull.proofs.LinksLemmas.{places-count, places-different, places-below}
 use Rattle.massif_cull.proofs.links.Links.len.Goals as goal
 

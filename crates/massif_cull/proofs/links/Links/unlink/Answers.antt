@@ -1,5 +1,5 @@
-use Rattle.std.proofs.Common.{◌∙◌, ◌≡◌, List, ℕ, length, ap, subst, sym, refl, arith}
-use Rattle.std.specs.Prelude.{slice_get, remove, Some}
+use Rattle.std.proofs.Common.{◌∙◌, ap, refl, arith}
+use Rattle.std.specs.Prelude.{remove}
 use Rattle.massif_cull.specs.declared.links.Links.TheInside.{Inside}
 use Rattle.massif_cull.specs.LinksState.{LinksState}
 use Rattle.massif_cull.proofs.LinksLemmas.{IsUnlinked, before-most, after-most, unlinked-places, unlinked-stays, places-different}
