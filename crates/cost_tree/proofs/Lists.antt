@@ -1,0 +1,40 @@
+-- Lemmas on the element at a place of a list that grew by one, or of which one was replaced.
+use Rattle.std.proofs.Common.{◌≡◌, ◌≢◌, ℕ, zero, suc, ◌+◌, ◌<◌, ◌≤◌, ◌⊎◌, inl, inr, List, [], ◌∷◌, ◌++◌, length, set, None, Some, refl, sym, ap, ◌∙◌, subst, arith}
+use Rattle.std.specs.Prelude.{slice_get}
+use Rattle.std.proofs.lemmas.Option.{none-some, same_Some}
+
+-- an element before the end stays
+pub get-push_old : {X : Type 0} (xs : List X) (y : X) (n : ℕ) (x : X) → slice_get xs n ≡ Some x → slice_get (xs ++ y ∷ []) n ≡ Some x
+get-push_old [] y n x at = absurd (none-some x at)
+get-push_old (z ∷ zs) y zero x at = at
+get-push_old (z ∷ zs) y (suc n) x at = get-push_old zs y n x at
+
+-- the new element
+pub get-push_new : {X : Type 0} (xs : List X) (y : X) → slice_get (xs ++ y ∷ []) (length xs) ≡ Some y
+get-push_new [] y = refl
+get-push_new (z ∷ zs) y = get-push_new zs y
+
+-- an element is an old one or the new one
+pub get-push_cases : {X : Type 0} (xs : List X) (y : X) (n : ℕ) (x : X) → slice_get (xs ++ y ∷ []) n ≡ Some x → (slice_get xs n ≡ Some x) ⊎ ((n ≡ length xs) × (x ≡ y))
+get-push_cases [] y zero x at = inr (refl, sym (same_Some y x at))
+get-push_cases [] y (suc n) x at = absurd (none-some x at)
+get-push_cases (z ∷ zs) y zero x at = inl at
+get-push_cases (z ∷ zs) y (suc n) x at = elim (get-push_cases zs y n x at) [ inl old ↦ inl old | inr new ↦ inr (ap (λ (k : ℕ). suc k) new.0, new.1) ]
+
+-- the element that is put in place of another
+pub get-set_same : {X : Type 0} (xs : List X) (m : ℕ) (x y : X) → slice_get xs m ≡ Some x → slice_get (set xs m y) m ≡ Some y
+get-set_same [] m x y at = absurd (none-some x at)
+get-set_same (z ∷ zs) zero x y at = refl
+get-set_same (z ∷ zs) (suc m) x y at = get-set_same zs m x y at
+
+-- an element is the one that was put there, or stands elsewhere and stood there before
+pub get-set_cases : {X : Type 0} (xs : List X) (m : ℕ) (y : X) (n : ℕ) (x : X) → slice_get (set xs m y) n ≡ Some x → ((n ≡ m) × (x ≡ y)) ⊎ ((n ≢ m) × (slice_get xs n ≡ Some x))
+get-set_cases [] m y n x at = absurd (none-some x at)
+get-set_cases (z ∷ zs) zero y zero x at = inl (refl, sym (same_Some y x at))
+get-set_cases (z ∷ zs) zero y (suc n) x at = inr ((λ (e : suc n ≡ zero). absurd (omega arith)), at)
+get-set_cases (z ∷ zs) (suc m) y zero x at = inr ((λ (e : zero ≡ suc m). absurd (omega arith)), at)
+get-set_cases (z ∷ zs) (suc m) y (suc n) x at =
+    elim (get-set_cases zs m y n x at) [
+      | inl same ↦ inl (ap (λ (k : ℕ). suc k) same.0, same.1)
+      | inr other ↦ inr ((λ (e : suc n ≡ suc m). other.0 (omega arith)), other.1)
+    ]

@@ -1,0 +1,9 @@
+pub mod Costed
+pub mod Growth
+pub mod Costs
+pub mod FrameTexts
+pub mod Texts
+pub mod Inclusive
+pub mod Children
+pub mod TreeState
+pub mod IsTreeOf

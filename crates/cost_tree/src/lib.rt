@@ -1,0 +1,20 @@
+//! Trees of inclusive costs: each front of some stacks' texts once, with what the stacks below it cost.
+//! Which figure is a stack's cost, and what a tree is printed as, are the business of the callers.
+#![tactic(auto)]
+
+mod branches;
+mod costing;
+mod frame_test;
+mod fronts;
+mod links;
+mod node;
+mod tree;
+
+pub use costing::Costing;
+pub use frame_test::FrameTest;
+pub use fronts::Fronts;
+pub use node::CostNode;
+pub use tree::CostTree;
+
+#[cfg(test)]
+mod tests;
