@@ -175,9 +175,9 @@ WithChild-found names edges nodes stacks done depth stack place edge front are g
       };
       at = here;
       first = λ node node_at none.
-        let figures = grown.figures (place + 1) (front ++ text_of names edge.text ∷ []) node here node_at in
-        let some = grown.only (place + 1) (front ++ text_of names edge.text ∷ []) (omega arith) (λ is. absurd (omega arith)) here in
-        absurd (omega (arith, figures.cost));
+          let figures = grown.figures (place + 1) (front ++ text_of names edge.text ∷ []) node here node_at in
+          let some = grown.only (place + 1) (front ++ text_of names edge.text ∷ []) (omega arith) (λ is. absurd (omega arith)) here in
+          absurd (omega (arith, figures.cost));
     }
 
 -- the tree where the node is new
@@ -206,15 +206,15 @@ IsGrown-made names edges nodes fronts stacks done depth node front are grown sho
         | inr new ↦ elim (get-push_cases nodes node n child child_at) [
           | inl old_child ↦ let inside = slice_get_within nodes n child old_child in absurd (omega (arith, new.0))
           | inr new_child ↦
-            let P : List (List ℕ) → Type 0 = λ xs. CountsFront stacks done xs child in
-            let Q : CostNode → Type 0 = λ x. CountsFront stacks done front x in
-            let own_most = most front in
-            let is : CountsFront stacks done front node = record {
-              cost = omega arith;
-              own = omega arith;
-              first = λ some'. absurd (omega arith);
-            } in
-            subst P (sym new.1) (subst Q (sym new_child.1) is)
+              let P : List (List ℕ) → Type 0 = λ xs. CountsFront stacks done xs child in
+              let Q : CostNode → Type 0 = λ x. CountsFront stacks done front x in
+              let own_most = most front in
+              let is : CountsFront stacks done front node = record {
+                cost = omega arith;
+                own = omega arith;
+                first = λ some'. absurd (omega arith);
+              } in
+              subst P (sym new.1) (subst Q (sym new_child.1) is)
         ]
       ];
       complete = λ some within above. let held = grown.complete some within above in (held.0, get-push_old fronts front held.0 some held.1);

@@ -14,9 +14,10 @@ use Rattle.cost_tree.proofs.Sums.{AddsAt, SameTo, own-push_same, own-push_other}
 
 -- which stack a counted node has as its first
 counted-first : (node : CostNode) (stack cost : ℕ) → (node.cost ≡ 0 → (counted node stack cost).first ≡ stack) × (0 < node.cost → (counted node stack cost).first ≡ node.first)
-counted-first node stack cost =
-    ((λ none. cond-true (node.cost == 0) stack node.first (eq-eqb node.cost 0 none)),
-    (λ some. cond-false (node.cost == 0) stack node.first (ne_eqb node.cost 0 (λ none. absurd (omega arith)))))
+counted-first node stack cost = (
+  (λ none. cond-true (node.cost == 0) stack node.first (eq-eqb node.cost 0 none)),
+  (λ some. cond-false (node.cost == 0) stack node.first (ne_eqb node.cost 0 (λ none. absurd (omega arith)))),
+)
 
 -- the figures of the front at which a stack's cost is counted, and those of the others
 CountsFront-counted : (old new done : List Costed) (front : List (List ℕ)) (node : CostNode) (cost stack : ℕ) → AddsAt front cost stack old new → CountsFront old done front node → CountsFront new done front (counted node stack cost)
@@ -52,10 +53,10 @@ IsGrown-counted names edges nodes fronts old new done depth n at node cost stack
   short = grown.short;
   figures = λ k front child found child_at. elim (get-set_cases nodes n (counted node stack cost) k child child_at) [
     | inl here ↦
-      let same : front ≡ at = same_Some front at (sym found ∙ ap (λ (i : ℕ). slice_get fronts i) here.0 ∙ front_at) in
-      let P : List (List ℕ) → Type 0 = λ xs. CountsFront new done xs child in
-      let Q : CostNode → Type 0 = λ x. CountsFront new done at x in
-      subst P (sym same) (subst Q (sym here.1) (CountsFront-counted old new done at node cost stack adds (grown.figures n at node front_at node_at)))
+        let same : front ≡ at = same_Some front at (sym found ∙ ap (λ (i : ℕ). slice_get fronts i) here.0 ∙ front_at) in
+        let P : List (List ℕ) → Type 0 = λ xs. CountsFront new done xs child in
+        let Q : CostNode → Type 0 = λ x. CountsFront new done at x in
+        subst P (sym same) (subst Q (sym here.1) (CountsFront-counted old new done at node cost stack adds (grown.figures n at node front_at node_at)))
     | inr other ↦ CountsFront-other old new done at front child cost stack adds (apart k front found other.0) (grown.figures k front child found other.1)
   ];
   complete = λ front short some. elim (same_or_not front at) [
@@ -64,9 +65,9 @@ IsGrown-counted names edges nodes fronts old new done depth n at node cost stack
   ];
   only = λ k front over other found. elim (cases_eq k n) [
     | inl here ↦
-      let same : front ≡ at = same_Some front at (sym found ∙ ap (λ (i : ℕ). slice_get fronts i) here ∙ front_at) in
-      let P : List (List ℕ) → Type 0 = λ xs. 0 < inclusive xs new in
-      subst P (sym same) (omega (arith, adds.sum))
+        let same : front ≡ at = same_Some front at (sym found ∙ ap (λ (i : ℕ). slice_get fronts i) here ∙ front_at) in
+        let P : List (List ℕ) → Type 0 = λ xs. 0 < inclusive xs new in
+        subst P (sym same) (omega (arith, adds.sum))
     | inr elsewhere ↦ let same = adds.others front (apart k front found elsewhere) in let before = grown.only k front over elsewhere found in omega arith
   ];
   empty = λ root found none. elim (get-set_cases nodes n (counted node stack cost) 0 root found) [
@@ -74,10 +75,10 @@ IsGrown-counted names edges nodes fronts old new done depth n at node cost stack
     | inr other ↦ grown.empty root other.1 none
   ];
   order = λ k m older younger over le older_at younger_at.
-    let first_k = same_first k older over older_at in
-    let first_m = same_first m younger (omega arith) younger_at in
-    let before = grown.order k m first_k.0 first_m.0 over le first_k.1 first_m.1 in
-    omega (arith, first_k.2, first_m.2);
+      let first_k = same_first k older over older_at in
+      let first_m = same_first m younger (omega arith) younger_at in
+      let before = grown.order k m first_k.0 first_m.0 over le first_k.1 first_m.1 in
+      omega (arith, first_k.2, first_m.2);
 }
   where
     apart : (k : ℕ) (front : List (List ℕ)) → slice_get fronts k ≡ Some front → k ≢ n → front ≢ at
@@ -105,14 +106,14 @@ pub IsGrown-same :
 IsGrown-same fronts nodes old new done newly_done depth grown same owns = record {
   short = grown.short;
   figures = λ n front node found node_at.
-    let short = grown.short n front found in
-    let is = grown.figures n front node found node_at in
-    let sum = same.sum front short in
-    record {
-      cost = is.cost ∙ sym sum;
-      own = is.own ∙ sym (owns front short);
-      first = λ some. let before : 0 < inclusive front old = omega arith in is.first before ∙ sym (same.kept front short before);
-    };
+      let short = grown.short n front found in
+      let is = grown.figures n front node found node_at in
+      let sum = same.sum front short in
+      record {
+        cost = is.cost ∙ sym sum;
+        own = is.own ∙ sym (owns front short);
+        first = λ some. let before : 0 < inclusive front old = omega arith in is.first before ∙ sym (same.kept front short before);
+      };
   complete = λ front short some. let sum = same.sum front short in grown.complete front short (omega arith);
   only = λ n front above other found. let sum = same.sum front (grown.short n front found) in let before = grown.only n front above other found in omega arith;
   empty = grown.empty;
@@ -128,39 +129,39 @@ IsGrown-own names edges nodes fronts stacks done depth n texts node cost are gro
   short = grown.short;
   figures = λ k front child found child_at. elim (get-set_cases nodes n (record node { own = node.own + cost }) k child child_at) [
     | inl here ↦
-      let same : front ≡ texts = same_Some front texts (sym found ∙ ap (λ (i : ℕ). slice_get fronts i) here.0 ∙ front_at) in
-      let P : List (List ℕ) → Type 0 = λ xs. CountsFront stacks (done ++ record { texts = texts; cost = cost } ∷ []) xs child in
-      let Q : CostNode → Type 0 = λ x. CountsFront stacks (done ++ record { texts = texts; cost = cost } ∷ []) texts x in
-      let is = grown.figures n texts node front_at node_at in
-      let own_is = own-push_same done texts cost in
-      let new : CountsFront stacks (done ++ record { texts = texts; cost = cost } ∷ []) texts (record node { own = node.own + cost }) = record {
-        cost = is.cost;
-        own = omega (arith, is.own);
-        first = is.first;
-      } in
-      subst P (sym same) (subst Q (sym here.1) new)
+        let same : front ≡ texts = same_Some front texts (sym found ∙ ap (λ (i : ℕ). slice_get fronts i) here.0 ∙ front_at) in
+        let P : List (List ℕ) → Type 0 = λ xs. CountsFront stacks (done ++ record { texts = texts; cost = cost } ∷ []) xs child in
+        let Q : CostNode → Type 0 = λ x. CountsFront stacks (done ++ record { texts = texts; cost = cost } ∷ []) texts x in
+        let is = grown.figures n texts node front_at node_at in
+        let own_is = own-push_same done texts cost in
+        let new : CountsFront stacks (done ++ record { texts = texts; cost = cost } ∷ []) texts (record node { own = node.own + cost }) = record {
+          cost = is.cost;
+          own = omega (arith, is.own);
+          first = is.first;
+        } in
+        subst P (sym same) (subst Q (sym here.1) new)
     | inr other ↦
-      let is = grown.figures k front child found other.1 in
-      record {
-        cost = is.cost;
-        own = is.own ∙ sym (own-push_other front done texts cost (λ same. other.0 (are.distinct k n texts (found ∙ ap (λ (xs : List (List ℕ)). Some xs) same) front_at)));
-        first = is.first;
-      }
+        let is = grown.figures k front child found other.1 in
+        record {
+          cost = is.cost;
+          own = is.own ∙ sym (own-push_other front done texts cost (λ same. other.0 (are.distinct k n texts (found ∙ ap (λ (xs : List (List ℕ)). Some xs) same) front_at)));
+          first = is.first;
+        }
   ];
   complete = grown.complete;
   only = grown.only;
   empty = λ root found none. elim (get-set_cases nodes n (record node { own = node.own + cost }) 0 root found) [
     | inl here ↦
-      let costs = ap (λ (x : CostNode). x.cost) here.1 in
-      let firsts = ap (λ (x : CostNode). x.first) here.1 in
-      firsts ∙ grown.empty node (ap (λ (i : ℕ). slice_get nodes i) here.0 ∙ node_at) (sym costs ∙ none)
+        let costs = ap (λ (x : CostNode). x.cost) here.1 in
+        let firsts = ap (λ (x : CostNode). x.first) here.1 in
+        firsts ∙ grown.empty node (ap (λ (i : ℕ). slice_get nodes i) here.0 ∙ node_at) (sym costs ∙ none)
     | inr other ↦ grown.empty root other.1 none
   ];
   order = λ k m older younger over le older_at younger_at.
-    let first_k = same_first k older older_at in
-    let first_m = same_first m younger younger_at in
-    let before = grown.order k m first_k.0 first_m.0 over le first_k.1 first_m.1 in
-    omega (arith, first_k.2, first_m.2);
+      let first_k = same_first k older older_at in
+      let first_m = same_first m younger younger_at in
+      let before = grown.order k m first_k.0 first_m.0 over le first_k.1 first_m.1 in
+      omega (arith, first_k.2, first_m.2);
 }
   where
     same_first : (k : ℕ) (child : CostNode) → slice_get (set nodes n (record node { own = node.own + cost })) k ≡ Some child → (before : CostNode) × (slice_get nodes k ≡ Some before) × (child.first ≡ before.first)

@@ -6,3 +6,6 @@ pub mod Branching
 pub mod Counting
 pub mod Edges
 pub mod Stages
+pub mod Linking
+pub mod Trees
+pub mod Copying

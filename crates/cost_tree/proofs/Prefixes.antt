@@ -34,17 +34,18 @@ length-front front texts has =
 -- a front of no more than n texts is one of the first n texts exactly where it is one of all
 pub has_front-take : (front texts : List (List ℕ)) (n : ℕ) → length front ≤ n → has_front front (take n texts) ≡ has_front front texts
 has_front-take front texts n within =
-    same_from_decides (has_front front (take n texts)) (has_front front texts) (has_front-Decides front (take n texts))
-    ((λ has. (has_front-Decides front texts).0 has ∙ sym (take-take (length front) n texts within)),
-    (λ is. (has_front-Decides front texts).1 (is ∙ take-take (length front) n texts within)))
+    same_from_decides (has_front front (take n texts)) (has_front front texts) (has_front-Decides front (take n texts)) (
+      (λ has. (has_front-Decides front texts).0 has ∙ sym (take-take (length front) n texts within)),
+      (λ is. (has_front-Decides front texts).1 (is ∙ take-take (length front) n texts within)),
+    )
 
 -- a longer front isn't one of the first n texts
 pub has_front-longer : (front texts : List (List ℕ)) (n : ℕ) → n < length front → has_front front (take n texts) ≡ false
 has_front-longer front texts n longer =
     false_from_ne_true (has_front front (take n texts)) (λ has.
-      let most = length-front front (take n texts) has in
-      let count = length-take n texts in
-      absurd (omega arith))
+    let most = length-front front (take n texts) has in
+    let count = length-take n texts in
+    absurd (omega arith))
 
 -- a list begins with each of its fronts
 pub has_front-itself : (texts : List (List ℕ)) → has_front texts texts ≡ true
@@ -61,10 +62,10 @@ has_front-more front texts j within other =
     longer_case : j < length front → has_front front (take (j + 1) texts) ≡ has_front front (take j texts)
     longer_case longer =
         false_from_ne_true (has_front front (take (j + 1) texts)) (λ has.
-          let most = length-front front (take (j + 1) texts) has in
-          let count = length-take (j + 1) texts in
-          let whole = take_all (length front) (take (j + 1) texts) (omega arith) in
-          absurd (other ((has_front-Decides front (take (j + 1) texts)).0 has ∙ whole)))
+        let most = length-front front (take (j + 1) texts) has in
+        let count = length-take (j + 1) texts in
+        let whole = take_all (length front) (take (j + 1) texts) (omega arith) in
+        absurd (other ((has_front-Decides front (take (j + 1) texts)).0 has ∙ whole)))
         ∙ sym (has_front-longer front texts j longer)
 
 -- the front that is the list has no other list as its front

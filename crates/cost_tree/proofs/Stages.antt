@@ -6,12 +6,13 @@ use Rattle.std.proofs.lemmas.List.{length-map, length-take, length-take-le, leng
 use Rattle.std.proofs.lemmas.List.Elements.{All-head, All-tail}
 use Rattle.std.proofs.lemmas.List.Sums.{sum_by-cons, sum_by-take-le}
 use Rattle.std.proofs.lemmas.Option.{same_Some, none-some, slice_get_within, slice_get-get_or, slice_get_read, get_or_from_slice_get}
+use Rattle.intern_tables.specs.Distinct.{AreDistinct}
 use Rattle.cost_tree.specs.declared.branches.Edge.{Edge}
 use Rattle.cost_tree.specs.declared.node.CostNode.{CostNode}
 use Rattle.cost_tree.specs.Costed.{Costed, costed}
 use Rattle.cost_tree.specs.Growth.{AreBranches, IsGrown, IsChild, HasGrown, IsStage, AreStacks, numbers_at, stacks_before, counted}
 use Rattle.cost_tree.specs.Inclusive.{inclusive, own}
-use Rattle.cost_tree.specs.Texts.{IsText, text_of, texts_of, lists_of, fronts_of}
+use Rattle.cost_tree.specs.Texts.{IsText, AreLists, text_of, texts_of, lists_of, fronts_of}
 use Rattle.cost_tree.proofs.Branching.{WithChild, WithChild-is, AreBranches-set}
 use Rattle.cost_tree.proofs.Counting.{IsGrown-counted, IsGrown-same, IsGrown-own}
 use Rattle.cost_tree.proofs.Sums.{total, total-push, inclusive-push, inclusive-le-total, own-le-inclusive, AddsAt, AddsAt-begin, AddsAt-more, SameTo, SameTo-end, SameTo-free, own-free, own-push_other}
@@ -107,7 +108,7 @@ Begins-is names edges (node ∷ nodes) lists costs stack depth are within above 
         grown = record {
           branches = AreBranches-set names edges (node ∷ nodes) (fronts_of names edges) 0 node (counted node stack cost) grown.branches refl refl;
           grown = IsGrown-counted names edges (node ∷ nodes) (fronts_of names edges) before (before ++ record { texts = []; cost = cost } ∷ []) before depth 0 [] node cost stack
-            grown.branches grown.grown (subst A next.before adds) above grown.branches.root refl (λ over. absurd (omega arith));
+              grown.branches grown.grown (subst A next.before adds) above grown.branches.root refl (λ over. absurd (omega arith));
         };
         at = grown.branches.root;
       };
@@ -155,9 +156,9 @@ Extends-is names edges new_edges nodes new_nodes lists costs stack depth parent 
     let owns : (some : List (List ℕ)) → own some before ≤ inclusive some (before ++ now ∷ []) = λ some. let most = own-le-inclusive some before in let push = inclusive-push some before now in omega arith in
     let count = length_push before now in
     let with_child = WithChild-is names edges new_edges nodes new_nodes (before ++ now ∷ []) before depth stack place (record { parent = parent; text = text }) (take j texts)
-        stage.grown.branches stage.grown.grown are.distinct is_text stage.at (omega arith) owns (omega (arith, next.before)) child in
+    stage.grown.branches stage.grown.grown are.distinct is_text stage.at (omega arith) owns (omega (arith, next.before)) child in
     let longer : take j texts ++ text_of names text ∷ [] ≡ take (j + 1) texts =
-        sym (take_more texts j [] (omega arith) ∙ ap (λ (xs : List ℕ). take j texts ++ xs ∷ []) (text-at names numbers j text text_at)) in
+    sym (take_more texts j [] (omega arith) ∙ ap (λ (xs : List ℕ). take j texts ++ xs ∷ []) (text-at names numbers j text text_at)) in
     let F : List (List ℕ) → Type 0 = λ xs. slice_get (fronts_of names new_edges) (place + 1) ≡ Some xs in
     let front_at = subst F longer with_child.at in
     let held = slice_get_within (fronts_of names new_edges) (place + 1) (take (j + 1) texts) front_at in
@@ -178,7 +179,7 @@ Extends-is names edges new_edges nodes new_nodes lists costs stack depth parent 
         grown = record {
           branches = AreBranches-set names new_edges new_nodes (fronts_of names new_edges) (place + 1) node (counted node stack cost) with_child.branches node_at refl;
           grown = IsGrown-counted names new_edges new_nodes (fronts_of names new_edges) (before ++ now ∷ []) (before ++ record { texts = take (j + 1) texts; cost = cost } ∷ []) before depth (place + 1) (take (j + 1) texts) node cost stack
-            with_child.branches with_child.grown (subst A next.before adds) above front_at node_at (λ over none. with_child.first node node_at none);
+              with_child.branches with_child.grown (subst A next.before adds) above front_at node_at (λ over none. with_child.first node node_at none);
         };
         at = front_at;
       };
@@ -241,7 +242,7 @@ HasGrown-cut names edges nodes lists costs stack depth node j are within last lo
     subst P (sym next.more) (record {
       branches = stage.grown.branches;
       grown = IsGrown-same (fronts_of names edges) nodes (before ++ record { texts = take j texts; cost = cost } ∷ []) all before all depth stage.grown.grown (subst Q (sym cut) (SameTo-end before texts cost depth))
-        (λ front short. own-push_other front before texts cost (λ same. let counts = ap (λ (xs : List (List ℕ)). length xs) same in absurd (omega arith)));
+          (λ front short. own-push_other front before texts cost (λ same. let counts = ap (λ (xs : List (List ℕ)). length xs) same in absurd (omega arith)));
     })
 
 -- the last stage of a stack that ends at a node
@@ -265,7 +266,7 @@ HasGrown-whole names edges nodes lists costs stack depth n j node are within las
     let F : List (List ℕ) → Type 0 = λ xs. slice_get fronts n ≡ Some xs in
     let G : List (List ℕ) → Type 0 = λ xs. IsGrown fronts new_nodes (before ++ record { texts = xs; cost = cost } ∷ []) all depth 0 in
     let grown = IsGrown-own names edges nodes fronts (before ++ record { texts = take j texts; cost = cost } ∷ []) before depth n texts node cost
-        stage.grown.branches stage.grown.grown (subst F whole stage.at) node_at in
+    stage.grown.branches stage.grown.grown (subst F whole stage.at) node_at in
     subst P (sym next.more) (record {
       branches = AreBranches-set names edges nodes fronts n node (record node { own = node.own + cost }) stage.grown.branches node_at refl;
       grown = subst G whole grown;
@@ -313,3 +314,85 @@ HasGrown-free names edges nodes lists costs stack depth are within free grown =
 -- how many texts a stack has, as it is read
 pub numbers-count : (lists : List (Vec ℕ)) (stack : ℕ) (list : Vec ℕ) → stack < length lists → list ≡ get_or lists stack list → length (numbers_at lists stack) ≡ length list.items
 numbers-count lists stack list within is = ap (λ (xs : List ℕ). length xs) (numbers_at-is lists stack list (slice_get_read lists (length lists) stack list refl within is))
+
+-- node 0 alone
+root-only : (n : ℕ) (front : List (List ℕ)) → slice_get ([] ∷ []) n ≡ Some front → (n ≡ 0) × (front ≡ [])
+root-only zero front at = (refl, sym (same_Some [] front at))
+root-only (suc n) front at = absurd (none-some front at)
+
+root-node : (n : ℕ) (node root : CostNode) → slice_get (root ∷ []) n ≡ Some node → (n ≡ 0) × (node ≡ root)
+root-node zero node root at = (refl, sym (same_Some root node at))
+root-node (suc n) node root at = absurd (none-some node at)
+
+root-branches : (names : List (List ℕ)) → AreBranches names [] (record { parent = 0; cost = 0; own = 0; first = 0 } ∷ []) (fronts_of names [])
+unfolding fronts_of
+root-branches names = record {
+  fronts_count = refl;
+  nodes_count = refl;
+  root = refl;
+  root_parent = λ node at. ap (λ (x : CostNode). x.parent) (root-node 0 node (record { parent = 0; cost = 0; own = 0; first = 0 }) at).1;
+  branch = λ place edge at. absurd (none-some edge at);
+  parent = λ place edge node at node_at. absurd (none-some edge at);
+  distinct = λ m n front at_m at_n. (root-only m front at_m).0 ∙ sym (root-only n front at_n).0;
+}
+
+root-grown : (names : List (List ℕ)) (depth : ℕ) → IsGrown (fronts_of names []) (record { parent = 0; cost = 0; own = 0; first = 0 } ∷ []) [] [] depth 0
+unfolding fronts_of inclusive own
+root-grown names depth = record {
+  short = λ n front at. let count = ap (λ (xs : List (List ℕ)). length xs) (root-only n front at).1 in omega arith;
+  figures = λ n front node at node_at.
+      let is = (root-node n node (record { parent = 0; cost = 0; own = 0; first = 0 }) node_at).1 in
+      record {
+        cost = ap (λ (x : CostNode). x.cost) is;
+        own = ap (λ (x : CostNode). x.own) is;
+        first = λ some. absurd (omega arith);
+      };
+  complete = λ front short some. absurd (omega arith);
+  only = λ n front above other at. let is = (root-only n front at).0 in absurd (omega arith);
+  empty = λ node at none. ap (λ (x : CostNode). x.first) (root-node 0 node (record { parent = 0; cost = 0; own = 0; first = 0 }) at).1;
+  order = λ m n older younger above le older_at younger_at. let is = (root-node m older (record { parent = 0; cost = 0; own = 0; first = 0 }) older_at).0 in absurd (omega arith);
+}
+
+-- no more stacks than costs
+length-costed : (lists : List (List (List ℕ))) (costs : List ℕ) → length (costed lists costs) ≤ length costs
+unfolding costed
+length-costed [] costs = omega arith
+length-costed (texts ∷ lists) [] = omega arith
+length-costed (texts ∷ lists) (cost ∷ costs) = let rest = length-costed lists costs in omega arith
+
+-- a tree of no stacks
+pub HasGrown-start : (names : List (List ℕ)) (edges : List Edge) (nodes : List CostNode) (depth : ℕ) → edges ≡ [] → nodes ≡ record { parent = 0; cost = 0; own = 0; first = 0 } ∷ [] → HasGrown names edges nodes [] [] depth
+HasGrown-start names edges nodes depth no_edges one_node =
+    let P : List Edge → Type 0 = λ xs. HasGrown names xs nodes [] [] depth in
+    let Q : List CostNode → Type 0 = λ xs. HasGrown names [] xs [] [] depth in
+    subst P (sym no_edges) (subst Q (sym one_node) (start names depth))
+  where
+    start : (some_names : List (List ℕ)) (some_depth : ℕ) → HasGrown some_names [] (record { parent = 0; cost = 0; own = 0; first = 0 } ∷ []) [] [] some_depth
+    start some_names some_depth = record {
+      branches = root-branches some_names;
+      grown = root-grown some_names some_depth;
+    }
+
+-- all stacks
+pub stacks_before-all : (names : List (List ℕ)) (lists : List (Vec ℕ)) (costs : List ℕ) (n : ℕ) → length costs ≤ n → stacks_before names lists costs n ≡ costed (lists_of names lists) costs
+stacks_before-all names lists costs n all = let most = length-costed (lists_of names lists) costs in take_all n (costed (lists_of names lists) costs) (omega arith)
+
+-- stacks from lists of texts that are kept as numbers
+pub lists-same : (names kept : List (List ℕ)) (lists read : List (Vec ℕ)) (fronts : List (List (List ℕ))) → kept ≡ names → read ≡ lists → lists_of names lists ≡ fronts → lists_of kept read ≡ fronts
+lists-same names kept lists read fronts kept_is read_is view_is = ap (λ (xs : List (List ℕ)). lists_of xs read) kept_is ∙ ap (λ (xs : List (Vec ℕ)). lists_of names xs) read_is ∙ view_is
+
+pub AreStacks-of :
+    (names kept : List (List ℕ)) (lists read : List (Vec ℕ)) (fronts : List (List (List ℕ))) (costs : List ℕ) → kept ≡ names → read ≡ lists → lists_of names lists ≡ fronts
+    → AreLists names lists → AreDistinct names → length costs ≡ length fronts → sum costs ≤ 2 ^ 62 → AreStacks kept read costs
+AreStacks-of names kept lists read fronts costs kept_is read_is view_is are distinct as_many bound =
+    let P : List (List ℕ) → Type 0 = λ xs. AreStacks xs read costs in
+    let Q : List (Vec ℕ) → Type 0 = λ xs. AreStacks names xs costs in
+    let count = length-map lists (λ (list : Vec ℕ). texts_of names list.items) in
+    let same = ap (λ (xs : List (List (List ℕ))). length xs) view_is in
+    subst P (sym kept_is) (subst Q (sym read_is) (record {
+      as_many = as_many ∙ sym same ∙ count;
+      few = are.few;
+      bound = bound;
+      texts = are.texts;
+      distinct = distinct;
+    }))

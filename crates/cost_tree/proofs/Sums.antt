@@ -66,9 +66,9 @@ unfolding own_part
 own_part-le front stack =
     elim (cases_Bool (is_front front stack.texts)) [
       | inl is ↦
-        let whole : own_part front stack ≡ stack.cost = cond-true (is_front front stack.texts) stack.cost 0 is in
-        let same = part-has front stack (is_front-has front stack.texts is) in
-        omega arith
+          let whole : own_part front stack ≡ stack.cost = cond-true (is_front front stack.texts) stack.cost 0 is in
+          let same = part-has front stack (is_front-has front stack.texts is) in
+          omega arith
       | inr other ↦ let none : own_part front stack ≡ 0 = cond-false (is_front front stack.texts) stack.cost 0 other in omega arith
     ]
 
@@ -106,9 +106,9 @@ least-within front (stack ∷ stacks) some =
     elim (counts-cases front stack) [
       | inl here ↦ let at : least front (stack ∷ stacks) ≡ 0 = first ∙ ap (λ (b : Bool). cond (not b) (1 + least front stacks) 0) here.0 in omega arith
       | inr later ↦
-        let at : least front (stack ∷ stacks) ≡ 1 + least front stacks = first ∙ ap (λ (b : Bool). cond (not b) (1 + least front stacks) 0) later.0 in
-        let rest = least-within front stacks (omega arith) in
-        omega arith
+          let at : least front (stack ∷ stacks) ≡ 1 + least front stacks = first ∙ ap (λ (b : Bool). cond (not b) (1 + least front stacks) 0) later.0 in
+          let rest = least-within front stacks (omega arith) in
+          omega arith
     ]
 
 -- a front that costs nothing has none
@@ -121,9 +121,9 @@ least-none front (stack ∷ stacks) none =
     elim (counts-cases front stack) [
       | inl here ↦ absurd (omega arith)
       | inr later ↦
-        let at : least front (stack ∷ stacks) ≡ 1 + least front stacks = first ∙ ap (λ (b : Bool). cond (not b) (1 + least front stacks) 0) later.0 in
-        let rest = least-none front stacks (omega arith) in
-        omega arith
+          let at : least front (stack ∷ stacks) ≡ 1 + least front stacks = first ∙ ap (λ (b : Bool). cond (not b) (1 + least front stacks) 0) later.0 in
+          let rest = least-none front stacks (omega arith) in
+          omega arith
     ]
 
 -- a least stack stays, and a stack that comes is the least where there was none
@@ -139,8 +139,8 @@ least-push_new front stacks stack none some =
     let push = least-push front stacks stack in
     elim (counts-cases front stack) [
       | inl here ↦
-        let add : ◌≡◌ {A = ℕ} (cond (counts front stack) 0 1) 0 = cond-true (counts front stack) 0 1 here.0 in
-        grind (arith, nat_tests)
+          let add : ◌≡◌ {A = ℕ} (cond (counts front stack) 0 1) 0 = cond-true (counts front stack) 0 1 here.0 in
+          grind (arith, nat_tests)
       | inr none' ↦ absurd (omega arith)
     ]
 
@@ -161,8 +161,8 @@ least-instead front stacks before after keeps some =
     elim (cases_lt 0 (inclusive front stacks)) [
       | inl old ↦ least-push_old front stacks after old ∙ sym (least-push_old front stacks before old)
       | inr none ↦
-        let here : 0 < part front before = omega arith in
-        least-push_new front stacks after (omega arith) (keeps here) ∙ sym (least-push_new front stacks before (omega arith) here)
+          let here : 0 < part front before = omega arith in
+          least-push_new front stacks after (omega arith) (keeps here) ∙ sym (least-push_new front stacks before (omega arith) here)
     ]
 
 -- the one front `at` costs so much more, and where it cost nothing, its least stack is this one
@@ -215,9 +215,9 @@ AddsAt-more stacks texts cost j above within =
     keeps front has =
         elim (same_or_not front (take (j + 1) texts)) [
           | inl is ↦
-            let P : List (List ℕ) → Type 0 = λ xs. 0 < part xs (record { texts = take (j + 1) texts; cost = cost }) in
-            let whole = part-has (take (j + 1) texts) (record { texts = take (j + 1) texts; cost = cost }) (has_front-itself (take (j + 1) texts)) in
-            subst P (sym is) (omega arith)
+              let P : List (List ℕ) → Type 0 = λ xs. 0 < part xs (record { texts = take (j + 1) texts; cost = cost }) in
+              let whole = part-has (take (j + 1) texts) (record { texts = take (j + 1) texts; cost = cost }) (has_front-itself (take (j + 1) texts)) in
+              subst P (sym is) (omega arith)
           | inr other ↦ let same = same_part front other in omega arith
         ]
 
@@ -241,9 +241,9 @@ SameTo-end stacks texts cost depth =
     same_has front short =
         elim (cases_lt depth (length texts)) [
           | inl longer ↦
-            let P : ℕ → Type 0 = λ n. has_front front texts ≡ has_front front (take n texts) in
-            let cut : depth ≡ min (length texts) depth = omega arith in
-            subst P cut (sym (has_front-take front texts depth short))
+              let P : ℕ → Type 0 = λ n. has_front front texts ≡ has_front front (take n texts) in
+              let cut : depth ≡ min (length texts) depth = omega arith in
+              subst P cut (sym (has_front-take front texts depth short))
           | inr whole ↦ ap (λ (xs : List (List ℕ)). has_front front xs) (sym (take_all (min (length texts) depth) texts (omega arith)))
         ]
 

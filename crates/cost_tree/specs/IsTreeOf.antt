@@ -29,12 +29,10 @@ pub record IsTreeOf (tree : TreeState) (stacks : List Costed) (depth : ℕ) : Ty
   pub complete : (front : List (List ℕ)) → length front ≤ depth → 0 < inclusive front stacks → (n : ℕ) × (slice_get tree.fronts n ≡ Some front)
   pub only : (n : ℕ) (front : List (List ℕ)) → 0 < n → slice_get tree.fronts n ≡ Some front → 0 < inclusive front stacks
   pub short : (n : ℕ) (front : List (List ℕ)) → slice_get tree.fronts n ≡ Some front → length front ≤ depth
-
   -- what they say
   pub figures : (n : ℕ) (front : List (List ℕ)) (node : CostNode) → slice_get tree.fronts n ≡ Some front → slice_get tree.nodes n ≡ Some node → HasFigures stacks front node
   pub below : (n : ℕ) (front : List (List ℕ)) (node : CostNode) → 0 < n → slice_get tree.fronts n ≡ Some front → slice_get tree.nodes n ≡ Some node → IsBelow tree n front node
   pub root_parent : (node : CostNode) → slice_get tree.nodes 0 ≡ Some node → node.parent ≡ 0
-
   -- the children of a node, in the order of their numbers, stand by ascending `first`
   pub brothers : (m n : ℕ) (older younger : CostNode) → 0 < m → m < n → slice_get tree.nodes m ≡ Some older → slice_get tree.nodes n ≡ Some younger
-    → older.parent ≡ younger.parent → older.first < younger.first
+      → older.parent ≡ younger.parent → older.first < younger.first

@@ -7,3 +7,4 @@ pub mod Inclusive
 pub mod Children
 pub mod TreeState
 pub mod IsTreeOf
+pub mod View

@@ -1,8 +1,9 @@
 //! A tree that grows by one stack after another: a child is found by its parent and the number of its text.
 //! The order of a node's children, and what callers see of a tree, are made when it is whole.
 ghost use Rattle.std.specs.Prelude.{◌≡◌, ℕ, ◌+◌, ◌^◌, ◌<◌, [], length, IfOk, OnOk, slice_index};
+ghost use Rattle.cost_tree.specs.Costed.{costed};
 ghost use Rattle.cost_tree.specs.Growth.{AreStacks, HasGrown, IsChild, IsStage, counted, numbers_at, stacks_before};
-ghost use Rattle.cost_tree.specs.Texts.{texts_of};
+ghost use Rattle.cost_tree.specs.Texts.{texts_of, lists_of};
 
 use crate::node::CostNode;
 use hp_num::NoMemory;
@@ -26,8 +27,31 @@ pub(crate) struct Branches {
 }
 
 impl Branches {
+    /// The nodes of the fronts of at most `depth` texts of the stacks with these lists of numbers of names and these
+    /// costs, or `NoMemory`.
+    pub(crate) fn of(
+        alloc: Global,
+        names: Names,
+        lists: &[Vec<usize>],
+        costs: &[u64],
+        depth: usize,
+    ) -> Result<Branches, NoMemory>
+        requires stacks { AreStacks names lists.now costs.now }
+        ensures names { IfOk result (λ branches. branches.names ≡ names) }
+        ensures grown { IfOk result (λ branches. HasGrown branches.names branches.edges.keys branches.nodes.items (costed (lists_of branches.names lists.now) costs.now) (costed (lists_of branches.names lists.now) costs.now) depth) }
+    {
+        let mut branches = Branches::new(alloc, names)?;
+        'each_stack: for stack in 0..costs.len() {
+            if costs[stack] == 0 {
+                continue;
+            }
+            branches.add(lists, costs, stack, depth)?;
+        }
+        Ok(branches)
+    }
+
     /// Node 0 alone, for lists of numbers of these names, or `NoMemory`.
-    pub(crate) fn new(alloc: Global, names: Names) -> Result<Branches, NoMemory>
+    fn new(alloc: Global, names: Names) -> Result<Branches, NoMemory>
         ensures names { IfOk result (λ branches. branches.names ≡ names) }
         ensures grown { IfOk result (λ branches. (depth : ℕ) → HasGrown branches.names branches.edges.keys branches.nodes.items [] [] depth) }
     {
@@ -47,7 +71,7 @@ impl Branches {
 
     /// Adds the stack, which costs something: its cost to each front of its texts of at most `depth`, and to its own.
     /// `NoMemory` leaves the tree unfit for use.
-    pub(crate) fn add(
+    fn add(
         &mut self,
         lists: &[Vec<usize>],
         costs: &[u64],

@@ -1,4 +1,7 @@
 //! The children of each node, as links from a node to its first child and from a child to the next.
+ghost use Rattle.std.specs.Prelude.{◌≡◌, ℕ, ◌<◌, length, Some, IfOk, slice_get};
+ghost use Rattle.cost_tree.specs.declared.node.CostNode.{CostNode};
+ghost use Rattle.cost_tree.specs.Children.{AreLinks};
 
 use crate::node::CostNode;
 use hp_num::NoMemory;
@@ -13,10 +16,14 @@ pub(crate) struct Links {
 
 impl Links {
     /// The links of the nodes, each of which stands behind its parent, or `NoMemory`.
-    pub(crate) fn of(alloc: Global, nodes: &[CostNode]) -> Result<Links, NoMemory> {
+    pub(crate) fn of(alloc: Global, nodes: &[CostNode]) -> Result<Links, NoMemory>
+        requires some { 0 < length nodes.now }
+        requires lower { (n : ℕ) (node : CostNode) → 0 < n → slice_get nodes.now n ≡ Some node → node.parent < n }
+        ensures links { IfOk result (λ links. AreLinks nodes.now links.first_children.items links.next_brothers.items) }
+    {
         let mut first_children = vec![in alloc; 0; nodes.len()]?;
         let mut next_brothers = vec![in alloc; 0; nodes.len()]?;
-        for done in 1..nodes.len() {
+        'each_node: for done in 1..nodes.len() {
             let n = nodes.len() - done;
             let parent = nodes[n].parent;
             next_brothers[n] = first_children[parent];

@@ -1,5 +1,12 @@
 //! The tree of inclusive costs, and what its nodes say.
 //! How it grows is in `branches`, and the order of its children in `links`.
+ghost use Rattle.std.specs.Prelude.{◌≡◌, ◌≢◌, ℕ, ◌+◌, ◌^◌, ◌<◌, ◌≤◌, ◌↔◌, List, [], ◌∷◌, ◌++◌, length, sum, Some, IfOk, OnOk, OnErr, IsOk, Contains, slice_get, vec_capacity};
+ghost use Rattle.intern_tables.specs.Distinct.{AreDistinct};
+ghost use Rattle.cost_tree.specs.declared.node.CostNode.{CostNode};
+ghost use Rattle.cost_tree.specs.Children.{children_of};
+ghost use Rattle.cost_tree.specs.Costed.{costed};
+ghost use Rattle.cost_tree.specs.Costs.{AreCosts};
+ghost use Rattle.cost_tree.specs.IsTreeOf.{IsTreeOf};
 
 use crate::branches::{Branches, Edge};
 use crate::costing::Costing;
@@ -10,6 +17,7 @@ use hp_num::NoMemory;
 use indexmap::IndexSet;
 use intern_tables::Names;
 use std::alloc::Global;
+use std::marker::Model;
 
 /// The fronts of some stacks' texts, each with what the stacks cost that begin with it.
 #[derive(Debug, Drop)]
@@ -20,6 +28,18 @@ pub struct CostTree {
     links: Links,
 }
 
+impl Model for CostTree {
+    ghost use Rattle.cost_tree.specs.TreeState.{TreeState};
+
+    ghost Value = { TreeState };
+
+    ghost use Rattle.cost_tree.specs.View.{state_of, IsWhole};
+
+    ghost view = { state_of };
+
+    ghost invariant = { IsWhole };
+}
+
 impl CostTree {
     /// The tree of the lists with these costs, to fronts of at most `depth` texts, or `NoMemory`.
     pub fn of_fronts<F: Fn(u32) -> u64>(
@@ -27,9 +47,28 @@ impl CostTree {
         fronts: &Fronts,
         costing: &Costing<F>,
         depth: u32,
-    ) -> Result<CostTree, NoMemory> {
+    ) -> Result<CostTree, NoMemory>
+        requires as_many { costing.now.stacks ≡ length fronts.now }
+        requires stated { (costs : List ℕ) × AreCosts (F.pre costing.now.cost) (F.post costing.now.cost) costing.now.stacks costs }
+        ensures tree { IfOk result (λ tree. (costs : List ℕ) → AreCosts (F.pre costing.now.cost) (F.post costing.now.cost) costing.now.stacks costs → IsTreeOf tree (costed fronts.now costs) depth) }
+    {
         let costs = costing.list(alloc)?;
-        let branches = branches_of(alloc, fronts, &costs, depth as usize)?;
+        CostTree::of_costs(alloc, fronts, &costs, depth)
+    }
+
+    /// The tree of the lists with these costs, or `NoMemory`.
+    fn of_costs(
+        alloc: Global,
+        fronts: &Fronts,
+        costs: &[u64],
+        depth: u32,
+    ) -> Result<CostTree, NoMemory>
+        requires as_many { length costs.now ≡ length fronts.now }
+        requires bound { sum costs.now ≤ 2 ^ 62 }
+        ensures tree { IfOk result (λ tree. IsTreeOf tree (costed fronts.now costs.now) depth) }
+    {
+        let names = copy_names(alloc, &fronts.names)?;
+        let branches = Branches::of(alloc, names, &fronts.lists, costs, depth as usize)?;
         let Branches {
             names,
             edges,
@@ -45,36 +84,59 @@ impl CostTree {
     }
 
     /// How many nodes there are: at least one.
-    pub fn len(&self) -> usize {
+    pub fn len(&self) -> usize
+        ensures nodes { result ≡ length self.now.nodes }
+        ensures fronts { result ≡ length self.now.fronts }
+        ensures some { 0 < result }
+    {
         self.nodes.len()
     }
 
     /// The figures of node `n`, which must be held.
-    pub fn node(&self, n: usize) -> CostNode {
+    pub fn node(&self, n: usize) -> CostNode
+        requires held { n < length self.now.nodes }
+        ensures node { slice_get self.now.nodes n ≡ Some result }
+        ensures lower { 0 < n → result.parent < n }
+        ensures root { n ≡ 0 → result.parent ≡ 0 }
+    {
         self.nodes[n]
     }
 
     /// The last text of the front of node `n`, which must be held; it is empty for node 0.
-    pub fn text(&self, n: usize) -> &[u8] {
-        if n == 0 {
-            return b"";
-        }
-        match self.edges.get_index(n - 1) {
-            None => b"",
-            Some(edge) => match self.names.name(edge.text) {
-                None => b"",
-                Some(text) => text,
-            },
-        }
+    pub fn text(&self, n: usize) -> &[u8]
+        requires held { n < length self.now.nodes }
+        ensures root { n ≡ 0 → result.now ≡ [] }
+        ensures last { 0 < n → (front : List (List ℕ)) × (slice_get self.now.fronts n ≡ Some (front ++ result.now ∷ [])) }
+    {
+        let Some(place) = n.checked_sub(1) else {
+            return &[];
+        };
+        let Some(edge) = self.edges.get_index(place) else {
+            return &[];
+        };
+        self.names.name(edge.text).unwrap_or(&[])
     }
 
     /// Replaces `out` by the children of node `n`, which must be held, by ascending `first`.
-    pub fn children_into(&self, n: usize, out: &mut Vec<usize>) -> Result<(), NoMemory> {
+    pub fn children_into(&self, n: usize, out: &mut Vec<usize>) -> Result<(), NoMemory>
+        requires held { n < length self.now.nodes }
+        ensures children { OnOk result (out.new.items ≡ children_of self.now.nodes n) }
+        ensures unchanged { OnErr result (out.new.items ≡ out.old.items) }
+    {
         let count = self.child_count(n);
         out.reserve(count.saturating_sub(out.len()))?;
         out.clear();
+        self.push_children(n, out)
+    }
+
+    /// Appends the children of node `n`.
+    fn push_children(&self, n: usize, out: &mut Vec<usize>) -> Result<(), NoMemory>
+        requires held { n < length self.now.nodes }
+        ensures children { OnOk result (out.new.items ≡ out.old.items ++ children_of self.now.nodes n) }
+        ensures room { length out.old.items + length (children_of self.now.nodes n) ≤ vec_capacity out.old → IsOk result }
+    {
         let mut child = self.links.first_children[n];
-        while child != 0 {
+        'each_child: while child != 0 {
             out.push(child)?;
             child = self.links.next_brothers[child];
         }
@@ -82,10 +144,13 @@ impl CostTree {
     }
 
     /// How many children node `n` has.
-    fn child_count(&self, n: usize) -> usize {
+    fn child_count(&self, n: usize) -> usize
+        requires held { n < length self.now.nodes }
+        ensures { result ≡ length (children_of self.now.nodes n) }
+    {
         let mut count = 0;
         let mut child = self.links.first_children[n];
-        while child != 0 {
+        'each_child: while child != 0 {
             count += 1;
             child = self.links.next_brothers[child];
         }
@@ -93,27 +158,13 @@ impl CostTree {
     }
 }
 
-/// The nodes of all fronts.
-fn branches_of(
-    alloc: Global,
-    fronts: &Fronts,
-    costs: &[u64],
-    depth: usize,
-) -> Result<Branches, NoMemory> {
-    let names = copy_names(alloc, &fronts.names)?;
-    let mut branches = Branches::new(alloc, names)?;
-    for stack in 0..costs.len() {
-        if costs[stack] > 0 {
-            branches.add(&fronts.lists, costs, stack, depth)?;
-        }
-    }
-    Ok(branches)
-}
-
 /// The same names under the same numbers, or `NoMemory`.
-fn copy_names(alloc: Global, names: &Names) -> Result<Names, NoMemory> {
+fn copy_names(alloc: Global, names: &Names) -> Result<Names, NoMemory>
+    ensures same { IfOk result (λ copy. copy ≡ names.now) }
+    ensures distinct { AreDistinct names.now }
+{
     let mut copy = Names::new(alloc);
-    for place in 0..names.len() {
+    'each_name: for place in 0..names.len() {
         if let Some(name) = names.name(place + 1) {
             copy.intern(name)?;
         }

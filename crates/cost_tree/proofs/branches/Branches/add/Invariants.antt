@@ -8,5 +8,5 @@ abbrev pub invariant-each_text : goal.invariant-each_text
 invariant-each_text l = record {
   kept : l.self.names ≡ l.initial.self.names;
   stacks : AreStacks l.self.names l.lists l.costs;
-  stage : IsStage l.self.names l.self.edges.keys l.self.nodes.items (stacks_before l.self.names l.lists l.costs l.stack) (texts_of l.self.names (numbers_at l.lists l.stack)) (slice_index l.costs l.stack) l.depth l.node l.place
+  stage : IsStage l.self.names l.self.edges.keys l.self.nodes.items (stacks_before l.self.names l.lists l.costs l.stack) (texts_of l.self.names (numbers_at l.lists l.stack)) (slice_index l.costs l.stack) l.depth l.node l.place;
 }

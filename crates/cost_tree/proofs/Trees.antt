@@ -1,0 +1,141 @@
+-- A tree that has grown is the tree of its stacks.
+use Rattle.std.proofs.Common.{◌≡◌, ◌≢◌, ℕ, zero, suc, ◌+◌, ◌-◌, ◌<◌, ◌≤◌, ◌⊎◌, inl, inr, Bool, true, false, ◌&&◌, List, [], ◌∷◌, ◌++◌, length, take, get_or, Some, refl, sym, ap, ◌∙◌, subst, arith}
+use Rattle.std.specs.Prelude.{slice_get, nat_lt}
+use Rattle.std.proofs.lemmas.Bool.{cases_eq, cases_order, and_parts}
+use Rattle.std.proofs.lemmas.List.{length_push}
+use Rattle.std.proofs.lemmas.List.Sums.{passes_at_first}
+use Rattle.std.proofs.lemmas.Option.{slice_get_within, slice_get-get_or, get_or_from_slice_get}
+use Rattle.cost_tree.specs.declared.branches.Edge.{Edge}
+use Rattle.cost_tree.specs.declared.node.CostNode.{CostNode}
+use Rattle.cost_tree.specs.Costed.{Costed}
+use Rattle.cost_tree.specs.Growth.{AreBranches, HasGrown}
+use Rattle.cost_tree.specs.Inclusive.{has_front, inclusive, least}
+use Rattle.cost_tree.specs.IsTreeOf.{HasFigures, IsBelow, IsTreeOf}
+use Rattle.cost_tree.specs.Texts.{text_of, next_front, fronts_of}
+use Rattle.cost_tree.specs.TreeState.{TreeState}
+use Rattle.cost_tree.proofs.Prefixes.{has_front-Decides}
+use Rattle.cost_tree.proofs.Sums.{least-within}
+
+-- the least stack of a front begins with it
+least-has : (front : List (List ℕ)) (stacks : List Costed) (d : Costed) → 0 < inclusive front stacks → has_front front (get_or stacks (least front stacks) d).texts ≡ true
+unfolding least
+least-has front stacks d some =
+    let within = least-within front stacks some in
+    (and_parts (nat_lt 0 (get_or stacks (least front stacks) d).cost) (has_front front (get_or stacks (least front stacks) d).texts)
+    (passes_at_first (λ (s : Costed). nat_lt 0 s.cost && has_front front s.texts) stacks d within)).1
+
+-- two fronts of one length with one least stack are equal
+same_least : (front other : List (List ℕ)) (stacks : List Costed) → 0 < inclusive front stacks → 0 < inclusive other stacks → length front ≡ length other → least front stacks ≡ least other stacks → front ≡ other
+same_least front other stacks some some_other lengths leasts =
+    let d : Costed = record { texts = []; cost = 0 } in
+    let here = (has_front-Decides front (get_or stacks (least front stacks) d).texts).0 (least-has front stacks d some) in
+    let there = (has_front-Decides other (get_or stacks (least other stacks) d).texts).0 (least-has other stacks d some_other) in
+    here
+    ∙ ap (λ (n : ℕ). take n (get_or stacks (least front stacks) d).texts) lengths
+    ∙ ap (λ (k : ℕ). take (length other) (get_or stacks k d).texts) leasts
+    ∙ sym there
+
+-- each node but node 0 has an edge, which says its parent and its front
+pub record HasEdge (names : List (List ℕ)) (edges : List Edge) (fronts : List (List (List ℕ))) (n : ℕ) (node : CostNode) : Type 0 where
+  pub edge : Edge
+  pub at : slice_get edges (n - 1) ≡ Some edge
+  pub lower : node.parent < n
+  pub parent_front : List (List ℕ)
+  pub parent : slice_get fronts node.parent ≡ Some parent_front
+  pub front : slice_get fronts n ≡ Some (parent_front ++ text_of names edge.text ∷ [])
+
+pub HasEdge-is : (names : List (List ℕ)) (edges : List Edge) (nodes : List CostNode) (fronts : List (List (List ℕ))) (n : ℕ) (node : CostNode) → AreBranches names edges nodes fronts → 0 < n → slice_get nodes n ≡ Some node → HasEdge names edges fronts n node
+HasEdge-is names edges nodes fronts zero node are above at = absurd (omega arith)
+HasEdge-is names edges nodes fronts (suc place) node are above at =
+    let inside = slice_get_within nodes (suc place) node at in
+    let no_edge : Edge = record { parent = 0; text = 0 } in
+    let edge : Edge = get_or edges place no_edge in
+    let edge_at = slice_get-get_or edges place no_edge (omega (arith, are.nodes_count)) in
+    let branch = are.branch place edge edge_at in
+    let next : place + 1 ≡ suc place = omega arith in
+    let back : place ≡ suc place - 1 = omega arith in
+    let N : ℕ → Type 0 = λ k. slice_get nodes k ≡ Some node in
+    let F : ℕ → Type 0 = λ k. slice_get fronts k ≡ Some (next_front names fronts edge) in
+    let E : ℕ → Type 0 = λ k. slice_get edges k ≡ Some edge in
+    let parent = are.parent place edge node edge_at (subst N (sym next) at) in
+    let P : ℕ → Type 0 = λ k. slice_get fronts k ≡ Some (get_or fronts edge.parent []) in
+    record {
+      edge = edge;
+      at = subst E back edge_at;
+      lower = omega (arith, branch.earlier);
+      parent_front = get_or fronts edge.parent [];
+      parent = subst P (sym parent) (slice_get-get_or fronts edge.parent [] (omega (arith, branch.earlier, are.fronts_count)));
+      front = subst F next branch.front;
+    }
+
+pub IsTreeOf-grown : (names : List (List ℕ)) (edges : List Edge) (nodes : List CostNode) (stacks : List Costed) (depth : ℕ) → HasGrown names edges nodes stacks stacks depth → IsTreeOf (record { fronts = fronts_of names edges; nodes = nodes }) stacks depth
+IsTreeOf-grown names edges nodes stacks depth has =
+    let fronts : List (List (List ℕ)) = fronts_of names edges in
+    let are = has.branches in
+    let grown = has.grown in
+    record {
+      root = are.root;
+      count = are.nodes_count ∙ sym are.fronts_count;
+      distinct = are.distinct;
+      complete = grown.complete;
+      only = λ n front above at. grown.only n front above (λ is. absurd (omega arith)) at;
+      short = grown.short;
+      figures = λ n front node front_at node_at. figures_of n front node front_at node_at;
+      below = λ n front node above front_at node_at.
+        let edge = HasEdge-is names edges nodes fronts n node are above node_at in
+        record {
+          lower = edge.lower;
+          text = text_of names edge.edge.text;
+          parent_front = edge.parent_front;
+          parent = edge.parent;
+          longer = sym (get_or_from_slice_get fronts n front [] front_at) ∙ get_or_from_slice_get fronts n (edge.parent_front ++ text_of names edge.edge.text ∷ []) [] edge.front;
+        };
+      root_parent = are.root_parent;
+      brothers = λ m n older younger above later older_at younger_at same. brothers_of m n older younger above later older_at younger_at same;
+    }
+  where
+    figures_of : (n : ℕ) (front : List (List ℕ)) (node : CostNode) → slice_get (fronts_of names edges) n ≡ Some front → slice_get nodes n ≡ Some node → HasFigures stacks front node
+    figures_of n front node front_at node_at =
+        let is = has.grown.figures n front node front_at node_at in
+        record {
+          cost = is.cost;
+          own = is.own;
+          first = is.first;
+          first_of_none = λ none. elim (cases_eq n 0) [
+            | inl root ↦ has.grown.empty node (ap (λ (k : ℕ). slice_get nodes k) (sym root) ∙ node_at) (is.cost ∙ none)
+            | inr other ↦ let some = has.grown.only n front (omega arith) other front_at in absurd (omega arith)
+          ];
+        }
+
+    brothers_of : (m n : ℕ) (older younger : CostNode) → 0 < m → m < n → slice_get nodes m ≡ Some older → slice_get nodes n ≡ Some younger → older.parent ≡ younger.parent → older.first < younger.first
+    brothers_of m n older younger above later older_at younger_at same =
+        let fronts : List (List (List ℕ)) = fronts_of names edges in
+        let are = has.branches in
+        let edge_m = HasEdge-is names edges nodes fronts m older are above older_at in
+        let edge_n = HasEdge-is names edges nodes fronts n younger are (omega arith) younger_at in
+        let front_m : List (List ℕ) = edge_m.parent_front ++ text_of names edge_m.edge.text ∷ [] in
+        let front_n : List (List ℕ) = edge_n.parent_front ++ text_of names edge_n.edge.text ∷ [] in
+        let parents : edge_m.parent_front ≡ edge_n.parent_front =
+            sym (get_or_from_slice_get fronts older.parent edge_m.parent_front [] edge_m.parent) ∙ ap (λ (k : ℕ). get_or fronts k []) same ∙ get_or_from_slice_get fronts younger.parent edge_n.parent_front [] edge_n.parent in
+        let parent_lengths = ap (λ (xs : List (List ℕ)). length xs) parents in
+        let length_m = length_push edge_m.parent_front (text_of names edge_m.edge.text) in
+        let length_n = length_push edge_n.parent_front (text_of names edge_n.edge.text) in
+        let some_m = has.grown.only m front_m above (λ is. absurd (omega arith)) edge_m.front in
+        let some_n = has.grown.only n front_n (omega arith) (λ is. absurd (omega arith)) edge_n.front in
+        let first_m = (has.grown.figures m front_m older edge_m.front older_at).first some_m in
+        let first_n = (has.grown.figures n front_n younger edge_n.front younger_at).first some_n in
+        let order = has.grown.order m n older younger above (omega arith) older_at younger_at in
+        elim (cases_eq older.first younger.first) [
+          | inl equal ↦
+            let fronts_same = same_least front_m front_n stacks some_m some_n (omega arith) (sym first_m ∙ equal ∙ first_n) in
+            let places = are.distinct m n front_n (edge_m.front ∙ ap (λ (xs : List (List ℕ)). Some xs) fronts_same) edge_n.front in
+            absurd (omega arith)
+          | inr apart ↦ omega arith
+        ]
+
+-- each node but node 0 stands behind its parent
+pub parents-lower : (names : List (List ℕ)) (edges : List Edge) (nodes read : List CostNode) (stacks : List Costed) (depth : ℕ) → HasGrown names edges nodes stacks stacks depth → read ≡ nodes
+    → (n : ℕ) (node : CostNode) → 0 < n → slice_get read n ≡ Some node → node.parent < n
+parents-lower names edges nodes read stacks depth has same n node above at =
+    let edge = HasEdge-is names edges nodes (fronts_of names edges) n node has.branches above (ap (λ (xs : List CostNode). slice_get xs n) (sym same) ∙ at) in
+    edge.lower
