@@ -52,14 +52,14 @@ AreInstructions-push frames more entries entry are start count few = record {
 pub texts-push : (names grown : List (List ℕ)) (numbers : List ℕ) (number : ℕ) (text : List ℕ) → AreStrings names numbers → ((n : ℕ) → n ≤ length names → name_at grown n ≡ name_at names n) → name_at grown number ≡ Some text → texts_of grown (numbers ++ number ∷ []) ≡ texts_of names numbers ++ text ∷ []
 texts-push names grown numbers number text are stay is =
     let text_in = λ (all : List (List ℕ)) (n : ℕ). unwrap_or (name_at all n) [] in
-    let before = map-agree (λ (n : ℕ). n ≤ length names) (text_in grown) (text_in names) (λ n held. ap (λ (found : Option (List ℕ)). unwrap_or found []) (stay n held)) numbers are.held in
+    let before = map-agree (λ (n : ℕ). (0 < n) × (n ≤ length names)) (text_in grown) (text_in names) (λ n held. ap (λ (found : Option (List ℕ)). unwrap_or found []) (stay n held.1)) numbers are.held in
     map-append (text_in grown) numbers (number ∷ [])
     ∙ ap (λ (xs : List (List ℕ)). xs ++ text_in grown number ∷ []) before
     ∙ ap (λ (found : Option (List ℕ)). texts_of names numbers ++ unwrap_or found [] ∷ []) is
 
-pub AreStrings-push : (names grown : List (List ℕ)) (numbers : List ℕ) (number : ℕ) → AreStrings names numbers → length names ≤ length grown → length grown ≤ length names + 1 → number ≤ length grown → length numbers < 2 ^ 32 - 1 → AreStrings grown (numbers ++ number ∷ [])
-AreStrings-push names grown numbers number are more one held few = record {
-  held = all-push (λ (n : ℕ). n ≤ length grown) numbers number (all-weaker (λ (n : ℕ). n ≤ length names) (λ (n : ℕ). n ≤ length grown) (λ n within. omega arith) numbers are.held) held;
+pub AreStrings-push : (names grown : List (List ℕ)) (numbers : List ℕ) (number : ℕ) → AreStrings names numbers → length names ≤ length grown → length grown ≤ length names + 1 → 0 < number → number ≤ length grown → length numbers < 2 ^ 32 - 1 → AreStrings grown (numbers ++ number ∷ [])
+AreStrings-push names grown numbers number are more one above held few = record {
+  held = all-push (λ (n : ℕ). (0 < n) × (n ≤ length grown)) numbers number (all-weaker (λ (n : ℕ). (0 < n) × (n ≤ length names)) (λ (n : ℕ). (0 < n) × (n ≤ length grown)) (λ n within. (within.0, omega (arith, within.1))) numbers are.held) (above, held);
   few_names = omega (arith, length-append numbers (number ∷ []));
   few = omega (arith, length-append numbers (number ∷ []));
 }

@@ -9,15 +9,13 @@ use Rattle.stack_table.specs.Stack.{outwards, stack, stack_nodes}
 use Rattle.ht_trace.specs.declared.frame.FrameAt.{FrameAt}
 use Rattle.ht_trace.specs.Instruction.{Instruction, frame_count_of}
 use Rattle.ht_trace.specs.StackFrames.{frames_of, no_stack, stack_frames}
-use Rattle.ht_trace.specs.KeepsStacks.{KeepsStacks}
-use Rattle.ht_trace.specs.TableState.{TableState}
 
 -- the place of a frame
 abbrev place : ℕ → ℕ → FrameAt
 place n index = record { instruction = n; index = index }
 
 -- an element that is there stays as more are appended
-slice_get-more : {X : Type 0} (xs more : List X) (i : ℕ) → i < length xs → slice_get (xs ++ more) i ≡ slice_get xs i
+pub slice_get-more : {X : Type 0} (xs more : List X) (i : ℕ) → i < length xs → slice_get (xs ++ more) i ≡ slice_get xs i
 slice_get-more [] more i within = absurd (omega (arith, within))
 slice_get-more (x ∷ xs) more zero within = refl
 slice_get-more (x ∷ xs) more (suc i) within = slice_get-more xs more i (omega arith)
@@ -59,21 +57,12 @@ pub outermost : (n count : ℕ) → ((1 ≤ n) × (n ≤ count) → ⊥) → n �
 outermost zero count unheld within = refl
 outermost (suc n) count unheld within = absurd (unheld (omega arith, within))
 
--- the stacks stay where nodes and instructions do
-pub keeps_same : (old new : TableState) → new.instructions ≡ old.instructions → new.nodes ≡ old.nodes → KeepsStacks old new
-keeps_same old new instructions nodes = record {
-  held = omega (arith, ap length nodes);
-  frames = λ n within.
-      ap (λ (held : List Instruction). stack_frames held new.nodes n) instructions
-      ∙ ap (λ (all : List Node). stack_frames old.instructions all n) nodes;
-}
-
 -- a held instruction's frames stay as more are held
-frame_count_of-more : (held more : List Instruction) (n : ℕ) → n ≤ length held → frame_count_of (held ++ more) n ≡ frame_count_of held n
+pub frame_count_of-more : (held more : List Instruction) (n : ℕ) → n ≤ length held → frame_count_of (held ++ more) n ≡ frame_count_of held n
 frame_count_of-more held more zero within = refl
 frame_count_of-more held more (suc n) within = grind (arith, nat_tests, slice_get-more held more (suc n - 1) (omega arith))
 
-frames_of-more : (held more : List Instruction) (ips : List ℕ) → AllByRecursion (λ n. n ≤ length held) ips → flat_map (frames_of (held ++ more)) ips ≡ flat_map (frames_of held) ips
+pub frames_of-more : (held more : List Instruction) (ips : List ℕ) → AllByRecursion (λ n. n ≤ length held) ips → flat_map (frames_of (held ++ more)) ips ≡ flat_map (frames_of held) ips
 frames_of-more held more [] all = refl
 frames_of-more held more (n ∷ ips) all =
     let own = ap (λ (count : Option ℕ). map (place n) (range_with_len 0 (unwrap_or count 0))) (frame_count_of-more held more n all.0) in

@@ -3,6 +3,7 @@ use Rattle.std.specs.Prelude.{ℕ, List, Option, Some, None, option_and_then, sl
 use Rattle.std.specs.Result.{result_ok}
 use Rattle.std.specs.List.{filter_map}
 use Rattle.ht_lines.specs.Content.{Content, version_line}
+use Rattle.ht_lines.specs.declared.item.Form.TheVariants.{Interpreted}
 use Rattle.ht_lines.specs.Reading.{reading}
 
 -- the file version that a version line gives
@@ -12,7 +13,7 @@ version_in _ = None
 
 -- the file versions that the lines give; a version line reads alike in each file version
 abbrev pub versions : List (List ℕ) → List ℕ
-versions lines = filter_map (λ line. option_and_then version_in (result_ok (reading 1 line))) lines
+versions lines = filter_map (λ line. option_and_then version_in (result_ok (reading Interpreted 1 line))) lines
 
 -- the file version of a trace, which its first version line gives
 abbrev pub version_of : List (List ℕ) → Option ℕ
@@ -24,4 +25,4 @@ file_version lines = unwrap_or (version_of lines) 1
 
 -- what each line says
 abbrev pub contents : List (List ℕ) → List Content
-contents lines = filter_map (λ line. result_ok (reading (file_version lines) line)) lines
+contents lines = filter_map (λ line. result_ok (reading Interpreted (file_version lines) line)) lines

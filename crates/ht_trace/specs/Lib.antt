@@ -12,7 +12,12 @@ pub mod TraceEvents
 pub mod StandsFor
 pub mod StateAfter
 pub mod StackFrames
-pub mod KeepsStacks
+pub mod Continues
+pub mod FrameText
+pub mod IsFrame
+pub mod PassesEvents
+pub mod Pattern
+pub mod Sound
 pub mod LedgerFits
 pub mod Entries
 pub mod KeepsFrames

@@ -3,7 +3,8 @@ use Rattle.std.specs.Prelude.{◌≡◌, ◌≢◌, ℕ, ◌+◌, ◌-◌, ◌^�
 use Rattle.std.specs.List.{list_all}
 use Rattle.std.specs.Option.{option_or}
 use Rattle.ht_lines.specs.declared.item.Malformed.{Malformed}
-use Rattle.ht_lines.specs.Content.{Content, version_line, string_line, instruction_line, node_line, info_line, allocation_line, free_line}
+use Rattle.ht_lines.specs.Content.{Content, version_line, string_line, instruction_line, node_line, info_line, allocation_line, free_line, suppression_line}
+use Rattle.ht_lines.specs.declared.item.Form.TheVariants.{Interpreted}
 use Rattle.ht_lines.specs.Reading.{reading}
 use Rattle.stack_table.specs.Node.{Node}
 use Rattle.stack_table.specs.Stack.{frame_count}
@@ -12,7 +13,8 @@ use Rattle.ht_trace.specs.declared.error.LineError.{LineError}
 use Rattle.ht_trace.specs.declared.error.LineError.TheVariants.{NoVersion, SecondVersion, UnknownString, UnknownInstruction, UnknownParent, UnknownTrace, UnknownAllocation, TooDeep, TooMany, NoMemory}
 use Rattle.ht_trace.specs.FramesSaid.{frames_said}
 use Rattle.ht_trace.specs.Instruction.{frame_count_of}
-use Rattle.ht_trace.specs.TableState.{TableState, tables_of}
+use Rattle.ht_trace.specs.Pattern.{pattern_of}
+use Rattle.ht_trace.specs.TableState.{TableState, tables_after, tables_of}
 use Rattle.ht_trace.specs.ErrorOf.{of_malformed}
 
 -- whether a line may stand before the version line: it is a comment, or a version line as far as its first byte says
@@ -20,7 +22,7 @@ abbrev pub may_stand_first : List ℕ → Bool
 may_stand_first [] = false
 may_stand_first (b ∷ rest) = b == 35 || b == 118
 
--- the most strings, instructions and infos of a trace, and the most nodes
+-- the most strings, instructions, infos and patterns of a trace, and the most nodes
 abbrev pub most_entries : ℕ
 most_entries = 2 ^ 32 - 1
 
@@ -65,6 +67,10 @@ info_fault node_count count trace = if nat_lt node_count trace then Some Unknown
 abbrev pub reference_fault : ℕ → ℕ → Option LineError
 reference_fault count info = if nat_lt info count then None else Some UnknownAllocation
 
+-- the pattern of a text is one more, where it has one
+abbrev pub pattern_fault : ℕ → List ℕ → Option LineError
+pattern_fault count text = if is_some (pattern_of text) then growth_fault count most_entries else None
+
 -- the fault of what a line says, beside the tables so far
 abbrev pub content_fault : TableState → Content → Option LineError
 content_fault tables (version_line heaptrack file) = if is_some tables.version then Some SecondVersion else None
@@ -75,6 +81,7 @@ content_fault tables (node_line instruction parent) = node_fault tables.nodes (f
 content_fault tables (info_line size trace) = info_fault (length tables.nodes) (length tables.infos) trace
 content_fault tables (allocation_line info) = reference_fault (length tables.infos) info
 content_fault tables (free_line info) = reference_fault (length tables.infos) info
+content_fault tables (suppression_line bytes) = pattern_fault (length tables.patterns) bytes
 content_fault tables _ = None
 
 -- the fault of a line that is read as this
@@ -85,12 +92,16 @@ reading_fault tables (Err fault) = Some (of_malformed fault)
 -- the fault of a line beside the tables so far
 abbrev pub fault_in : TableState → List ℕ → Option LineError
 fault_in tables line =
-    if is_some tables.version || may_stand_first line then reading_fault tables (reading (unwrap_or tables.version 1) line)
+    if is_some tables.version || may_stand_first line then reading_fault tables (reading Interpreted (unwrap_or tables.version 1) line)
     else Some NoVersion
 
--- the fault of a line after earlier lines, if it has one
+-- the fault of a line after earlier lines, if it has one; texts of suppressions were given before them all
+abbrev pub line_fault_after : List (List ℕ) → List (List ℕ) → List ℕ → Option LineError
+line_fault_after given earlier line = fault_in (tables_after given earlier) line
+
+-- the same where none were given
 abbrev pub line_fault : List (List ℕ) → List ℕ → Option LineError
-line_fault earlier line = fault_in (tables_of earlier) line
+line_fault earlier line = line_fault_after [] earlier line
 
 -- the fault of a trace's end, if it has one
 abbrev pub end_fault : List (List ℕ) → Option LineError

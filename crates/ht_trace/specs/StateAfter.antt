@@ -1,14 +1,19 @@
 -- What one line adds to the tables.
-use Rattle.std.specs.Prelude.{◌≡◌, [], ◌∷◌, ◌++◌, Some, None, unwrap_or}
-use Rattle.std.specs.Option.{option_or}
-use Rattle.ht_lines.specs.Content.{Content, version_line, command_line, string_line, instruction_line, node_line, info_line}
+use Rattle.std.specs.Prelude.{◌≡◌, ℕ, List, [], ◌∷◌, ◌++◌, Some, None, unwrap_or}
+use Rattle.std.specs.Option.{option_or, option_to_list}
+use Rattle.ht_lines.specs.Content.{Content, version_line, command_line, string_line, instruction_line, node_line, info_line, suppression_line}
 use Rattle.ht_trace.specs.declared.error.LineError.{LineError}
 use Rattle.ht_trace.specs.declared.step.Step.{Step}
 use Rattle.ht_trace.specs.FramesSaid.{frames_said}
 use Rattle.ht_trace.specs.Instruction.{frame_count_of}
 use Rattle.ht_trace.specs.LineFault.{Tells, content_fault}
+use Rattle.ht_trace.specs.Pattern.{pattern_of}
 use Rattle.ht_trace.specs.StepOf.{step_in}
 use Rattle.ht_trace.specs.TableState.{TableState}
+
+-- the tables with the pattern of a text, where it has one, at the end of the patterns
+abbrev pub with_pattern : TableState → List ℕ → TableState
+with_pattern tables text = record tables { patterns = tables.patterns ++ option_to_list (pattern_of text) }
 
 -- the tables with what a line says at the end of the list that it belongs to
 abbrev pub state_after : TableState → Content → TableState
@@ -23,6 +28,7 @@ state_after tables (node_line instruction parent) = record tables {
       ++ record { ip = instruction; parent = parent; frames = unwrap_or (frame_count_of tables.instructions instruction) 0 } ∷ [];
 }
 state_after tables (info_line size trace) = record tables { infos = tables.infos ++ record { stack = trace; size = size } ∷ [] }
+state_after tables (suppression_line bytes) = with_pattern tables bytes
 state_after tables _ = tables
 
 -- what the line says has no fault, is added, and brings this step

@@ -3,6 +3,7 @@ use Rattle.std.specs.Prelude.{ℕ, List, Option, None, Some, slice_get, Result, 
 use Rattle.std.specs.Option.{option_map}
 use Rattle.ht_lines.specs.declared.item.Malformed.{Malformed}
 use Rattle.ht_lines.specs.Content.{Content, node_line, info_line, allocation_line, free_line, clock_line}
+use Rattle.ht_lines.specs.declared.item.Form.TheVariants.{Interpreted}
 use Rattle.ht_lines.specs.Reading.{reading}
 use Rattle.live_ledger.specs.declared.event.Event.{Event}
 use Rattle.live_ledger.specs.declared.event.Event.TheVariants.{Alloc, Free, Tick}
@@ -37,7 +38,7 @@ reading_step held (Err fault) = step.Nothing
 
 -- what a line brings after earlier lines, where it has no fault
 abbrev pub step_of : List (List ℕ) → List ℕ → Step
-step_of earlier line = reading_step (infos (contents earlier)) (reading (file_version earlier) line)
+step_of earlier line = reading_step (infos (contents earlier)) (reading Interpreted (file_version earlier) line)
 
 -- the event that a step brings
 abbrev pub event_of : Step → Option Event

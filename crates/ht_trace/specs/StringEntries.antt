@@ -1,5 +1,5 @@
 -- How the strings are kept: each as the number of its name.
-use Rattle.std.specs.Prelude.{ℕ, ◌-◌, ◌^◌, ◌≤◌, List, [], length, map, unwrap_or}
+use Rattle.std.specs.Prelude.{ℕ, ◌-◌, ◌^◌, ◌<◌, ◌≤◌, List, [], length, map, unwrap_or}
 use Rattle.std.specs.List.{AllByRecursion}
 use Rattle.intern_tables.specs.Numbers.{name_at}
 
@@ -9,6 +9,6 @@ texts_of names numbers = map (λ number. unwrap_or (name_at names number) []) nu
 
 -- each number names a name, there are no more names than strings, and the strings aren't too many
 pub record AreStrings (names : List (List ℕ)) (numbers : List ℕ) : Type 0 where
-  pub held : AllByRecursion (λ number. number ≤ length names) numbers
+  pub held : AllByRecursion (λ number. (0 < number) × (number ≤ length names)) numbers
   pub few_names : length names ≤ length numbers
   pub few : length numbers ≤ 2 ^ 32 - 1

@@ -1,12 +1,13 @@
 -- The lists of a trace, each in the order of its lines, from what the lines say.
 use Rattle.std.specs.Prelude.{ℕ, List, [], Option, Some, None, slice_get, unwrap_or}
 use Rattle.std.specs.List.{filter_map}
-use Rattle.ht_lines.specs.Content.{Content, command_line, string_line, instruction_line, node_line, info_line}
+use Rattle.ht_lines.specs.Content.{Content, command_line, string_line, instruction_line, node_line, info_line, suppression_line}
 use Rattle.stack_table.specs.Node.{Node}
 use Rattle.live_ledger.specs.LedgerState.{HeldInfo}
 use Rattle.ht_trace.specs.FramesSaid.{frames_said}
 use Rattle.ht_trace.specs.Instruction.{Instruction, frame_count_of}
 use Rattle.ht_trace.specs.Gathered.{gathered}
+use Rattle.ht_trace.specs.Pattern.{pattern_of}
 
 abbrev pub string_in : Content → Option (List ℕ)
 string_in (string_line bytes) = Some bytes
@@ -25,6 +26,10 @@ abbrev pub command_in : Content → Option (List ℕ)
 command_in (command_line bytes) = Some bytes
 command_in _ = None
 
+abbrev pub pattern_in : Content → Option (List ℕ)
+pattern_in (suppression_line bytes) = pattern_of bytes
+pattern_in _ = None
+
 -- the strings, numbered from 1; a text that comes twice has two numbers
 abbrev pub strings : List Content → List (List ℕ)
 strings said = filter_map string_in said
@@ -40,6 +45,10 @@ infos said = filter_map info_in said
 -- the text of the first command line
 abbrev pub command : List Content → Option (List ℕ)
 command said = slice_get (filter_map command_in said) 0
+
+-- the patterns of the suppression lines, numbered from 1
+abbrev pub patterns : List Content → List (List ℕ)
+patterns said = filter_map pattern_in said
 
 -- a node's instruction pointer is the number of its instruction, one of those before it, and it has the frames of it
 abbrev pub node_in : List Instruction → Content → Option Node

@@ -42,7 +42,7 @@ pub enum LineError {
     UnknownAllocation,
     /// A node's stack would have more than 4,096 frames.
     TooDeep,
-    /// The table that would grow is full: 2^32 - 1 strings, instructions or infos, or 2^32 - 2 nodes.
+    /// The table that would grow is full: 2^32 - 1 strings, instructions, infos or patterns, or 2^32 - 2 nodes.
     TooMany,
     /// Memory is wanting.
     NoMemory,

@@ -17,3 +17,20 @@ pub struct FrameAt {
     pub instruction: u32,
     pub index: u32,
 }
+
+/// A frame that is named: its instruction's pointer and module, and its own numbers.
+#[derive(Clone, Copy, Debug)]
+pub struct FrameFound {
+    pub ip: u64,
+    pub module_string: u32,
+    pub frame: Frame,
+}
+
+/// How the text of a frame is written.
+#[derive(Clone, Copy, Debug, PartialEq, Eq)]
+pub enum Style {
+    /// `FUNCTION (FILE:LINE)`.
+    Plain,
+    /// `0xIP: FUNCTION (FILE:LINE)`.
+    Addressed,
+}

@@ -2,13 +2,14 @@
 //! How the frames stand in a line is the part of `push_frames`.
 ghost use Rattle.std.specs.Prelude.{◌≡◌, ℕ, ◌+◌, ◌-◌, ◌^◌, ◌<◌, ◌≤◌, List, [], ◌∷◌, ◌++◌, length, take, None, Some, IfErr, IfOk, IfSome, OnOk, OnErr};
 ghost use Rattle.ht_lines.specs.Fields.{fields, numbers};
+ghost use Rattle.ht_trace.specs.FrameText.{frame_at};
 ghost use Rattle.ht_trace.specs.FramesSaid.{frames_said};
 ghost use Rattle.ht_trace.specs.Instruction.{Instruction, frame_count_of};
 ghost use Rattle.ht_trace.specs.KeepsFrames.{KeepsFrames};
 ghost use Rattle.ht_trace.specs.LineFault.{Tells, append_fault, instruction_fault};
 
 use crate::error::LineError;
-use crate::frame::Frame;
+use crate::frame::{Frame, FrameAt, FrameFound};
 use crate::push_frames::push_frames;
 use std::alloc::Global;
 use std::marker::Model;
@@ -95,6 +96,22 @@ impl InstructionTable {
                 Err(error)
             }
         }
+    }
+
+    /// The frame at a place, where its instruction is held and has it.
+    pub fn frame(&self, at: &FrameAt) -> Option<FrameFound>
+        ensures { result ≡ frame_at self.now at.now }
+    {
+        let place = at.instruction.checked_sub(1)?;
+        let entry = self.entries.get(place as usize)?;
+        if at.index >= entry.count {
+            return None;
+        }
+        Some(FrameFound {
+            ip: entry.ip,
+            module_string: entry.module_string,
+            frame: self.frames[entry.start + at.index as usize],
+        })
     }
 
     /// How many frames the instruction of a number has, where it is held. Instruction 0 stands for none.

@@ -1,5 +1,7 @@
 //! The strings of a trace, by their numbers from 1. Each text is kept once, however many strings have it.
 ghost use Rattle.std.specs.Prelude.{◌≡◌, ℕ, ◌+◌, ◌-◌, ◌^◌, ◌<◌, ◌≤◌, List, [], ◌∷◌, ◌++◌, length, None, Some, IfErr, IfOk, OnOk, OnErr};
+ghost use Rattle.std.specs.Option.{option_copied};
+ghost use Rattle.ht_trace.specs.FrameText.{string_at};
 ghost use Rattle.ht_trace.specs.LineFault.{Tells, growth_fault, most_entries};
 
 use crate::error::LineError;
@@ -53,6 +55,15 @@ impl StringTable {
         let number = self.names.intern(text)?;
         self.numbers.push(number as u32)?;
         Ok(())
+    }
+
+    /// The text of the string with a number: `None` exactly where no string has it.
+    pub fn text(&self, n: u32) -> Option<&[u8]>
+        ensures { option_copied result ≡ string_at self.now n }
+    {
+        let place = n.checked_sub(1)?;
+        let number = *self.numbers.get(place as usize)?;
+        self.names.name(number as usize)
     }
 
     /// How many strings there are, which is the greatest number of a string.

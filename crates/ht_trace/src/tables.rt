@@ -1,26 +1,33 @@
 //! The tables, and what each line of a trace adds to them or why it is refused.
 //! What one line says is the grammar's part. The frames of a stack are the part of `stack_frames`.
-ghost use Rattle.std.specs.Prelude.{◌≡◌, ℕ, ◌+◌, ◌-◌, ◌^◌, ◌<◌, ◌≤◌, ◌↔◌, List, [], ◌∷◌, ◌++◌, length, None, Some, Ok, Err, IsNone, IfErr, IfOk, IfSome, OnOk, OnErr, slice_get, unwrap_or};
+ghost use Rattle.std.specs.Prelude.{◌≡◌, ℕ, ◌+◌, ◌-◌, ◌%◌, ◌^◌, ◌<◌, ◌≤◌, ◌↔◌, ◌⊎◌, List, [], ◌∷◌, ◌++◌, All, length, vec_len, None, Some, Ok, Err, IsNone, IfErr, IfOk, IfSome, OnOk, OnErr, slice_get, unwrap_or};
 ghost use Rattle.std.specs.Option.{option_copied, option_map, option_to_list};
-ghost use Rattle.ht_lines.specs.Content.{Content, allocation_line, command_line, free_line, info_line, instruction_line, node_line, string_line, version_line};
+ghost use Rattle.ht_lines.specs.Content.{Content, allocation_line, command_line, free_line, info_line, instruction_line, node_line, string_line, suppression_line, version_line};
 ghost use Rattle.ht_lines.specs.Fields.{fields, numbers};
 ghost use Rattle.ht_lines.specs.ItemContent.{IsWhole, content};
 ghost use Rattle.ht_lines.specs.Written.{IsWritable};
+ghost use Rattle.ht_lines.specs.declared.item.Form.TheVariants.{Interpreted};
 ghost use Rattle.live_ledger.specs.LedgerState.{LedgerState};
-ghost use Rattle.ht_trace.specs.KeepsStacks.{KeepsStacks};
+ghost use Rattle.ht_trace.specs.Continues.{Continues};
+ghost use Rattle.ht_trace.specs.FrameText.{HasNoFunction, frame_text, function_at};
+ghost use Rattle.ht_trace.specs.IsFrame.{IsFrame};
 ghost use Rattle.ht_trace.specs.LedgerFits.{CanTake, Grows, IsBeside, least_length};
-ghost use Rattle.ht_trace.specs.LineFault.{Tells, end_fault, line_fault, may_stand_first};
+ghost use Rattle.ht_trace.specs.LineFault.{Tells, end_fault, line_fault_after, may_stand_first, pattern_fault};
+ghost use Rattle.ht_trace.specs.PassesEvents.{PassesEvents};
+ghost use Rattle.ht_trace.specs.Pattern.{pattern_at};
 ghost use Rattle.ht_trace.specs.StackFrames.{frames, stack_frames};
-ghost use Rattle.ht_trace.specs.StandsFor.{StandsFor};
-ghost use Rattle.ht_trace.specs.StateAfter.{Refuses, Takes};
+ghost use Rattle.ht_trace.specs.StandsFor.{StandsAfter, StandsFor};
+ghost use Rattle.ht_trace.specs.StateAfter.{Refuses, Takes, with_pattern};
 ghost use Rattle.ht_trace.specs.StepOf.{event_of, step_of};
 ghost use Rattle.ht_trace.specs.TableState.{TableState};
 ghost use Rattle.ht_trace.specs.TraceEvents.{events};
 
 use crate::error::LineError;
-use crate::frame::FrameAt;
+use crate::frame::{FrameAt, Style};
+use crate::frame_text::put_text;
 use crate::infos::{InfoEntry, InfoTable};
 use crate::instructions::InstructionTable;
+use crate::patterns::PatternTable;
 use crate::stack_frames::replace_by_stack;
 use crate::step::Step;
 use crate::strings::StringTable;
@@ -33,8 +40,8 @@ use std::marker::Model;
 
 /// The tables of an interpreted trace: they stand for the lines that were read so far.
 ///
-/// Contracts see the file version, the lists of strings, instructions, nodes and infos, and the command. Memory grows
-/// with these lists and never with events; a text that comes as many strings is kept once.
+/// Contracts see the file version, the lists of strings, instructions, nodes, infos and patterns, and the command.
+/// Memory grows with these lists and never with events; a text that comes as many strings is kept once.
 #[derive(Debug, Drop)]
 pub struct Tables {
     version: Option<u8>,
@@ -43,11 +50,13 @@ pub struct Tables {
     nodes: Nodes,
     infos: InfoTable,
     command: Option<Text>,
+    patterns: PatternTable,
     alloc: Global,
 }
 
 impl Model for Tables {
-    ghost use Rattle.ht_trace.specs.KeepsStacks.{IsSound};
+    ghost use Rattle.std.specs.Prelude.{length};
+    ghost use Rattle.ht_trace.specs.Sound.{IsSound};
     ghost use Rattle.ht_trace.specs.TableState.{TableState};
 
     ghost Value = { TableState };
@@ -59,12 +68,12 @@ impl Model for Tables {
       nodes = tables.nodes;
       infos = tables.infos;
       command = tables.command;
+      patterns = tables.patterns;
     } };
 
-    ghost invariant = { λ tables. IsSound tables.version tables.instructions tables.nodes };
+    ghost invariant = { λ tables. IsSound tables.version (length tables.strings) tables.instructions tables.nodes tables.infos };
 }
 
-#[tactic(auto, using(crate::proofs::StackLemmas::keeps_same))]
 impl Tables {
     /// The tables of no lines. It takes no memory.
     pub fn new(alloc: Global) -> Self
@@ -80,6 +89,7 @@ impl Tables {
             nodes: Nodes::new(alloc),
             infos: InfoTable::new(alloc),
             command: None,
+            patterns: PatternTable::new(alloc),
             alloc,
         }
     }
@@ -88,18 +98,18 @@ impl Tables {
     ///
     /// A line is refused exactly where it has a fault after the lines before it, or memory is wanting, in place of any
     /// answer; the tables are then as before. `NoVersion` comes first, then the refusals of the grammar, then the other
-    /// faults in the order of `LineError`. Only a line of a string, an instruction, a node or an info, or the first with
-    /// a command, takes memory; one that is refused may keep some too.
+    /// faults in the order of `LineError`. Only a line of a string, an instruction, a node, an info or a pattern, or the
+    /// first with a command, takes memory; one that is refused may keep some too.
     pub fn line(&mut self, line: &[u8]) -> Result<Step, LineError>
         requires { length line.now < 2 ^ 32 }
         // For all lines that the tables stand for.
-        ensures stands { OnOk result ((lines : List (List ℕ)) → StandsFor self.old lines → StandsFor self.new (lines ++ line.now ∷ [])) }
-        ensures no_fault { OnOk result ((lines : List (List ℕ)) → StandsFor self.old lines → line_fault lines line.now ≡ None) }
-        ensures step { IfOk result (λ step. (lines : List (List ℕ)) → StandsFor self.old lines → step ≡ step_of lines line.now) }
-        ensures events { IfOk result (λ step. (lines : List (List ℕ)) → StandsFor self.old lines →
+        ensures stands { OnOk result ((given lines : List (List ℕ)) → StandsAfter self.old given lines → StandsAfter self.new given (lines ++ line.now ∷ [])) }
+        ensures no_fault { OnOk result ((given lines : List (List ℕ)) → StandsAfter self.old given lines → line_fault_after given lines line.now ≡ None) }
+        ensures step { IfOk result (λ step. (given lines : List (List ℕ)) → StandsAfter self.old given lines → step ≡ step_of lines line.now) }
+        ensures events { IfOk result (λ step. (given lines : List (List ℕ)) → StandsAfter self.old given lines →
             events (lines ++ line.now ∷ []) ≡ events lines ++ option_to_list (event_of step)) }
-        ensures fault { IfErr result (λ error. (lines : List (List ℕ)) → StandsFor self.old lines → Tells error (line_fault lines line.now)) }
-        ensures stays { OnOk result (KeepsStacks self.old self.new) }
+        ensures fault { IfErr result (λ error. (given lines : List (List ℕ)) → StandsAfter self.old given lines → Tells error (line_fault_after given lines line.now)) }
+        ensures continues { Continues self.old self.new }
         ensures unchanged { OnErr result (self.new ≡ self.old) }
 
         // For a ledger that is kept beside the tables.
@@ -114,12 +124,16 @@ impl Tables {
         self.take(&item)
     }
 
-    /// Whether a version line was read: `NoVersion` exactly where none was.
+    /// Whether a version line was read: `NoVersion` exactly where none was. From then on the line of an allocation or a
+    /// free of a held info has no fault and leaves the tables as they are.
     pub fn end(&self) -> Result<(), LineError>
         ensures no_version { (result ≡ Err LineError.NoVersion) ↔ IsNone self.now.version }
         ensures only { IfErr result (λ error. error ≡ LineError.NoVersion) }
-        ensures no_fault { OnOk result ((lines : List (List ℕ)) → StandsFor self.now lines → end_fault lines ≡ None) }
-        ensures fault { IfErr result (λ error. (lines : List (List ℕ)) → StandsFor self.now lines → end_fault lines ≡ Some error) }
+        ensures no_fault { OnOk result ((given lines : List (List ℕ)) → StandsAfter self.now given lines → end_fault lines ≡ None) }
+        ensures fault { IfErr result (λ error. (given lines : List (List ℕ)) → StandsAfter self.now given lines → end_fault lines ≡ Some error) }
+
+        // Lines of events that may be taken without `line`.
+        ensures passes { OnOk result (PassesEvents self.now) }
     {
         if self.version.is_none() {
             return Err(LineError::NoVersion);
@@ -138,6 +152,7 @@ impl Tables {
     /// Size in bytes and stack of info `n`: `None` exactly where no info has that number. It takes no memory.
     pub fn info(&self, n: u32) -> Option<(u64, u32)>
         ensures entry { result ≡ option_map (λ info. record { 0 = info.size; 1 = info.stack }) (slice_get self.now.infos n) }
+        ensures stack_held { IfSome result (λ info. info.1 ≤ length self.now.nodes) }
     {
         let InfoEntry { size, stack } = self.infos.get(u64::from(n))?;
         Some((size, stack))
@@ -159,19 +174,74 @@ impl Tables {
     pub fn frames_into(&self, stack: u32, out: &mut Vec<FrameAt>) -> Result<(), NoMemory>
         requires { stack ≤ length self.now.nodes }
         ensures of_tables { OnOk result (out.new.items ≡ stack_frames self.now.instructions self.now.nodes stack) }
-        ensures frames { OnOk result ((lines : List (List ℕ)) → StandsFor self.now lines → out.new.items ≡ frames lines stack) }
+        ensures frames { OnOk result ((given lines : List (List ℕ)) → StandsAfter self.now given lines → out.new.items ≡ frames lines stack) }
+        ensures places { OnOk result (All (λ at. IsFrame self.now at) out.new.items) }
+        ensures some_frame { OnOk result (1 ≤ vec_len out.new) }
+        ensures few { OnOk result (vec_len out.new ≤ 4096) }
         ensures unchanged { OnErr result (out.new.items ≡ out.old.items) }
     {
         replace_by_stack(&self.instructions, &self.nodes, stack, out)
     }
 
+    /// Appends the text of a frame that `frames_into` gave, in the style. On `NoMemory`, `out` holds what it held before.
+    pub fn put_frame(&self, at: &FrameAt, style: Style, out: &mut Vec<u8>) -> Result<(), NoMemory>
+        requires { IsFrame self.now at.now }
+        ensures appended { OnOk result (out.new.items ≡ out.old.items ++ frame_text style self.now at.now) }
+        ensures unchanged { OnErr result (out.new.items ≡ out.old.items) }
+    {
+        put_text(&self.strings, &self.instructions, at, style, out)
+    }
+
+    /// The name of the function of a frame that `frames_into` gave: `None` exactly where the function is 0, and for the
+    /// frames of stack 0 and of instruction 0. It takes no memory.
+    pub fn frame_function(&self, at: &FrameAt) -> Option<&[u8]>
+        requires { IsFrame self.now at.now }
+        ensures name { option_copied result ≡ function_at self.now at.now }
+        ensures none { IsNone result ↔ HasNoFunction self.now at.now }
+    {
+        let found = self.instructions.frame(at)?;
+        self.strings.text(found.frame.function)
+    }
+
+    /// Adds the pattern of a suppression: of the text what follows `leak:` where it begins with it, else the whole text.
+    /// An empty pattern, and a text that begins with `#`, are passed over.
+    ///
+    /// `TooMany` comes exactly where a pattern would be added and 2^32 - 1 are held; the other refusal is `NoMemory`. The
+    /// patterns are then as before.
+    pub fn suppress(&mut self, text: &[u8]) -> Result<(), LineError>
+        ensures added { OnOk result (self.new ≡ with_pattern self.old text.now) }
+        ensures stands { OnOk result ((given : List (List ℕ)) → StandsAfter self.old given [] → StandsAfter self.new (given ++ text.now ∷ []) []) }
+        ensures no_fault { OnOk result (pattern_fault (length self.old.patterns) text.now ≡ None) }
+        ensures fault { IfErr result (λ error. Tells error (pattern_fault (length self.old.patterns) text.now)) }
+        ensures too_many { (result ≡ Err LineError.TooMany) ↔ (pattern_fault (length self.old.patterns) text.now ≡ Some LineError.TooMany) }
+        ensures continues { Continues self.old self.new }
+        ensures unchanged { OnErr result (self.new ≡ self.old) }
+    {
+        self.patterns.add(text)
+    }
+
+    /// The bytes of the pattern with the number `n`, from 1 on in the order of `suppress` and of the `S` lines: `None`
+    /// exactly where no pattern has that number. It takes no memory.
+    pub fn suppression(&self, n: u32) -> Option<&[u8]>
+        ensures { option_copied result ≡ pattern_at self.now.patterns n }
+    {
+        self.patterns.get(n)
+    }
+
+    /// How many patterns there are, which is the greatest number of a pattern.
+    pub fn suppressions(&self) -> u32
+        ensures count { result ≡ length self.now.patterns }
+        ensures bound { result ≤ 2 ^ 32 - 1 }
+    {
+        self.patterns.len()
+    }
+
     /// Takes what a line says.
     fn take(&mut self, item: &Item) -> Result<Step, LineError>
         requires whole { IsWhole item.now }
-        requires writable { IsWritable (unwrap_or self.old.version 1) (content item.now) }
+        requires writable { IsWritable Interpreted (unwrap_or self.old.version 1) (content item.now) }
         ensures takes { IfOk result (λ step. Takes self.old (content item.now) step self.new) }
         ensures refuses { IfErr result (λ error. Refuses self.old (content item.now) error self.new) }
-        ensures stays { OnOk result (KeepsStacks self.old self.new) }
     {
         match *item {
             Item::Version { file, .. } => self.set_version(file),
@@ -187,6 +257,7 @@ impl Tables {
             Item::Info { size, trace } => self.add_info(size, trace),
             Item::Alloc { info } => self.allocation(info),
             Item::Free { info } => self.free(info),
+            Item::Suppress { text } => self.add_pattern(text),
             Item::Clock { ms } => Ok(Step::Event {
                 event: Event::Tick { ms },
             }),
@@ -198,7 +269,6 @@ impl Tables {
             | Item::RawFree { .. }
             | Item::Rss { .. }
             | Item::Attached
-            | Item::Suppress { .. }
             | Item::Comment { .. }
             | Item::Other { .. } => Ok(Step::Nothing),
         }
@@ -206,14 +276,12 @@ impl Tables {
 }
 
 // What each kind of line does.
-#[tactic(auto, using(crate::proofs::StackLemmas::keeps_same))]
 impl Tables {
     fn set_version(&mut self, file: u8) -> Result<Step, LineError>
         requires low { 1 ≤ file }
         requires high { file ≤ 3 }
         ensures takes { IfOk result (λ step. (heaptrack : ℕ) → Takes self.old (version_line heaptrack file) step self.new) }
         ensures refuses { IfErr result (λ error. (heaptrack : ℕ) → Refuses self.old (version_line heaptrack file) error self.new) }
-        ensures stays { OnOk result (KeepsStacks self.old self.new) }
     {
         if self.version.is_some() {
             return Err(LineError::SecondVersion);
@@ -225,7 +293,6 @@ impl Tables {
     fn keep_command(&mut self, text: &[u8]) -> Result<Step, LineError>
         ensures takes { IfOk result (λ step. Takes self.old (command_line text.now) step self.new) }
         ensures refuses { IfErr result (λ error. Refuses self.old (command_line text.now) error self.new) }
-        ensures stays { OnOk result (KeepsStacks self.old self.new) }
     {
         if self.command.is_none() {
             let command = Text::new(self.alloc, text)?;
@@ -237,7 +304,6 @@ impl Tables {
     fn add_string(&mut self, text: &[u8]) -> Result<Step, LineError>
         ensures takes { IfOk result (λ step. Takes self.old (string_line text.now) step self.new) }
         ensures refuses { IfErr result (λ error. Refuses self.old (string_line text.now) error self.new) }
-        ensures stays { OnOk result (KeepsStacks self.old self.new) }
     {
         self.strings.add(text)?;
         Ok(Step::Nothing)
@@ -250,10 +316,10 @@ impl Tables {
         field_count: u32,
         tail: &[u8],
     ) -> Result<Step, LineError>
-        requires { length (fields tail.now) + 2 ≡ field_count }
+        requires whole { length (fields tail.now) + 2 ≡ field_count }
+        requires written { (length (numbers tail.now) % 3 ≡ 1) ⊎ (length (numbers tail.now) % 3 ≡ 0) }
         ensures takes { IfOk result (λ step. Takes self.old (instruction_line ip «module» (numbers tail.now)) step self.new) }
         ensures refuses { IfErr result (λ error. Refuses self.old (instruction_line ip «module» (numbers tail.now)) error self.new) }
-        ensures stays { OnOk result (KeepsStacks self.old self.new) }
     {
         let strings = self.strings.len();
         self.instructions
@@ -264,7 +330,6 @@ impl Tables {
     fn add_node(&mut self, instruction: u64, parent: u64) -> Result<Step, LineError>
         ensures takes { IfOk result (λ step. Takes self.old (node_line instruction parent) step self.new) }
         ensures refuses { IfErr result (λ error. Refuses self.old (node_line instruction parent) error self.new) }
-        ensures stays { OnOk result (KeepsStacks self.old self.new) }
     {
         let Some(frames) = self.instructions.frame_count(instruction) else {
             return Err(LineError::UnknownInstruction);
@@ -276,7 +341,6 @@ impl Tables {
     fn add_info(&mut self, size: u64, trace: u64) -> Result<Step, LineError>
         ensures takes { IfOk result (λ step. Takes self.old (info_line size trace) step self.new) }
         ensures refuses { IfErr result (λ error. Refuses self.old (info_line size trace) error self.new) }
-        ensures stays { OnOk result (KeepsStacks self.old self.new) }
     {
         if trace > u64::from(self.nodes.len()) {
             return Err(LineError::UnknownTrace);
@@ -284,6 +348,14 @@ impl Tables {
         let stack = trace as u32;
         self.infos.add(size, stack)?;
         Ok(Step::Info { stack, size })
+    }
+
+    fn add_pattern(&mut self, text: &[u8]) -> Result<Step, LineError>
+        ensures takes { IfOk result (λ step. Takes self.old (suppression_line text.now) step self.new) }
+        ensures refuses { IfErr result (λ error. Refuses self.old (suppression_line text.now) error self.new) }
+    {
+        self.patterns.add(text)?;
+        Ok(Step::Nothing)
     }
 
     fn allocation(&self, info: u64) -> Result<Step, LineError>

@@ -1,15 +1,16 @@
-use Rattle.std.proofs.Common.{List, ◌∙◌, ap, arith}
-use Rattle.ht_trace.specs.Instruction.{Instruction}
-use Rattle.ht_trace.specs.StackFrames.{stack_frames}
-use Rattle.ht_trace.proofs.StackLemmas.{stack_frames-more}
+use Rattle.std.proofs.Common.{◌≡◌, ℕ, None, length, subst}
+use Rattle.ht_lines.specs.Fields.{numbers}
+use Rattle.ht_trace.specs.FramesSaid.{frames_said}
+use Rattle.ht_trace.specs.LineFault.{instruction_fault}
+use Rattle.ht_trace.proofs.SoundLemmas.{named-said, sound-instruction}
 use Rattle.ht_trace.proofs.tables.Tables.add_instruction.Goals as goal
 
-pub returns-clause-stays : goal.returns-clause-stays
-returns-clause-stays c =
+pub invariant_of-self-2 : goal.invariant_of-self-2
+invariant_of-self-2 c =
     let table = c.self.inside in
-    rw (← c.self.view_is) (record {
-      held = omega arith;
-      frames = λ n within.
-          ap (λ (held : List Instruction). stack_frames held table.nodes n) c.in_ok-add.ensures.added
-          ∙ stack_frames-more table.instructions _ table.nodes n (c.self.invariant.each_stack n within);
-    })
+    let said = numbers c.args.tail.now in
+    let good = subst (λ (strings : ℕ). instruction_fault strings (length table.instructions) c.args.module (frames_said said) ≡ None) c.len-strings.ensures.count c.in_ok-add.ensures.no_fault in
+    rw c.in_ok-add.ensures.added (
+    sound-instruction table.version (length table.strings) table.instructions _ table.nodes table.infos
+    (named-said (length table.strings) (length table.instructions) c.args.module c.args.ip said good c.requires.written) c.self.invariant
+    )

@@ -1,11 +1,14 @@
-use Rattle.std.proofs.Common.{ℕ, ◌≡◌, Bool, true, false, Ok, sym, ap, ◌∙◌, refl}
+use Rattle.std.proofs.Common.{ℕ, ◌≡◌, Bool, true, false, Ok, length, sym, ap, ◌∙◌, refl, subst}
 use Rattle.std.specs.Prelude.{◌||◌, is_some, unwrap_or}
 use Rattle.std.proofs.lemmas.Result.{MatchResult-weaker}
 use Rattle.ht_lines.specs.ItemContent.{content}
+use Rattle.ht_lines.specs.declared.item.Form.TheVariants.{Interpreted}
 use Rattle.ht_lines.specs.Reading.{reading}
 use Rattle.ht_trace.specs.LineFault.{may_stand_first}
 use Rattle.ht_trace.specs.TableState.{TableState}
-use Rattle.ht_trace.proofs.LineLemmas.{stands-push, events-push}
+use Rattle.ht_trace.proofs.GrowthLemmas.{continues-answer}
+use Rattle.ht_trace.proofs.LineLemmas.{events-push, fault-told, grows-after, stands-push}
+use Rattle.ht_trace.specs.Sound.{IsSound}
 use Rattle.ht_trace.proofs.tables.Tables.line.Goals as goal
 use Rattle.ht_trace.proofs.tables.Tables.line.Goals.{else-is_none-via-then-is_none+else-not-may_stand_first, else-is_none-via-else-is_none}
 
@@ -22,10 +25,10 @@ may_stand c =
     ]
 
 -- what the line says in the file version so far
-read_as : (c : goal.After-take) → reading (unwrap_or c.args.self.now.version 1) c.args.line.now ≡ Ok (content c.in_ok-item.item)
+read_as : (c : goal.After-take) → reading Interpreted (unwrap_or c.args.self.now.version 1) c.args.line.now ≡ Ok (content c.in_ok-item.item)
 read_as c =
     let version = c.unwrap_or.ensures ∙ ap (λ (t : TableState). unwrap_or t.version 1) c.self.view_is in
-    ap (λ (v : ℕ). reading v c.args.line.now) (sym version) ∙ c.in_ok-item.ensures.exact
+    ap (λ (v : ℕ). reading Interpreted v c.args.line.now) (sym version) ∙ c.in_ok-item.ensures.exact
 
 pub returns-clause-stands : goal.returns-clause-stands
 returns-clause-stands c =
@@ -34,3 +37,16 @@ returns-clause-stands c =
 pub returns-clause-events : goal.returns-clause-events
 returns-clause-events c =
     MatchResult-weaker c.take.result c.take.ensures.takes (λ step takes. events-push c.args.self.now c.take.new.self (content c.in_ok-item.item) step c.args.line.now (may_stand c) (read_as c) takes) (λ error all. all)
+
+pub returns-clause-fault : goal.returns-clause-fault
+returns-clause-fault c =
+    MatchResult-weaker c.take.result c.take.ensures.refuses (λ step all. all) (λ error refuses. fault-told c.args.self.now (content c.in_ok-item.item) c.args.line.now error (may_stand c) (read_as c) refuses.fault)
+
+pub returns-clause-grows : goal.returns-clause-grows
+returns-clause-grows c =
+    MatchResult-weaker c.take.result c.take.ensures.takes (λ step takes. grows-after c.args.self.now c.take.new.self (content c.in_ok-item.item) step takes) (λ error all. all)
+
+pub returns-clause-continues : goal.returns-clause-continues
+returns-clause-continues c =
+    let sound = subst (λ (t : TableState). IsSound t.version (length t.strings) t.instructions t.nodes t.infos) c.self.view_is c.self.invariant in
+    continues-answer c.args.self.now c.take.new.self (content c.in_ok-item.item) c.take.result sound c.take.ensures.takes c.take.ensures.refuses
