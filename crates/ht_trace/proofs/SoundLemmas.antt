@@ -15,14 +15,22 @@ use Rattle.stack_table.specs.Node.{Node}
 use Rattle.stack_table.specs.Stack.{frame_count, stack, stack_nodes}
 use Rattle.stack_table.proofs.Stacks.{frame_count-newest, frame_count-older, stack-newest, stack-older}
 use Rattle.live_ledger.specs.LedgerState.{HeldInfo}
+use Rattle.live_ledger.specs.declared.event.Event.{Event}
+use Rattle.live_ledger.specs.declared.event.Event.TheVariants.{Alloc, Free}
+use Rattle.ht_lines.specs.Content.{Content, info_line, allocation_line, free_line}
 use Rattle.ht_trace.specs.declared.error.LineError.{LineError}
-use Rattle.ht_trace.specs.declared.error.LineError.TheVariants.{UnknownString}
+use Rattle.ht_trace.specs.declared.error.LineError.TheVariants.{UnknownString, UnknownTrace}
 use Rattle.ht_trace.specs.declared.frame.Frame.{Frame}
 use Rattle.ht_trace.specs.declared.frame.FrameAt.{FrameAt}
 use Rattle.ht_trace.specs.IsFrame.{place_count}
+use Rattle.ht_trace.specs.declared.step.Step.{Step}
+use Rattle.ht_trace.specs.HeldStack.{HasHeldEvent, HasHeldStack}
+use Rattle.ht_trace.specs.StateAfter.{Takes, state_after}
+use Rattle.ht_trace.specs.StepOf.{event_step, step_in}
+use Rattle.ht_trace.specs.TableState.{TableState}
 use Rattle.ht_trace.specs.FramesSaid.{frames_said, triples, without_file}
 use Rattle.ht_trace.specs.Instruction.{Instruction, frame_count_of}
-use Rattle.ht_trace.specs.LineFault.{append_fault, frames_held, held_fault, instruction_fault}
+use Rattle.ht_trace.specs.LineFault.{append_fault, content_fault, frames_held, growth_fault, held_fault, instruction_fault, most_entries}
 use Rattle.ht_trace.specs.Sound.{IsNamed, IsSound, IsSoundStack}
 use Rattle.ht_trace.specs.StackFrames.{frames_of, no_stack, stack_frames}
 use Rattle.ht_trace.proofs.EntryLemmas.{all-push, all-weaker}
@@ -238,3 +246,27 @@ stack-places held nodes zero = λ k d within. one k d within
 stack-places held nodes (suc n) =
     let above : eqb (suc n) 0 ≡ false = grind (arith, nat_tests) in
     rw above (all-places held (stack nodes (suc n)))
+
+-- the stack of an event is that of its info, which is held
+held-event : (old new : TableState) (kind : ℕ → ℕ → ℕ → Event) (info : ℕ) (found : Option HeldInfo) → ((stack size : ℕ) → stack ≤ length old.nodes → HasHeldEvent new (kind info stack size))
+    → ((held : HeldInfo) → found ≡ Some held → held.stack ≤ length old.nodes) → HasHeldStack new (event_step (option_map (λ held. kind info held.stack held.size) found))
+held-event old new kind info None holds within = tt
+held-event old new kind info (Some held) holds within = holds held.stack held.size (within held refl)
+
+known-by-fault : (unknown : Bool) (growth : Option LineError) → cond {A = Option LineError} unknown (Some UnknownTrace) growth ≡ None → unknown ≡ false
+known-by-fault true growth none = absurd (grind (arith, none))
+known-by-fault false growth none = refl
+
+held-state : (old : TableState) (said : Content) → AllByRecursion (λ info. info.stack ≤ length old.nodes) old.infos → content_fault old said ≡ None → HasHeldStack (state_after old said) (step_in old.infos said)
+held-state old (info_line size trace) infos none =
+    let known = known-by-fault (nat_lt (length old.nodes) trace) (growth_fault (length old.infos) most_entries) none in
+    grind (arith, nat_tests, known)
+held-state old (allocation_line info) infos none =
+    held-event old old Alloc info (slice_get old.infos info) (λ stack size within. within) (λ held at. all-at (λ (info : HeldInfo). info.stack ≤ length old.nodes) old.infos info held infos at)
+held-state old (free_line info) infos none =
+    held-event old old Free info (slice_get old.infos info) (λ stack size within. within) (λ held at. all-at (λ (info : HeldInfo). info.stack ≤ length old.nodes) old.infos info held infos at)
+held-state old _ infos none = tt
+
+pub held-after : (old new : TableState) (said : Content) (step : Step) → AllByRecursion (λ info. info.stack ≤ length old.nodes) old.infos → Takes old said step new → HasHeldStack new step
+held-after old new said step infos takes =
+    subst (λ (t : TableState). HasHeldStack t step) (sym takes.added) (subst (λ (step : Step). HasHeldStack (state_after old said) step) (sym takes.step_is) (held-state old said infos takes.no_fault))

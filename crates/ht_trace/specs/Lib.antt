@@ -14,6 +14,7 @@ pub mod StateAfter
 pub mod StackFrames
 pub mod Continues
 pub mod FrameText
+pub mod HeldStack
 pub mod IsFrame
 pub mod PassesEvents
 pub mod Pattern

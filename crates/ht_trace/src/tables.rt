@@ -10,6 +10,7 @@ ghost use Rattle.ht_lines.specs.declared.item.Form.TheVariants.{Interpreted};
 ghost use Rattle.live_ledger.specs.LedgerState.{LedgerState};
 ghost use Rattle.ht_trace.specs.Continues.{Continues};
 ghost use Rattle.ht_trace.specs.FrameText.{HasNoFunction, frame_text, function_at};
+ghost use Rattle.ht_trace.specs.HeldStack.{HasHeldStack};
 ghost use Rattle.ht_trace.specs.IsFrame.{IsFrame};
 ghost use Rattle.ht_trace.specs.LedgerFits.{CanTake, Grows, IsBeside, least_length};
 ghost use Rattle.ht_trace.specs.LineFault.{Tells, end_fault, line_fault_after, may_stand_first, pattern_fault};
@@ -110,11 +111,13 @@ impl Tables {
             events (lines ++ line.now ∷ []) ≡ events lines ++ option_to_list (event_of step)) }
         ensures fault { IfErr result (λ error. (given lines : List (List ℕ)) → StandsAfter self.old given lines → Tells error (line_fault_after given lines line.now)) }
         ensures continues { Continues self.old self.new }
+        ensures goes_on { (before : TableState) → Continues before self.old → Continues before self.new }
         ensures unchanged { OnErr result (self.new ≡ self.old) }
 
         // For a ledger that is kept beside the tables.
         ensures can_take { IfOk result (λ step. (ledger : LedgerState) → IsBeside self.old ledger → CanTake ledger step) }
         ensures grows { IfOk result (λ step. Grows self.old step self.new) }
+        ensures stack_held { IfOk result (λ step. HasHeldStack self.new step) }
         ensures least_length { IfOk result (λ step. least_length step ≤ length line.now) }
     {
         if self.version.is_none() && !may_stand_first(line) {
@@ -145,6 +148,7 @@ impl Tables {
     pub fn stacks(&self) -> u32
         ensures count { result ≡ length self.now.nodes + 1 }
         ensures bound { result ≤ 2 ^ 32 - 1 }
+        ensures continues { Continues self.now self.now }
     {
         self.nodes.len() + 1
     }
@@ -214,7 +218,9 @@ impl Tables {
         ensures no_fault { OnOk result (pattern_fault (length self.old.patterns) text.now ≡ None) }
         ensures fault { IfErr result (λ error. Tells error (pattern_fault (length self.old.patterns) text.now)) }
         ensures too_many { (result ≡ Err LineError.TooMany) ↔ (pattern_fault (length self.old.patterns) text.now ≡ Some LineError.TooMany) }
+        ensures only { IfErr result (λ error. (error ≡ LineError.TooMany) ⊎ (error ≡ LineError.NoMemory)) }
         ensures continues { Continues self.old self.new }
+        ensures goes_on { (before : TableState) → Continues before self.old → Continues before self.new }
         ensures unchanged { OnErr result (self.new ≡ self.old) }
     {
         self.patterns.add(text)

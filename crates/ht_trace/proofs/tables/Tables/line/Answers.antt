@@ -1,4 +1,4 @@
-use Rattle.std.proofs.Common.{ℕ, ◌≡◌, Bool, true, false, Ok, length, sym, ap, ◌∙◌, refl, subst}
+use Rattle.std.proofs.Common.{ℕ, ◌≡◌, ◌≤◌, Bool, true, false, Ok, length, sym, ap, ◌∙◌, refl, subst}
 use Rattle.std.specs.Prelude.{◌||◌, is_some, unwrap_or}
 use Rattle.std.proofs.lemmas.Result.{MatchResult-weaker}
 use Rattle.ht_lines.specs.ItemContent.{content}
@@ -6,7 +6,10 @@ use Rattle.ht_lines.specs.declared.item.Form.TheVariants.{Interpreted}
 use Rattle.ht_lines.specs.Reading.{reading}
 use Rattle.ht_trace.specs.LineFault.{may_stand_first}
 use Rattle.ht_trace.specs.TableState.{TableState}
-use Rattle.ht_trace.proofs.GrowthLemmas.{continues-answer}
+use Rattle.ht_trace.proofs.GrowthLemmas.{continues-answer, continues-trans}
+use Rattle.ht_trace.proofs.SoundLemmas.{held-after}
+use Rattle.ht_trace.specs.Continues.{Continues}
+use Rattle.std.specs.List.{AllByRecursion}
 use Rattle.ht_trace.proofs.LineLemmas.{events-push, fault-told, grows-after, stands-push}
 use Rattle.ht_trace.specs.Sound.{IsSound}
 use Rattle.ht_trace.proofs.tables.Tables.line.Goals as goal
@@ -46,7 +49,19 @@ pub returns-clause-grows : goal.returns-clause-grows
 returns-clause-grows c =
     MatchResult-weaker c.take.result c.take.ensures.takes (λ step takes. grows-after c.args.self.now c.take.new.self (content c.in_ok-item.item) step takes) (λ error all. all)
 
-pub returns-clause-continues : goal.returns-clause-continues
-returns-clause-continues c =
+-- the tables go on
+continues : (c : goal.After-take) → Continues c.args.self.now c.take.new.self
+continues c =
     let sound = subst (λ (t : TableState). IsSound t.version (length t.strings) t.instructions t.nodes t.infos) c.self.view_is c.self.invariant in
     continues-answer c.args.self.now c.take.new.self (content c.in_ok-item.item) c.take.result sound c.take.ensures.takes c.take.ensures.refuses
+
+pub returns-clause-continues : goal.returns-clause-continues
+returns-clause-continues c = continues c
+
+pub returns-clause-goes_on : goal.returns-clause-goes_on
+returns-clause-goes_on c = λ before one. continues-trans before c.args.self.now c.take.new.self one (continues c)
+
+pub returns-clause-stack_held : goal.returns-clause-stack_held
+returns-clause-stack_held c =
+    let infos = subst (λ (t : TableState). AllByRecursion (λ info. info.stack ≤ length t.nodes) t.infos) c.self.view_is c.self.invariant.infos_held in
+    MatchResult-weaker c.take.result c.take.ensures.takes (λ step takes. held-after c.args.self.now c.take.new.self (content c.in_ok-item.item) step infos takes) (λ error all. all)
