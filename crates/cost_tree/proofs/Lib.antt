@@ -9,3 +9,4 @@ pub mod Stages
 pub mod Linking
 pub mod Trees
 pub mod Copying
+pub mod Listing

@@ -1,17 +1,18 @@
 -- A tree that has grown is the tree of its stacks.
-use Rattle.std.proofs.Common.{◌≡◌, ◌≢◌, ℕ, zero, suc, ◌+◌, ◌-◌, ◌<◌, ◌≤◌, ◌⊎◌, inl, inr, Bool, true, false, ◌&&◌, List, [], ◌∷◌, ◌++◌, length, take, get_or, Some, refl, sym, ap, ◌∙◌, subst, arith}
-use Rattle.std.specs.Prelude.{slice_get, nat_lt}
-use Rattle.std.proofs.lemmas.Bool.{cases_eq, cases_order, and_parts}
+use Rattle.std.proofs.Common.{◌≡◌, ◌≢◌, ℕ, zero, suc, ◌+◌, ◌-◌, ◌<◌, ◌≤◌, ◌⊎◌, inl, inr, Bool, true, false, ◌&&◌, List, [], ◌∷◌, ◌++◌, length, take, get_or, Option, None, Some, Bor, refl, sym, ap, ◌∙◌, subst, arith}
+use Rattle.std.specs.Prelude.{IfSome, IsSome, slice_get, nat_lt, unwrap_or}
+use Rattle.std.proofs.lemmas.Bool.{cases_eq, and_parts, false≢true}
 use Rattle.std.proofs.lemmas.List.{length_push}
 use Rattle.std.proofs.lemmas.List.Sums.{passes_at_first}
-use Rattle.std.proofs.lemmas.Option.{slice_get_within, slice_get-get_or, get_or_from_slice_get}
+use Rattle.std.proofs.lemmas.Option.{same_Some, slice_get_within, slice_get-get_or, get_or_from_slice_get}
+use Rattle.intern_tables.specs.Numbers.{name_at}
 use Rattle.cost_tree.specs.declared.branches.Edge.{Edge}
 use Rattle.cost_tree.specs.declared.node.CostNode.{CostNode}
 use Rattle.cost_tree.specs.Costed.{Costed}
 use Rattle.cost_tree.specs.Growth.{AreBranches, HasGrown}
 use Rattle.cost_tree.specs.Inclusive.{has_front, inclusive, least}
 use Rattle.cost_tree.specs.IsTreeOf.{HasFigures, IsBelow, IsTreeOf}
-use Rattle.cost_tree.specs.Texts.{text_of, next_front, fronts_of}
+use Rattle.cost_tree.specs.Texts.{IsText, text_of, next_front, fronts_of}
 use Rattle.cost_tree.specs.TreeState.{TreeState}
 use Rattle.cost_tree.proofs.Prefixes.{has_front-Decides}
 use Rattle.cost_tree.proofs.Sums.{least-within}
@@ -139,3 +140,23 @@ pub parents-lower : (names : List (List ℕ)) (edges : List Edge) (nodes read : 
 parents-lower names edges nodes read stacks depth has same n node above at =
     let edge = HasEdge-is names edges nodes (fronts_of names edges) n node has.branches above (ap (λ (xs : List CostNode). slice_get xs n) (sym same) ∙ at) in
     edge.lower
+
+-- the text that a look-up of a number gives
+pub text-found : (names : List (List ℕ)) (number : ℕ) (found : Option (Bor (List ℕ))) (other : Bor (List ℕ)) → IsSome found → IfSome found (λ name. name_at names number ≡ Some name.now) → (unwrap_or found other).now ≡ text_of names number
+unfolding text_of
+text-found names number (Some name) other some is = sym (ap (λ (held : Option (List ℕ)). unwrap_or held []) is)
+text-found names number None other some is = absurd (false≢true some)
+
+-- the last text of a front is that of its node's edge
+pub last-text : (names : List (List ℕ)) (edges : List Edge) (nodes : List CostNode) (n place : ℕ) (edge : Edge) (text : List ℕ)
+    → AreBranches names edges nodes (fronts_of names edges) → 0 < n → n < length nodes → place ≡ n - 1 → Some edge ≡ slice_get edges place → text ≡ text_of names edge.text
+    → (front : List (List ℕ)) × (slice_get (fronts_of names edges) n ≡ Some (front ++ text ∷ []))
+last-text names edges nodes n place edge text are above within back found is =
+    let no_node : CostNode = record { parent = 0; cost = 0; own = 0; first = 0 } in
+    let has = HasEdge-is names edges nodes (fronts_of names edges) n (get_or nodes n no_node) are above (slice_get-get_or nodes n no_node within) in
+    let same : edge ≡ has.edge = same_Some edge has.edge (found ∙ ap (λ (k : ℕ). slice_get edges k) back ∙ has.at) in
+    (has.parent_front, has.front ∙ ap (λ (xs : List ℕ). Some (has.parent_front ++ xs ∷ [])) (sym (is ∙ ap (λ (e : Edge). text_of names e.text) same)))
+
+-- the number of an edge's text is one of a name
+pub edge-text : (names : List (List ℕ)) (edges : List Edge) (nodes : List CostNode) (fronts : List (List (List ℕ))) (place : ℕ) (edge : Edge) → AreBranches names edges nodes fronts → Some edge ≡ slice_get edges place → IsText names edge.text
+edge-text names edges nodes fronts place edge are found = (are.branch place edge (sym found)).text

@@ -1,5 +1,5 @@
 -- How lists of texts are kept: each text once, and the lists as numbers of texts.
-use Rattle.std.specs.Prelude.{ℕ, ◌+◌, ◌^◌, ◌<◌, ◌≤◌, List, [], ◌∷◌, ◌++◌, length, map, fold, All, slice_index_or, unwrap_or}
+use Rattle.std.specs.Prelude.{◌≡◌, ℕ, ◌-◌, ◌^◌, ◌<◌, ◌≤◌, List, [], ◌∷◌, ◌++◌, length, map, fold, Some, All, slice_get, slice_index_or, slice_set, unwrap_or}
 use Rattle.std.specs.Global.{Vec}
 use Rattle.intern_tables.specs.Numbers.{name_at}
 use Rattle.cost_tree.specs.declared.branches.Edge.{Edge}
@@ -24,6 +24,12 @@ lists_of names lists = map (λ list. texts_of names list.items) lists
 pub record AreLists (names : List (List ℕ)) (lists : List (Vec ℕ)) : Type 0 where
   pub texts : All (λ list. All (IsText names) list.items) lists
   pub few : length lists < 2 ^ 32
+
+-- the last vector has these numbers too
+abbrev pub LastBecomes : List (Vec ℕ) → List ℕ → List (Vec ℕ) → Type 0
+LastBecomes old numbers new =
+    (last : Vec ℕ) → slice_get old (length old - 1) ≡ Some last
+    → (now : Vec ℕ) × (now.items ≡ last.items ++ numbers) × (new ≡ slice_set old (length old - 1) now)
 
 -- the front that an edge adds: that of the node where it begins, and its text
 abbrev pub next_front : List (List ℕ) → List (List (List ℕ)) → Edge → List (List ℕ)

@@ -1,6 +1,7 @@
 //! Lists of texts, as those that a tree is built of.
 //! What the lists cost is told when a tree is built.
-ghost use Rattle.std.specs.Prelude.{◌≡◌, ℕ, ◌+◌, ◌-◌, ◌^◌, ◌<◌, List, [], ◌∷◌, ◌++◌, length, set, slice_index_or, with_items, IfOk, OnOk, OnErr};
+ghost use Rattle.std.specs.Prelude.{◌≡◌, ℕ, ◌+◌, ◌-◌, ◌^◌, ◌<◌, List, [], ◌∷◌, ◌++◌, length, Some, slice_get, slice_set, IfOk, OnOk, OnErr};
+ghost use Rattle.cost_tree.specs.Texts.{LastBecomes};
 
 use hp_num::NoMemory;
 use intern_tables::Names;
@@ -59,7 +60,8 @@ impl Fronts {
         ensures unchanged { OnErr result (self.new ≡ self.old) }
     {
         let number = self.names.intern(text)?;
-        push_last(&mut self.lists, number)
+        push_last(&mut self.lists, number)?;
+        Ok(())
     }
 
     /// How many lists there are.
@@ -73,6 +75,8 @@ impl Fronts {
 /// Appends the number to the last vector.
 fn push_last(lists: &mut Vec<Vec<usize>>, number: usize) -> Result<(), NoMemory>
     requires begun { 0 < length lists.old.items }
+    ensures pushed { OnOk result (LastBecomes lists.old.items (number ∷ []) lists.new.items) }
+    ensures kept { OnErr result (LastBecomes lists.old.items [] lists.new.items) }
 {
     let last = lists.len() - 1;
     lists[last].push(number)?;
