@@ -10,10 +10,11 @@ use Rattle.massif_file.specs.ProfileFault.{IsRefusedLine, IsTruncated, profile_f
 use Rattle.massif_file.specs.ProfileOf.{at_line, unless_refused, read_from, profile_of}
 use Rattle.massif_file.specs.StandsFor.{StandsFor}
 use Rattle.massif_file.specs.Progress.{Progress, in_descriptions, at_unit, at_snapshot, at_time, at_heap, at_extra, at_stacks, at_mark, in_tree, refused_for, taken, after, after_all, progress_of, fault_in, end_of}
+use Rattle.massif_file.specs.UnlessNoMemory.{UnlessNoMemory}
 use Rattle.massif_file.proofs.Complete.{after_all-saying, run_all}
 use Rattle.massif_file.specs.IsWritable.{IsLine, IsWritable}
 use Rattle.massif_file.proofs.ReadTexts.{is_writable}
-use Rattle.massif_file.proofs.ReadingLemmas.{profile_of-append, after_all-append, at_end}
+use Rattle.massif_file.proofs.ReadingLemmas.{profile_of-append, after_all-append, at_end, fault_of_all, unless_weaker}
 use Rattle.massif_file.specs.Refuses.{Refuses, EndsEarly}
 use Rattle.massif_file.proofs.Refusing.{refused_is, ends_early}
 use Rattle.massif_file.proofs.Sound.{Stands, take_all, reads, stands_after}
@@ -249,3 +250,15 @@ end_writable reader (Err fault) e lines s h = tt
 pub end_truncated : (reader : Progress) (r : Result Profile ProfileFault) → r ≡ end_of reader → (lines : List (List ℕ)) → StandsFor reader lines → IfErr r (λ fault. fault ≡ Truncated)
 end_truncated reader (Ok profile) e lines s = tt
 end_truncated reader (Err fault) e lines s = truncated_is reader fault (ap fault_in s.progress ∙ s.taken) (sym e)
+
+-- the fault that is answered at the end is that of the lines
+pub end_first : (reader : Progress) (r : Result Profile ProfileFault) → r ≡ end_of reader → (lines : List (List ℕ)) → StandsFor reader lines → IfErr r (λ fault. profile_fault lines (length lines + 1) fault)
+end_first reader (Ok profile) e lines s = tt
+end_first reader (Err fault) e lines s = fault_is lines (length lines + 1) fault (at_end reader lines s ∙ ap (at_line (length lines + 1)) (sym e))
+
+-- and so is that of one call
+pub call_first : (old : Progress) (line : List ℕ) (r : Result (Unit {0}) ProfileFault) → IfErr r (λ fault. UnlessNoMemory fault (after old line ≡ refused_for fault))
+    → IfErr r (λ fault. UnlessNoMemory fault ((lines later : List (List ℕ)) → StandsFor old lines → profile_fault (lines ++ line ∷ later) (length lines + 1) fault))
+call_first old line (Ok done) h = tt
+call_first old line (Err fault) h =
+    unless_weaker fault (λ e lines later s. fault_is (lines ++ line ∷ later) (length lines + 1) fault (fault_of_all old line fault e lines later s)) h

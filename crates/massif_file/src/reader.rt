@@ -4,6 +4,7 @@ ghost use Rattle.std.specs.Prelude.{◌≡◌, ◌≢◌, ℕ, ◌+◌, List, []
 ghost use Rattle.massif_file.specs.declared.fault.ProfileFault.{ProfileFault};
 ghost use Rattle.massif_file.specs.declared.profile.Profile.{Profile};
 ghost use Rattle.massif_file.specs.IsProfile.{is_profile};
+ghost use Rattle.massif_file.specs.ProfileFault.{profile_fault};
 ghost use Rattle.massif_file.specs.ProfileOf.{profile_of};
 ghost use Rattle.massif_file.specs.StandsFor.{StandsFor};
 ghost use Rattle.massif_file.specs.Progress.{refused_for, in_descriptions, after, end_of, fault_in};
@@ -62,6 +63,9 @@ impl ProfileReader {
         ensures fault { IfErr result (λ fault. UnlessNoMemory fault
             ((lines later : List (List ℕ)) → StandsFor self.old lines →
             profile_of (lines ++ line.now ∷ later) ≡ Err (length lines + 1, fault))) }
+        ensures first_fault { IfErr result (λ fault. UnlessNoMemory fault
+            ((lines later : List (List ℕ)) → StandsFor self.old lines →
+            profile_fault (lines ++ line.now ∷ later) (length lines + 1) fault)) }
     {
         self.reading.line(line)
     }
@@ -78,6 +82,8 @@ impl ProfileReader {
             StandsFor self lines → All IsLine lines → IfOk result (λ profile. IsWritable profile) }
         ensures truncated { (lines : List (List ℕ)) → StandsFor self lines →
             IfErr result (λ fault. fault ≡ ProfileFault.Truncated) }
+        ensures first_fault { (lines : List (List ℕ)) → StandsFor self lines →
+            IfErr result (λ fault. profile_fault lines (length lines + 1) fault) }
 
         // The same by the function.
         ensures profile { (lines : List (List ℕ)) → StandsFor self lines →
