@@ -1,0 +1,349 @@
+-- The peak of a list of events with one more.
+use Rattle.std.proofs.Common.{append-nil, add-zero, zero, suc, ◌≡◌, ℕ, ◌+◌, ◌-◌, ◌<◌, ◌≤◌, List, [], ◌∷◌, ◌++◌, length, map, take, Bool, true, cond, refl, inl, inr, sym, ap, subst, ◌∙◌, arith}
+use Rattle.std.specs.Prelude.{slice_index, sum_by, count_by}
+use Rattle.std.proofs.lemmas.Bool.{cases_lt}
+use Rattle.std.proofs.lemmas.List.{take-append-le, take_all}
+use Rattle.std.proofs.lemmas.List.Elements.{filter-append}
+use Rattle.std.proofs.lemmas.List.Sums.{length-filter, sum_by-cons, sum_by_push}
+use Rattle.live_ledger.specs.declared.event.Event.{Event}
+use Rattle.live_ledger.specs.declared.event.Event.TheVariants.{Alloc, Free, Tick}
+use Rattle.live_ledger.specs.declared.figures.Figures.{Figures}
+use Rattle.live_ledger.specs.Changes.{Changes}
+use Rattle.live_ledger.specs.Events.{counted, event_count, is_counted}
+use Rattle.live_ledger.specs.InStack.{alloc_size_in, allocated_in, blocks_in, calls_in, free_size_in, freed_in, frees_in, is_alloc_in, is_free_in, live_in}
+use Rattle.live_ledger.specs.LedgerState.{IsHeld, LedgerState, figures_at, no_figures}
+use Rattle.live_ledger.specs.LiveBytes.{alloc_size, allocated_bytes, free_size, freed_bytes, live_bytes}
+use Rattle.live_ledger.specs.Sound as ledger_sound
+use Rattle.live_ledger.specs.StandsFor as ledger_spec
+use Rattle.peak_costs.specs.declared.mark.Mark.{Mark}
+use Rattle.peak_costs.specs.Kept.{AreKept, blocks_list, live_list, state_of}
+use Rattle.peak_costs.specs.Mark.{first_mark, raised}
+use Rattle.peak_costs.specs.Peak.{IsIn, IsPeak, StandsFor, first_events, total_after}
+use Rattle.peak_costs.specs.PeakState.{PeakState, with_stack}
+use Rattle.peak_costs.specs.Saved.{saved_after, shares_of, stamps_after}
+use Rattle.peak_costs.proofs.Shares.{share-same, shares-same}
+use Rattle.peak_costs.proofs.Keeping.{HasStack, Longer, Moved, figure-at, kept-saved, moved-by, raised-cases, shares-infos, shares-stack, stack-in, shares-kept, shares-new, shares-new_peak}
+
+-- clock values add nothing to a sum in which they have nothing
+sum-counted : (f : Event → ℕ) (events : List Event) → ((ms : ℕ) → f (Tick ms) ≡ 0) → sum_by f (counted events) ≡ sum_by f events
+sum-counted f [] none = refl
+sum-counted f (Alloc i s z ∷ rest) none = sum_by-cons f (Alloc i s z) (counted rest) ∙ ap (λ (n : ℕ). f (Alloc i s z) + n) (sum-counted f rest none) ∙ sym (sum_by-cons f (Alloc i s z) rest)
+sum-counted f (Free i s z ∷ rest) none = sum_by-cons f (Free i s z) (counted rest) ∙ ap (λ (n : ℕ). f (Free i s z) + n) (sum-counted f rest none) ∙ sym (sum_by-cons f (Free i s z) rest)
+sum-counted f (Tick ms ∷ rest) none =
+    let here = none ms in
+    let tail = sum-counted f rest none in
+    omega (arith, sum_by-cons f (Tick ms) rest, here, tail)
+
+-- the live bytes of a list are those of its allocations and frees
+pub live-counted : (events : List Event) → live_bytes (counted events) ≡ live_bytes events
+live-counted events =
+    let allocated : allocated_bytes (counted events) ≡ allocated_bytes events = sum-counted alloc_size events (λ ms. refl) in
+    let freed : freed_bytes (counted events) ≡ freed_bytes events = sum-counted free_size events (λ ms. refl) in
+    omega arith
+
+-- and so are those of a stack
+pub live_in-counted : (n : ℕ) (events : List Event) → live_in n (counted events) ≡ live_in n events
+live_in-counted n events =
+    let allocated : allocated_in n (counted events) ≡ allocated_in n events = sum-counted (alloc_size_in n) events (λ ms. refl) in
+    let freed : freed_in n (counted events) ≡ freed_in n events = sum-counted (free_size_in n) events (λ ms. refl) in
+    omega arith
+
+pub blocks_in-counted : (n : ℕ) (events : List Event) → blocks_in n (counted events) ≡ blocks_in n events
+blocks_in-counted n events =
+    let calls : calls_in n (counted events) ≡ calls_in n events = sum-counted (λ (e : Event). cond (is_alloc_in n e) 1 0) events (λ ms. refl) in
+    let frees : frees_in n (counted events) ≡ frees_in n events = sum-counted (λ (e : Event). cond (is_free_in n e) 1 0) events (λ ms. refl) in
+    omega arith
+
+-- a counted event stands at the end of the counted ones
+counted-push : (events : List Event) (event : Event) → is_counted event ≡ true → counted (events ++ event ∷ []) ≡ counted events ++ event ∷ []
+counted-push events (Alloc i s z) is = filter-append is_counted events (Alloc i s z ∷ [])
+counted-push events (Free i s z) is = filter-append is_counted events (Free i s z ∷ [])
+counted-push events (Tick ms) is = cc
+
+-- the first events of a list stay when one more comes
+pub first-before : (k : ℕ) (events : List Event) (event : Event) → is_counted event ≡ true → k ≤ event_count events → first_events k (events ++ event ∷ []) ≡ first_events k events
+first-before k events event is within =
+    ap (λ (xs : List Event). take k xs) (counted-push events event is)
+    ∙ take-append-le k (counted events) (event ∷ []) (let count = length-filter is_counted events in omega arith)
+
+-- the first events, as many as there are, are all
+pub first-all : (k : ℕ) (events : List Event) → k ≡ event_count events → first_events k events ≡ counted events
+first-all k events is = take_all k (counted events) (let count = length-filter is_counted events in omega arith)
+
+-- there is one more event
+pub count-more : (events : List Event) (event : Event) → is_counted event ≡ true → event_count (events ++ event ∷ []) ≡ event_count events + 1
+count-more events event is = sum_by_push (λ (e : Event). cond (is_counted e) 1 0) events event ∙ ap (λ (b : Bool). event_count events + cond {A = ℕ} b 1 0) is
+
+-- the total after all events is the ledger's
+pub total-now : (state : PeakState) (events : List Event) (k : ℕ) → ledger_spec.StandsFor state.ledger events → k ≡ event_count events → total_after k events ≡ state.ledger.totals.live
+total-now state events k stands is = ap live_bytes (first-all k events is) ∙ live-counted events ∙ sym stands.figures.live_is
+
+-- the peak stays where the total with one more event is no greater
+pub record Stays (old new : PeakState) : Type 0 where
+  pub total : new.total ≡ old.total
+  pub moment : new.moment ≡ old.moment
+  pub shares : new.shares ≡ old.shares
+  pub block_shares : new.block_shares ≡ old.block_shares
+  pub below : new.ledger.totals.live ≤ old.total
+
+-- the peak is now where the total is greater
+pub record Rises (old new : PeakState) : Type 0 where
+  pub total : new.total ≡ new.ledger.totals.live
+  pub moment : new.moment ≡ new.ledger.totals.events
+  pub shares : new.shares ≡ live_list new.ledger
+  pub block_shares : new.block_shares ≡ blocks_list new.ledger
+  pub above : old.total < new.ledger.totals.live
+
+-- peaks that stay stand for the events with one more
+pub stands-stays :
+    (old new : PeakState) (events : List Event) (event : Event)
+    → is_counted event ≡ true
+    → StandsFor old events
+    → ledger_spec.StandsFor new.ledger (events ++ event ∷ [])
+    → Stays old new
+    → StandsFor new (events ++ event ∷ [])
+stands-stays old new events event is stands now stays =
+    let after : List Event = events ++ event ∷ [] in
+    let p : ℕ = old.moment in
+    let count = count-more events event is in
+    let same : first_events p after ≡ first_events p events = first-before p events event is stands.peak.within in
+    let peak_total : total_after p after ≡ total_after p events = ap live_bytes same in
+    let peak : IsPeak p after = record {
+      within = omega (arith, stands.peak.within, count);
+      greatest = λ k within. elim (cases_lt (event_count events) k) [
+        | inl last ↦ (let all = total-now new after k now (omega arith) in let below = stays.below in let total = stands.total in omega arith)
+        | inr before ↦ (let here : total_after k after ≡ total_after k events = ap live_bytes (first-before k events event is before) in let below = stands.peak.greatest k before in omega arith)
+      ];
+      least = λ k below. (let here : total_after k after ≡ total_after k events = ap live_bytes (first-before k events event is (let within = stands.peak.within in omega arith)) in let less = stands.peak.least k below in omega arith);
+    } in
+    record {
+      ledger = now;
+      peak = subst (λ (m : ℕ). IsPeak m after) (sym stays.moment) peak;
+      total = stays.total ∙ stands.total ∙ sym peak_total ∙ ap (λ (m : ℕ). total_after m after) (sym stays.moment);
+      shares = λ n. ap (λ (xs : List ℕ). slice_index xs n) stays.shares ∙ stands.shares n ∙ ap (λ (es : List Event). live_in n es) (sym same) ∙ ap (λ (m : ℕ). live_in n (first_events m after)) (sym stays.moment);
+      block_shares = λ n. ap (λ (xs : List ℕ). slice_index xs n) stays.block_shares ∙ stands.block_shares n ∙ ap (λ (es : List Event). blocks_in n es) (sym same) ∙ ap (λ (m : ℕ). blocks_in n (first_events m after)) (sym stays.moment);
+    }
+
+-- peaks that rise stand for the events with one more
+pub stands-rises :
+    (old new : PeakState) (events : List Event) (event : Event)
+    → is_counted event ≡ true
+    → StandsFor old events
+    → ledger_spec.StandsFor new.ledger (events ++ event ∷ [])
+    → Rises old new
+    → StandsFor new (events ++ event ∷ [])
+stands-rises old new events event is stands now rises =
+    let after : List Event = events ++ event ∷ [] in
+    let p : ℕ = new.moment in
+    let count = count-more events event is in
+    let all_events : p ≡ event_count after = rises.moment ∙ now.figures.events_is in
+    let all : first_events p after ≡ counted after = first-all p after all_events in
+    let total : total_after p after ≡ new.ledger.totals.live = total-now new after p now all_events in
+    let before : (k : ℕ) → k ≤ event_count events → total_after k after ≤ old.total = λ k within.
+    (let here : total_after k after ≡ total_after k events = ap live_bytes (first-before k events event is within) in let below = stands.peak.greatest k within in let was = stands.total in omega arith) in
+    record {
+      ledger = now;
+      peak = record {
+        within = omega arith;
+        greatest = λ k within. elim (cases_lt (event_count events) k) [
+          | inl last ↦ (let here = total-now new after k now (omega arith) in omega arith)
+          | inr early ↦ (let below = before k early in let above = rises.above in omega arith)
+        ];
+        least = λ k less. (let below = before k (omega arith) in let above = rises.above in omega arith);
+      };
+      total = rises.total ∙ sym total;
+      shares = λ n. ap (λ (xs : List ℕ). slice_index xs n) rises.shares ∙ figure-at (λ (f : Figures). f.live) new.ledger n refl ∙ (now.each_stack n).live_is ∙ sym (live_in-counted n after) ∙ ap (λ (es : List Event). live_in n es) (sym all);
+      block_shares = λ n. ap (λ (xs : List ℕ). slice_index xs n) rises.block_shares ∙ figure-at (λ (f : Figures). f.blocks) new.ledger n refl ∙ (now.each_stack n).blocks_is ∙ sym (blocks_in-counted n after) ∙ ap (λ (es : List Event). blocks_in n es) (sym all);
+    }
+
+-- an event of a stack is counted
+pub counted-in : (stack : ℕ) (event : Event) → IsIn stack event → is_counted event ≡ true
+counted-in stack (Alloc i s z) own = refl
+counted-in stack (Free i s z) own = refl
+counted-in stack (Tick ms) own = absurd own
+
+-- the fields stand for the events with one more, of a stack whose figures were saved before
+pub stands-moved :
+    (old new : LedgerState) (saved blocks stamps : List ℕ) (mark : Mark) (stack : ℕ) (events : List Event) (event : Event)
+    → AreKept old saved blocks stamps mark
+    → AreKept new (saved_after saved stamps mark.counter stack (figures_at old stack).live) (saved_after blocks stamps mark.counter stack (figures_at old stack).blocks) (stamps_after stamps mark.counter stack) mark
+    → Moved old new stack
+    → stack < old.stacks
+    → is_counted event ≡ true
+    → StandsFor (state_of old saved blocks stamps mark) events
+    → ledger_spec.StandsFor new (events ++ event ∷ [])
+    → StandsFor (state_of new (saved_after saved stamps mark.counter stack (figures_at old stack).live) (saved_after blocks stamps mark.counter stack (figures_at old stack).blocks) (stamps_after stamps mark.counter stack) (raised mark new.totals.live new.totals.events)) (events ++ event ∷ [])
+stands-moved old new saved blocks stamps mark stack events event kept now moved held is stands stands_now =
+    let in_saved : stack < length saved = omega (arith, kept.saved_long) in
+    let in_blocks : stack < length blocks = omega (arith, kept.blocks_long) in
+    let in_stamps : stack < length stamps = omega (arith, kept.stamps_long) in
+    let saved_now : List ℕ = saved_after saved stamps mark.counter stack (figures_at old stack).live in
+    let blocks_now : List ℕ = saved_after blocks stamps mark.counter stack (figures_at old stack).blocks in
+    let stamps_now : List ℕ = stamps_after stamps mark.counter stack in
+    elim (raised-cases mark new.totals.live new.totals.events) [
+      | inl stays ↦
+          subst (λ (m : Mark). StandsFor (state_of new saved_now blocks_now stamps_now m) (events ++ event ∷ [])) (sym stays.0)
+          (stands-stays (state_of old saved blocks stamps mark) (state_of new saved_now blocks_now stamps_now mark) events event is stands stands_now
+          (record {
+            total = refl;
+            moment = refl;
+            shares = shares-kept (λ (f : Figures). f.live) old new saved stamps mark.counter stack refl moved in_saved in_stamps;
+            block_shares = shares-kept (λ (f : Figures). f.blocks) old new blocks stamps mark.counter stack refl moved in_blocks in_stamps;
+            below = stays.1;
+          }))
+      | inr rises ↦
+          subst (λ (m : Mark). StandsFor (state_of new saved_now blocks_now stamps_now m) (events ++ event ∷ [])) (sym rises.0)
+          (stands-rises (state_of old saved blocks stamps mark) (state_of new saved_now blocks_now stamps_now (record { total = new.totals.live; moment = new.totals.events; counter = mark.counter + 1 })) events event is stands stands_now
+          (record {
+            total = refl;
+            moment = refl;
+            shares = shares-new_peak (λ (f : Figures). f.live) new saved_now stamps_now mark.counter now.sound.stacks now.stamps_within;
+            block_shares = shares-new_peak (λ (f : Figures). f.blocks) new blocks_now stamps_now mark.counter now.sound.stacks now.stamps_within;
+            above = rises.1;
+          }))
+    ]
+
+-- and over an event of the stack
+pub stands-event :
+    (old new : LedgerState) (saved blocks stamps : List ℕ) (mark : Mark) (stack : ℕ) (events : List Event) (event : Event)
+    → AreKept old saved blocks stamps mark
+    → ledger_sound.IsSound new
+    → Changes old new event
+    → IsIn stack event
+    → IsHeld old event
+    → StandsFor (state_of old saved blocks stamps mark) events
+    → ledger_spec.StandsFor new (events ++ event ∷ [])
+    → StandsFor (state_of new (saved_after saved stamps mark.counter stack (figures_at old stack).live) (saved_after blocks stamps mark.counter stack (figures_at old stack).blocks) (stamps_after stamps mark.counter stack) (raised mark new.totals.live new.totals.events)) (events ++ event ∷ [])
+stands-event old new saved blocks stamps mark stack events event kept sound changes own held stands stands_now =
+    let moved = moved-by old new event stack changes own in
+    let inside = stack-in old event stack kept.sound held own in
+    stands-moved old new saved blocks stamps mark stack events event kept (kept-saved old new saved blocks stamps mark stack kept sound moved inside) moved inside (counted-in stack event own) stands stands_now
+
+-- a clock value changes nothing
+pub stands-tick : (state : PeakState) (events : List Event) (ms : ℕ) → StandsFor state events → ledger_spec.StandsFor state.ledger (events ++ Tick ms ∷ []) → StandsFor state (events ++ Tick ms ∷ [])
+stands-tick state events ms stands now =
+    let same : counted (events ++ Tick ms ∷ []) ≡ counted events = filter-append is_counted events (Tick ms ∷ []) ∙ append-nil (counted events) in
+    let count : event_count (events ++ Tick ms ∷ []) ≡ event_count events = sum_by_push (λ (e : Event). cond (is_counted e) 1 0) events (Tick ms) ∙ add-zero (event_count events) in
+    let first : (k : ℕ) → first_events k (events ++ Tick ms ∷ []) ≡ first_events k events = λ k. ap (λ (xs : List Event). take k xs) same in
+    let total : (k : ℕ) → total_after k (events ++ Tick ms ∷ []) ≡ total_after k events = λ k. ap live_bytes (first k) in
+    let peak = stands.peak in
+    record {
+      ledger = now;
+      peak = record {
+        within = omega (arith, peak.within);
+        greatest = λ k within. (let here = total k in let there = total state.moment in let below = peak.greatest k (omega arith) in omega arith);
+        least = λ k less. (let here = total k in let there = total state.moment in let below = peak.least k less in omega arith);
+      };
+      total = stands.total ∙ sym (total state.moment);
+      shares = λ n. stands.shares n ∙ ap (λ (es : List Event). live_in n es) (sym (first state.moment));
+      block_shares = λ n. stands.block_shares n ∙ ap (λ (es : List Event). blocks_in n es) (sym (first state.moment));
+    }
+
+-- what peaks stand for is told by the ledger and by the peak's figures
+pub stands-same :
+    (old new : PeakState) (events : List Event)
+    → ledger_spec.StandsFor new.ledger events
+    → new.total ≡ old.total
+    → new.moment ≡ old.moment
+    → ((n : ℕ) → slice_index new.shares n ≡ slice_index old.shares n)
+    → ((n : ℕ) → slice_index new.block_shares n ≡ slice_index old.block_shares n)
+    → StandsFor old events
+    → StandsFor new events
+stands-same old new events ledger total moment shares block_shares stands = record {
+  ledger = ledger;
+  peak = subst (λ (m : ℕ). IsPeak m events) (sym moment) stands.peak;
+  total = total ∙ stands.total ∙ ap (λ (m : ℕ). total_after m events) (sym moment);
+  shares = λ n. shares n ∙ stands.shares n ∙ ap (λ (m : ℕ). live_in n (first_events m events)) (sym moment);
+  block_shares = λ n. block_shares n ∙ stands.block_shares n ∙ ap (λ (m : ℕ). blocks_in n (first_events m events)) (sym moment);
+}
+
+-- a share of 0 at the end changes none
+pub share-push : (xs : List ℕ) (n : ℕ) → slice_index (xs ++ 0 ∷ []) n ≡ slice_index xs n
+share-push [] zero = refl
+share-push [] (suc n) = refl
+share-push (x ∷ xs) zero = refl
+share-push (x ∷ xs) (suc n) = share-push xs n
+
+-- new peaks stand for no events
+pub stands-new :
+    (ledger : LedgerState)
+    → ledger_sound.IsSound ledger
+    → ledger_spec.StandsFor ledger []
+    → StandsFor (state_of ledger (0 ∷ []) (0 ∷ []) (0 ∷ []) first_mark) []
+stands-new ledger sound stands = record {
+  ledger = stands;
+  peak = record {
+    within = omega arith;
+    greatest = λ k within. (let all : first_events k [] ≡ [] = take_all k [] (omega arith) in let none : total_after k [] ≡ 0 = ap live_bytes all in omega arith);
+    least = λ k less. absurd (omega arith);
+  };
+  total = refl;
+  shares = λ n. ap (λ (xs : List ℕ). slice_index xs n) (shares-new (λ (f : Figures). f.live) ledger sound) ∙ figure-at (λ (f : Figures). f.live) ledger n refl ∙ (stands.each_stack n).live_is;
+  block_shares = λ n. ap (λ (xs : List ℕ). slice_index xs n) (shares-new (λ (f : Figures). f.blocks) ledger sound) ∙ figure-at (λ (f : Figures). f.blocks) ledger n refl ∙ (stands.each_stack n).blocks_is;
+}
+
+-- peaks stand for their events with other infos in the ledger
+pub stands-infos :
+    (old new : LedgerState) (saved blocks stamps : List ℕ) (mark : Mark) (events : List Event)
+    → new.stacks ≡ old.stacks
+    → new.figures ≡ old.figures
+    → ledger_spec.StandsFor new events
+    → StandsFor (state_of old saved blocks stamps mark) events
+    → StandsFor (state_of new saved blocks stamps mark) events
+stands-infos old new saved blocks stamps mark events stacks figures now stands =
+    stands-same (state_of old saved blocks stamps mark) (state_of new saved blocks stamps mark) events now refl refl
+    (λ n. ap (λ (xs : List ℕ). slice_index xs n) (shares-infos (λ (f : Figures). f.live) old new saved stamps mark.counter stacks figures))
+    (λ n. ap (λ (xs : List ℕ). slice_index xs n) (shares-infos (λ (f : Figures). f.blocks) old new blocks stamps mark.counter stacks figures))
+    stands
+
+-- and with one more stack
+pub stands-stack :
+    (old new : LedgerState) (saved blocks stamps saved_now blocks_now stamps_now : List ℕ) (mark : Mark) (events : List Event)
+    → AreKept old saved blocks stamps mark
+    → HasStack old new
+    → Longer old.stacks saved saved_now
+    → Longer old.stacks blocks blocks_now
+    → Longer old.stacks stamps stamps_now
+    → ledger_spec.StandsFor new events
+    → StandsFor (state_of old saved blocks stamps mark) events
+    → StandsFor (state_of new saved_now blocks_now stamps_now mark) events
+stands-stack old new saved blocks stamps saved_now blocks_now stamps_now mark events kept has saved_long blocks_long stamps_long now stands =
+    stands-same (state_of old saved blocks stamps mark) (state_of new saved_now blocks_now stamps_now mark) events now refl refl
+    (λ n. ap (λ (xs : List ℕ). slice_index xs n) (shares-stack (λ (f : Figures). f.live) old new saved saved_now blocks stamps stamps_now mark saved refl kept has saved_long stamps_long) ∙ share-push (shares_of old.stacks (live_list old) saved stamps mark.counter) n)
+    (λ n. ap (λ (xs : List ℕ). slice_index xs n) (shares-stack (λ (f : Figures). f.blocks) old new blocks blocks_now blocks stamps stamps_now mark saved refl kept has blocks_long stamps_long) ∙ share-push (shares_of old.stacks (blocks_list old) blocks stamps mark.counter) n)
+    stands
+
+-- cells that are longer and hold the same stand for the same events
+pub stands-cells :
+    (ledger : LedgerState) (saved blocks stamps saved_now blocks_now stamps_now : List ℕ) (mark : Mark) (events : List Event)
+    → ((n : ℕ) → slice_index saved_now n ≡ slice_index saved n)
+    → ((n : ℕ) → slice_index blocks_now n ≡ slice_index blocks n)
+    → ((n : ℕ) → slice_index stamps_now n ≡ slice_index stamps n)
+    → StandsFor (state_of ledger saved blocks stamps mark) events
+    → StandsFor (state_of ledger saved_now blocks_now stamps_now mark) events
+stands-cells ledger saved blocks stamps saved_now blocks_now stamps_now mark events saved_same blocks_same stamps_same stands =
+    stands-same (state_of ledger saved blocks stamps mark) (state_of ledger saved_now blocks_now stamps_now mark) events stands.ledger refl refl
+    (λ n. ap (λ (xs : List ℕ). slice_index xs n) (shares-same ledger.stacks (live_list ledger) saved stamps mark.counter (live_list ledger) saved_now stamps_now mark.counter (λ k within. share-same (live_list ledger) (live_list ledger) saved saved_now stamps stamps_now mark.counter k refl (saved_same k) (stamps_same k))))
+    (λ n. ap (λ (xs : List ℕ). slice_index xs n) (shares-same ledger.stacks (blocks_list ledger) blocks stamps mark.counter (blocks_list ledger) blocks_now stamps_now mark.counter (λ k within. share-same (blocks_list ledger) (blocks_list ledger) blocks blocks_now stamps stamps_now mark.counter k refl (blocks_same k) (stamps_same k))))
+    stands
+
+-- a state by its parts
+abbrev state_with : LedgerState → List ℕ → List ℕ → ℕ → ℕ → PeakState
+state_with ledger shares block_shares total moment = record { ledger = ledger; shares = shares; block_shares = block_shares; total = total; moment = moment }
+
+-- what contracts see with one more stack
+pub state-stack :
+    (old new : LedgerState) (saved blocks stamps saved_now blocks_now stamps_now : List ℕ) (mark : Mark)
+    → new ≡ record old { stacks = old.stacks + 1; figures = old.figures ++ no_figures ∷ [] }
+    → AreKept old saved blocks stamps mark
+    → HasStack old new
+    → Longer old.stacks saved saved_now
+    → Longer old.stacks blocks blocks_now
+    → Longer old.stacks stamps stamps_now
+    → state_of new saved_now blocks_now stamps_now mark ≡ with_stack (state_of old saved blocks stamps mark)
+state-stack old new saved blocks stamps saved_now blocks_now stamps_now mark grown kept has saved_long blocks_long stamps_long =
+    ap (λ (xs : List ℕ). state_with new xs (shares_of new.stacks (blocks_list new) blocks_now stamps_now mark.counter) mark.total mark.moment)
+    (shares-stack (λ (f : Figures). f.live) old new saved saved_now blocks stamps stamps_now mark saved refl kept has saved_long stamps_long)
+    ∙ ap (λ (xs : List ℕ). state_with new (shares_of old.stacks (live_list old) saved stamps mark.counter ++ 0 ∷ []) xs mark.total mark.moment)
+    (shares-stack (λ (f : Figures). f.blocks) old new blocks blocks_now blocks stamps stamps_now mark saved refl kept has blocks_long stamps_long)
+    ∙ ap (λ (l : LedgerState). state_with l (shares_of old.stacks (live_list old) saved stamps mark.counter ++ 0 ∷ []) (shares_of old.stacks (blocks_list old) blocks stamps mark.counter ++ 0 ∷ []) mark.total mark.moment) grown

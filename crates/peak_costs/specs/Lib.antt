@@ -1,0 +1,5 @@
+pub mod Mark
+pub mod Saved
+pub mod PeakState
+pub mod Peak
+pub mod Kept

@@ -1,0 +1,236 @@
+//! Peaks: a ledger, and beside it the peak of its total with each stack's share, which no new peak copies.
+ghost use Rattle.std.specs.Prelude.{◌≡◌, ℕ, ◌+◌, ◌-◌, ◌^◌, ◌<◌, ◌≤◌, List, [], ◌∷◌, ◌++◌, length, slice_index, IfOk, OnOk, OnErr};
+ghost use Rattle.std.specs.Result.{result_err};
+ghost use Rattle.live_ledger.specs.declared.event.Event.{Event};
+ghost use Rattle.live_ledger.specs.Changes.{Changes};
+ghost use Rattle.live_ledger.specs.Events.{IsTick};
+ghost use Rattle.live_ledger.specs.Faults.{fault_at, fault_of};
+ghost use Rattle.live_ledger.specs.LedgerState.{IsHeld};
+ghost use Rattle.live_ledger.specs.InStack.{blocks_in, live_in};
+ghost use Rattle.peak_costs.specs.Peak.{IsIn, IsPeak, StandsFor, first_events, total_after};
+ghost use Rattle.peak_costs.specs.PeakState.{IsSound, with_stack};
+
+#[cfg(test)]
+mod fields;
+
+use crate::mark::Mark;
+use crate::save::save;
+use hp_num::NoMemory;
+use live_ledger::{Cells, Event, EventFault, Ledger, Steps};
+use std::alloc::Global;
+use std::marker::Model;
+
+/// The live figures of a trace with their peak: it stands for the list of events that it was given.
+///
+/// Each stack has a saved figure and a stamp, the number of the peak for which it was saved. A share that isn't saved
+/// for the present peak is the live figure, since the stack hasn't changed after it.
+#[derive(Debug, Drop)]
+pub struct Peaks {
+    ledger: Ledger,
+    saved: Cells,
+    blocks: Cells,
+    stamps: Cells,
+    mark: Mark,
+}
+
+impl Model for Peaks {
+    ghost use Rattle.peak_costs.specs.PeakState.{PeakState};
+    ghost use Rattle.peak_costs.specs.Kept.{AreKept, state_of};
+
+    ghost Value = { PeakState };
+
+    ghost view = { λ peaks. state_of peaks.ledger peaks.saved peaks.blocks peaks.stamps peaks.mark };
+
+    ghost invariant = { λ peaks. AreKept peaks.ledger peaks.saved peaks.blocks peaks.stamps peaks.mark };
+}
+
+impl Peaks {
+    /// Peaks of no events, which hold stack 0 and no info. `NoMemory` says that memory is wanting.
+    pub fn new(alloc: Global) -> Result<Peaks, NoMemory>
+        ensures stands { IfOk result (λ peaks. StandsFor peaks []) }
+        ensures stacks { IfOk result (λ peaks. peaks.ledger.stacks ≡ 1) }
+        ensures infos { IfOk result (λ peaks. peaks.ledger.infos ≡ []) }
+    {
+        let ledger = Ledger::new(alloc)?;
+        let mut saved = Cells::new(alloc);
+        saved.push(0)?;
+        let mut blocks = Cells::new(alloc);
+        blocks.push(0)?;
+        let mut stamps = Cells::new(alloc);
+        stamps.push(0)?;
+        Ok(Peaks {
+            ledger,
+            saved,
+            blocks,
+            stamps,
+            mark: Mark::new(),
+        })
+    }
+
+    /// Adds a stack and answers its number; the peak's shares stay, and the new stack's is 0.
+    /// On `NoMemory` the peaks are as before.
+    pub fn grow_stack(&mut self) -> Result<u32, NoMemory>
+        requires { self.old.ledger.stacks < 2 ^ 32 - 1 }
+        ensures number { IfOk result (λ number. number ≡ self.old.ledger.stacks) }
+        ensures grown { OnOk result (self.new ≡ with_stack self.old) }
+        ensures stands { (events : List Event) → StandsFor self.old events → StandsFor self.new events }
+        ensures unchanged { OnErr result (self.new ≡ self.old) }
+    {
+        let stacks = self.ledger.stacks();
+        add_cell(&mut self.saved, stacks)?;
+        add_cell(&mut self.blocks, stacks)?;
+        add_cell(&mut self.stamps, stacks)?;
+        let number = self.ledger.grow_stack()?;
+        Ok(number)
+    }
+
+    /// Adds an info, as the ledger does, and answers its number. On `NoMemory` the peaks are as before.
+    pub fn grow_info(&mut self, stack: u32, size: u64) -> Result<u32, NoMemory>
+        requires room { length self.old.ledger.infos < 2 ^ 32 - 1 }
+        requires stack_held { stack < self.old.ledger.stacks }
+        ensures number { IfOk result (λ number. number ≡ length self.old.ledger.infos) }
+        ensures infos { OnOk result (self.new.ledger.infos ≡ self.old.ledger.infos ++ record { stack = stack; size = size } ∷ []) }
+        ensures stacks { self.new.ledger.stacks ≡ self.old.ledger.stacks }
+        ensures totals { self.new.ledger.totals ≡ self.old.ledger.totals }
+        ensures stands { (events : List Event) → StandsFor self.old events → StandsFor self.new events }
+        ensures unchanged { OnErr result (self.new ≡ self.old) }
+    {
+        self.ledger.grow_info(stack, size)
+    }
+
+    /// Takes the event as the ledger does, and keeps the peak with it. No memory is taken.
+    ///
+    /// What the event must be, and when each fault comes, is as in the ledger's `apply`. Each change of a cell is one
+    /// step of the counter: there are at most six, however many stacks there are.
+    pub fn apply<L: std::sync::ledger::Ledger>(
+        &mut self,
+        event: Event,
+        steps: &mut Steps<L>,
+    ) -> Result<(), EventFault>
+        requires held { IsHeld self.old.ledger event }
+        requires count { self.old.ledger.totals.events < 2 ^ 32 }
+        ensures by_figures { result_err result ≡ fault_at self.old.ledger event }
+        ensures fault { (events : List Event) → StandsFor self.old events → result_err result ≡ fault_of events event }
+        ensures stands { OnOk result ((events : List Event) → StandsFor self.old events → StandsFor self.new (events ++ event ∷ [])) }
+        ensures changes { OnOk result (Changes self.old.ledger self.new.ledger event) }
+        ensures at_most_one_more { self.new.ledger.totals.events ≤ self.old.ledger.totals.events + 1 }
+        ensures stacks { self.new.ledger.stacks ≡ self.old.ledger.stacks }
+        ensures infos { self.new.ledger.infos ≡ self.old.ledger.infos }
+        ensures tick { IsTick event → self.new ≡ self.old }
+        ensures unchanged { OnErr result (self.new ≡ self.old) }
+        ensures steps { steps.new ≤ steps.old + 6 }
+        ensures sound { IsSound self.new }
+    {
+        match event {
+            Event::Alloc { stack, .. } => self.take_event(stack, event, steps),
+            Event::Free { stack, .. } => self.take_event(stack, event, steps),
+            Event::Tick { .. } => {
+                self.ledger.apply(event)?;
+                Ok(())
+            }
+        }
+    }
+
+    /// Takes an allocation or a free of the stack.
+    fn take_event<L: std::sync::ledger::Ledger>(
+        &mut self,
+        stack: u32,
+        event: Event,
+        steps: &mut Steps<L>,
+    ) -> Result<(), EventFault>
+        requires held { IsHeld self.old.ledger event }
+        requires count { self.old.ledger.totals.events < 2 ^ 32 }
+        requires own { IsIn stack event }
+        ensures by_figures { result_err result ≡ fault_at self.old.ledger event }
+        ensures fault { (events : List Event) → StandsFor self.old events → result_err result ≡ fault_of events event }
+        ensures stands { OnOk result ((events : List Event) → StandsFor self.old events → StandsFor self.new (events ++ event ∷ [])) }
+        ensures changes { OnOk result (Changes self.old.ledger self.new.ledger event) }
+        ensures at_most_one_more { self.new.ledger.totals.events ≤ self.old.ledger.totals.events + 1 }
+        ensures stacks { self.new.ledger.stacks ≡ self.old.ledger.stacks }
+        ensures infos { self.new.ledger.infos ≡ self.old.ledger.infos }
+        ensures unchanged { OnErr result (self.new ≡ self.old) }
+        ensures steps { steps.new ≤ steps.old + 6 }
+        ensures sound { IsSound self.new }
+    {
+        let before = self.ledger.stack(stack);
+        self.ledger.apply(event)?;
+        save(
+            &mut self.saved,
+            &mut self.blocks,
+            &mut self.stamps,
+            self.mark.counter,
+            stack,
+            before,
+            steps,
+        );
+        let totals = self.ledger.totals();
+        self.mark.raise(totals.live, totals.events);
+        Ok(())
+    }
+
+    /// The ledger of the same events.
+    pub fn ledger(&self) -> &Ledger
+        ensures { result.now ≡ self.now.ledger }
+    {
+        &self.ledger
+    }
+
+    /// The greatest total, in bytes.
+    pub fn peak_total(&self) -> u64
+        ensures value { result ≡ self.now.total }
+        ensures total { (events : List Event) → StandsFor self.now events → result ≡ total_after self.now.moment events }
+        ensures sound { IsSound self.now }
+    {
+        self.mark.total
+    }
+
+    /// The least number of events after which the total is greatest.
+    pub fn peak_moment(&self) -> u64
+        ensures value { result ≡ self.now.moment }
+        ensures peak { (events : List Event) → StandsFor self.now events → IsPeak result events }
+        ensures sound { IsSound self.now }
+    {
+        self.mark.moment
+    }
+
+    /// The bytes that a held stack has live at the peak.
+    pub fn peak_of(&self, stack: u32) -> u64
+        requires { stack < self.now.ledger.stacks }
+        ensures value { result ≡ slice_index self.now.shares stack }
+        ensures share { (events : List Event) → StandsFor self.now events → result ≡ live_in stack (first_events self.now.moment events) }
+        ensures within { result ≤ self.now.total }
+    {
+        if self.stamps.at(stack) == self.mark.counter {
+            self.saved.at(stack)
+        } else {
+            self.ledger.stack(stack).live
+        }
+    }
+
+    /// The blocks that a held stack has live at the peak.
+    pub fn peak_blocks_of(&self, stack: u32) -> u64
+        requires { stack < self.now.ledger.stacks }
+        ensures value { result ≡ slice_index self.now.block_shares stack }
+        ensures share { (events : List Event) → StandsFor self.now events → result ≡ blocks_in stack (first_events self.now.moment events) }
+    {
+        if self.stamps.at(stack) == self.mark.counter {
+            self.blocks.at(stack)
+        } else {
+            self.ledger.stack(stack).blocks
+        }
+    }
+}
+
+/// Adds a cell of 0 where there are only so many.
+fn add_cell(cells: &mut Cells, count: u32) -> Result<(), NoMemory>
+    requires few { count < 2 ^ 32 - 1 }
+    requires long { count ≤ length cells.old }
+    ensures longer { OnOk result (count < length cells.new) }
+    ensures no_shorter { length cells.old ≤ length cells.new }
+    ensures values { (i : ℕ) → slice_index cells.new i ≡ slice_index cells.old i }
+{
+    if cells.len() == count {
+        cells.push(0)?;
+    }
+    Ok(())
+}
