@@ -1,6 +1,6 @@
 -- The lines of a profile are taken, one after another, and the profile is what they say.
 use Rattle.std.proofs.Common.{◌≡◌, ℕ, suc, ◌<◌, ◌≤◌, Bool, true, false, cond, eqb, ltb, List, [], ◌∷◌, ◌++◌, length, map, Option, Some, None, Ok, refl, sym, ap, subst, ◌∙◌, append_assoc, arith, eq-eqb}
-use Rattle.std.specs.Prelude.{codes, not, filter}
+use Rattle.std.specs.Prelude.{codes, not}
 use Rattle.std.proofs.lemmas.Bool.{le-ltb, eqb-true}
 use Rattle.std.specs.Option.{option_map}
 use Rattle.std.proofs.lemmas.List.{append-nil, length-append}
@@ -12,12 +12,14 @@ use Rattle.massif_file.specs.declared.profile.TreeLine.{TreeLine}
 use Rattle.massif_file.specs.declared.profile.Snap.{Snap}
 use Rattle.massif_file.specs.declared.profile.Profile.{Profile}
 use Rattle.massif_file.specs.Blanks.{without_blanks, is_skipped}
-use Rattle.massif_file.specs.Fields.{value_after, header_value, key_number, or_fault}
-use Rattle.massif_file.specs.IsProfile.{Describe, saying}
+use Rattle.massif_file.specs.Fields.{value_after, header_value, key_number, or_fault, unit_in, mark_in}
+use Rattle.massif_file.specs.IsProfile.{saying}
 use Rattle.massif_file.specs.Items.{Item, node_item, Say, snap_items, snaps_items, items_of}
 use Rattle.massif_file.specs.Levels.{after_line}
 use Rattle.massif_file.specs.TreeLineOf.{tree_line_of}
-use Rattle.massif_file.specs.Progress.{Progress, in_descriptions, at_unit, at_snapshot, at_time, at_heap, at_extra, at_stacks, at_mark, in_tree, refused_for, go_on, joined, last_time, with_snap, with_line, after_header_line, unit_in, mark_in, after_mark, after_levels, after_tree_line, taken, after_all}
+use Rattle.massif_file.specs.Progress.{Progress, in_descriptions, at_unit, at_snapshot, at_time, at_heap, at_extra, at_stacks, at_mark, in_tree, refused_for, go_on, with_snap, with_line, after_header_line, after_mark, after_levels, after_tree_line, taken, after_all}
+use Rattle.massif_file.specs.Descriptions.{joined, Describe}
+use Rattle.massif_file.specs.LastTime.{last_time}
 use Rattle.massif_file.specs.IsRight.{IsTreeOf, AreRight}
 use Rattle.massif_file.specs.Leads.{Leads}
 use Rattle.massif_file.proofs.TreeLemmas.{leads_tree}

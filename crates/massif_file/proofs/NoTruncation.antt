@@ -9,10 +9,11 @@ use Rattle.massif_file.specs.declared.profile.HeapTree.TheVariants.{Empty, Detai
 use Rattle.massif_file.specs.declared.profile.Snap.{Snap}
 use Rattle.massif_file.specs.declared.profile.Profile.{Profile}
 use Rattle.massif_file.specs.Blanks.{is_skipped}
-use Rattle.massif_file.specs.Fields.{value_after, header_value, max_number, number_of, or_fault, number_in, key_number}
+use Rattle.massif_file.specs.Fields.{value_after, header_value, max_number, number_of, or_fault, number_in, key_number, unit_in, mark_in}
 use Rattle.massif_file.specs.Levels.{after_line}
 use Rattle.massif_file.specs.TreeLineOf.{tree_line_of}
-use Rattle.massif_file.specs.Progress.{Progress, in_descriptions, at_unit, at_snapshot, at_time, at_heap, at_extra, at_stacks, at_mark, in_tree, refused_for, go_on, last_time, with_line, after_header_line, unit_in, mark_in, after_mark, after_levels, after_tree_line, taken, after, fault_in}
+use Rattle.massif_file.specs.Progress.{Progress, in_descriptions, at_unit, at_snapshot, at_time, at_heap, at_extra, at_stacks, at_mark, in_tree, refused_for, go_on, with_line, after_header_line, after_mark, after_levels, after_tree_line, taken, after, fault_in}
+use Rattle.massif_file.specs.LastTime.{last_time}
 use Rattle.massif_file.specs.UnlessNoMemory.{UnlessNoMemory}
 
 -- no step to here

@@ -15,9 +15,9 @@ use Rattle.massif_file.proofs.Complete.{after_all-saying, run_all}
 use Rattle.massif_file.specs.IsWritable.{IsLine, IsWritable}
 use Rattle.massif_file.proofs.ReadTexts.{is_writable}
 use Rattle.massif_file.proofs.ReadingLemmas.{profile_of-append, after_all-append, at_end, fault_of_all, unless_weaker}
-use Rattle.massif_file.specs.Refuses.{Refuses, EndsEarly}
+use Rattle.massif_file.specs.Refuses.{Refuses}
 use Rattle.massif_file.proofs.Refusing.{refused_is, ends_early}
-use Rattle.massif_file.proofs.Sound.{Stands, take_all, reads, stands_after}
+use Rattle.massif_file.proofs.Sound.{Stands, reads, stands_after}
 use Rattle.massif_file.proofs.Stopping.{stops, stops_at_end}
 
 -- ---- an answer by cases

@@ -12,10 +12,10 @@ use Rattle.massif_file.specs.declared.profile.Snap.{Snap}
 use Rattle.massif_file.specs.declared.profile.Profile.{Profile}
 use Rattle.massif_file.specs.Blanks.{without_blanks, before_byte, from_byte, is_skipped}
 use Rattle.massif_file.specs.Fields.{value_after, header_value, at_most, number_of, max_number, or_fault, number_in, key_number}
-use Rattle.massif_file.specs.IsProfile.{Describe, is_profile}
+use Rattle.massif_file.specs.IsProfile.{is_profile}
 use Rattle.massif_file.specs.Items.{node_item, Say, snap_items, snaps_items, items_of}
 use Rattle.massif_file.specs.TreeLineOf.{sized_line, counted_line, tree_line_of}
-use Rattle.massif_file.specs.Progress.{joined}
+use Rattle.massif_file.specs.Descriptions.{joined, Describe}
 use Rattle.massif_file.specs.IsWritable.{IsLine, IsText, IsWritableLine, IsWritableSnap, IsWritable}
 use Rattle.massif_file.proofs.Complete.{Say-split}
 

@@ -1,6 +1,6 @@
 -- A line that the reader refuses is one that can't follow the lines before it, for that fault.
-use Rattle.std.proofs.Common.{◌≡◌, ◌≢◌, ℕ, ◌+◌, ◌-◌, ◌<◌, ◌≤◌, zero, suc, Bool, true, false, cond, eqb, ltb, List, [], ◌∷◌, ◌++◌, length, Option, Some, None, Result, Ok, Err, refl, sym, ap, subst, ◌∙◌, arith, inl, inr, eq-eqb, ltb-true}
-use Rattle.std.specs.Prelude.{◌⊎◌, codes, slice_get}
+use Rattle.std.proofs.Common.{◌≡◌, ℕ, Bool, true, false, cond, eqb, ltb, List, [], ◌∷◌, length, Option, Some, None, Result, Ok, Err, refl, sym, ap, subst, ◌∙◌, arith, inl, inr, eq-eqb, ltb-true}
+use Rattle.std.specs.Prelude.{codes}
 use Rattle.std.specs.Option.{option_map}
 use Rattle.std.proofs.lemmas.Bool.{ltb-false}
 use Rattle.std.proofs.lemmas.List.{append-nil}
@@ -15,12 +15,12 @@ use Rattle.massif_file.specs.declared.profile.Snap.{Snap}
 use Rattle.massif_file.specs.declared.profile.Profile.{Profile}
 use Rattle.massif_file.specs.Begins.{Begins, InSnapshot, InTree}
 use Rattle.massif_file.specs.Blanks.{without_blanks}
-use Rattle.massif_file.specs.Fields.{value_after, header_value, max_number, number_of, number_in, key_number, or_fault}
-use Rattle.massif_file.specs.IsProfile.{Describe}
-use Rattle.massif_file.specs.IsRight.{AreRight}
-use Rattle.massif_file.specs.Items.{Item, items_of, snap_items}
+use Rattle.massif_file.specs.Fields.{value_after, header_value, max_number, number_of, number_in, key_number, or_fault, unit_in, mark_in}
+use Rattle.massif_file.specs.Items.{items_of}
 use Rattle.massif_file.specs.Levels.{after_line}
-use Rattle.massif_file.specs.Progress.{Progress, in_descriptions, at_unit, at_snapshot, at_time, at_heap, at_extra, at_stacks, at_mark, in_tree, refused_for, go_on, last_time, with_line, after_header_line, unit_in, mark_in, after_mark, after_levels, after_tree_line, taken, fault_in, end_of, whole}
+use Rattle.massif_file.specs.Progress.{Progress, in_descriptions, at_unit, at_snapshot, at_time, at_heap, at_extra, at_stacks, at_mark, in_tree, refused_for, go_on, with_line, after_header_line, after_mark, after_levels, after_tree_line, taken, fault_in, end_of}
+use Rattle.massif_file.specs.LastTime.{last_time}
+use Rattle.massif_file.specs.Descriptions.{Describe}
 use Rattle.massif_file.specs.Refuses.{AwaitsNumber, AwaitsMark, Refuses, EndsEarly}
 use Rattle.massif_file.specs.Refuses as early
 use Rattle.massif_file.specs.TreeLineOf.{tree_line_of}
@@ -131,8 +131,10 @@ module _ (front : List (List ℕ)) (line : List ℕ) (fault : ProfileFault) wher
       → fault_in (go_on (λ mark. after_mark profile (record { time = time; heap = heap; extra = extra; stacks = stacks; mark = mark; tree = [] }) mark) (or_fault BadSnapshot o)) ≡ Some fault → Refuses front line fault
   by_mark profile time heap extra stacks None h q e =
       subst (Refuses front line) (same_Some BadSnapshot fault e)
-      (inr (record { profile = profile; snap = begun_snap time heap extra stacks; begun = five_read front profile time heap extra stacks h },
-      λ mark says. let other : None ≡ Some mark = sym q ∙ says in cc))
+      (inr (
+        record { profile = profile; snap = begun_snap time heap extra stacks; begun = five_read front profile time heap extra stacks h },
+        λ mark says. let other : None ≡ Some mark = sym q ∙ says in cc,
+      ))
   by_mark profile time heap extra stacks (Some Empty) h q e = absurd cc
   by_mark profile time heap extra stacks (Some Detailed) h q e = absurd cc
   by_mark profile time heap extra stacks (Some Peak) h q e = absurd cc

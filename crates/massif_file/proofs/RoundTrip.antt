@@ -17,12 +17,12 @@ use Rattle.massif_file.specs.declared.profile.TreeLine.{TreeLine}
 use Rattle.massif_file.specs.declared.profile.Snap.{Snap}
 use Rattle.massif_file.specs.declared.profile.Profile.{Profile}
 use Rattle.massif_file.specs.Blanks.{is_blank, without_blanks, before_byte, from_byte, is_skipped, blanks}
-use Rattle.massif_file.specs.Fields.{value_after, header_value, at_most, number_of, max_number, or_fault, number_in, key_number, unit_of, unit_name, mark_of, mark_name}
+use Rattle.massif_file.specs.Fields.{value_after, header_value, at_most, number_of, max_number, or_fault, number_in, key_number, unit_of, unit_name, mark_of, mark_name, unit_in, mark_in}
 use Rattle.massif_file.specs.IsProfile.{is_profile, saying}
 use Rattle.massif_file.specs.Items.{Item, node_item, Say, snap_items, snaps_items}
 use Rattle.massif_file.specs.Levels.{after_line}
 use Rattle.massif_file.specs.TreeLineOf.{sized_line, counted_line, tree_line_of}
-use Rattle.massif_file.specs.Progress.{joined, unit_in, mark_in}
+use Rattle.massif_file.specs.Descriptions.{joined}
 use Rattle.massif_file.specs.IsWritable.{IsLine, IsText, IsWritableLine, IsWritableSnap, IsWritable}
 use Rattle.massif_file.specs.MassifText.{node_text, tree_lines, separator, head_lines, size_lines, mark_lines, snap_lines, snaps_lines, massif_lines}
 

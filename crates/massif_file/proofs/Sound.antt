@@ -11,12 +11,13 @@ use Rattle.massif_file.specs.declared.profile.HeapTree.TheVariants.{Empty, Detai
 use Rattle.massif_file.specs.declared.profile.TreeLine.{TreeLine}
 use Rattle.massif_file.specs.declared.profile.Snap.{Snap}
 use Rattle.massif_file.specs.declared.profile.Profile.{Profile}
-use Rattle.massif_file.specs.Fields.{value_after, header_value, key_number, or_fault}
-use Rattle.massif_file.specs.IsProfile.{Describe}
+use Rattle.massif_file.specs.Fields.{value_after, header_value, key_number, or_fault, unit_in, mark_in}
 use Rattle.massif_file.specs.Items.{Item, command_item, unit_item, number_item, mark_item, node_item, Says, Say, snap_items, snaps_items, items_of}
 use Rattle.massif_file.specs.Levels.{after_line}
 use Rattle.massif_file.specs.TreeLineOf.{tree_line_of}
-use Rattle.massif_file.specs.Progress.{Progress, in_descriptions, at_unit, at_snapshot, at_time, at_heap, at_extra, at_stacks, at_mark, in_tree, refused_for, go_on, joined, time_of, last_time, with_snap, with_line, after_header_line, unit_in, mark_in, after_mark, after_levels, after_tree_line, taken}
+use Rattle.massif_file.specs.Progress.{Progress, in_descriptions, at_unit, at_snapshot, at_time, at_heap, at_extra, at_stacks, at_mark, in_tree, refused_for, go_on, with_snap, with_line, after_header_line, after_mark, after_levels, after_tree_line, taken}
+use Rattle.massif_file.specs.Descriptions.{joined, Describe}
+use Rattle.massif_file.specs.LastTime.{time_of, last_time}
 use Rattle.massif_file.specs.IsRight.{IsTreeOf, AreRight}
 use Rattle.massif_file.specs.Trees.{IsTree}
 use Rattle.massif_file.specs.Begins.{Begins, HasTree}

@@ -1,7 +1,7 @@
 -- A line that can't follow the lines before it is refused by the reader, for that fault.
-use Rattle.std.proofs.Common.{◌≡◌, ◌≢◌, ℕ, ◌+◌, ◌-◌, ◌<◌, ◌≤◌, zero, suc, Bool, true, false, cond, eqb, ltb, List, [], ◌∷◌, ◌++◌, length, map, Option, Some, None, Result, Ok, Err, refl, sym, ap, subst, ◌∙◌, arith, inl, inr, lt-ltb}
+use Rattle.std.proofs.Common.{◌≡◌, ℕ, ◌<◌, ◌≤◌, zero, suc, Bool, true, false, cond, eqb, ltb, List, [], ◌∷◌, ◌++◌, length, map, Option, Some, None, Result, Ok, Err, refl, sym, ap, subst, ◌∙◌, arith, inl, inr, lt-ltb}
 use Rattle.std.specs.Prelude.{◌⊎◌, codes, slice_get}
-use Rattle.std.proofs.lemmas.Bool.{le-ltb, eqb-true, cases_Bool}
+use Rattle.std.proofs.lemmas.Bool.{eqb-true, cases_Bool}
 use Rattle.std.specs.Option.{option_map}
 use Rattle.std.proofs.lemmas.List.{append-nil}
 use Rattle.std.proofs.lemmas.Option.{same_Some}
@@ -15,13 +15,14 @@ use Rattle.massif_file.specs.declared.profile.Snap.{Snap}
 use Rattle.massif_file.specs.declared.profile.Profile.{Profile}
 use Rattle.massif_file.specs.Begins.{Begins, InSnapshot, InTree, HasTree}
 use Rattle.massif_file.specs.Blanks.{without_blanks}
-use Rattle.massif_file.specs.Fields.{value_after, header_value, max_number, number_of, number_in, key_number, or_fault}
-use Rattle.massif_file.specs.IsProfile.{Describe}
+use Rattle.massif_file.specs.Fields.{value_after, header_value, number_in, key_number, or_fault, unit_in, mark_in}
 use Rattle.massif_file.specs.IsRight.{AreRight}
-use Rattle.massif_file.specs.Items.{Item, command_item, number_item, mark_item, node_item, Says, Say, items_of, snap_items}
+use Rattle.massif_file.specs.Items.{Item, command_item, mark_item, node_item, Says, Say, items_of, snap_items}
 use Rattle.massif_file.specs.Leads.{Leads}
 use Rattle.massif_file.specs.Levels.{after_line}
-use Rattle.massif_file.specs.Progress.{Progress, in_descriptions, at_unit, at_snapshot, at_time, at_heap, at_extra, at_stacks, at_mark, in_tree, refused_for, go_on, last_time, with_line, after_header_line, unit_in, mark_in, after_mark, after_levels, after_tree_line, taken, fault_in, end_of, whole}
+use Rattle.massif_file.specs.Progress.{Progress, in_descriptions, at_unit, at_snapshot, at_time, at_heap, at_extra, at_stacks, at_mark, in_tree, refused_for, go_on, with_line, after_header_line, after_mark, after_levels, after_tree_line, taken, fault_in, end_of}
+use Rattle.massif_file.specs.LastTime.{last_time}
+use Rattle.massif_file.specs.Descriptions.{Describe}
 use Rattle.massif_file.specs.Refuses.{number_keys, AwaitsNumber, AwaitsMark, IsBadHeader, IsBadSnapshot, IsBadNumber, IsWrongOrder, IsBadTree, Refuses, EndsEarly}
 use Rattle.massif_file.specs.Refuses as early
 use Rattle.massif_file.specs.TreeLineOf.{tree_line_of}
@@ -112,14 +113,16 @@ module _ (profile : Profile) where
   after_whole : (front : List (List ℕ)) (part : List Item) → Begins front profile.desc (items_of profile ++ part) → AreRight 0 profile.snaps
       → (ys : List (List ℕ)) × Say ys part × (take_all (in_descriptions []) front ≡ take_all (at_snapshot profile) ys)
   after_whole front part b right =
-      let parts = Say-split b.others (items_of profile) part b.said in
-      (parts.1, parts.4,
-      ap (take_all (in_descriptions [])) b.parts
-      ∙ take_all-append (in_descriptions []) b.descriptions b.others
-      ∙ ap (λ (p : Progress). take_all p b.others) (run_descriptions [] b.descriptions profile.desc b.described)
-      ∙ ap (take_all (in_descriptions profile.desc)) parts.2
-      ∙ take_all-append (in_descriptions profile.desc) parts.0 parts.1
-      ∙ ap (λ (p : Progress). take_all p parts.1) (run_items profile.desc profile parts.0 refl parts.3 right))
+      let parts = Say-split b.others (items_of profile) part b.said in (
+        parts.1,
+        parts.4,
+        ap (take_all (in_descriptions [])) b.parts
+            ∙ take_all-append (in_descriptions []) b.descriptions b.others
+            ∙ ap (λ (p : Progress). take_all p b.others) (run_descriptions [] b.descriptions profile.desc b.described)
+            ∙ ap (take_all (in_descriptions profile.desc)) parts.2
+            ∙ take_all-append (in_descriptions profile.desc) parts.0 parts.1
+            ∙ ap (λ (p : Progress). take_all p parts.1) (run_items profile.desc profile parts.0 refl parts.3 right),
+      )
 
 -- ---- the lines before a line that can't follow
 
@@ -273,6 +276,7 @@ module _ (front : List (List ℕ)) (line : List ℕ) where
       wrong : ((node : TreeLine) → ¬ Says line (node_item node)) → (o : Option TreeLine) → tree_line_of line ≡ o → fault_in (go_on (after_tree_line profile snap to_come) (or_fault BadTree o)) ≡ Some BadTree
       wrong none None q = refl
       wrong none (Some node) q = absurd (none node q)
+
       by : (257 < length to_come) ⊎ ((node : TreeLine) → ¬ Says line (node_item node)) → (t : Bool) → ltb 257 (length to_come) ≡ t
           → fault_in (cond t (refused_for BadTree) (go_on (after_tree_line profile snap to_come) (or_fault BadTree (tree_line_of line)))) ≡ Some BadTree
       by w true q = refl

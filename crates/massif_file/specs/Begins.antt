@@ -1,14 +1,14 @@
 -- How the lines of a file may begin. Lines that say nothing are left out.
-use Rattle.std.specs.Prelude.{◌≡◌, ℕ, ◌<◌, ◌≤◌, List, [], ◌∷◌, ◌++◌, length, take, codes}
+use Rattle.std.specs.Prelude.{◌≡◌, ℕ, ◌<◌, ◌≤◌, List, [], ◌∷◌, ◌++◌, length, take}
 use Rattle.massif_file.specs.declared.profile.HeapTree.{HeapTree}
 use Rattle.massif_file.specs.declared.profile.HeapTree.TheVariants.{Empty, Detailed, Peak}
 use Rattle.massif_file.specs.declared.profile.Snap.{Snap}
 use Rattle.massif_file.specs.declared.profile.Profile.{Profile}
-use Rattle.massif_file.specs.IsProfile.{Describe}
 use Rattle.massif_file.specs.IsRight.{AreRight}
 use Rattle.massif_file.specs.Items.{Item, Say, items_of, snap_items}
 use Rattle.massif_file.specs.Leads.{Leads}
-use Rattle.massif_file.specs.Progress.{last_time}
+use Rattle.massif_file.specs.LastTime.{last_time}
+use Rattle.massif_file.specs.Descriptions.{Describe}
 
 -- the lines are descriptions, which make this description together, and then one line for each of the items
 pub record Begins (lines : List (List ℕ)) (desc : List ℕ) (items : List Item) : Type 0 where

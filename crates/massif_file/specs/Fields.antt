@@ -72,3 +72,12 @@ abbrev pub mark_name : HeapTree → List ℕ
 mark_name Empty = codes "empty"
 mark_name Detailed = codes "detailed"
 mark_name Peak = codes "peak"
+
+-- the unit and the mark that a value names
+abbrev pub unit_in : Option (List ℕ) → Option TimeUnit
+unit_in None = None
+unit_in (Some value) = unit_of value
+
+abbrev pub mark_in : Option (List ℕ) → Option HeapTree
+mark_in None = None
+mark_in (Some value) = mark_of value

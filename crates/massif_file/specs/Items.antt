@@ -5,9 +5,8 @@ use Rattle.massif_file.specs.declared.profile.HeapTree.{HeapTree}
 use Rattle.massif_file.specs.declared.profile.TreeLine.{TreeLine}
 use Rattle.massif_file.specs.declared.profile.Snap.{Snap}
 use Rattle.massif_file.specs.declared.profile.Profile.{Profile}
-use Rattle.massif_file.specs.Fields.{value_after, header_value, key_number}
+use Rattle.massif_file.specs.Fields.{value_after, header_value, key_number, unit_in, mark_in}
 use Rattle.massif_file.specs.TreeLineOf.{tree_line_of}
-use Rattle.massif_file.specs.Progress.{unit_in, mark_in}
 
 -- what one line may say: the command, the unit, a number after a key, a mark, a line of a tree
 pub data Item : Type 0 where

@@ -1,10 +1,12 @@
 pub mod Begins
 pub mod Blanks
+pub mod Descriptions
 pub mod Fields
 pub mod IsProfile
 pub mod IsRight
 pub mod IsWritable
 pub mod Items
+pub mod LastTime
 pub mod Leads
 pub mod Levels
 pub mod MassifText

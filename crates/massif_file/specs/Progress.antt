@@ -1,15 +1,16 @@
 -- What the lines of a Massif file say up to some line, and what may come next.
-use Rattle.std.specs.Prelude.{ℕ, ◌-◌, ◌==◌, nat_lt, if◌then◌else◌, List, [], ◌∷◌, ◌++◌, length, Option, Some, None, Result, Ok, Err, codes, slice_get}
+use Rattle.std.specs.Prelude.{ℕ, ◌==◌, nat_lt, if◌then◌else◌, List, [], ◌∷◌, ◌++◌, length, Option, Some, None, Result, Ok, Err, codes}
 use Rattle.massif_file.specs.declared.fault.ProfileFault.{ProfileFault}
 use Rattle.massif_file.specs.declared.fault.ProfileFault.TheVariants.{BadHeader, BadSnapshot, WrongOrder, BadTree, Truncated}
-use Rattle.massif_file.specs.declared.profile.TimeUnit.{TimeUnit}
 use Rattle.massif_file.specs.declared.profile.HeapTree.{HeapTree}
 use Rattle.massif_file.specs.declared.profile.HeapTree.TheVariants.{Empty, Detailed, Peak}
 use Rattle.massif_file.specs.declared.profile.TreeLine.{TreeLine}
 use Rattle.massif_file.specs.declared.profile.Snap.{Snap}
 use Rattle.massif_file.specs.declared.profile.Profile.{Profile}
 use Rattle.massif_file.specs.Blanks.{is_skipped}
-use Rattle.massif_file.specs.Fields.{value_after, header_value, key_number, unit_of, mark_of, or_fault}
+use Rattle.massif_file.specs.Fields.{value_after, header_value, key_number, unit_in, mark_in, or_fault}
+use Rattle.massif_file.specs.Descriptions.{joined}
+use Rattle.massif_file.specs.LastTime.{last_time}
 use Rattle.massif_file.specs.Levels.{after_line}
 use Rattle.massif_file.specs.TreeLineOf.{tree_line_of}
 
@@ -31,20 +32,6 @@ abbrev pub go_on : {A : Type 0} → (A → Progress) → Result A ProfileFault �
 go_on next (Ok x) = next x
 go_on next (Err fault) = refused_for fault
 
--- descriptions that are not empty are joined by one blank
-abbrev pub joined : List ℕ → List ℕ → List ℕ
-joined desc [] = desc
-joined [] (b ∷ bs) = b ∷ bs
-joined (d ∷ ds) (b ∷ bs) = (d ∷ ds) ++ (32 ∷ b ∷ bs)
-
--- the time of the last snapshot, and 0 where there is none
-abbrev pub time_of : Option Snap → ℕ
-time_of None = 0
-time_of (Some snap) = snap.time
-
-abbrev pub last_time : List Snap → ℕ
-last_time snaps = time_of (slice_get snaps (length snaps - 1))
-
 -- the profile with one more snapshot, or the snapshot with one more line in its tree
 abbrev pub with_snap : Profile → Snap → Profile
 with_snap profile snap = record profile { snaps = profile.snaps ++ snap ∷ [] }
@@ -56,14 +43,6 @@ with_line snap line = record snap { tree = snap.tree ++ line ∷ [] }
 abbrev pub after_header_line : List ℕ → List ℕ → Option (List ℕ) → Progress
 after_header_line desc line (Some value) = in_descriptions (joined desc value)
 after_header_line desc line None = go_on (at_unit desc) (or_fault BadHeader (header_value (codes "cmd:") line))
-
-abbrev pub unit_in : Option (List ℕ) → Option TimeUnit
-unit_in None = None
-unit_in (Some value) = unit_of value
-
-abbrev pub mark_in : Option (List ℕ) → Option HeapTree
-mark_in None = None
-mark_in (Some value) = mark_of value
 
 -- the tree of a detailed snapshot and of the peak begins with its root
 abbrev pub after_mark : Profile → Snap → HeapTree → Progress

@@ -1,6 +1,6 @@
 -- Why a line can't follow the lines before it, and why lines can't end where they do: one case a fault.
 -- Lines that say nothing are left out.
-use Rattle.std.specs.Prelude.{◌≡◌, ◌≢◌, ◌⊎◌, ℕ, ◌<◌, ◌≤◌, List, [], ◌∷◌, length, Some, None, Ok, slice_get, codes}
+use Rattle.std.specs.Prelude.{◌≡◌, ◌≢◌, ◌⊎◌, ℕ, ◌<◌, ◌≤◌, List, [], ◌∷◌, length, Some, None, slice_get, codes}
 use Rattle.massif_file.specs.declared.fault.ProfileFault.{ProfileFault}
 use Rattle.massif_file.specs.declared.fault.ProfileFault.TheVariants.{BadHeader, BadSnapshot, BadNumber, WrongOrder, BadTree, Truncated, NoMemory}
 use Rattle.massif_file.specs.declared.profile.TimeUnit.{TimeUnit}
@@ -10,9 +10,9 @@ use Rattle.massif_file.specs.declared.profile.Snap.{Snap}
 use Rattle.massif_file.specs.declared.profile.Profile.{Profile}
 use Rattle.massif_file.specs.Begins.{Begins, InSnapshot, InTree}
 use Rattle.massif_file.specs.Fields.{value_after, number_of, max_number}
-use Rattle.massif_file.specs.IsProfile.{Describe}
 use Rattle.massif_file.specs.Items.{command_item, unit_item, number_item, mark_item, node_item, Says, items_of}
-use Rattle.massif_file.specs.Progress.{last_time}
+use Rattle.massif_file.specs.LastTime.{last_time}
+use Rattle.massif_file.specs.Descriptions.{Describe}
 
 -- the keys of a snapshot's numbers, in the order of its lines
 abbrev pub number_keys : List (List ℕ)

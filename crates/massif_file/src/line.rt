@@ -4,9 +4,8 @@ ghost use Rattle.std.specs.Option.{option_copied, option_map};
 ghost use Rattle.std.specs.List.{list_all, position};
 ghost use Rattle.std.specs.Str.{bytes_eq};
 ghost use Rattle.massif_file.specs.Blanks.{before_byte, from_byte, is_blank, is_comment, is_skipped, without_blanks};
-ghost use Rattle.massif_file.specs.Fields.{header_value, key_number, mark_of, number_of, unit_of, value_after};
+ghost use Rattle.massif_file.specs.Fields.{header_value, key_number, mark_of, number_of, unit_of, value_after, mark_in, unit_in};
 ghost use Rattle.massif_file.specs.TreeLineOf.{tree_line_of};
-ghost use Rattle.massif_file.specs.Progress.{mark_in, unit_in};
 
 use crate::fault::ProfileFault;
 use crate::profile::{HeapTree, TimeUnit};

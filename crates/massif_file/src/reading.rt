@@ -3,7 +3,9 @@
 ghost use Rattle.std.specs.Prelude.{◌≡◌, [], Err, None, OnOk, IfErr};
 ghost use Rattle.massif_file.specs.declared.fault.ProfileFault.{ProfileFault};
 ghost use Rattle.massif_file.specs.declared.fault.ProfileFault.TheVariants as faults;
-ghost use Rattle.massif_file.specs.Progress.{at_extra, at_heap, at_mark, at_snapshot, at_stacks, at_time, at_unit, in_descriptions, in_tree, refused_for, after, end_of, fault_in, joined, last_time, taken, whole, with_snap};
+ghost use Rattle.massif_file.specs.Progress.{at_extra, at_heap, at_mark, at_snapshot, at_stacks, at_time, at_unit, in_descriptions, in_tree, refused_for, after, end_of, fault_in, taken, whole, with_snap};
+ghost use Rattle.massif_file.specs.Descriptions.{joined};
+ghost use Rattle.massif_file.specs.LastTime.{last_time};
 ghost use Rattle.massif_file.specs.Reading.{Goes, profile_in, shown};
 ghost use Rattle.massif_file.specs.UnlessNoMemory.{UnlessNoMemory};
 
