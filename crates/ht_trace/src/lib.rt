@@ -18,6 +18,3 @@ pub use error::LineError;
 pub use frame::{FrameAt, Style};
 pub use step::Step;
 pub use tables::Tables;
-
-#[cfg(test)]
-mod tests;

@@ -5,6 +5,3 @@
 mod names;
 
 pub use names::Names;
-
-#[cfg(test)]
-mod tests;

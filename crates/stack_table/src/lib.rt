@@ -9,6 +9,3 @@ mod nodes;
 
 pub use fault::NodeFault;
 pub use nodes::Nodes;
-
-#[cfg(test)]
-mod tests;

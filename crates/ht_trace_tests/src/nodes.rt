@@ -1,6 +1,6 @@
 //! Worked nodes, and each call that allocates once with ample memory.
 
-use crate::{NodeFault, Nodes};
+use stack_table::{NodeFault, Nodes};
 use std::process::Abort;
 use std::test::Fail;
 

@@ -1,20 +1,20 @@
 //! Worked traces line by line, and each public call with ample memory.
 
-use crate::{FrameAt, LineError, Step, Tables};
 use hp_num::{put_bytes, put_hex};
+use ht_trace::{LineError, Step, Tables};
 use live_ledger::Event;
 use std::alloc::Global;
 use std::process::Abort;
 use std::test::Fail;
 
 /// Reads a short line.
-fn read(rt: &impl Abort, tables: &mut Tables, line: &[u8]) -> Result<Step, LineError> {
+pub fn read(rt: &impl Abort, tables: &mut Tables, line: &[u8]) -> Result<Step, LineError> {
     assert!(rt; line.len() < 100);
     tables.line(line)
 }
 
 /// Reads lines that bring nothing.
-fn read_all(rt: &impl Abort, tables: &mut Tables, lines: &[&[u8]]) -> Result<(), LineError> {
+pub fn read_all(rt: &impl Abort, tables: &mut Tables, lines: &[&[u8]]) -> Result<(), LineError> {
     for line in lines {
         assert_eq!(rt; read(rt, tables, line)?, Step::Nothing, "at {line:?}");
     }
@@ -22,7 +22,7 @@ fn read_all(rt: &impl Abort, tables: &mut Tables, lines: &[&[u8]]) -> Result<(),
 }
 
 /// Reads lines, each with its answer.
-fn answers(rt: &impl Abort, tables: &mut Tables, lines: &[(&[u8], Result<Step, LineError>)]) {
+pub fn answers(rt: &impl Abort, tables: &mut Tables, lines: &[(&[u8], Result<Step, LineError>)]) {
     for (line, answer) in lines {
         assert_eq!(rt; read(rt, tables, line), *answer, "at {line:?}");
     }
@@ -44,31 +44,8 @@ fn has_info(rt: &impl Abort, tables: &Tables, n: u32, want: Option<(u64, u32)>) 
     assert_eq!(rt; tables.info(n), want, "info {n}");
 }
 
-/// The places of the frames of a stack, as pairs of instruction and index.
-fn has_frames(
-    rt: &impl Abort,
-    alloc: Global,
-    tables: &Tables,
-    stack: u32,
-    want: &[(u32, u32)],
-) -> Result<(), Fail> {
-    assert!(rt; stack < tables.stacks());
-    let mut frames = Vec::new(alloc);
-    frames.push(FrameAt {
-        instruction: 9,
-        index: 9,
-    })?;
-    tables.frames_into(stack, &mut frames)?;
-    let mut places = Vec::new(alloc);
-    for frame in frames.iter() {
-        places.push((frame.instruction, frame.index))?;
-    }
-    assert_eq!(rt; places.as_slice(), want, "stack {stack}");
-    Ok(())
-}
-
 /// The tables of a trace of two nested calls, of which each allocates 100 bytes.
-fn worked_trace(rt: &impl Abort, alloc: Global) -> Result<Tables, Fail> {
+pub fn worked_trace(rt: &impl Abort, alloc: Global) -> Result<Tables, Fail> {
     let nothing = Step::Nothing;
     let info = |stack| Step::Info { stack, size: 100 };
     let alloc_event = |info, stack| Step::Event {
@@ -127,9 +104,7 @@ fn fills_the_tables(rt: HostRuntime) -> Result<(), Fail> {
     has_info(&rt, &tables, 0, Some((100, 2)));
     has_info(&rt, &tables, 1, Some((100, 1)));
     has_info(&rt, &tables, 2, None);
-    has_frames(&rt, rt.alloc(), &tables, 0, &[(0, 1)])?;
-    has_frames(&rt, rt.alloc(), &tables, 1, &[(1, 0)])?;
-    has_frames(&rt, rt.alloc(), &tables, 2, &[(2, 0), (1, 0)])
+    Ok(())
 }
 
 #[test]
@@ -197,42 +172,6 @@ fn numbers_strings(rt: HostRuntime) -> Result<(), Fail> {
         Ok(Step::Nothing)
     );
     Ok(())
-}
-
-#[test]
-fn gives_inlined_frames(rt: HostRuntime) -> Result<(), Fail> {
-    let mut tables = Tables::new(rt.alloc());
-    let lines: [&[u8]; 9] = [
-        b"v 10500 2",
-        b"s app",
-        b"s main",
-        b"s a.c",
-        b"i 10 1",
-        b"i 20 1 2",
-        b"i 30 1 2 3 5",
-        b"i 40 1 2 2 3 6",
-        b"i 50 1 2 3 7 2 3 8 2 3 9",
-    ];
-    read_all(&rt, &mut tables, &lines)?;
-    let nodes: [&[u8]; 6] = [b"t 1 0", b"t 2 1", b"t 3 0", b"t 4 2", b"t 0 4", b"t 5 5"];
-    for node in nodes {
-        answers(&rt, &mut tables, &[(node, Ok(Step::Stack))]);
-    }
-    has_frames(&rt, rt.alloc(), &tables, 2, &[(2, 0), (1, 0)])?;
-    has_frames(&rt, rt.alloc(), &tables, 3, &[(3, 0)])?;
-    let five = [(0, 0), (4, 0), (4, 1), (2, 0), (1, 0)];
-    has_frames(&rt, rt.alloc(), &tables, 5, &five)?;
-    let six = [
-        (5, 0),
-        (5, 1),
-        (5, 2),
-        (0, 0),
-        (4, 0),
-        (4, 1),
-        (2, 0),
-        (1, 0),
-    ];
-    has_frames(&rt, rt.alloc(), &tables, 6, &six)
 }
 
 /// Adds a chain of nodes of instruction 1 to tables without nodes.
