@@ -1,6 +1,6 @@
 //! The lines of a file, taken from a store in reads of any length. Which bytes are one line is
 //! judged elsewhere; how bytes are kept between reads too.
-ghost use Rattle.std.specs.Prelude.{◌≡◌, ◌≢◌, ◌+◌, ◌-◌, ◌<◌, ◌≤◌, [], ◌⊎◌, None, Some, Option, IsTrue, IfOk, IfErr, IfSome, IfNone, IsSome, OnOk, OnErr, ◌↔◌, is_some, is_ok, true, false, length, take, drop, if◌then◌else◌, ◌++◌, ℕ, List, All, nat_eq};
+ghost use Rattle.std.specs.Prelude.{◌≡◌, ◌≢◌, ◌+◌, ◌-◌, ◌<◌, ◌≤◌, [], ◌⊎◌, None, Some, Option, IsTrue, IfOk, IfErr, IfSome, IfNone, IsSome, OnOk, OnErr, ◌↔◌, is_some, is_ok, true, false, length, take, drop, if◌then◌else◌, ◌++◌, ℕ, List, All, nat_eq, min};
 ghost use Rattle.std.specs.Io.KnownBytes.{prepend_known};
 ghost use Rattle.hp_outside.specs.Faults.{Rose};
 ghost use Rattle.hp_outside.specs.Taken.{WhereTold};
@@ -216,13 +216,15 @@ impl LineReader {
         self.line_ended
     }
 
-    /// Lends a front of the bytes that were taken and not yet given, within the limit of the file. It is for whole lines
+    /// Lends the bytes that were taken and not yet given, as many as the limit of the file allows. It is for whole lines
     /// of fewer than 16 bytes each, which `pass` then drops; it is empty where a line may have fewer bytes than those,
     /// and after a fault.
     pub fn ready_lines(&self) -> &[u8]
         ensures front { take (length result.now) self.now.kept ≡ result.now }
         ensures held { length result.now ≤ length self.now.kept }
         ensures within { self.now.passed + length result.now ≤ self.now.input }
+        ensures whole { 16 ≤ self.now.line_limit → self.now.fault ≡ None
+            → length result.now ≡ min (length self.now.kept) (self.now.input - self.now.passed) }
         ensures short { 0 < length result.now → 16 ≤ self.now.line_limit }
         ensures sound { 0 < length result.now → self.now.fault ≡ None }
     {

@@ -9,6 +9,7 @@ use hp_outside::{
 };
 use std::alloc::Global;
 use std::fs;
+use std::io::{self, ErrorKind, Write};
 use std::process::Abort;
 use std::test::Fail;
 
@@ -89,9 +90,9 @@ fn mem_store_reads_pieces(rt: HostRuntime) -> Result<(), Fail> {
 fn mem_store_fails_at_named_calls(rt: HostRuntime) -> Result<(), Fail> {
     let mut store = MemStore::new(rt.alloc(), 3);
     store.add("a", b"abc")?;
-    for call in [1, 2, 4] {
-        store.fail_at(call)?;
-    }
+    store.fail_at(1)?;
+    store.fail_at(2)?;
+    store.fail_at(4)?;
     open_gives(&rt, &mut store, "b", Err(OpenFault::Absent));
     open_gives(&rt, &mut store, "a", Err(OpenFault::Failed));
     opens(&rt, &mut store, "a");
@@ -177,6 +178,27 @@ fn std_sink_writes(rt: HostRuntime) -> Result<(), Fail> {
     flush_gives(&rt, &mut sink, Ok(()));
     assert_eq!(rt; bytes.as_slice(), b"abc".as_slice());
     Ok(())
+}
+
+/// A writer that is broken.
+#[derive(Drop)]
+struct BrokenWriter;
+
+impl Write for BrokenWriter {
+    fn write(&mut self, _buf: &[u8]) -> io::Result<usize> {
+        Err(io::Error::from(ErrorKind::Other))
+    }
+
+    fn flush(&mut self) -> io::Result<()> {
+        Err(io::Error::from(ErrorKind::Other))
+    }
+}
+
+#[test]
+fn std_sink_hides_no_failure(rt: HostRuntime) {
+    let mut sink = StdSink::new(BrokenWriter);
+    write_gives(&rt, &mut sink, b"abc", Err(Failed));
+    flush_gives(&rt, &mut sink, Err(Failed));
 }
 
 /// The rest of the current file is these bytes, or this fault.
