@@ -2,6 +2,8 @@ pub mod PeakLemmas
 pub mod EventLemmas
 pub mod FaultLemmas
 pub mod LineLemmas
+pub mod BatchLemmas
 pub mod LinesLoop
+pub mod FrontLemmas
 pub mod OutcomeLemmas
 pub mod RunLemmas

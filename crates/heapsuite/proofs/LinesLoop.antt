@@ -75,7 +75,7 @@ reading_new bounds reader trace start kept passed number read = record {
 }
 
 -- the bytes that are known behind others
-left_behind : (kept : List ℕ) (left : Option (List ℕ)) (rest : List ℕ) → prepend_known kept left ≡ Some rest → (unread : List ℕ) × (left ≡ Some unread) × (rest ≡ kept ++ unread)
+pub left_behind : (kept : List ℕ) (left : Option (List ℕ)) (rest : List ℕ) → prepend_known kept left ≡ Some rest → (unread : List ℕ) × (left ≡ Some unread) × (rest ≡ kept ++ unread)
 left_behind kept None rest is = absurd (cc)
 left_behind kept (Some unread) rest is = (unread, refl, cc)
 

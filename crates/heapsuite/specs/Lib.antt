@@ -7,6 +7,7 @@ pub mod Words
 pub mod Message
 pub mod MessageBytes
 pub mod Answer
+pub mod Batch
 pub mod Outcome
 pub mod ReadFaults
 pub mod TraceRead

@@ -4,6 +4,7 @@
 //! program's contract.
 #![tactic(auto)]
 
+mod batch;
 mod command;
 mod deliver;
 mod fault;

@@ -1,6 +1,6 @@
 //! Reading a trace line by line, to the figures of its summary. What a line says and which numbers it may name is the
 //! tables' part, and the live figures are the ledger's. How lines come from a file is no part of it.
-ghost use Rattle.std.specs.Prelude.{◌≡◌, ◌≢◌, ℕ, ◌+◌, ◌*◌, ◌^◌, ◌<◌, ◌≤◌, List, [], ◌∷◌, ◌++◌, None, Some, length, OnOk, IfOk, IfErr};
+ghost use Rattle.std.specs.Prelude.{◌≡◌, ◌≢◌, ℕ, ◌+◌, ◌*◌, ◌^◌, ◌<◌, ◌≤◌, List, [], ◌∷◌, ◌++◌, None, Some, length, OnOk, OnErr, IfOk, IfErr};
 ghost use Rattle.std.specs.Option.{option_map, option_to_list};
 ghost use Rattle.live_ledger.specs.declared.event.Event.{Event};
 ghost use Rattle.live_ledger.specs.Events.{counted, is_counted};
@@ -58,9 +58,9 @@ impl From<EventFault> for LineRefusal {
 /// What has been read of a trace so far.
 #[derive(Debug, Drop)]
 pub struct TraceReader {
-    tables: Tables,
-    ledger: Ledger,
-    peak: Peak,
+    pub(crate) tables: Tables,
+    pub(crate) ledger: Ledger,
+    pub(crate) peak: Peak,
 }
 
 impl TraceReader {
@@ -151,7 +151,7 @@ fn take_step(ledger: &mut Ledger, peak: &mut Peak, step: Step) -> Result<(), Lin
 }
 
 /// Takes an event into the ledger and the peak; a clock value changes neither's figures.
-fn take_event(ledger: &mut Ledger, peak: &mut Peak, event: Event) -> Result<(), EventFault>
+pub(crate) fn take_event(ledger: &mut Ledger, peak: &mut Peak, event: Event) -> Result<(), EventFault>
     requires held { IsHeld ledger.old event }
     requires room { 4 * ledger.old.totals.events + least_length_of event ≤ 2 ^ 34 }
     ensures ledger { OnOk result ((taken : List Event) → ledger_spec.StandsFor ledger.old taken → ledger_spec.StandsFor ledger.new (taken ++ event ∷ [])) }
@@ -161,6 +161,8 @@ fn take_event(ledger: &mut Ledger, peak: &mut Peak, event: Event) -> Result<(), 
     ensures stacks { ledger.new.stacks ≡ ledger.old.stacks }
     ensures infos { ledger.new.infos ≡ ledger.old.infos }
     ensures events { OnOk result (4 * ledger.new.totals.events ≤ 4 * ledger.old.totals.events + least_length_of event + 1) }
+    ensures ledger_unchanged { OnErr result (ledger.new ≡ ledger.old) }
+    ensures peak_unchanged { OnErr result (peak.new ≡ peak.old) }
 {
     ledger.apply(event)?;
     if !is_counted(event) {

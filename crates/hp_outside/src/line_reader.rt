@@ -226,6 +226,7 @@ impl LineReader {
         ensures whole { 16 ≤ self.now.line_limit → self.now.fault ≡ None
             → length result.now ≡ min (length self.now.kept) (self.now.input - self.now.passed) }
         ensures short { 0 < length result.now → 16 ≤ self.now.line_limit }
+        ensures given { 0 < length result.now → self.now.given ≡ self.now.passed }
         ensures sound { 0 < length result.now → self.now.fault ≡ None }
     {
         if self.limits.line < LONGEST_READY || self.fault.is_some() {

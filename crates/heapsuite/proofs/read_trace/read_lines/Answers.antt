@@ -1,8 +1,9 @@
-use Rattle.std.proofs.Common.{◌≡◌, ◌+◌, ◌≤◌, [], ◌∷◌, ◌++◌, length, Some, None, Ok, Err, IfSome, is_some, if◌then◌else◌, ap, subst, refl, ◌∙◌, arith}
+use Rattle.std.proofs.Common.{◌≡◌, ◌+◌, ◌≤◌, [], ◌∷◌, ◌++◌, length, Some, None, Ok, Err, IfSome, is_some, if◌then◌else◌, ap, sym, subst, refl, ◌∙◌, arith}
 use Rattle.hp_outside.specs.declared.span.LineFault.TheVariants as reading
 use Rattle.hp_outside.specs.NextLine.{IsLine}
 use Rattle.heapsuite.specs.TraceFault.{content_fault}
 use Rattle.heapsuite.specs.TraceReader.{HasRead, Tells}
+use Rattle.heapsuite.proofs.FrontLemmas.{read_front}
 use Rattle.heapsuite.proofs.LinesLoop.{bounds_at, read_end, read_end_fault, read_fault, read_input_too_long, read_line_too_long, read_more, read_stopped, reading_new}
 use Rattle.heapsuite.proofs.read_trace.read_lines.Goals as goal
 
@@ -29,24 +30,28 @@ lines-preserved g c =
     let next = c.next.ensures in
     let is : c.next.result ≡ Ok (Some c.in-Ok-Some.span) = c.in-Ok-Some.is ∙ ap Ok c.in-Ok-Some.field-0-is in
     let taken = c.in-Ok.ensures in
+    let ready = c.take_ready.ensures in
     let given : c.next.new.self.given ≡ c.lines.lines.given + length c.next.new.self.line + 1 =
     subst (λ place. IfSome place (λ span. c.next.new.self.given ≡ c.lines.lines.given + length c.next.new.self.line + 1)) c.in-Ok-Some.field-0-is c.in-Ok-Some.ensures.given in
     let number : c.next.new.self.number ≡ c.lines.lines.number + 1 =
     subst (λ place. c.next.new.self.number ≡ c.lines.lines.number + (if is_some place then 1 else 0)) c.in-Ok-Some.field-0-is c.in-Ok-Some.ensures.number in
     let size : length c.line.result.now ≡ length c.next.new.self.line = ap length c.line.ensures in
     record {
-      input = next.input ∙ held.input;
-      line_limit = next.limit ∙ held.line_limit;
-      no_fault = c.in-Ok-Some.ensures.no_fault;
-      given = next.bounded;
-      ended = next.end;
-      sound = taken.sound;
-      events = omega (arith, taken.events, held.events, given, size);
-      reading = read_more (bounds_at c.args.lines.now) c.lines.lines c.next.new.self c.lines.trace c.line-in-Ok-Some.new.self
+      input = ready.input ∙ (next.input ∙ held.input);
+      line_limit = ready.limit ∙ (next.limit ∙ held.line_limit);
+      no_fault = ready.fault ∙ c.in-Ok-Some.ensures.no_fault;
+      given = ready.bounded;
+      ended = λ ended. next.end (sym ready.ended ∙ ended);
+      sound = ready.sound;
+      events = ready.events;
+      reading = read_front (bounds_at c.args.lines.now) c.next.new.self c.take_ready.new.lines c.line-in-Ok-Some.new.self c.take_ready.new.trace
+          (g.S.Store.left c.args.store.now) (g.S.Store.left c.next.new.store)
+          (read_more (bounds_at c.args.lines.now) c.lines.lines c.next.new.self c.lines.trace c.line-in-Ok-Some.new.self
           (g.S.Store.left c.args.store.now) (g.S.Store.left c.lines.store) (g.S.Store.left c.next.new.store) c.next.result c.in-Ok-Some.span
           held.reading held.input held.line_limit is (next.answer held.no_fault) (next.line held.no_fault) number
           (λ lines has. subst (λ line. HasRead c.line-in-Ok-Some.new.self (lines ++ line ∷ [])) c.line.ensures (taken.read lines has))
-          (λ lines has. subst (λ line. content_fault lines line ≡ None) c.line.ensures (taken.no_fault lines has));
+          (λ lines has. subst (λ line. content_fault lines line ≡ None) c.line.ensures (taken.no_fault lines has)))
+          (next.input ∙ held.input) (next.limit ∙ held.line_limit) ready.read;
       files = next.files ∙ held.files;
       current = next.current ∙ held.current;
       opens = next.opens ∙ held.opens;

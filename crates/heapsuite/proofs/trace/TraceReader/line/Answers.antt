@@ -13,10 +13,10 @@ take_step-requires-clause-can c = c.in-Ok.ensures.can_take c.args.self.now.ledge
 
 pub returns-in_ok-take_step-in-Ok-clause-read : goal.returns-in_ok-take_step-in-Ok-clause-read
 returns-in_ok-take_step-in-Ok-clause-read c = λ lines has.
-    let after : events (lines ++ c.args.line.now ∷ []) ≡ events lines ++ option_to_list (event_of c.in-Ok.step) = c.in-Ok.ensures.events lines has.tables_of in
+    let after : events (lines ++ c.args.line.now ∷ []) ≡ events lines ++ option_to_list (event_of c.in-Ok.step) = c.in-Ok.ensures.events [] lines has.tables_of in
     let taken = c.in_ok-take_step-in-Ok.ensures in
     record {
-      tables_of = c.in-Ok.ensures.stands lines has.tables_of;
+      tables_of = c.in-Ok.ensures.stands [] lines has.tables_of;
       ledger_of = subst (λ es. StandsFor c.take_step.new.ledger es) (sym after) (taken.ledger (events lines) has.ledger_of);
       peak = taken.peak (events lines) has.ledger_of has.peak ∙ ap (λ es. peak_of (totals (counted es))) (sym after);
     }
