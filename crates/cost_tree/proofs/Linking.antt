@@ -1,10 +1,11 @@
 -- Lemmas on the children of a node, and on the links to them.
 use Rattle.std.proofs.Common.{◌≡◌, ◌≢◌, ℕ, zero, suc, ◌+◌, ◌-◌, ◌<◌, ◌≤◌, ◌⊎◌, inl, inr, ◌==◌, Bool, true, false, cond, List, [], ◌∷◌, ◌++◌, length, get_or, set, replicate, Some, refl, sym, ap, ◌∙◌, subst, arith, append_assoc, append-nil, get_or-set_same, get_or-set_other}
-use Rattle.std.specs.Prelude.{slice_get, slice_index, filter, if◌then◌else◌}
+use Rattle.std.specs.Prelude.{All, AllPairs, Contains, slice_get, slice_index, filter, if◌then◌else◌}
 use Rattle.std.specs.List.{range_with_len}
 use Rattle.std.specs.Option.{option_map_or}
-use Rattle.std.proofs.lemmas.Bool.{cases_eq, cases_lt, cond-true, cond-false, eq-eqb, ne_eqb}
+use Rattle.std.proofs.lemmas.Bool.{cases_eq, cases_lt, cond-true, cond-false, cond_both, eq-eqb, eqb-true, ne_eqb, false≢true}
 use Rattle.std.proofs.lemmas.List.{length-set, length-replicate, get_or_read}
+use Rattle.std.proofs.lemmas.List.Elements.{All-nil, All-cons, All-weaker, All-contains, Contains-append_right}
 use Rattle.std.proofs.lemmas.List.FromFn.{length-range_with_len}
 use Rattle.std.proofs.lemmas.List.Sums.{length-filter, count_by-le-length}
 use Rattle.std.proofs.lemmas.Option.{same_Some, slice_get_within, slice_get-get_or}
@@ -175,3 +176,59 @@ pub IsWalk-read : (nodes : List CostNode) (firsts nexts : List ℕ) (n child nex
 IsWalk-read nodes firsts nexts n child next links walk some read =
     let P : ℕ → Type 0 = λ k. IsWalk nodes n k × (chain nodes n child ≡ child ∷ chain nodes n k) in
     subst P (sym (get_or_read nexts child next (omega (arith, walk.within, links.nexts_count)) read 0)) (IsWalk-next nodes firsts nexts n child links walk some)
+
+-- the numbers of a range that pass a test
+ranged : (p : ℕ → Bool) (a count : ℕ) → All (λ m. (a ≤ m) × ((m < a + count) × (p m ≡ true))) (filter p (range_with_len a count))
+ranged p a zero = All-nil (λ m. (a ≤ m) × ((m < a + zero) × (p m ≡ true)))
+ranged p a (suc count) =
+    let rest = All-weaker (λ m. (a + 1 ≤ m) × ((m < a + 1 + count) × (p m ≡ true))) (λ m. (a ≤ m) × ((m < a + suc count) × (p m ≡ true))) (λ m is. (omega (arith, is.0), (omega (arith, is.1.0), is.1.1))) (filter p (range_with_len (a + 1) count)) (ranged p (a + 1) count) in
+    cond_both (p a) (a ∷ filter p (range_with_len (a + 1) count)) (filter p (range_with_len (a + 1) count)) (All (λ m. (a ≤ m) × ((m < a + suc count) × (p m ≡ true))))
+    (λ passes. All-cons (λ m. (a ≤ m) × ((m < a + suc count) × (p m ≡ true))) a (filter p (range_with_len (a + 1) count)) (omega arith, (omega arith, passes)) rest)
+    (λ fails. rest)
+
+contains_ranged : (p : ℕ → Bool) (a count m : ℕ) → a ≤ m → m < a + count → p m ≡ true → Contains (filter p (range_with_len a count)) m
+contains_ranged p a zero m low high passes = absurd (omega arith)
+contains_ranged p a (suc count) m low high passes =
+    cond_both (p a) (a ∷ filter p (range_with_len (a + 1) count)) (filter p (range_with_len (a + 1) count)) (λ xs. Contains xs m)
+    (λ here. elim (cases_lt a m) [
+      | inl later ↦ Contains-append_right (a ∷ []) (filter p (range_with_len (a + 1) count)) m (contains_ranged p (a + 1) count m (omega arith) (omega arith) passes)
+      | inr first ↦ let is : a ≡ m = omega arith in (0, omega arith, is)
+    ])
+    (λ other. elim (cases_lt a m) [
+      | inl later ↦ contains_ranged p (a + 1) count m (omega arith) (omega arith) passes
+      | inr first ↦
+        let is : m ≡ a = omega arith in
+        absurd (false≢true (sym other ∙ ap p (sym is) ∙ passes))
+    ])
+
+ordered : (p : ℕ → Bool) (a count : ℕ) → AllPairs (λ x y. x < y) (filter p (range_with_len a count))
+ordered p a zero = λ i j d before within. absurd (omega arith)
+ordered p a (suc count) =
+    cond_both (p a) (a ∷ filter p (range_with_len (a + 1) count)) (filter p (range_with_len (a + 1) count)) (AllPairs (λ x y. x < y))
+    (λ here. first_below (filter p (range_with_len (a + 1) count)) (ordered p (a + 1) count) (ranged p (a + 1) count))
+    (λ other. ordered p (a + 1) count)
+  where
+    first_below : (rest : List ℕ) → AllPairs (λ x y. x < y) rest → All (λ m. (a + 1 ≤ m) × ((m < a + 1 + count) × (p m ≡ true))) rest → AllPairs (λ x y. x < y) (a ∷ rest)
+    first_below rest pairs low zero zero d before within = absurd (omega arith)
+    first_below rest pairs low zero (suc j) d before within = let is = low j d (omega arith) in omega (arith, is.0)
+    first_below rest pairs low (suc i) zero d before within = absurd (omega arith)
+    first_below rest pairs low (suc i) (suc j) d before within = pairs i j d (omega arith) (omega arith)
+
+-- the children of a node are the nodes that have it as their parent, in the order of their numbers
+pub children_of-ordered : (nodes : List CostNode) (n : ℕ) → AllPairs (λ older younger. older < younger) (children_of nodes n)
+unfolding children_from
+children_of-ordered nodes n = ordered (has_parent nodes n) 1 (length nodes - 1)
+
+pub children_of-all : (nodes : List CostNode) (n m : ℕ) (node : CostNode) → 0 < m → slice_get nodes m ≡ Some node → node.parent ≡ n → Contains (children_of nodes n) m
+unfolding children_from
+children_of-all nodes n m node above at is =
+    let inside = slice_get_within nodes m node at in
+    contains_ranged (has_parent nodes n) 1 (length nodes - 1) m (omega arith) (omega arith) (has_parent-at nodes n m node at ∙ eq-eqb node.parent n is)
+
+pub children_of-only : (nodes : List CostNode) (n m : ℕ) → Contains (children_of nodes n) m → (node : CostNode) × (0 < m) × (slice_get nodes m ≡ Some node) × (node.parent ≡ n)
+unfolding children_from
+children_of-only nodes n m held =
+    let is = All-contains (λ k. (1 ≤ k) × ((k < 1 + (length nodes - 1)) × (has_parent nodes n k ≡ true))) (children_of nodes n) m (ranged (has_parent nodes n) 1 (length nodes - 1)) held in
+    let at = slice_get-get_or nodes m no_node (omega (arith, is.0, is.1.0)) in
+    let node : CostNode = get_or nodes m no_node in
+    (node, omega (arith, is.0), at, eqb-true node.parent n (sym (has_parent-at nodes n m node at) ∙ is.1.1))

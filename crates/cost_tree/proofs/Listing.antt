@@ -111,6 +111,7 @@ pub record Pushed (names new : List (List ℕ)) (old_lists new_lists : List (Vec
   pub are : AreLists new new_lists
   pub some : 0 < length old_lists
   pub same : lists_of new old_lists ≡ fronts
+  pub count : length (lists_of new new_lists) ≡ length fronts
   pub becomes : LastBecomes old_lists added new_lists
 
 pub Pushed-is :
@@ -120,7 +121,11 @@ pub Pushed-is :
 Pushed-is names new old_lists new_lists fronts added view begun are more stay texts becomes =
     let count = length-map old_lists (λ (v : Vec ℕ). texts_of names v.items) in
     let same = ap (λ (xs : List (List (List ℕ))). length xs) view in
+    let last = held old_lists (length old_lists - 1) (omega arith) in
+    let set_count = ap (λ (xs : List (Vec ℕ)). length xs) (becomes last.0 last.1).2 ∙ length-set old_lists (length old_lists - 1) (becomes last.0 last.1).0 in
+    let new_count = length-map new_lists (λ (v : Vec ℕ). texts_of new v.items) in
     record {
+      count = omega arith;
       are = AreLists-last new old_lists new_lists added (AreLists-grown names new old_lists more are) (omega arith) texts becomes;
       some = omega arith;
       same = lists-kept names new old_lists stay are.texts ∙ view;

@@ -57,6 +57,7 @@ impl Fronts {
     pub fn push(&mut self, text: &[u8]) -> Result<(), NoMemory>
         requires begun { 0 < length self.old }
         ensures appended { OnOk result ((earlier : List (List (List ℕ))) (last : List (List ℕ)) → self.old ≡ earlier ++ last ∷ [] → self.new ≡ earlier ++ (last ++ text.now ∷ []) ∷ []) }
+        ensures count { length self.new ≡ length self.old }
         ensures unchanged { OnErr result (self.new ≡ self.old) }
     {
         let number = self.names.intern(text)?;

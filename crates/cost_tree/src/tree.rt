@@ -1,6 +1,6 @@
 //! The tree of inclusive costs, and what its nodes say.
 //! How it grows is in `branches`, and the order of its children in `links`.
-ghost use Rattle.std.specs.Prelude.{◌≡◌, ◌≢◌, ℕ, ◌+◌, ◌^◌, ◌<◌, ◌≤◌, ◌↔◌, List, [], ◌∷◌, ◌++◌, length, sum, Some, IfOk, OnOk, OnErr, IsOk, Contains, slice_get, vec_capacity};
+ghost use Rattle.std.specs.Prelude.{◌≡◌, ◌≢◌, ℕ, ◌+◌, ◌^◌, ◌<◌, ◌≤◌, ◌↔◌, List, [], ◌∷◌, ◌++◌, length, sum, Some, IfOk, OnOk, OnErr, IsOk, AllPairs, Contains, slice_get, vec_capacity};
 ghost use Rattle.intern_tables.specs.Distinct.{AreDistinct};
 ghost use Rattle.cost_tree.specs.declared.node.CostNode.{CostNode};
 ghost use Rattle.cost_tree.specs.Children.{children_of};
@@ -121,6 +121,9 @@ impl CostTree {
     pub fn children_into(&self, n: usize, out: &mut Vec<usize>) -> Result<(), NoMemory>
         requires held { n < length self.now.nodes }
         ensures children { OnOk result (out.new.items ≡ children_of self.now.nodes n) }
+        ensures all { OnOk result ((m : ℕ) (node : CostNode) → 0 < m → slice_get self.now.nodes m ≡ Some node → node.parent ≡ n → Contains out.new.items m) }
+        ensures only { OnOk result ((m : ℕ) → Contains out.new.items m → (node : CostNode) × (0 < m) × (slice_get self.now.nodes m ≡ Some node) × (node.parent ≡ n)) }
+        ensures order { OnOk result (AllPairs (λ older younger. older < younger) out.new.items) }
         ensures unchanged { OnErr result (out.new.items ≡ out.old.items) }
     {
         let count = self.child_count(n);

@@ -34,3 +34,17 @@ returns-clause-appended c = λ earlier last same.
         c.self.view_is c.requires.begun c.self.invariant is.none_lost is.names_stay (All-cons (IsText c.intern.new.self) c.in_ok-number.number [] is.within (All-nil (IsText c.intern.new.self))) c.in_ok-push_last.ensures.pushed in
     lists_of-last c.intern.new.self c.self.inside.lists.items c.push_last.new.lists.items (c.in_ok-number.number ∷ []) earlier last pushed.some pushed.becomes (pushed.same ∙ same)
     ∙ ap (λ (text : List ℕ). earlier ++ (last ++ text ∷ []) ∷ []) (text-named c.intern.new.self c.in_ok-number.number c.args.text.now is.name)
+
+pub returns-in_err-push_last-clause-count : goal.returns-in_err-push_last-clause-count
+returns-in_err-push_last-clause-count c =
+    let is = c.in_ok-number.ensures in
+    let pushed = Pushed-is c.self.inside.names c.intern.new.self c.self.inside.lists.items c.push_last.new.lists.items c.args.self.now []
+        c.self.view_is c.requires.begun c.self.invariant is.none_lost is.names_stay (All-nil (IsText c.intern.new.self)) c.in_err-push_last.ensures.kept in
+    pushed.count
+
+pub returns-clause-count : goal.returns-clause-count
+returns-clause-count c =
+    let is = c.in_ok-number.ensures in
+    let pushed = Pushed-is c.self.inside.names c.intern.new.self c.self.inside.lists.items c.push_last.new.lists.items c.args.self.now (c.in_ok-number.number ∷ [])
+        c.self.view_is c.requires.begun c.self.invariant is.none_lost is.names_stay (All-cons (IsText c.intern.new.self) c.in_ok-number.number [] is.within (All-nil (IsText c.intern.new.self))) c.in_ok-push_last.ensures.pushed in
+    pushed.count
