@@ -1,6 +1,6 @@
 //! Snapshots with their loads: each stays at its place, and links keep their order.
 //! Which of them are removed is decided in `removal`.
-ghost use Rattle.std.specs.Prelude.{◌≡◌, ◌+◌, ◌-◌, ◌<◌, ◌≤◌, [], ◌∷◌, ◌++◌, length, map, slice_get, remove, Some, IfOk, IfSome};
+ghost use Rattle.std.specs.Prelude.{◌≡◌, ◌+◌, ◌-◌, ◌<◌, ◌≤◌, [], ◌∷◌, ◌++◌, length, map, slice_get, remove, Some, IfOk};
 ghost use Rattle.std.specs.Option.{option_map};
 ghost use Rattle.massif_cull.specs.Entries.{end_peak};
 ghost use Rattle.massif_cull.specs.Held.{ended};

@@ -1,5 +1,5 @@
 //! Places in an order of their own, each linked to its neighbours. What stands at a place is the user's business.
-ghost use Rattle.std.specs.Prelude.{◌≡◌, ◌≢◌, ℕ, ◌+◌, ◌-◌, ◌<◌, ◌≤◌, [], ◌∷◌, ◌++◌, length, slice_get, slice_index, slice_set, remove, AllPairs, Contains, IfOk, IfSome, Some, None, vec_capacity};
+ghost use Rattle.std.specs.Prelude.{◌≡◌, ℕ, ◌+◌, ◌-◌, ◌<◌, ◌≤◌, [], ◌∷◌, ◌++◌, length, slice_get, slice_set, remove, Contains, IfOk, IfSome, Some, None, vec_capacity};
 ghost use Rattle.massif_cull.specs.Linked.{AreBelow, AreDifferent, unless_end};
 
 use hp_num::NoMemory;
