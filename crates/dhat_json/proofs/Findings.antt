@@ -1,0 +1,31 @@
+-- The first of what checks find.
+use Rattle.std.proofs.Common.{◌≡◌, List, [], ◌∷◌, ◌++◌, Some, None, refl}
+use Rattle.dhat_json.specs.declared.fault.DhatFault.{DhatFault}
+use Rattle.dhat_json.specs.declared.fault.DhatFault.TheVariants.{NotJson, WrongFileVersion, MissingKey, WrongKind, FrameOutOfTable, TooMany, NoMemory}
+use Rattle.dhat_json.specs.DhatFault.{Finding, first_of}
+use Rattle.dhat_json.specs.Reads.{UnlessNoMemory}
+
+-- where nothing was found at first, what is found later counts
+pub first_later : (xs ys : List Finding) → first_of xs ≡ None → first_of (xs ++ ys) ≡ first_of ys
+first_later [] ys none = refl
+first_later (None ∷ xs) ys none = first_later xs ys none
+first_later (Some fault ∷ xs) ys none = absurd cc
+
+-- and where a fault was found, it stays the first
+pub first_stays : (xs ys : List Finding) (fault : DhatFault) → first_of xs ≡ Some fault → first_of (xs ++ ys) ≡ Some fault
+first_stays [] ys fault found = absurd cc
+first_stays (None ∷ xs) ys fault found = first_stays xs ys fault found
+first_stays (Some first ∷ xs) ys fault found = found
+
+-- a claim of a fault that follows from another
+pub fault_follows : (P Q : Type 0) (fault : DhatFault) → UnlessNoMemory fault P → (P → Q) → UnlessNoMemory fault Q
+fault_follows P Q NoMemory h f = tt
+fault_follows P Q NotJson h f = f h
+fault_follows P Q WrongFileVersion h f = f h
+fault_follows P Q (MissingKey point key) h f = f h
+fault_follows P Q (WrongKind point key) h f = f h
+fault_follows P Q (FrameOutOfTable point frame) h f = f h
+fault_follows P Q TooMany h f = f h
+
+pub three_passed : (a b c : Finding) (xs : List Finding) → a ≡ None → b ≡ None → c ≡ None → first_of (a ∷ b ∷ c ∷ xs) ≡ first_of xs
+three_passed a b c xs none-a none-b none-c = rw (none-a, none-b, none-c) refl

@@ -1,0 +1,13 @@
+pub mod Added
+pub mod Documents
+pub mod Findings
+pub mod KeyOrder
+pub mod KindLemmas
+pub mod ProfileFindings
+pub mod ProfileTexts
+pub mod ReadAgain
+pub mod RoundTrip
+pub mod Says
+pub mod ShownTexts
+pub mod Taken
+pub mod ValueLists

@@ -1,0 +1,28 @@
+-- What the writer's tokens of a profile are as a text.
+use Rattle.std.proofs.Common.{◌≡◌, ℕ, List, [], ◌++◌, Some, sym, ap, ◌∙◌, subst}
+use Rattle.std.specs.Prelude.{IsUtf8}
+use Rattle.json.specs.Token.{Token}
+use Rattle.json.specs.Lex.{tokens}
+use Rattle.json.specs.Print.{print}
+use Rattle.json.specs.Tree.{json_tokens}
+use Rattle.serde_json.specs.Written.{outline}
+use Rattle.serde_json.proofs.Texts.{print-outline}
+use Rattle.dhat_json.specs.declared.profile.Dhat.{Dhat}
+use Rattle.dhat_json.specs.Adds.{Fits}
+use Rattle.dhat_json.specs.DhatValue.{dhat_value, dhat_text}
+use Rattle.dhat_json.specs.Document.{value_of}
+use Rattle.dhat_json.proofs.Documents.{value_is}
+use Rattle.dhat_json.proofs.KeyOrder.{value_in_order}
+use Rattle.dhat_json.proofs.ReadAgain.{read_again}
+
+pub record IsTextOf (d : Dhat) (text : List ℕ) : Type 0 where
+  pub same : text ≡ dhat_text d
+  pub value : value_of text ≡ Some (dhat_value d)
+
+pub text_written : (d : Dhat) (before : List ℕ) (ts : List Token) (text : List ℕ) → before ≡ [] → ts ≡ json_tokens (outline (dhat_value d)) → text ≡ before ++ print ts → tokens (print ts) ≡ ts → IsUtf8 (print ts) → Fits (dhat_value d) → IsTextOf d text
+unfolding dhat_text
+text_written d before ts text none ts-is text-is same utf8 fit =
+    let printed : text ≡ print ts = text-is ∙ ap (λ (b : List ℕ). b ++ print ts) none in record {
+      same = printed ∙ ap print ts-is ∙ print-outline (dhat_value d);
+      value = value_is text (dhat_value d) (subst IsUtf8 (sym printed) utf8) (read_again (dhat_value d) ts text ts-is (ap tokens printed ∙ same) fit (value_in_order 123 d));
+    }

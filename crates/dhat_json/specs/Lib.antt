@@ -1,0 +1,14 @@
+pub mod Adds
+pub mod DhatFault
+pub mod DhatValue
+pub mod Document
+pub mod Figure
+pub mod Groups
+pub mod IsDhat
+pub mod IsSound
+pub mod KeyName
+pub mod Kinds
+pub mod Parts
+pub mod ProfileIn
+pub mod Reads
+pub mod Shown

@@ -1,0 +1,148 @@
+//! The points of a profile, read from their JSON values: the first fault of the first faulty point is the answer.
+ghost use Rattle.std.specs.Prelude.{◌≡◌, ◌-◌, ◌^◌, ◌<◌, length, map, Some};
+ghost use Rattle.serde_json.specs.View.{view};
+ghost use Rattle.dhat_json.specs.DhatFault.{first_of, frame_finding, frames_findings, life_findings, access_findings, point_findings, points_findings, allowed};
+ghost use Rattle.dhat_json.specs.Kinds.{as_list};
+ghost use Rattle.dhat_json.specs.ProfileIn.{whole_in, list_at, life_in, access_in, part_in, point_in};
+ghost use Rattle.dhat_json.specs.Reads.{Reads};
+
+use crate::fault::DhatFault;
+use crate::key::Key;
+use crate::lists::{FrameList, Points};
+use crate::member::{member, read_list, read_whole};
+use crate::profile::{Access, Life, Point};
+use serde_json::Value;
+use std::alloc::Global;
+
+/// What a profile says of all its points: the parts that they have, and the length of the table of frames.
+#[derive(Clone, Copy)]
+pub(crate) struct Shape {
+    pub(crate) bklt: bool,
+    pub(crate) bkacc: bool,
+    pub(crate) frames: usize,
+}
+
+/// The points, which are few enough to be numbered.
+pub(crate) fn read_points(
+    alloc: Global,
+    values: &[Value],
+    shape: Shape,
+) -> Result<Points, DhatFault>
+    requires few { length values.now < 2 ^ 32 - 1 }
+    ensures { Reads result
+        (first_of (points_findings shape.bklt shape.bkacc shape.frames 0 (map view values.now)))
+        (map (point_in shape.bklt shape.bkacc) (map view values.now)) }
+{
+    let mut points = Points::new(alloc);
+    let mut number: u32 = 0;
+    for value in values {
+        points.push(read_point(alloc, value, shape, number)?)?;
+        number += 1;
+    }
+    Ok(points)
+}
+
+fn read_point(alloc: Global, value: &Value, shape: Shape, number: u32) -> Result<Point, DhatFault>
+    ensures { Reads result
+        (first_of (point_findings shape.bklt shape.bkacc shape.frames number (view value.now)))
+        (point_in shape.bklt shape.bkacc (view value.now)) }
+{
+    if !value.is_object() {
+        return Err(DhatFault::WrongKind {
+            point: Some(number),
+            key: Key::Pps,
+        });
+    }
+    let tb = read_whole(value, Some(number), Key::Tb)?;
+    let tbk = read_whole(value, Some(number), Key::Tbk)?;
+    let life = read_life(value, number, shape.bklt)?;
+    let access = read_access(value, number, shape.bkacc)?;
+    let fs = read_frames(alloc, value, number, shape.frames)?;
+    Ok(Point {
+        tb,
+        tbk,
+        life,
+        access,
+        fs,
+    })
+}
+
+fn read_life(value: &Value, number: u32, told: bool) -> Result<Option<Life>, DhatFault>
+    ensures { Reads result (first_of (life_findings told number (view value.now)))
+        (part_in told (life_in (view value.now))) }
+{
+    if !told {
+        return Ok(None);
+    }
+    let point = Some(number);
+    Ok(Some(Life {
+        tl: read_whole(value, point, Key::Tl)?,
+        mb: read_whole(value, point, Key::Mb)?,
+        mbk: read_whole(value, point, Key::Mbk)?,
+        gb: read_whole(value, point, Key::Gb)?,
+        gbk: read_whole(value, point, Key::Gbk)?,
+        eb: read_whole(value, point, Key::Eb)?,
+        ebk: read_whole(value, point, Key::Ebk)?,
+    }))
+}
+
+fn read_access(value: &Value, number: u32, told: bool) -> Result<Option<Access>, DhatFault>
+    ensures { Reads result (first_of (access_findings told number (view value.now)))
+        (part_in told (access_in (view value.now))) }
+{
+    if !told {
+        return Ok(None);
+    }
+    let rb = read_whole(value, Some(number), Key::Rb)?;
+    let wb = read_whole(value, Some(number), Key::Wb)?;
+    check_counts(value, number)?;
+    Ok(Some(Access { rb, wb }))
+}
+
+// The counts of accesses may be left out, and are dropped where they stand.
+fn check_counts(value: &Value, number: u32) -> Result<(), DhatFault>
+    ensures { Reads result (allowed as_list (Some number) Key.Acc (view value.now)) tt }
+{
+    match member(value, Key::Acc) {
+        Some(counts) if !counts.is_array() => Err(DhatFault::WrongKind {
+            point: Some(number),
+            key: Key::Acc,
+        }),
+        _ => Ok(()),
+    }
+}
+
+fn read_frames(
+    alloc: Global,
+    value: &Value,
+    number: u32,
+    frames: usize,
+) -> Result<FrameList, DhatFault>
+    ensures { Reads result (first_of (frames_findings number frames (view value.now)))
+        (map whole_in (list_at Key.Fs (view value.now))) }
+{
+    let values = read_list(value, Some(number), Key::Fs)?;
+    let mut list = FrameList::new(alloc);
+    for frame in values {
+        list.push(read_frame(frame, number, frames)?)?;
+    }
+    Ok(list)
+}
+
+fn read_frame(value: &Value, number: u32, frames: usize) -> Result<u64, DhatFault>
+    ensures { Reads result (frame_finding number frames (view value.now)) (whole_in (view value.now)) }
+{
+    let Some(frame) = value.as_u64() else {
+        return Err(DhatFault::WrongKind {
+            point: Some(number),
+            key: Key::Fs,
+        });
+    };
+    if frame >= frames as u64 {
+        return Err(DhatFault::FrameOutOfTable {
+            point: number,
+            frame,
+        });
+    }
+    Ok(frame)
+}

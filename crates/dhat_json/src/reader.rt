@@ -1,0 +1,175 @@
+//! A DHAT profile read from the bytes of a document. The document is read as JSON first, whole, and then its keys in
+//! the order of the format's checks.
+ghost use Rattle.std.specs.Prelude.{◌≡◌, ◌-◌, ◌^◌, ◌<◌, length, map, Ok, IfOk, IfErr, IfSome, All, IsUtf8};
+ghost use Rattle.serde_json.specs.Find.{as_str};
+ghost use Rattle.serde_json.specs.View.{view};
+ghost use Rattle.dhat_json.specs.declared.profile.Dhat.{Dhat};
+ghost use Rattle.dhat_json.specs.DhatFault.{first_of, version_findings, head_findings, unit_findings, run_findings, table_findings, listed_points_findings, other_kind};
+ghost use Rattle.dhat_json.specs.Document.{document_of, dhat_in, IsDocument};
+ghost use Rattle.dhat_json.specs.IsSound.{IsWritable, HasTexts};
+ghost use Rattle.dhat_json.specs.Parts.{head_in, units_in, run_in};
+ghost use Rattle.dhat_json.specs.ProfileIn.{text_in, list_at, point_in};
+ghost use Rattle.dhat_json.specs.Reads.{Answers, Reads, UnlessNoMemory};
+
+use crate::fault::DhatFault;
+use crate::key::Key;
+use crate::lists::{Points, Texts};
+use crate::member::{
+    member, read_flag, read_list, read_optional_text, read_optional_whole, read_text, read_whole,
+};
+use crate::parts::{Head, Run, Units, join_parts};
+use crate::point::{Shape, read_points};
+use crate::profile::Dhat;
+use hp_num::Text;
+use serde_json::Value;
+use std::alloc::Global;
+
+/// The version of the format.
+const VERSION: u64 = 2;
+
+/// The number of points that can't be numbered any more.
+const TOO_MANY: usize = 0xffff_ffff;
+
+/// The profile that the document says, or its first fault in the order of the format's checks.
+///
+/// Keys that the format doesn't know are passed over, and so are those of a part that is switched off. The counts of
+/// accesses are dropped. A text that isn't UTF-8, or that nests deeper than 127, is `NotJson`.
+pub fn read_profile(alloc: Global, bytes: &[u8]) -> Result<Dhat, DhatFault>
+    // What the document is.
+    ensures exact { Answers result (document_of bytes.now) }
+
+    // The profile.
+    ensures read { IfOk result (λ dhat. IsDocument bytes.now dhat) }
+    ensures only { (dhat : Dhat) → IsDocument bytes.now dhat → Answers result (Ok dhat) }
+    ensures writable { IfOk result IsWritable }
+{
+    read_document(alloc, bytes)
+}
+
+fn read_document(alloc: Global, bytes: &[u8]) -> Result<Dhat, DhatFault>
+    ensures exact { Answers result (document_of bytes.now) }
+    ensures texts { IfOk result HasTexts }
+{
+    match Value::from_slice(alloc, bytes) {
+        Ok(value) => read_value(alloc, &value),
+        Err(error) if error.is_memory() => Err(DhatFault::NoMemory),
+        Err(_) => Err(DhatFault::NotJson),
+    }
+}
+
+fn read_value(alloc: Global, value: &Value) -> Result<Dhat, DhatFault>
+    ensures exact { Answers result (dhat_in (view value.now)) }
+    ensures texts { IfOk result HasTexts }
+{
+    let head = read_head(alloc, value)?;
+    let units = read_units(alloc, value)?;
+    let run = read_run(alloc, value)?;
+    let ftbl = read_table(alloc, value)?;
+    let shape = Shape {
+        bklt: head.bklt,
+        bkacc: head.bkacc,
+        frames: ftbl.len(),
+    };
+    let pps = read_all_points(alloc, value, shape)?;
+    Ok(join_parts(head, units, run, ftbl, pps))
+}
+
+fn read_head(alloc: Global, value: &Value) -> Result<Head, DhatFault>
+    ensures read { Reads result (first_of (head_findings (view value.now))) (head_in (view value.now)) }
+    ensures utf8 { IfOk result (λ head. IsUtf8 head.mode × IsUtf8 head.verb) }
+{
+    if !value.is_object() {
+        return Err(DhatFault::NotJson);
+    }
+    check_version(value)?;
+    let mode = read_text(alloc, value, Key::Mode)?;
+    let verb = read_text(alloc, value, Key::Verb)?;
+    let bklt = read_flag(value, Key::Bklt)?;
+    let bkacc = read_flag(value, Key::Bkacc)?;
+    Ok(Head {
+        mode,
+        verb,
+        bklt,
+        bkacc,
+    })
+}
+
+fn check_version(value: &Value) -> Result<(), DhatFault>
+    ensures { Reads result (first_of (version_findings (view value.now))) tt }
+{
+    let Some(version) = member(value, Key::DhatFileVersion) else {
+        return Err(DhatFault::MissingKey {
+            point: None,
+            key: Key::DhatFileVersion,
+        });
+    };
+    match version.as_u64() {
+        Some(VERSION) => Ok(()),
+        _ => Err(DhatFault::WrongFileVersion),
+    }
+}
+
+fn read_units(alloc: Global, value: &Value) -> Result<Units, DhatFault>
+    ensures read { Reads result (first_of (unit_findings (view value.now))) (units_in (view value.now)) }
+    ensures utf8 { IfOk result (λ units. IfSome units.bu IsUtf8 × IfSome units.bsu IsUtf8
+        × IfSome units.bksu IsUtf8 × IsUtf8 units.tu × IsUtf8 units.mtu) }
+{
+    Ok(Units {
+        bu: read_optional_text(alloc, value, Key::Bu)?,
+        bsu: read_optional_text(alloc, value, Key::Bsu)?,
+        bksu: read_optional_text(alloc, value, Key::Bksu)?,
+        tu: read_text(alloc, value, Key::Tu)?,
+        mtu: read_text(alloc, value, Key::Mtu)?,
+        tuth: read_optional_whole(value, Key::Tuth)?,
+    })
+}
+
+fn read_run(alloc: Global, value: &Value) -> Result<Run, DhatFault>
+    ensures read { Reads result (first_of (run_findings (view value.now))) (run_in (view value.now)) }
+    ensures utf8 { IfOk result (λ run. IsUtf8 run.cmd) }
+{
+    Ok(Run {
+        cmd: read_text(alloc, value, Key::Cmd)?,
+        pid: read_whole(value, None, Key::Pid)?,
+        te: read_whole(value, None, Key::Te)?,
+        tg: read_optional_whole(value, Key::Tg)?,
+    })
+}
+
+fn read_table(alloc: Global, value: &Value) -> Result<Texts, DhatFault>
+    ensures read { Reads result (first_of (table_findings (view value.now)))
+        (map text_in (list_at Key.Ftbl (view value.now))) }
+    ensures utf8 { IfOk result (All IsUtf8) }
+{
+    let values = read_list(value, None, Key::Ftbl)?;
+    let mut texts = Texts::new(alloc);
+    for text in values {
+        texts.push(read_entry(alloc, text)?)?;
+    }
+    Ok(texts)
+}
+
+// One text of the table.
+fn read_entry(alloc: Global, value: &Value) -> Result<Text, DhatFault>
+    ensures read { Reads result (other_kind as_str None Key.Ftbl (view value.now)) (text_in (view value.now)) }
+    ensures utf8 { IfOk result IsUtf8 }
+{
+    let Some(text) = value.as_str() else {
+        return Err(DhatFault::WrongKind {
+            point: None,
+            key: Key::Ftbl,
+        });
+    };
+    Ok(Text::new(alloc, text.as_bytes())?)
+}
+
+fn read_all_points(alloc: Global, value: &Value, shape: Shape) -> Result<Points, DhatFault>
+    ensures { Reads result (first_of (listed_points_findings shape.bklt shape.bkacc shape.frames (view value.now)))
+        (map (point_in shape.bklt shape.bkacc) (list_at Key.Pps (view value.now))) }
+{
+    let values = read_list(value, None, Key::Pps)?;
+    if values.len() >= TOO_MANY {
+        return Err(DhatFault::TooMany);
+    }
+    read_points(alloc, values, shape)
+}
