@@ -151,7 +151,13 @@ fn take_step(ledger: &mut Ledger, peak: &mut Peak, step: Step) -> Result<(), Lin
 }
 
 /// Takes an event into the ledger and the peak; a clock value changes neither's figures.
-pub(crate) fn take_event(ledger: &mut Ledger, peak: &mut Peak, event: Event) -> Result<(), EventFault>
+// Where lines come in batches, the kind of the event is known at the call.
+#[inline(always)]
+pub(crate) fn take_event(
+    ledger: &mut Ledger,
+    peak: &mut Peak,
+    event: Event,
+) -> Result<(), EventFault>
     requires held { IsHeld ledger.old event }
     requires room { 4 * ledger.old.totals.events + least_length_of event ≤ 2 ^ 34 }
     ensures ledger { OnOk result ((taken : List Event) → ledger_spec.StandsFor ledger.old taken → ledger_spec.StandsFor ledger.new (taken ++ event ∷ [])) }
