@@ -3,6 +3,7 @@
 #![tactic(auto)]
 
 mod error;
+mod first_lines;
 mod frame;
 mod frame_text;
 mod infos;

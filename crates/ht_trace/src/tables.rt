@@ -13,7 +13,7 @@ ghost use Rattle.ht_trace.specs.FrameText.{HasNoFunction, frame_text, function_a
 ghost use Rattle.ht_trace.specs.HeldStack.{HasHeldStack};
 ghost use Rattle.ht_trace.specs.IsFrame.{IsFrame};
 ghost use Rattle.ht_trace.specs.LedgerFits.{CanTake, Grows, IsBeside, least_length};
-ghost use Rattle.ht_trace.specs.LineFault.{Tells, end_fault, line_fault_after, may_stand_first, pattern_fault};
+ghost use Rattle.ht_trace.specs.LineFault.{Tells, end_fault, line_fault_after, pattern_fault};
 ghost use Rattle.ht_trace.specs.PassesEvents.{PassesEvents};
 ghost use Rattle.ht_trace.specs.Pattern.{pattern_at};
 ghost use Rattle.ht_trace.specs.StackFrames.{frames, stack_frames};
@@ -24,6 +24,7 @@ ghost use Rattle.ht_trace.specs.TableState.{TableState};
 ghost use Rattle.ht_trace.specs.TraceEvents.{events};
 
 use crate::error::LineError;
+use crate::first_lines::may_stand_first;
 use crate::frame::{FrameAt, Style};
 use crate::frame_text::put_text;
 use crate::infos::{InfoEntry, InfoTable};
@@ -394,15 +395,5 @@ impl Tables {
                 size,
             },
         })
-    }
-}
-
-/// Whether a line may stand before the version line: a comment, or a line of the version line's kind.
-fn may_stand_first(line: &[u8]) -> bool
-    ensures { result ≡ may_stand_first line.now }
-{
-    match line {
-        [] => false,
-        [kind, ..] => *kind == b'#' || *kind == b'v',
     }
 }
