@@ -70,22 +70,22 @@ AreLinksFrom-more nodes firsts nexts m node links above at parent_within = recor
   first = λ n within. elim (cases_eq n node.parent) [
     | inl is ↦ as_parent n is
     | inr other ↦
-      let P : ℕ → Type 0 = λ child. IsLink nodes n m child in
-      let old = links.first n within in
-      let kept : slice_index (set firsts node.parent m) n ≡ slice_index firsts n = get_or-set_other firsts node.parent n m 0 other in
-      subst P (sym kept) (record {
-        rest = children_from-step nodes n m inside ∙ cond-false (has_parent nodes n m) (m ∷ children_from nodes n (m + 1)) (children_from nodes n (m + 1)) (not_parent n other) ∙ old.rest;
-        within = old.within;
-        parent = old.parent;
-      })
+        let P : ℕ → Type 0 = λ child. IsLink nodes n m child in
+        let old = links.first n within in
+        let kept : slice_index (set firsts node.parent m) n ≡ slice_index firsts n = get_or-set_other firsts node.parent n m 0 other in
+        subst P (sym kept) (record {
+          rest = children_from-step nodes n m inside ∙ cond-false (has_parent nodes n m) (m ∷ children_from nodes n (m + 1)) (children_from nodes n (m + 1)) (not_parent n other) ∙ old.rest;
+          within = old.within;
+          parent = old.parent;
+        })
   ];
   next = λ k child past child_at. elim (cases_lt m k) [
     | inr here ↦ at_node k child (omega arith) child_at
     | inl later ↦
-      let other : k ≢ m = λ is. absurd (omega arith) in
-      let P : ℕ → Type 0 = λ next. IsLink nodes child.parent (k + 1) next in
-      let kept : slice_index (set nexts m (slice_index firsts node.parent)) k ≡ slice_index nexts k = get_or-set_other nexts m k (slice_index firsts node.parent) 0 other in
-      subst P (sym kept) (links.next k child (omega arith) child_at)
+        let other : k ≢ m = λ is. absurd (omega arith) in
+        let P : ℕ → Type 0 = λ next. IsLink nodes child.parent (k + 1) next in
+        let kept : slice_index (set nexts m (slice_index firsts node.parent)) k ≡ slice_index nexts k = get_or-set_other nexts m k (slice_index firsts node.parent) 0 other in
+        subst P (sym kept) (links.next k child (omega arith) child_at)
   ];
 }
   where
@@ -103,7 +103,7 @@ AreLinksFrom-more nodes firsts nexts m node links above at parent_within = recor
         let its : has_parent nodes node.parent m ≡ true = has_parent-at nodes node.parent m node at ∙ eq-eqb node.parent node.parent refl in
         let link : IsLink nodes node.parent m m = record {
           rest = children_from-step nodes node.parent m inside ∙ cond-true (has_parent nodes node.parent m) (m ∷ children_from nodes node.parent (m + 1)) (children_from nodes node.parent (m + 1)) its
-            ∙ sym (chain-some nodes node.parent m (λ none. absurd (omega arith)));
+              ∙ sym (chain-some nodes node.parent m (λ none. absurd (omega arith)));
           within = inside;
           parent = λ child some child_at. ap (λ (x : CostNode). x.parent) (same_Some child node (sym child_at ∙ at));
         } in
@@ -197,8 +197,8 @@ contains_ranged p a (suc count) m low high passes =
     (λ other. elim (cases_lt a m) [
       | inl later ↦ contains_ranged p (a + 1) count m (omega arith) (omega arith) passes
       | inr first ↦
-        let is : m ≡ a = omega arith in
-        absurd (false≢true (sym other ∙ ap p (sym is) ∙ passes))
+          let is : m ≡ a = omega arith in
+          absurd (false≢true (sym other ∙ ap p (sym is) ∙ passes))
     ])
 
 ordered : (p : ℕ → Bool) (a count : ℕ) → AllPairs (λ x y. x < y) (filter p (range_with_len a count))

@@ -81,7 +81,7 @@ lists_of-last names old new added earlier last some becomes is =
     let more = length_push earlier last in
     let place : length earlier ≡ length old - 1 = omega arith in
     let last_is : last ≡ texts_of names vec.0.items =
-        sym (get_or_at earlier last [] [] (length old - 1) place) ∙ ap (λ (xs : List (List (List ℕ))). get_or xs (length old - 1) []) (sym is) ∙ get-lists_of names old (length old - 1) vec.0 vec.1 in
+    sym (get_or_at earlier last [] [] (length old - 1) place) ∙ ap (λ (xs : List (List (List ℕ))). get_or xs (length old - 1) []) (sym is) ∙ get-lists_of names old (length old - 1) vec.0 vec.1 in
     ap (λ (lists : List (Vec ℕ)). lists_of names lists) now.2
     ∙ map-set (λ (v : Vec ℕ). texts_of names v.items) old (length old - 1) now.0
     ∙ ap (λ (lists : List (List (List ℕ))). set lists (length old - 1) (texts_of names now.0.items)) is

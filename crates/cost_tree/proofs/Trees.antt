@@ -83,14 +83,14 @@ IsTreeOf-grown names edges nodes stacks depth has =
       short = grown.short;
       figures = λ n front node front_at node_at. figures_of n front node front_at node_at;
       below = λ n front node above front_at node_at.
-        let edge = HasEdge-is names edges nodes fronts n node are above node_at in
-        record {
-          lower = edge.lower;
-          text = text_of names edge.edge.text;
-          parent_front = edge.parent_front;
-          parent = edge.parent;
-          longer = sym (get_or_from_slice_get fronts n front [] front_at) ∙ get_or_from_slice_get fronts n (edge.parent_front ++ text_of names edge.edge.text ∷ []) [] edge.front;
-        };
+          let edge = HasEdge-is names edges nodes fronts n node are above node_at in
+          record {
+            lower = edge.lower;
+            text = text_of names edge.edge.text;
+            parent_front = edge.parent_front;
+            parent = edge.parent;
+            longer = sym (get_or_from_slice_get fronts n front [] front_at) ∙ get_or_from_slice_get fronts n (edge.parent_front ++ text_of names edge.edge.text ∷ []) [] edge.front;
+          };
       root_parent = are.root_parent;
       brothers = λ m n older younger above later older_at younger_at same. brothers_of m n older younger above later older_at younger_at same;
     }
@@ -117,7 +117,7 @@ IsTreeOf-grown names edges nodes stacks depth has =
         let front_m : List (List ℕ) = edge_m.parent_front ++ text_of names edge_m.edge.text ∷ [] in
         let front_n : List (List ℕ) = edge_n.parent_front ++ text_of names edge_n.edge.text ∷ [] in
         let parents : edge_m.parent_front ≡ edge_n.parent_front =
-            sym (get_or_from_slice_get fronts older.parent edge_m.parent_front [] edge_m.parent) ∙ ap (λ (k : ℕ). get_or fronts k []) same ∙ get_or_from_slice_get fronts younger.parent edge_n.parent_front [] edge_n.parent in
+        sym (get_or_from_slice_get fronts older.parent edge_m.parent_front [] edge_m.parent) ∙ ap (λ (k : ℕ). get_or fronts k []) same ∙ get_or_from_slice_get fronts younger.parent edge_n.parent_front [] edge_n.parent in
         let parent_lengths = ap (λ (xs : List (List ℕ)). length xs) parents in
         let length_m = length_push edge_m.parent_front (text_of names edge_m.edge.text) in
         let length_n = length_push edge_n.parent_front (text_of names edge_n.edge.text) in
@@ -128,9 +128,9 @@ IsTreeOf-grown names edges nodes stacks depth has =
         let order = has.grown.order m n older younger above (omega arith) older_at younger_at in
         elim (cases_eq older.first younger.first) [
           | inl equal ↦
-            let fronts_same = same_least front_m front_n stacks some_m some_n (omega arith) (sym first_m ∙ equal ∙ first_n) in
-            let places = are.distinct m n front_n (edge_m.front ∙ ap (λ (xs : List (List ℕ)). Some xs) fronts_same) edge_n.front in
-            absurd (omega arith)
+              let fronts_same = same_least front_m front_n stacks some_m some_n (omega arith) (sym first_m ∙ equal ∙ first_n) in
+              let places = are.distinct m n front_n (edge_m.front ∙ ap (λ (xs : List (List ℕ)). Some xs) fronts_same) edge_n.front in
+              absurd (omega arith)
           | inr apart ↦ omega arith
         ]
 

@@ -7,7 +7,7 @@ pub each_child-smaller : goal.each_child-smaller
 each_child-smaller c =
     let now = c.each_child.invariant in
     let step = IsWalk-read c.self.inside.nodes.items c.self.inside.links.first_children.items c.self.inside.links.next_brothers.items c.args.n c.each_child.child c.index-child-in-each_child.result.now
-        c.self.invariant.links now.walk c.each_child-test.true c.index-child-in-each_child.ensures in
+    c.self.invariant.links now.walk c.each_child-test.true c.index-child-in-each_child.ensures in
     let longer = ap (λ (xs : List ℕ). length xs) step.1 in
     omega arith
 
@@ -15,13 +15,13 @@ pub each_child-preserved : goal.each_child-preserved
 each_child-preserved c =
     let now = c.each_child.invariant in
     let step = IsWalk-read c.self.inside.nodes.items c.self.inside.links.first_children.items c.self.inside.links.next_brothers.items c.args.n c.each_child.child c.index-child-in-each_child.result.now
-        c.self.invariant.links now.walk c.each_child-test.true c.index-child-in-each_child.ensures in
+    c.self.invariant.links now.walk c.each_child-test.true c.index-child-in-each_child.ensures in
     let left : List ℕ = chain c.self.inside.nodes.items c.args.n c.index-child-in-each_child.result.now in
     record {
       walk = step.0;
       rest = ap (λ (xs : List ℕ). xs ++ left) c.in_ok-push.ensures.items
-        ∙ append_assoc c.each_child.out.items (c.each_child.child ∷ []) left
-        ∙ ap (λ (xs : List ℕ). c.each_child.out.items ++ xs) (sym step.1)
-        ∙ now.rest;
+          ∙ append_assoc c.each_child.out.items (c.each_child.child ∷ []) left
+          ∙ ap (λ (xs : List ℕ). c.each_child.out.items ++ xs) (sym step.1)
+          ∙ now.rest;
       room = omega arith;
     }

@@ -8,7 +8,7 @@ abbrev pub invariant-each_child : goal.invariant-each_child
 invariant-each_child l = record {
   walk : IsWalk l.self-inside.nodes.items l.n l.child;
   rest : l.out.items ++ chain l.self-inside.nodes.items l.n l.child ≡ l.initial.out.items ++ children_of l.self-inside.nodes.items l.n;
-  room : vec_capacity l.initial.out ≤ vec_capacity l.out
+  room : vec_capacity l.initial.out ≤ vec_capacity l.out;
 }
 
 abbrev pub decreases-each_child : goal.decreases-each_child
