@@ -1,5 +1,5 @@
 -- Lemmas on the nodes of a tree, as one is found or made.
-use Rattle.std.proofs.Common.{◌≡◌, ◌≢◌, ℕ, zero, suc, ◌+◌, ◌-◌, ◌<◌, ◌≤◌, ◌⊎◌, inl, inr, List, [], ◌∷◌, ◌++◌, length, get_or, set, None, Some, refl, sym, ap, ◌∙◌, subst, arith, length-append}
+use Rattle.std.proofs.Common.{◌≡◌, ◌≢◌, ℕ, zero, suc, ◌+◌, ◌<◌, ◌≤◌, inl, inr, List, [], ◌∷◌, ◌++◌, length, get_or, set, Some, refl, sym, ap, ◌∙◌, subst, arith}
 use Rattle.std.specs.Prelude.{slice_get}
 use Rattle.std.proofs.lemmas.Bool.{cases_lt}
 use Rattle.std.proofs.lemmas.List.{length-set, length_push, get_or_append_left, same_from_push}
@@ -10,11 +10,11 @@ use Rattle.cost_tree.specs.declared.branches.Edge.{Edge}
 use Rattle.cost_tree.specs.declared.node.CostNode.{CostNode}
 use Rattle.cost_tree.specs.Costed.{Costed}
 use Rattle.cost_tree.specs.Growth.{IsBranch, AreBranches, CountsFront, IsGrown, IsChild}
-use Rattle.cost_tree.specs.Inclusive.{inclusive, own, least}
+use Rattle.cost_tree.specs.Inclusive.{inclusive, own}
 use Rattle.cost_tree.specs.Texts.{IsText, text_of, next_front, fronts_of}
 use Rattle.cost_tree.proofs.Lists.{get-push_old, get-push_new, get-push_cases, get-set_cases}
 use Rattle.cost_tree.proofs.Naming.{same_number}
-use Rattle.cost_tree.proofs.Sums.{least-within, own-le-inclusive}
+use Rattle.cost_tree.proofs.Sums.{least-within}
 
 -- an edge more is a front more
 pub fronts_of-push : (names : List (List ℕ)) (edges : List Edge) (edge : Edge) → fronts_of names (edges ++ edge ∷ []) ≡ fronts_of names edges ++ next_front names (fronts_of names edges) edge ∷ []

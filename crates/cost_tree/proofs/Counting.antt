@@ -1,13 +1,13 @@
 -- Lemmas on a tree as a stack's cost is counted at a node.
-use Rattle.std.proofs.Common.{◌≡◌, ◌≢◌, ℕ, zero, suc, ◌+◌, ◌-◌, ◌<◌, ◌≤◌, ◌⊎◌, inl, inr, ◌==◌, cond, List, [], ◌∷◌, ◌++◌, length, get_or, set, None, Some, refl, sym, ap, ◌∙◌, subst, arith}
-use Rattle.std.specs.Prelude.{slice_get, if◌then◌else◌}
+use Rattle.std.proofs.Common.{◌≡◌, ◌≢◌, ℕ, ◌+◌, ◌<◌, ◌≤◌, inl, inr, ◌==◌, List, [], ◌∷◌, ◌++◌, length, set, Some, refl, sym, ap, ◌∙◌, subst, arith}
+use Rattle.std.specs.Prelude.{slice_get}
 use Rattle.std.proofs.lemmas.Bool.{cases_eq, cases_lt, cond-true, cond-false, eq-eqb, ne_eqb}
 use Rattle.std.proofs.lemmas.Option.{same_Some}
 use Rattle.cost_tree.specs.declared.branches.Edge.{Edge}
 use Rattle.cost_tree.specs.declared.node.CostNode.{CostNode}
 use Rattle.cost_tree.specs.Costed.{Costed}
 use Rattle.cost_tree.specs.Growth.{AreBranches, CountsFront, IsGrown, counted}
-use Rattle.cost_tree.specs.Inclusive.{inclusive, own, least}
+use Rattle.cost_tree.specs.Inclusive.{inclusive, own}
 use Rattle.cost_tree.proofs.Lists.{get-set_cases}
 use Rattle.cost_tree.proofs.Prefixes.{same_or_not}
 use Rattle.cost_tree.proofs.Sums.{AddsAt, SameTo, own-push_same, own-push_other}

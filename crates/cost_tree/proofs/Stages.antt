@@ -1,8 +1,8 @@
 -- Lemmas on a tree while a stack is added, text by text.
-use Rattle.std.proofs.Common.{◌≡◌, ◌≢◌, ℕ, zero, suc, ◌+◌, ◌-◌, ◌^◌, ◌<◌, ◌≤◌, min, ◌⊎◌, inl, inr, List, [], ◌∷◌, ◌++◌, length, get_or, set, take, map, sum, None, Some, refl, sym, ap, ◌∙◌, subst, arith}
-use Rattle.std.specs.Prelude.{All, slice_get, slice_index, sum_by}
+use Rattle.std.proofs.Common.{◌≡◌, ℕ, zero, suc, ◌+◌, ◌^◌, ◌<◌, ◌≤◌, min, List, [], ◌∷◌, ◌++◌, length, get_or, set, take, sum, Some, refl, sym, ap, ◌∙◌, subst, arith}
+use Rattle.std.specs.Prelude.{All, slice_get, slice_index}
 use Rattle.std.specs.Global.{Vec}
-use Rattle.std.proofs.lemmas.List.{length-map, length-take, length-take-le, length_push, take-map, take_more, take_all}
+use Rattle.std.proofs.lemmas.List.{length-map, length-take-le, length_push, take_more, take_all}
 use Rattle.std.proofs.lemmas.List.Elements.{All-head, All-tail}
 use Rattle.std.proofs.lemmas.List.Sums.{sum_by-cons, sum_by-take-le}
 use Rattle.std.proofs.lemmas.Option.{same_Some, none-some, slice_get_within, slice_get-get_or, slice_get_read, get_or_from_slice_get}
@@ -13,7 +13,7 @@ use Rattle.cost_tree.specs.Costed.{Costed, costed}
 use Rattle.cost_tree.specs.Growth.{AreBranches, IsGrown, IsChild, HasGrown, IsStage, AreStacks, numbers_at, stacks_before, counted}
 use Rattle.cost_tree.specs.Inclusive.{inclusive, own}
 use Rattle.cost_tree.specs.Texts.{IsText, AreLists, text_of, texts_of, lists_of, fronts_of}
-use Rattle.cost_tree.proofs.Branching.{WithChild, WithChild-is, AreBranches-set}
+use Rattle.cost_tree.proofs.Branching.{WithChild-is, AreBranches-set}
 use Rattle.cost_tree.proofs.Counting.{IsGrown-counted, IsGrown-same, IsGrown-own}
 use Rattle.cost_tree.proofs.Sums.{total, total-push, inclusive-push, inclusive-le-total, own-le-inclusive, AddsAt, AddsAt-begin, AddsAt-more, SameTo, SameTo-end, SameTo-free, own-free, own-push_other}
 

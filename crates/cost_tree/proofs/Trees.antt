@@ -1,5 +1,5 @@
 -- A tree that has grown is the tree of its stacks.
-use Rattle.std.proofs.Common.{◌≡◌, ◌≢◌, ℕ, zero, suc, ◌+◌, ◌-◌, ◌<◌, ◌≤◌, ◌⊎◌, inl, inr, Bool, true, false, ◌&&◌, List, [], ◌∷◌, ◌++◌, length, take, get_or, Option, None, Some, Bor, refl, sym, ap, ◌∙◌, subst, arith}
+use Rattle.std.proofs.Common.{◌≡◌, ℕ, zero, suc, ◌+◌, ◌-◌, ◌<◌, inl, inr, true, ◌&&◌, List, [], ◌∷◌, ◌++◌, length, take, get_or, Option, None, Some, Bor, sym, ap, ◌∙◌, subst, arith}
 use Rattle.std.specs.Prelude.{IfSome, IsSome, slice_get, nat_lt, unwrap_or}
 use Rattle.std.proofs.lemmas.Bool.{cases_eq, and_parts, false≢true}
 use Rattle.std.proofs.lemmas.List.{length_push}
@@ -11,9 +11,8 @@ use Rattle.cost_tree.specs.declared.node.CostNode.{CostNode}
 use Rattle.cost_tree.specs.Costed.{Costed}
 use Rattle.cost_tree.specs.Growth.{AreBranches, HasGrown}
 use Rattle.cost_tree.specs.Inclusive.{has_front, inclusive, least}
-use Rattle.cost_tree.specs.IsTreeOf.{HasFigures, IsBelow, IsTreeOf}
+use Rattle.cost_tree.specs.IsTreeOf.{HasFigures, IsTreeOf}
 use Rattle.cost_tree.specs.Texts.{IsText, text_of, next_front, fronts_of}
-use Rattle.cost_tree.specs.TreeState.{TreeState}
 use Rattle.cost_tree.proofs.Prefixes.{has_front-Decides}
 use Rattle.cost_tree.proofs.Sums.{least-within}
 

@@ -7,7 +7,7 @@ use Rattle.cost_tree.specs.declared.branches.Edge.{Edge}
 use Rattle.cost_tree.specs.declared.node.CostNode.{CostNode}
 use Rattle.cost_tree.specs.Costed.{Costed, costed}
 use Rattle.cost_tree.specs.Inclusive.{inclusive, own, least}
-use Rattle.cost_tree.specs.Texts.{IsText, texts_of, lists_of, next_front, fronts_of}
+use Rattle.cost_tree.specs.Texts.{IsText, lists_of, next_front, fronts_of}
 
 -- a node after a stack that costs something is counted for it
 abbrev pub counted : CostNode → ℕ → ℕ → CostNode

@@ -6,9 +6,10 @@ use Rattle.cost_tree.proofs.tests.names_of_a_list.Goals as goal
 
 -- a name is the one of the list where it has the same bytes
 listed : (only name : List ℕ) (answer : Bool) → answer ≡ bytes_eq name only → (IsTrue answer ↔ Contains (only ∷ []) name)
-listed only name answer is =
-    ((λ yes'. (0, omega arith, sym ((bytes_eq-Decides name only).0 (sym is ∙ yes')))),
-    (λ held. is ∙ (bytes_eq-Decides name only).1 (sym (here held.0 held.1 held.2))))
+listed only name answer is = (
+  (λ yes'. (0, omega arith, sym ((bytes_eq-Decides name only).0 (sym is ∙ yes')))),
+  (λ held. is ∙ (bytes_eq-Decides name only).1 (sym (here held.0 held.1 held.2))),
+)
   where
     here : (k : ℕ) → k < length (only ∷ []) → get_or (only ∷ []) k name ≡ name → only ≡ name
     here zero within same = same

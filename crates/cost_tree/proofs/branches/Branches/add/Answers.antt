@@ -1,4 +1,4 @@
-use Rattle.std.proofs.Common.{◌≡◌, ℕ, min, length, refl, sym, ap, subst, arith}
+use Rattle.std.proofs.Common.{◌≡◌, min, length, refl, sym, subst, arith}
 use Rattle.std.specs.Prelude.{slice_index, slice_set}
 use Rattle.std.proofs.lemmas.Option.{slice_get_read}
 use Rattle.cost_tree.specs.declared.node.CostNode.{CostNode}

@@ -1,5 +1,4 @@
-use Rattle.cost_tree.proofs.Stages.{Extends-is}
-use Rattle.std.proofs.Common.{Bool, true, false, not, refl, sym, ◌∙◌}
+use Rattle.std.proofs.Common.{refl, sym, ◌∙◌}
 use Rattle.std.proofs.lemmas.Bool.{not-true}
 use Rattle.cost_tree.proofs.Edges.{IsChild-made}
 use Rattle.cost_tree.proofs.branches.Branches.child.Goals as goal

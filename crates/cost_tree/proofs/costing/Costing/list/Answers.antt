@@ -1,8 +1,6 @@
 use Rattle.std.proofs.Common.{ℕ, List, [], ◌∷◌, ◌++◌, sym, ap, ◌∙◌, arith}
 use Rattle.std.proofs.lemmas.List.{take_all}
 use Rattle.cost_tree.proofs.Lists.{take-next}
-use Rattle.cost_tree.proofs.Linking.{IsWalk-next}
-use Rattle.cost_tree.proofs.Copying.{copied}
 use Rattle.cost_tree.proofs.costing.Costing.list.Goals as goal
 
 pub loop-stack-preserved : goal.loop-stack-preserved

@@ -2,7 +2,7 @@ use Rattle.std.proofs.Common.{ℕ, List, [], ◌∷◌, ◌++◌, ap, ◌∙◌}
 use Rattle.std.proofs.lemmas.List.Elements.{All-nil, All-cons}
 use Rattle.std.proofs.lemmas.Result.{err_from_is_err_and}
 use Rattle.cost_tree.specs.Texts.{IsText}
-use Rattle.cost_tree.proofs.Listing.{Pushed, Pushed-is, lists_of-last, lists_of-kept, text-named}
+use Rattle.cost_tree.proofs.Listing.{Pushed-is, lists_of-last, lists_of-kept, text-named}
 use Rattle.cost_tree.proofs.fronts.Fronts.push.Goals as goal
 
 pub invariant_of-self-in_err-push_last : goal.invariant_of-self-in_err-push_last

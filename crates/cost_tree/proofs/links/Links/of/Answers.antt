@@ -1,4 +1,4 @@
-use Rattle.std.proofs.Common.{◌≡◌, ℕ, ◌+◌, length, replicate, arith, rules}
+use Rattle.std.proofs.Common.{◌≡◌, ◌+◌, length, replicate, arith, rules}
 use Rattle.cost_tree.proofs.Linking.{AreLinksFrom-start, AreLinksFrom-read}
 use Rattle.cost_tree.proofs.links.Links.of.Goals as goal
 
