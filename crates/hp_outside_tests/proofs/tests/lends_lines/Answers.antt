@@ -1,5 +1,5 @@
 -- The bytes that are lent are one line with its line feed.
-use Rattle.std.proofs.Common.{rules, ◌≡◌, ◌≢◌, ◌<◌, ℕ, List, [], ◌∷◌, take, refl, arith, All}
+use Rattle.std.proofs.Common.{rules, ◌≡◌, ◌≢◌, ◌<◌, ℕ, List, [], ◌∷◌, take, refl, arith}
 use Rattle.std.proofs.lemmas.List.Elements.{All-cons, All-nil}
 use Rattle.hp_outside.specs.WholeLines.{IsLineText, IsWholeLines}
 use Rattle.hp_outside_tests.proofs.tests.lends_lines.Goals as goal
