@@ -5,3 +5,4 @@ pub mod Views
 pub mod Lists
 pub mod PossibleLemmas
 pub mod Stands
+pub mod Infos

@@ -13,3 +13,4 @@ pub mod Sums
 pub mod Consistent
 pub mod Changes
 pub mod Sound
+pub mod ByInfo

@@ -5,6 +5,7 @@
 mod cells;
 mod event;
 mod figures;
+mod laws;
 mod ledger;
 mod steps;
 mod sums;
@@ -15,6 +16,7 @@ mod totals;
 pub use cells::Cells;
 pub use event::{Event, EventFault};
 pub use figures::Figures;
+pub use laws::{possible_events, sums_by_info};
 pub use ledger::Ledger;
 pub use steps::Steps;
 pub use totals::Totals;
