@@ -3,6 +3,9 @@
 use crate::lists::{FrameList, Points, Texts};
 use hp_num::Text;
 
+/// The version of the format.
+pub(crate) const VERSION: u64 = 2;
+
 /// What is known of the lifetimes of a point's blocks.
 #[derive(Clone, Copy, Debug, PartialEq, Eq)]
 pub struct Life {

@@ -19,13 +19,10 @@ use crate::member::{
 };
 use crate::parts::{Head, Run, Units, join_parts};
 use crate::point::{Shape, read_points};
-use crate::profile::Dhat;
+use crate::profile::{Dhat, VERSION};
 use hp_num::Text;
 use serde_json::Value;
 use std::alloc::Global;
-
-/// The version of the format.
-const VERSION: u64 = 2;
 
 /// The number of points that can't be numbered any more.
 const TOO_MANY: usize = 0xffff_ffff;

@@ -11,16 +11,13 @@ ghost use Rattle.dhat_json.specs.Groups.{unit_members, run_members, points_membe
 
 use crate::key::Key;
 use crate::lists::Points;
-use crate::profile::{Dhat, Point};
+use crate::profile::{Dhat, Point, VERSION};
 use crate::tokens::{
     put_flag, put_frames, put_optional_text, put_optional_whole, put_table, put_text, put_whole,
 };
 use hp_num::NoMemory;
 use json::Writer;
 use std::alloc::Global;
-
-/// The version of the format.
-const VERSION: u64 = 2;
 
 /// The profile's text: the compact JSON of one object, its keys in the order of their bytes, without the optional keys
 /// that are absent. Read again it is the same profile.
