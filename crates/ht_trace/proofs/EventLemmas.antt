@@ -1,5 +1,5 @@
 -- Lines of events of held infos.
-use Rattle.std.proofs.Common.{◌≡◌, ℕ, ◌<◌, true, List, [], ◌∷◌, ◌++◌, length, Option, Some, None, Ok, refl, sym, ap, ◌∙◌, arith}
+use Rattle.std.proofs.Common.{◌≡◌, ℕ, true, List, Option, Some, Ok, refl, sym, ap, ◌∙◌, arith}
 use Rattle.std.specs.Prelude.{◌||◌, Bool, is_some, slice_get, unwrap_or}
 use Rattle.std.specs.Option.{option_map}
 use Rattle.std.proofs.lemmas.Bool.Decides.{nat_tests}
@@ -13,7 +13,6 @@ use Rattle.ht_lines.specs.Reading.{reading}
 use Rattle.live_ledger.specs.declared.event.Event.{Event}
 use Rattle.live_ledger.specs.declared.event.Event.TheVariants.{Alloc, Free}
 use Rattle.live_ledger.specs.LedgerState.{HeldInfo}
-use Rattle.ht_trace.specs.declared.step.Step.{Step}
 use Rattle.ht_trace.specs.declared.step.Step.TheVariants as step
 use Rattle.ht_trace.specs.Contents.{contents, file_version}
 use Rattle.ht_trace.specs.LineFault.{fault_in, may_stand_first}

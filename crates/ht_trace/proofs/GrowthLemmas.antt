@@ -1,5 +1,5 @@
 -- Tables that grow: what is held stays.
-use Rattle.std.proofs.Common.{◌≡◌, ℕ, zero, suc, ◌+◌, ◌-◌, ◌<◌, ◌≤◌, Bool, true, false, cond, eqb, List, [], ◌∷◌, ◌++◌, length, Option, Some, None, refl, sym, ap, ◌∙◌, arith, subst, ◌⊎◌, inl, inr, append-nil, append_assoc}
+use Rattle.std.proofs.Common.{◌≡◌, ℕ, zero, suc, ◌-◌, ◌<◌, ◌≤◌, Bool, false, cond, eqb, List, [], ◌∷◌, ◌++◌, length, Option, Some, None, refl, sym, ap, ◌∙◌, arith, subst, ◌⊎◌, inl, inr, append-nil, append_assoc}
 use Rattle.std.specs.Prelude.{◌==◌, if◌then◌else◌, codes, decimal, option_and_then, slice_get, unwrap_or}
 use Rattle.std.specs.Option.{option_map, option_or, option_to_list}
 use Rattle.std.specs.List.{AllByRecursion}
@@ -8,23 +8,20 @@ use Rattle.std.proofs.lemmas.Bool.{cases_lt}
 use Rattle.std.proofs.lemmas.Bool.Decides.{nat_tests}
 use Rattle.std.proofs.lemmas.Option.{same_Some}
 use Rattle.ht_lines.specs.Content.{Content, version_line, command_line, string_line, instruction_line, node_line, info_line, suppression_line}
-use Rattle.stack_table.specs.Continues as node_spec
 use Rattle.stack_table.proofs.Continuing as nodes
-use Rattle.stack_table.specs.Node.{Node}
-use Rattle.live_ledger.specs.LedgerState.{HeldInfo}
 use Rattle.ht_trace.specs.declared.frame.Frame.{Frame}
 use Rattle.ht_trace.specs.declared.frame.FrameAt.{FrameAt}
 use Rattle.ht_trace.specs.declared.frame.FrameFound.{FrameFound}
 use Rattle.ht_trace.specs.declared.frame.Style.{Style}
 use Rattle.ht_trace.specs.Continues.{Continues, Extends, IsGrown}
-use Rattle.ht_trace.specs.FrameText.{address_text, frame_at, frame_of, frame_text, found_text, function_at, in_module, name_text, no_name, place_text, string_at, text_at, text_of}
+use Rattle.ht_trace.specs.FrameText.{address_text, frame_at, frame_of, frame_text, found_text, function_at, in_module, no_name, string_at, text_at, text_of}
 use Rattle.ht_trace.specs.declared.error.LineError.{LineError}
 use Rattle.ht_trace.specs.declared.step.Step.{Step}
 use Rattle.ht_trace.specs.FramesSaid.{frames_said}
 use Rattle.ht_trace.specs.Instruction.{Instruction, frame_count_of}
 use Rattle.ht_trace.specs.Pattern.{pattern_of}
 use Rattle.ht_trace.specs.IsFrame.{IsFrame, place_count}
-use Rattle.ht_trace.specs.Sound.{IsNamed, IsSound, IsSoundStack}
+use Rattle.ht_trace.specs.Sound.{IsNamed, IsSound}
 use Rattle.ht_trace.specs.StackFrames.{stack_frames}
 use Rattle.ht_trace.specs.StateAfter.{Refuses, Takes, state_after}
 use Rattle.ht_trace.specs.TableState.{TableState}

@@ -30,7 +30,7 @@ use Rattle.ht_trace.specs.StepOf.{event_step, step_in}
 use Rattle.ht_trace.specs.TableState.{TableState}
 use Rattle.ht_trace.specs.FramesSaid.{frames_said, triples, without_file}
 use Rattle.ht_trace.specs.Instruction.{Instruction, frame_count_of}
-use Rattle.ht_trace.specs.LineFault.{append_fault, content_fault, frames_held, growth_fault, held_fault, instruction_fault, most_entries}
+use Rattle.ht_trace.specs.LineFault.{content_fault, frames_held, growth_fault, instruction_fault, most_entries}
 use Rattle.ht_trace.specs.Sound.{IsNamed, IsSound, IsSoundStack}
 use Rattle.ht_trace.specs.StackFrames.{frames_of, no_stack, stack_frames}
 use Rattle.ht_trace.proofs.EntryLemmas.{all-push, all-weaker}

@@ -1,11 +1,9 @@
 -- That tables only grow.
 use Rattle.std.specs.Prelude.{◌≡◌, ℕ, ◌≤◌, List, ◌++◌, length, Some}
 use Rattle.stack_table.specs.Continues as nodes
-use Rattle.live_ledger.specs.LedgerState.{HeldInfo}
 use Rattle.ht_trace.specs.declared.frame.FrameAt.{FrameAt}
 use Rattle.ht_trace.specs.declared.frame.Style.{Style}
 use Rattle.ht_trace.specs.FrameText.{frame_text, function_at}
-use Rattle.ht_trace.specs.Instruction.{Instruction}
 use Rattle.ht_trace.specs.IsFrame.{IsFrame}
 use Rattle.ht_trace.specs.StackFrames.{stack_frames}
 use Rattle.ht_trace.specs.TableState.{TableState}

@@ -1,5 +1,5 @@
 -- That what a line brings speaks of a stack that is held.
-use Rattle.std.specs.Prelude.{ℕ, ◌≤◌, length}
+use Rattle.std.specs.Prelude.{◌≤◌, length}
 use Rattle.live_ledger.specs.declared.event.Event.{Event}
 use Rattle.live_ledger.specs.declared.event.Event.TheVariants.{Alloc, Free, Tick}
 use Rattle.ht_trace.specs.declared.step.Step.{Step}

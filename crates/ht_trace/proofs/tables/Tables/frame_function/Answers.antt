@@ -1,10 +1,10 @@
-use Rattle.std.proofs.Common.{Bor, ◌≡◌, ℕ, zero, suc, ◌-◌, ◌≤◌, Bool, true, false, cond, eqb, List, [], length, get_or, Option, Some, None, refl, sym, ap, ◌∙◌, arith, subst, true≢false}
+use Rattle.std.proofs.Common.{Bor, ◌≡◌, ℕ, zero, suc, ◌-◌, ◌≤◌, Bool, false, cond, eqb, List, [], length, get_or, Option, Some, None, refl, sym, ap, ◌∙◌, arith, subst, true≢false}
 use Rattle.std.specs.Prelude.{is_some, option_and_then, slice_get}
-use Rattle.std.specs.Option.{IsNone, option_copied}
+use Rattle.std.specs.Option.{option_copied}
 use Rattle.std.proofs.lemmas.Bool.Decides.{nat_tests}
 use Rattle.std.proofs.lemmas.Option.{slice_get-get_or}
 use Rattle.ht_trace.specs.declared.frame.FrameFound.{FrameFound}
-use Rattle.ht_trace.specs.FrameText.{HasNoFunction, HasNoFunctionAt, frame_at, function_at, string_at}
+use Rattle.ht_trace.specs.FrameText.{HasNoFunctionAt, frame_at, function_at, string_at}
 use Rattle.ht_trace.specs.TableState.{TableState}
 use Rattle.ht_trace.proofs.GrowthLemmas.{named-found}
 use Rattle.ht_trace.proofs.tables.Tables.frame_function.Goals as goal

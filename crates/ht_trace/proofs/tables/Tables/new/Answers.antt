@@ -1,4 +1,3 @@
-use Rattle.std.proofs.Common.{length}
 use Rattle.ht_trace.proofs.SoundLemmas.{sound-none}
 use Rattle.ht_trace.proofs.tables.Tables.new.Goals as goal
 
