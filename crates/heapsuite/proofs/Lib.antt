@@ -1,9 +1,3 @@
-pub mod PeakLemmas
 pub mod EventLemmas
-pub mod FaultLemmas
-pub mod LineLemmas
-pub mod BatchLemmas
-pub mod LinesLoop
-pub mod FrontLemmas
-pub mod OutcomeLemmas
-pub mod RunLemmas
+pub mod PeakLemmas
+pub mod AskedLemmas

@@ -1,15 +1,14 @@
 pub mod Totals
 pub mod Peak
-pub mod TraceFault
-pub mod TraceReader
 pub mod SummaryText
-pub mod Words
-pub mod Message
-pub mod MessageBytes
+pub mod CommandFault
+pub mod SummaryReport
+pub mod TraceReader
+pub mod Texts
+pub mod SummaryWords
+pub mod Asked
+pub mod Requests
+
+
 pub mod Answer
-pub mod Batch
-pub mod Outcome
-pub mod ReadFaults
-pub mod TraceRead
-pub mod RunOutcome
-pub mod Delivery
+pub mod Run

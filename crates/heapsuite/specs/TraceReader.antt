@@ -1,13 +1,10 @@
 -- Which lines a reader of a trace has read.
-use Rattle.std.specs.Prelude.{◌≡◌, ℕ, List, Option, Some}
+use Rattle.std.specs.Prelude.{◌≡◌, ℕ, List}
 use Rattle.live_ledger.specs.Events.{counted}
 use Rattle.live_ledger.specs.StandsFor as ledger
 use Rattle.ht_trace.specs.LedgerFits.{IsBeside}
 use Rattle.ht_trace.specs.StandsFor as tables
 use Rattle.ht_trace.specs.TraceEvents.{events}
-use Rattle.heapsuite.specs.declared.fault.TraceFault.{TraceFault}
-use Rattle.heapsuite.specs.declared.trace.LineRefusal.{LineRefusal}
-use Rattle.heapsuite.specs.declared.trace.LineRefusal.TheVariants.{Fault, NoMemory}
 use Rattle.heapsuite.specs.declared.trace.TraceReader.{TraceReader}
 use Rattle.heapsuite.specs.Totals.{totals}
 use Rattle.heapsuite.specs.Peak.{peak_of}
@@ -21,8 +18,3 @@ pub record HasRead (reader : TraceReader) (lines : List (List ℕ)) : Type 0 whe
   pub tables_of : tables.StandsFor reader.tables lines
   pub ledger_of : ledger.StandsFor reader.ledger (events lines)
   pub peak : reader.peak ≡ peak_of (totals (counted (events lines)))
-
--- the refusal tells this fault, unless memory was wanting
-abbrev pub Tells : LineRefusal → Option TraceFault → Type 0
-Tells (Fault fault) found = found ≡ Some fault
-Tells NoMemory found = Unit {0}

@@ -1,60 +1,57 @@
-//! The faults of a trace at a line, what they are called, and their statuses. When each comes is decided where the
-//! line is read.
-ghost use Rattle.std.specs.Prelude.{◌≡◌, ◌⊎◌};
-ghost use Rattle.heapsuite.specs.Answer.{fault_status, fault_text, line_status};
-ghost use Rattle.heapsuite.specs.Outcome.{code_of};
+//! The faults of the commands' inputs, what they are called, and their kinds. When each comes is decided where the input is
+//! read.
+ghost use Rattle.std.specs.Prelude.{◌≡◌};
+ghost use Rattle.heapsuite.specs.CommandFault.{event_status, line_status, told};
 
-use crate::outcome::Status;
+use command_frame::{Fault, FaultStatus};
+use hp_num::{NoMemory, put_bytes};
 use ht_trace::LineError;
 use live_ledger::EventFault;
 
-/// What is wrong with a line.
+/// What is wrong with an input.
 #[derive(Clone, Copy, Debug, PartialEq, Eq)]
-pub enum TraceFault {
-    /// The line has more bytes than the limit, within the bytes that a file may have.
-    LineTooLong,
-    /// The file has more bytes than the limit, and the line doesn't end within those.
-    InputTooLong,
-    /// The line can't follow the lines before it.
+pub enum CommandFault {
+    /// The line of a trace can't follow the lines before it.
     Line(LineError),
-    /// The event can't follow the events before it.
+    /// The event of a trace can't follow the events before it.
     Event(EventFault),
 }
 
-impl TraceFault {
+impl CommandFault {
     /// What the fault is called in a message.
-    pub fn text(self) -> &'static str
-        ensures { result.now ≡ fault_text self }
+    fn text(self) -> &'static str
+        ensures { result.now ≡ (told self).text }
     {
         match self {
-            TraceFault::LineTooLong => "line too long",
-            TraceFault::InputTooLong => "input too long",
-            TraceFault::Line(error) => error.text(),
-            TraceFault::Event(fault) => fault.text(),
-        }
-    }
-
-    /// The status of the fault.
-    pub fn status(self) -> Status
-        ensures status { code_of result ≡ fault_status self }
-        ensures malformed_or_past_limit { (code_of result ≡ 1) ⊎ (code_of result ≡ 6) }
-    {
-        match self {
-            TraceFault::LineTooLong | TraceFault::InputTooLong => Status::PastLimit,
-            TraceFault::Line(error) => line_error_status(error),
-            TraceFault::Event(EventFault::FreeOfNothing) => Status::Malformed,
-            TraceFault::Event(EventFault::CostTooLarge) => Status::PastLimit,
+            CommandFault::Line(error) => error.text(),
+            CommandFault::Event(fault) => fault.text(),
         }
     }
 }
 
-/// The status of the fault of a line. Want of memory is no fault of a line, and never told as one.
-fn line_error_status(error: LineError) -> Status
-    ensures status { code_of result ≡ line_status error }
-    ensures malformed_or_past_limit { (code_of result ≡ 1) ⊎ (code_of result ≡ 6) }
+impl Fault for CommandFault {
+    ghost use Rattle.heapsuite.specs.CommandFault.{told as told_of};
+
+    ghost told = { told_of };
+
+    fn put_text(&self, out: &mut Vec<u8>) -> Result<(), NoMemory> {
+        put_bytes(out, self.text().as_bytes())
+    }
+
+    fn status(&self) -> FaultStatus {
+        match self {
+            CommandFault::Line(error) => line_kind(*error),
+            CommandFault::Event(fault) => event_kind(*fault),
+        }
+    }
+}
+
+/// The kind of a line's fault. Want of memory is no fault of a line, and never told as one.
+fn line_kind(error: LineError) -> FaultStatus
+    ensures { result ≡ line_status error }
 {
     match error {
-        LineError::TooDeep | LineError::TooMany => Status::PastLimit,
+        LineError::TooDeep | LineError::TooMany => FaultStatus::PastLimit,
         LineError::BadField
         | LineError::MissingField
         | LineError::ExtraField
@@ -68,6 +65,16 @@ fn line_error_status(error: LineError) -> Status
         | LineError::UnknownParent
         | LineError::UnknownTrace
         | LineError::UnknownAllocation
-        | LineError::NoMemory => Status::Malformed,
+        | LineError::NoMemory => FaultStatus::Malformed,
+    }
+}
+
+/// The kind of an event's fault.
+fn event_kind(fault: EventFault) -> FaultStatus
+    ensures { result ≡ event_status fault }
+{
+    match fault {
+        EventFault::FreeOfNothing => FaultStatus::Malformed,
+        EventFault::CostTooLarge => FaultStatus::PastLimit,
     }
 }

@@ -1,27 +1,22 @@
 //! `heapsuite`: reports on heap traces.
 //!
-//! The program makes the real store and outputs and ends with the status of `run::heapsuite_run`, which has the
-//! program's contract.
+//! The program makes the real store and outputs and ends with the status of `run::heapsuite_main`, which goes to
+//! `run::heapsuite_run`, the program's contract.
 #![tactic(auto)]
 
-mod batch;
-mod command;
-mod deliver;
 mod fault;
-mod message;
-mod outcome;
 mod peak;
-mod read_trace;
 mod run;
+mod run_words;
 mod summary;
+mod summary_command;
+mod texts;
 mod trace;
 mod words;
 
-use deliver::deliver;
 use hp_num::NoMemory;
-use hp_outside::{FsStore, Limits, StdSink};
-use outcome::Outcome;
-use run::heapsuite_run;
+use hp_outside::{FsStore, StdSink};
+use run::heapsuite_main;
 use std::alloc::Global;
 use std::env;
 use std::io::ErrorKind;
@@ -48,17 +43,8 @@ fn main(rt: HostRuntime) -> ExitCode {
     let mut store = FsStore::new(&rt);
     let mut out = StdSink::new(rt.stdout());
     let mut err = StdSink::new(rt.stderr());
-    let status = match given_words(&rt, alloc) {
-        Ok(words) => heapsuite_run(
-            alloc,
-            &words,
-            &Limits::standard(),
-            &mut store,
-            &mut out,
-            &mut err,
-        ),
-        Err(NoMemory) => deliver(&Outcome::no_memory(alloc), &mut out, &mut err),
-    };
+    let words = given_words(&rt, alloc);
+    let status = heapsuite_main(alloc, &words, &mut store, &mut out, &mut err);
     ExitCode::from(status)
 }
 

@@ -1,27 +1,49 @@
 //! Which words are taken, and what they ask for. No file is opened here.
-ghost use Rattle.std.specs.Prelude.{◌≡◌, map, string_bytes, MatchOption, Some, None};
-ghost use Rattle.heapsuite.specs.Words.{is_file_name, summary_file as summary_file_of};
+ghost use Rattle.std.specs.Prelude.{◌≡◌, ◌≢◌, Err, IfOk, None, Some, false, map, string_bytes};
+ghost use Rattle.heapsuite.specs.Asked.{asked, help_asked, knows_first};
+ghost use Rattle.heapsuite.specs.Requests.{asked_of};
 
-/// The trace whose summary the words ask for: they are `summary` and one file's name.
-/// `None` for all other words. It takes no memory.
-pub fn summary_file(words: &[String]) -> Option<&str>
-    ensures { MatchOption result (summary_file_of (map string_bytes words.now) ≡ None)
-        (λ name. summary_file_of (map string_bytes words.now) ≡ Some name.now) }
-{
-    let [command, name] = words else {
-        return None;
-    };
-    let name = name.as_str();
-    if command.as_str() == "summary" && is_file_name(name) {
-        Some(name)
-    } else {
-        None
-    }
+use crate::summary_command::SummaryRequest;
+use command_words::WordsFault;
+use std::alloc::Global;
+
+/// What the words ask for: the list of the commands.
+#[derive(Clone, Copy, Debug)]
+pub enum Request<'a> {
+    /// How the program is called.
+    Help,
+    /// The figures of a trace.
+    Summary(SummaryRequest<'a>),
 }
 
-/// Whether a word names a file: `-` is standard input, and no other name begins with `-`.
-fn is_file_name(word: &str) -> bool
-    ensures { result ≡ is_file_name word.now }
+/// What the words ask for. `NotTaken` exactly where they aren't taken, unless memory is wanting; none is taken for no
+/// words at all, or where the first is unknown.
+pub fn read_words<'a>(alloc: Global, words: &'a [String]) -> Result<Request<'a>, WordsFault>
+    ensures taken { IfOk result (λ request. asked (map string_bytes words.entry.now) ≡ Some (asked_of request)) }
+    ensures refused { result ≡ Err WordsFault.NotTaken → asked (map string_bytes words.entry.now) ≡ None }
+    ensures no_memory { knows_first (map string_bytes words.entry.now) ≡ false → result ≢ Err WordsFault.NoMemory }
 {
-    word == "-" || !word.starts_with('-')
+    let [command, words @ ..] = words else {
+        return Err(WordsFault::NotTaken);
+    };
+    if command.as_str() == "--help" {
+        return help(words);
+    }
+    if command.as_str() == "summary" {
+        let request = SummaryRequest::read(alloc, words)?;
+        return Ok(Request::Summary(request));
+    }
+    Err(WordsFault::NotTaken)
+}
+
+/// `--help` alone.
+fn help<'a>(words: &'a [String]) -> Result<Request<'a>, WordsFault>
+    ensures taken { IfOk result (λ request. help_asked (map string_bytes words.entry.now) ≡ Some (asked_of request)) }
+    ensures refused { result ≡ Err WordsFault.NotTaken → help_asked (map string_bytes words.entry.now) ≡ None }
+    ensures no_memory { result ≢ Err WordsFault.NoMemory }
+{
+    if words.is_empty() {
+        return Ok(Request::Help);
+    }
+    Err(WordsFault::NotTaken)
 }

@@ -1,52 +1,151 @@
-use Rattle.std.proofs.Common.{◌≡◌, ◌≢◌, map, string_bytes, ap, sym, ◌∙◌, refl, arith}
+use Rattle.std.proofs.Common.{◌≡◌, ◌≢◌, ℕ, ◌≤◌, List, [], ◌++◌, map, string_bytes, min, take, refl, ap, sym, subst, ◌∙◌, inl, inr, arith}
+use Rattle.std.proofs.lemmas.Bool.Decides.{eqb_tells}
 use Rattle.std.specs.Io.KnownBytes.{append_known}
-use Rattle.heapsuite.specs.Outcome.{answer_of}
-use Rattle.heapsuite.specs.TraceFault.{bounds_of}
-use Rattle.heapsuite.specs.Words.{summary_file}
-use Rattle.heapsuite.proofs.RunLemmas.{append_nothing, delivered_as, summary_answer, unreadable_name}
+use Rattle.hp_outside.specs.Faults.{Rose}
+use Rattle.command_frame.specs.Answer.{Answer, after}
+use Rattle.command_frame.specs.FirstFault.{bounds_of}
+use Rattle.command_frame.specs.Outcome.{moment}
+use Rattle.command_frame.specs.OutcomeAnswer.{outcome_answer}
+use Rattle.command_frame.specs.Texts.{texts_of}
+use Rattle.command_frame.proofs.EndLemmas.{take_take}
+use Rattle.command_frame.proofs.OutputLemmas.{append_nothing}
+use Rattle.heapsuite.specs.Answer.{answer}
+use Rattle.heapsuite.specs.Asked.{asked}
+use Rattle.heapsuite.specs.Texts.{heapsuite_texts}
+use Rattle.heapsuite.proofs.AskedLemmas.{Ended, asked_quiet, delivered_as, ended_run}
+use Rattle.heapsuite.proofs.run.heapsuite_run.Given.{Over}
 use Rattle.heapsuite.proofs.run.heapsuite_run.Goals as goal
 
+-- faults of standard output that rose in the delivery have risen in the run
+out_later : (g : Over) (c : goal.Joined-outcome g) → Rose (g.O.Sink.faults c.run_words-outcome.new.out) (g.O.Sink.faults c.deliver.new.out) → Rose (g.O.Sink.faults c.args.out.now) (g.O.Sink.faults c.deliver.new.out)
+out_later g c rose =
+    elim (eqb_tells (outcome_answer heapsuite_texts c.run_words-outcome.result).status 4) [
+      | inl four ↦ let early = c.run_words-outcome.ensures.unwritten four.1 in omega (arith, early, c.deliver.ensures.out_faults)
+      | inr other ↦ subst (λ n. Rose n (g.O.Sink.faults c.deliver.new.out)) (c.run_words-outcome.ensures.sound other.1) rose
+    ]
+
+-- what the run came to, and what was delivered
+ended : (g : Over) (c : goal.Joined-outcome g) → Ended (bounds_of c.args.limits.now) (g.S.Store.files c.args.store.now) (asked (map string_bytes c.args.words.now))
+    (moment (g.S.Store.opens c.args.store.now) (g.S.Store.current c.args.store.now) (g.S.Store.left c.args.store.now) (g.S.Store.faults c.args.store.now))
+    (moment (g.S.Store.opens c.run_words-outcome.new.store) (g.S.Store.current c.run_words-outcome.new.store) (g.S.Store.left c.run_words-outcome.new.store) (g.S.Store.faults c.run_words-outcome.new.store))
+    c.deliver.result (Rose (g.O.Sink.faults c.args.out.now) (g.O.Sink.faults c.deliver.new.out)) (Rose (g.E.Sink.faults c.args.err.now) (g.E.Sink.faults c.deliver.new.err))
+    (g.O.Sink.written c.args.out.now) (g.O.Sink.written c.deliver.new.out) (g.E.Sink.written c.args.err.now) (g.E.Sink.written c.deliver.new.err)
+    (after c.run_words-outcome.ensures.ran.0 (outcome_answer heapsuite_texts c.run_words-outcome.result))
+ended g c = ended_run (bounds_of c.args.limits.now) (g.S.Store.files c.args.store.now) (asked (map string_bytes c.args.words.now))
+    (moment (g.S.Store.opens c.args.store.now) (g.S.Store.current c.args.store.now) (g.S.Store.left c.args.store.now) (g.S.Store.faults c.args.store.now))
+    (moment (g.S.Store.opens c.run_words-outcome.new.store) (g.S.Store.current c.run_words-outcome.new.store) (g.S.Store.left c.run_words-outcome.new.store) (g.S.Store.faults c.run_words-outcome.new.store))
+    c.deliver.result (Rose (g.O.Sink.faults c.run_words-outcome.new.out) (g.O.Sink.faults c.deliver.new.out)) (Rose (g.O.Sink.faults c.args.out.now) (g.O.Sink.faults c.deliver.new.out))
+    (Rose (g.E.Sink.faults c.args.err.now) (g.E.Sink.faults c.deliver.new.err))
+    (g.O.Sink.written c.args.out.now) (g.O.Sink.written c.run_words-outcome.new.out) (g.O.Sink.written c.deliver.new.out) (g.E.Sink.written c.args.err.now) (g.E.Sink.written c.deliver.new.err)
+    c.run_words-outcome.result (texts_of c.heapsuite_texts.result) c.heapsuite_texts.ensures c.run_words-outcome.ensures.ran c.deliver.ensures.status c.deliver.ensures.fronts c.deliver.ensures.own_message
+    (out_later g c)
+
+-- with sound outputs the status isn't 4
+wrote : (g : Over) (c : goal.Joined-outcome g) → ¬ Rose (g.O.Sink.faults c.args.out.now) (g.O.Sink.faults c.deliver.new.out) → ¬ Rose (g.E.Sink.faults c.args.err.now) (g.E.Sink.faults c.deliver.new.err) → c.deliver.result ≢ 4
+wrote g c out_quiet err_quiet = λ four.
+    elim (eqb_tells (outcome_answer (texts_of c.heapsuite_texts.result) c.run_words-outcome.result).status 4) [
+      | inl early ↦
+          let status : (outcome_answer heapsuite_texts c.run_words-outcome.result).status ≡ 4 = ap (λ t. (outcome_answer t c.run_words-outcome.result).status) (sym c.heapsuite_texts.ensures) ∙ early.1 in
+          let rose = c.run_words-outcome.ensures.unwritten status in
+          out_quiet (omega (arith, rose, c.deliver.ensures.out_faults))
+      | inr other ↦ err_quiet (c.deliver.ensures.cause four other.1 (λ rose. out_quiet (out_later g c rose)))
+    ]
+
+pub returns-clause-defined : goal.returns-clause-defined
+returns-clause-defined g c = λ folder told quiet out_quiet err_quiet memory.
+    let e = ended g c in
+    let delivered = e.delivered (wrote g c out_quiet err_quiet) in
+    delivered_as (e.facts.quiet folder told quiet (λ four. wrote g c out_quiet err_quiet (delivered.status_is ∙ four)) (λ five. memory (delivered.status_is ∙ five))) delivered
+
 pub returns-clause-complete : goal.returns-clause-complete
-returns-clause-complete g c = λ folder name bytes told taken found none quiet out_quiet err_quiet memory.
-    let outcome = c.run_words-outcome.ensures.outcome in
-    let wrote : c.deliver.result ≢ 4 = λ four. err_quiet (c.deliver.ensures.cause four out_quiet) in
-    let given = c.deliver.ensures.status wrote in
-    let status : (answer_of c.run_words-outcome.result).status ≢ 5 = λ five. memory (given.status_is ∙ five) in
-    let is = outcome.defined_where_quiet folder told quiet status
-    ∙ summary_answer (map string_bytes c.args.words.now) (bounds_of c.args.limits.now) folder name bytes taken found none in (
-      given.status_is ∙ ap (λ a. a.status) is,
-      given.output ∙ ap (λ a. append_known (g.O.Sink.written c.args.out.now) a.output) is,
-      given.message ∙ (ap (λ a. append_known (g.E.Sink.written c.args.err.now) a.message) is ∙ append_nothing (g.E.Sink.written c.args.err.now)),
-    )
+returns-clause-complete g c = λ folder told zero quiet out_quiet err_quiet memory.
+    let defined = returns-clause-defined g c folder told quiet out_quiet err_quiet memory in
+    (defined.status_is ∙ zero, defined.output,
+    defined.message ∙ (ap (append_known (g.E.Sink.written c.args.err.now)) (asked_quiet (bounds_of c.args.limits.now) folder (asked (map string_bytes c.args.words.now)) zero)
+    ∙ append_nothing (g.E.Sink.written c.args.err.now)))
 
-pub returns-clause-unreadable : goal.returns-clause-unreadable
-returns-clause-unreadable g c = λ folder name told taken three has.
-    let given = c.deliver.ensures.status (omega (arith, three)) in
-    (c.run_words-outcome.ensures.outcome.unreadable name taken (sym given.status_is ∙ three)).cause_told folder told has
+pub returns-clause-run : goal.returns-clause-run
+returns-clause-run g c =
+    let e = ended g c in
+    (after c.run_words-outcome.ensures.ran.0 (outcome_answer heapsuite_texts c.run_words-outcome.result), e.ran, e.delivered, e.fronts, e.own_message)
 
-pub returns-clause-unreadable_untold : goal.returns-clause-unreadable_untold
-returns-clause-unreadable_untold g c = λ untold three.
-    let given = c.deliver.ensures.status (omega (arith, three)) in
-    let status : (answer_of c.run_words-outcome.result).status ≡ 3 = sym given.status_is ∙ three in
-    let named = unreadable_name _ _ _ _ _ _ _ (summary_file (map string_bytes c.args.words.now)) c.run_words-outcome.ensures.outcome status refl in
-    (c.run_words-outcome.ensures.outcome.unreadable named.0 named.1 status).cause_untold untold
+pub returns-clause-front : goal.returns-clause-front
+returns-clause-front g c = λ folder told.
+    let e = ended g c in
+    let front = e.facts.front folder told in
+    (min e.fronts.output.0 front.0,
+    e.fronts.output.1 ∙ ap (append_known (g.O.Sink.written c.args.out.now))
+    (ap (take e.fronts.output.0) front.1 ∙ take_take e.fronts.output.0 front.0 (answer (map string_bytes c.args.words.now) (bounds_of c.args.limits.now) folder).output))
 
-pub returns-clause-cannot_read : goal.returns-clause-cannot_read
-returns-clause-cannot_read g c = λ name taken three current.
-    let given = c.deliver.ensures.status (omega (arith, three)) in
-    delivered_as _ _ _ _ _ _ _ ((c.run_words-outcome.ensures.outcome.unreadable name taken (sym given.status_is ∙ three)).cannot_read current) given
+pub returns-clause-judged : goal.returns-clause-judged
+returns-clause-judged g c = λ folder told three four five.
+    let e = ended g c in
+    let delivered = e.delivered four in
+    delivered_as (e.facts.judged folder told (λ is. three (delivered.status_is ∙ is)) (λ is. four (delivered.status_is ∙ is)) (λ is. five (delivered.status_is ∙ is))) delivered
 
-pub returns-clause-stopped : goal.returns-clause-stopped
-returns-clause-stopped g c = λ folder name bytes told taken found three current.
-    let given = c.deliver.ensures.status (omega (arith, three)) in
-    (c.run_words-outcome.ensures.outcome.unreadable name taken (sym given.status_is ∙ three)).stopped folder bytes told found current
+pub returns-clause-malformed : goal.returns-clause-malformed
+returns-clause-malformed g c = λ folder told quiet one four five.
+    let e = ended g c in
+    let delivered = e.delivered four in
+    delivered.status_is ∙ (ap (λ (a : Answer). a.status) (e.facts.quiet folder told quiet (λ is. four (delivered.status_is ∙ is)) (λ is. five (delivered.status_is ∙ is))) ∙ one)
 
-pub returns-clause-no_such_file : goal.returns-clause-no_such_file
-returns-clause-no_such_file g c = λ folder name told taken three lacks.
-    let given = c.deliver.ensures.status (omega (arith, three)) in
-    delivered_as _ _ _ _ _ _ _ ((c.run_words-outcome.ensures.outcome.unreadable name taken (sym given.status_is ∙ three)).no_such_file folder told lacks) given
+pub returns-clause-past_limit : goal.returns-clause-past_limit
+returns-clause-past_limit g c = λ folder told quiet six four five.
+    let e = ended g c in
+    let delivered = e.delivered four in
+    delivered.status_is ∙ (ap (λ (a : Answer). a.status) (e.facts.quiet folder told quiet (λ is. four (delivered.status_is ∙ is)) (λ is. five (delivered.status_is ∙ is))) ∙ six)
 
-pub returns-clause-cannot_open : goal.returns-clause-cannot_open
-returns-clause-cannot_open g c = λ folder name told taken three has closed.
-    let given = c.deliver.ensures.status (omega (arith, three)) in
-    delivered_as _ _ _ _ _ _ _ ((c.run_words-outcome.ensures.outcome.unreadable name taken (sym given.status_is ∙ three)).cannot_open folder told has closed) given
+pub returns-clause-opened : goal.returns-clause-opened
+returns-clause-opened g c = λ zero.
+    let e = ended g c in
+    e.facts.opened (sym (e.delivered (λ four. omega (arith, zero, four))).status_is ∙ zero)
+
+pub returns-clause-opens : goal.returns-clause-opens
+returns-clause-opens g c = (ended g c).facts.opens_at_most
+
+pub returns-clause-ended : goal.returns-clause-ended
+returns-clause-ended g c = λ zero some.
+    let e = ended g c in
+    e.facts.ended (sym (e.delivered (λ four. omega (arith, zero, four))).status_is ∙ zero) some
+
+pub returns-clause-current : goal.returns-clause-current
+returns-clause-current g c = λ zero some.
+    let e = ended g c in
+    e.facts.current (sym (e.delivered (λ four. omega (arith, zero, four))).status_is ∙ zero) some
+
+pub returns-clause-usage : goal.returns-clause-usage
+returns-clause-usage g c = λ none four five.
+    let e = ended g c in
+    let delivered = e.delivered four in
+    delivered_as (e.facts.usage none (λ is. five (delivered.status_is ∙ is))) delivered
+
+pub returns-clause-only_usage : goal.returns-clause-only_usage
+returns-clause-only_usage g c = λ two.
+    let e = ended g c in
+    e.facts.only_usage (sym (e.delivered (λ four. omega (arith, two, four))).status_is ∙ two)
+
+pub returns-clause-not_read : goal.returns-clause-not_read
+returns-clause-not_read g c = λ three.
+    let e = ended g c in
+    let delivered = e.delivered (λ four. omega (arith, three, four)) in
+    (after c.run_words-outcome.ensures.ran.0 (outcome_answer heapsuite_texts c.run_words-outcome.result), e.facts.not_read (sym delivered.status_is ∙ three), delivered)
+
+pub returns-clause-no_memory : goal.returns-clause-no_memory
+returns-clause-no_memory g c = λ five.
+    let e = ended g c in
+    let delivered = e.delivered (λ four. omega (arith, five, four)) in
+    delivered.message ∙ ap (append_known (g.E.Sink.written c.args.err.now)) (e.facts.memory (sym delivered.status_is ∙ five))
+
+pub returns-clause-store_faults : goal.returns-clause-store_faults
+returns-clause-store_faults g c = λ three four five.
+    let e = ended g c in
+    let delivered = e.delivered four in
+    e.facts.sound (λ is. three (delivered.status_is ∙ is)) (λ is. four (delivered.status_is ∙ is)) (λ is. five (delivered.status_is ∙ is))
+
+pub returns-clause-statuses : goal.returns-clause-statuses
+returns-clause-statuses g c =
+    let e = ended g c in
+    elim (eqb_tells c.deliver.result 4) [
+      | inl four ↦ omega (arith, four.1)
+      | inr other ↦ omega (arith, (e.delivered other.1).status_is, e.facts.bounded)
+    ]

@@ -1,0 +1,10 @@
+pub mod LineLemmas
+pub mod FaultLemmas
+pub mod OutputLemmas
+pub mod LinesLoop
+pub mod EndLemmas
+pub mod RunLemmas
+pub mod DeliveryLemmas
+pub mod FrontLemmas
+pub mod RunFactLemmas
+pub mod QuietLemmas

@@ -1,0 +1,14 @@
+pub mod Told
+pub mod Report
+pub mod FirstFault
+pub mod Plan
+pub mod Texts
+pub mod Answer
+pub mod Run
+pub mod Taker
+pub mod LinesRun
+pub mod Halts
+pub mod Outcome
+pub mod Delivery
+pub mod RunFacts
+pub mod OutcomeAnswer

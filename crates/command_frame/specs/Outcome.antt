@@ -1,0 +1,32 @@
+-- What a run comes to before it is delivered.
+use Rattle.std.specs.Prelude.{◌≡◌, ℕ, Bool, List, [], ◌∷◌, Option, Result, Ok, Err}
+use Rattle.hp_outside.specs.declared.store.OpenFault.{OpenFault}
+use Rattle.hp_outside.specs.declared.store.OpenFault.TheVariants as opening
+use Rattle.command_frame.specs.declared.halt.Halt.{Halt}
+use Rattle.command_frame.specs.declared.lines.LinesStop.{LinesStop}
+use Rattle.command_frame.specs.Told.{Told}
+use Rattle.command_frame.specs.Texts.{Texts}
+use Rattle.command_frame.specs.Answer.{Answer}
+use Rattle.command_frame.specs.Halts.{halt_answer}
+use Rattle.command_frame.specs.Run.{Absent, CannotOpen, CannotRead, FileEnd, Moment, Passed, Refused, Unopened, Unwritten, Wanting, end_answer}
+use Rattle.command_frame.specs.LinesRun.{end_of}
+
+-- a moment of a store
+abbrev pub moment : ℕ → Bool → Option (List ℕ) → ℕ → Moment
+moment opens current left faults = record { opens = opens; current = current; left = left; faults = faults }
+
+-- a file that wasn't opened
+abbrev pub end_of_open : OpenFault → FileEnd
+end_of_open opening.Absent = Absent
+end_of_open opening.Failed = CannotOpen
+
+-- a file's lines weren't all taken
+abbrev pub IsStop : FileEnd → Type 0
+IsStop Unopened = ⊥
+IsStop (Passed taken) = ⊥
+IsStop _ = Unit {0}
+
+-- the result of reading a file that ended so
+abbrev pub HaltsAt : Texts → List ℕ → (List (List ℕ) → Type 0) → FileEnd → Result (Unit {0}) Halt → Type 0
+HaltsAt texts name has end (Ok all) = (taken : List (List ℕ)) × ((end ≡ Passed taken) × has taken)
+HaltsAt texts name has end (Err halt) = IsStop end × (halt_answer texts halt ≡ end_answer texts name end)

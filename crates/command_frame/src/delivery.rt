@@ -1,0 +1,132 @@
+//! Writing what is left of a run to the two outputs. What is written is decided by the commands; here are its order and the
+//! status of a write that fails.
+ghost use Rattle.std.specs.Prelude.{◌≡◌, ◌≢◌, ◌≤◌, ℕ, List, Some, IfErr, IfOk, OnOk, OnErr};
+ghost use Rattle.std.specs.Io.KnownBytes.{append_known};
+ghost use Rattle.hp_outside.specs.Faults.{Rose};
+ghost use Rattle.hp_outside.specs.Taken.{GainsFront};
+ghost use Rattle.command_frame.specs.Answer.{done};
+ghost use Rattle.command_frame.specs.Delivery.{Delivered, GainsFronts};
+ghost use Rattle.command_frame.specs.Halts.{halt_answer};
+ghost use Rattle.command_frame.specs.OutcomeAnswer.{outcome_answer};
+ghost use Rattle.command_frame.specs.Texts.{texts_of};
+
+use crate::halt::Halt;
+use crate::texts::ProgramTexts;
+use hp_outside::{Failed, Sink, write_whole};
+use std::alloc::Global;
+
+/// The status where all was done.
+const DONE: u8 = 0;
+
+/// The status where a write or a flush failed.
+const WRITE_STATUS: u8 = 4;
+
+/// What is left of a run to be delivered.
+#[derive(Debug, Drop)]
+pub struct Outcome {
+    /// The rest of the output.
+    pub rest: Vec<u8>,
+    /// Why the run ended before its output was whole, if it did.
+    pub halt: Option<Halt>,
+}
+
+impl Outcome {
+    /// The outcome of a run. It takes no memory.
+    pub fn new(alloc: Global, ran: Result<Vec<u8>, Halt>) -> Outcome
+        ensures all { IfOk ran (λ rest. (texts : _) → outcome_answer texts result ≡ done rest.items) }
+        ensures halted { IfErr ran (λ halt. (texts : _) → outcome_answer texts result ≡ halt_answer texts halt) }
+    {
+        match ran {
+            Ok(rest) => Outcome { rest, halt: None },
+            Err(halt) => Outcome {
+                rest: Vec::new(alloc),
+                halt: Some(halt),
+            },
+        }
+    }
+}
+
+/// Writes the rest of the output and the message, each whole, and flushes both outputs. The answer is the outcome's
+/// status, or 4 where a write or a flush failed; where a write to standard output failed, `write failed` is the one
+/// message. It takes no memory.
+pub fn deliver<O: Sink, E: Sink>(
+    outcome: &Outcome,
+    texts: &ProgramTexts,
+    out: &mut O,
+    err: &mut E,
+) -> u8
+    ensures status { result ≢ 4 → Delivered (outcome_answer (texts_of texts.now) outcome.now) result (O.written out.old) (O.written out.new) (E.written err.old) (E.written err.new) }
+    ensures fronts { GainsFronts texts.now.write_failed.now (outcome_answer (texts_of texts.now) outcome.now) (Rose (O.faults out.old) (O.faults out.new)) (Rose (E.faults err.old) (E.faults err.new))
+        (O.written out.old) (O.written out.new) (E.written err.old) (E.written err.new) }
+    ensures own_message { (bytes : List ℕ) → O.written out.old ≡ Some bytes → O.written out.new ≡ append_known (O.written out.old) (outcome_answer (texts_of texts.now) outcome.now).output
+        → GainsFront (E.written err.old) (E.written err.new) (outcome_answer (texts_of texts.now) outcome.now).message }
+    ensures cause { result ≡ 4 → (outcome_answer (texts_of texts.now) outcome.now).status ≢ 4 → ¬ Rose (O.faults out.old) (O.faults out.new) → Rose (E.faults err.old) (E.faults err.new) }
+    ensures given { (outcome_answer (texts_of texts.now) outcome.now).status ≡ 4 → result ≡ 4 }
+    ensures out_sound { result ≢ 4 → O.faults out.new ≡ O.faults out.old }
+    ensures err_sound { result ≢ 4 → E.faults err.new ≡ E.faults err.old }
+    ensures out_faults { O.faults out.old ≤ O.faults out.new }
+{
+    match &outcome.halt {
+        None => deliver_parts(&outcome.rest, &[], DONE, texts.write_failed, out, err),
+        Some(halt) => {
+            let message = halt.message.bytes(texts);
+            deliver_parts(&outcome.rest, message, halt.status.code(), texts.write_failed, out, err)
+        }
+    }
+}
+
+/// Writes the rest of an output and a message, each whole, and flushes both outputs. The answer is the status, or 4.
+fn deliver_parts<O: Sink, E: Sink>(    rest: &[u8],
+    message: &[u8],
+    status: u8,
+    write_failed: &[u8],
+    out: &mut O,
+    err: &mut E,
+) -> u8
+    ensures status { result ≢ 4 → Delivered (record { output = rest.now; message = message.now; status = status }) result (O.written out.old) (O.written out.new) (E.written err.old) (E.written err.new) }
+    ensures fronts { GainsFronts write_failed.now (record { output = rest.now; message = message.now; status = status }) (Rose (O.faults out.old) (O.faults out.new)) (Rose (E.faults err.old) (E.faults err.new))
+        (O.written out.old) (O.written out.new) (E.written err.old) (E.written err.new) }
+    ensures own_message { (bytes : List ℕ) → O.written out.old ≡ Some bytes → O.written out.new ≡ append_known (O.written out.old) rest.now → GainsFront (E.written err.old) (E.written err.new) message.now }
+    ensures cause { result ≡ 4 → status ≢ 4 → ¬ Rose (O.faults out.old) (O.faults out.new) → Rose (E.faults err.old) (E.faults err.new) }
+    ensures given { status ≡ 4 → result ≡ 4 }
+    ensures out_sound { result ≢ 4 → O.faults out.new ≡ O.faults out.old }
+    ensures err_sound { result ≢ 4 → E.faults err.new ≡ E.faults err.old }
+    ensures out_faults { O.faults out.old ≤ O.faults out.new }
+{
+    let wrote = write_both(rest, message, write_failed, out, err);
+    let flushed_out = out.flush();
+    let flushed_err = err.flush();
+    if wrote.is_ok() && flushed_out.is_ok() && flushed_err.is_ok() {
+        status
+    } else {
+        WRITE_STATUS
+    }
+}
+
+/// Writes the rest of the output, and then the message or, where the output wasn't taken whole, `write_failed`.
+fn write_both<O: Sink, E: Sink>(
+    rest: &[u8],
+    message: &[u8],
+    write_failed: &[u8],
+    out: &mut O,
+    err: &mut E,
+) -> Result<(), Failed>
+    ensures output { OnOk result (O.written out.new ≡ append_known (O.written out.old) rest.now) }
+    ensures message { OnOk result (E.written err.new ≡ append_known (E.written err.old) message.now) }
+    ensures fronts { (status : ℕ) → GainsFronts write_failed.now (record { output = rest.now; message = message.now; status = status }) (Rose (O.faults out.old) (O.faults out.new)) (Rose (E.faults err.old) (E.faults err.new))
+        (O.written out.old) (O.written out.new) (E.written err.old) (E.written err.new) }
+    ensures out_faults { O.faults out.old ≤ O.faults out.new }
+    ensures err_faults { E.faults err.old ≤ E.faults err.new }
+    ensures out_sound { OnOk result (O.faults out.new ≡ O.faults out.old) }
+    ensures err_sound { OnOk result (E.faults err.new ≡ E.faults err.old) }
+    ensures own_message { (bytes : List ℕ) → O.written out.old ≡ Some bytes → O.written out.new ≡ append_known (O.written out.old) rest.now → GainsFront (E.written err.old) (E.written err.new) message.now }
+    ensures cause { OnErr result (¬ Rose (O.faults out.old) (O.faults out.new) → Rose (E.faults err.old) (E.faults err.new)) }
+{
+    match write_whole(out, rest) {
+        Ok(()) => write_whole(err, message),
+        Err(Failed) => {
+            let _ = write_whole(err, write_failed);
+            Err(Failed)
+        }
+    }
+}

@@ -1,0 +1,121 @@
+//! Opening named files and reading them by lines, to a message where that ends before the last line.
+ghost use Rattle.std.specs.Prelude.{◌≡◌, ◌≢◌, ◌+◌, ◌-◌, ◌^◌, ◌<◌, ◌≤◌, ℕ, List, [], Err, OnOk, IfErr, IsTrue};
+ghost use Rattle.std.specs.Io.KnownBytes.{append_known};
+ghost use Rattle.hp_outside.specs.Faults.{Rose};
+ghost use Rattle.hp_outside.specs.Taken.{WhereTold};
+ghost use Rattle.command_frame.specs.Answer.{memory_answer};
+ghost use Rattle.command_frame.specs.FirstFault.{bounds_of};
+ghost use Rattle.command_frame.specs.Halts.{halt_answer, status_code};
+ghost use Rattle.command_frame.specs.LinesRun.{IsNewReader, LinesRun, end_of};
+ghost use Rattle.command_frame.specs.Outcome.{HaltsAt, end_of_open, moment};
+ghost use Rattle.command_frame.specs.Run.{FileEnd, FileRead, end_answer, end_output};
+ghost use Rattle.command_frame.specs.Texts.{texts_of};
+
+use crate::desk::Desk;
+use crate::fault::Fault;
+use crate::halt::Halt;
+use crate::lines::{LinesStop, pass_on, take_lines};
+use crate::taker::LineTaker;
+use hp_outside::{Failed, LineReader, OpenFault, Sink, Store};
+use std::alloc::Global;
+
+/// Takes all lines of the current file, and writes all that they give to standard output.
+fn take_all<T: LineTaker, S: Store, O: Sink>(
+    alloc: Global,
+    lines: &mut LineReader,
+    taker: &mut T,
+    store: &mut S,
+    out: &mut O,
+) -> Result<(), LinesStop<T::Fault>>
+    requires current { IsTrue (S.current store.old) }
+    requires bounds { lines.old.input ≤ 2 ^ 34 }
+    requires line_bound { lines.old.line_limit ≤ 1048576 }
+    requires new_lines { IsNewReader lines.old }
+    requires sound { T.is_sound taker.old }
+    requires new_taker { T.has_taken taker.old [] }
+    requires no_weight { T.weight taker.old ≡ 0 }
+    ensures run { (taken : List (List ℕ)) × ((count : ℕ) × (LinesRun (record { input = lines.old.input; line = lines.old.line_limit }) (T.report taker.old) (S.left store.old) (S.left store.new)
+        (O.written out.old) (O.written out.new) [] (end_of T.Fault.told result taken count) × OnOk result (T.has_taken taker.new taken))) }
+    ensures report { T.report taker.new ≡ T.report taker.old }
+    ensures ended { OnOk result (WhereTold (S.left store.new) (λ left. left ≡ [])) }
+    ensures failed { result ≡ Err LinesStop.ReadFailed → Rose (S.faults store.old) (S.faults store.new) }
+    ensures sound_reads { result ≢ Err LinesStop.ReadFailed → result ≢ Err LinesStop.WriteFailed → S.faults store.new ≡ S.faults store.old }
+    ensures write_failed { result ≡ Err LinesStop.WriteFailed → Rose (O.faults out.old) (O.faults out.new) }
+    ensures sound_writes { result ≢ Err LinesStop.WriteFailed → O.faults out.new ≡ O.faults out.old }
+    ensures files { S.files store.new ≡ S.files store.old }
+    ensures current { S.current store.new ≡ S.current store.old }
+    ensures opens { S.opens store.new ≡ S.opens store.old }
+{
+    let mut buffer = Vec::new(alloc);
+    let taken = take_lines(lines, taker, store, out, &mut buffer);
+    match pass_on(&mut buffer, out) {
+        Ok(()) => taken,
+        Err(Failed) => Err(LinesStop::WriteFailed),
+    }
+}
+
+impl Desk {
+    /// The halt where a file wasn't opened.
+    fn unopened(&self, name: &str, fault: OpenFault) -> Halt
+        ensures answer { status_code result.status ≢ 5 → halt_answer (texts_of self.now.texts) result ≡ end_answer (texts_of self.now.texts) name.now (end_of_open fault) }
+        ensures memory { status_code result.status ≡ 5 → halt_answer (texts_of self.now.texts) result ≡ memory_answer (texts_of self.now.texts) }
+        ensures write { status_code result.status ≢ 4 }
+    {
+        let text: &[u8] = match fault {
+            OpenFault::Absent => b"no such file",
+            OpenFault::Failed => b"cannot open",
+        };
+        Halt::unreadable(self.alloc, &self.texts, name, text)
+    }
+
+    /// The halt where not all lines of a file were taken.
+    fn stopped<F: Fault>(&self, name: &str, stop: LinesStop<F>) -> Halt
+        ensures answer { status_code result.status ≢ 5 → (taken : List (List ℕ)) (count : ℕ) → halt_answer (texts_of self.now.texts) result ≡ end_answer (texts_of self.now.texts) name.now (end_of F.told (Err stop) taken count) }
+        ensures memory { status_code result.status ≡ 5 → halt_answer (texts_of self.now.texts) result ≡ memory_answer (texts_of self.now.texts) }
+        ensures unwritten { status_code result.status ≡ 4 → stop ≡ LinesStop.WriteFailed }
+        ensures write { stop ≡ LinesStop.WriteFailed → status_code result.status ≡ 4 }
+    {
+        match stop {
+            LinesStop::AtLine { number, fault } => Halt::at_line(self.alloc, &self.texts, name, number, &fault),
+            LinesStop::ReadFailed => Halt::unreadable(self.alloc, &self.texts, name, b"cannot read"),
+            LinesStop::WriteFailed => Halt::write_failed(),
+            LinesStop::NoMemory => Halt::no_memory(),
+        }
+    }
+}
+
+/// Opens the named file and takes all its lines.
+pub fn read_lines<T: LineTaker, S: Store, O: Sink>(
+    desk: &Desk,
+    lines: &mut LineReader,
+    name: &str,
+    taker: &mut T,
+    store: &mut S,
+    out: &mut O,
+) -> Result<(), Halt>
+    requires opens { S.opens store.old < 2 ^ 64 - 1 }
+    requires input { lines.old.input ≡ desk.now.limits.input }
+    requires line { lines.old.line_limit ≡ desk.now.limits.line }
+    requires sound { T.is_sound taker.old }
+    requires new_taker { T.has_taken taker.old [] }
+    requires no_weight { T.weight taker.old ≡ 0 }
+    ensures read { (end : FileEnd) × (FileRead (bounds_of desk.now.limits) (S.files store.old) name.now (T.report taker.old)
+        (moment (S.opens store.old) (S.current store.old) (S.left store.old) (S.faults store.old)) (moment (S.opens store.new) (S.current store.new) (S.left store.new) (S.faults store.new)) end
+        × HaltsAt (texts_of desk.now.texts) name.now (T.has_taken taker.new) end result
+        × (O.written out.new ≡ append_known (O.written out.old) (end_output (T.report taker.old) end))) }
+    ensures report { T.report taker.new ≡ T.report taker.old }
+    ensures files { S.files store.new ≡ S.files store.old }
+    ensures unwritten { IfErr result (λ halt. status_code halt.status ≡ 4 → Rose (O.faults out.old) (O.faults out.new)) }
+    ensures sound_writes { IfErr result (λ halt. status_code halt.status ≢ 4 → O.faults out.new ≡ O.faults out.old) }
+    ensures sound { OnOk result (O.faults out.new ≡ O.faults out.old) }
+{
+    lines.start();
+    match store.open(name) {
+        Ok(()) => {}
+        Err(fault) => return Err(desk.unopened(name, fault)),
+    }
+    match take_all(desk.alloc, lines, taker, store, out) {
+        Ok(()) => Ok(()),
+        Err(stop) => Err(desk.stopped(name, stop)),
+    }
+}

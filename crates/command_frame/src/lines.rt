@@ -1,0 +1,151 @@
+//! Taking the lines of the current file, one after another, and passing on what they give to standard output. Which file it
+//! is, and what a stop is called, is no part of it.
+ghost use Rattle.std.specs.Prelude.{◌≡◌, ◌≢◌, ◌+◌, ◌-◌, ◌*◌, ◌^◌, ◌<◌, ◌≤◌, ℕ, List, [], ◌++◌, Ok, Err, OnOk, OnErr, IsTrue, length};
+ghost use Rattle.std.specs.Io.KnownBytes.{append_known};
+ghost use Rattle.hp_outside.specs.Faults.{Rose};
+ghost use Rattle.hp_outside.specs.Taken.{GainsFront, WhereTold};
+ghost use Rattle.command_frame.specs.LinesRun.{IsNewReader, LinesRun, end_of};
+
+use crate::fault::{Fault, FaultStatus};
+use crate::taker::{LineRefusal, LineTaker};
+use hp_num::{NoMemory, put_bytes};
+use hp_outside::{Failed, LineFault, LineReader, Sink, Store, write_whole};
+
+/// A fault of a file that is read by lines.
+#[derive(Debug, Drop)]
+pub enum FileFault<F> {
+    /// The line has more bytes than the limit, within the bytes that a file may have.
+    LineTooLong,
+    /// The file has more bytes than the limit, and the line doesn't end within those.
+    InputTooLong,
+    /// A fault of what the line says.
+    Taker(F),
+}
+
+impl<F: Fault> Fault for FileFault<F> {
+    ghost use Rattle.command_frame.specs.LinesRun.{told_of};
+
+    ghost told = { told_of F.told };
+
+    fn put_text(&self, out: &mut Vec<u8>) -> Result<(), NoMemory> {
+        match self {
+            FileFault::LineTooLong => put_bytes(out, b"line too long"),
+            FileFault::InputTooLong => put_bytes(out, b"input too long"),
+            FileFault::Taker(fault) => fault.put_text(out),
+        }
+    }
+
+    fn status(&self) -> FaultStatus {
+        match self {
+            FileFault::LineTooLong | FileFault::InputTooLong => FaultStatus::PastLimit,
+            FileFault::Taker(fault) => fault.status(),
+        }
+    }
+}
+
+/// Why not all lines of a file were taken.
+#[derive(Debug, Drop)]
+pub enum LinesStop<F> {
+    /// The line of this number, from 1, or the end behind the last line, is the first with a fault.
+    AtLine { number: u64, fault: FileFault<F> },
+    /// A read failed.
+    ReadFailed,
+    /// A write failed.
+    WriteFailed,
+    /// Memory was wanting.
+    NoMemory,
+}
+
+/// Bytes of output that are kept back at most before they are written.
+const PIECE: usize = 65_536;
+
+/// Takes all lines of the current file. What they give to standard output is written but for what `buffer` then holds.
+pub fn take_lines<T: LineTaker, S: Store, O: Sink>(
+    lines: &mut LineReader,
+    taker: &mut T,
+    store: &mut S,
+    out: &mut O,
+    buffer: &mut Vec<u8>,
+) -> Result<(), LinesStop<T::Fault>>
+    requires current { IsTrue (S.current store.old) }
+    requires bounds { lines.old.input ≤ 2 ^ 34 }
+    requires line_bound { lines.old.line_limit ≤ 1048576 }
+    requires new_lines { IsNewReader lines.old }
+    requires sound { T.is_sound taker.old }
+    requires new_taker { T.has_taken taker.old [] }
+    requires no_weight { T.weight taker.old ≡ 0 }
+    requires no_output { buffer.old.items ≡ [] }
+    ensures run { (taken : List (List ℕ)) × ((count : ℕ) × (LinesRun (record { input = lines.old.input; line = lines.old.line_limit }) (T.report taker.old) (S.left store.old) (S.left store.new)
+        (O.written out.old) (O.written out.new) buffer.new.items (end_of T.Fault.told result taken count) × OnOk result (T.has_taken taker.new taken))) }
+    ensures report { T.report taker.new ≡ T.report taker.old }
+    ensures ended { OnOk result (WhereTold (S.left store.new) (λ left. left ≡ [])) }
+    ensures failed { result ≡ Err LinesStop.ReadFailed → Rose (S.faults store.old) (S.faults store.new) }
+    ensures sound_reads { result ≢ Err LinesStop.ReadFailed → S.faults store.new ≡ S.faults store.old }
+    ensures write_failed { result ≡ Err LinesStop.WriteFailed → Rose (O.faults out.old) (O.faults out.new) }
+    ensures sound_writes { result ≢ Err LinesStop.WriteFailed → O.faults out.new ≡ O.faults out.old }
+    ensures files { S.files store.new ≡ S.files store.old }
+    ensures current { S.current store.new ≡ S.current store.old }
+    ensures opens { S.opens store.new ≡ S.opens store.old }
+{
+    'lines: loop {
+        let number = lines.number() + 1;
+        match lines.next(store) {
+            Ok(Some(span)) => match taker.line(lines.line(&span), buffer) {
+                Ok(()) => match pass_on_piece(buffer, out) {
+                    Ok(()) => {}
+                    Err(Failed) => return Err(LinesStop::WriteFailed),
+                },
+                Err(LineRefusal::Fault(fault)) => {
+                    let fault = FileFault::Taker(fault);
+                    return Err(LinesStop::AtLine { number, fault });
+                }
+                Err(LineRefusal::NoMemory) => return Err(LinesStop::NoMemory),
+            },
+            Ok(None) => {
+                return match taker.end() {
+                    Ok(()) => Ok(()),
+                    Err(fault) => {
+                        let fault = FileFault::Taker(fault);
+                        Err(LinesStop::AtLine { number, fault })
+                    }
+                };
+            }
+            Err(LineFault::ReadFailed) => return Err(LinesStop::ReadFailed),
+            Err(LineFault::LineTooLong) => {
+                let fault = FileFault::LineTooLong;
+                return Err(LinesStop::AtLine { number, fault });
+            }
+            Err(LineFault::InputTooLong) => {
+                let fault = FileFault::InputTooLong;
+                return Err(LinesStop::AtLine { number, fault });
+            }
+        }
+    }
+}
+
+/// Writes what is kept back, where it is a piece or more.
+fn pass_on_piece<O: Sink>(buffer: &mut Vec<u8>, out: &mut O) -> Result<(), Failed>
+    ensures passed { OnOk result ((early : List ℕ) × ((O.written out.new ≡ append_known (O.written out.old) early) × (early ++ buffer.new.items ≡ buffer.old.items))) }
+    ensures front { OnErr result (GainsFront (O.written out.old) (O.written out.new) buffer.old.items) }
+    ensures emptied { OnErr result (buffer.new.items ≡ []) }
+    ensures sound { OnOk result (O.faults out.new ≡ O.faults out.old) }
+    ensures failed { OnErr result (Rose (O.faults out.old) (O.faults out.new)) }
+{
+    if buffer.len() < PIECE {
+        return Ok(());
+    }
+    pass_on(buffer, out)
+}
+
+/// Writes all that is kept back.
+pub fn pass_on<O: Sink>(buffer: &mut Vec<u8>, out: &mut O) -> Result<(), Failed>
+    ensures passed { OnOk result (O.written out.new ≡ append_known (O.written out.old) buffer.old.items) }
+    ensures front { GainsFront (O.written out.old) (O.written out.new) buffer.old.items }
+    ensures emptied { buffer.new.items ≡ [] }
+    ensures sound { OnOk result (O.faults out.new ≡ O.faults out.old) }
+    ensures failed { OnErr result (Rose (O.faults out.old) (O.faults out.new)) }
+{
+    let wrote = write_whole(out, buffer);
+    buffer.clear();
+    wrote
+}

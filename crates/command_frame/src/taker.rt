@@ -1,0 +1,64 @@
+//! What takes the lines of a file, one after another. What the lines mean is the business of the commands.
+ghost use Rattle.std.specs.Prelude.{◌≡◌, ℕ, ◌+◌, ◌^◌, ◌<◌, ◌≤◌, List, [], ◌∷◌, ◌++◌, None, Some, length, OnOk, OnErr, IfErr};
+ghost use Rattle.command_frame.specs.Report.{Report};
+ghost use Rattle.command_frame.specs.Taker.{Tells};
+
+use crate::fault::Fault;
+use hp_num::NoMemory;
+
+/// Why a line isn't taken.
+#[derive(Debug, Drop)]
+pub enum LineRefusal<F> {
+    /// The line has a fault.
+    Fault(F),
+    /// Memory was wanting.
+    NoMemory,
+}
+
+impl<F> From<NoMemory> for LineRefusal<F> {
+    ghost use Rattle.command_frame.specs.declared.taker.LineRefusal.TheVariants.{NoMemory as OutOfMemory};
+
+    ghost from_gives = { λ _ refusal. refusal ≡ OutOfMemory };
+
+    fn from(_: NoMemory) -> LineRefusal<F> {
+        LineRefusal::NoMemory
+    }
+}
+
+/// What takes the lines of a file.
+pub trait LineTaker {
+    type Fault: Fault;
+
+    /// What it makes of lines: their faults, and what they give to standard output.
+    ghost report: { Self → Report };
+
+    /// It has taken these lines.
+    ghost has_taken: { Self → List (List ℕ) → Type 0 };
+
+    /// It may take a line.
+    ghost is_sound: { Self → Type 0 };
+
+    /// A number that grows by no more than a line's bytes and 1 with each line.
+    ghost weight: { Self → ℕ };
+
+    /// Takes the next line, and appends what the line gives to standard output. `Fault` comes exactly where the line has
+    /// one after the lines before it, and `NoMemory` where memory is wanting; `output` then is as it was, and the taker
+    /// of no use.
+    fn line(&mut self, line: &[u8], output: &mut Vec<u8>) -> Result<(), LineRefusal<Self::Fault>>
+        requires sound { is_sound self.old }
+        requires short { length line.now < 2 ^ 32 }
+        requires room { weight self.old + length line.now ≤ 2 ^ 34 }
+        ensures sound { OnOk result (is_sound self.new) }
+        ensures taken { OnOk result ((lines : List (List ℕ)) → has_taken self.old lines → has_taken self.new (lines ++ line.now ∷ [])) }
+        ensures no_fault { OnOk result ((lines : List (List ℕ)) → has_taken self.old lines → (report self.old).line_fault lines line.now ≡ None) }
+        ensures fault { IfErr result (λ refusal. (lines : List (List ℕ)) → has_taken self.old lines → Tells Self.Fault.told refusal ((report self.old).line_fault lines line.now)) }
+        ensures output { OnOk result ((lines : List (List ℕ)) → has_taken self.old lines → output.new.items ≡ output.old.items ++ (report self.old).gains lines line.now) }
+        ensures no_output { OnErr result (output.new.items ≡ output.old.items) }
+        ensures weight { OnOk result (weight self.new ≤ weight self.old + length line.now + 1) }
+        ensures report { report self.new ≡ report self.old };
+
+    /// Whether the file may end here: the fault of its end, if it has one.
+    fn end(&self) -> Result<(), Self::Fault>
+        ensures no_fault { OnOk result ((lines : List (List ℕ)) → has_taken self.now lines → (report self.now).end_fault lines ≡ None) }
+        ensures fault { IfErr result (λ fault. (lines : List (List ℕ)) → has_taken self.now lines → (report self.now).end_fault lines ≡ Some (Self.Fault.told fault)) };
+}

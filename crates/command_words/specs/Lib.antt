@@ -1,0 +1,2 @@
+pub mod TableApp
+pub mod WordsTaken

@@ -1,0 +1,55 @@
+-- What the words ask for.
+use Rattle.std.specs.Prelude.{ℕ, List, [], ◌∷◌, Option, Some, None, Bool, false, ◌||◌, codes, if◌then◌else◌}
+use Rattle.std.specs.Option.{option_map}
+use Rattle.std.specs.Str.{bytes_eq}
+use Rattle.command_frame.specs.Plan.{Ends, Plan}
+use Rattle.command_frame.specs.Report.{Writes}
+use Rattle.heapsuite.specs.SummaryReport.{summary_plan}
+use Rattle.heapsuite.specs.SummaryWords.{summary_trace}
+use Rattle.heapsuite.specs.Texts.{heapsuite_texts}
+
+pub data Asked : Type 0 where
+  -- how the program is called
+  Help : Asked
+  -- the summary of a named trace
+  Summary : List ℕ → Asked
+
+-- `--help` alone
+abbrev pub help_asked : List (List ℕ) → Option Asked
+help_asked [] = Some Help
+help_asked (word ∷ words) = None
+
+-- what a command's words ask for
+abbrev pub command_asked : List ℕ → List (List ℕ) → Option Asked
+command_asked command words =
+    if bytes_eq command (codes "--help") then help_asked words
+    else if bytes_eq command (codes "summary") then option_map Summary (summary_trace words)
+    else None
+
+-- what words ask for, or nothing where they aren't taken
+abbrev pub asked : List (List ℕ) → Option Asked
+asked [] = None
+asked (command ∷ words) = command_asked command words
+
+-- whether the first word is one that the program knows
+abbrev pub knows_first : List (List ℕ) → Bool
+knows_first [] = false
+knows_first (command ∷ words) = bytes_eq command (codes "--help") || bytes_eq command (codes "summary")
+
+-- the files that are read for it, in order
+abbrev pub names_of : Asked → List (List ℕ)
+names_of Help = []
+names_of (Summary trace) = trace ∷ []
+
+-- what is done with them
+abbrev pub plan_of : Asked → Plan
+plan_of Help = Ends (Writes heapsuite_texts.usage)
+plan_of (Summary trace) = summary_plan trace
+
+-- the files that words name, where they are taken
+abbrev pub names_asked : Option Asked → List (List ℕ)
+names_asked None = []
+names_asked (Some request) = names_of request
+
+abbrev pub files_asked : List (List ℕ) → List (List ℕ)
+files_asked words = names_asked (asked words)

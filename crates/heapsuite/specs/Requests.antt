@@ -1,0 +1,8 @@
+-- A request of the code as what was asked.
+use Rattle.heapsuite.specs.declared.words.Request.{Request}
+use Rattle.heapsuite.specs.declared.words.Request.TheVariants as request
+use Rattle.heapsuite.specs.Asked.{Asked, Help, Summary}
+
+abbrev pub asked_of : Request → Asked
+asked_of request.Help = Help
+asked_of (request.Summary summary) = Summary summary.trace.now
