@@ -12,7 +12,7 @@ use Rattle.command_frame.specs.Run.{GoodFront}
 use Rattle.command_frame.proofs.FaultLemmas.{fault_found, fault_passes}
 
 -- what lines and those after them give
-gains_append : (report : Report) (earlier lines more : List (List ℕ)) → gains_from report earlier (lines ++ more) ≡ gains_from report earlier lines ++ gains_from report (earlier ++ lines) more
+pub gains_append : (report : Report) (earlier lines more : List (List ℕ)) → gains_from report earlier (lines ++ more) ≡ gains_from report earlier lines ++ gains_from report (earlier ++ lines) more
 gains_append report earlier [] more = ap (λ before. gains_from report before more) (sym (append-nil earlier))
 gains_append report earlier (line ∷ lines) more =
     ap (λ rest. report.gains earlier line ++ rest) (gains_append report (earlier ++ line ∷ []) lines more)

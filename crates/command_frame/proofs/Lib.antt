@@ -2,6 +2,7 @@ pub mod LineLemmas
 pub mod FaultLemmas
 pub mod OutputLemmas
 pub mod LinesLoop
+pub mod BatchLemmas
 pub mod EndLemmas
 pub mod RunLemmas
 pub mod DeliveryLemmas

@@ -12,10 +12,10 @@ place_before byte rest is = rw is (omega arith)
 put_before : (byte : ℕ) (rest : List ℕ) → is_line_feed byte ≡ false → lines_of (byte ∷ rest) ≡ put_first byte (lines_of rest)
 put_before byte rest is = rw is refl
 
-first_before : (byte : ℕ) (rest : List ℕ) → is_line_feed byte ≡ false → first_line (byte ∷ rest) ≡ byte ∷ first_line rest
+pub first_before : (byte : ℕ) (rest : List ℕ) → is_line_feed byte ≡ false → first_line (byte ∷ rest) ≡ byte ∷ first_line rest
 first_before byte rest is = ap (λ k. take k (byte ∷ rest)) (place_before byte rest is)
 
-after_before : (byte : ℕ) (rest : List ℕ) → is_line_feed byte ≡ false → after_line (byte ∷ rest) ≡ after_line rest
+pub after_before : (byte : ℕ) (rest : List ℕ) → is_line_feed byte ≡ false → after_line (byte ∷ rest) ≡ after_line rest
 after_before byte rest is =
     let place : position_or_len is_line_feed (byte ∷ rest) + 1 ≡ suc (position_or_len is_line_feed rest + 1) = omega (arith, place_before byte rest is) in
     ap (λ k. drop k (byte ∷ rest)) place

@@ -71,7 +71,7 @@ reading_new bounds report has reader start old kept_back kept passed number noth
 }
 
 -- the bytes that are known behind others
-left_behind : (kept : List ℕ) (left : Option (List ℕ)) (rest : List ℕ) → prepend_known kept left ≡ Some rest → (unread : List ℕ) × (left ≡ Some unread) × (rest ≡ kept ++ unread)
+pub left_behind : (kept : List ℕ) (left : Option (List ℕ)) (rest : List ℕ) → prepend_known kept left ≡ Some rest → (unread : List ℕ) × (left ≡ Some unread) × (rest ≡ kept ++ unread)
 left_behind kept None rest is = absurd (cc)
 left_behind kept (Some unread) rest is = (unread, refl, cc)
 
@@ -90,7 +90,7 @@ next_length bounds passed before bytes rest total same short within =
     (λ past. within (omega (arith, past.0, total), omega (arith, past.1, same), short))
 
 -- one line more
-told_more : (bounds : Bounds) (report : Report) (reader next : LineReaderState) (bytes : List ℕ) (taken : List (List ℕ)) (left new_left : Option (List ℕ)) (line : List ℕ)
+pub told_more : (bounds : Bounds) (report : Report) (reader next : LineReaderState) (bytes : List ℕ) (taken : List (List ℕ)) (left new_left : Option (List ℕ)) (line : List ℕ)
     → (before : ToldReading bounds report reader bytes taken left)
     → 0 < length before.rest → ¬ IsLineTooLong bounds.input bounds.line reader.passed before.rest → ¬ IsInputTooLong bounds.input bounds.line reader.passed before.rest
     → line ≡ first_line before.rest → prepend_known next.kept new_left ≡ Some (after_line before.rest) → lines_of before.rest ≡ line ∷ lines_of (after_line before.rest)

@@ -6,6 +6,7 @@ pub mod Texts
 pub mod Answer
 pub mod Run
 pub mod Taker
+pub mod Batch
 pub mod LinesRun
 pub mod Halts
 pub mod Outcome

@@ -20,5 +20,5 @@ pub use halt::{Halt, Message, Status};
 pub use lines::FileFault;
 pub use report::LineReport;
 pub use run::run_lines;
-pub use taker::{LineRefusal, LineTaker};
+pub use taker::{Batch, LineRefusal, LineTaker};
 pub use texts::ProgramTexts;

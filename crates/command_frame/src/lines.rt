@@ -4,6 +4,7 @@ ghost use Rattle.std.specs.Prelude.{◌≡◌, ◌≢◌, ◌+◌, ◌-◌, ◌*
 ghost use Rattle.std.specs.Io.KnownBytes.{append_known};
 ghost use Rattle.hp_outside.specs.Faults.{Rose};
 ghost use Rattle.hp_outside.specs.Taken.{GainsFront, WhereTold};
+ghost use Rattle.command_frame.specs.Batch.{HasTakenKept};
 ghost use Rattle.command_frame.specs.LinesRun.{IsNewReader, LinesRun, end_of};
 
 use crate::fault::{Fault, FaultStatus};
@@ -92,7 +93,7 @@ pub fn take_lines<T: LineTaker, S: Store, O: Sink>(
         match lines.next(store) {
             Ok(Some(span)) => match taker.line(lines.line(&span), buffer) {
                 Ok(()) => match pass_on_piece(buffer, out) {
-                    Ok(()) => {}
+                    Ok(()) => take_ready(lines, taker),
                     Err(Failed) => return Err(LinesStop::WriteFailed),
                 },
                 Err(LineRefusal::Fault(fault)) => {
@@ -121,6 +122,32 @@ pub fn take_lines<T: LineTaker, S: Store, O: Sink>(
             }
         }
     }
+}
+
+/// Takes the lines that the reader of lines holds already, as many as the taker takes at once.
+#[inline(always)]
+fn take_ready<T: LineTaker>(lines: &mut LineReader, taker: &mut T)
+    requires bounds { lines.old.input ≤ 2 ^ 34 }
+    requires given { lines.old.given ≤ lines.old.input + 1 }
+    requires sound { T.is_sound taker.old }
+    requires weight { T.weight taker.old ≤ lines.old.given }
+    ensures taken { HasTakenKept (T.report taker.old) (T.has_taken taker.old) (T.has_taken taker.new) lines.old lines.new }
+    ensures sound { T.is_sound taker.new }
+    ensures weight { T.weight taker.new ≤ lines.new.given }
+    ensures report { T.report taker.new ≡ T.report taker.old }
+    ensures given { lines.old.given ≤ lines.new.given }
+    ensures bounded { lines.new.given ≤ lines.new.input + 1 }
+    ensures input { lines.new.input ≡ lines.old.input }
+    ensures limit { lines.new.line_limit ≡ lines.old.line_limit }
+    ensures ended { lines.new.ended ≡ lines.old.ended }
+    ensures fault { lines.new.fault ≡ lines.old.fault }
+{
+    let ready = lines.ready_lines();
+    if ready.is_empty() {
+        return;
+    }
+    let batch = taker.batch(ready);
+    lines.pass(batch.bytes, batch.lines);
 }
 
 /// Writes what is kept back, where it is a piece or more.

@@ -1,5 +1,6 @@
 //! What takes the lines of a file, one after another. What the lines mean is the business of the commands.
 ghost use Rattle.std.specs.Prelude.{◌≡◌, ℕ, ◌+◌, ◌^◌, ◌<◌, ◌≤◌, List, [], ◌∷◌, ◌++◌, None, Some, length, OnOk, OnErr, IfErr};
+ghost use Rattle.command_frame.specs.Batch.{HasTakenFront};
 ghost use Rattle.command_frame.specs.Report.{Report};
 ghost use Rattle.command_frame.specs.Taker.{Tells};
 
@@ -23,6 +24,13 @@ impl<F> From<NoMemory> for LineRefusal<F> {
     fn from(_: NoMemory) -> LineRefusal<F> {
         LineRefusal::NoMemory
     }
+}
+
+/// How many bytes at the front of others were taken, and how many lines these are.
+#[derive(Clone, Copy, Debug)]
+pub struct Batch {
+    pub bytes: usize,
+    pub lines: u64,
 }
 
 /// What takes the lines of a file.
@@ -61,4 +69,18 @@ pub trait LineTaker {
     fn end(&self) -> Result<(), Self::Fault>
         ensures no_fault { OnOk result ((lines : List (List ℕ)) → has_taken self.now lines → (report self.now).end_fault lines ≡ None) }
         ensures fault { IfErr result (λ fault. (lines : List (List ℕ)) → has_taken self.now lines → (report self.now).end_fault lines ≡ Some (Self.Fault.told fault)) };
+
+    /// Takes whole lines at the front of the bytes, as `line` would, as long as each has fewer than 16 bytes, no fault,
+    /// and nothing to give to standard output. It may stop before any line, and takes no memory.
+    fn batch(&mut self, ready: &[u8]) -> Batch
+        requires sound { is_sound self.old }
+        requires room { weight self.old + length ready.now ≤ 2 ^ 34 }
+        ensures sound { is_sound self.new }
+        ensures taken { HasTakenFront (report self.old) (has_taken self.old) (has_taken self.new) ready.now result.bytes result.lines }
+        ensures held { result.bytes ≤ length ready.now }
+        ensures weight { weight self.new ≤ weight self.old + result.bytes }
+        ensures report { report self.new ≡ report self.old }
+    {
+        Batch { bytes: 0, lines: 0 }
+    }
 }

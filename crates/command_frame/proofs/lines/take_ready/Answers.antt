@@ -1,0 +1,8 @@
+use Rattle.std.proofs.Common.{arith}
+use Rattle.command_frame.proofs.BatchLemmas.{nothing_kept}
+use Rattle.command_frame.proofs.lines.take_ready.Goals as goal
+
+-- the reader lends nothing
+pub returns-then-is_empty-clause-taken : goal.returns-then-is_empty-clause-taken
+returns-then-is_empty-clause-taken g c =
+    nothing_kept (g.T.LineTaker.report c.args.taker.now) (g.T.LineTaker.has_taken c.args.taker.now) c.args.lines.now (omega (arith, c.ready_lines-ready.ensures.within))
