@@ -1,7 +1,7 @@
 //! The worked cases over the top call, with texts from the format's description, and each fault of a store or an
 //! output once.
 
-use crate::run::heapsuite_run;
+use crate::run::{heapsuite_main, heapsuite_run};
 use hp_outside::{Limits, MemSink, MemStore, SureSink, SureStore};
 use std::alloc::Global;
 use std::process::Abort;
@@ -317,15 +317,24 @@ fn lengths(rt: HostRuntime) -> Result<(), Fail> {
 #[test]
 fn words_and_names(rt: HostRuntime) -> Result<(), Fail> {
     let table = [
+        words(&["--help"], 0, USAGE, ""),
         words(&[], 2, "", USAGE),
         words(&["summary"], 2, "", USAGE),
         words(&["summary", "t", "t"], 2, "", USAGE),
-        words(&["summary", "--", "t"], 2, "", USAGE),
+        words(&["summary", "--", "t"], 0, TWO_SIZES_SUMMARY, ""),
         words(&["summary", "-t"], 2, "", USAGE),
+        words(&["summary", "-h"], 2, "", USAGE),
         words(&["summary", "--help"], 2, "", USAGE),
-        words(&["--help"], 2, "", USAGE),
+        words(&["summary", "--level=5", "t"], 2, "", USAGE),
+        words(&["--help", "t"], 2, "", USAGE),
         words(&["Summary", "t"], 2, "", USAGE),
         words(&["", "t"], 2, "", USAGE),
+        words(
+            &["summary", "--", "-x"],
+            3,
+            "",
+            "heapsuite: -x: no such file\n",
+        ),
         words(&["summary", "u"], 3, "", "heapsuite: u: no such file\n"),
         words(&["summary", ""], 3, "", "heapsuite: : no such file\n"),
         words(&["summary", "-"], 3, "", "heapsuite: -: no such file\n"),
@@ -402,21 +411,14 @@ fn failing_calls(rt: HostRuntime) -> Result<(), Fail> {
 }
 
 #[test]
-fn sure_outputs(rt: HostRuntime) -> Result<(), Fail> {
+fn standard_limits(rt: HostRuntime) -> Result<(), Fail> {
     let alloc = rt.alloc();
-    let words = words_of(alloc, &["summary", "t"])?;
+    let words = Ok(words_of(alloc, &["summary", "t"])?);
     let mut store = SureStore::new(alloc, 16);
     store.add("t", TWO_SIZES.as_bytes())?;
     let mut out = SureSink::new();
     let mut err = SureSink::new();
-    let status = heapsuite_run(
-        alloc,
-        &words,
-        &Limits::standard(),
-        &mut store,
-        &mut out,
-        &mut err,
-    );
+    let status = heapsuite_main(alloc, &words, &mut store, &mut out, &mut err);
     assert_eq!(rt; status, 0);
     Ok(())
 }

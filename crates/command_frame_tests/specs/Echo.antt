@@ -1,0 +1,17 @@
+-- A taker that gives each line back, and refuses one.
+use Rattle.std.specs.Prelude.{ℕ, List, [], ◌∷◌, ◌++◌, Option, Some, None, Bool, codes, if◌then◌else◌}
+use Rattle.std.specs.Str.{bytes_eq}
+use Rattle.command_frame.specs.declared.FaultStatus.TheVariants.{Malformed}
+use Rattle.command_frame.specs.Report.{Refuses, Report, Writes}
+use Rattle.command_frame.specs.Told.{Told}
+
+abbrev pub bad : Told
+bad = record { text = codes "bad"; status = Malformed }
+
+abbrev pub echo_report : Bool → Report
+echo_report refuses = record {
+  line_fault = λ earlier line. if bytes_eq line (codes "bad") then Some bad else None;
+  end_fault = λ lines. None;
+  gains = λ earlier line. line ++ 10 ∷ [];
+  verdict = λ lines. if refuses then Refuses bad else Writes (codes "end\n");
+}

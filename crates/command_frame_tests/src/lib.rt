@@ -1,0 +1,7 @@
+//! Tests of the public calls of `command_frame`, in a crate of their own: a crate that has tests is proved twice.
+#![tactic(auto)]
+
+mod echo;
+
+#[cfg(test)]
+mod tests;

@@ -1,0 +1,194 @@
+//! Runs of a taker that writes while it reads: refused lines, failed calls and outputs that are full.
+
+use crate::echo::Echo;
+use command_frame::{Desk, Outcome, ProgramTexts, deliver, read_lines, run_lines};
+use hp_num::put_bytes;
+use hp_outside::{Limits, LineReader, MemSink, MemStore};
+use std::alloc::Global;
+use std::process::Abort;
+use std::test::Fail;
+
+const TEXTS: ProgramTexts = ProgramTexts {
+    name: "echo",
+    usage: b"usage\n",
+    out_of_memory: b"echo: out of memory\n",
+    write_failed: b"echo: write failed\n",
+};
+
+/// A run over the file `t`, and what is expected of it. A call of number 0 never fails.
+#[derive(Clone, Copy)]
+struct Case {
+    file: &'static str,
+    refuses: bool,
+    piece: usize,
+    failing_store_call: u64,
+    out_room: usize,
+    failing_out_call: u64,
+    failing_err_call: u64,
+    status: u8,
+    output: &'static str,
+    message: &'static str,
+}
+
+const SOUND: Case = Case {
+    file: "t",
+    refuses: false,
+    piece: 3,
+    failing_store_call: 0,
+    out_room: 99,
+    failing_out_call: 0,
+    failing_err_call: 0,
+    status: 0,
+    output: "a\nbc\nend\n",
+    message: "",
+};
+
+fn desk(alloc: Global) -> Desk {
+    Desk {
+        alloc,
+        limits: Limits::standard(),
+        texts: TEXTS,
+    }
+}
+
+/// Runs a case over these bytes, and asserts the status and what both outputs hold.
+fn expect(rt: &impl Abort, alloc: Global, bytes: &[u8], case: &Case) -> Result<(), Fail> {
+    let mut store = MemStore::new(alloc, case.piece.max(1));
+    store.add("t", bytes)?;
+    store.fail_at(case.failing_store_call)?;
+    let mut out = MemSink::new(alloc, case.out_room)?;
+    out.fail_at(case.failing_out_call)?;
+    let mut err = MemSink::new(alloc, 99)?;
+    err.fail_at(case.failing_err_call)?;
+    let mut echo = Echo {
+        refuses: case.refuses,
+    };
+    let desk = desk(alloc);
+    let ran = run_lines(&desk, case.file, &mut echo, &mut store, &mut out);
+    let outcome = Outcome::new(alloc, ran);
+    let status = deliver(&outcome, &TEXTS, &mut out, &mut err);
+    assert_eq!(rt; out.bytes(), case.output.as_bytes(), "standard output");
+    assert_eq!(rt; err.bytes(), case.message.as_bytes(), "standard error");
+    assert_eq!(rt; status, case.status, "status");
+    Ok(())
+}
+
+#[test]
+fn output_while_reading(rt: HostRuntime) -> Result<(), Fail> {
+    let table = [
+        SOUND,
+        Case {
+            refuses: true,
+            status: 1,
+            output: "a\nbc\n",
+            message: "echo: t: bad\n",
+            ..SOUND
+        },
+        Case {
+            file: "u",
+            status: 3,
+            output: "",
+            message: "echo: u: no such file\n",
+            ..SOUND
+        },
+        Case {
+            failing_store_call: 1,
+            status: 3,
+            output: "",
+            message: "echo: t: cannot open\n",
+            ..SOUND
+        },
+        // The first read takes the first line and the first byte of the second.
+        Case {
+            failing_store_call: 3,
+            status: 3,
+            output: "a\n",
+            message: "echo: t: cannot read\n",
+            ..SOUND
+        },
+        // The lines are written at the file's end, and the rest behind them.
+        Case {
+            failing_out_call: 1,
+            status: 4,
+            output: "",
+            message: "echo: write failed\n",
+            ..SOUND
+        },
+        Case {
+            out_room: 4,
+            status: 4,
+            output: "a\nbc",
+            message: "echo: write failed\n",
+            ..SOUND
+        },
+        Case {
+            failing_out_call: 2,
+            status: 4,
+            output: "a\nbc\n",
+            message: "echo: write failed\n",
+            ..SOUND
+        },
+        // A flush of either output fails.
+        Case {
+            failing_out_call: 3,
+            status: 4,
+            ..SOUND
+        },
+        Case {
+            failing_err_call: 1,
+            status: 4,
+            ..SOUND
+        },
+    ];
+    for case in table {
+        expect(&rt, rt.alloc(), b"a\nbc", &case)?;
+    }
+    Ok(())
+}
+
+#[test]
+fn output_before_a_refused_line(rt: HostRuntime) -> Result<(), Fail> {
+    let case = Case {
+        status: 1,
+        output: "a\n",
+        message: "echo: t:2: bad\n",
+        ..SOUND
+    };
+    expect(&rt, rt.alloc(), b"a\nbad\nbc\n", &case)
+}
+
+// Output of 70,000 bytes is written in two pieces, and in a third the rest.
+#[test]
+fn output_in_pieces(rt: HostRuntime) -> Result<(), Fail> {
+    let alloc = rt.alloc();
+    let mut lines = Vec::new(alloc);
+    for _ in 0..7_000 {
+        put_bytes(&mut lines, b"123456789\n")?;
+    }
+    let mut store = MemStore::new(alloc, 1_000);
+    store.add("t", &lines)?;
+    let mut out = MemSink::new(alloc, 80_000)?;
+    out.fail_at(2)?;
+    let mut echo = Echo { refuses: false };
+    let desk = desk(alloc);
+    let ran = run_lines(&desk, "t", &mut echo, &mut store, &mut out);
+    assert!(rt; ran.is_err());
+    assert_eq!(rt; out.bytes().len(), 65_540);
+    Ok(())
+}
+
+#[test]
+fn files_in_order(rt: HostRuntime) -> Result<(), Fail> {
+    let alloc = rt.alloc();
+    let mut store = MemStore::new(alloc, 3);
+    store.add("a", b"first")?;
+    store.add("b", b"second\n")?;
+    let mut out = MemSink::new(alloc, 99)?;
+    let mut echo = Echo { refuses: false };
+    let desk = desk(alloc);
+    let mut lines = LineReader::new(alloc, &desk.limits)?;
+    assert!(rt; read_lines(&desk, &mut lines, "a", &mut echo, &mut store, &mut out).is_ok());
+    assert!(rt; read_lines(&desk, &mut lines, "b", &mut echo, &mut store, &mut out).is_ok());
+    assert_eq!(rt; out.bytes(), b"first\nsecond\n".as_slice());
+    Ok(())
+}
