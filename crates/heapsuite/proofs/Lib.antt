@@ -1,3 +1,4 @@
 pub mod EventLemmas
 pub mod PeakLemmas
+pub mod BatchLemmas
 pub mod AskedLemmas

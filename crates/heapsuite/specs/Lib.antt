@@ -4,11 +4,10 @@ pub mod SummaryText
 pub mod CommandFault
 pub mod SummaryReport
 pub mod TraceReader
+pub mod Batch
 pub mod Texts
 pub mod SummaryWords
 pub mod Asked
 pub mod Requests
-
-
 pub mod Answer
 pub mod Run

@@ -4,6 +4,7 @@
 //! `run::heapsuite_run`, the program's contract.
 #![tactic(auto)]
 
+mod batch;
 mod fault;
 mod peak;
 mod run;

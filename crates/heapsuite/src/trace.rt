@@ -1,6 +1,6 @@
 //! Taking a trace line by line, to the figures of its summary. What a line says and which numbers it may name is the
 //! tables' part, and the live figures are the ledger's. How lines come from a file is no part of it.
-ghost use Rattle.std.specs.Prelude.{◌≡◌, ◌≢◌, ℕ, ◌+◌, ◌*◌, ◌^◌, ◌<◌, ◌≤◌, List, [], ◌∷◌, ◌++◌, None, Some, length, OnOk, IfOk, IfErr};
+ghost use Rattle.std.specs.Prelude.{◌≡◌, ◌≢◌, ℕ, ◌+◌, ◌*◌, ◌^◌, ◌<◌, ◌≤◌, List, [], ◌∷◌, ◌++◌, None, Some, length, OnOk, OnErr, IfOk, IfErr};
 ghost use Rattle.std.specs.Option.{option_map, option_to_list};
 ghost use Rattle.live_ledger.specs.declared.event.Event.{Event};
 ghost use Rattle.live_ledger.specs.Events.{counted, is_counted};
@@ -21,7 +21,7 @@ ghost use Rattle.heapsuite.specs.TraceReader.{HasRead, IsSound};
 use crate::fault::CommandFault;
 use crate::peak::Peak;
 use crate::summary::Summary;
-use command_frame::{LineRefusal, LineReport, LineTaker};
+use command_frame::{Batch, LineRefusal, LineReport, LineTaker};
 use hp_num::NoMemory;
 use ht_trace::{LineError, Step, Tables};
 use live_ledger::{Event, EventFault, Ledger};
@@ -30,9 +30,9 @@ use std::alloc::Global;
 /// What has been read of a trace so far.
 #[derive(Debug, Drop)]
 pub struct TraceReader {
-    tables: Tables,
-    ledger: Ledger,
-    peak: Peak,
+    pub(crate) tables: Tables,
+    pub(crate) ledger: Ledger,
+    pub(crate) peak: Peak,
 }
 
 impl TraceReader {
@@ -106,6 +106,13 @@ impl LineTaker for TraceReader {
             Err(error) => Err(CommandFault::Line(error)),
         }
     }
+
+    fn batch(&mut self, ready: &[u8]) -> Batch {
+        match self.tables.end() {
+            Ok(()) => self.read_events(ready),
+            Err(_) => Batch { bytes: 0, lines: 0 },
+        }
+    }
 }
 
 impl LineReport for TraceReader {
@@ -148,7 +155,13 @@ fn take_step(ledger: &mut Ledger, peak: &mut Peak, step: Step) -> Result<(), Lin
 }
 
 /// Takes an event into the ledger and the peak; a clock value changes neither's figures.
-fn take_event(ledger: &mut Ledger, peak: &mut Peak, event: Event) -> Result<(), EventFault>
+// Where lines come in batches, the kind of the event is known at the call.
+#[inline(always)]
+pub(crate) fn take_event(
+    ledger: &mut Ledger,
+    peak: &mut Peak,
+    event: Event,
+) -> Result<(), EventFault>
     requires held { IsHeld ledger.old event }
     requires room { 4 * ledger.old.totals.events + least_length_of event ≤ 2 ^ 34 }
     ensures ledger { OnOk result ((taken : List Event) → ledger_spec.StandsFor ledger.old taken → ledger_spec.StandsFor ledger.new (taken ++ event ∷ [])) }
@@ -158,6 +171,8 @@ fn take_event(ledger: &mut Ledger, peak: &mut Peak, event: Event) -> Result<(), 
     ensures stacks { ledger.new.stacks ≡ ledger.old.stacks }
     ensures infos { ledger.new.infos ≡ ledger.old.infos }
     ensures events { OnOk result (4 * ledger.new.totals.events ≤ 4 * ledger.old.totals.events + least_length_of event + 1) }
+    ensures ledger_unchanged { OnErr result (ledger.new ≡ ledger.old) }
+    ensures peak_unchanged { OnErr result (peak.new ≡ peak.old) }
 {
     ledger.apply(event)?;
     if !is_counted(event) {
