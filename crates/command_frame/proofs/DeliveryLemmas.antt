@@ -29,9 +29,11 @@ fronts_later {write_failed} {answer} {out_rose} {out_rises} {err_rose} {err_rise
 pub fronts_behind : (write_failed early : List ℕ) (answer : Answer) {out_rose err_rose : Type 0} {out_old out_mid out_new err_old err_new : Option (List ℕ)} → out_mid ≡ append_known out_old early
     → GainsFronts write_failed answer out_rose err_rose out_mid out_new err_old err_new → GainsFronts write_failed (after early answer) out_rose err_rose out_old out_new err_old err_new
 fronts_behind write_failed early answer {out_rose} {err_rose} {out_old} {out_mid} {out_new} {err_old} {err_new} gained fronts = record {
-  output = (length early + fronts.output.0,
-  fronts.output.1 ∙ (ap (λ o. append_known o (take fronts.output.0 answer.output)) gained
-  ∙ (append_further out_old early (take fronts.output.0 answer.output) ∙ ap (append_known out_old) (sym (take-append-add early answer.output fronts.output.0)))));
+  output = (
+    length early + fronts.output.0,
+    fronts.output.1 ∙ (ap (λ o. append_known o (take fronts.output.0 answer.output)) gained
+        ∙ (append_further out_old early (take fronts.output.0 answer.output) ∙ ap (append_known out_old) (sym (take-append-add early answer.output fronts.output.0)))),
+  );
   message = fronts.message;
   output_whole = λ quiet. fronts.output_whole quiet ∙ whole;
   message_whole = fronts.message_whole;

@@ -106,14 +106,22 @@ pub unopened_end : (texts : Texts) (bounds : Bounds) (files : Option Folder) (na
     → (end : FileEnd) × (FileRead bounds files name report before now end × HaltsAt texts name has end (Err halt) × (old ≡ append_known old (end_output report end)))
 unopened_end texts bounds files name report has before now old fault result halt is tells opened absent failed answer memory =
     elim (eqb_tells (status_code halt.status) 5) [
-      | inl five ↦ (Wanting [], (
-        record { told = λ folder known. none_taken bounds report (file_of folder name) now.left; calls = opened.opens },
-        (tt, memory five.1),
-        sym (append_nothing old)))
-      | inr other ↦ (end_of_open fault, (
-        record { told = λ folder known. open_told bounds report (file_of folder name) now.left fault result is (tells folder known); calls = open_calls files before now fault opened absent failed },
-        (open_stops fault, answer other.1),
-        sym (ap (append_known old) (open_output report fault) ∙ append_nothing old)))
+      | inl five ↦ (
+        Wanting [],
+        (
+          record { told = λ folder known. none_taken bounds report (file_of folder name) now.left; calls = opened.opens },
+          (tt, memory five.1),
+          sym (append_nothing old),
+        ),
+      )
+      | inr other ↦ (
+        end_of_open fault,
+        (
+          record { told = λ folder known. open_told bounds report (file_of folder name) now.left fault result is (tells folder known); calls = open_calls files before now fault opened absent failed },
+          (open_stops fault, answer other.1),
+          sym (ap (append_known old) (open_output report fault) ∙ append_nothing old),
+        ),
+      )
     ]
 
 -- from the file's bytes, which the store has left once it is opened, to the named file
@@ -128,11 +136,14 @@ pub passed_end : (texts : Texts) (bounds : Bounds) (files : Option Folder) (name
     → WhereTold files (λ folder. start ≡ file_of folder name) → WhereTold files (λ folder. IsSome (file_of folder name))
     → Opened before now true → now.faults ≡ before.faults → WhereTold now.left (λ left. left ≡ [])
     → (end : FileEnd) × (FileRead bounds files name report before now end × HaltsAt texts name has end (Ok tt) × (new ≡ append_known old (end_output report end)))
-passed_end texts bounds files name report has before now start old new taken run has_taken start_is found opened faults ended =
-    (Passed taken, (
-      record { told = λ folder known. file_told bounds report (file_of folder name) start now.left (Passed taken) (start_is folder known) (found folder known) run.told; calls = (opened, faults, ended) },
-      (taken, (refl, has_taken)),
-      run.gained.written ∙ ap (append_known old) (sym (append-nil run.gained.early) ∙ run.gained.all)))
+passed_end texts bounds files name report has before now start old new taken run has_taken start_is found opened faults ended = (
+  Passed taken,
+  (
+    record { told = λ folder known. file_told bounds report (file_of folder name) start now.left (Passed taken) (start_is folder known) (found folder known) run.told; calls = (opened, faults, ended) },
+    (taken, (refl, has_taken)),
+    run.gained.written ∙ ap (append_known old) (sym (append-nil run.gained.early) ∙ run.gained.all),
+  ),
+)
 
 -- the lines of a file weren't all taken
 stop_calls : {F : Type 0} (told : F → Told) (files : Option Folder) (before now : Moment) (stop : LinesStop F) (taken : List (List ℕ)) (count : ℕ) → Opened before now true
@@ -167,19 +178,27 @@ stopped_end {F} tells texts bounds files name report has before now start old ne
     let run = subst (λ r. LinesRun bounds report start now.left old new [] (end_of tells r taken count)) is runs in
     let gained = run.gained.written ∙ ap (append_known old) (sym (append-nil run.gained.early) ∙ run.gained.all) in
     elim (eqb_tells (status_code halt.status) 5) [
-      | inl five ↦ (Wanting taken, (
-        record {
-          told = λ folder known. file_told bounds report (file_of folder name) start now.left (Wanting taken) (start_is folder known) (found folder known)
-              (λ bytes is_known. any_front tells bounds report bytes now.left (Err stop) taken count (run.told bytes is_known));
-          calls = opened.opens;
-        },
-        (tt, memory five.1),
-        gained ∙ ap (append_known old) (stop_output tells report stop taken count (λ failed_write. let four = write failed_write in absurd (omega (arith, four, five.1))))))
-      | inr other ↦ (end_of tells (Err stop) taken count, (
-        record {
-          told = λ folder known. file_told bounds report (file_of folder name) start now.left (end_of tells (Err stop) taken count) (start_is folder known) (found folder known) run.told;
-          calls = stop_calls tells files before now stop taken count opened failed sound;
-        },
-        (stop_stops tells stop taken count, answer other.1),
-        gained))
+      | inl five ↦ (
+        Wanting taken,
+        (
+          record {
+            told = λ folder known. file_told bounds report (file_of folder name) start now.left (Wanting taken) (start_is folder known) (found folder known)
+                (λ bytes is_known. any_front tells bounds report bytes now.left (Err stop) taken count (run.told bytes is_known));
+            calls = opened.opens;
+          },
+          (tt, memory five.1),
+          gained ∙ ap (append_known old) (stop_output tells report stop taken count (λ failed_write. let four = write failed_write in absurd (omega (arith, four, five.1)))),
+        ),
+      )
+      | inr other ↦ (
+        end_of tells (Err stop) taken count,
+        (
+          record {
+            told = λ folder known. file_told bounds report (file_of folder name) start now.left (end_of tells (Err stop) taken count) (start_is folder known) (found folder known) run.told;
+            calls = stop_calls tells files before now stop taken count opened failed sound;
+          },
+          (stop_stops tells stop taken count, answer other.1),
+          gained,
+        ),
+      )
     ]

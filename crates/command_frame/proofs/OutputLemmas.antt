@@ -54,11 +54,12 @@ passed_on_all {old} {now} {new} {kept_back} {bytes} before passed_on = record {
 -- a front of what is kept back was written, and the rest is lost
 pub front_of_all : (old now new : Option (List ℕ)) (kept_back bytes : List ℕ) → Gained old now kept_back bytes → (count : ℕ) → new ≡ append_known now (take count kept_back)
     → (more : ℕ) × (new ≡ append_known old (take more bytes))
-front_of_all old now new kept_back bytes before count passed_on =
-    (length before.early + count,
-    passed_on ∙ (ap (λ known. append_known known (take count kept_back)) before.written
-    ∙ (append_further old before.early (take count kept_back)
-    ∙ ap (append_known old) (sym (take-append-add before.early kept_back count) ∙ ap (take (length before.early + count)) before.all))))
+front_of_all old now new kept_back bytes before count passed_on = (
+  length before.early + count,
+  passed_on ∙ (ap (λ known. append_known known (take count kept_back)) before.written
+      ∙ (append_further old before.early (take count kept_back)
+      ∙ ap (append_known old) (sym (take-append-add before.early kept_back count) ∙ ap (take (length before.early + count)) before.all))),
+)
 
 -- a front of a list is what stands before the next number
 pub take_front : (front more all : List (List ℕ)) (number : ℕ) → all ≡ front ++ more → number ≡ length front + 1 → front ≡ take (number - 1) all

@@ -206,12 +206,13 @@ passed_facts texts bounds files last name wanted names report next before mid no
           is ∙ (ap (after (written report taken)) (rest.quiet folder known (λ rose. quiet (subst (λ n. Rose n now.faults) faults rose)) (λ e. four (status ∙ e)) (λ e. five (status ∙ e)))
           ∙ passed_answer texts bounds wanted report (file_of folder wanted) mid.left taken (λ lines. plan_answer texts bounds folder wanted (next lines)) (read.told folder known));
       front = λ folder known.
-          let front = rest.front folder known in
-          (length (written report taken) + front.0,
-          ap (λ (a : Answer). a.output) is ∙ (ap (λ bytes. written report taken ++ bytes) front.1
-          ∙ (sym (take-append-add (written report taken) (plan_answer texts bounds folder wanted (next taken)).output front.0)
-          ∙ ap (λ (a : Answer). take (length (written report taken) + front.0) a.output)
-          (passed_answer texts bounds wanted report (file_of folder wanted) mid.left taken (λ lines. plan_answer texts bounds folder wanted (next lines)) (read.told folder known)))));
+          let front = rest.front folder known in (
+            length (written report taken) + front.0,
+            ap (λ (a : Answer). a.output) is ∙ (ap (λ bytes. written report taken ++ bytes) front.1
+                ∙ (sym (take-append-add (written report taken) (plan_answer texts bounds folder wanted (next taken)).output front.0)
+                ∙ ap (λ (a : Answer). take (length (written report taken) + front.0) a.output)
+                (passed_answer texts bounds wanted report (file_of folder wanted) mid.left taken (λ lines. plan_answer texts bounds folder wanted (next lines)) (read.told folder known)))),
+          );
       unread = λ none. absurd (cc);
       opens_at_least = omega (arith, opens, rest.opens_at_least);
       opens_at_most = omega (arith, opens, rest.opens_at_most);
@@ -229,9 +230,11 @@ passed_facts texts bounds files last name wanted names report next before mid no
     current_behind : (more : List (List ℕ)) → (more ≢ [] → now.current ≡ true) → (more ≡ [] → now ≡ mid) → now.current ≡ true
     current_behind [] later same = ap (λ (m : Moment). m.current) (same refl) ∙ read.calls.0.current_is
     current_behind (other ∷ more) later same = later (λ none. absurd (cc))
+
     ended_behind : (more : List (List ℕ)) → (more ≢ [] → WhereTold now.left (λ left. left ≡ [])) → (more ≡ [] → now ≡ mid) → WhereTold now.left (λ left. left ≡ [])
     ended_behind [] later same = subst (λ (m : Moment). WhereTold m.left (λ left. left ≡ [])) (sym (same refl)) read.calls.2
     ended_behind (other ∷ more) later same = later (λ none. absurd (cc))
+
     not_read_behind : NotRead texts files names mid now answer → mid.opens ≡ before.opens + 1 → mid.faults ≡ before.faults → given.message ≡ answer.message → NotRead texts files (name ∷ names) before now given
     not_read_behind behind opens faults message = record {
       place = suc behind.place;
@@ -327,9 +330,9 @@ lines_facts texts bounds files last name wanted names report next before mid now
     (unread_not_read texts files name wanted names bounds report before now given taken named here goes.0)
     (λ folder known quiet. absurd (quiet here.calls.1))
     (λ folder known.
-        let front = no_more (front_in texts bounds wanted report (file_of folder wanted) mid.left taken (λ lines. plan_answer texts bounds folder wanted (next lines)) (CannotRead taken)
-        (λ bytes ends. stopped_front ends) (λ ends. absurd ends) (read.told folder known)) in
-        (front.0, ap (λ (a : Answer). a.output) goes.0 ∙ front.1))
+    let front = no_more (front_in texts bounds wanted report (file_of folder wanted) mid.left taken (λ lines. plan_answer texts bounds folder wanted (next lines)) (CannotRead taken)
+    (λ bytes ends. stopped_front ends) (λ ends. absurd ends) (read.told folder known)) in
+    (front.0, ap (λ (a : Answer). a.output) goes.0 ∙ front.1))
     (λ none. absurd (cc)) (omega (arith, opens)) (omega (arith, opens))
 lines_facts texts bounds files last name wanted names report next before mid now given (Refused taken number told) named read goes later =
     let opens : now.opens ≡ before.opens + 1 = ap (λ (m : Moment). m.opens) goes.1 ∙ read.calls.0.opens in
@@ -340,17 +343,17 @@ lines_facts texts bounds files last name wanted names report next before mid now
     let opens : now.opens ≡ before.opens + 1 = ap (λ (m : Moment). m.opens) goes.1 ∙ read.calls in
     wanting_facts texts bounds files last (name ∷ names) (Lines wanted report next) before now given (ap (λ (a : Answer). a.status) goes.0) (ap (λ (a : Answer). a.message) goes.0)
     (λ folder known.
-        let front = no_more (front_in texts bounds wanted report (file_of folder wanted) mid.left taken (λ lines. plan_answer texts bounds folder wanted (next lines)) (Wanting taken)
-        (λ bytes ends. ends) (λ ends. ends) (read.told folder known)) in
-        (front.0, ap (λ (a : Answer). a.output) goes.0 ∙ front.1))
+    let front = no_more (front_in texts bounds wanted report (file_of folder wanted) mid.left taken (λ lines. plan_answer texts bounds folder wanted (next lines)) (Wanting taken)
+    (λ bytes ends. ends) (λ ends. ends) (read.told folder known)) in
+    (front.0, ap (λ (a : Answer). a.output) goes.0 ∙ front.1))
     (λ none. absurd (cc)) (omega (arith, opens)) (omega (arith, opens))
 lines_facts texts bounds files last name wanted names report next before mid now given (Unwritten taken count) named read goes later =
     let opens : now.opens ≡ before.opens + 1 = ap (λ (m : Moment). m.opens) goes.1 ∙ read.calls in
     unwritten_facts texts bounds files last (name ∷ names) (Lines wanted report next) before now given (ap (λ (a : Answer). a.status) goes.0) (ap (λ (a : Answer). a.message) goes.0)
     (λ folder known.
-        let front = cut_more count (front_in texts bounds wanted report (file_of folder wanted) mid.left taken (λ lines. plan_answer texts bounds folder wanted (next lines)) (Unwritten taken count)
-        (λ bytes ends. ends) (λ ends. absurd ends) (read.told folder known)) in
-        (front.0, ap (λ (a : Answer). a.output) goes.0 ∙ front.1))
+    let front = cut_more count (front_in texts bounds wanted report (file_of folder wanted) mid.left taken (λ lines. plan_answer texts bounds folder wanted (next lines)) (Unwritten taken count)
+    (λ bytes ends. ends) (λ ends. absurd ends) (read.told folder known)) in
+    (front.0, ap (λ (a : Answer). a.output) goes.0 ∙ front.1))
     (λ none. absurd (cc)) (omega (arith, opens)) (omega (arith, opens))
 lines_facts texts bounds files last name wanted names report next before mid now given (Passed taken) named read goes later =
     passed_facts texts bounds files last name wanted names report next before mid now given goes.0 taken named read goes.1 (later taken goes.0 goes.2)

@@ -23,11 +23,23 @@ unopened_told bounds report (Some bytes) left = tt
 pub ran_unopened : (texts : Texts) (bounds : Bounds) (files : Option Folder) (last name : List ℕ) (names : List (List ℕ)) (report : Report) (next : List (List ℕ) → Plan) (now : Moment) (out : Option (List ℕ)) (answer : Answer)
     → answer ≡ memory_answer texts
     → (early : List ℕ) × ((out ≡ append_known out early) × Ran texts bounds files last (name ∷ names) (Lines name report next) now now (after early answer))
-ran_unopened texts bounds files last name names report next now out answer is =
-    ([], (sym (append_nothing out), (refl, (Unopened, (
-      now,
-      record { told = λ folder known. unopened_told bounds report (file_of folder name) now.left; calls = refl },
-      (ap (after []) is, refl))))))
+ran_unopened texts bounds files last name names report next now out answer is = (
+  [],
+  (
+    sym (append_nothing out),
+    (
+      refl,
+      (
+        Unopened,
+        (
+          now,
+          record { told = λ folder known. unopened_told bounds report (file_of folder name) now.left; calls = refl },
+          (ap (after []) is, refl),
+        ),
+      ),
+    ),
+  ),
+)
 
 -- a file of which not all lines were taken
 goes_no_further : (texts : Texts) (bounds : Bounds) (files : Option Folder) (last name : List ℕ) (names : List (List ℕ)) (report : Report) (next : List (List ℕ) → Plan) (before now : Moment) (end : FileEnd) (answer : Answer)
@@ -57,6 +69,10 @@ pub ran_on : (texts : Texts) (bounds : Bounds) (files : Option Folder) (last nam
     (taken : List (List ℕ)) (answer : Answer) → FileRead bounds files name report before mid end → end ≡ Passed taken → new ≡ append_known old (end_output report end)
     → Ran texts bounds files name names (next taken) mid now answer
     → (early : List ℕ) × ((new ≡ append_known old early) × Ran texts bounds files last (name ∷ names) (Lines name report next) before now (after early answer))
-ran_on texts bounds files last name names report next before mid now old new end taken answer read is gained rest =
-    (written report taken, (gained ∙ ap (λ e. append_known old (end_output report e)) is,
-    (refl, (Passed taken, (mid, subst (λ e. FileRead bounds files name report before mid e) is read, (answer, refl, rest))))))
+ran_on texts bounds files last name names report next before mid now old new end taken answer read is gained rest = (
+  written report taken,
+  (
+    gained ∙ ap (λ e. append_known old (end_output report e)) is,
+    (refl, (Passed taken, (mid, subst (λ e. FileRead bounds files name report before mid e) is read, (answer, refl, rest)))),
+  ),
+)

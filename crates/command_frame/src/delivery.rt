@@ -70,13 +70,21 @@ pub fn deliver<O: Sink, E: Sink>(
         None => deliver_parts(&outcome.rest, &[], DONE, texts.write_failed, out, err),
         Some(halt) => {
             let message = halt.message.bytes(texts);
-            deliver_parts(&outcome.rest, message, halt.status.code(), texts.write_failed, out, err)
+            deliver_parts(
+                &outcome.rest,
+                message,
+                halt.status.code(),
+                texts.write_failed,
+                out,
+                err,
+            )
         }
     }
 }
 
 /// Writes the rest of an output and a message, each whole, and flushes both outputs. The answer is the status, or 4.
-fn deliver_parts<O: Sink, E: Sink>(    rest: &[u8],
+fn deliver_parts<O: Sink, E: Sink>(
+    rest: &[u8],
     message: &[u8],
     status: u8,
     write_failed: &[u8],

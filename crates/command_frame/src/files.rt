@@ -76,8 +76,19 @@ impl Desk {
         ensures write { stop ≡ LinesStop.WriteFailed → status_code result.status ≡ 4 }
     {
         match stop {
-            LinesStop::AtLine { number, fault } => Halt::at_line(self.alloc, &self.texts, name, number, &fault),
-            LinesStop::ReadFailed => Halt::unreadable(self.alloc, &self.texts, name, b"cannot read"),
+            LinesStop::AtLine { number, fault } => Halt::at_line(
+                self.alloc,
+                &self.texts,
+                name,
+                number,
+                &fault,
+            ),
+            LinesStop::ReadFailed => Halt::unreadable(
+                self.alloc,
+                &self.texts,
+                name,
+                b"cannot read",
+            ),
             LinesStop::WriteFailed => Halt::write_failed(),
             LinesStop::NoMemory => Halt::no_memory(),
         }

@@ -2,6 +2,5 @@
 #![tactic(auto)]
 
 mod echo;
-
 #[cfg(test)]
 mod tests;

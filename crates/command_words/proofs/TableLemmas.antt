@@ -73,18 +73,22 @@ in_order table = ap is_in_order (rules_filled table) ∙ ap not (none ∙ last t
   where
     files : List Rule
     files = filled_from 1 (files_part table.files)
+
     count : ℕ
     count = count_by has_place (filled_rules table)
+
     count_is : count_by has_place (filled_rules table) ≡ count_by has_place (filled_from 1 (files_part table.files))
     count_is =
         none_counts has_place (λ name. filled (option_rule name)) (λ name. refl) table.options (map (λ name. filled (flag_rule name)) table.flags ++ filled_from 1 (files_part table.files))
         ∙ none_counts has_place (λ name. filled (flag_rule name)) (λ name. refl) table.flags (filled_from 1 (files_part table.files))
+
     none : list_any (is_early_multiple (count_by has_place (filled_rules table))) (filled_rules table)
         ≡ list_any (is_early_multiple (count_by has_place (filled_rules table))) (filled_from 1 (files_part table.files))
     none =
         none_passes (is_early_multiple (count_by has_place (filled_rules table))) (λ name. filled (option_rule name)) (λ name. refl) table.options
         (map (λ name. filled (flag_rule name)) table.flags ++ filled_from 1 (files_part table.files))
         ∙ none_passes (is_early_multiple (count_by has_place (filled_rules table))) (λ name. filled (flag_rule name)) (λ name. refl) table.flags (filled_from 1 (files_part table.files))
+
     last : (has : Bool) (n : ℕ) → n ≡ count_by has_place (filled_from 1 (files_part has)) → list_any (is_early_multiple n) (filled_from 1 (files_part has)) ≡ false
     last true n is = rw is refl
     last false n is = refl

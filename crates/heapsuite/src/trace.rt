@@ -96,7 +96,11 @@ impl LineTaker for TraceReader {
 
     ghost weight = { λ reader. 4 * reader.ledger.totals.events };
 
-    fn line(&mut self, line: &[u8], _output: &mut Vec<u8>) -> Result<(), LineRefusal<CommandFault>> {
+    fn line(
+        &mut self,
+        line: &[u8],
+        _output: &mut Vec<u8>,
+    ) -> Result<(), LineRefusal<CommandFault>> {
         self.read(line)
     }
 
@@ -124,7 +128,11 @@ impl LineReport for TraceReader {
 }
 
 /// Takes what a line brings beside the tables.
-fn take_step(ledger: &mut Ledger, peak: &mut Peak, step: Step) -> Result<(), LineRefusal<CommandFault>>
+fn take_step(
+    ledger: &mut Ledger,
+    peak: &mut Peak,
+    step: Step,
+) -> Result<(), LineRefusal<CommandFault>>
     requires can { CanTake ledger.old step }
     requires room { 4 * ledger.old.totals.events + least_length step ≤ 2 ^ 34 }
     ensures ledger { OnOk result ((taken : List Event) → ledger_spec.StandsFor ledger.old taken → ledger_spec.StandsFor ledger.new (taken ++ option_to_list (event_of step))) }

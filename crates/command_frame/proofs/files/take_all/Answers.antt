@@ -9,11 +9,19 @@ use Rattle.command_frame.proofs.files.take_all.Goals as goal
 
 pub returns-in-Ok-clause-run : goal.returns-in-Ok-clause-run
 returns-in-Ok-clause-run g c =
-    let run = c.take_lines-taken.ensures.run in
-    (run.0, (run.1.0, (record {
-      told = run.1.1.0.told;
-      gained = passed_on_all run.1.1.0.gained c.in-Ok.ensures.passed;
-    }, run.1.1.1)))
+    let run = c.take_lines-taken.ensures.run in (
+      run.0,
+      (
+        run.1.0,
+        (
+          record {
+            told = run.1.1.0.told;
+            gained = passed_on_all run.1.1.0.gained c.in-Ok.ensures.passed;
+          },
+          run.1.1.1,
+        ),
+      ),
+    )
 
 pub returns-clause-run : goal.returns-clause-run
 returns-clause-run g c =
@@ -24,13 +32,21 @@ returns-clause-run g c =
     let passed_on = c.pass_on.ensures.front in
     let front = front_of_all (g.O.Sink.written c.args.out.now) (g.O.Sink.written c.take_lines-taken.new.out) (g.O.Sink.written c.pass_on.new.out) c.take_lines-taken.new.buffer.items
     (end_output report end) run.1.1.0.gained passed_on.0 passed_on.1 in
-    let whole = output_front told report c.take_lines-taken.result run.0 run.1.0 front.0 in
-    (run.0, (whole.0, (record {
-      told = λ bytes known. any_front told (record { input = c.args.lines.now.input; line = c.args.lines.now.line_limit }) report bytes
-          (g.S.Store.left c.take_lines-taken.new.store) c.take_lines-taken.result run.0 run.1.0 (run.1.1.0.told bytes known);
-      gained = record {
-        early = take whole.0 (written report run.0);
-        written = front.1 ∙ ap (append_known (g.O.Sink.written c.args.out.now)) whole.1;
-        all = append-nil (take whole.0 (written report run.0));
-      };
-    }, tt)))
+    let whole = output_front told report c.take_lines-taken.result run.0 run.1.0 front.0 in (
+      run.0,
+      (
+        whole.0,
+        (
+          record {
+            told = λ bytes known. any_front told (record { input = c.args.lines.now.input; line = c.args.lines.now.line_limit }) report bytes
+                (g.S.Store.left c.take_lines-taken.new.store) c.take_lines-taken.result run.0 run.1.0 (run.1.1.0.told bytes known);
+            gained = record {
+              early = take whole.0 (written report run.0);
+              written = front.1 ∙ ap (append_known (g.O.Sink.written c.args.out.now)) whole.1;
+              all = append-nil (take whole.0 (written report run.0));
+            };
+          },
+          tt,
+        ),
+      ),
+    )

@@ -68,10 +68,13 @@ returns-in-Err-Fault-clause-halted g c = λ last.
     subst (λ (r : Report). r.verdict read.1.1.0 ≡ Refuses told) c.read_lines.ensures.report
     (subst (λ refusal. taker.Refuses g.T.Fault.Fault.told refusal ((g.T.LineTaker.report c.read_lines.new.taker).verdict read.1.1.0)) c.in-Err-Fault.field-0-is
     (c.in-Err-Fault.ensures.fault read.1.1.0 read.1.1.1.1)) in
-    go_on (refl, elim (eqb_tells (status_code c.at_file.result.status) 5) [
-      | inl five ↦ inr (c.at_file.ensures.memory five.1)
-      | inr other ↦ inl (c.at_file.ensures.answer other.1 ∙ ap (verdict_answer texts c.args.name.now) (sym verdict))
-    ])
+    go_on (
+      refl,
+      elim (eqb_tells (status_code c.at_file.result.status) 5) [
+        | inl five ↦ inr (c.at_file.ensures.memory five.1)
+        | inr other ↦ inl (c.at_file.ensures.answer other.1 ∙ ap (verdict_answer texts c.args.name.now) (sym verdict))
+      ],
+    )
 
 pub returns-clause-halted : goal.returns-clause-halted
 returns-clause-halted g c = λ last.

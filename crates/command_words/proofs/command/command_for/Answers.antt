@@ -42,5 +42,5 @@ returns c =
     let flags = map (λ flag. flag_rule flag.now) c.args.table.now.flags.now in
     let added = c.loop-flag.invariant ∙ ap (λ names. app_with (options ++ map (λ flag. flag_rule flag.now) names)) (take_all _ _ c.loop-flag-test.false) in
     IfOk-weaker c.arg-2.result _ _ (λ command adds.
-        adds.shape c.files_argument.ensures.local ∙ (ap₂ with_rule added c.files_argument.ensures.rule
-        ∙ (ap app_with (append_assoc options flags (files_rule ∷ [])) ∙ rules_of_table c.args.table.now true (search rules)))) c.arg-2.ensures
+    adds.shape c.files_argument.ensures.local ∙ (ap₂ with_rule added c.files_argument.ensures.rule
+    ∙ (ap app_with (append_assoc options flags (files_rule ∷ [])) ∙ rules_of_table c.args.table.now true (search rules)))) c.arg-2.ensures

@@ -59,10 +59,12 @@ returns-clause-defined g c = λ folder told quiet out_quiet err_quiet memory.
 
 pub returns-clause-complete : goal.returns-clause-complete
 returns-clause-complete g c = λ folder told zero quiet out_quiet err_quiet memory.
-    let defined = returns-clause-defined g c folder told quiet out_quiet err_quiet memory in
-    (defined.status_is ∙ zero, defined.output,
-    defined.message ∙ (ap (append_known (g.E.Sink.written c.args.err.now)) (asked_quiet (bounds_of c.args.limits.now) folder (asked (map string_bytes c.args.words.now)) zero)
-    ∙ append_nothing (g.E.Sink.written c.args.err.now)))
+    let defined = returns-clause-defined g c folder told quiet out_quiet err_quiet memory in (
+      defined.status_is ∙ zero,
+      defined.output,
+      defined.message ∙ (ap (append_known (g.E.Sink.written c.args.err.now)) (asked_quiet (bounds_of c.args.limits.now) folder (asked (map string_bytes c.args.words.now)) zero)
+          ∙ append_nothing (g.E.Sink.written c.args.err.now)),
+    )
 
 pub returns-clause-run : goal.returns-clause-run
 returns-clause-run g c =
@@ -72,10 +74,11 @@ returns-clause-run g c =
 pub returns-clause-front : goal.returns-clause-front
 returns-clause-front g c = λ folder told.
     let e = ended g c in
-    let front = e.facts.front folder told in
-    (min e.fronts.output.0 front.0,
-    e.fronts.output.1 ∙ ap (append_known (g.O.Sink.written c.args.out.now))
-    (ap (take e.fronts.output.0) front.1 ∙ take_take e.fronts.output.0 front.0 (answer (map string_bytes c.args.words.now) (bounds_of c.args.limits.now) folder).output))
+    let front = e.facts.front folder told in (
+      min e.fronts.output.0 front.0,
+      e.fronts.output.1 ∙ ap (append_known (g.O.Sink.written c.args.out.now))
+          (ap (take e.fronts.output.0) front.1 ∙ take_take e.fronts.output.0 front.0 (answer (map string_bytes c.args.words.now) (bounds_of c.args.limits.now) folder).output),
+    )
 
 pub returns-clause-judged : goal.returns-clause-judged
 returns-clause-judged g c = λ folder told three four five.

@@ -17,10 +17,10 @@ pub returns-in-Summary-clause-all : goal.returns-in-Summary-clause-all
 returns-in-Summary-clause-all g c =
     let store = g.S.Store in
     let ran_as : Texts → Request → Answer → Type 0 = λ texts request answer.
-        RanTo texts (bounds_of c.args.desk.now.limits) (store.files c.args.store.now) [] (names_of (asked_of request)) (plan_of (asked_of request))
-        (moment (store.opens c.args.store.now) (store.current c.args.store.now) (store.left c.args.store.now) (store.faults c.args.store.now))
-        (moment (store.opens c.run.new.store) (store.current c.run.new.store) (store.left c.run.new.store) (store.faults c.run.new.store))
-        (g.O.Sink.written c.args.out.now) (g.O.Sink.written c.run.new.out) answer in
+    RanTo texts (bounds_of c.args.desk.now.limits) (store.files c.args.store.now) [] (names_of (asked_of request)) (plan_of (asked_of request))
+    (moment (store.opens c.args.store.now) (store.current c.args.store.now) (store.left c.args.store.now) (store.faults c.args.store.now))
+    (moment (store.opens c.run.new.store) (store.current c.run.new.store) (store.left c.run.new.store) (store.faults c.run.new.store))
+    (g.O.Sink.written c.args.out.now) (g.O.Sink.written c.run.new.out) answer in
     IfOk-weaker c.run.result _ _ (λ rest ran. subst (λ request. ran_as heapsuite_texts request (done rest.items)) (sym c.in-Summary.is)
     (subst (λ texts. ran_as texts (Summary c.in-Summary.request) (done rest.items)) c.requires.texts (ran []))) c.run.ensures.all
 
@@ -28,9 +28,9 @@ pub returns-in-Summary-clause-halted : goal.returns-in-Summary-clause-halted
 returns-in-Summary-clause-halted g c =
     let store = g.S.Store in
     let ran_as : Texts → Request → Answer → Type 0 = λ texts request answer.
-        RanTo texts (bounds_of c.args.desk.now.limits) (store.files c.args.store.now) [] (names_of (asked_of request)) (plan_of (asked_of request))
-        (moment (store.opens c.args.store.now) (store.current c.args.store.now) (store.left c.args.store.now) (store.faults c.args.store.now))
-        (moment (store.opens c.run.new.store) (store.current c.run.new.store) (store.left c.run.new.store) (store.faults c.run.new.store))
-        (g.O.Sink.written c.args.out.now) (g.O.Sink.written c.run.new.out) answer in
+    RanTo texts (bounds_of c.args.desk.now.limits) (store.files c.args.store.now) [] (names_of (asked_of request)) (plan_of (asked_of request))
+    (moment (store.opens c.args.store.now) (store.current c.args.store.now) (store.left c.args.store.now) (store.faults c.args.store.now))
+    (moment (store.opens c.run.new.store) (store.current c.run.new.store) (store.left c.run.new.store) (store.faults c.run.new.store))
+    (g.O.Sink.written c.args.out.now) (g.O.Sink.written c.run.new.out) answer in
     IfErr-weaker c.run.result _ _ (λ halt ran. subst (λ request. ran_as heapsuite_texts request (halt_answer heapsuite_texts halt)) (sym c.in-Summary.is)
     (subst (λ texts. ran_as texts (Summary c.in-Summary.request) (halt_answer texts halt)) c.requires.texts (ran []))) c.run.ensures.halted
