@@ -3,7 +3,7 @@ use Rattle.std.proofs.Common.{◌≡◌, ◌≢◌, ℕ, Bool, true, false, if�
 use Rattle.std.proofs.lemmas.List.{take-append-drop}
 use Rattle.std.proofs.lemmas.List.Elements.{All-head, All-tail}
 use Rattle.std.specs.Io.KnownBytes.{prepend_known}
-use Rattle.hp_outside.specs.Lines.{lines_of, put_first}
+use Rattle.hp_outside.specs.Lines.{lines_of}
 use Rattle.hp_outside.specs.WholeLines.{IsLineText, IsWholeLines, text_of_lines}
 use Rattle.hp_outside.proofs.Known.{prepend_known-append}
 

@@ -31,6 +31,3 @@ pub use store::{Failed, OpenFault, Store};
 pub use sure_sink::SureSink;
 pub use sure_store::SureStore;
 pub use whole::{Bytes, WholeFault, read_whole, write_whole};
-
-#[cfg(test)]
-mod tests;

@@ -1,5 +1,5 @@
 -- Lines have a byte at least each, so their number fits; where they stand is a law on lists.
-use Rattle.std.proofs.Common.{◌≡◌, ◌≤◌, ◌<◌, ◌+◌, ◌∙◌, ap, arith, drop, length, length-drop, length-take}
+use Rattle.std.proofs.Common.{◌≡◌, ◌+◌, ◌∙◌, ap, arith, drop, length, length-drop}
 use Rattle.hp_outside.proofs.WholeLinesLemmas.{few_lines, lines_passed, rest_passed, given_passed, given_within}
 use Rattle.hp_outside.proofs.line_reader.LineReader.pass.Goals as goal
 

@@ -1,4 +1,4 @@
-use Rattle.std.proofs.Common.{◌+◌, ◌-◌, ◌≤◌, ◌∙◌, ap, drop, arith, length-take}
+use Rattle.std.proofs.Common.{◌-◌, ◌≤◌, ◌∙◌, ap, drop, arith, length-take}
 use Rattle.hp_outside.proofs.WindowLemmas.{part_of-drop}
 use Rattle.hp_outside.proofs.window.Window.pass.Goals as goal
 
