@@ -7,7 +7,7 @@ use Rattle.std.specs.Io.KnownBytes.{prepend_known}
 use Rattle.hp_outside.specs.LineReaderState.{LineReaderState}
 use Rattle.hp_outside.specs.Lines.{after_line, first_line, lines_of}
 use Rattle.hp_outside.specs.WholeLines.{IsLineText, text_of_lines}
-use Rattle.command_frame.specs.Batch.{AreQuiet, HasTakenFront, HasTakenKept, IsShortLine}
+use Rattle.command_frame.specs.Batch.{AreSilent, HasTakenFront, HasTakenKept, IsShortLine}
 use Rattle.command_frame.specs.FirstFault.{Bounds}
 use Rattle.command_frame.specs.LinesRun.{Gained}
 use Rattle.command_frame.specs.Report.{Report, gains_from, written}
@@ -23,7 +23,7 @@ nothing_taken report has ready = record {
   short = All-nil IsShortLine;
   text = refl;
   count = refl;
-  quiet = λ earlier old. tt;
+  silent = λ earlier old. tt;
   taken = λ earlier old. subst has (sym (append-nil earlier)) old;
 }
 
@@ -96,39 +96,39 @@ told_line bounds report reader bytes taken left line more told kept text short w
 -- all of them were taken
 told_batch : (bounds : Bounds) (report : Report) (reader : LineReaderState) (bytes : List ℕ) (taken lines : List (List ℕ)) (left : Option (List ℕ)) (more : List ℕ) → ToldReading bounds report reader bytes taken left
     → reader.kept ≡ text_of_lines lines ++ more → All IsLineText lines → All IsShortLine lines → (0 < length (text_of_lines lines) → 16 ≤ bounds.line)
-    → reader.passed + length (text_of_lines lines) ≤ bounds.input → AreQuiet report taken lines
+    → reader.passed + length (text_of_lines lines) ≤ bounds.input → AreSilent report taken lines
     → ToldReading bounds report (moved reader (reader.passed + length (text_of_lines lines)) more) bytes (taken ++ lines) left
-told_batch bounds report reader bytes taken [] left more told kept texts short long within quiet =
+told_batch bounds report reader bytes taken [] left more told kept texts short long within silent =
     told_as bounds report reader (moved reader (reader.passed + 0) more) bytes taken (taken ++ []) left told kept (omega arith) (sym (append-nil taken))
-told_batch bounds report reader bytes taken (line ∷ lines) left more told kept texts short long within quiet =
+told_batch bounds report reader bytes taken (line ∷ lines) left more told kept texts short long within silent =
     let size : length (text_of_lines (line ∷ lines)) ≡ length line + 1 + length (text_of_lines lines) = length-append line (10 ∷ text_of_lines lines) ∙ omega arith in
     let few : length line < 16 = All-head IsShortLine line lines short in
     let line_bound : 16 ≤ bounds.line = long (omega (arith, size)) in
     let next : LineReaderState = moved reader (reader.passed + length line + 1) (text_of_lines lines ++ more) in
     let one : ToldReading bounds report next bytes (taken ++ line ∷ []) left =
     told_line bounds report reader bytes taken left line (text_of_lines lines ++ more) told (kept ∙ append_assoc line (10 ∷ text_of_lines lines) more)
-    (All-head IsLineText line lines texts) (omega (arith, few, line_bound)) (omega (arith, size, within)) quiet.0 in
+    (All-head IsLineText line lines texts) (omega (arith, few, line_bound)) (omega (arith, size, within)) silent.0 in
     told_as bounds report (moved next (next.passed + length (text_of_lines lines)) more) (moved reader (reader.passed + length (text_of_lines (line ∷ lines))) more) bytes
     ((taken ++ line ∷ []) ++ lines) (taken ++ line ∷ lines) left
     (told_batch bounds report next bytes (taken ++ line ∷ []) lines left more one refl (All-tail IsLineText line lines texts) (All-tail IsShortLine line lines short)
-    (λ some. line_bound) (omega (arith, size, within)) quiet.2)
+    (λ some. line_bound) (omega (arith, size, within)) silent.2)
     refl (omega (arith, size)) (append_assoc taken (line ∷ []) lines)
 
 -- they give nothing
-quiet_gains : (report : Report) (earlier lines : List (List ℕ)) → AreQuiet report earlier lines → gains_from report earlier lines ≡ []
-quiet_gains report earlier [] quiet = refl
-quiet_gains report earlier (line ∷ lines) quiet = ap₂ (λ first rest. first ++ rest) quiet.1 (quiet_gains report (earlier ++ line ∷ []) lines quiet.2)
+silent_gains : (report : Report) (earlier lines : List (List ℕ)) → AreSilent report earlier lines → gains_from report earlier lines ≡ []
+silent_gains report earlier [] silent = refl
+silent_gains report earlier (line ∷ lines) silent = ap₂ (λ first rest. first ++ rest) silent.1 (silent_gains report (earlier ++ line ∷ []) lines silent.2)
 
-quiet_written : (report : Report) (taken lines : List (List ℕ)) → AreQuiet report taken lines → written report (taken ++ lines) ≡ written report taken
-quiet_written report taken lines quiet =
-    gains_append report [] taken lines ∙ (ap (λ more. written report taken ++ more) (quiet_gains report taken lines quiet) ∙ append-nil (written report taken))
+silent_written : (report : Report) (taken lines : List (List ℕ)) → AreSilent report taken lines → written report (taken ++ lines) ≡ written report taken
+silent_written report taken lines silent =
+    gains_append report [] taken lines ∙ (ap (λ more. written report taken ++ more) (silent_gains report taken lines silent) ∙ append-nil (written report taken))
 
 -- the lines that were taken at once, behind those before
 pub read_batch : (bounds : Bounds) (report : Report) (has new_has : List (List ℕ) → Type 0) (reader next : LineReaderState) (start left old now : Option (List ℕ)) (kept_back : List ℕ) → Reading bounds report has reader start left old now kept_back
     → reader.input ≡ bounds.input → reader.line_limit ≡ bounds.line → HasTakenKept report has new_has reader next → Reading bounds report new_has next start left old now kept_back
 read_batch bounds report has new_has reader next start left old now kept_back before input line_limit more =
     let front = more.front in
-    let quiet : AreQuiet report before.taken front.lines = front.quiet before.taken before.has_taken in
+    let silent : AreSilent report before.taken front.lines = front.silent before.taken before.has_taken in
     let text : reader.kept ≡ text_of_lines front.lines ++ next.kept =
     sym (take-append-drop more.bytes reader.kept) ∙ (ap (λ l. l ++ drop more.bytes reader.kept) front.text ∙ ap (λ l. text_of_lines front.lines ++ l) (sym more.kept)) in
     let size : length (text_of_lines front.lines) ≡ more.bytes = ap length (sym front.text) ∙ (length-take more.bytes reader.kept ∙ omega (arith, more.held)) in
@@ -139,7 +139,7 @@ read_batch bounds report has new_has reader next start left old now kept_back be
       told = λ bytes known.
           told_as bounds report (moved reader (reader.passed + length (text_of_lines front.lines)) next.kept) next bytes (before.taken ++ front.lines) (before.taken ++ front.lines) left
           (told_batch bounds report reader bytes before.taken front.lines left next.kept (before.told bytes known) text front.texts front.short
-          (λ some. omega (arith, more.short (omega (arith, some, size)), line_limit)) (omega (arith, size, more.within, input)) quiet)
+          (λ some. omega (arith, more.short (omega (arith, some, size)), line_limit)) (omega (arith, size, more.within, input)) silent)
           refl (omega (arith, size, more.passed)) refl;
-      gained = subst (λ bytes. Gained old now kept_back bytes) (sym (quiet_written report before.taken front.lines quiet)) before.gained;
+      gained = subst (λ bytes. Gained old now kept_back bytes) (sym (silent_written report before.taken front.lines silent)) before.gained;
     }

@@ -5,10 +5,10 @@ use Rattle.hp_outside.specs.WholeLines.{IsLineText, text_of_lines}
 use Rattle.command_frame.specs.Report.{Report}
 
 -- no line has a fault after the lines before it, and none gives a byte to standard output
-abbrev pub AreQuiet : Report → List (List ℕ) → List (List ℕ) → Type 0
-AreQuiet report earlier [] = Unit {0}
-AreQuiet report earlier (line ∷ lines) =
-    (report.line_fault earlier line ≡ None) × (report.gains earlier line ≡ []) × AreQuiet report (earlier ++ line ∷ []) lines
+abbrev pub AreSilent : Report → List (List ℕ) → List (List ℕ) → Type 0
+AreSilent report earlier [] = Unit {0}
+AreSilent report earlier (line ∷ lines) =
+    (report.line_fault earlier line ≡ None) × (report.gains earlier line ≡ []) × AreSilent report (earlier ++ line ∷ []) lines
 
 -- it has fewer than 16 bytes
 abbrev pub IsShortLine : List ℕ → Type 0
@@ -22,7 +22,7 @@ pub record HasTakenFront (report : Report) (old new : List (List ℕ) → Type 0
   pub short : All IsShortLine lines
   pub text : take bytes ready ≡ text_of_lines lines
   pub count : length lines ≡ number
-  pub quiet : (earlier : List (List ℕ)) → old earlier → AreQuiet report earlier lines
+  pub silent : (earlier : List (List ℕ)) → old earlier → AreSilent report earlier lines
   pub taken : (earlier : List (List ℕ)) → old earlier → new (earlier ++ lines)
 
 -- a front of the bytes that a reader of lines keeps was taken and passed

@@ -13,7 +13,7 @@ use Rattle.ht_trace.specs.PassesEvents.{PassesLine}
 use Rattle.ht_trace.specs.StandsFor.{StandsAfter}
 use Rattle.ht_trace.specs.StepOf.{event_of, step_of}
 use Rattle.ht_trace.specs.TraceEvents.{events}
-use Rattle.command_frame.specs.Batch.{AreQuiet, IsShortLine}
+use Rattle.command_frame.specs.Batch.{AreSilent, IsShortLine}
 use Rattle.heapsuite.specs.declared.fault.CommandFault.TheVariants.{Line, Event as event_fault}
 use Rattle.heapsuite.specs.declared.trace.TraceReader.{TraceReader}
 use Rattle.heapsuite.specs.Batch.{HasReadFront, HasReadLine}
@@ -55,7 +55,7 @@ nothing_read reader ready = record {
   short = All-nil IsShortLine;
   text = refl;
   count = refl;
-  quiet = λ earlier has. tt;
+  silent = λ earlier has. tt;
   taken = λ earlier has. subst (HasRead reader) (sym (append-nil earlier)) has;
 }
 
@@ -66,10 +66,10 @@ text_of_lines-push (first ∷ lines) line =
     ap (λ rest. first ++ (10 ∷ rest)) (text_of_lines-push lines line) ∙ sym (append_assoc first (10 ∷ text_of_lines lines) (line ++ (10 ∷ [])))
 
 -- one line more without a fault; no line of a trace gives a byte before the end
-quiet_more : (earlier lines : List (List ℕ)) (line : List ℕ) → AreQuiet summary_report earlier lines → content_fault (earlier ++ lines) line ≡ None → AreQuiet summary_report earlier (lines ++ line ∷ [])
-quiet_more earlier [] line quiet none = (ap (λ before. content_fault before line) (sym (append-nil earlier)) ∙ none, refl, tt)
-quiet_more earlier (first ∷ lines) line quiet none =
-    (quiet.0, quiet.1, quiet_more (earlier ++ first ∷ []) lines line quiet.2 (ap (λ before. content_fault before line) (append_assoc earlier (first ∷ []) lines) ∙ none))
+silent_more : (earlier lines : List (List ℕ)) (line : List ℕ) → AreSilent summary_report earlier lines → content_fault (earlier ++ lines) line ≡ None → AreSilent summary_report earlier (lines ++ line ∷ [])
+silent_more earlier [] line silent none = (ap (λ before. content_fault before line) (sym (append-nil earlier)) ∙ none, refl, tt)
+silent_more earlier (first ∷ lines) line silent none =
+    (silent.0, silent.1, silent_more (earlier ++ first ∷ []) lines line silent.2 (ap (λ before. content_fault before line) (append_assoc earlier (first ∷ []) lines) ∙ none))
 
 -- one line more was read
 pub line_more : (initial old new : TraceReader) (ready : List ℕ) (bytes number more : ℕ) → HasReadFront initial old ready bytes number → HasReadLine old new (drop bytes ready) more
@@ -84,7 +84,7 @@ line_more initial old new ready bytes number more front one =
       text = take-add bytes more ready ∙ (ap (λ front. front ++ take more (drop bytes ready)) front.text
           ∙ (ap (λ last. text_of_lines front.lines ++ last) line_text ∙ sym (text_of_lines-push front.lines one.line)));
       count = length_push front.lines one.line ∙ ap (λ n. n + 1) front.count;
-      quiet = λ earlier has. quiet_more earlier front.lines one.line (front.quiet earlier has) (one.no_fault (earlier ++ front.lines) (front.taken earlier has));
+      silent = λ earlier has. silent_more earlier front.lines one.line (front.silent earlier has) (one.no_fault (earlier ++ front.lines) (front.taken earlier has));
       taken = λ earlier has. subst (HasRead new) (append_assoc earlier front.lines (one.line ∷ [])) (one.read (earlier ++ front.lines) (front.taken earlier has));
     }
 
