@@ -1,17 +1,17 @@
 -- From a run of what the words ask for to the facts of its answer, and to what the outputs hold.
-use Rattle.std.proofs.Common.{◌≡◌, ◌≢◌, ◌⊎◌, ℕ, ◌+◌, ◌≤◌, true, List, [], ◌∷◌, ◌++◌, length, take, Option, Some, None, refl, ap, sym, subst, ◌∙◌, inl, inr, append-nil, arith}
+use Rattle.std.proofs.Common.{◌≡◌, ◌≢◌, ℕ, ◌+◌, ◌≤◌, true, List, [], ◌++◌, length, take, Option, Some, None, refl, ap, sym, subst, ◌∙◌, inl, inr, arith}
 use Rattle.std.specs.Io.KnownBytes.{append_known}
 use Rattle.hp_outside.specs.Faults.{Rose}
-use Rattle.hp_outside.specs.Folder.{Folder, file_of}
+use Rattle.hp_outside.specs.Folder.{Folder}
 use Rattle.hp_outside.specs.Taken.{GainsFront, WhereTold}
 use Rattle.command_frame.specs.declared.delivery.Outcome.{Outcome}
-use Rattle.command_frame.specs.Answer.{Answer, after, memory_answer, plan_answer, usage_answer}
+use Rattle.command_frame.specs.Answer.{Answer, after, memory_answer, usage_answer}
 use Rattle.command_frame.specs.Delivery.{Delivered, GainsFronts}
 use Rattle.command_frame.specs.FirstFault.{Bounds}
 use Rattle.command_frame.specs.OutcomeAnswer.{outcome_answer}
 use Rattle.command_frame.specs.Plan.{Plan}
 use Rattle.command_frame.specs.Run.{Moment, Ran}
-use Rattle.command_frame.specs.RunFacts.{NotRead, RunFacts}
+use Rattle.command_frame.specs.RunFacts.{NotRead}
 use Rattle.command_frame.specs.Texts.{Texts}
 use Rattle.command_frame.proofs.DeliveryLemmas.{fronts_behind, fronts_later}
 use Rattle.command_frame.proofs.OutputLemmas.{append_further}
@@ -19,7 +19,7 @@ use Rattle.command_frame.proofs.QuietLemmas.{plan_quiet}
 use Rattle.command_frame.proofs.RunFactLemmas.{run_facts}
 use Rattle.heapsuite.specs.Answer.{asked_answer}
 use Rattle.heapsuite.specs.Asked.{Asked, names_asked, names_of, plan_of}
-use Rattle.heapsuite.specs.Run.{AskedRan, WordsRan}
+use Rattle.heapsuite.specs.Run.{WordsRan}
 use Rattle.heapsuite.specs.Texts.{heapsuite_texts}
 
 -- an output gained bytes, and behind them the run may come to this answer

@@ -1,5 +1,5 @@
 -- What a reader of a trace has read when it took lines of events at once.
-use Rattle.std.proofs.Common.{◌≡◌, ◌≢◌, ℕ, ◌+◌, ◌<◌, ◌≤◌, List, [], ◌∷◌, ◌++◌, length, take, drop, All, Option, None, Some, refl, ap, sym, subst, ◌∙◌, append-nil, append_assoc, length-append, length-drop, arith}
+use Rattle.std.proofs.Common.{◌≡◌, ℕ, ◌+◌, ◌≤◌, List, [], ◌∷◌, ◌++◌, length, take, drop, None, Some, refl, ap, sym, subst, ◌∙◌, append-nil, append_assoc, length-append, arith}
 use Rattle.std.proofs.lemmas.List.{length_push}
 use Rattle.std.proofs.lemmas.List.Elements.{All-append, All-nil, All-cons}
 use Rattle.std.proofs.Math.Seq.{take-add, take-append-add}
@@ -46,18 +46,6 @@ event_is_read old new line event passes same stands peaks earlier has =
       ledger_of = subst (λ es. ledger.StandsFor new.ledger es) (sym after) (stands (events earlier) has.ledger_of);
       peak = peaks (events earlier) has.ledger_of has.peak ∙ ap (λ es. peak_of (totals (counted es))) (sym after);
     }
-
--- nothing was read
-pub nothing_read : (reader : TraceReader) (ready : List ℕ) → HasReadFront reader reader ready 0 0
-nothing_read reader ready = record {
-  lines = [];
-  texts = All-nil IsLineText;
-  short = All-nil IsShortLine;
-  text = refl;
-  count = refl;
-  silent = λ earlier has. tt;
-  taken = λ earlier has. subst (HasRead reader) (sym (append-nil earlier)) has;
-}
 
 -- the bytes of one line more
 text_of_lines-push : (lines : List (List ℕ)) (line : List ℕ) → text_of_lines (lines ++ line ∷ []) ≡ text_of_lines lines ++ (line ++ (10 ∷ []))

@@ -1,5 +1,5 @@
 -- What a run may come to, whatever the store tells and does.
-use Rattle.std.specs.Prelude.{◌≡◌, ◌⊎◌, ℕ, List, [], Option, Some, None}
+use Rattle.std.specs.Prelude.{◌≡◌, ◌⊎◌, [], Option, Some, None}
 use Rattle.hp_outside.specs.Folder.{Folder}
 use Rattle.command_frame.specs.Answer.{Answer, memory_answer, usage_answer}
 use Rattle.command_frame.specs.FirstFault.{Bounds}

@@ -1,4 +1,4 @@
-use Rattle.std.proofs.Common.{◌≡◌, ℕ, List, [], subst, sym}
+use Rattle.std.proofs.Common.{[], subst, sym}
 use Rattle.std.proofs.lemmas.Result.{IfErr-weaker, IfOk-weaker}
 use Rattle.command_frame.specs.Answer.{Answer, done}
 use Rattle.command_frame.specs.FirstFault.{bounds_of}

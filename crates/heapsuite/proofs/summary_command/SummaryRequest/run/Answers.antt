@@ -1,4 +1,4 @@
-use Rattle.std.proofs.Common.{◌≡◌, ℕ, List, [], ap}
+use Rattle.std.proofs.Common.{[], ap}
 use Rattle.command_frame.specs.FirstFault.{bounds_of}
 use Rattle.command_frame.specs.Halts.{halt_answer}
 use Rattle.command_frame.specs.Outcome.{moment}

@@ -1,8 +1,11 @@
 use Rattle.std.proofs.Common.{◌-◌, ℕ, List, length, drop, length-drop, sym, subst, arith}
 use Rattle.std.proofs.lemmas.List.{take_all}
 use Rattle.ht_trace.specs.PassesEvents.{PassesEvents}
+use Rattle.command_frame.proofs.BatchLemmas.{nothing_taken}
 use Rattle.heapsuite.specs.Batch.{HasReadLine}
-use Rattle.heapsuite.proofs.BatchLemmas.{line_more, line_within, nothing_read}
+use Rattle.heapsuite.specs.SummaryReport.{summary_report}
+use Rattle.heapsuite.specs.TraceReader.{HasRead}
+use Rattle.heapsuite.proofs.BatchLemmas.{line_more, line_within}
 use Rattle.heapsuite.proofs.trace.TraceReader.read_events.Goals as goal
 
 pub lines-init : goal.lines-init
@@ -12,7 +15,7 @@ lines-init c = record {
   held = omega arith;
   few = omega arith;
   events = omega arith;
-  front = nothing_read c.args.self.now c.args.ready.now;
+  front = nothing_taken summary_report (HasRead c.args.self.now) c.args.ready.now;
 }
 
 pub lines-preserved : goal.lines-preserved
