@@ -36,6 +36,8 @@ fn take_all<T: LineTaker, S: Store, O: Sink>(
     requires no_weight { T.weight taker.old ≡ 0 }
     ensures run { (taken : List (List ℕ)) × ((count : ℕ) × (LinesRun (record { input = lines.old.input; line = lines.old.line_limit }) (T.report taker.old) (S.left store.old) (S.left store.new)
         (O.written out.old) (O.written out.new) [] (end_of T.Fault.told result taken count) × OnOk result (T.has_taken taker.new taken))) }
+    ensures input { lines.new.input ≡ lines.old.input }
+    ensures line { lines.new.line_limit ≡ lines.old.line_limit }
     ensures report { T.report taker.new ≡ T.report taker.old }
     ensures ended { OnOk result (WhereTold (S.left store.new) (λ left. left ≡ [])) }
     ensures failed { result ≡ Err LinesStop.ReadFailed → Rose (S.faults store.old) (S.faults store.new) }
@@ -114,6 +116,8 @@ pub fn read_lines<T: LineTaker, S: Store, O: Sink>(
         (moment (S.opens store.old) (S.current store.old) (S.left store.old) (S.faults store.old)) (moment (S.opens store.new) (S.current store.new) (S.left store.new) (S.faults store.new)) end
         × HaltsAt (texts_of desk.now.texts) name.now (T.has_taken taker.new) end result
         × (O.written out.new ≡ append_known (O.written out.old) (end_output (T.report taker.old) end))) }
+    ensures input { lines.new.input ≡ lines.old.input }
+    ensures line { lines.new.line_limit ≡ lines.old.line_limit }
     ensures report { T.report taker.new ≡ T.report taker.old }
     ensures files { S.files store.new ≡ S.files store.old }
     ensures unwritten { IfErr result (λ halt. status_code halt.status ≡ 4 → Rose (O.faults out.old) (O.faults out.new)) }

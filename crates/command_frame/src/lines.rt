@@ -78,6 +78,8 @@ pub fn take_lines<T: LineTaker, S: Store, O: Sink>(
     requires no_output { buffer.old.items ≡ [] }
     ensures run { (taken : List (List ℕ)) × ((count : ℕ) × (LinesRun (record { input = lines.old.input; line = lines.old.line_limit }) (T.report taker.old) (S.left store.old) (S.left store.new)
         (O.written out.old) (O.written out.new) buffer.new.items (end_of T.Fault.told result taken count) × OnOk result (T.has_taken taker.new taken))) }
+    ensures input { lines.new.input ≡ lines.old.input }
+    ensures line { lines.new.line_limit ≡ lines.old.line_limit }
     ensures report { T.report taker.new ≡ T.report taker.old }
     ensures ended { OnOk result (WhereTold (S.left store.new) (λ left. left ≡ [])) }
     ensures failed { result ≡ Err LinesStop.ReadFailed → Rose (S.faults store.old) (S.faults store.new) }
