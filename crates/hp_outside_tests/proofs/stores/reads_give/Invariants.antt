@@ -1,5 +1,5 @@
 use Rattle.std.proofs.Common.{IsTrue}
-use Rattle.hp_outside_tests.proofs.tests.reads_give.Given as goal
+use Rattle.hp_outside_tests.proofs.stores.reads_give.Given as goal
 
 -- a file stays current
 abbrev pub invariant-reads : goal.invariant-reads

@@ -1,6 +1,6 @@
 use Rattle.std.proofs.Common.{◌≡◌, [], true, is_some, IsTrue}
 use Rattle.hp_outside.specs.Taken.{WhereTold}
-use Rattle.hp_outside_tests.proofs.tests.expect.Given as goal
+use Rattle.hp_outside_tests.proofs.lines.expect.Given as goal
 
 -- a file is current, and nothing is left of it once its end was seen
 abbrev pub invariant-calls : goal.invariant-calls
