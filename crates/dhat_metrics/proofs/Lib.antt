@@ -1,0 +1,3 @@
+pub mod TimeLemmas
+pub mod Stepping
+pub mod LifeLemmas
