@@ -4,13 +4,16 @@
 
 mod branches;
 mod costing;
+mod direction;
 mod frame_test;
 mod fronts;
 mod links;
 mod node;
+mod stack_lists;
 mod tree;
 
 pub use costing::Costing;
+pub use direction::Direction;
 pub use frame_test::FrameTest;
 pub use fronts::Fronts;
 pub use node::CostNode;
