@@ -12,3 +12,5 @@ pub mod Copying
 pub mod Listing
 pub mod Needing
 pub mod Alike
+pub mod Ascending
+pub mod Brothers

@@ -17,7 +17,7 @@ use Rattle.cost_tree.proofs.Prefixes.{has_front-Decides}
 use Rattle.cost_tree.proofs.Sums.{least-within}
 
 -- the least stack of a front begins with it
-least-has : (front : List (List ℕ)) (stacks : List Costed) (d : Costed) → 0 < inclusive front stacks → has_front front (get_or stacks (least front stacks) d).texts ≡ true
+pub least-has : (front : List (List ℕ)) (stacks : List Costed) (d : Costed) → 0 < inclusive front stacks → has_front front (get_or stacks (least front stacks) d).texts ≡ true
 unfolding least
 least-has front stacks d some =
     let within = least-within front stacks some in
