@@ -62,12 +62,12 @@ needed-alike depth cost texts = record {
         let cut = length-take (n + 1) texts in
         same_from_decides (is_front front (take (n + 1) texts)) (is_front front texts) (is_front-Decides front (take (n + 1) texts)) (
           (λ has.
-            let same = (is_front-Decides front texts).0 has in
-            let count = ap (λ (xs : List (List ℕ)). length xs) same in
-            same ∙ sym (take_all (n + 1) texts (omega arith))),
+              let same = (is_front-Decides front texts).0 has in
+              let count = ap (λ (xs : List (List ℕ)). length xs) same in
+              same ∙ sym (take_all (n + 1) texts (omega arith))),
           (λ same.
-            let count = ap (λ (xs : List (List ℕ)). length xs) same in
-            (is_front-Decides front texts).1 (same ∙ take_all (n + 1) texts (omega arith))),
+              let count = ap (λ (xs : List (List ℕ)). length xs) same in
+              (is_front-Decides front texts).1 (same ∙ take_all (n + 1) texts (omega arith))),
         )
 
 -- a tree of the needed lists is one of the stacks' lists

@@ -36,7 +36,15 @@ pub(crate) fn stack_lists(
     let mut text = Vec::new(alloc);
     'each_stack: for stack in 0..tables.stacks() {
         let cost = costs[stack as usize];
-        add_stack(tables, stack, cost, form, &mut fronts, &mut frames, &mut text)?;
+        add_stack(
+            tables,
+            stack,
+            cost,
+            form,
+            &mut fronts,
+            &mut frames,
+            &mut text,
+        )?;
     }
     Ok(fronts)
 }

@@ -172,6 +172,8 @@ impl CostTree {
         requires held { n < length self.now.nodes }
         ensures root { n ≡ 0 → result.now ≡ [] }
         ensures last { 0 < n → (front : List (List ℕ)) × (slice_get self.now.fronts n ≡ Some (front ++ result.now ∷ [])) }
+        ensures below { (node : CostNode) (front : List (List ℕ)) → 0 < n → slice_get self.now.nodes n ≡ Some node →
+            slice_get self.now.fronts node.parent ≡ Some front → slice_get self.now.fronts n ≡ Some (front ++ result.now ∷ []) }
     {
         let Some(place) = n.checked_sub(1) else {
             return &[];

@@ -14,8 +14,8 @@ returns c =
     let form = c.args.form in
     let text : FrameAt → List ℕ = frame_text form.style tables in
     let frames = c.deref.ensures.value
-        ∙ c.truncate.ensures.items
-        ∙ ap (λ (xs : List FrameAt). take form.most xs) (c.turn.ensures ∙ ap (λ (xs : List FrameAt). towards form.direction xs) c.in_ok-frames_into.ensures.of_tables) in
+    ∙ c.truncate.ensures.items
+    ∙ ap (λ (xs : List FrameAt). take form.most xs) (c.turn.ensures ∙ ap (λ (xs : List FrameAt). towards form.direction xs) c.in_ok-frames_into.ensures.of_tables) in
     let texts = ap (λ (xs : List FrameAt). map text xs) frames ∙ texts-of-first text form.most form.direction (stack_frames tables.instructions tables.nodes c.args.stack) in
     let P : List (List ℕ) → Type 0 = λ xs. OnOk c.push_texts.result (LastGains c.args.fronts.now xs c.push_texts.new.fronts) in
     record { gained = subst P texts c.push_texts.ensures.gained }
