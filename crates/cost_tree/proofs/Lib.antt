@@ -10,3 +10,7 @@ pub mod Linking
 pub mod Trees
 pub mod Copying
 pub mod Listing
+pub mod Needing
+pub mod Alike
+pub mod Ascending
+pub mod Brothers

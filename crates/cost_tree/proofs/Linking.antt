@@ -120,7 +120,7 @@ AreLinksFrom-more nodes firsts nexts m node links above at parent_within = recor
         subst N (sym is) (subst C (sym same) (subst P (sym stored) (links.first node.parent parent_within)))
 
 -- the node that stands past the end of a list
-abbrev no_node : CostNode
+abbrev pub no_node : CostNode
 no_node = record { parent = 0; cost = 0; own = 0; first = 0 }
 
 -- a walk over children: the child that it stands at is one of them, and the rest follows
@@ -178,7 +178,7 @@ IsWalk-read nodes firsts nexts n child next links walk some read =
     subst P (sym (get_or_read nexts child next (omega (arith, walk.within, links.nexts_count)) read 0)) (IsWalk-next nodes firsts nexts n child links walk some)
 
 -- the numbers of a range that pass a test
-ranged : (p : ℕ → Bool) (a count : ℕ) → All (λ m. (a ≤ m) × ((m < a + count) × (p m ≡ true))) (filter p (range_with_len a count))
+pub ranged : (p : ℕ → Bool) (a count : ℕ) → All (λ m. (a ≤ m) × ((m < a + count) × (p m ≡ true))) (filter p (range_with_len a count))
 ranged p a zero = All-nil (λ m. (a ≤ m) × ((m < a + zero) × (p m ≡ true)))
 ranged p a (suc count) =
     let rest = All-weaker (λ m. (a + 1 ≤ m) × ((m < a + 1 + count) × (p m ≡ true))) (λ m. (a ≤ m) × ((m < a + suc count) × (p m ≡ true))) (λ m is. (omega (arith, is.0), (omega (arith, is.1.0), is.1.1))) (filter p (range_with_len (a + 1) count)) (ranged p (a + 1) count) in
@@ -186,7 +186,7 @@ ranged p a (suc count) =
     (λ passes. All-cons (λ m. (a ≤ m) × ((m < a + suc count) × (p m ≡ true))) a (filter p (range_with_len (a + 1) count)) (omega arith, (omega arith, passes)) rest)
     (λ fails. rest)
 
-contains_ranged : (p : ℕ → Bool) (a count m : ℕ) → a ≤ m → m < a + count → p m ≡ true → Contains (filter p (range_with_len a count)) m
+pub contains_ranged : (p : ℕ → Bool) (a count m : ℕ) → a ≤ m → m < a + count → p m ≡ true → Contains (filter p (range_with_len a count)) m
 contains_ranged p a zero m low high passes = absurd (omega arith)
 contains_ranged p a (suc count) m low high passes =
     cond_both (p a) (a ∷ filter p (range_with_len (a + 1) count)) (filter p (range_with_len (a + 1) count)) (λ xs. Contains xs m)
@@ -201,7 +201,7 @@ contains_ranged p a (suc count) m low high passes =
           absurd (false≢true (sym other ∙ ap p (sym is) ∙ passes))
     ])
 
-ordered : (p : ℕ → Bool) (a count : ℕ) → AllPairs (λ x y. x < y) (filter p (range_with_len a count))
+pub ordered : (p : ℕ → Bool) (a count : ℕ) → AllPairs (λ x y. x < y) (filter p (range_with_len a count))
 ordered p a zero = λ i j d before within. absurd (omega arith)
 ordered p a (suc count) =
     cond_both (p a) (a ∷ filter p (range_with_len (a + 1) count)) (filter p (range_with_len (a + 1) count)) (AllPairs (λ x y. x < y))

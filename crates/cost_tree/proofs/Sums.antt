@@ -1,14 +1,14 @@
 -- Lemmas on what stacks cost, as they become more or one becomes longer.
-use Rattle.std.proofs.Common.{◌≡◌, ◌≢◌, ℕ, ◌+◌, ◌<◌, ◌≤◌, min, ◌⊎◌, inl, inr, Bool, true, false, ◌&&◌, not, cond, List, [], ◌∷◌, ◌++◌, length, take, refl, sym, ap, ◌∙◌, subst, arith}
+use Rattle.std.proofs.Common.{◌≡◌, ◌≢◌, ℕ, ◌+◌, ◌<◌, ◌≤◌, min, ◌⊎◌, inl, inr, Bool, true, false, ◌&&◌, not, cond, List, [], ◌∷◌, ◌++◌, length, take, get_or, refl, sym, ap, ◌∙◌, subst, arith}
 use Rattle.std.specs.Prelude.{sum_by, nat_lt, nat_eq}
 use Rattle.std.proofs.lemmas.Bool.{cases_Bool, cases_lt, cond-true, cond-false, lt-ltb, and_right, and_from, false_from_ne_true}
 use Rattle.std.proofs.lemmas.Bool.Decides.{nat_tests}
 use Rattle.std.proofs.lemmas.List.{length-take, take_all}
-use Rattle.std.proofs.lemmas.List.Sums.{sum_by-cons, sum_by_push, sum_by-le-sum_by}
+use Rattle.std.proofs.lemmas.List.Sums.{get_or-le-sum_by, sum_by-cons, sum_by_push, sum_by-le-sum_by}
 use Rattle.std.proofs.lemmas.List.Folds.{position_or_len_push}
 use Rattle.cost_tree.specs.Costed.{Costed}
 use Rattle.cost_tree.specs.Inclusive.{has_front, is_front, inclusive, own, least}
-use Rattle.cost_tree.proofs.Prefixes.{has_front-take, has_front-longer, has_front-itself, has_front-more, is_front-has, is_front-Decides, same_or_not}
+use Rattle.cost_tree.proofs.Prefixes.{has_front-Decides, has_front-take, has_front-longer, has_front-itself, has_front-more, is_front-has, is_front-Decides, same_or_not}
 
 -- what one stack adds to a front's cost
 pub part : List (List ℕ) → Costed → ℕ
@@ -41,7 +41,7 @@ unfolding inclusive part
 inclusive-cons front stack stacks = sum_by-cons (λ s. cond (has_front front s.texts) s.cost 0) stack stacks
 
 -- what a stack adds
-pub part-has : (front : List (List ℕ)) (stack : Costed) → has_front front stack.texts ≡ true → part front stack ≡ stack.cost
+part-has : (front : List (List ℕ)) (stack : Costed) → has_front front stack.texts ≡ true → part front stack ≡ stack.cost
 unfolding part
 part-has front stack has = cond-true (has_front front stack.texts) stack.cost 0 has
 
@@ -70,6 +70,14 @@ own_part-le front stack =
           omega arith
       | inr other ↦ let none : own_part front stack ≡ 0 = cond-false (is_front front stack.texts) stack.cost 0 other in omega arith
     ]
+
+-- a stack that begins with a front and costs something makes the front cost something
+pub inclusive-some : (front : List (List ℕ)) (stacks : List Costed) (n : ℕ) (d : Costed) → n < length stacks → 0 < (get_or stacks n d).cost → has_front front (get_or stacks n d).texts ≡ true → 0 < inclusive front stacks
+unfolding inclusive
+inclusive-some front stacks n d within above has =
+    let adds : cond (has_front front (get_or stacks n d).texts) (get_or stacks n d).cost 0 ≡ (get_or stacks n d).cost = cond-true (has_front front (get_or stacks n d).texts) (get_or stacks n d).cost 0 has in
+    let most : cond (has_front front (get_or stacks n d).texts) (get_or stacks n d).cost 0 ≤ sum_by (λ (s : Costed). cond (has_front front s.texts) s.cost 0) stacks = get_or-le-sum_by (λ (s : Costed). cond (has_front front s.texts) s.cost 0) stacks n d within in
+    omega arith
 
 -- a stack is one of those that `least` looks for, or it adds nothing
 counts : List (List ℕ) → Costed → Bool
@@ -279,3 +287,19 @@ own-push_other front stacks texts cost other =
     let push = own-push front stacks (record { texts = texts; cost = cost }) in
     let none : own_part front (record { texts = texts; cost = cost }) ≡ 0 = cond-false (is_front front texts) cost 0 (false_from_ne_true (is_front front texts) (λ is. other ((is_front-Decides front texts).0 is))) in
     omega arith
+
+-- the empty front costs what all stacks cost
+pub inclusive-all : (stacks : List Costed) → inclusive [] stacks ≡ sum_by (λ (s : Costed). s.cost) stacks
+unfolding inclusive
+inclusive-all [] = refl
+inclusive-all (stack ∷ stacks) =
+    let one = inclusive-cons [] stack stacks in
+    let here = part-has [] stack ((has_front-Decides [] stack.texts).1 refl) in
+    let two : sum_by (λ (s : Costed). s.cost) (stack ∷ stacks) ≡ stack.cost + sum_by (λ (s : Costed). s.cost) stacks = sum_by-cons (λ (s : Costed). s.cost) stack stacks in
+    let rest = inclusive-all stacks in
+    omega arith
+
+-- no front costs more than all stacks
+pub inclusive-within : (front : List (List ℕ)) (stacks : List Costed) → inclusive front stacks ≤ sum_by (λ (s : Costed). s.cost) stacks
+unfolding total
+inclusive-within front stacks = inclusive-le-total front stacks

@@ -17,7 +17,7 @@ use Rattle.cost_tree.proofs.Prefixes.{has_front-Decides}
 use Rattle.cost_tree.proofs.Sums.{least-within}
 
 -- the least stack of a front begins with it
-least-has : (front : List (List ℕ)) (stacks : List Costed) (d : Costed) → 0 < inclusive front stacks → has_front front (get_or stacks (least front stacks) d).texts ≡ true
+pub least-has : (front : List (List ℕ)) (stacks : List Costed) (d : Costed) → 0 < inclusive front stacks → has_front front (get_or stacks (least front stacks) d).texts ≡ true
 unfolding least
 least-has front stacks d some =
     let within = least-within front stacks some in
@@ -159,3 +159,15 @@ last-text names edges nodes n place edge text are above within back found is =
 -- the number of an edge's text is one of a name
 pub edge-text : (names : List (List ℕ)) (edges : List Edge) (nodes : List CostNode) (fronts : List (List (List ℕ))) (place : ℕ) (edge : Edge) → AreBranches names edges nodes fronts → Some edge ≡ slice_get edges place → IsText names edge.text
 edge-text names edges nodes fronts place edge are found = (are.branch place edge (sym found)).text
+
+-- and the front is the parent's and that text
+pub text-below : (names : List (List ℕ)) (edges : List Edge) (nodes : List CostNode) (n place : ℕ) (edge : Edge) (text : List ℕ) (node : CostNode) (front : List (List ℕ))
+    → AreBranches names edges nodes (fronts_of names edges) → 0 < n → slice_get nodes n ≡ Some node → slice_get (fronts_of names edges) node.parent ≡ Some front → place ≡ n - 1 → Some edge ≡ slice_get edges place → text ≡ text_of names edge.text
+    → slice_get (fronts_of names edges) n ≡ Some (front ++ text ∷ [])
+text-below names edges nodes n place edge text node front are above at parent_at back found is =
+    let has = HasEdge-is names edges nodes (fronts_of names edges) n node are above at in
+    let same : edge ≡ has.edge = same_Some edge has.edge (found ∙ ap (λ (k : ℕ). slice_get edges k) back ∙ has.at) in
+    let fronts : has.parent_front ≡ front = same_Some has.parent_front front (sym has.parent ∙ parent_at) in
+    has.front
+    ∙ ap (λ (xs : List (List ℕ)). Some (xs ++ text_of names has.edge.text ∷ [])) fronts
+    ∙ ap (λ (xs : List ℕ). Some (front ++ xs ∷ [])) (sym (is ∙ ap (λ (e : Edge). text_of names e.text) same))

@@ -8,3 +8,6 @@ pub mod Children
 pub mod TreeState
 pub mod IsTreeOf
 pub mod View
+pub mod StackTexts
+pub mod NextFronts
+pub mod Needed

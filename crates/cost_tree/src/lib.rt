@@ -4,15 +4,20 @@
 
 mod branches;
 mod costing;
+mod direction;
 mod frame_test;
 mod fronts;
+mod laws;
 mod links;
 mod node;
+mod stack_lists;
 mod tree;
 
 pub use costing::Costing;
+pub use direction::Direction;
 pub use frame_test::FrameTest;
 pub use fronts::Fronts;
+pub use laws::{children_fronts, front_sums};
 pub use node::CostNode;
 pub use tree::CostTree;
 

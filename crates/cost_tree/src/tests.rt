@@ -1,8 +1,9 @@
 //! Worked trees, and each call once with ample memory.
 ghost use Rattle.std.specs.Prelude.{◌^◌, ◌≤◌, sum};
 
-use crate::{CostTree, Costing, FrameTest, Fronts};
+use crate::{CostTree, Costing, Direction, FrameTest, Fronts};
 use hp_num::{NoMemory, put_bytes, put_dec};
+use ht_trace::{LineError, Style, Tables};
 use std::alloc::Global;
 use std::process::Abort;
 
@@ -160,6 +161,63 @@ fn fronts_to_a_depth(rt: HostRuntime) -> Result<(), NoMemory> {
         nodes,
     )?;
     check_tree(&rt, rt.alloc(), b"main||f", &[1, 2, 4], 0, b"0 7 2 0 :\n")
+}
+
+/// The tables of the lines of the worked trace, of which each ends with a line feed but the last.
+fn worked_tables(rt: &impl Abort, alloc: Global) -> Result<Tables, LineError> {
+    let lines =
+        b"v 10500 2\ns app\ns main\ns f\ns a.c\ni 400 1 2 4 14\ni 500 1 3 4 a\nt 1 0\nt 2 1";
+    let mut tables = Tables::new(alloc);
+    for line in lines.split(|byte| *byte == b'\n') {
+        assert!(rt; line.len() < 1000);
+        tables.line(line)?;
+    }
+    Ok(tables)
+}
+
+fn tree_of_trace(
+    rt: &impl Abort,
+    alloc: Global,
+    tables: &Tables,
+    costs: &[u64],
+    direction: Direction,
+    style: Style,
+) -> Result<CostTree, NoMemory>
+    requires { sum costs.now ≤ 2 ^ 62 }
+{
+    assert_eq!(rt; tables.stacks() as usize, costs.len());
+    let costing = Costing::new(tables.stacks(), |stack: u32| costs[stack as usize]);
+    CostTree::build(alloc, tables, &costing, direction, style, 4096)
+}
+
+fn check_stacks(
+    rt: &impl Abort,
+    alloc: Global,
+    direction: Direction,
+    style: Style,
+    nodes: &[u8],
+) -> Result<(), LineError> {
+    let tables = worked_tables(rt, alloc)?;
+    let tree = tree_of_trace(rt, alloc, &tables, &[0, 100, 100], direction, style)?;
+    let text = shown(rt, alloc, &tree)?;
+    assert_eq!(rt; text.as_slice(), nodes);
+    Ok(())
+}
+
+// The stacks of the worked trace, whose texts are those of its frames.
+#[test]
+fn stacks_of_a_trace(rt: HostRuntime) -> Result<(), LineError> {
+    let root = b"0 200 0 1 :1,\n0 200 100 1 main (a.c:20):2,\n1 100 100 2 f (a.c:10):\n";
+    check_stacks(&rt, rt.alloc(), Direction::FromRoot, Style::Plain, root)?;
+    let allocation =
+        b"0 200 0 1 :1,2,\n0 100 100 1 0x400: main (a.c:20):\n0 100 0 2 0x500: f (a.c:10):3,\n2 100 100 2 0x400: main (a.c:20):\n";
+    check_stacks(
+        &rt,
+        rt.alloc(),
+        Direction::FromAllocation,
+        Style::Addressed,
+        allocation,
+    )
 }
 
 #[test]

@@ -7,13 +7,18 @@ ghost use Rattle.cost_tree.specs.Children.{children_of};
 ghost use Rattle.cost_tree.specs.Costed.{costed};
 ghost use Rattle.cost_tree.specs.Costs.{AreCosts};
 ghost use Rattle.cost_tree.specs.IsTreeOf.{IsTreeOf};
+ghost use Rattle.cost_tree.specs.StackTexts.{lists_towards};
+ghost use Rattle.cost_tree.specs.Texts.{AreLists, lists_of};
 
 use crate::branches::{Branches, Edge};
 use crate::costing::Costing;
+use crate::direction::Direction;
 use crate::fronts::Fronts;
 use crate::links::Links;
 use crate::node::CostNode;
+use crate::stack_lists::{ListForm, stack_lists};
 use hp_num::NoMemory;
+use ht_trace::{Style, Tables};
 use indexmap::IndexSet;
 use intern_tables::Names;
 use std::alloc::Global;
@@ -56,6 +61,48 @@ impl CostTree {
         CostTree::of_costs(alloc, fronts, &costs, depth)
     }
 
+    /// The tree of the stacks of a trace with these costs, to fronts of at most `depth` texts, or `NoMemory`. A stack's
+    /// texts are those of its frames in this style, from the innermost one or from the outermost.
+    pub fn build<F: Fn(u32) -> u64>(
+        alloc: Global,
+        tables: &Tables,
+        costing: &Costing<F>,
+        direction: Direction,
+        style: Style,
+        depth: u32,
+    ) -> Result<CostTree, NoMemory>
+        requires as_many { costing.now.stacks ≡ length tables.now.nodes + 1 }
+        requires stated { (costs : List ℕ) × AreCosts (F.pre costing.now.cost) (F.post costing.now.cost) costing.now.stacks costs }
+        ensures tree { IfOk result (λ tree. (costs : List ℕ) → AreCosts (F.pre costing.now.cost) (F.post costing.now.cost) costing.now.stacks costs → IsTreeOf tree (costed (lists_towards direction style tables.now) costs) depth) }
+    {
+        let costs = costing.list(alloc)?;
+        CostTree::of_stacks(alloc, tables, &costs, direction, style, depth)
+    }
+
+    /// The tree of the stacks of a trace with these costs, or `NoMemory`.
+    fn of_stacks(
+        alloc: Global,
+        tables: &Tables,
+        costs: &[u64],
+        direction: Direction,
+        style: Style,
+        depth: u32,
+    ) -> Result<CostTree, NoMemory>
+        requires as_many { length costs.now ≡ length tables.now.nodes + 1 }
+        requires bound { sum costs.now ≤ 2 ^ 62 }
+        ensures tree { IfOk result (λ tree. IsTreeOf tree (costed (lists_towards direction style tables.now) costs.now) depth) }
+    {
+        // One text more than a front has says that a stack goes on.
+        let form = ListForm {
+            direction,
+            style,
+            most: depth as usize + 1,
+        };
+        let fronts = stack_lists(alloc, tables, costs, form)?;
+        let Fronts { names, lists } = fronts;
+        CostTree::of_lists(alloc, names, &lists, costs, depth)
+    }
+
     /// The tree of the lists with these costs, or `NoMemory`.
     fn of_costs(
         alloc: Global,
@@ -68,7 +115,25 @@ impl CostTree {
         ensures tree { IfOk result (λ tree. IsTreeOf tree (costed fronts.now costs.now) depth) }
     {
         let names = copy_names(alloc, &fronts.names)?;
-        let branches = Branches::of(alloc, names, &fronts.lists, costs, depth as usize)?;
+        CostTree::of_lists(alloc, names, &fronts.lists, costs, depth)
+    }
+
+    /// The tree of the stacks with these lists of numbers of names and these costs, or `NoMemory`.
+    fn of_lists(
+        alloc: Global,
+        names: Names,
+        lists: &[Vec<usize>],
+        costs: &[u64],
+        depth: u32,
+    ) -> Result<CostTree, NoMemory>
+        requires lists { AreLists names lists.now }
+        requires as_many { length costs.now ≡ length lists.now }
+        requires bound { sum costs.now ≤ 2 ^ 62 }
+        ensures tree { IfOk result (λ tree. IsTreeOf tree (costed (lists_of names lists.now) costs.now) depth) }
+    {
+        // Says that no two names are equal.
+        let _count = names.len();
+        let branches = Branches::of(alloc, names, lists, costs, depth as usize)?;
         let Branches {
             names,
             edges,
@@ -107,6 +172,8 @@ impl CostTree {
         requires held { n < length self.now.nodes }
         ensures root { n ≡ 0 → result.now ≡ [] }
         ensures last { 0 < n → (front : List (List ℕ)) × (slice_get self.now.fronts n ≡ Some (front ++ result.now ∷ [])) }
+        ensures below { (node : CostNode) (front : List (List ℕ)) → 0 < n → slice_get self.now.nodes n ≡ Some node →
+            slice_get self.now.fronts node.parent ≡ Some front → slice_get self.now.fronts n ≡ Some (front ++ result.now ∷ []) }
     {
         let Some(place) = n.checked_sub(1) else {
             return &[];

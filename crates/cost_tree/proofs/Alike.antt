@@ -1,0 +1,115 @@
+-- Lemmas on stacks that a tree can't tell apart.
+use Rattle.std.proofs.Common.{◌≡◌, ℕ, zero, suc, ◌+◌, ◌<◌, ◌≤◌, ◌&&◌, Bool, true, false, cond, List, [], ◌∷◌, length, map, take, Some, inl, inr, refl, sym, ap, ◌∙◌, subst, arith}
+use Rattle.std.specs.Prelude.{nat_lt, slice_get}
+use Rattle.std.specs.List.{position_or_len}
+use Rattle.std.proofs.lemmas.List.Recursion.{is_position_or_len}
+use Rattle.std.proofs.lemmas.List.Sums.{sum_by-cons}
+use Rattle.cost_tree.specs.declared.node.CostNode.{CostNode}
+use Rattle.cost_tree.specs.Costed.{Costed, costed}
+use Rattle.cost_tree.specs.Inclusive.{has_front, is_front, inclusive, own, least}
+use Rattle.cost_tree.specs.IsTreeOf.{HasFigures, IsTreeOf}
+use Rattle.cost_tree.specs.TreeState.{TreeState}
+
+-- two lists of texts of a stack of this cost are alike for each front of at most so many texts
+pub record AreAlike (depth cost : ℕ) (texts other : List (List ℕ)) : Type 0 where
+  pub begins : (front : List (List ℕ)) → length front ≤ depth → 0 < cost → has_front front texts ≡ has_front front other
+  pub is : (front : List (List ℕ)) → length front ≤ depth → 0 < cost → is_front front texts ≡ is_front front other
+
+-- two lists of stacks are
+pub record IsSameTo (depth : ℕ) (stacks other : List Costed) : Type 0 where
+  pub inclusive : (front : List (List ℕ)) → length front ≤ depth → inclusive front stacks ≡ inclusive front other
+  pub own : (front : List (List ℕ)) → length front ≤ depth → own front stacks ≡ own front other
+  pub least : (front : List (List ℕ)) → length front ≤ depth → least front stacks ≡ least front other
+
+-- what a stack adds where it passes a test
+counts : (cost : ℕ) (passes passes' : Bool) → (0 < cost → passes ≡ passes') → cond passes cost 0 ≡ cond passes' cost 0
+counts zero true true same = refl
+counts zero true false same = refl
+counts zero false true same = refl
+counts zero false false same = refl
+counts (suc n) passes passes' same = ap (λ (b : Bool). cond b (suc n) 0) (same (omega arith))
+
+-- whether it costs something and passes
+chosen : (cost : ℕ) (passes passes' : Bool) → (0 < cost → passes ≡ passes') → (nat_lt 0 cost && passes) ≡ (nat_lt 0 cost && passes')
+chosen zero passes passes' same = refl
+chosen (suc n) passes passes' same = ap (λ (b : Bool). nat_lt 0 (suc n) && b) (same (omega arith))
+
+inclusive-cons : (front : List (List ℕ)) (stack : Costed) (stacks : List Costed) → inclusive front (stack ∷ stacks) ≡ cond (has_front front stack.texts) stack.cost 0 + inclusive front stacks
+unfolding inclusive
+inclusive-cons front stack stacks = sum_by-cons (λ (s : Costed). cond (has_front front s.texts) s.cost 0) stack stacks
+
+own-cons : (front : List (List ℕ)) (stack : Costed) (stacks : List Costed) → own front (stack ∷ stacks) ≡ cond (is_front front stack.texts) stack.cost 0 + own front stacks
+unfolding own
+own-cons front stack stacks = sum_by-cons (λ (s : Costed). cond (is_front front s.texts) s.cost 0) stack stacks
+
+-- the first place by recursion
+first_place : {X : Type 0} → (X → Bool) → List X → ℕ
+first_place p [] = 0
+first_place p (x ∷ xs) = cond (p x) 0 (1 + first_place p xs)
+
+first_place-is : {X : Type 0} (p : X → Bool) (xs : List X) → first_place p xs ≡ position_or_len p xs
+unfolding first_place
+first_place-is p xs = is_position_or_len (first_place p) p refl (λ x ys. refl) xs
+
+least-cons : (front : List (List ℕ)) (stack : Costed) (stacks : List Costed) → least front (stack ∷ stacks) ≡ cond (nat_lt 0 stack.cost && has_front front stack.texts) 0 (1 + least front stacks)
+unfolding least first_place
+least-cons front stack stacks =
+    let p : Costed → Bool = λ s. nat_lt 0 s.cost && has_front front s.texts in
+    sym (first_place-is p (stack ∷ stacks)) ∙ ap (λ (n : ℕ). cond (p stack) 0 (1 + n)) (first_place-is p stacks)
+
+IsSameTo-cons : (depth cost : ℕ) (texts other : List (List ℕ)) (stacks others : List Costed) → AreAlike depth cost texts other → IsSameTo depth stacks others
+    → IsSameTo depth (record { texts = texts; cost = cost } ∷ stacks) (record { texts = other; cost = cost } ∷ others)
+IsSameTo-cons depth cost texts other stacks others alike same = record {
+  inclusive = λ front short.
+      let here = counts cost (has_front front texts) (has_front front other) (alike.begins front short) in
+      let one = inclusive-cons front (record { texts = texts; cost = cost }) stacks in
+      let two = inclusive-cons front (record { texts = other; cost = cost }) others in
+      let rest = same.inclusive front short in
+      omega arith;
+  own = λ front short.
+      let here = counts cost (is_front front texts) (is_front front other) (alike.is front short) in
+      let one = own-cons front (record { texts = texts; cost = cost }) stacks in
+      let two = own-cons front (record { texts = other; cost = cost }) others in
+      let rest = same.own front short in
+      omega arith;
+  least = λ front short.
+      least-cons front (record { texts = texts; cost = cost }) stacks
+      ∙ ap (λ (b : Bool). cond b 0 (1 + least front stacks)) (chosen cost (has_front front texts) (has_front front other) (alike.begins front short))
+      ∙ ap (λ (n : ℕ). cond (nat_lt 0 cost && has_front front other) 0 (1 + n)) (same.least front short)
+      ∙ sym (least-cons front (record { texts = other; cost = cost }) others);
+}
+
+-- lists that are made from numbers, and alike for each
+pub IsSameTo-map : (depth : ℕ) (f g : ℕ → List (List ℕ)) (ns costs : List ℕ)
+    → ((k n cost : ℕ) → slice_get ns k ≡ Some n → slice_get costs k ≡ Some cost → AreAlike depth cost (f n) (g n))
+    → IsSameTo depth (costed (map f ns) costs) (costed (map g ns) costs)
+unfolding costed
+IsSameTo-map depth f g [] costs alike = record { inclusive = λ front short. refl; own = λ front short. refl; least = λ front short. refl }
+IsSameTo-map depth f g (n ∷ ns) [] alike = record { inclusive = λ front short. refl; own = λ front short. refl; least = λ front short. refl }
+IsSameTo-map depth f g (n ∷ ns) (cost ∷ costs) alike =
+    IsSameTo-cons depth cost (f n) (g n) (costed (map f ns) costs) (costed (map g ns) costs) (alike zero n cost refl refl)
+    (IsSameTo-map depth f g ns costs (λ k m c at held. alike (suc k) m c at held))
+
+-- a tree of one is a tree of the other
+pub IsTreeOf-same : (tree : TreeState) (stacks other : List Costed) (depth : ℕ) → IsSameTo depth stacks other → IsTreeOf tree stacks depth → IsTreeOf tree other depth
+IsTreeOf-same tree stacks other depth same is = record {
+  root = is.root;
+  count = is.count;
+  distinct = is.distinct;
+  complete = λ front short some. let sums = same.inclusive front short in is.complete front short (omega arith);
+  only = λ n front above at. let sums = same.inclusive front (is.short n front at) in let some = is.only n front above at in omega arith;
+  short = is.short;
+  figures = λ n front node front_at node_at.
+      let short = is.short n front front_at in
+      let figures = is.figures n front node front_at node_at in
+      let sums = same.inclusive front short in
+      record {
+        cost = figures.cost ∙ sums;
+        own = figures.own ∙ same.own front short;
+        first = λ some. figures.first (omega arith) ∙ same.least front short;
+        first_of_none = λ none. figures.first_of_none (sums ∙ none);
+      };
+  below = is.below;
+  root_parent = is.root_parent;
+  brothers = is.brothers;
+}

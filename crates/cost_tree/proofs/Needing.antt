@@ -1,0 +1,106 @@
+-- Lemmas on the lists that a tree needs.
+use Rattle.std.proofs.Common.{◌≡◌, ℕ, ◌+◌, ◌<◌, ◌≤◌, eqb, false, List, [], ◌∷◌, ◌++◌, length, map, take, get_or, reverse, Some, refl, sym, ap, ◌∙◌, subst, arith}
+use Rattle.std.specs.Prelude.{slice_get, slice_index}
+use Rattle.std.specs.List.{range_with_len}
+use Rattle.std.proofs.lemmas.Bool.{cond-false}
+use Rattle.std.proofs.lemmas.Bool.Decides.{nat_tests, same_from_decides}
+use Rattle.std.proofs.lemmas.List.{length-take, map-append, reverse-append, take-map, take_all}
+use Rattle.std.proofs.lemmas.List.FromFn.{get_or-range_with_len, length-map-range_with_len, length-range_with_len, map-range_with_len_more}
+use Rattle.std.proofs.lemmas.Option.{get_or_from_slice_get, slice_get_within}
+use Rattle.cost_tree.specs.declared.direction.Direction.{Direction}
+use Rattle.cost_tree.specs.declared.direction.Direction.TheVariants.{FromAllocation, FromRoot}
+use Rattle.cost_tree.specs.Costed.{costed}
+use Rattle.cost_tree.specs.Inclusive.{has_front, is_front}
+use Rattle.cost_tree.specs.IsTreeOf.{IsTreeOf}
+use Rattle.cost_tree.specs.Needed.{needed, needed_list, needed_lists}
+use Rattle.cost_tree.specs.StackTexts.{lists_towards, stack_texts, towards}
+use Rattle.cost_tree.specs.TreeState.{TreeState}
+use Rattle.ht_trace.specs.declared.frame.Style.{Style}
+use Rattle.ht_trace.specs.TableState.{TableState}
+use Rattle.cost_tree.proofs.Alike.{AreAlike, IsSameTo-map, IsTreeOf-same}
+use Rattle.cost_tree.proofs.Prefixes.{has_front-take, is_front-Decides}
+
+-- the other way round, of each element
+map-reverse : {X Y : Type 0} (f : X → Y) (xs : List X) → map f (reverse xs) ≡ reverse (map f xs)
+map-reverse f [] = refl
+map-reverse f (x ∷ xs) =
+    ap (λ ys. map f ys) (reverse-append (x ∷ []) xs)
+    ∙ map-append f (reverse xs) (x ∷ [])
+    ∙ ap (λ ys. ys ++ f x ∷ []) (map-reverse f xs)
+    ∙ sym (reverse-append (f x ∷ []) (map f xs))
+
+map-towards : {X Y : Type 0} (f : X → Y) (direction : Direction) (xs : List X) → map f (towards direction xs) ≡ towards direction (map f xs)
+map-towards f FromAllocation xs = refl
+map-towards f FromRoot xs = map-reverse f xs
+
+-- the first texts of a list in a direction are those of the first frames
+pub texts-of-first : {X Y : Type 0} (f : X → Y) (most : ℕ) (direction : Direction) (xs : List X) → map f (take most (towards direction xs)) ≡ take most (towards direction (map f xs))
+texts-of-first f most direction xs = sym (take-map f most (towards direction xs)) ∙ ap (λ ys. take most ys) (map-towards f direction xs)
+
+-- lists by their numbers, and one more
+pub listed-more : {X : Type 0} (f : ℕ → X) (n : ℕ) (old new : List X) → old ≡ map f (range_with_len 0 n) → new ≡ old ++ f n ∷ [] → new ≡ map f (range_with_len 0 (n + 1))
+listed-more f n old new are added = added ∙ ap (λ xs. xs ++ f n ∷ []) are ∙ sym (map-range_with_len_more f 0 n n (omega arith))
+
+-- so many lists by their numbers
+pub listed-count : {X : Type 0} (f : ℕ → X) (n : ℕ) (xs : List X) → xs ≡ map f (range_with_len 0 n) → length xs ≡ n
+listed-count f n xs are = ap (λ ys. length ys) are ∙ length-map-range_with_len f 0 n
+
+-- what a tree needs of a list is alike for it
+needed-alike : (depth cost : ℕ) (texts : List (List ℕ)) → AreAlike depth cost (needed (depth + 1) cost texts) texts
+needed-alike depth cost texts = record {
+  begins = λ front short some. ap (λ xs. has_front front xs) (is some) ∙ has_front-take front texts (depth + 1) (omega arith);
+  is = λ front short some. ap (λ xs. is_front front xs) (is some) ∙ is_front-take front texts depth short;
+}
+  where
+    is : 0 < cost → needed (depth + 1) cost texts ≡ take (depth + 1) texts
+    is some =
+        let above : eqb cost 0 ≡ false = grind (arith, nat_tests) in
+        cond-false (eqb cost 0) [] (take (depth + 1) texts) above
+
+    is_front-take : (front texts : List (List ℕ)) (n : ℕ) → length front ≤ n → is_front front (take (n + 1) texts) ≡ is_front front texts
+    is_front-take front texts n within =
+        let cut = length-take (n + 1) texts in
+        same_from_decides (is_front front (take (n + 1) texts)) (is_front front texts) (is_front-Decides front (take (n + 1) texts)) (
+          (λ has.
+              let same = (is_front-Decides front texts).0 has in
+              let count = ap (λ (xs : List (List ℕ)). length xs) same in
+              same ∙ sym (take_all (n + 1) texts (omega arith))),
+          (λ same.
+              let count = ap (λ (xs : List (List ℕ)). length xs) same in
+              (is_front-Decides front texts).1 (same ∙ take_all (n + 1) texts (omega arith))),
+        )
+
+-- a tree of the needed lists is one of the stacks' lists
+pub IsTreeOf-needed : (tree : TreeState) (direction : Direction) (style : Style) (tables : TableState) (depth : ℕ) (costs : List ℕ)
+    → IsTreeOf tree (costed (needed_lists direction style tables (depth + 1) costs) costs) depth → IsTreeOf tree (costed (lists_towards direction style tables) costs) depth
+unfolding needed_lists lists_towards
+IsTreeOf-needed tree direction style tables depth costs is =
+    let list : ℕ → List (List ℕ) = λ n. towards direction (stack_texts style tables n) in
+    let count = length tables.nodes + 1 in
+    IsTreeOf-same tree _ _ depth
+    (IsSameTo-map depth (λ n. needed (depth + 1) (slice_index costs n) (list n)) list (range_with_len 0 count) costs (λ k n cost at held. alike k n cost at held))
+    is
+  where
+    alike : (k n cost : ℕ) → slice_get (range_with_len 0 (length tables.nodes + 1)) k ≡ Some n → slice_get costs k ≡ Some cost
+        → AreAlike depth cost (needed (depth + 1) (slice_index costs n) (towards direction (stack_texts style tables n))) (towards direction (stack_texts style tables n))
+    alike k n cost at held =
+        let texts : List (List ℕ) = towards direction (stack_texts style tables n) in
+        let within = slice_get_within (range_with_len 0 (length tables.nodes + 1)) k n at in
+        let long = length-range_with_len 0 (length tables.nodes + 1) in
+        let counted = get_or-range_with_len 0 (length tables.nodes + 1) k 0 (omega arith) in
+        let found = get_or_from_slice_get (range_with_len 0 (length tables.nodes + 1)) k n 0 at in
+        let place : k ≡ n = omega arith in
+        let is_cost : cost ≡ slice_index costs n = sym (get_or_from_slice_get costs k cost 0 held) ∙ ap (λ (i : ℕ). get_or costs i 0) place in
+        let P : ℕ → Type 0 = λ c. AreAlike depth cost (needed (depth + 1) c texts) texts in
+        subst P is_cost (needed-alike depth cost texts)
+
+-- the lists of all stacks
+pub needed_lists-all : (direction : Direction) (style : Style) (tables : TableState) (most : ℕ) (costs : List ℕ) (n : ℕ) (lists : List (List (List ℕ)))
+    → n ≡ length tables.nodes + 1 → lists ≡ map (needed_list direction style tables most costs) (range_with_len 0 n) → lists ≡ needed_lists direction style tables most costs
+unfolding needed_lists
+needed_lists-all direction style tables most costs n lists all are =
+    are ∙ ap (λ (k : ℕ). map (needed_list direction style tables most costs) (range_with_len 0 k)) all
+
+pub needed_lists-count : (direction : Direction) (style : Style) (tables : TableState) (most : ℕ) (costs : List ℕ) → length (needed_lists direction style tables most costs) ≡ length tables.nodes + 1
+unfolding needed_lists
+needed_lists-count direction style tables most costs = length-map-range_with_len (needed_list direction style tables most costs) 0 (length tables.nodes + 1)

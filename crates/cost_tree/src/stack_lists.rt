@@ -1,0 +1,120 @@
+//! The lists of texts of a trace's stacks, as far as a tree needs them.
+//! What the tree says of them is no part of it.
+ghost use Rattle.std.specs.Prelude.{◌≡◌, ◌+◌, ◌-◌, ◌^◌, ◌<◌, ◌≤◌, All, [], ◌∷◌, ◌++◌, length, map, take, IfOk, OnOk};
+ghost use Rattle.cost_tree.specs.Needed.{LastGains, needed, needed_lists};
+ghost use Rattle.cost_tree.specs.StackTexts.{stack_texts, towards};
+ghost use Rattle.ht_trace.specs.FrameText.{frame_text};
+ghost use Rattle.ht_trace.specs.IsFrame.{IsFrame};
+
+use crate::direction::Direction;
+use crate::fronts::Fronts;
+use hp_num::NoMemory;
+use ht_trace::{FrameAt, Style, Tables};
+use std::alloc::Global;
+
+/// How a stack's list is made: from which end, in which style, and of how many texts at most.
+#[derive(Clone, Copy, Debug)]
+pub(crate) struct ListForm {
+    pub(crate) direction: Direction,
+    pub(crate) style: Style,
+    pub(crate) most: usize,
+}
+
+/// The lists of the stacks with these costs, or `NoMemory`. That of a stack which costs nothing is empty, and no text of
+/// it is made.
+pub(crate) fn stack_lists(
+    alloc: Global,
+    tables: &Tables,
+    costs: &[u64],
+    form: ListForm,
+) -> Result<Fronts, NoMemory>
+    requires as_many { length costs.now ≡ length tables.now.nodes + 1 }
+    ensures lists { IfOk result (λ fronts. fronts ≡ needed_lists form.direction form.style tables.now form.most costs.now) }
+{
+    let mut fronts = Fronts::new(alloc);
+    let mut frames = Vec::new(alloc);
+    let mut text = Vec::new(alloc);
+    'each_stack: for stack in 0..tables.stacks() {
+        let cost = costs[stack as usize];
+        add_stack(
+            tables,
+            stack,
+            cost,
+            form,
+            &mut fronts,
+            &mut frames,
+            &mut text,
+        )?;
+    }
+    Ok(fronts)
+}
+
+/// Appends the list of the stack. `frames` and `text` are buffers.
+fn add_stack(
+    tables: &Tables,
+    stack: u32,
+    cost: u64,
+    form: ListForm,
+    fronts: &mut Fronts,
+    frames: &mut Vec<FrameAt>,
+    text: &mut Vec<u8>,
+) -> Result<(), NoMemory>
+    requires held { stack ≤ length tables.now.nodes }
+    requires few { length fronts.old < 2 ^ 32 - 1 }
+    ensures added { OnOk result (fronts.new ≡ fronts.old ++ needed form.most cost (towards form.direction (stack_texts form.style tables.now stack)) ∷ []) }
+{
+    fronts.begin()?;
+    if cost == 0 {
+        return Ok(());
+    }
+    push_stack(tables, stack, form, fronts, frames, text)
+}
+
+/// Appends the texts of the stack to the last list, of which there must be one. `frames` and `text` are buffers.
+fn push_stack(
+    tables: &Tables,
+    stack: u32,
+    form: ListForm,
+    fronts: &mut Fronts,
+    frames: &mut Vec<FrameAt>,
+    text: &mut Vec<u8>,
+) -> Result<(), NoMemory>
+    requires held { stack ≤ length tables.now.nodes }
+    requires begun { 0 < length fronts.old }
+    ensures gained { OnOk result (LastGains fronts.old (take form.most (towards form.direction (stack_texts form.style tables.now stack))) fronts.new) }
+{
+    tables.frames_into(stack, frames)?;
+    turn(frames, form.direction);
+    frames.truncate(form.most);
+    push_texts(tables, frames, form.style, fronts, text)
+}
+
+/// Turns a list that begins at the innermost frame into this direction.
+fn turn(frames: &mut Vec<FrameAt>, direction: Direction)
+    ensures { frames.new.items ≡ towards direction frames.old.items }
+{
+    match direction {
+        Direction::FromAllocation => {}
+        Direction::FromRoot => frames.reverse(),
+    }
+}
+
+/// Appends the texts of the frames to the last list, of which there must be one. `text` is a buffer.
+fn push_texts(
+    tables: &Tables,
+    frames: &[FrameAt],
+    style: Style,
+    fronts: &mut Fronts,
+    text: &mut Vec<u8>,
+) -> Result<(), NoMemory>
+    requires frames { All (λ at. IsFrame tables.now at) frames.now }
+    requires begun { 0 < length fronts.old }
+    ensures gained { OnOk result (LastGains fronts.old (map (frame_text style tables.now) frames.now) fronts.new) }
+{
+    'each_frame: for at in frames {
+        text.clear();
+        tables.put_frame(at, style, text)?;
+        fronts.push(text)?;
+    }
+    Ok(())
+}
