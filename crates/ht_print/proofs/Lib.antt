@@ -1,0 +1,3 @@
+pub mod PeakLemmas
+pub mod Searches
+pub mod Sizes

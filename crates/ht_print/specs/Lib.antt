@@ -1,0 +1,5 @@
+pub mod Totals
+pub mod Peak
+pub mod SummaryText
+pub mod Histogram
+pub mod Suppressed

@@ -1,0 +1,89 @@
+//! The summary of a trace as text: six lines of figures, a format of this project's own.
+ghost use Rattle.std.specs.Prelude.{◌≡◌, ◌++◌, List, OnErr, OnOk, take, vec_len};
+ghost use Rattle.live_ledger.specs.declared.event.Event.{Event};
+ghost use Rattle.peak_costs.specs.Peak.{StandsFor};
+ghost use Rattle.ht_print.specs.SummaryText.{count_lines, figure, live_lines, summary_of, summary_text};
+
+use hp_num::{NoMemory, put_bytes, put_dec};
+use live_ledger::Totals;
+use peak_costs::Peaks;
+
+/// The figures of a whole trace.
+#[derive(Clone, Copy, Debug)]
+struct Summary {
+    totals: Totals,
+    /// The greatest total, in bytes.
+    peak: u64,
+    /// The first number of events after which it was reached.
+    moment: u64,
+}
+
+/// Appends the six lines to `out`: events, calls, temporary allocations, allocated bytes, the peak in bytes with its moment
+/// in events, and the bytes and blocks that are live at the end. On `NoMemory`, `out` holds what it held before.
+pub fn put_summary(peaks: &Peaks, out: &mut Vec<u8>) -> Result<(), NoMemory>
+    ensures appended { OnOk result ((events : List Event) → StandsFor peaks.now events → out.new.items ≡ out.old.items ++ summary_text events) }
+    ensures unchanged { OnErr result (out.new.items ≡ out.old.items) }
+{
+    let before = out.len();
+    let put = Summary::of(peaks).put(out);
+    if put.is_err() {
+        out.truncate(before);
+    }
+    put
+}
+
+impl Summary {
+    /// The figures of the trace whose peaks these are.
+    fn of(peaks: &Peaks) -> Summary
+        ensures { (events : List Event) → StandsFor peaks.now events → result ≡ summary_of events }
+    {
+        Summary {
+            totals: peaks.ledger().totals(),
+            peak: peaks.peak_total(),
+            moment: peaks.peak_moment(),
+        }
+    }
+
+    /// Appends the six lines.
+    fn put(&self, out: &mut Vec<u8>) -> Result<(), NoMemory>
+        ensures kept { take (vec_len out.old) out.new.items ≡ out.old.items }
+        ensures appended { OnOk result (out.new.items ≡ out.old.items ++ (count_lines self.now ++ live_lines self.now)) }
+    {
+        self.put_counts(out)?;
+        self.put_live(out)
+    }
+
+    /// Appends the lines of what was counted.
+    #[tactic(auto, unfolding(crate::specs::SummaryText::count_lines))]
+    fn put_counts(&self, out: &mut Vec<u8>) -> Result<(), NoMemory>
+        ensures kept { take (vec_len out.old) out.new.items ≡ out.old.items }
+        ensures appended { OnOk result (out.new.items ≡ out.old.items ++ count_lines self.now) }
+    {
+        put_figure(out, b"events: ", self.totals.events)?;
+        put_figure(out, b"\ncalls: ", self.totals.calls)?;
+        put_figure(out, b"\ntemporary: ", self.totals.temporary)?;
+        put_figure(out, b"\nallocated: ", self.totals.allocated)
+    }
+
+    /// Appends the lines of what was live at the peak and is live at the end.
+    #[tactic(auto, unfolding(crate::specs::SummaryText::live_lines))]
+    fn put_live(&self, out: &mut Vec<u8>) -> Result<(), NoMemory>
+        ensures kept { take (vec_len out.old) out.new.items ≡ out.old.items }
+        ensures appended { OnOk result (out.new.items ≡ out.old.items ++ live_lines self.now) }
+    {
+        put_figure(out, b"\npeak: ", self.peak)?;
+        put_figure(out, b" at event ", self.moment)?;
+        put_figure(out, b"\nleaked: ", self.totals.live)?;
+        put_figure(out, b" in ", self.totals.blocks)?;
+        put_bytes(out, b" blocks\n")
+    }
+}
+
+/// Appends a label and a figure.
+fn put_figure(out: &mut Vec<u8>, label: &[u8], n: u64) -> Result<(), NoMemory>
+    ensures kept { take (vec_len out.old) out.new.items ≡ out.old.items }
+    ensures appended { OnOk result (out.new.items ≡ out.old.items ++ figure label.now n) }
+{
+    put_bytes(out, label)?;
+    put_dec(out, n)
+}
