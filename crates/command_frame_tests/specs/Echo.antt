@@ -1,8 +1,8 @@
 -- A taker that gives each line back, and refuses one.
-use Rattle.std.specs.Prelude.{ℕ, List, [], ◌∷◌, ◌++◌, Option, Some, None, Bool, codes, if◌then◌else◌}
+use Rattle.std.specs.Prelude.{ℕ, List, [], ◌∷◌, ◌++◌, Option, Some, None, Bool, codes, if◌then◌else◌, length, ◌==◌}
 use Rattle.std.specs.Str.{bytes_eq}
 use Rattle.command_frame.specs.declared.FaultStatus.TheVariants.{Malformed}
-use Rattle.command_frame.specs.Report.{Refuses, Report, Writes}
+use Rattle.command_frame.specs.Report.{Refuses, Report, Verdict, Writes}
 use Rattle.command_frame.specs.Told.{Told}
 
 abbrev pub bad : Told
@@ -15,3 +15,11 @@ echo_report refuses = record {
   gains = λ earlier line. line ++ 10 ∷ [];
   verdict = λ lines. if refuses then Refuses bad else Writes (codes "end\n");
 }
+
+-- a document is given back, unless it says this
+abbrev pub echo_verdict : List ℕ → Verdict
+echo_verdict bytes = if bytes_eq bytes (codes "bad") then Refuses bad else Writes bytes
+
+-- a second file is refused at its end where the first has no line
+abbrev pub refusing_report : List (List ℕ) → Report
+refusing_report lines = echo_report (length lines == 0)
