@@ -1,10 +1,8 @@
 -- The facts of a run whose next file is read whole.
-use Rattle.std.proofs.Common.{◌≡◌, ◌≢◌, ℕ, ◌+◌, ◌≤◌, true, false, List, [], ◌∷◌, ◌++◌, take, Option, Some, None, refl, ap, sym, subst, ◌∙◌, arith}
+use Rattle.std.proofs.Common.{◌≡◌, ◌≢◌, ℕ, ◌+◌, List, [], ◌∷◌, Option, Some, None, refl, ap, sym, subst, ◌∙◌, arith}
 use Rattle.hp_outside.specs.Folder.{Folder, file_of}
-use Rattle.hp_outside.specs.Taken.{WhereTold}
 use Rattle.command_frame.specs.declared.fault.FaultStatus.TheVariants.{PastLimit}
 use Rattle.command_frame.specs.FirstFault.{Bounds, input_too_long}
-use Rattle.command_frame.specs.WholeFault.{whole_fault}
 use Rattle.command_frame.specs.Plan.{Document, Plan}
 use Rattle.command_frame.specs.Texts.{Texts}
 use Rattle.command_frame.specs.Answer.{Answer, absent_answer, document_answer, file_answer, plan_answer, whole_answer}
@@ -12,7 +10,6 @@ use Rattle.command_frame.specs.Moment.{Moment}
 use Rattle.command_frame.specs.DocumentRead.{Absent, CannotOpen, CannotRead, DocumentEnd, DocumentRead, EndsWhere, TooLong, Unopened, Wanting, Whole}
 use Rattle.command_frame.specs.Run.{GoesOnWith, Ran}
 use Rattle.command_frame.specs.RunFacts.{RunFacts}
-use Rattle.command_frame.specs.Silent.{IsSilent}
 use Rattle.command_frame.proofs.StatusFactLemmas.{fault_facts, unreadable_facts, wanting_facts}
 use Rattle.command_frame.proofs.NotReadLemmas.{absent_not_read, closed_not_read, unread_not_read}
 use Rattle.command_frame.proofs.BehindFactLemmas.{behind_facts}

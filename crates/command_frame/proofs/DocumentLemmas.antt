@@ -1,8 +1,7 @@
 -- The ends of reading a document, and what follows for a run.
-use Rattle.std.proofs.Common.{◌≡◌, ◌≢◌, ◌↔◌, ◌<◌, ◌≤◌, ℕ, ◌+◌, nat_lt, List, [], ◌∷◌, length, true, false, Option, Some, None, Result, Ok, Err, IsSome, refl, ap, sym, subst, ◌∙◌, inl, inr, arith}
+use Rattle.std.proofs.Common.{◌≡◌, ◌≢◌, ◌↔◌, ◌<◌, ◌≤◌, ℕ, nat_lt, List, [], ◌∷◌, length, true, false, Option, Some, None, Result, Ok, Err, IsSome, refl, sym, subst, inl, inr, arith}
 use Rattle.std.proofs.lemmas.Bool.{false_from_ne_true, lt-ltb, ltb-true}
 use Rattle.std.proofs.lemmas.Bool.Decides.{eqb_tells}
-use Rattle.std.specs.Io.KnownBytes.{append_known}
 use Rattle.hp_outside.specs.declared.store.OpenFault.{OpenFault}
 use Rattle.hp_outside.specs.declared.store.OpenFault.TheVariants as opening
 use Rattle.hp_outside.specs.declared.whole.WholeFault.{WholeFault}
@@ -12,7 +11,7 @@ use Rattle.hp_outside.specs.Folder.{Folder, file_of}
 use Rattle.hp_outside.specs.Taken.{WhereTold}
 use Rattle.hp_outside.specs.Whole.{WholeAnswer}
 use Rattle.command_frame.specs.declared.halt.Halt.{Halt}
-use Rattle.command_frame.specs.Answer.{Answer, after, done, file_answer, memory_answer, verdict_answer}
+use Rattle.command_frame.specs.Answer.{Answer, memory_answer}
 use Rattle.command_frame.specs.FirstFault.{Bounds, input_too_long}
 use Rattle.command_frame.specs.WholeFault.{whole_fault}
 use Rattle.command_frame.specs.Halts.{halt_answer, status_code}
@@ -21,10 +20,8 @@ use Rattle.command_frame.specs.FileRead.{end_answer}
 use Rattle.command_frame.specs.DocumentRead.{Absent, CannotOpen, CannotRead, DocumentCalls, DocumentEnd, DocumentRead, EndsWhere, TooLong, Unopened, Wanting, Whole, document_end_answer}
 use Rattle.command_frame.specs.Outcome.{GivesWhole, IsUnread, end_of_document, end_of_open, end_of_whole}
 use Rattle.command_frame.specs.Plan.{Document, Plan}
-use Rattle.command_frame.specs.Report.{Refuses, Verdict, Writes}
 use Rattle.command_frame.specs.Run.{Ran, RanTo}
 use Rattle.command_frame.specs.Texts.{Texts}
-use Rattle.command_frame.specs.Told.{Told}
 use Rattle.command_frame.proofs.OutputLemmas.{append_nothing}
 
 -- the size of a file tells whether it has a fault

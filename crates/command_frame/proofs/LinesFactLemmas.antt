@@ -1,16 +1,14 @@
 -- The facts of a run whose next file is read by lines.
-use Rattle.std.proofs.Common.{◌≡◌, ◌≢◌, ℕ, ◌+◌, ◌≤◌, true, false, List, [], ◌∷◌, ◌++◌, length, min, take, take_all, Option, Some, None, refl, ap, sym, subst, ◌∙◌, append-nil, arith}
-use Rattle.hp_outside.specs.Faults.{Rose}
+use Rattle.std.proofs.Common.{◌≡◌, ◌≢◌, ℕ, ◌+◌, List, [], ◌∷◌, ◌++◌, length, min, take, take_all, Option, Some, None, refl, ap, sym, subst, ◌∙◌, append-nil, arith}
 use Rattle.hp_outside.specs.Folder.{Folder, file_of}
 use Rattle.hp_outside.specs.Lines.{lines_of}
-use Rattle.hp_outside.specs.Taken.{WhereTold}
 use Rattle.command_frame.specs.Told.{Told}
 use Rattle.command_frame.specs.Report.{Report, gains_from, written}
-use Rattle.command_frame.specs.FirstFault.{Bounds, file_fault}
+use Rattle.command_frame.specs.FirstFault.{Bounds}
 use Rattle.command_frame.specs.Plan.{Lines, Plan}
 use Rattle.command_frame.specs.Texts.{Texts}
 use Rattle.command_frame.specs.Answer.{Answer, absent_answer, after, line_answer, lines_answer, named_answer, plan_answer}
-use Rattle.command_frame.specs.Moment.{Moment, Opened}
+use Rattle.command_frame.specs.Moment.{Moment}
 use Rattle.command_frame.specs.FileRead.{Absent, CannotOpen, CannotRead, EndsIn, FileEnd, FileRead, GoodFront, Passed, Refused, Unopened, Unwritten, Wanting}
 use Rattle.command_frame.specs.Run.{GoesOn, Ran}
 use Rattle.command_frame.specs.RunFacts.{RunFacts}

@@ -1,5 +1,5 @@
 -- A run that ended because a file is absent, or couldn't be opened or read: what its message says.
-use Rattle.std.proofs.Common.{◌≡◌, ◌≢◌, ◌⊎◌, ℕ, suc, ◌+◌, true, false, List, [], ◌∷◌, codes, slice_get, Option, Some, None, IsSome, refl, ap, sym, subst, ◌∙◌, inl, inr, arith}
+use Rattle.std.proofs.Common.{◌≡◌, ◌≢◌, ℕ, suc, ◌+◌, true, false, List, ◌∷◌, codes, Option, Some, None, IsSome, ap, subst, ◌∙◌, inl, inr, arith}
 use Rattle.hp_outside.specs.Faults.{Rose}
 use Rattle.hp_outside.specs.Folder.{Folder, file_of}
 use Rattle.hp_outside.specs.Taken.{WhereTold}

@@ -1,5 +1,5 @@
 -- An answer of status 0 has no message.
-use Rattle.std.proofs.Common.{◌≡◌, ℕ, List, [], Option, Some, None, refl, ap, sym, arith}
+use Rattle.std.proofs.Common.{◌≡◌, ℕ, List, [], Option, Some, None, refl, arith}
 use Rattle.hp_outside.specs.Folder.{Folder, file_of}
 use Rattle.hp_outside.specs.Lines.{lines_of}
 use Rattle.command_frame.specs.declared.fault.FaultStatus.{FaultStatus}

@@ -1,20 +1,16 @@
 -- From the reading of files to the run of a plan.
-use Rattle.std.proofs.Common.{◌≡◌, ◌≢◌, ℕ, List, [], ◌∷◌, ◌++◌, append_assoc, Option, Some, None, refl, ap, sym, subst, ◌∙◌, inl, inr}
-use Rattle.std.proofs.lemmas.Bool.Decides.{eqb_tells}
+use Rattle.std.proofs.Common.{◌≡◌, ℕ, List, [], ◌∷◌, ◌++◌, append_assoc, Option, Some, None, refl, ap, sym, subst, ◌∙◌}
 use Rattle.std.specs.Io.KnownBytes.{append_known}
 use Rattle.hp_outside.specs.Folder.{Folder, file_of}
-use Rattle.command_frame.specs.declared.halt.Halt.{Halt}
-use Rattle.command_frame.specs.Answer.{Answer, after, done, file_answer, memory_answer}
+use Rattle.command_frame.specs.Answer.{Answer, after, memory_answer}
 use Rattle.command_frame.specs.FirstFault.{Bounds}
-use Rattle.command_frame.specs.Halts.{halt_answer, status_code}
-use Rattle.command_frame.specs.Outcome.{HaltsAt, IsStop}
-use Rattle.command_frame.specs.Plan.{Plan, Lines, one_file}
-use Rattle.command_frame.specs.Report.{Refuses, Report, Writes, written}
+use Rattle.command_frame.specs.Outcome.{IsStop}
+use Rattle.command_frame.specs.Plan.{Plan, Lines}
+use Rattle.command_frame.specs.Report.{Report, written}
 use Rattle.command_frame.specs.Moment.{Moment}
 use Rattle.command_frame.specs.FileRead.{Absent, CannotOpen, CannotRead, EndsIn, FileEnd, FileRead, Passed, Refused, Unopened, Unwritten, Wanting, end_answer, end_output}
 use Rattle.command_frame.specs.Run.{Ran, RanTo}
 use Rattle.command_frame.specs.Texts.{Texts}
-use Rattle.command_frame.specs.Told.{Told}
 use Rattle.command_frame.proofs.OutputLemmas.{append_further, append_nothing}
 
 -- a file that wasn't opened for want of memory

@@ -1,20 +1,16 @@
 -- What a run comes to before it is delivered.
-use Rattle.std.specs.Prelude.{◌≡◌, ℕ, Bool, List, [], ◌∷◌, Option, Result, Ok, Err}
+use Rattle.std.specs.Prelude.{◌≡◌, ℕ, Bool, List, Option, Result, Ok, Err}
 use Rattle.hp_outside.specs.declared.store.OpenFault.{OpenFault}
 use Rattle.hp_outside.specs.declared.store.OpenFault.TheVariants as opening
 use Rattle.hp_outside.specs.declared.whole.WholeFault.{WholeFault}
 use Rattle.hp_outside.specs.declared.whole.WholeFault.TheVariants as reading
 use Rattle.command_frame.specs.declared.halt.Halt.{Halt}
-use Rattle.command_frame.specs.declared.lines.LinesStop.{LinesStop}
-use Rattle.command_frame.specs.Told.{Told}
 use Rattle.command_frame.specs.Texts.{Texts}
-use Rattle.command_frame.specs.Answer.{Answer}
 use Rattle.command_frame.specs.Halts.{halt_answer}
 use Rattle.command_frame.specs.Moment.{Moment}
-use Rattle.command_frame.specs.FileRead.{Absent, CannotOpen, CannotRead, FileEnd, Passed, Refused, Unopened, Unwritten, Wanting, end_answer}
+use Rattle.command_frame.specs.FileRead.{Absent, CannotOpen, FileEnd, Passed, Unopened, end_answer}
 use Rattle.command_frame.specs.DocumentRead.{DocumentEnd, document_end_answer}
 use Rattle.command_frame.specs.DocumentRead as document
-use Rattle.command_frame.specs.LinesRun.{end_of}
 
 -- a moment of a store
 abbrev pub moment : ℕ → Bool → Option (List ℕ) → ℕ → Moment
