@@ -1,8 +1,7 @@
 -- What two outputs gained, seen later or from earlier on.
-use Rattle.std.proofs.Common.{◌≡◌, ◌⊎◌, ℕ, ◌+◌, ◌≤◌, List, ◌++◌, length, take, Option, refl, ap, sym, subst, ◌∙◌, inl, inr, arith}
+use Rattle.std.proofs.Common.{◌≡◌, ℕ, ◌+◌, List, ◌++◌, length, take, Option, ap, sym, ◌∙◌, inl, inr}
 use Rattle.std.proofs.Math.Seq.{take-append-add}
 use Rattle.std.specs.Io.KnownBytes.{append_known}
-use Rattle.hp_outside.specs.Taken.{GainsFront}
 use Rattle.command_frame.specs.Answer.{Answer, after}
 use Rattle.command_frame.specs.Delivery.{GainsFronts}
 use Rattle.command_frame.proofs.OutputLemmas.{append_further}

@@ -1,5 +1,5 @@
 -- The ends of reading a file.
-use Rattle.std.proofs.Common.{◌≡◌, ◌≢◌, ◌↔◌, inl, inr, subst, ℕ, ◌+◌, List, [], ◌∷◌, ◌++◌, length, take, min, nat_le, ◌<◌, ◌≤◌, take_all, length-take, take-take, Bool, true, false, Option, Some, None, Result, Ok, Err, IsSome, refl, ap, sym, ◌∙◌, append-nil, arith}
+use Rattle.std.proofs.Common.{◌≡◌, ◌≢◌, ◌↔◌, inl, inr, subst, ℕ, List, [], ◌++◌, length, take, min, nat_le, ◌<◌, ◌≤◌, take_all, length-take, take-take, true, false, Option, Some, None, Result, Ok, Err, IsSome, refl, ap, sym, ◌∙◌, append-nil, arith}
 use Rattle.std.proofs.lemmas.Bool.{leb-false, leb-true}
 use Rattle.std.proofs.lemmas.Bool.Decides.{eqb_tells}
 use Rattle.std.specs.Option.{option_or}
@@ -14,8 +14,9 @@ use Rattle.command_frame.specs.declared.lines.LinesStop.{LinesStop}
 use Rattle.command_frame.specs.declared.lines.LinesStop.TheVariants.{AtLine, ReadFailed, WriteFailed, NoMemory}
 use Rattle.command_frame.specs.Told.{Told}
 use Rattle.command_frame.specs.Report.{Report, written}
-use Rattle.command_frame.specs.FirstFault.{Bounds, Refusal, end_refusal, file_fault, first_fault, line_faults}
-use Rattle.command_frame.specs.Run.{Absent, Calls, CannotOpen, CannotRead, EndsAt, EndsIn, FileEnd, FileRead, GoodFront, Moment, Opened, Passed, PassedWhole, Refused, RefusedAt, StoppedBefore, Unopened, Unwritten, Wanting, end_answer, end_output}
+use Rattle.command_frame.specs.FirstFault.{Bounds, Refusal, end_refusal, first_fault, line_faults}
+use Rattle.command_frame.specs.Moment.{Moment, Opened}
+use Rattle.command_frame.specs.FileRead.{Calls, EndsAt, EndsIn, FileEnd, FileRead, GoodFront, Passed, PassedWhole, StoppedBefore, Wanting, end_answer, end_output}
 use Rattle.command_frame.specs.LinesRun.{LinesRun, end_of}
 use Rattle.command_frame.specs.declared.halt.Halt.{Halt}
 use Rattle.command_frame.specs.Answer.{memory_answer}

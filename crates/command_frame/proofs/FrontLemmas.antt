@@ -1,5 +1,5 @@
 -- What was written is a front of what is to be written.
-use Rattle.std.proofs.Common.{◌≡◌, ◌≢◌, ℕ, suc, ◌+◌, ◌-◌, ◌≤◌, List, [], ◌∷◌, ◌++◌, length, take, Option, Some, None, refl, ap, ap₂, sym, ◌∙◌, append-nil, append_assoc, length-append, arith}
+use Rattle.std.proofs.Common.{◌≡◌, ℕ, ◌+◌, ◌-◌, ◌≤◌, List, [], ◌∷◌, ◌++◌, length, take, Option, Some, None, refl, ap, ap₂, sym, ◌∙◌, append-nil, append_assoc, length-append, arith}
 use Rattle.std.proofs.Math.Seq.{take-append-add, take-append_seam}
 use Rattle.std.specs.Option.{option_map, option_or}
 use Rattle.hp_outside.specs.Lines.{lines_of}
@@ -8,7 +8,7 @@ use Rattle.command_frame.specs.Report.{Report, gains_from, written}
 use Rattle.command_frame.specs.FirstFault.{Bounds, Refusal, end_refusal, file_fault, first_fault, line_fault, line_faults}
 use Rattle.command_frame.specs.Texts.{Texts}
 use Rattle.command_frame.specs.Answer.{Answer, lines_answer}
-use Rattle.command_frame.specs.Run.{GoodFront}
+use Rattle.command_frame.specs.FileRead.{GoodFront}
 use Rattle.command_frame.proofs.FaultLemmas.{fault_found, fault_passes}
 
 -- what lines and those after them give

@@ -1,5 +1,5 @@
 -- What a taker of lines says of its faults, and of what it makes of all lines.
-use Rattle.std.specs.Prelude.{◌≡◌, ℕ, List, Option, Some}
+use Rattle.std.specs.Prelude.{◌≡◌, Option, Some}
 use Rattle.command_frame.specs.Told.{Told}
 use Rattle.command_frame.specs.Report as report
 use Rattle.command_frame.specs.declared.taker.LineRefusal.{LineRefusal}
