@@ -15,7 +15,8 @@ use Rattle.command_frame.specs.declared.lines.LinesStop.TheVariants.{AtLine, Rea
 use Rattle.command_frame.specs.Told.{Told}
 use Rattle.command_frame.specs.Report.{Report, written}
 use Rattle.command_frame.specs.FirstFault.{Bounds, Refusal, end_refusal, file_fault, first_fault, line_faults}
-use Rattle.command_frame.specs.Run.{Absent, Calls, CannotOpen, CannotRead, EndsAt, EndsIn, FileEnd, FileRead, GoodFront, Moment, Opened, Passed, PassedWhole, Refused, RefusedAt, StoppedBefore, Unopened, Unwritten, Wanting, end_answer, end_output}
+use Rattle.command_frame.specs.Moment.{Moment, Opened}
+use Rattle.command_frame.specs.FileRead.{Absent, Calls, CannotOpen, CannotRead, EndsAt, EndsIn, FileEnd, FileRead, GoodFront, Passed, PassedWhole, Refused, RefusedAt, StoppedBefore, Unopened, Unwritten, Wanting, end_answer, end_output}
 use Rattle.command_frame.specs.LinesRun.{LinesRun, end_of}
 use Rattle.command_frame.specs.declared.halt.Halt.{Halt}
 use Rattle.command_frame.specs.Answer.{memory_answer}

@@ -8,7 +8,7 @@ use Rattle.command_frame.specs.Report.{Report, gains_from, written}
 use Rattle.command_frame.specs.FirstFault.{Bounds, Refusal, end_refusal, file_fault, first_fault, line_fault, line_faults}
 use Rattle.command_frame.specs.Texts.{Texts}
 use Rattle.command_frame.specs.Answer.{Answer, lines_answer}
-use Rattle.command_frame.specs.Run.{GoodFront}
+use Rattle.command_frame.specs.FileRead.{GoodFront}
 use Rattle.command_frame.proofs.FaultLemmas.{fault_found, fault_passes}
 
 -- what lines and those after them give

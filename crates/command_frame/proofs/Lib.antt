@@ -5,7 +5,14 @@ pub mod LinesLoop
 pub mod BatchLemmas
 pub mod EndLemmas
 pub mod RunLemmas
+pub mod DocumentLemmas
+pub mod TextLoop
 pub mod DeliveryLemmas
 pub mod FrontLemmas
+pub mod StatusFactLemmas
+pub mod NotReadLemmas
+pub mod BehindFactLemmas
+pub mod LinesFactLemmas
+pub mod DocumentFactLemmas
 pub mod RunFactLemmas
 pub mod QuietLemmas

@@ -14,7 +14,7 @@ use Rattle.command_frame.specs.Told.{Told}
 use Rattle.command_frame.specs.Report.{Report, written}
 use Rattle.command_frame.specs.FirstFault.{Bounds, Refusal, bytes_of_lines, end_refusal, file_fault, first_fault, input_too_long, length_fault, line_fault, line_faults, line_too_long}
 use Rattle.command_frame.specs.LinesRun.{Gained}
-use Rattle.command_frame.specs.Run.{GoodFront, PassedWhole, RefusedAt, StoppedBefore}
+use Rattle.command_frame.specs.FileRead.{GoodFront, PassedWhole, RefusedAt, StoppedBefore}
 use Rattle.command_frame.proofs.FaultLemmas.{bytes_of_lines-push, fault_found, fault_passes, good_push, line_has_content_fault, line_has_length_fault, line_is_good}
 use Rattle.command_frame.proofs.LineLemmas.{after_line_length, first_line_reaches, input_is_too_long, length_is_good, line_is_too_long, lines_of_first}
 use Rattle.command_frame.proofs.OutputLemmas.{gained_more, take_front}

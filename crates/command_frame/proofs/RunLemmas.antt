@@ -1,5 +1,5 @@
 -- From the reading of files to the run of a plan.
-use Rattle.std.proofs.Common.{◌≡◌, ◌≢◌, ℕ, List, [], ◌∷◌, Option, Some, None, refl, ap, sym, subst, ◌∙◌, inl, inr}
+use Rattle.std.proofs.Common.{◌≡◌, ◌≢◌, ℕ, List, [], ◌∷◌, ◌++◌, append_assoc, Option, Some, None, refl, ap, sym, subst, ◌∙◌, inl, inr}
 use Rattle.std.proofs.lemmas.Bool.Decides.{eqb_tells}
 use Rattle.std.specs.Io.KnownBytes.{append_known}
 use Rattle.hp_outside.specs.Folder.{Folder, file_of}
@@ -10,10 +10,12 @@ use Rattle.command_frame.specs.Halts.{halt_answer, status_code}
 use Rattle.command_frame.specs.Outcome.{HaltsAt, IsStop}
 use Rattle.command_frame.specs.Plan.{Plan, Lines, one_file}
 use Rattle.command_frame.specs.Report.{Refuses, Report, Writes, written}
-use Rattle.command_frame.specs.Run.{Absent, CannotOpen, CannotRead, EndsIn, FileEnd, FileRead, Moment, Passed, Ran, Refused, Unopened, Unwritten, Wanting, end_answer, end_output}
+use Rattle.command_frame.specs.Moment.{Moment}
+use Rattle.command_frame.specs.FileRead.{Absent, CannotOpen, CannotRead, EndsIn, FileEnd, FileRead, Passed, Refused, Unopened, Unwritten, Wanting, end_answer, end_output}
+use Rattle.command_frame.specs.Run.{Ran, RanTo}
 use Rattle.command_frame.specs.Texts.{Texts}
 use Rattle.command_frame.specs.Told.{Told}
-use Rattle.command_frame.proofs.OutputLemmas.{append_nothing}
+use Rattle.command_frame.proofs.OutputLemmas.{append_further, append_nothing}
 
 -- a file that wasn't opened for want of memory
 unopened_told : (bounds : Bounds) (report : Report) (file left : Option (List ℕ)) → EndsIn bounds report file left Unopened
@@ -74,5 +76,28 @@ ran_on texts bounds files last name names report next before mid now old new end
   (
     gained ∙ ap (λ e. append_known old (end_output report e)) is,
     (refl, (Passed taken, (mid, subst (λ e. FileRead bounds files name report before mid e) is read, (answer, refl, rest)))),
+  ),
+)
+
+-- the same, where the rest of the run wrote more early
+pub ran_on_to : (texts : Texts) (bounds : Bounds) (files : Option Folder) (last name : List ℕ) (names : List (List ℕ)) (report : Report) (next : List (List ℕ) → Plan) (before mid now : Moment) (old middle new : Option (List ℕ)) (end : FileEnd)
+    (taken : List (List ℕ)) (answer : Answer) → FileRead bounds files name report before mid end → end ≡ Passed taken → middle ≡ append_known old (end_output report end)
+    → RanTo texts bounds files name names (next taken) mid now middle new answer
+    → RanTo texts bounds files last (name ∷ names) (Lines name report next) before now old new answer
+ran_on_to texts bounds files last name names report next before mid now old middle new end taken answer read is gained rest = (
+  written report taken ++ rest.0,
+  (
+    rest.1.0 ∙ (ap (λ known. append_known known rest.0) (gained ∙ ap (λ e. append_known old (end_output report e)) is) ∙ append_further old (written report taken) rest.0),
+    (
+      refl,
+      (
+        Passed taken,
+        (
+          mid,
+          subst (λ e. FileRead bounds files name report before mid e) is read,
+          (after rest.0 answer, ap (λ bytes. record answer { output = bytes }) (append_assoc (written report taken) rest.0 answer.output), rest.1.1),
+        ),
+      ),
+    ),
   ),
 )

@@ -5,7 +5,8 @@ use Rattle.hp_outside.specs.Lines.{lines_of}
 use Rattle.command_frame.specs.Told.{Told, code_of}
 use Rattle.command_frame.specs.Report.{Report, Verdict, Writes, Refuses, written}
 use Rattle.command_frame.specs.FirstFault.{Bounds, Refusal, file_fault}
-use Rattle.command_frame.specs.Plan.{Plan, Ends, Lines}
+use Rattle.command_frame.specs.WholeFault.{whole_fault}
+use Rattle.command_frame.specs.Plan.{Plan, Document, Ends, Lines, Pieces}
 use Rattle.command_frame.specs.Texts.{Texts, at_file, at_line}
 
 -- the bytes for standard output, those for standard error, and the status
@@ -70,8 +71,21 @@ named_answer texts bounds name report None rest = absent_answer texts name
 named_answer texts bounds name report (Some bytes) rest =
     lines_answer texts name report (lines_of bytes) (file_fault bounds report bytes) (rest (lines_of bytes))
 
+-- the answer to a file that is read whole: at its fault, nothing is made of its bytes
+abbrev pub whole_answer : Texts → List ℕ → Option Told → Answer → Answer
+whole_answer texts name (Some told) rest = file_answer texts name told
+whole_answer texts name None rest = rest
+
+-- the answer to a named document, which the folder may lack
+abbrev pub document_answer : Texts → Bounds → List ℕ → Option (List ℕ) → (List ℕ → Answer) → Answer
+document_answer texts bounds name None rest = absent_answer texts name
+document_answer texts bounds name (Some bytes) rest = whole_answer texts name (whole_fault bounds bytes) (rest bytes)
+
 -- the answer to a plan over a folder of files, of which none may have more bytes, nor longer lines, than the bounds
 abbrev pub plan_answer : Texts → Bounds → Folder → List ℕ → Plan → Answer
 plan_answer texts bounds folder last (Ends verdict) = verdict_answer texts last verdict
+plan_answer texts bounds folder last (Pieces text) = done text
 plan_answer texts bounds folder last (Lines name report next) =
     named_answer texts bounds name report (file_of folder name) (λ lines. plan_answer texts bounds folder name (next lines))
+plan_answer texts bounds folder last (Document name next) =
+    document_answer texts bounds name (file_of folder name) (λ bytes. plan_answer texts bounds folder name (next bytes))

@@ -2,9 +2,14 @@ pub mod Told
 pub mod Report
 pub mod FirstFault
 pub mod Plan
+pub mod WholeFault
 pub mod Texts
 pub mod Answer
+pub mod Moment
+pub mod FileRead
+pub mod DocumentRead
 pub mod Run
+pub mod Silent
 pub mod Taker
 pub mod Batch
 pub mod LinesRun

@@ -10,7 +10,7 @@ use Rattle.command_frame.specs.declared.lines.LinesStop.TheVariants.{AtLine, Rea
 use Rattle.command_frame.specs.Told.{Told}
 use Rattle.command_frame.specs.Report.{Report}
 use Rattle.command_frame.specs.FirstFault.{Bounds, input_too_long, line_too_long}
-use Rattle.command_frame.specs.Run.{CannotRead, EndsAt, FileEnd, Passed, Refused, Unwritten, Wanting, end_output}
+use Rattle.command_frame.specs.FileRead.{CannotRead, EndsAt, FileEnd, Passed, Refused, Unwritten, Wanting, end_output}
 
 -- what is told of a fault of a file
 abbrev pub told_of : {F : Type 0} → (F → Told) → FileFault F → Told

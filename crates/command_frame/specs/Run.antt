@@ -1,131 +1,15 @@
 -- What a run of a plan may come to, whatever a store tells and does.
-use Rattle.std.specs.Prelude.{◌≡◌, ◌≤◌, ◌+◌, ◌-◌, ◌⊎◌, ℕ, Bool, true, false, List, [], ◌∷◌, ◌++◌, length, take, Option, Some, None, IsSome}
-use Rattle.hp_outside.specs.Faults.{Rose}
-use Rattle.hp_outside.specs.Folder.{Folder, file_of}
-use Rattle.hp_outside.specs.Lines.{lines_of}
-use Rattle.hp_outside.specs.NextLine.{IsUndecided}
-use Rattle.hp_outside.specs.Taken.{WhereTold}
-use Rattle.command_frame.specs.Told.{Told}
+use Rattle.std.specs.Prelude.{◌≡◌, ◌⊎◌, ℕ, List, [], ◌∷◌, take, Option}
+use Rattle.std.specs.Io.KnownBytes.{append_known}
+use Rattle.hp_outside.specs.Folder.{Folder}
 use Rattle.command_frame.specs.Report.{Report, written}
-use Rattle.command_frame.specs.FirstFault.{Bounds, bytes_of_lines, file_fault, first_fault, line_faults}
-use Rattle.command_frame.specs.Plan.{Plan, Ends, Lines}
+use Rattle.command_frame.specs.FirstFault.{Bounds}
+use Rattle.command_frame.specs.Moment.{Moment}
+use Rattle.command_frame.specs.FileRead.{FileEnd, FileRead, Passed, end_answer, end_output}
+use Rattle.command_frame.specs.DocumentRead.{DocumentEnd, DocumentRead, Whole, document_end_answer}
+use Rattle.command_frame.specs.Plan.{Plan, Document, Ends, Lines, Pieces}
 use Rattle.command_frame.specs.Texts.{Texts}
-use Rattle.command_frame.specs.Answer.{Answer, absent_answer, after, closed_answer, line_answer, memory_answer, refused, unread_answer, verdict_answer, write_answer}
-
--- what a store shows of itself at a moment, beside its files
-pub record Moment : Type 0 where
-  pub opens : ℕ
-  pub current : Bool
-  pub left : Option (List ℕ)
-  pub faults : ℕ
-
--- how the reading of a file by lines ended, with the lines that were taken
-pub data FileEnd : Type 0 where
-  -- memory was wanting before the file was opened
-  Unopened : FileEnd
-  Absent : FileEnd
-  CannotOpen : FileEnd
-  CannotRead : List (List ℕ) → FileEnd
-  -- the line of a number, or the end, has a fault
-  Refused : List (List ℕ) → ℕ → Told → FileEnd
-  -- memory was wanting
-  Wanting : List (List ℕ) → FileEnd
-  -- standard output took no more than so many bytes of what the lines give
-  Unwritten : List (List ℕ) → ℕ → FileEnd
-  -- all lines were taken, without a fault
-  Passed : List (List ℕ) → FileEnd
-
--- lines that stand at the front of the file and have no fault
-pub record GoodFront (bounds : Bounds) (report : Report) (bytes : List ℕ) (taken : List (List ℕ)) : Type 0 where
-  pub more : List (List ℕ)
-  pub lines_are : lines_of bytes ≡ taken ++ more
-  pub no_fault : first_fault 1 (line_faults bounds report (length bytes) [] taken) ≡ None
-
--- a failed read came before any fault: the lines that were taken whole before it, each with its line feed, have none,
--- and the bytes taken after them, which are kept, show no fault of the next line's length. The lines taken, each with
--- a line feed, reach to the bytes that are kept, so that the line feed before those isn't left out
-pub record StoppedBefore (bounds : Bounds) (report : Report) (bytes : List ℕ) (left : Option (List ℕ)) (taken : List (List ℕ)) : Type 0 where
-  pub kept : List ℕ
-  pub unread : List ℕ
-  pub left_is : left ≡ Some unread
-  pub lines_are : lines_of bytes ≡ taken ++ lines_of (kept ++ unread)
-  pub reached : length bytes ≤ bytes_of_lines taken + length (kept ++ unread)
-  pub no_fault : first_fault 1 (line_faults bounds report (length bytes) [] taken) ≡ None
-  pub undecided : IsUndecided bounds.input bounds.line (length bytes - length (kept ++ unread)) kept
-
--- a file whose lines before that of the number are these, and whose first fault stands at that line
-pub record RefusedAt (bounds : Bounds) (report : Report) (bytes : List ℕ) (taken : List (List ℕ)) (number : ℕ) (told : Told) : Type 0 where
-  pub refusal : file_fault bounds report bytes ≡ Some (record { number = number; told = told })
-  pub before : taken ≡ take (number - 1) (lines_of bytes)
-  pub front : GoodFront bounds report bytes taken
-
--- a file of these lines without a fault
-pub record PassedWhole (bounds : Bounds) (report : Report) (bytes : List ℕ) (taken : List (List ℕ)) : Type 0 where
-  pub no_fault : file_fault bounds report bytes ≡ None
-  pub lines_are : taken ≡ lines_of bytes
-
--- what an end says of a file of these bytes, of which this is left
-abbrev pub EndsAt : Bounds → Report → List ℕ → Option (List ℕ) → FileEnd → Type 0
-EndsAt bounds report bytes left Unopened = Unit {0}
-EndsAt bounds report bytes left Absent = ⊥
-EndsAt bounds report bytes left CannotOpen = Unit {0}
-EndsAt bounds report bytes left (CannotRead taken) = StoppedBefore bounds report bytes left taken
-EndsAt bounds report bytes left (Refused taken number told) = RefusedAt bounds report bytes taken number told
-EndsAt bounds report bytes left (Wanting taken) = GoodFront bounds report bytes taken
-EndsAt bounds report bytes left (Unwritten taken count) = GoodFront bounds report bytes taken
-EndsAt bounds report bytes left (Passed taken) = PassedWhole bounds report bytes taken
-
--- where the folder has this file, or none of the name
-abbrev pub EndsIn : Bounds → Report → Option (List ℕ) → Option (List ℕ) → FileEnd → Type 0
-EndsIn bounds report (Some bytes) left end = EndsAt bounds report bytes left end
-EndsIn bounds report None left Unopened = Unit {0}
-EndsIn bounds report None left Absent = Unit {0}
-EndsIn bounds report None left (Wanting taken) = taken ≡ []
-EndsIn bounds report None left _ = ⊥
-
--- the file was opened: a call of `open` more, and a file is current after it or not
-pub record Opened (before now : Moment) (current : Bool) : Type 0 where
-  pub opens : now.opens ≡ before.opens + 1
-  pub current_is : now.current ≡ current
-
--- what an end says of the store's calls, and of its faults; a store that doesn't tell its files is absent of one only where
--- a call failed
-abbrev pub Calls : Option Folder → Moment → Moment → FileEnd → Type 0
-Calls files before now Unopened = now ≡ before
-Calls files before now Absent = Opened before now false × (files ≡ None → Rose before.faults now.faults)
-Calls files before now CannotOpen = Opened before now false × Rose before.faults now.faults
-Calls files before now (CannotRead taken) = Opened before now true × Rose before.faults now.faults
-Calls files before now (Refused taken number told) = Opened before now true × (now.faults ≡ before.faults)
-Calls files before now (Wanting taken) = now.opens ≡ before.opens + 1
-Calls files before now (Unwritten taken count) = now.opens ≡ before.opens + 1
-Calls files before now (Passed taken) = Opened before now true × (now.faults ≡ before.faults) × WhereTold now.left (λ left. left ≡ [])
-
--- how reading a named file by lines ended
-pub record FileRead (bounds : Bounds) (files : Option Folder) (name : List ℕ) (report : Report) (before now : Moment) (end : FileEnd) : Type 0 where
-  pub told : WhereTold files (λ folder. EndsIn bounds report (file_of folder name) now.left end)
-  pub calls : Calls files before now end
-
--- the bytes that standard output has gained at an end
-abbrev pub end_output : Report → FileEnd → List ℕ
-end_output report Unopened = []
-end_output report Absent = []
-end_output report CannotOpen = []
-end_output report (CannotRead taken) = written report taken
-end_output report (Refused taken number told) = written report taken
-end_output report (Wanting taken) = written report taken
-end_output report (Unwritten taken count) = take count (written report taken)
-end_output report (Passed taken) = written report taken
-
--- the message and the status of an end that isn't the last line
-abbrev pub end_answer : Texts → List ℕ → FileEnd → Answer
-end_answer texts name Unopened = memory_answer texts
-end_answer texts name Absent = absent_answer texts name
-end_answer texts name CannotOpen = closed_answer texts name
-end_answer texts name (CannotRead taken) = unread_answer texts name
-end_answer texts name (Refused taken number told) = line_answer texts name number told
-end_answer texts name (Wanting taken) = memory_answer texts
-end_answer texts name (Unwritten taken count) = write_answer texts
-end_answer texts name (Passed taken) = refused [] 0
+use Rattle.command_frame.specs.Answer.{Answer, after, done, memory_answer, verdict_answer, write_answer}
 
 -- a run goes on behind a file whose lines were all taken, and its answer is that of any other end
 abbrev pub GoesOn : Texts → List ℕ → Report → FileEnd → (List (List ℕ) → Answer → Type 0) → (now last : Moment) → Answer → Type 0
@@ -133,13 +17,34 @@ GoesOn texts name report (Passed taken) rest now last given =
     (answer : Answer) × (given ≡ after (written report taken) answer) × rest taken answer
 GoesOn texts name report end rest now last given = (given ≡ after (end_output report end) (end_answer texts name end)) × (last ≡ now)
 
+-- a run goes on behind a file that was read whole, and its answer is that of any other end
+abbrev pub GoesOnWith : Texts → List ℕ → DocumentEnd → (List ℕ → Answer → Type 0) → (now last : Moment) → Answer → Type 0
+GoesOnWith texts name (Whole taken) rest now last given = rest taken given
+GoesOnWith texts name end rest now last given = (given ≡ document_end_answer texts name end) × (last ≡ now)
+
+-- a text was written while it was made: all of it, or so many bytes until memory was wanting or a write failed
+abbrev pub WasMade : Texts → List ℕ → Answer → Type 0
+WasMade texts text given =
+    (given ≡ done text) ⊎ ((count : ℕ) × ((given ≡ after (take count text) (memory_answer texts)) ⊎ (given ≡ after (take count text) (write_answer texts))))
+
 -- a run of a plan over files of these names, from one moment of the store to another, may come to this answer. The file that was
 -- read last has the name `last`
 abbrev pub Ran : Texts → Bounds → Option Folder → List ℕ → List (List ℕ) → Plan → Moment → Moment → Answer → Type 0
 Ran texts bounds files last [] (Ends verdict) before now given =
     (now ≡ before) × ((given ≡ verdict_answer texts last verdict) ⊎ (given ≡ memory_answer texts))
 Ran texts bounds files last (name ∷ names) (Ends verdict) before now given = ⊥
+Ran texts bounds files last [] (Pieces text) before now given = (now ≡ before) × WasMade texts text given
+Ran texts bounds files last (name ∷ names) (Pieces text) before now given = ⊥
 Ran texts bounds files last [] (Lines wanted report next) before now given = ⊥
 Ran texts bounds files last (name ∷ names) (Lines wanted report next) before now given =
     (name ≡ wanted) × ((end : FileEnd) × ((mid : Moment) × FileRead bounds files wanted report before mid end
     × GoesOn texts wanted report end (λ lines answer. Ran texts bounds files wanted names (next lines) mid now answer) mid now given))
+Ran texts bounds files last [] (Document wanted next) before now given = ⊥
+Ran texts bounds files last (name ∷ names) (Document wanted next) before now given =
+    (name ≡ wanted) × ((end : DocumentEnd) × ((mid : Moment) × DocumentRead bounds files wanted before mid end
+    × GoesOnWith texts wanted end (λ bytes answer. Ran texts bounds files wanted names (next bytes) mid now answer) mid now given))
+
+-- a run wrote some bytes to an output early, and may come to the answer that is yet to be delivered behind them
+abbrev pub RanTo : Texts → Bounds → Option Folder → List ℕ → List (List ℕ) → Plan → Moment → Moment → Option (List ℕ) → Option (List ℕ) → Answer → Type 0
+RanTo texts bounds files last names plan before now old new answer =
+    (early : List ℕ) × ((new ≡ append_known old early) × Ran texts bounds files last names plan before now (after early answer))

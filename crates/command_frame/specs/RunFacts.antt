@@ -5,9 +5,10 @@ use Rattle.hp_outside.specs.Folder.{Folder, file_of}
 use Rattle.hp_outside.specs.Taken.{WhereTold}
 use Rattle.command_frame.specs.FirstFault.{Bounds}
 use Rattle.command_frame.specs.Plan.{Plan}
+use Rattle.command_frame.specs.Silent.{IsSilent}
 use Rattle.command_frame.specs.Texts.{Texts, at_file}
 use Rattle.command_frame.specs.Answer.{Answer, plan_answer}
-use Rattle.command_frame.specs.Run.{Moment}
+use Rattle.command_frame.specs.Moment.{Moment}
 
 -- a call of the store failed or a file is absent: the message names the file that was opened last, which is the one at a place
 -- among those to be read, and says 'cannot read' where a file is current
@@ -43,3 +44,5 @@ pub record RunFacts (texts : Texts) (bounds : Bounds) (files : Option Folder) (l
   pub write : given.status ≡ 4 → given.message ≡ texts.write_failed
   pub bounded : given.status ≤ 6
   pub not_usage : given.status ≢ 2
+  -- a plan that is silent while files are read has written nothing, unless all is done
+  pub silent : IsSilent plan → given.status ≢ 0 → given.output ≡ []

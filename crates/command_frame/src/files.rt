@@ -8,7 +8,7 @@ ghost use Rattle.command_frame.specs.FirstFault.{bounds_of};
 ghost use Rattle.command_frame.specs.Halts.{halt_answer, status_code};
 ghost use Rattle.command_frame.specs.LinesRun.{IsNewReader, LinesRun, end_of};
 ghost use Rattle.command_frame.specs.Outcome.{HaltsAt, end_of_open, moment};
-ghost use Rattle.command_frame.specs.Run.{FileEnd, FileRead, end_answer, end_output};
+ghost use Rattle.command_frame.specs.FileRead.{FileEnd, FileRead, end_answer, end_output};
 ghost use Rattle.command_frame.specs.Texts.{texts_of};
 
 use crate::desk::Desk;
@@ -39,6 +39,7 @@ fn take_all<T: LineTaker, S: Store, O: Sink>(
     ensures input { lines.new.input ≡ lines.old.input }
     ensures line { lines.new.line_limit ≡ lines.old.line_limit }
     ensures report { T.report taker.new ≡ T.report taker.old }
+    ensures sound_taker { OnOk result (T.is_sound taker.new) }
     ensures ended { OnOk result (WhereTold (S.left store.new) (λ left. left ≡ [])) }
     ensures failed { result ≡ Err LinesStop.ReadFailed → Rose (S.faults store.old) (S.faults store.new) }
     ensures sound_reads { result ≢ Err LinesStop.ReadFailed → result ≢ Err LinesStop.WriteFailed → S.faults store.new ≡ S.faults store.old }
@@ -58,7 +59,7 @@ fn take_all<T: LineTaker, S: Store, O: Sink>(
 
 impl Desk {
     /// The halt where a file wasn't opened.
-    fn unopened(&self, name: &str, fault: OpenFault) -> Halt
+    pub(crate) fn unopened(&self, name: &str, fault: OpenFault) -> Halt
         ensures answer { status_code result.status ≢ 5 → halt_answer (texts_of self.now.texts) result ≡ end_answer (texts_of self.now.texts) name.now (end_of_open fault) }
         ensures memory { status_code result.status ≡ 5 → halt_answer (texts_of self.now.texts) result ≡ memory_answer (texts_of self.now.texts) }
         ensures write { status_code result.status ≢ 4 }
@@ -119,6 +120,7 @@ pub fn read_lines<T: LineTaker, S: Store, O: Sink>(
     ensures input { lines.new.input ≡ lines.old.input }
     ensures line { lines.new.line_limit ≡ lines.old.line_limit }
     ensures report { T.report taker.new ≡ T.report taker.old }
+    ensures sound_taker { OnOk result (T.is_sound taker.new) }
     ensures files { S.files store.new ≡ S.files store.old }
     ensures unwritten { IfErr result (λ halt. status_code halt.status ≡ 4 → Rose (O.faults out.old) (O.faults out.new)) }
     ensures sound_writes { IfErr result (λ halt. status_code halt.status ≢ 4 → O.faults out.new ≡ O.faults out.old) }

@@ -81,6 +81,7 @@ pub fn take_lines<T: LineTaker, S: Store, O: Sink>(
     ensures input { lines.new.input ≡ lines.old.input }
     ensures line { lines.new.line_limit ≡ lines.old.line_limit }
     ensures report { T.report taker.new ≡ T.report taker.old }
+    ensures sound_taker { OnOk result (T.is_sound taker.new) }
     ensures ended { OnOk result (WhereTold (S.left store.new) (λ left. left ≡ [])) }
     ensures failed { result ≡ Err LinesStop.ReadFailed → Rose (S.faults store.old) (S.faults store.new) }
     ensures sound_reads { result ≢ Err LinesStop.ReadFailed → S.faults store.new ≡ S.faults store.old }
@@ -153,7 +154,7 @@ fn take_ready<T: LineTaker>(lines: &mut LineReader, taker: &mut T)
 }
 
 /// Writes what is kept back, where it is a piece or more.
-fn pass_on_piece<O: Sink>(buffer: &mut Vec<u8>, out: &mut O) -> Result<(), Failed>
+pub fn pass_on_piece<O: Sink>(buffer: &mut Vec<u8>, out: &mut O) -> Result<(), Failed>
     ensures passed { OnOk result ((early : List ℕ) × ((O.written out.new ≡ append_known (O.written out.old) early) × (early ++ buffer.new.items ≡ buffer.old.items))) }
     ensures front { OnErr result (GainsFront (O.written out.old) (O.written out.new) buffer.old.items) }
     ensures emptied { OnErr result (buffer.new.items ≡ []) }

@@ -3,7 +3,16 @@
 
 #[cfg(test)]
 mod batch_tests;
+mod countdown;
+mod document;
+#[cfg(test)]
+mod document_tests;
 mod echo;
+#[cfg(test)]
+mod pair_tests;
+mod refusing;
 mod signs;
 #[cfg(test)]
 mod tests;
+#[cfg(test)]
+mod text_tests;

@@ -8,7 +8,7 @@ use std::alloc::Global;
 use std::process::Abort;
 use std::test::Fail;
 
-const TEXTS: ProgramTexts = ProgramTexts {
+pub(crate) const TEXTS: ProgramTexts = ProgramTexts {
     name: "echo",
     usage: b"usage\n",
     out_of_memory: b"echo: out of memory\n",

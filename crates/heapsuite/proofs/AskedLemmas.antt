@@ -10,7 +10,8 @@ use Rattle.command_frame.specs.Delivery.{Delivered, GainsFronts}
 use Rattle.command_frame.specs.FirstFault.{Bounds}
 use Rattle.command_frame.specs.OutcomeAnswer.{outcome_answer}
 use Rattle.command_frame.specs.Plan.{Plan}
-use Rattle.command_frame.specs.Run.{Moment, Ran}
+use Rattle.command_frame.specs.Moment.{Moment}
+use Rattle.command_frame.specs.Run.{Ran}
 use Rattle.command_frame.specs.RunFacts.{NotRead}
 use Rattle.command_frame.specs.Texts.{Texts}
 use Rattle.command_frame.proofs.DeliveryLemmas.{fronts_behind, fronts_later}
@@ -20,12 +21,8 @@ use Rattle.command_frame.proofs.RunFactLemmas.{run_facts}
 use Rattle.heapsuite.specs.Answer.{asked_answer}
 use Rattle.heapsuite.specs.Asked.{Asked, names_asked, names_of, plan_of}
 use Rattle.heapsuite.specs.Run.{WordsRan}
+use Rattle.heapsuite.specs.Silent.{IsSilentFor}
 use Rattle.heapsuite.specs.Texts.{heapsuite_texts}
-
--- an output gained bytes, and behind them the run may come to this answer
-abbrev pub RanTo : Texts → Bounds → Option Folder → List ℕ → List (List ℕ) → Plan → Moment → Moment → Option (List ℕ) → Option (List ℕ) → Answer → Type 0
-RanTo texts bounds files last names plan before now old new answer =
-    (early : List ℕ) × ((new ≡ append_known old early) × Ran texts bounds files last names plan before now (after early answer))
 
 -- what follows for the answer of a run
 pub record AskedFacts (bounds : Bounds) (files : Option Folder) (asking : Option Asked) (before now : Moment) (given : Answer) : Type 0 where
@@ -42,6 +39,7 @@ pub record AskedFacts (bounds : Bounds) (files : Option Folder) (asking : Option
   pub bounded : given.status ≤ 6
   pub usage : asking ≡ None → given.status ≢ 5 → given ≡ usage_answer heapsuite_texts
   pub only_usage : given.status ≡ 2 → asking ≡ None
+  pub silent : IsSilentFor asking → given.status ≢ 0 → given.output ≡ []
 
 -- memory was wanting for the words
 wanting : (bounds : Bounds) (files : Option Folder) (asking : Option Asked) (before now : Moment) (given : Answer) → now ≡ before → given ≡ memory_answer heapsuite_texts → AskedFacts bounds files asking before now given
@@ -62,6 +60,7 @@ wanting bounds files asking before now given same is =
       bounded = omega (arith, five);
       usage = λ none other. absurd (other five);
       only_usage = λ two. absurd (omega (arith, five, two));
+      silent = λ quiet some. ap (λ (a : Answer). a.output) is;
     }
 
 -- a run that the words allow has the facts
@@ -84,6 +83,7 @@ asked_facts bounds files None before now given (inr ran) =
       bounded = omega (arith, two);
       usage = λ none five. ran.1;
       only_usage = λ is. refl;
+      silent = λ quiet some. ap (λ (a : Answer). a.output) ran.1;
     }
 asked_facts bounds files (Some request) before now given (inr ran) =
     let facts = run_facts heapsuite_texts bounds files [] (names_of request) (plan_of request) before now given ran in
@@ -101,6 +101,7 @@ asked_facts bounds files (Some request) before now given (inr ran) =
       bounded = facts.bounded;
       usage = λ none five. absurd (cc);
       only_usage = λ two. absurd (facts.not_usage two);
+      silent = facts.silent;
     }
 
 -- what a run came to, and what the outputs hold

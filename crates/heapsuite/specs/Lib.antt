@@ -11,3 +11,4 @@ pub mod Asked
 pub mod Requests
 pub mod Answer
 pub mod Run
+pub mod Silent

@@ -3,7 +3,8 @@ use Rattle.std.specs.Prelude.{◌≡◌, ◌⊎◌, [], Option, Some, None}
 use Rattle.hp_outside.specs.Folder.{Folder}
 use Rattle.command_frame.specs.Answer.{Answer, memory_answer, usage_answer}
 use Rattle.command_frame.specs.FirstFault.{Bounds}
-use Rattle.command_frame.specs.Run.{Moment, Ran}
+use Rattle.command_frame.specs.Moment.{Moment}
+use Rattle.command_frame.specs.Run.{Ran}
 use Rattle.heapsuite.specs.Asked.{Asked, names_of, plan_of}
 use Rattle.heapsuite.specs.Texts.{heapsuite_texts}
 

@@ -1,10 +1,10 @@
 //! The public call of the program: words and files in, output, message and status out.
-ghost use Rattle.std.specs.Prelude.{◌≡◌, ◌≢◌, ◌+◌, ◌^◌, ◌<◌, ◌≤◌, ℕ, List, [], Some, None, true, false, map, string_bytes, length, IfOk};
+ghost use Rattle.std.specs.Prelude.{◌≡◌, ◌≢◌, ◌+◌, ◌^◌, ◌<◌, ◌≤◌, ℕ, List, [], Some, None, true, false, map, string_bytes, length, IfErr, IfOk};
 ghost use Rattle.std.specs.Io.KnownBytes.{append_known};
 ghost use Rattle.hp_outside.specs.Faults.{Rose};
 ghost use Rattle.hp_outside.specs.Folder.{Folder};
 ghost use Rattle.hp_outside.specs.Taken.{GainsFront, WhereTold};
-ghost use Rattle.command_frame.specs.Answer.{Answer, usage_answer};
+ghost use Rattle.command_frame.specs.Answer.{Answer, memory_answer, usage_answer};
 ghost use Rattle.command_frame.specs.Delivery.{Delivered, GainsFronts};
 ghost use Rattle.command_frame.specs.FirstFault.{bounds_of};
 ghost use Rattle.command_frame.specs.Outcome.{moment};
@@ -12,6 +12,7 @@ ghost use Rattle.command_frame.specs.RunFacts.{NotRead};
 ghost use Rattle.heapsuite.specs.Answer.{answer};
 ghost use Rattle.heapsuite.specs.Asked.{asked, files_asked, knows_first};
 ghost use Rattle.heapsuite.specs.Run.{WordsRan};
+ghost use Rattle.heapsuite.specs.Silent.{IsSilentFor};
 ghost use Rattle.heapsuite.specs.Texts.{heapsuite_texts as the_texts};
 
 use crate::run_words::run_words;
@@ -89,6 +90,9 @@ pub fn heapsuite_run<S: Store, O: Sink, E: Sink>(
     ensures past_limit { (folder : Folder) → S.files store.old ≡ Some folder → ¬ Rose (S.faults store.old) (S.faults store.new)
         → (answer (map string_bytes words.now) (bounds_of limits.now) folder).status ≡ 6 → result ≢ 4 → result ≢ 5 → result ≡ 6 }
 
+    // Unless the status is 0 or 4, a command that writes nothing while it reads has written nothing.
+    ensures silent { IsSilentFor (asked (map string_bytes words.now)) → result ≢ 0 → result ≢ 4 → O.written out.new ≡ O.written out.old }
+
     // Status 2: exactly where the words aren't taken. No words and an unknown first word take no memory.
     ensures usage { asked (map string_bytes words.now) ≡ None → result ≢ 4 → result ≢ 5
         → Delivered (usage_answer the_texts) result (O.written out.old) (O.written out.new) (E.written err.old) (E.written err.new) }
@@ -132,6 +136,8 @@ pub fn heapsuite_main<S: Store, O: Sink, E: Sink>(
     requires { S.opens store.old < 2 ^ 63 }
     ensures judged { IfOk words.now (λ words. (folder : Folder) → S.files store.old ≡ Some folder → result ≢ 3 → result ≢ 4 → result ≢ 5
         → Delivered (answer (map string_bytes words.items) (record { input = 2 ^ 34; line = 1048576 }) folder) result (O.written out.old) (O.written out.new) (E.written err.old) (E.written err.new)) }
+    ensures wanting { IfErr words.now (λ fault. result ≢ 4 → Delivered (memory_answer the_texts) result (O.written out.old) (O.written out.new) (E.written err.old) (E.written err.new)) }
+    ensures unread { IfErr words.now (λ fault. S.opens store.new ≡ S.opens store.old) }
     ensures statuses { result ≤ 6 }
 {
     match words {

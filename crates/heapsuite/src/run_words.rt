@@ -1,5 +1,5 @@
 //! From the words and the files to what is to be delivered. How that is written is the business of the frame.
-ghost use Rattle.std.specs.Prelude.{◌≡◌, ◌≢◌, ◌-◌, ◌^◌, ◌<◌, false, IfErr, IfOk, OnOk, List, [], ℕ, map, string_bytes};
+ghost use Rattle.std.specs.Prelude.{◌≡◌, ◌≢◌, ◌^◌, ◌<◌, false, IfErr, IfOk, OnOk, List, [], ℕ, map, string_bytes};
 ghost use Rattle.std.specs.Io.KnownBytes.{append_known};
 ghost use Rattle.hp_outside.specs.Faults.{Rose};
 ghost use Rattle.command_frame.specs.declared.Message.TheVariants.{OutOfMemory};
@@ -9,7 +9,7 @@ ghost use Rattle.command_frame.specs.FirstFault.{bounds_of};
 ghost use Rattle.command_frame.specs.Halts.{halt_answer, status_code};
 ghost use Rattle.command_frame.specs.Outcome.{moment};
 ghost use Rattle.command_frame.specs.OutcomeAnswer.{outcome_answer};
-ghost use Rattle.command_frame.specs.Run.{Ran};
+ghost use Rattle.command_frame.specs.Run.{RanTo};
 ghost use Rattle.command_frame.specs.Texts.{texts_of};
 ghost use Rattle.heapsuite.specs.Asked.{asked, knows_first, names_of, plan_of};
 ghost use Rattle.heapsuite.specs.Requests.{asked_of};
@@ -30,7 +30,7 @@ pub fn run_words<S: Store, O: Sink>(
     store: &mut S,
     out: &mut O,
 ) -> Outcome
-    requires opens { S.opens store.old < 2 ^ 64 - 1 }
+    requires opens { S.opens store.old < 2 ^ 63 }
     requires texts { texts_of desk.now.texts ≡ heapsuite_texts }
     ensures ran { (early : List ℕ) × ((O.written out.new ≡ append_known (O.written out.old) early)
         × WordsRan (bounds_of desk.now.limits) (S.files store.old) (asked (map string_bytes words.now))
@@ -55,16 +55,14 @@ fn run_request<S: Store, O: Sink>(
     store: &mut S,
     out: &mut O,
 ) -> Result<Vec<u8>, Halt>
-    requires opens { S.opens store.old < 2 ^ 64 - 1 }
+    requires opens { S.opens store.old < 2 ^ 63 }
     requires texts { texts_of desk.now.texts ≡ heapsuite_texts }
-    ensures all { IfOk result (λ rest. (early : List ℕ) × ((O.written out.new ≡ append_known (O.written out.old) early)
-        × Ran heapsuite_texts (bounds_of desk.now.limits) (S.files store.old) [] (names_of (asked_of request.now)) (plan_of (asked_of request.now))
+    ensures all { IfOk result (λ rest. RanTo heapsuite_texts (bounds_of desk.now.limits) (S.files store.old) [] (names_of (asked_of request.now)) (plan_of (asked_of request.now))
         (moment (S.opens store.old) (S.current store.old) (S.left store.old) (S.faults store.old)) (moment (S.opens store.new) (S.current store.new) (S.left store.new) (S.faults store.new))
-        (after early (done rest.items)))) }
-    ensures halted { IfErr result (λ halt. (early : List ℕ) × ((O.written out.new ≡ append_known (O.written out.old) early)
-        × Ran heapsuite_texts (bounds_of desk.now.limits) (S.files store.old) [] (names_of (asked_of request.now)) (plan_of (asked_of request.now))
+        (O.written out.old) (O.written out.new) (done rest.items)) }
+    ensures halted { IfErr result (λ halt. RanTo heapsuite_texts (bounds_of desk.now.limits) (S.files store.old) [] (names_of (asked_of request.now)) (plan_of (asked_of request.now))
         (moment (S.opens store.old) (S.current store.old) (S.left store.old) (S.faults store.old)) (moment (S.opens store.new) (S.current store.new) (S.left store.new) (S.faults store.new))
-        (after early (halt_answer heapsuite_texts halt)))) }
+        (O.written out.old) (O.written out.new) (halt_answer heapsuite_texts halt)) }
     ensures files { S.files store.new ≡ S.files store.old }
     ensures unwritten { IfErr result (λ halt. status_code halt.status ≡ 4 → Rose (O.faults out.old) (O.faults out.new)) }
     ensures sound_writes { IfErr result (λ halt. status_code halt.status ≢ 4 → O.faults out.new ≡ O.faults out.old) }

@@ -1,12 +1,11 @@
 //! The command `summary`: six figures of one trace.
-ghost use Rattle.std.specs.Prelude.{◌≡◌, ◌^◌, ◌<◌, ◌-◌, Err, IfErr, IfOk, List, [], ◌∷◌, None, OnOk, Some, ℕ, map, string_bytes, ◌≢◌};
-ghost use Rattle.std.specs.Io.KnownBytes.{append_known};
+ghost use Rattle.std.specs.Prelude.{◌≡◌, ◌^◌, ◌<◌, Err, IfErr, IfOk, List, [], ◌∷◌, None, OnOk, Some, ℕ, map, string_bytes, ◌≢◌};
 ghost use Rattle.hp_outside.specs.Faults.{Rose};
-ghost use Rattle.command_frame.specs.Answer.{after, done};
+ghost use Rattle.command_frame.specs.Answer.{done};
 ghost use Rattle.command_frame.specs.FirstFault.{bounds_of};
 ghost use Rattle.command_frame.specs.Halts.{halt_answer, status_code};
 ghost use Rattle.command_frame.specs.Outcome.{moment};
-ghost use Rattle.command_frame.specs.Run.{Ran};
+ghost use Rattle.command_frame.specs.Run.{RanTo};
 ghost use Rattle.command_frame.specs.Texts.{texts_of};
 ghost use Rattle.heapsuite.specs.SummaryReport.{summary_plan};
 ghost use Rattle.heapsuite.specs.SummaryWords.{summary_trace};
@@ -53,15 +52,13 @@ impl<'a> SummaryRequest<'a> {
         store: &mut S,
         out: &mut O,
     ) -> Result<Vec<u8>, Halt>
-        requires { S.opens store.old < 2 ^ 64 - 1 }
-        ensures all { IfOk result (λ rest. (last : List ℕ) → (early : List ℕ) × ((O.written out.new ≡ append_known (O.written out.old) early)
-            × Ran (texts_of desk.now.texts) (bounds_of desk.now.limits) (S.files store.old) last (self.now.trace.now ∷ []) (summary_plan self.now.trace.now)
+        requires { S.opens store.old < 2 ^ 63 }
+        ensures all { IfOk result (λ rest. (last : List ℕ) → RanTo (texts_of desk.now.texts) (bounds_of desk.now.limits) (S.files store.old) last (self.now.trace.now ∷ []) (summary_plan self.now.trace.now)
             (moment (S.opens store.old) (S.current store.old) (S.left store.old) (S.faults store.old)) (moment (S.opens store.new) (S.current store.new) (S.left store.new) (S.faults store.new))
-            (after early (done rest.items)))) }
-        ensures halted { IfErr result (λ halt. (last : List ℕ) → (early : List ℕ) × ((O.written out.new ≡ append_known (O.written out.old) early)
-            × Ran (texts_of desk.now.texts) (bounds_of desk.now.limits) (S.files store.old) last (self.now.trace.now ∷ []) (summary_plan self.now.trace.now)
+            (O.written out.old) (O.written out.new) (done rest.items)) }
+        ensures halted { IfErr result (λ halt. (last : List ℕ) → RanTo (texts_of desk.now.texts) (bounds_of desk.now.limits) (S.files store.old) last (self.now.trace.now ∷ []) (summary_plan self.now.trace.now)
             (moment (S.opens store.old) (S.current store.old) (S.left store.old) (S.faults store.old)) (moment (S.opens store.new) (S.current store.new) (S.left store.new) (S.faults store.new))
-            (after early (halt_answer (texts_of desk.now.texts) halt)))) }
+            (O.written out.old) (O.written out.new) (halt_answer (texts_of desk.now.texts) halt)) }
         ensures files { S.files store.new ≡ S.files store.old }
         ensures unwritten { IfErr result (λ halt. status_code halt.status ≡ 4 → Rose (O.faults out.old) (O.faults out.new)) }
         ensures sound_writes { IfErr result (λ halt. status_code halt.status ≢ 4 → O.faults out.new ≡ O.faults out.old) }

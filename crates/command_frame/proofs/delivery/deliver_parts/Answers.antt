@@ -1,4 +1,4 @@
-use Rattle.std.proofs.Common.{◌≡◌, arith}
+use Rattle.std.proofs.Common.{arith}
 use Rattle.command_frame.proofs.DeliveryLemmas.{fronts_later}
 use Rattle.command_frame.proofs.delivery.deliver_parts.Goals as goal
 

@@ -1,4 +1,3 @@
-use Rattle.std.proofs.Common.{◌≡◌}
 use Rattle.command_frame.proofs.OutputLemmas.{cut_is_not_whole}
 use Rattle.command_frame.proofs.delivery.write_both.Goals as goal
 

@@ -1,11 +1,11 @@
-use Rattle.std.proofs.Common.{◌≡◌, ℕ, List, [], Ok, Err, ap, refl, subst, ◌∙◌}
+use Rattle.std.proofs.Common.{◌≡◌, [], Err, ap, subst, ◌∙◌}
 use Rattle.std.specs.Result.{is_ok}
 use Rattle.hp_outside.specs.Faults.{Rose}
 use Rattle.hp_outside.specs.LineReaderState.{LineReaderState}
 use Rattle.command_frame.specs.FirstFault.{bounds_of}
 use Rattle.command_frame.specs.LinesRun.{LinesRun, end_of}
 use Rattle.command_frame.specs.Outcome.{moment}
-use Rattle.command_frame.specs.Run.{Passed}
+use Rattle.command_frame.specs.FileRead.{Passed}
 use Rattle.command_frame.specs.Texts.{texts_of}
 use Rattle.command_frame.proofs.EndLemmas.{passed_end, stopped_end, unopened_end}
 use Rattle.command_frame.proofs.LinesLoop.{same_bounds}

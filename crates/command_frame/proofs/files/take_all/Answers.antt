@@ -1,8 +1,8 @@
-use Rattle.std.proofs.Common.{◌≡◌, ℕ, List, [], ap, append-nil, take, ◌∙◌}
+use Rattle.std.proofs.Common.{ap, append-nil, take, ◌∙◌}
 use Rattle.std.specs.Io.KnownBytes.{append_known}
 use Rattle.command_frame.specs.Report.{written}
 use Rattle.command_frame.specs.LinesRun.{end_of}
-use Rattle.command_frame.specs.Run.{end_output}
+use Rattle.command_frame.specs.FileRead.{end_output}
 use Rattle.command_frame.proofs.OutputLemmas.{front_of_all, passed_on_all}
 use Rattle.command_frame.proofs.EndLemmas.{any_front, output_front}
 use Rattle.command_frame.proofs.files.take_all.Goals as goal

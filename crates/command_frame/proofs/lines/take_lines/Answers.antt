@@ -1,11 +1,8 @@
-use Rattle.std.proofs.Common.{◌≡◌, ℕ, ◌+◌, ◌≤◌, List, [], ◌∷◌, ◌++◌, length, take, append-nil, Some, None, Ok, Err, IfSome, is_some, if◌then◌else◌, ap, sym, subst, refl, ◌∙◌, arith}
-use Rattle.std.specs.Io.KnownBytes.{append_known}
+use Rattle.std.proofs.Common.{◌≡◌, ◌+◌, ◌≤◌, [], ◌∷◌, ◌++◌, length, take, append-nil, Some, None, Ok, Err, IfSome, is_some, if◌then◌else◌, ap, sym, subst, refl, ◌∙◌, arith}
 use Rattle.hp_outside.specs.declared.span.LineFault.TheVariants as reading
 use Rattle.hp_outside.specs.NextLine.{IsLine}
 use Rattle.command_frame.specs.Batch.{HasTakenKept}
 use Rattle.command_frame.specs.Report.{Report, written}
-use Rattle.command_frame.specs.FirstFault.{input_too_long, line_too_long}
-use Rattle.command_frame.specs.Run.{CannotRead, Passed, Refused, Unwritten, Wanting}
 use Rattle.command_frame.specs.Taker.{Tells}
 use Rattle.command_frame.proofs.OutputLemmas.{append_nothing, front_of_all, kept_as}
 use Rattle.command_frame.proofs.BatchLemmas.{read_batch}

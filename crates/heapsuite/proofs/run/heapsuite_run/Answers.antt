@@ -152,3 +152,9 @@ returns-clause-statuses g c =
       | inl four ↦ omega (arith, four.1)
       | inr other ↦ omega (arith, (e.delivered other.1).status_is, e.facts.bounded)
     ]
+
+pub returns-clause-silent : goal.returns-clause-silent
+returns-clause-silent g c = λ silent zero four.
+    let e = ended g c in
+    let delivered = e.delivered four in
+    delivered.output ∙ (ap (append_known (g.O.Sink.written c.args.out.now)) (e.facts.silent silent (λ is. zero (delivered.status_is ∙ is))) ∙ append_nothing (g.O.Sink.written c.args.out.now))

@@ -4,13 +4,13 @@ use Rattle.command_frame.specs.Answer.{Answer, done}
 use Rattle.command_frame.specs.FirstFault.{bounds_of}
 use Rattle.command_frame.specs.Halts.{halt_answer}
 use Rattle.command_frame.specs.Outcome.{moment}
+use Rattle.command_frame.specs.Run.{RanTo}
 use Rattle.command_frame.specs.Texts.{Texts}
 use Rattle.heapsuite.specs.declared.words.Request.{Request}
 use Rattle.heapsuite.specs.declared.words.Request.TheVariants.{Summary}
 use Rattle.heapsuite.specs.Asked.{names_of, plan_of}
 use Rattle.heapsuite.specs.Requests.{asked_of}
 use Rattle.heapsuite.specs.Texts.{heapsuite_texts}
-use Rattle.heapsuite.proofs.AskedLemmas.{RanTo}
 use Rattle.heapsuite.proofs.run_words.run_request.Goals as goal
 
 pub returns-in-Summary-clause-all : goal.returns-in-Summary-clause-all

@@ -1,4 +1,4 @@
-use Rattle.std.proofs.Common.{◌≡◌, ◌≢◌, ℕ, ◌+◌, ◌<◌, List, [], ◌∷◌, ◌++◌, All, arith, ap, sym, subst, refl, ◌∙◌, drop, take, length, length-append}
+use Rattle.std.proofs.Common.{◌≢◌, ◌+◌, [], ◌∷◌, arith, ap, refl, ◌∙◌, take, length-append}
 use Rattle.std.proofs.lemmas.List.Elements.{All-cons, All-nil}
 use Rattle.command_frame.specs.Batch.{IsShortLine}
 use Rattle.hp_outside.specs.WholeLines.{IsLineText}

@@ -1,0 +1,36 @@
+use Rattle.std.proofs.Common.{rules, Ok, ap, ◌∙◌}
+use Rattle.command_frame.specs.Halts.{halt_answer}
+use Rattle.command_frame.specs.Texts.{texts_of}
+use Rattle.command_frame.proofs.TextLoop.{all_made, cut_off, kept_piece, no_more_made, nothing_made, piece_made}
+use Rattle.command_frame.proofs.text.run_text.Goals as goal
+
+pub pieces-init : goal.pieces-init
+pieces-init g c = record {
+  sound = search rules;
+  making = nothing_made (g.O.Sink.written c.args.out.now) c.new-buffer.result.items (g.M.TextMaker.rest c.args.maker.now) (search rules);
+  write_faults = search rules;
+}
+
+pub pieces-preserved : goal.pieces-preserved
+pieces-preserved g c = record {
+  sound = search rules;
+  making = piece_made c.pieces.invariant.making c.in-Ok-true.ensures.made c.in-Ok.ensures.passed.0 c.in-Ok.ensures.passed.1.0 c.in-Ok.ensures.passed.1.1;
+  write_faults = search rules;
+}
+
+pub returns-in-Err-pass_on_piece-clause-halted : goal.returns-in-Err-pass_on_piece-clause-halted
+returns-in-Err-pass_on_piece-clause-halted g c = λ bounds files last now.
+    cut_off (texts_of c.args.desk.now.texts) bounds files last now (g.O.Sink.written c.args.out.now) (g.O.Sink.written c.pieces.out) (g.O.Sink.written c.pass_on_piece.new.out) c.piece.new.output.items
+    (g.M.TextMaker.rest c.piece.new.self) (g.M.TextMaker.rest c.args.maker.now) (halt_answer (texts_of c.args.desk.now.texts) c.write_failed.result)
+    (kept_piece c.pieces.invariant.making c.in-Ok-true.ensures.made) c.in-Err-pass_on_piece.ensures.front (ap (halt_answer (texts_of c.args.desk.now.texts)) c.write_failed.ensures)
+
+pub returns-in-Ok-false-clause-all : goal.returns-in-Ok-false-clause-all
+returns-in-Ok-false-clause-all g c = λ bounds files last now.
+    all_made (texts_of c.args.desk.now.texts) bounds files last now (g.O.Sink.written c.args.out.now) (g.O.Sink.written c.pieces.out) c.piece.new.output.items
+    (g.M.TextMaker.rest c.piece.new.self) (g.M.TextMaker.rest c.args.maker.now) (kept_piece c.pieces.invariant.making c.in-Ok-false.ensures.made)
+    (c.piece.ensures.all (c.in-Ok-false.is ∙ ap Ok c.in-Ok-false.field-0-test))
+
+pub returns-in-Err-clause-halted : goal.returns-in-Err-clause-halted
+returns-in-Err-clause-halted g c = λ bounds files last now.
+    no_more_made (texts_of c.args.desk.now.texts) bounds files last now (g.O.Sink.written c.args.out.now) (g.O.Sink.written c.pieces.out) c.pieces.buffer.items (g.M.TextMaker.rest c.pieces.maker) (g.M.TextMaker.rest c.args.maker.now)
+    (halt_answer (texts_of c.args.desk.now.texts) c.no_memory.result) c.pieces.invariant.making (ap (halt_answer (texts_of c.args.desk.now.texts)) c.no_memory.ensures)

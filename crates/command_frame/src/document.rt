@@ -1,0 +1,112 @@
+//! Reading a named file as a whole, and making the output of it. What its bytes mean is the business of the commands.
+ghost use Rattle.std.specs.Prelude.{◌≡◌, ◌≢◌, ◌+◌, ◌-◌, ◌^◌, ◌<◌, ◌≤◌, ℕ, List, [], ◌∷◌, Option, IfErr, IfOk, length};
+ghost use Rattle.command_frame.specs.Answer.{done, memory_answer};
+ghost use Rattle.command_frame.specs.DocumentRead.{DocumentEnd, DocumentRead, document_end_answer};
+ghost use Rattle.command_frame.specs.FirstFault.{bounds_of};
+ghost use Rattle.command_frame.specs.Halts.{halt_answer, status_code};
+ghost use Rattle.command_frame.specs.Outcome.{GivesWhole, end_of_whole, moment};
+ghost use Rattle.command_frame.specs.Plan.{one_document};
+ghost use Rattle.command_frame.specs.Report.{Verdict, Writes};
+ghost use Rattle.command_frame.specs.Run.{RanTo};
+ghost use Rattle.command_frame.specs.Taker.{Refuses};
+ghost use Rattle.command_frame.specs.Texts.{texts_of};
+
+use crate::desk::Desk;
+use crate::fault::{Fault, FaultStatus};
+use crate::halt::Halt;
+use crate::taker::LineRefusal;
+use hp_num::{NoMemory, put_bytes};
+use hp_outside::{Bytes, Store, WholeFault, read_whole};
+use std::alloc::Global;
+
+/// What makes the output of a file that is read whole.
+pub trait DocumentReport {
+    type Fault: Fault;
+
+    /// What it makes of the bytes of a file.
+    ghost verdict: { Self → List ℕ → Verdict };
+
+    /// The whole output, or the first fault of the bytes. `NoMemory` where memory is wanting.
+    fn report(&self, alloc: Global, bytes: &[u8]) -> Result<Vec<u8>, LineRefusal<Self::Fault>>
+        requires { length bytes.now ≤ 2 ^ 34 }
+        ensures output { IfOk result (λ output. verdict self.now bytes.now ≡ Writes output.items) }
+        ensures fault { IfErr result (λ refusal. Refuses Self.Fault.told refusal (verdict self.now bytes.now)) };
+}
+
+/// The file has more bytes than the limit.
+#[derive(Clone, Copy, Debug)]
+struct TooLong;
+
+impl Fault for TooLong {
+    ghost use Rattle.command_frame.specs.FirstFault.{input_too_long};
+
+    ghost told = { λ _. input_too_long };
+
+    fn put_text(&self, out: &mut Vec<u8>) -> Result<(), NoMemory> {
+        put_bytes(out, b"input too long")
+    }
+
+    fn status(&self) -> FaultStatus {
+        FaultStatus::PastLimit
+    }
+}
+
+/// The halt where the bytes of an open file weren't given.
+fn unread(desk: &Desk, name: &str, fault: WholeFault) -> Halt
+    ensures answer { status_code result.status ≢ 5 → halt_answer (texts_of desk.now.texts) result ≡ document_end_answer (texts_of desk.now.texts) name.now (end_of_whole fault) }
+    ensures memory { status_code result.status ≡ 5 → halt_answer (texts_of desk.now.texts) result ≡ memory_answer (texts_of desk.now.texts) }
+    ensures write { status_code result.status ≢ 4 }
+{
+    match fault {
+        WholeFault::ReadFailed => Halt::unreadable(desk.alloc, &desk.texts, name, b"cannot read"),
+        WholeFault::InputTooLong => Halt::at_file(desk.alloc, &desk.texts, name, &TooLong),
+        WholeFault::NoMemory => Halt::no_memory(),
+    }
+}
+
+/// Opens the named file and reads all its bytes, which are within the limit.
+pub fn read_document<S: Store>(desk: &Desk, name: &str, store: &mut S) -> Result<Bytes, Halt>
+    requires opens { S.opens store.old < 2 ^ 64 - 1 }
+    ensures read { (end : DocumentEnd) × (DocumentRead (bounds_of desk.now.limits) (S.files store.old) name.now
+        (moment (S.opens store.old) (S.current store.old) (S.left store.old) (S.faults store.old)) (moment (S.opens store.new) (S.current store.new) (S.left store.new) (S.faults store.new)) end
+        × GivesWhole (texts_of desk.now.texts) name.now end result) }
+    ensures within { IfOk result (λ bytes. length bytes ≤ 2 ^ 34) }
+    ensures files { S.files store.new ≡ S.files store.old }
+    ensures no_write { IfErr result (λ halt. status_code halt.status ≢ 4) }
+{
+    match store.open(name) {
+        Ok(()) => {}
+        Err(fault) => return Err(desk.unopened(name, fault)),
+    }
+    match read_whole(desk.alloc, &desk.limits, store) {
+        Ok(bytes) => Ok(bytes),
+        Err(fault) => Err(unread(desk, name, fault)),
+    }
+}
+
+/// Reads the named file whole, and makes the output of its bytes. It writes nothing.
+pub fn run_document<D: DocumentReport, S: Store>(
+    desk: &Desk,
+    name: &str,
+    document: &D,
+    store: &mut S,
+) -> Result<Vec<u8>, Halt>
+    requires opens { S.opens store.old < 2 ^ 64 - 1 }
+    ensures all { IfOk result (λ rest. (last : List ℕ) (out : Option (List ℕ)) → RanTo (texts_of desk.now.texts) (bounds_of desk.now.limits) (S.files store.old) last (name.now ∷ []) (one_document name.now (D.verdict document.now))
+        (moment (S.opens store.old) (S.current store.old) (S.left store.old) (S.faults store.old)) (moment (S.opens store.new) (S.current store.new) (S.left store.new) (S.faults store.new)) out out (done rest.items)) }
+    ensures halted { IfErr result (λ halt. (last : List ℕ) (out : Option (List ℕ)) → RanTo (texts_of desk.now.texts) (bounds_of desk.now.limits) (S.files store.old) last (name.now ∷ []) (one_document name.now (D.verdict document.now))
+        (moment (S.opens store.old) (S.current store.old) (S.left store.old) (S.faults store.old)) (moment (S.opens store.new) (S.current store.new) (S.left store.new) (S.faults store.new)) out out
+        (halt_answer (texts_of desk.now.texts) halt)) }
+    ensures files { S.files store.new ≡ S.files store.old }
+    ensures no_write { IfErr result (λ halt. status_code halt.status ≢ 4) }
+{
+    let bytes = match read_document(desk, name, store) {
+        Ok(bytes) => bytes,
+        Err(halt) => return Err(halt),
+    };
+    match document.report(desk.alloc, bytes.bytes()) {
+        Ok(output) => Ok(output),
+        Err(LineRefusal::Fault(fault)) => Err(Halt::at_file(desk.alloc, &desk.texts, name, &fault)),
+        Err(LineRefusal::NoMemory) => Err(Halt::no_memory()),
+    }
+}

@@ -1,0 +1,121 @@
+//! Runs over a file that is read whole: its faults, their order, and failed calls.
+use crate::echo::Echo;
+use crate::tests::TEXTS;
+use command_frame::{Desk, Outcome, deliver, run_document};
+use hp_outside::{Limits, MemSink, MemStore};
+use std::alloc::Global;
+use std::process::Abort;
+use std::test::Fail;
+
+/// A run over the file `t`, which may have so many bytes. A call of number 0 never fails.
+#[derive(Clone, Copy)]
+struct Case {
+    bytes: &'static str,
+    file: &'static str,
+    most: u64,
+    piece: usize,
+    failing_store_call: u64,
+    status: u8,
+    output: &'static str,
+    message: &'static str,
+}
+
+const WHOLE: Case = Case {
+    bytes: "a\nbc",
+    file: "t",
+    most: 4,
+    piece: 3,
+    failing_store_call: 0,
+    status: 0,
+    output: "a\nbc",
+    message: "",
+};
+
+/// A refusal of the document `bad`.
+const BAD: Case = Case {
+    bytes: "bad",
+    status: 1,
+    output: "",
+    message: "echo: t: bad\n",
+    ..WHOLE
+};
+
+fn expect(rt: &impl Abort, alloc: Global, case: &Case) -> Result<(), Fail> {
+    let most = case.most;
+    assert!(rt; most <= 99);
+    let desk = Desk {
+        alloc,
+        limits: Limits {
+            input: most,
+            line: 1,
+            order: 1,
+        },
+        texts: TEXTS,
+    };
+    let mut store = MemStore::new(alloc, case.piece.max(1));
+    store.add("t", case.bytes.as_bytes())?;
+    store.fail_at(case.failing_store_call)?;
+    let mut out = MemSink::new(alloc, 99)?;
+    let mut err = MemSink::new(alloc, 99)?;
+    let echo = Echo { refuses: false };
+    let ran = run_document(&desk, case.file, &echo, &mut store);
+    let outcome = Outcome::new(alloc, ran);
+    let status = deliver(&outcome, &TEXTS, &mut out, &mut err);
+    assert_eq!(rt; out.bytes(), case.output.as_bytes(), "standard output");
+    assert_eq!(rt; err.bytes(), case.message.as_bytes(), "standard error");
+    assert_eq!(rt; status, case.status, "status");
+    Ok(())
+}
+
+#[test]
+fn documents(rt: HostRuntime) -> Result<(), Fail> {
+    let cannot_read = Case {
+        status: 3,
+        message: "echo: t: cannot read\n",
+        ..BAD
+    };
+    let too_long = Case {
+        most: 2,
+        status: 6,
+        message: "echo: t: input too long\n",
+        ..BAD
+    };
+    let table = [
+        WHOLE,
+        BAD,
+        Case {
+            file: "u",
+            status: 3,
+            message: "echo: u: no such file\n",
+            ..BAD
+        },
+        Case {
+            failing_store_call: 1,
+            status: 3,
+            message: "echo: t: cannot open\n",
+            ..BAD
+        },
+        // The first read takes all bytes, and the one that would find the end fails.
+        Case {
+            failing_store_call: 3,
+            ..cannot_read
+        },
+        // One byte too many is told before any other fault, and with no look for the end.
+        too_long,
+        Case {
+            failing_store_call: 3,
+            ..too_long
+        },
+        // A read fails before that byte.
+        Case {
+            most: 2,
+            piece: 1,
+            failing_store_call: 3,
+            ..cannot_read
+        },
+    ];
+    for case in table {
+        expect(&rt, rt.alloc(), &case)?;
+    }
+    Ok(())
+}
