@@ -10,6 +10,7 @@ use std::alloc::Global;
 pub trait LineReport: LineTaker {
     /// The rest of the output, or the fault of the file that has no line. `NoMemory` where memory is wanting.
     fn finish(&self, alloc: Global) -> Result<Vec<u8>, LineRefusal<Self::Fault>>
+        requires sound { Self.is_sound self.now }
         ensures output { IfOk result (λ output. (lines : List (List ℕ)) → Self.has_taken self.now lines → (Self.report self.now).verdict lines ≡ Writes output.items) }
         ensures fault { IfErr result (λ refusal. (lines : List (List ℕ)) → Self.has_taken self.now lines → Refuses Self.Fault.told refusal ((Self.report self.now).verdict lines)) };
 }

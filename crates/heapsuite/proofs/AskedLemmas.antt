@@ -9,9 +9,7 @@ use Rattle.command_frame.specs.Answer.{Answer, after, memory_answer, usage_answe
 use Rattle.command_frame.specs.Delivery.{Delivered, GainsFronts}
 use Rattle.command_frame.specs.FirstFault.{Bounds}
 use Rattle.command_frame.specs.OutcomeAnswer.{outcome_answer}
-use Rattle.command_frame.specs.Plan.{Plan}
 use Rattle.command_frame.specs.Moment.{Moment}
-use Rattle.command_frame.specs.Run.{Ran}
 use Rattle.command_frame.specs.RunFacts.{NotRead}
 use Rattle.command_frame.specs.Texts.{Texts}
 use Rattle.command_frame.proofs.DeliveryLemmas.{fronts_behind, fronts_later}

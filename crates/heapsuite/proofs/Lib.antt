@@ -1,5 +1,5 @@
-pub mod EventLemmas
 pub mod PeakLemmas
+pub mod ReadLemmas
 pub mod BatchLemmas
 pub mod AskedLemmas
 pub mod SilentLemmas

@@ -1,64 +1,70 @@
--- The first greatest number of a list that gets one more at its end.
-use Rattle.std.proofs.Common.{◌≡◌, ◌≢◌, ℕ, ◌<◌, ◌≤◌, ◌==◌, max, not, true, false, Bool, List, [], ◌∷◌, ◌++◌, length, refl, ap, ◌∙◌, arith, eqb, eq-eqb}
+-- That the moment of a peak is the first place of the greatest total.
+use Rattle.std.proofs.Common.{◌≡◌, ◌≢◌, ℕ, ◌+◌, ◌<◌, ◌≤◌, ◌==◌, zero, suc, true, false, List, length, map, refl, ap, ◌∙◌, sym, subst, arith, eq-eqb}
 use Rattle.std.proofs.lemmas.Bool.{ne_eqb}
-use Rattle.std.proofs.lemmas.List.Folds.{prefix_len-append}
-use Rattle.std.specs.List.{prefix_len, position_or_len}
-use Rattle.heapsuite.specs.Peak.{greatest, peak_of}
-use Rattle.heapsuite.specs.declared.peak.Peak.{Peak}
+use Rattle.std.proofs.lemmas.List.Sums.{length-filter}
+use Rattle.std.specs.List.{position_or_len, range_with_len}
+use Rattle.live_ledger.specs.declared.event.Event.{Event}
+use Rattle.live_ledger.specs.Events.{counted, event_count, is_counted}
+use Rattle.peak_costs.specs.Peak.{IsPeak, total_after}
+use Rattle.heapsuite.specs.Peak.{first_greatest, greatest}
+use Rattle.heapsuite.specs.Totals.{total, totals}
 
--- the greatest with one number more
-pub greatest-push : (numbers : List ℕ) (next : ℕ) → greatest (numbers ++ next ∷ []) ≡ max (greatest numbers) next
-greatest-push [] next = omega arith
-greatest-push (number ∷ numbers) next =
-    let rest : greatest (numbers ++ next ∷ []) ≡ max (greatest numbers) next = greatest-push numbers next in
-    omega (arith, rest)
+-- numbers of which none is above a bound
+greatest_at_most : (f : ℕ → ℕ) (n from most : ℕ) → ((k : ℕ) → k < n → f (from + k) ≤ most) → greatest (map f (range_with_len from n)) ≤ most
+greatest_at_most f zero from most within = omega arith
+greatest_at_most f (suc n) from most within =
+    let first : f from ≤ most = subst (λ i. f i ≤ most) (omega arith) (within 0 (omega arith)) in
+    let rest : greatest (map f (range_with_len (from + 1) n)) ≤ most =
+    greatest_at_most f n (from + 1) most (λ k below. subst (λ i. f i ≤ most) (omega arith) (within (suc k) (omega arith))) in
+    omega (arith, first, rest)
 
--- a number above all before it stands at their count
-pub place_of_greater : (numbers : List ℕ) (next : ℕ) → greatest numbers < next → prefix_len (λ number. not (number == next)) (numbers ++ next ∷ []) ≡ length numbers
-place_of_greater [] next above =
-    let same : (next == next) ≡ true = eq-eqb next next refl in
+-- a number that stands among them
+greatest_at_least : (f : ℕ → ℕ) (n from k : ℕ) → k < n → f (from + k) ≤ greatest (map f (range_with_len from n))
+greatest_at_least f zero from k below = absurd (omega arith)
+greatest_at_least f (suc n) from zero below =
+    let first : f (from + 0) ≡ f from = ap f (omega arith) in
+    omega (arith, first)
+greatest_at_least f (suc n) from (suc k) below =
+    let same : f (from + suc k) ≡ f ((from + 1) + k) = ap f (omega arith) in
+    let rest : f ((from + 1) + k) ≤ greatest (map f (range_with_len (from + 1) n)) = greatest_at_least f n (from + 1) k (omega arith) in
+    omega (arith, same, rest)
+
+-- the first place of a number
+place_of : (f : ℕ → ℕ) (number n from place : ℕ) → place < n → f (from + place) ≡ number → ((k : ℕ) → k < place → f (from + k) ≢ number)
+    → position_or_len (λ other. other == number) (map f (range_with_len from n)) ≡ place
+place_of f number zero from place below is before = absurd (omega arith)
+place_of f number (suc n) from zero below is before =
+    let first : f from ≡ f (from + 0) = ap f (omega arith) in
+    let same : (f from == number) ≡ true = eq-eqb (f from) number (first ∙ is) in
     rw same refl
-place_of_greater (number ∷ numbers) next above =
-    let other : (number == next) ≡ false = ne_eqb number next (omega arith) in
-    let rest : prefix_len (λ number. not (number == next)) (numbers ++ next ∷ []) ≡ length numbers = place_of_greater numbers next (omega arith) in
-    rw (other, rest) (omega arith)
+place_of f number (suc n) from (suc place) below is before =
+    let first : f from ≢ number = subst (λ i. f i ≢ number) (omega arith) (before 0 (omega arith)) in
+    let other : (f from == number) ≡ false = ne_eqb (f from) number first in
+    let rest : position_or_len (λ other. other == number) (map f (range_with_len (from + 1) n)) ≡ place =
+    place_of f number n (from + 1) place (omega arith) (subst (λ i. f i ≡ number) (omega arith) is)
+    (λ k early. subst (λ i. f i ≢ number) (omega arith) (before (suc k) (omega arith))) in
+    rw other (omega (arith, rest))
 
--- whether or not the first is the number that is looked for
-place_from_first : (test : Bool) (first number : ℕ) (numbers : List ℕ) → (first == number) ≡ test → (first ≢ number → prefix_len (λ other. not (other == number)) numbers < length numbers) → prefix_len (λ other. not (other == number)) (first ∷ numbers) < length (first ∷ numbers)
-place_from_first true first number numbers same rest = rw same (omega arith)
-place_from_first false first number numbers other rest =
-    let differs : first ≢ number = λ is. let same : (first == number) ≡ true = eq-eqb first number is in cc in
-    let within : prefix_len (λ other. not (other == number)) numbers < length numbers = rest differs in
-    rw other (omega arith)
+-- the moment of the peak is within the totals
+moment_within : (moment : ℕ) (events : List Event) → IsPeak moment events → moment < length (counted events) + 1
+moment_within moment events is = omega (arith, is.within, length-filter is_counted events)
 
--- the greatest of numbers stands among them
-pub place_within : (numbers : List ℕ) (number : ℕ) → 0 < length numbers → number ≡ greatest numbers → prefix_len (λ other. not (other == number)) numbers < length numbers
-place_within [] number some is = absurd (omega arith)
-place_within (first ∷ []) number some is = place_from_first (first == number) first number [] refl (λ differs. absurd (differs (omega arith)))
-place_within (first ∷ second ∷ numbers) number some is =
-    place_from_first (first == number) first number (second ∷ numbers) refl (λ differs. place_within (second ∷ numbers) number (omega arith) (omega (arith, differs)))
+pub greatest_is : (moment : ℕ) (events : List Event) → IsPeak moment events → greatest (totals (counted events)) ≡ total_after moment events
+greatest_is moment events is =
+    let f : ℕ → ℕ = total (counted events) in
+    let n : ℕ = length (counted events) + 1 in
+    let count : length (counted events) ≡ event_count events = length-filter is_counted events in
+    let most : greatest (totals (counted events)) ≤ total_after moment events =
+    greatest_at_most f n 0 (total_after moment events) (λ k below. subst (λ i. f i ≤ total_after moment events) (omega arith) (is.greatest k (omega (arith, below, count)))) in
+    let at_moment : total_after moment events ≡ f (0 + moment) = ap f (omega arith) in
+    let least : f (0 + moment) ≤ greatest (totals (counted events)) = greatest_at_least f n 0 moment (moment_within moment events is) in
+    omega (arith, most, least, at_moment)
 
--- a place within a list stays where the list grows
-place_stays : (test : ℕ → Bool) (numbers more : List ℕ) → prefix_len test numbers < length numbers → prefix_len test (numbers ++ more) ≡ prefix_len test numbers
-place_stays test numbers more within =
-    let short : eqb (prefix_len test numbers) (length numbers) ≡ false = ne_eqb _ _ (omega arith) in
-    prefix_len-append test numbers more ∙ rw short refl
-
--- the peak where the next total is above it
-pub peak_rises : (totals : List ℕ) (next : ℕ) → greatest totals < next → peak_of (totals ++ next ∷ []) ≡ record { total = next; moment = length totals }
-peak_rises totals next above =
-    let e : greatest (totals ++ next ∷ []) ≡ next = greatest-push totals next ∙ omega arith in
-    rw e (rw (place_of_greater totals next above) refl)
-
--- the first place of a number, beside it
-abbrev peak_at : ℕ → List ℕ → Peak
-peak_at number numbers = record { total = number; moment = position_or_len (λ other. other == number) numbers }
-
--- the peak where it is not
-pub peak_stays : (totals : List ℕ) (next : ℕ) → next ≤ greatest totals → peak_of (totals ++ next ∷ []) ≡ peak_of totals
-peak_stays [] next below = let nothing : next ≡ 0 = omega arith in rw nothing refl
-peak_stays (first ∷ totals) next below =
-    let same : greatest (first ∷ totals ++ next ∷ []) ≡ greatest (first ∷ totals) = greatest-push (first ∷ totals) next ∙ omega arith in
-    let within : prefix_len (λ other. not (other == greatest (first ∷ totals))) (first ∷ totals) < length (first ∷ totals) = place_within (first ∷ totals) (greatest (first ∷ totals)) (omega arith) refl in
-    let stays : prefix_len (λ other. not (other == greatest (first ∷ totals))) ((first ∷ totals) ++ next ∷ []) ≡ prefix_len (λ other. not (other == greatest (first ∷ totals))) (first ∷ totals) = place_stays (λ other. not (other == greatest (first ∷ totals))) (first ∷ totals) (next ∷ []) within in
-    ap (λ g. peak_at g ((first ∷ totals) ++ next ∷ [])) same ∙ ap (λ m. record { total = greatest (first ∷ totals); moment = m }) stays
+pub moment_is : (moment : ℕ) (events : List Event) → IsPeak moment events → first_greatest (totals (counted events)) ≡ moment
+moment_is moment events is =
+    let f : ℕ → ℕ = total (counted events) in
+    let n : ℕ = length (counted events) + 1 in
+    let most : greatest (totals (counted events)) ≡ total_after moment events = greatest_is moment events is in
+    let at : (k : ℕ) → f (0 + k) ≡ total_after k events = λ k. ap f (omega arith) in
+    place_of f (greatest (totals (counted events))) n 0 moment (moment_within moment events is) (at moment ∙ sym most)
+    (λ k early same. let less : total_after k events < total_after moment events = is.least k early in omega (arith, less, same, most, at k))

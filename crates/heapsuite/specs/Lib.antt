@@ -2,8 +2,9 @@ pub mod Totals
 pub mod Peak
 pub mod SummaryText
 pub mod CommandFault
+pub mod TraceReport
+pub mod ReadTrace
 pub mod SummaryReport
-pub mod TraceReader
 pub mod Batch
 pub mod Texts
 pub mod SummaryWords

@@ -1,7 +1,6 @@
 -- The first place of the greatest of a list of numbers.
 use Rattle.std.specs.Prelude.{ℕ, ◌==◌, max, List, [], ◌∷◌}
 use Rattle.std.specs.List.{position_or_len}
-use Rattle.heapsuite.specs.declared.peak.Peak.{Peak}
 
 -- the greatest of the numbers, and 0 where there are none
 abbrev pub greatest : List ℕ → ℕ
@@ -11,7 +10,3 @@ greatest (number ∷ numbers) = max number (greatest numbers)
 -- the first place, from 0, at which the greatest stands
 abbrev pub first_greatest : List ℕ → ℕ
 first_greatest numbers = position_or_len (λ number. number == greatest numbers) numbers
-
--- the greatest total, and the first number of events after which it was reached
-abbrev pub peak_of : List ℕ → Peak
-peak_of totals = record { total = greatest totals; moment = first_greatest totals }

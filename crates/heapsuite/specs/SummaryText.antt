@@ -7,7 +7,7 @@ use Rattle.live_ledger.specs.LiveBlocks.{calls, live_blocks}
 use Rattle.live_ledger.specs.Temporary.{temporary_count}
 use Rattle.heapsuite.specs.declared.summary.Summary.{Summary}
 use Rattle.heapsuite.specs.Totals.{totals}
-use Rattle.heapsuite.specs.Peak.{peak_of}
+use Rattle.heapsuite.specs.Peak.{first_greatest, greatest}
 
 -- the figures of a trace of these events; the peak's moment counts allocations and frees alone
 unfoldable pub summary_of : List Event → Summary
@@ -20,7 +20,8 @@ summary_of events = record {
     live = live_bytes events;
     blocks = live_blocks events;
   };
-  peak = peak_of (totals (counted events));
+  peak = greatest (totals (counted events));
+  moment = first_greatest (totals (counted events));
 }
 
 -- a label and a figure
@@ -34,8 +35,8 @@ summary_text summary =
     (figure (codes "\ncalls: ") summary.totals.calls ++
     (figure (codes "\ntemporary: ") summary.totals.temporary ++
     (figure (codes "\nallocated: ") summary.totals.allocated ++
-    (figure (codes "\npeak: ") summary.peak.total ++
-    (figure (codes " at event ") summary.peak.moment ++
+    (figure (codes "\npeak: ") summary.peak ++
+    (figure (codes " at event ") summary.moment ++
     (figure (codes "\nleaked: ") summary.totals.live ++
     (figure (codes " in ") summary.totals.blocks ++
     codes " blocks\n")))))))

@@ -1,25 +1,26 @@
 //! Lines of events, taken many at a time where nothing about them is in doubt. Every other line is left to `read`.
-ghost use Rattle.std.specs.Prelude.{◌≡◌, ◌+◌, ◌*◌, ◌^◌, ◌<◌, ◌≤◌, length, IfNone, IfSome};
+ghost use Rattle.std.specs.Prelude.{◌≡◌, ℕ, List, ◌+◌, ◌*◌, ◌^◌, ◌<◌, ◌≤◌, length, IfNone, IfSome};
 ghost use Rattle.ht_trace.specs.PassesEvents.{PassesEvents, event_of_info};
 ghost use Rattle.heapsuite.specs.Batch.{HasReadFront, HasReadLine};
-ghost use Rattle.heapsuite.specs.TraceReader.{IsSound};
+ghost use Rattle.heapsuite.specs.ReadTrace.{IsSound};
 
-use crate::trace::{TraceReader, take_event};
+use crate::read_trace::{ReadTrace, take_event};
 use command_frame::Batch;
 use ht_lines::{EventKind, event_line};
 use live_ledger::Event;
 
-impl TraceReader {
+impl ReadTrace {
     /// Reads lines at the front of the bytes, as `read` would, as long as each is that of an event in its usual form, its
     /// info is held, and it has no fault. A version line was read before. It takes no memory.
     pub(crate) fn read_events(&mut self, ready: &[u8]) -> Batch
         requires sound { IsSound self.old }
         requires passes { PassesEvents self.old.tables }
-        requires room { 4 * self.old.ledger.totals.events + length ready.now ≤ 2 ^ 34 }
+        requires room { 4 * self.old.peaks.ledger.totals.events + length ready.now ≤ 2 ^ 34 }
         ensures sound { IsSound self.new }
-        ensures taken { HasReadFront self.old self.new ready.now result.bytes result.lines }
+        ensures tables { self.new.tables ≡ self.old.tables }
+        ensures taken { (patterns : List (List ℕ)) (text : List (List ℕ) → List ℕ) → HasReadFront self.old self.new patterns text ready.now result.bytes result.lines }
         ensures held { result.bytes ≤ length ready.now }
-        ensures events { 4 * self.new.ledger.totals.events ≤ 4 * self.old.ledger.totals.events + result.bytes }
+        ensures events { 4 * self.new.peaks.ledger.totals.events ≤ 4 * self.old.peaks.ledger.totals.events + result.bytes }
     {
         let mut bytes = 0;
         let mut lines = 0;
@@ -37,20 +38,20 @@ impl TraceReader {
     fn take_front(&mut self, ready: &[u8]) -> Option<usize>
         requires sound { IsSound self.old }
         requires passes { PassesEvents self.old.tables }
-        requires room { 4 * self.old.ledger.totals.events + length ready.now ≤ 2 ^ 34 }
+        requires room { 4 * self.old.peaks.ledger.totals.events + length ready.now ≤ 2 ^ 34 }
         ensures tables { self.new.tables ≡ self.old.tables }
         ensures sound { IsSound self.new }
         ensures taken { IfSome result (λ bytes. HasReadLine self.old self.new ready.now bytes) }
         ensures some { IfSome result (λ bytes. 0 < bytes) }
         ensures held { IfSome result (λ bytes. bytes ≤ length ready.now) }
-        ensures events { IfSome result (λ bytes. 4 * self.new.ledger.totals.events ≤ 4 * self.old.ledger.totals.events + bytes) }
+        ensures events { IfSome result (λ bytes. 4 * self.new.peaks.ledger.totals.events ≤ 4 * self.old.peaks.ledger.totals.events + bytes) }
         ensures untaken { IfNone result (self.new ≡ self.old) }
     {
         let line = event_line(ready)?;
         let info = line.info as u32;
-        let (size, stack) = self.ledger.info(info)?;
+        let (size, stack) = self.peaks.ledger().info(info)?;
         let event = event_of_info(line.kind, info, stack, size);
-        match take_event(&mut self.ledger, &mut self.peak, event) {
+        match take_event(&mut self.peaks, event) {
             Ok(()) => Some(line.bytes),
             Err(_) => None,
         }

@@ -6,13 +6,15 @@
 
 mod batch;
 mod fault;
-mod peak;
+mod read_trace;
 mod run;
 mod run_words;
 mod summary;
 mod summary_command;
 mod texts;
-mod trace;
+mod trace_reader;
+mod trace_run;
+mod trace_writer;
 mod words;
 
 use hp_num::NoMemory;

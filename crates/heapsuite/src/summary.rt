@@ -1,19 +1,35 @@
 //! The summary of a trace as text: six lines of figures, a format of this project's own.
-ghost use Rattle.std.specs.Prelude.{◌≡◌, ◌++◌, OnOk};
-ghost use Rattle.heapsuite.specs.SummaryText.{figure, summary_text};
+ghost use Rattle.std.specs.Prelude.{◌≡◌, ◌++◌, List, OnOk};
+ghost use Rattle.live_ledger.specs.declared.event.Event.{Event};
+ghost use Rattle.peak_costs.specs.Peak.{StandsFor};
+ghost use Rattle.heapsuite.specs.SummaryText.{figure, summary_of, summary_text};
 
-use crate::peak::Peak;
 use hp_num::{NoMemory, put_bytes, put_dec};
 use live_ledger::Totals;
+use peak_costs::Peaks;
 
 /// The figures of a whole trace.
 #[derive(Clone, Copy, Debug)]
 pub struct Summary {
     pub totals: Totals,
-    pub peak: Peak,
+    /// The greatest total, in bytes.
+    pub peak: u64,
+    /// The first number of events after which it was reached.
+    pub moment: u64,
 }
 
 impl Summary {
+    /// The figures of the trace whose peaks these are.
+    pub fn of(peaks: &Peaks) -> Summary
+        ensures { (events : List Event) → StandsFor peaks.now events → result ≡ summary_of events }
+    {
+        Summary {
+            totals: peaks.ledger().totals(),
+            peak: peaks.peak_total(),
+            moment: peaks.peak_moment(),
+        }
+    }
+
     /// Appends the six lines to `out`: events, calls, temporary allocations, allocated bytes, the peak in bytes with
     /// its moment in events, and the bytes and blocks that are live at the end. `NoMemory` where memory is wanting.
     pub fn put(&self, out: &mut Vec<u8>) -> Result<(), NoMemory>
@@ -23,8 +39,8 @@ impl Summary {
         put_figure(out, b"\ncalls: ", self.totals.calls)?;
         put_figure(out, b"\ntemporary: ", self.totals.temporary)?;
         put_figure(out, b"\nallocated: ", self.totals.allocated)?;
-        put_figure(out, b"\npeak: ", self.peak.total)?;
-        put_figure(out, b" at event ", self.peak.moment)?;
+        put_figure(out, b"\npeak: ", self.peak)?;
+        put_figure(out, b" at event ", self.moment)?;
         put_figure(out, b"\nleaked: ", self.totals.live)?;
         put_figure(out, b" in ", self.totals.blocks)?;
         put_bytes(out, b" blocks\n")?;

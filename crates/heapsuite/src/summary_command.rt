@@ -10,11 +10,15 @@ ghost use Rattle.command_frame.specs.Texts.{texts_of};
 ghost use Rattle.heapsuite.specs.SummaryReport.{summary_plan};
 ghost use Rattle.heapsuite.specs.SummaryWords.{summary_trace};
 
-use crate::trace::TraceReader;
-use command_frame::{Desk, Halt, run_lines};
+use crate::summary::Summary;
+use crate::trace_run::run_trace;
+use crate::trace_writer::TraceWriter;
+use command_frame::{Desk, Halt};
 use command_words::{WordTable, WordsFault, take_words};
 use hp_num::NoMemory;
 use hp_outside::{Sink, Store};
+use ht_trace::Tables;
+use peak_costs::Peaks;
 use std::alloc::Global;
 
 /// One file, and no option.
@@ -29,6 +33,20 @@ const WORDS: WordTable<'static> = WordTable {
 pub struct SummaryRequest<'a> {
     /// The name of the trace.
     pub trace: &'a str,
+}
+
+/// Writes the six lines.
+#[derive(Clone, Copy, Debug)]
+pub struct SummaryWriter;
+
+impl TraceWriter for SummaryWriter {
+    ghost use Rattle.heapsuite.specs.SummaryReport.{summary_written};
+
+    ghost text = { λ _. summary_written };
+
+    fn put(&self, _tables: &Tables, peaks: &Peaks, out: &mut Vec<u8>) -> Result<(), NoMemory> {
+        Summary::of(peaks).put(out)
+    }
 }
 
 impl<'a> SummaryRequest<'a> {
@@ -64,10 +82,6 @@ impl<'a> SummaryRequest<'a> {
         ensures sound_writes { IfErr result (λ halt. status_code halt.status ≢ 4 → O.faults out.new ≡ O.faults out.old) }
         ensures sound { OnOk result (O.faults out.new ≡ O.faults out.old) }
     {
-        let mut reader = match TraceReader::new(desk.alloc) {
-            Ok(reader) => reader,
-            Err(NoMemory) => return Err(Halt::no_memory()),
-        };
-        run_lines(desk, self.trace, &mut reader, store, out)
+        run_trace(desk, self.trace, SummaryWriter, store, out)
     }
 }

@@ -1,15 +1,15 @@
-use Rattle.std.proofs.Common.{◌≡◌, ℕ, ap, ◌∙◌}
+use Rattle.std.proofs.Common.{◌≡◌, ℕ, ap, sym, subst, ◌∙◌}
 use Rattle.live_ledger.specs.declared.totals.Totals.{Totals}
-use Rattle.live_ledger.specs.StandsFor.{AreTotalsOf}
-use Rattle.heapsuite.specs.declared.peak.Peak.{Peak}
+use Rattle.live_ledger.specs.StandsFor.{AreTotalsOf, StandsFor}
+use Rattle.peak_costs.specs.Peak.{IsPeak, total_after}
 use Rattle.heapsuite.specs.declared.summary.Summary.{Summary}
 use Rattle.heapsuite.specs.SummaryText.{summary_of}
-use Rattle.ht_trace.specs.TraceEvents.{events}
-use Rattle.heapsuite.proofs.trace.TraceReader.summary.Goals as goal
+use Rattle.heapsuite.proofs.PeakLemmas.{greatest_is, moment_is}
+use Rattle.heapsuite.proofs.summary.Summary.of.Goals as goal
 
 -- figures and a peak
-abbrev summary_with : Totals → Peak → Summary
-summary_with totals peak = record { totals = totals; peak = peak }
+abbrev summary_with : Totals → ℕ → ℕ → Summary
+summary_with totals peak moment = record { totals = totals; peak = peak; moment = moment }
 
 -- six figures
 abbrev totals_with : ℕ → ℕ → ℕ → ℕ → ℕ → ℕ → Totals
@@ -28,8 +28,14 @@ same_totals x y same_events same_calls same_temporary same_allocated same_live s
 
 pub returns : goal.returns
 unfolding summary_of
-returns c = λ trace has.
-    let are : AreTotalsOf c.totals.result (events trace) = c.totals.ensures.figures (events trace) has.ledger_of in
-    let totals : c.totals.result ≡ (summary_of (events trace)).totals =
+returns c = λ events stands.
+    let are : AreTotalsOf c.totals.result events =
+    c.totals.ensures.figures events (subst (λ ledger. StandsFor ledger events) (sym c.ledger.ensures) stands.ledger) in
+    let totals : c.totals.result ≡ (summary_of events).totals =
     same_totals _ _ are.events_is are.calls_is are.temporary_is are.allocated_is are.live_is are.blocks_is in
-    ap (λ t. summary_with t c.args.self.now.peak) totals ∙ ap (λ p. summary_with (summary_of (events trace)).totals p) has.peak
+    let is : IsPeak c.peak_moment.result events = c.peak_moment.ensures.peak events stands in
+    let peak : c.peak_total.result ≡ (summary_of events).peak =
+    c.peak_total.ensures.total events stands ∙ (ap (λ moment. total_after moment events) (sym c.peak_moment.ensures.value) ∙ sym (greatest_is c.peak_moment.result events is)) in
+    ap (λ all. summary_with all c.peak_total.result c.peak_moment.result) totals
+    ∙ (ap (λ most. summary_with (summary_of events).totals most c.peak_moment.result) peak
+    ∙ ap (summary_with (summary_of events).totals (summary_of events).peak) (sym (moment_is c.peak_moment.result events is)))

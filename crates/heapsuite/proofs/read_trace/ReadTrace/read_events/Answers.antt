@@ -1,12 +1,12 @@
-use Rattle.std.proofs.Common.{◌-◌, ℕ, List, length, drop, length-drop, sym, subst, arith}
+use Rattle.std.proofs.Common.{◌-◌, ℕ, List, length, drop, length-drop, refl, sym, subst, ◌∙◌, arith}
 use Rattle.std.proofs.lemmas.List.{take_all}
 use Rattle.ht_trace.specs.PassesEvents.{PassesEvents}
 use Rattle.command_frame.proofs.BatchLemmas.{nothing_taken}
 use Rattle.heapsuite.specs.Batch.{HasReadLine}
-use Rattle.heapsuite.specs.SummaryReport.{summary_report}
-use Rattle.heapsuite.specs.TraceReader.{HasRead}
+use Rattle.heapsuite.specs.ReadTrace.{HasRead}
+use Rattle.heapsuite.specs.TraceReport.{trace_report}
 use Rattle.heapsuite.proofs.BatchLemmas.{line_more, line_within}
-use Rattle.heapsuite.proofs.trace.TraceReader.read_events.Goals as goal
+use Rattle.heapsuite.proofs.read_trace.ReadTrace.read_events.Goals as goal
 
 pub lines-init : goal.lines-init
 lines-init c = record {
@@ -15,7 +15,8 @@ lines-init c = record {
   held = omega arith;
   few = omega arith;
   events = omega arith;
-  front = nothing_taken summary_report (HasRead c.args.self.now) c.args.ready.now;
+  tables = refl;
+  front = λ patterns text. nothing_taken (trace_report patterns text) (HasRead c.args.self.now patterns) c.args.ready.now;
 }
 
 pub lines-preserved : goal.lines-preserved
@@ -32,5 +33,6 @@ lines-preserved c =
       held = omega (arith, line_within c.lines.self c.take_front.new.self rest c.in-Some.taken one, held.held, length-drop c.lines.bytes c.args.ready.now);
       few = omega (arith, more.some, held.few);
       events = omega (arith, more.events, held.events);
-      front = line_more c.args.self.now c.lines.self c.take_front.new.self c.args.ready.now c.lines.bytes c.lines.lines c.in-Some.taken held.front one;
+      tables = more.tables ∙ held.tables;
+      front = λ patterns text. line_more c.args.self.now c.lines.self c.take_front.new.self patterns text c.args.ready.now c.lines.bytes c.lines.lines c.in-Some.taken (held.front patterns text) one;
     }
