@@ -1,0 +1,4 @@
+pub mod FlameLemmas
+pub mod FlameTrees
+pub mod FlameWalks
+pub mod FlameFigures

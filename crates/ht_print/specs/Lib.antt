@@ -1,0 +1,3 @@
+pub mod FlameCosts
+pub mod FlameText
+pub mod FlameWalk
