@@ -1,11 +1,14 @@
-//! Reports of a heap trace as text: its summary and its histogram of sizes, and which stacks are suppressed.
-//! How a trace is read, and where a report is written, is no part of it.
+//! The texts of reports on a heap trace: its summary, its histogram of sizes, its flame stacks; and which of its stacks are
+//! suppressed. What the figures are, and how a trace is read, are the parts of the crates below.
 #![tactic(auto)]
 
+mod flame;
+mod flame_lines;
 mod histogram;
 mod summary;
 mod suppressed;
 
+pub use flame::{FlameCost, put_flame};
 pub use histogram::put_histogram;
 pub use summary::put_summary;
 pub use suppressed::Suppressed;

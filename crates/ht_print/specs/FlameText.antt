@@ -1,0 +1,45 @@
+-- Flame stacks: a line for each list of texts that some stacks have.
+use Rattle.std.specs.Prelude.{ℕ, zero, suc, ◌==◌, ◌-◌, if◌then◌else◌, List, [], ◌∷◌, ◌++◌, codes, decimal, length, map}
+use Rattle.std.specs.List.{flat_map}
+use Rattle.cost_tree.specs.declared.direction.Direction.TheVariants.{FromRoot}
+use Rattle.cost_tree.specs.Costed.{Costed, costed}
+use Rattle.cost_tree.specs.Inclusive.{own}
+use Rattle.cost_tree.specs.NextFronts.{next_fronts}
+use Rattle.cost_tree.specs.StackTexts.{lists_towards}
+use Rattle.ht_trace.specs.declared.frame.Style.TheVariants.{Plain}
+use Rattle.ht_trace.specs.TableState.{TableState}
+
+-- a colon for a semicolon, since semicolons stand between texts
+abbrev pub flame_byte : ℕ → ℕ
+flame_byte byte = if byte == 59 then 58 else byte
+
+-- a text with a colon for each semicolon
+unfoldable pub flame_name : List ℕ → List ℕ
+flame_name text = map flame_byte text
+
+-- texts with a semicolon before each
+unfoldable pub flame_rest : List (List ℕ) → List ℕ
+flame_rest texts = flat_map (λ text. codes ";" ++ flame_name text) texts
+
+-- the texts of a front with semicolons between them
+unfoldable pub flame_path : List (List ℕ) → List ℕ
+flame_path [] = []
+flame_path (text ∷ more) = flame_name text ++ flame_rest more
+
+-- the line of a front with its own sum, where that isn't 0
+unfoldable pub flame_line : List (List ℕ) → ℕ → List ℕ
+flame_line front sum = if sum == 0 then [] else flame_path front ++ (codes " " ++ (decimal sum ++ codes "\n"))
+
+-- the line of a front, and then the lines of the fronts that begin with it and have up to so many texts more, those of
+-- one with a lower least stack first
+unfoldable pub flame_of : ℕ → List Costed → List (List ℕ) → List ℕ
+flame_of zero stacks front = flame_line front (own front stacks)
+flame_of (suc more) stacks front = flame_line front (own front stacks) ++ flat_map (λ next. flame_of more stacks next) (next_fronts front stacks)
+
+-- the most frames of a stack
+abbrev pub most_frames : ℕ
+most_frames = 4096
+
+-- the lines of the stacks of a trace, whose texts are read from the outermost frame on
+unfoldable pub flame_text : TableState → List ℕ → List ℕ
+flame_text tables costs = flame_of most_frames (costed (lists_towards FromRoot Plain tables) costs) []

@@ -1,0 +1,73 @@
+//! Flame stacks: for each list of texts that some stacks have, a line with what these stacks cost.
+//! How the lines of a tree are written is in `flame_lines`.
+ghost use Rattle.std.specs.Prelude.{◌≡◌, ℕ, ◌+◌, ◌^◌, ◌<◌, ◌≤◌, List, ◌++◌, length, OnErr, OnOk, Some, slice_get};
+ghost use Rattle.peak_costs.specs.PeakState.{IsSound};
+ghost use Rattle.ht_print.specs.FlameCosts.{flame_costs};
+ghost use Rattle.ht_print.specs.FlameText.{flame_text};
+
+use crate::flame_lines::put_lines;
+use cost_tree::{CostTree, Costing, Direction};
+use hp_num::NoMemory;
+use ht_trace::{Style, Tables};
+use peak_costs::Peaks;
+use std::alloc::Global;
+
+/// The most frames of a stack.
+const MOST_FRAMES: u32 = 4096;
+
+/// Which figure of a stack is its cost.
+#[derive(Clone, Copy, Debug, PartialEq, Eq)]
+pub enum FlameCost {
+    /// How many blocks were allocated.
+    Allocations,
+    /// How many of them the very next event freed.
+    Temporary,
+    /// The bytes that are live at the end.
+    Leaked,
+    /// The bytes that are live at the peak.
+    Peak,
+}
+
+/// Appends the flame stacks of a trace: for each list of frame texts, from the outermost frame on, that some stacks have
+/// whose costs have a sum other than 0, these texts with `;` between them, a blank, the sum and a line feed. A `;` within
+/// a text is written `:`.
+///
+/// There must be as many stacks in the peaks as in the tables. On `NoMemory`, `out` holds what it held before.
+pub fn put_flame(
+    alloc: Global,
+    cost: FlameCost,
+    tables: &Tables,
+    peaks: &Peaks,
+    out: &mut Vec<u8>,
+) -> Result<(), NoMemory>
+    requires as_many { peaks.now.ledger.stacks ≡ length tables.now.nodes + 1 }
+    ensures appended { OnOk result (out.new.items ≡ out.old.items ++ flame_text tables.now (flame_costs cost peaks.now)) }
+    ensures unchanged { OnErr result (out.new.items ≡ out.old.items) }
+{
+    // Says what holds of all peaks.
+    let _total = peaks.peak_total();
+    let costing = Costing::new(tables.stacks(), |stack: u32| cost_of(cost, peaks, stack));
+    let tree = CostTree::build(
+        alloc,
+        tables,
+        &costing,
+        Direction::FromRoot,
+        Style::Plain,
+        MOST_FRAMES,
+    )?;
+    put_lines(alloc, &tree, out)
+}
+
+/// What the stack costs.
+fn cost_of(cost: FlameCost, peaks: &Peaks, stack: u32) -> u64
+    requires held { stack < peaks.now.ledger.stacks }
+    requires sound { IsSound peaks.now }
+    ensures { slice_get (flame_costs cost peaks.now) stack ≡ Some result }
+{
+    match cost {
+        FlameCost::Allocations => peaks.ledger().stack(stack).calls,
+        FlameCost::Temporary => peaks.ledger().stack(stack).temporary,
+        FlameCost::Leaked => peaks.ledger().stack(stack).live,
+        FlameCost::Peak => peaks.peak_of(stack),
+    }
+}
