@@ -1,0 +1,4 @@
+pub mod Draws
+pub mod Moves
+pub mod GeneratedTrace
+pub mod GeneratorState
