@@ -1,28 +1,27 @@
 -- Where a generator stands behind a line, and the live blocks behind an event.
-use Rattle.std.proofs.Common.{◌≡◌, ◌≢◌, cond, inl, inr, ◌&&◌, not, slice_index_or, slice_set, ℕ, zero, suc, ◌+◌, ◌-◌, ◌*◌, ◌<◌, ◌≤◌, ◌==◌, nat_lt, Bool, true, false, List, [], ◌∷◌, ◌++◌, length, refl, ap, sym, subst, ◌∙◌, length-append, length-set, arith}
+use Rattle.std.proofs.Common.{◌≡◌, ◌≢◌, cond, inl, inr, ◌&&◌, not, slice_index_or, slice_set, ℕ, zero, suc, ◌+◌, ◌*◌, ◌<◌, ◌≤◌, ◌==◌, nat_lt, Bool, true, false, List, [], ◌∷◌, ◌++◌, length, refl, ap, sym, subst, ◌∙◌, length-append, length-set, arith}
 use Rattle.std.proofs.lemmas.Bool.{false_from_ne_true, lt-ltb, ltb-true}
 use Rattle.std.proofs.lemmas.Bool.Decides.{eqb_tells}
 use Rattle.std.proofs.lemmas.List.{get_or-set_other, get_or-set_same}
 use Rattle.std.proofs.lemmas.List.Sums.{count_by-le-length, sum_by-append}
 use Rattle.std.specs.List.{count_by}
-use Rattle.trace_gen.specs.declared.options.GeneratorOptions.{GeneratorOptions}
-use Rattle.trace_gen.specs.declared.generator.Group.{Group}
-use Rattle.trace_gen.specs.declared.generator.Group.TheVariants.{Head, Names, Instructions, Nodes, Infos, Events}
+use Rattle.trace_gen.specs.Sizes.{Sizes}
+use Rattle.trace_gen.specs.declared.generator.Group.TheVariants.{Events}
 use Rattle.trace_gen.specs.Draws.{next_state, state_after}
 use Rattle.trace_gen.specs.Moves.{Move, allocated, freed, moves, next_move}
-use Rattle.trace_gen.specs.GeneratorState.{Stands, draws_before, group_len}
+use Rattle.trace_gen.specs.GeneratorState.{Stands}
 
 -- so many events are so many
-pub move_count : (options : GeneratorOptions) (number : ℕ) → length (moves options number) ≡ number
-move_count options zero = refl
-move_count options (suc number) =
-    length-append (moves options number) (next_move options number (moves options number) ∷ []) ∙ (ap (λ n. n + 1) (move_count options number) ∙ omega arith)
+pub move_count : (sizes : Sizes) (number : ℕ) → length (moves sizes number) ≡ number
+move_count sizes zero = refl
+move_count sizes (suc number) =
+    length-append (moves sizes number) (next_move sizes number (moves sizes number) ∷ []) ∙ (ap (λ n. n + 1) (move_count sizes number) ∙ omega arith)
 
 -- no info has more live blocks than there were events
-pub few_blocks : (options : GeneratorOptions) (number info blocks : ℕ) → blocks + freed info (moves options number) ≡ allocated info (moves options number) → blocks ≤ number
-few_blocks options number info blocks is =
-    let most = count_by-le-length (λ move. (move.info == info) && not move.frees) (moves options number) in
-    omega (arith, is, most, move_count options number)
+pub few_blocks : (sizes : Sizes) (number info blocks : ℕ) → blocks + freed info (moves sizes number) ≡ allocated info (moves sizes number) → blocks ≤ number
+few_blocks sizes number info blocks is =
+    let most = count_by-le-length (λ move. (move.info == info) && not move.frees) (moves sizes number) in
+    omega (arith, is, most, move_count sizes number)
 
 -- one draw more
 pub drawn : (seed draws more state : ℕ) → more ≡ draws + 1 → state ≡ state_after seed draws → next_state state ≡ state_after seed more
@@ -79,15 +78,15 @@ has_block blocks freed_blocks all is =
     ] refl
 
 -- where a generator stands behind an event
-pub moved : (options : GeneratorOptions) (next state new_state : ℕ) (live : List ℕ) (info new : ℕ) (frees : Bool) → Stands options Events next state live → next < options.events
-    → info ≡ (next_move options next (moves options next)).info → frees ≡ (next_move options next (moves options next)).frees → info < options.stacks
+pub moved : (sizes : Sizes) (next state new_state : ℕ) (live : List ℕ) (info new : ℕ) (frees : Bool) → Stands sizes Events next state live → next < sizes.events
+    → info ≡ (next_move sizes next (moves sizes next)).info → frees ≡ (next_move sizes next (moves sizes next)).frees → info < sizes.stacks
     → (frees ≡ false → new ≡ slice_index_or live info 0 + 1) → (frees ≡ true → new + 1 ≡ slice_index_or live info 0)
-    → new_state ≡ state_after options.seed (2 * options.stacks + 2 * (next + 1)) → new_state < 2147483648
-    → Stands options Events (next + 1) new_state (slice_set live info new)
-moved options next state new_state live info new frees stands some info_is frees_is below more less state_is small =
-    let earlier : List Move = moves options next in
-    let move : Move = next_move options next earlier in
-    let all : moves options (next + 1) ≡ earlier ++ move ∷ [] = let one : next + 1 ≡ suc next = omega arith in ap (moves options) one in
+    → new_state ≡ state_after sizes.seed (2 * sizes.stacks + 2 * (next + 1)) → new_state < 2147483648
+    → Stands sizes Events (next + 1) new_state (slice_set live info new)
+moved sizes next state new_state live info new frees stands some info_is frees_is below more less state_is small =
+    let earlier : List Move = moves sizes next in
+    let move : Move = next_move sizes next earlier in
+    let all : moves sizes (next + 1) ≡ earlier ++ move ∷ [] = let one : next + 1 ≡ suc next = omega arith in ap (moves sizes) one in
     record {
       within = omega (arith, some);
       state_is = state_is;

@@ -1,3 +1,4 @@
+pub mod Sizes
 pub mod Draws
 pub mod Moves
 pub mod GeneratedTrace

@@ -3,6 +3,7 @@
 ghost use Rattle.std.specs.Prelude.{◌≡◌, ◌+◌, ◌<◌, ◌≤◌, ◌==◌, ◌&&◌, nat_lt, true, false, IfOk, IsTrue};
 ghost use Rattle.trace_gen.specs.GeneratedTrace.{generated_text};
 ghost use Rattle.trace_gen.specs.GeneratorState.{IsAt, Makes, text_left};
+ghost use Rattle.trace_gen.specs.Sizes.{sizes_of};
 
 use crate::draws::{next_state, number_below};
 use crate::lines::{put_event, put_instruction, put_name, put_pair};
@@ -39,7 +40,7 @@ impl Generator {
     /// A generator that has made no line. `NoMemory` where memory is wanting.
     pub fn new(alloc: Global, options: &GeneratorOptions) -> Result<Generator, NoMemory>
         ensures at { IfOk result (λ generator. IsAt generator) }
-        ensures text { IfOk result (λ generator. text_left generator ≡ generated_text options.now) }
+        ensures text { IfOk result (λ generator. text_left generator ≡ generated_text (sizes_of options.now)) }
     {
         let mut live = Vec::new(alloc);
         live.resize(options.stacks as usize, 0)?;
@@ -158,12 +159,13 @@ impl Generator {
 
 impl TextMaker for Generator {
     ghost use Rattle.trace_gen.specs.GeneratorState.{IsAt, pieces_left, text_left};
+    ghost use Rattle.trace_gen.specs.Sizes.{sizes_of};
 
     ghost is_sound = { IsAt };
 
     ghost rest = { text_left };
 
-    ghost pieces = { λ generator. pieces_left generator.options generator.group generator.next };
+    ghost pieces = { λ generator. pieces_left (sizes_of generator.options) generator.group generator.next };
 
     fn piece(&mut self, output: &mut Vec<u8>) -> Result<bool, NoMemory> {
         match self.group {

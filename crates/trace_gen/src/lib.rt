@@ -8,3 +8,6 @@ mod options;
 
 pub use generator::Generator;
 pub use options::GeneratorOptions;
+
+#[cfg(test)]
+mod tests;
