@@ -1,0 +1,5 @@
+pub mod Sizes
+pub mod Draws
+pub mod Moves
+pub mod GeneratedTrace
+pub mod GeneratorState
