@@ -1,5 +1,5 @@
 -- Entries of symbols: the last of a module up to an offset, and what it says of all others.
-use Rattle.std.proofs.Common.{◌≡◌, ◌≢◌, ◌⊎◌, inl, inr, ℕ, ◌+◌, ◌-◌, ◌<◌, ◌≤◌, Bool, true, false, ◌&&◌, ltb, leb, eqb, List, [], ◌∷◌, ◌++◌, length, map, Option, Some, None, refl, sym, ap, ◌∙◌, subst, arith, true≢false, Bor, length-append}
+use Rattle.std.proofs.Common.{◌≡◌, ◌≢◌, ◌⊎◌, inl, inr, ℕ, ◌-◌, ◌<◌, ◌≤◌, Bool, true, false, ◌&&◌, ltb, leb, eqb, List, [], ◌∷◌, ◌++◌, length, Option, Some, None, refl, sym, ap, ◌∙◌, subst, arith, true≢false, Bor}
 use Rattle.std.specs.Prelude.{find, slice_get, unwrap_or, IfNone, IfSome}
 use Rattle.std.specs.Option.{option_copied, option_map}
 use Rattle.std.specs.List.{list_any}
@@ -260,24 +260,24 @@ indexed-push entries index new y indexed more none here others = record {
     apart j k x z at there other =
         elim (push-cases entries y x j at) [
           | inl old ↦ elim (push-cases entries y z k there) [
-              | inl older ↦ indexed.apart j k x z old older other
-              | inr is ↦ subst (λ (e : SymbolEntry). AreApart x e) (sym is.1) (from-new j x old)
-            ]
+            | inl older ↦ indexed.apart j k x z old older other
+            | inr is ↦ subst (λ (e : SymbolEntry). AreApart x e) (sym is.1) (from-new j x old)
+          ]
           | inr is ↦ elim (push-cases entries y z k there) [
-              | inl older ↦ subst (λ (e : SymbolEntry). AreApart e z) (sym is.1) (apart-back z y (from-new k z older))
-              | inr same ↦ absurd (other (is.0 ∙ sym same.0))
-            ]
+            | inl older ↦ subst (λ (e : SymbolEntry). AreApart e z) (sym is.1) (apart-back z y (from-new k z older))
+            | inr same ↦ absurd (other (is.0 ∙ sym same.0))
+          ]
         ]
 
     only : (number start k : ℕ) → place_at new number start ≡ Some k → (x : SymbolEntry) × (slice_get (entries ++ y ∷ []) k ≡ Some x) × (x.module_number ≡ number) × (x.start ≡ start)
     only number start k at =
         elim (cases_eq number y.module_number) [
           | inl of ↦ elim (cases_eq start y.start) [
-              | inl begins ↦
-                  let place : k ≡ length entries = same_Some k (length entries) (sym at ∙ ap (λ (n : ℕ). place_at new n start) of ∙ ap (λ (n : ℕ). place_at new y.module_number n) begins ∙ here) in
-                  (y, ap (λ (n : ℕ). slice_get (entries ++ y ∷ []) n) place ∙ push-new entries y, sym of, sym begins)
-              | inr differ ↦ old number start k (inr differ) at
-            ]
+            | inl begins ↦
+                let place : k ≡ length entries = same_Some k (length entries) (sym at ∙ ap (λ (n : ℕ). place_at new n start) of ∙ ap (λ (n : ℕ). place_at new y.module_number n) begins ∙ here) in
+                (y, ap (λ (n : ℕ). slice_get (entries ++ y ∷ []) n) place ∙ push-new entries y, sym of, sym begins)
+            | inr differ ↦ old number start k (inr differ) at
+          ]
           | inr differ ↦ old number start k (inl differ) at
         ]
       where

@@ -1,15 +1,15 @@
 -- The symbols as contracts see them, beside what the table keeps.
-use Rattle.std.proofs.Common.{◌≡◌, ◌≢◌, ◌⊎◌, ℕ, ◌<◌, ◌≤◌, true, false, cond, List, [], ◌∷◌, ◌++◌, length, map, Option, Some, None, refl, sym, ap, ◌∙◌, subst}
-use Rattle.std.specs.Prelude.{find, slice_get}
+use Rattle.std.proofs.Common.{◌≡◌, ◌≢◌, ◌⊎◌, ℕ, ◌<◌, ◌≤◌, true, false, List, [], ◌∷◌, ◌++◌, length, Option, Some, None, refl, sym, ap, ◌∙◌, subst}
+use Rattle.std.specs.Prelude.{find}
 use Rattle.std.specs.Option.{option_map, option_to_list}
-use Rattle.std.specs.List.{cons_option, filter_map, list_any}
+use Rattle.std.specs.List.{cons_option, list_any}
 use Rattle.std.proofs.lemmas.List.{map-append}
 use Rattle.std.proofs.lemmas.List.Elements.{filter_map-append}
 use Rattle.intern_tables.specs.Numbers.{name_at, number_of}
 use Rattle.interpret.specs.declared.start_index.StartIndex.{StartIndex}
 use Rattle.interpret.specs.declared.symbols.SymbolEntry.{SymbolEntry}
 use Rattle.interpret.specs.SymbolLine.{Symbol, fields, symbol_of}
-use Rattle.interpret.specs.SymbolList.{holds, is_skipped, meets, symbol_at, symbol_in, symbols_of}
+use Rattle.interpret.specs.SymbolList.{is_skipped, meets, symbol_at, symbol_in, symbols_of}
 use Rattle.interpret.specs.SymbolEntries.{AreIndexed, AreNamed, holds_offset, meets_range, place_at, symbol_kept, symbols_kept}
 use Rattle.interpret.proofs.EntryLemmas.{holds-kept, holds-unnamed, indexed-push, kept-grown, meets-kept, named-grown, named-push}
 

@@ -2,9 +2,7 @@
 
 use crate::fault::SymbolFault;
 use crate::symbols::Symbols;
-use std::alloc::Global;
 use std::process::Abort;
-use std::runtime::HostRuntime;
 
 /// The answer to a line.
 fn takes(rt: &impl Abort, symbols: &mut Symbols, line: &[u8], want: Result<(), SymbolFault>) {
@@ -16,9 +14,9 @@ fn has_texts(rt: &impl Abort, symbols: &Symbols, name: &[u8], offset: u64, want:
 }
 
 #[test]
-fn lines_that_say_no_symbol(rt: HostRuntime, alloc: Global) {
+fn lines_that_say_no_symbol(rt: HostRuntime) {
     let bad = Err(SymbolFault::BadSymbolLine);
-    let mut symbols = Symbols::new(alloc);
+    let mut symbols = Symbols::new(rt.alloc());
     takes(&rt, &mut symbols, b"app\t400\t0\tmain", bad);
     takes(&rt, &mut symbols, b"app\t400\t100", bad);
     takes(&rt, &mut symbols, b"app\t400\t100\tmain\ta.c", bad);
@@ -30,9 +28,9 @@ fn lines_that_say_no_symbol(rt: HostRuntime, alloc: Global) {
 }
 
 #[test]
-fn ranges_with_a_common_offset(rt: HostRuntime, alloc: Global) {
+fn ranges_with_a_common_offset(rt: HostRuntime) {
     let overlap = Err(SymbolFault::SymbolOverlap);
-    let mut symbols = Symbols::new(alloc);
+    let mut symbols = Symbols::new(rt.alloc());
     takes(&rt, &mut symbols, b"app\t400\t100\tmain", Ok(()));
     takes(&rt, &mut symbols, b"app\t4ff\t1\tg", overlap);
     takes(&rt, &mut symbols, b"app\t3ff\t2\tg", overlap);

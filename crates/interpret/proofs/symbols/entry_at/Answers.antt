@@ -1,4 +1,4 @@
-use Rattle.std.proofs.Common.{sym, ◌∙◌, arith}
+use Rattle.std.proofs.Common.{sym}
 use Rattle.interpret.proofs.EntryLemmas.{holds-last, holds-none, holds-past}
 use Rattle.interpret.proofs.symbols.entry_at.Goals as goal
 

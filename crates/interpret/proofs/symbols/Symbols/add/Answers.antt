@@ -2,7 +2,7 @@ use Rattle.std.proofs.Common.{◌≡◌, ℕ, List, [], ◌∷◌, ◌++◌, len
 use Rattle.std.specs.Prelude.{unwrap_or}
 use Rattle.std.specs.List.{list_any}
 use Rattle.interpret.specs.declared.symbols.SymbolEntry.{SymbolEntry}
-use Rattle.interpret.specs.SymbolLine.{Symbol, fields}
+use Rattle.interpret.specs.SymbolLine.{fields}
 use Rattle.interpret.specs.SymbolEntries.{meets_range, said_by}
 use Rattle.interpret.proofs.ListLemmas.{on-err}
 use Rattle.interpret.proofs.TableLemmas.{meets-view, table-grown, table-push, view-grown, view-push}
@@ -19,10 +19,12 @@ returns-then-meets_any-clause-unchanged c =
     (record { stay = c.intern.ensures.names_stay; numbers = c.intern.ensures.numbers_stay; none_lost = c.intern.ensures.none_lost }) refl
 
 pub returns-then-meets_any-clause-fault : goal.returns-then-meets_any-clause-fault
-returns-then-meets_any-clause-fault c = λ other.
-    (refl, meets-view c.self.inside.module_names c.intern.new.self c.self.inside.entries.items c.deref.result.now c.args.self.now (said_by c.args.said.now) c.in_ok-module_number.module_number c.self.view_is c.self.invariant.0
-    (record { stay = c.intern.ensures.names_stay; numbers = c.intern.ensures.numbers_stay; none_lost = c.intern.ensures.none_lost }) c.deref.ensures.value c.in_ok-module_number.ensures.name c.in_ok-module_number.ensures.number
-    ∙ sym c.if-meets_any.ensures)
+returns-then-meets_any-clause-fault c = λ other. (
+  refl,
+  meets-view c.self.inside.module_names c.intern.new.self c.self.inside.entries.items c.deref.result.now c.args.self.now (said_by c.args.said.now) c.in_ok-module_number.module_number c.self.view_is c.self.invariant.0
+      (record { stay = c.intern.ensures.names_stay; numbers = c.intern.ensures.numbers_stay; none_lost = c.intern.ensures.none_lost }) c.deref.ensures.value c.in_ok-module_number.ensures.name c.in_ok-module_number.ensures.number
+      ∙ sym c.if-meets_any.ensures,
+)
 
 pub returns-clause-no_fault : goal.returns-clause-no_fault
 returns-clause-no_fault c =

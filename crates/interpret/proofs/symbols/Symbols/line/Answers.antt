@@ -1,4 +1,4 @@
-use Rattle.std.proofs.Common.{Some, List, ℕ, ◌++◌, Option, sym, ap, ◌∙◌, append-nil}
+use Rattle.std.proofs.Common.{◌++◌, Option, sym, ap, ◌∙◌, append-nil}
 use Rattle.std.specs.Option.{option_to_list}
 use Rattle.std.proofs.lemmas.Result.{MatchResult-weaker}
 use Rattle.interpret.specs.SymbolLine.{Symbol}
