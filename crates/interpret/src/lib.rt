@@ -1,5 +1,5 @@
-//! From raw traces to interpreted ones: a table of symbols, and what each raw line gives beside it.
-//! What one line of a trace says is the grammar's part.
+//! Tables of symbols, for the interpretation of raw traces: what stands at the offsets of modules.
+//! The lines of traces are no part of it.
 #![tactic(auto)]
 
 mod fault;
