@@ -1,0 +1,5 @@
+mod EntryLemmas
+mod FieldLemmas
+mod KeyLemmas
+mod ListLemmas
+mod TableLemmas

@@ -1,0 +1,3 @@
+pub mod SymbolLine
+pub mod SymbolList
+pub mod SymbolEntries

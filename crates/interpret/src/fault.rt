@@ -1,0 +1,46 @@
+//! Why a line of a symbol table is refused. Which line it is, is known to whoever counts the lines.
+ghost use Rattle.std.specs.Prelude.{◌≡◌};
+ghost use Rattle.interpret.specs.declared.fault.SymbolFault.TheVariants.{NoMemory as OutOfMemory};
+
+use hp_num::NoMemory;
+use std::alloc::{AllocError, AllocFailed};
+use thiserror::Error;
+
+/// Why a line can't follow the lines before it in a symbol table.
+#[derive(Clone, Copy, Debug, PartialEq, Eq, Error)]
+pub enum SymbolFault {
+    /// The fields are not a module, a start, a size and one function, or those and a file and a line for each function;
+    /// a text is empty, a number is none, the size is 0, or the range ends above 2^64 - 1.
+    #[error("bad symbol line")]
+    BadSymbolLine,
+    /// The range has an offset in common with an earlier one of the same module.
+    #[error("symbols overlap")]
+    SymbolOverlap,
+    /// Memory is wanting.
+    #[error("out of memory")]
+    NoMemory,
+}
+
+impl From<NoMemory> for SymbolFault {
+    ghost from_gives = { λ _ fault. fault ≡ OutOfMemory };
+
+    fn from(_: NoMemory) -> SymbolFault {
+        SymbolFault::NoMemory
+    }
+}
+
+impl From<AllocError> for SymbolFault {
+    ghost from_gives = { λ _ fault. fault ≡ OutOfMemory };
+
+    fn from(_: AllocError) -> SymbolFault {
+        SymbolFault::NoMemory
+    }
+}
+
+impl<T: Drop> From<AllocFailed<T>> for SymbolFault {
+    ghost from_gives = { λ _ fault. fault ≡ OutOfMemory };
+
+    fn from(_: AllocFailed<T>) -> SymbolFault {
+        SymbolFault::NoMemory
+    }
+}
