@@ -1,4 +1,3 @@
-pub mod PeakLemmas
 pub mod ReadLemmas
 pub mod BatchLemmas
 pub mod AskedLemmas

@@ -1,6 +1,3 @@
-pub mod Totals
-pub mod Peak
-pub mod SummaryText
 pub mod CommandFault
 pub mod TraceReport
 pub mod ReadTrace

@@ -9,7 +9,6 @@ mod fault;
 mod read_trace;
 mod run;
 mod run_words;
-mod summary;
 mod summary_command;
 mod texts;
 mod trace_reader;

@@ -10,13 +10,13 @@ ghost use Rattle.command_frame.specs.Texts.{texts_of};
 ghost use Rattle.heapsuite.specs.SummaryReport.{summary_plan};
 ghost use Rattle.heapsuite.specs.SummaryWords.{summary_trace};
 
-use crate::summary::Summary;
 use crate::trace_run::run_trace;
 use crate::trace_writer::TraceWriter;
 use command_frame::{Desk, Halt};
 use command_words::{WordTable, WordsFault, take_words};
 use hp_num::NoMemory;
 use hp_outside::{Sink, Store};
+use ht_print::put_summary;
 use ht_trace::Tables;
 use peak_costs::Peaks;
 use std::alloc::Global;
@@ -45,7 +45,7 @@ impl TraceWriter for SummaryWriter {
     ghost text = { λ _. summary_written };
 
     fn put(&self, _tables: &Tables, peaks: &Peaks, out: &mut Vec<u8>) -> Result<(), NoMemory> {
-        Summary::of(peaks).put(out)
+        put_summary(peaks, out)
     }
 }
 
