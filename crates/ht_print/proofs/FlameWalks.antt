@@ -9,7 +9,7 @@ use Rattle.std.proofs.lemmas.List.{length_push, reverse-append, reverse-reverse}
 use Rattle.std.proofs.lemmas.List.Elements.{All-append, All-cons, All-head, All-filter, All-nil, All-tail, All-weaker, filter_passes}
 use Rattle.std.proofs.lemmas.List.Sorted.{All-permutation, IsPermutation-reverse, sum_by-IsPermutation}
 use Rattle.std.proofs.lemmas.List.Sums.{sum_by-append, sum_by-cons}
-use Rattle.std.proofs.lemmas.Option.{get_or_from_slice_get, slice_get-get_or, slice_get_within}
+use Rattle.std.proofs.lemmas.Option.{slice_get-get_or, slice_get_within}
 use Rattle.cost_tree.specs.declared.node.CostNode.{CostNode}
 use Rattle.cost_tree.specs.Children.{children_from, children_of, has_parent}
 use Rattle.cost_tree.specs.Costed.{Costed}
@@ -18,7 +18,7 @@ use Rattle.cost_tree.specs.IsTreeOf.{IsTreeOf}
 use Rattle.cost_tree.specs.NextFronts.{next_fronts}
 use Rattle.cost_tree.specs.TreeState.{TreeState}
 use Rattle.ht_print.specs.FlameText.{flame_line, flame_of}
-use Rattle.ht_print.specs.FlameWalk.{IsRooted, flame_at, front_at, last_text}
+use Rattle.ht_print.specs.FlameWalk.{flame_at, front_at, last_text}
 use Rattle.ht_print.proofs.FlameTrees.{IsRooted-of}
 
 -- a child of a node, with its front

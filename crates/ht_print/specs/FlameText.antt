@@ -1,5 +1,5 @@
 -- Flame stacks: a line for each list of texts that some stacks have.
-use Rattle.std.specs.Prelude.{ℕ, zero, suc, ◌==◌, ◌-◌, if◌then◌else◌, List, [], ◌∷◌, ◌++◌, codes, decimal, length, map}
+use Rattle.std.specs.Prelude.{ℕ, zero, suc, ◌==◌, if◌then◌else◌, List, [], ◌∷◌, ◌++◌, codes, decimal, map}
 use Rattle.std.specs.List.{flat_map}
 use Rattle.cost_tree.specs.declared.direction.Direction.TheVariants.{FromRoot}
 use Rattle.cost_tree.specs.Costed.{Costed, costed}

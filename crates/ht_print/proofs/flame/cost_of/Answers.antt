@@ -1,4 +1,4 @@
-use Rattle.std.proofs.Common.{◌≡◌, Some, ap, ◌∙◌}
+use Rattle.std.proofs.Common.{ap, ◌∙◌}
 use Rattle.std.specs.Prelude.{slice_get}
 use Rattle.ht_print.specs.declared.flame.FlameCost.{FlameCost}
 use Rattle.ht_print.specs.FlameCosts.{flame_costs}

@@ -1,8 +1,7 @@
-use Rattle.std.proofs.Common.{rules, ◌≡◌, ℕ, ◌++◌, List, [], ap, ◌∙◌, arith}
+use Rattle.std.proofs.Common.{rules, ℕ, List, arith}
 use Rattle.std.proofs.lemmas.Result.{on_ok_weaker}
 use Rattle.cost_tree.specs.declared.direction.Direction.TheVariants.{FromRoot}
 use Rattle.cost_tree.specs.Costed.{costed}
-use Rattle.cost_tree.specs.Costs.{AreCosts}
 use Rattle.cost_tree.specs.StackTexts.{lists_towards}
 use Rattle.ht_trace.specs.declared.frame.Style.TheVariants.{Plain}
 use Rattle.ht_print.specs.FlameCosts.{flame_costs}

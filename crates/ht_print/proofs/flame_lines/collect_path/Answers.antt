@@ -1,6 +1,5 @@
 use Rattle.std.proofs.Common.{rules, ◌≡◌, ℕ, List, ◌++◌, map, reverse, ap, sym, ◌∙◌, arith}
-use Rattle.std.proofs.lemmas.List.Elements.{All-push}
-use Rattle.ht_print.specs.FlameWalk.{IsBelowRoot, front_at, last_text}
+use Rattle.ht_print.specs.FlameWalk.{front_at, last_text}
 use Rattle.ht_print.proofs.FlameTrees.{path-step}
 use Rattle.ht_print.proofs.flame_lines.collect_path.Goals as goal
 

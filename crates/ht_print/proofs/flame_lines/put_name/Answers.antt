@@ -1,4 +1,4 @@
-use Rattle.std.proofs.Common.{ap, refl, ◌∙◌, arith, ◌++◌, ◌∷◌, [], take, get_or}
+use Rattle.std.proofs.Common.{ap, ◌∙◌, arith, ◌++◌, ◌∷◌, [], take, get_or}
 use Rattle.ht_print.specs.FlameText.{flame_byte, flame_name}
 use Rattle.ht_print.proofs.FlameLemmas.{appended-more, appended-none, flame_name-more, flame_name-none}
 use Rattle.ht_print.proofs.flame_lines.put_name.Goals as goal

@@ -1,6 +1,6 @@
-use Rattle.std.proofs.Common.{ℕ, ◌++◌, ◌∷◌, List, map, sym, ap, ◌∙◌, subst, append_assoc}
+use Rattle.std.proofs.Common.{ℕ, List, map, ap, ◌∙◌, subst}
 use Rattle.std.specs.Prelude.{All}
-use Rattle.std.proofs.lemmas.List.Elements.{All-same, All-tail}
+use Rattle.std.proofs.lemmas.List.Elements.{All-tail}
 use Rattle.std.proofs.lemmas.Result.{on_ok_weaker}
 use Rattle.ht_print.specs.FlameText.{flame_name, flame_path, flame_rest}
 use Rattle.ht_print.specs.FlameWalk.{IsBelowRoot, last_text}
