@@ -1,5 +1,7 @@
 -- From a run of what the words ask for to the facts of its answer, and to what the outputs hold.
-use Rattle.std.proofs.Common.{◌≡◌, ◌≢◌, ℕ, ◌+◌, ◌≤◌, true, List, [], ◌++◌, length, take, Option, Some, None, refl, ap, sym, subst, ◌∙◌, inl, inr, arith}
+use Rattle.std.proofs.Common.{◌≡◌, ◌≢◌, ℕ, ◌+◌, ◌≤◌, true, List, [], ◌∷◌, ◌++◌, ◌||◌, codes, length, take, Bool, false, Option, Some, None, refl, ap, sym, subst, ◌∙◌, inl, inr, arith}
+use Rattle.std.proofs.lemmas.Bool.{or_parts}
+use Rattle.std.specs.Str.{bytes_eq}
 use Rattle.std.specs.Io.KnownBytes.{append_known}
 use Rattle.hp_outside.specs.Faults.{Rose}
 use Rattle.hp_outside.specs.Folder.{Folder}
@@ -17,7 +19,7 @@ use Rattle.command_frame.proofs.OutputLemmas.{append_further}
 use Rattle.command_frame.proofs.QuietLemmas.{plan_quiet}
 use Rattle.command_frame.proofs.RunFactLemmas.{run_facts}
 use Rattle.heapsuite.specs.Answer.{asked_answer}
-use Rattle.heapsuite.specs.Asked.{Asked, names_asked, names_of, plan_of}
+use Rattle.heapsuite.specs.Asked.{Asked, asked, command_asked, knows_first, names_asked, names_of, plan_of}
 use Rattle.heapsuite.specs.Run.{WordsRan}
 use Rattle.heapsuite.specs.Silent.{IsSilentFor}
 use Rattle.heapsuite.specs.Texts.{heapsuite_texts}
@@ -145,3 +147,15 @@ delivered_as {given} {other} {status} {out_old} {out_new} {err_old} {err_new} is
 pub asked_quiet : (bounds : Bounds) (folder : Folder) (asking : Option Asked) → (asked_answer bounds folder asking).status ≡ 0 → (asked_answer bounds folder asking).message ≡ []
 asked_quiet bounds folder None zero = absurd (omega (arith, zero))
 asked_quiet bounds folder (Some request) zero = plan_quiet heapsuite_texts bounds folder [] (plan_of request) zero
+
+-- words whose first is unknown ask for nothing
+pub unknown_asks_nothing : (words : List (List ℕ)) → knows_first words ≡ false → asked words ≡ None
+unfolding command_asked knows_first
+unknown_asks_nothing [] is = refl
+unknown_asks_nothing (command ∷ words) is =
+    let help : Bool = bytes_eq command (codes "--help") in
+    let summary : Bool = bytes_eq command (codes "summary") in
+    let flame : Bool = bytes_eq command (codes "flame") in
+    let first = or_parts help (summary || flame) is in
+    let rest = or_parts summary flame first.1 in
+    rw (first.0, rest.0, rest.1) refl

@@ -4,6 +4,8 @@ use Rattle.std.specs.Option.{option_map}
 use Rattle.std.specs.Str.{bytes_eq}
 use Rattle.command_frame.specs.Plan.{Ends, Plan}
 use Rattle.command_frame.specs.Report.{Writes}
+use Rattle.heapsuite.specs.FlameReport.{flame_plan}
+use Rattle.heapsuite.specs.FlameWords.{FlameAsked, flame_asked}
 use Rattle.heapsuite.specs.SummaryReport.{summary_plan}
 use Rattle.heapsuite.specs.SummaryWords.{summary_trace}
 use Rattle.heapsuite.specs.Texts.{heapsuite_texts}
@@ -13,6 +15,8 @@ pub data Asked : Type 0 where
   Help : Asked
   -- the summary of a named trace
   Summary : List ℕ → Asked
+  -- the flame stacks of a named trace
+  Flame : FlameAsked → Asked
 
 -- `--help` alone
 abbrev pub help_asked : List (List ℕ) → Option Asked
@@ -20,10 +24,11 @@ help_asked [] = Some Help
 help_asked (word ∷ words) = None
 
 -- what a command's words ask for
-abbrev pub command_asked : List ℕ → List (List ℕ) → Option Asked
+unfoldable pub command_asked : List ℕ → List (List ℕ) → Option Asked
 command_asked command words =
     if bytes_eq command (codes "--help") then help_asked words
     else if bytes_eq command (codes "summary") then option_map Summary (summary_trace words)
+    else if bytes_eq command (codes "flame") then option_map Flame (flame_asked words)
     else None
 
 -- what words ask for, or nothing where they aren't taken
@@ -32,19 +37,21 @@ asked [] = None
 asked (command ∷ words) = command_asked command words
 
 -- whether the first word is one that the program knows
-abbrev pub knows_first : List (List ℕ) → Bool
+unfoldable pub knows_first : List (List ℕ) → Bool
 knows_first [] = false
-knows_first (command ∷ words) = bytes_eq command (codes "--help") || bytes_eq command (codes "summary")
+knows_first (command ∷ words) = bytes_eq command (codes "--help") || (bytes_eq command (codes "summary") || bytes_eq command (codes "flame"))
 
 -- the files that are read for it, in order
 abbrev pub names_of : Asked → List (List ℕ)
 names_of Help = []
 names_of (Summary trace) = trace ∷ []
+names_of (Flame flame) = flame.trace ∷ []
 
 -- what is done with them
 abbrev pub plan_of : Asked → Plan
 plan_of Help = Ends (Writes heapsuite_texts.usage)
 plan_of (Summary trace) = summary_plan trace
+plan_of (Flame flame) = flame_plan flame
 
 -- the files that words name, where they are taken
 abbrev pub names_asked : Option Asked → List (List ℕ)

@@ -5,6 +5,8 @@ pub mod SummaryReport
 pub mod Batch
 pub mod Texts
 pub mod SummaryWords
+pub mod FlameWords
+pub mod FlameReport
 pub mod Asked
 pub mod Requests
 pub mod Answer

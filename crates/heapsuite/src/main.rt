@@ -6,6 +6,7 @@
 
 mod batch;
 mod fault;
+mod flame_command;
 mod read_trace;
 mod run;
 mod run_words;
@@ -50,6 +51,8 @@ fn main(rt: HostRuntime) -> ExitCode {
     ExitCode::from(status)
 }
 
+#[cfg(test)]
+mod flame_tests;
 #[cfg(test)]
 mod refusal_tests;
 #[cfg(test)]

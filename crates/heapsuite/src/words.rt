@@ -3,6 +3,7 @@ ghost use Rattle.std.specs.Prelude.{◌≡◌, ◌≢◌, Err, IfOk, None, Some,
 ghost use Rattle.heapsuite.specs.Asked.{asked, help_asked, knows_first};
 ghost use Rattle.heapsuite.specs.Requests.{asked_of};
 
+use crate::flame_command::FlameRequest;
 use crate::summary_command::SummaryRequest;
 use command_words::WordsFault;
 use std::alloc::Global;
@@ -14,10 +15,13 @@ pub enum Request<'a> {
     Help,
     /// The figures of a trace.
     Summary(SummaryRequest<'a>),
+    /// The flame stacks of a trace.
+    Flame(FlameRequest<'a>),
 }
 
 /// What the words ask for. `NotTaken` exactly where they aren't taken, unless memory is wanting; none is taken for no
 /// words at all, or where the first is unknown.
+#[tactic(auto, unfolding(crate::specs::Asked::command_asked, crate::specs::Asked::knows_first))]
 pub fn read_words<'a>(alloc: Global, words: &'a [String]) -> Result<Request<'a>, WordsFault>
     ensures taken { IfOk result (λ request. asked (map string_bytes words.entry.now) ≡ Some (asked_of request)) }
     ensures refused { result ≡ Err WordsFault.NotTaken → asked (map string_bytes words.entry.now) ≡ None }
@@ -32,6 +36,10 @@ pub fn read_words<'a>(alloc: Global, words: &'a [String]) -> Result<Request<'a>,
     if command.as_str() == "summary" {
         let request = SummaryRequest::read(alloc, words)?;
         return Ok(Request::Summary(request));
+    }
+    if command.as_str() == "flame" {
+        let request = FlameRequest::read(alloc, words)?;
+        return Ok(Request::Flame(request));
     }
     Err(WordsFault::NotTaken)
 }

@@ -1,5 +1,5 @@
 -- Flame stacks: a line for each list of texts that some stacks have.
-use Rattle.std.specs.Prelude.{ℕ, zero, suc, ◌==◌, if◌then◌else◌, List, [], ◌∷◌, ◌++◌, codes, decimal, map}
+use Rattle.std.specs.Prelude.{ℕ, zero, suc, ◌==◌, if◌then◌else◌, List, [], ◌∷◌, ◌++◌, codes, ◌+◌, decimal, length, map}
 use Rattle.std.specs.List.{flat_map}
 use Rattle.cost_tree.specs.declared.direction.Direction.TheVariants.{FromRoot}
 use Rattle.cost_tree.specs.Costed.{Costed, costed}
@@ -8,6 +8,9 @@ use Rattle.cost_tree.specs.NextFronts.{next_fronts}
 use Rattle.cost_tree.specs.StackTexts.{lists_towards}
 use Rattle.ht_trace.specs.declared.frame.Style.TheVariants.{Plain}
 use Rattle.ht_trace.specs.TableState.{TableState}
+use Rattle.live_ledger.specs.declared.event.Event.{Event}
+use Rattle.ht_print.specs.declared.flame.FlameCost.{FlameCost}
+use Rattle.ht_print.specs.FlameCosts.{trace_costs}
 
 -- a colon for a semicolon, since semicolons stand between texts
 abbrev pub flame_byte : ℕ → ℕ
@@ -43,3 +46,7 @@ most_frames = 4096
 -- the lines of the stacks of a trace, whose texts are read from the outermost frame on
 unfoldable pub flame_text : TableState → List ℕ → List ℕ
 flame_text tables costs = flame_of most_frames (costed (lists_towards FromRoot Plain tables) costs) []
+
+-- the lines of a trace with these tables and events
+abbrev pub flame_of_trace : FlameCost → TableState → List Event → List ℕ
+flame_of_trace cost tables events = flame_text tables (trace_costs cost (length tables.nodes + 1) events)

@@ -1,9 +1,11 @@
 //! Flame stacks: for each list of texts that some stacks have, a line with what these stacks cost.
 //! How the lines of a tree are written is in `flame_lines`.
 ghost use Rattle.std.specs.Prelude.{◌≡◌, ℕ, ◌+◌, ◌^◌, ◌<◌, ◌≤◌, List, ◌++◌, length, OnErr, OnOk, Some, slice_get};
+ghost use Rattle.live_ledger.specs.declared.event.Event.{Event};
+ghost use Rattle.peak_costs.specs.Peak.{StandsFor};
 ghost use Rattle.peak_costs.specs.PeakState.{IsSound};
 ghost use Rattle.ht_print.specs.FlameCosts.{flame_costs};
-ghost use Rattle.ht_print.specs.FlameText.{flame_text};
+ghost use Rattle.ht_print.specs.FlameText.{flame_of_trace, flame_text};
 
 use crate::flame_lines::put_lines;
 use cost_tree::{CostTree, Costing, Direction};
@@ -42,6 +44,7 @@ pub fn put_flame(
 ) -> Result<(), NoMemory>
     requires as_many { peaks.now.ledger.stacks ≡ length tables.now.nodes + 1 }
     ensures appended { OnOk result (out.new.items ≡ out.old.items ++ flame_text tables.now (flame_costs cost peaks.now)) }
+    ensures trace { OnOk result ((events : List Event) → StandsFor peaks.now events → out.new.items ≡ out.old.items ++ flame_of_trace cost tables.now events) }
     ensures unchanged { OnErr result (out.new.items ≡ out.old.items) }
 {
     // Says what holds of all peaks.

@@ -1,12 +1,12 @@
-use Rattle.std.proofs.Common.{rules, ℕ, List, arith}
+use Rattle.std.proofs.Common.{rules, ℕ, List, ◌++◌, ◌∙◌, ap, arith}
 use Rattle.std.proofs.lemmas.Result.{on_ok_weaker}
 use Rattle.cost_tree.specs.declared.direction.Direction.TheVariants.{FromRoot}
 use Rattle.cost_tree.specs.Costed.{costed}
 use Rattle.cost_tree.specs.StackTexts.{lists_towards}
 use Rattle.ht_trace.specs.declared.frame.Style.TheVariants.{Plain}
-use Rattle.ht_print.specs.FlameCosts.{flame_costs}
+use Rattle.ht_print.specs.FlameCosts.{flame_costs, trace_costs}
 use Rattle.ht_print.specs.FlameText.{flame_text}
-use Rattle.ht_print.proofs.FlameFigures.{flame_costs-bound, flame_costs-count}
+use Rattle.ht_print.proofs.FlameFigures.{costs-of_trace, flame_costs-bound, flame_costs-count}
 use Rattle.ht_print.proofs.flame.put_flame.Goals as goal
 
 pub new-costing-requires : goal.new-costing-requires
@@ -69,3 +69,12 @@ returns-clause-appended c =
       cost = λ stack cost below says. search rules;
     }))))
     c.put_lines.ensures.appended
+
+pub returns-clause-trace : goal.returns-clause-trace
+returns-clause-trace c =
+    let sound = c.peak_total-total.ensures.sound in
+    on_ok_weaker c.put_lines.result
+    (λ put events stands.
+        put ∙ ap (λ (costs : List ℕ). c.args.out.now.items ++ flame_text c.args.tables.now costs)
+        (costs-of_trace c.args.cost c.args.peaks.now events sound stands ∙ ap (λ (stacks : ℕ). trace_costs c.args.cost stacks events) c.requires.as_many))
+    (returns-clause-appended c)
