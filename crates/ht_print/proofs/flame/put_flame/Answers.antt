@@ -75,6 +75,6 @@ returns-clause-trace c =
     let sound = c.peak_total-total.ensures.sound in
     on_ok_weaker c.put_lines.result
     (λ put events stands.
-        put ∙ ap (λ (costs : List ℕ). c.args.out.now.items ++ flame_text c.args.tables.now costs)
-        (costs-of_trace c.args.cost c.args.peaks.now events sound stands ∙ ap (λ (stacks : ℕ). trace_costs c.args.cost stacks events) c.requires.as_many))
+    put ∙ ap (λ (costs : List ℕ). c.args.out.now.items ++ flame_text c.args.tables.now costs)
+    (costs-of_trace c.args.cost c.args.peaks.now events sound stands ∙ ap (λ (stacks : ℕ). trace_costs c.args.cost stacks events) c.requires.as_many))
     (returns-clause-appended c)
