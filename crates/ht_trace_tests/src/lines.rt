@@ -14,18 +14,38 @@ pub fn read(rt: &impl Abort, tables: &mut Tables, line: &[u8]) -> Result<Step, L
 }
 
 /// Reads lines that bring nothing.
-pub fn read_all(rt: &impl Abort, tables: &mut Tables, lines: &[&[u8]]) -> Result<(), LineError> {
+fn read_all(rt: &impl Abort, tables: &mut Tables, lines: &[&[u8]]) -> Result<(), LineError> {
     for line in lines {
         assert_eq!(rt; read(rt, tables, line)?, Step::Nothing, "at {line:?}");
     }
     Ok(())
 }
 
+/// Reads the lines of a text, none of which is refused.
+pub fn read_lines(rt: &impl Abort, tables: &mut Tables, text: &[u8]) -> Result<(), LineError> {
+    for line in text.split(|byte| *byte == b'\n') {
+        read(rt, tables, line)?;
+    }
+    Ok(())
+}
+
 /// Reads lines, each with its answer.
-pub fn answers(rt: &impl Abort, tables: &mut Tables, lines: &[(&[u8], Result<Step, LineError>)]) {
+fn answers(rt: &impl Abort, tables: &mut Tables, lines: &[(&[u8], Result<Step, LineError>)]) {
     for (line, answer) in lines {
         assert_eq!(rt; read(rt, tables, line), *answer, "at {line:?}");
     }
+}
+
+/// Reads the lines of a text, each of which is refused with the fault at its place.
+fn refuses(rt: &impl Abort, tables: &mut Tables, text: &[u8], faults: &[LineError]) {
+    let mut lines = text.split(|byte| *byte == b'\n');
+    for fault in faults {
+        let Some(line) = lines.next() else {
+            panic!(rt; "no line for {fault:?}");
+        };
+        assert_eq!(rt; read(rt, tables, line), Err(*fault), "at {line:?}");
+    }
+    assert!(rt; lines.next().is_none());
 }
 
 /// Whether the trace may end here.
@@ -109,27 +129,29 @@ fn fills_the_tables(rt: HostRuntime) -> Result<(), Fail> {
 
 #[test]
 fn refuses_lines(rt: HostRuntime) -> Result<(), Fail> {
-    let lines: [(&[u8], Result<Step, LineError>); 17] = [
-        (b"v 10500 2", Err(LineError::SecondVersion)),
-        (b"v 10500 4", Err(LineError::BadVersion)),
-        (b"i 1 5", Err(LineError::UnknownString)),
-        (b"i 1 4 5", Err(LineError::UnknownString)),
-        (b"i 1 4 4 5 1", Err(LineError::UnknownString)),
-        (b"i 1 4 4 4 1 4 5 1", Err(LineError::UnknownString)),
-        (b"i 1 1 2 3", Err(LineError::MissingField)),
-        (b"t 3 0", Err(LineError::UnknownInstruction)),
-        (b"t 9 0", Err(LineError::UnknownInstruction)),
-        (b"t 9 5", Err(LineError::UnknownInstruction)),
-        (b"t 1 3", Err(LineError::UnknownParent)),
-        (b"t 1 5", Err(LineError::UnknownParent)),
-        (b"a 1 3", Err(LineError::UnknownTrace)),
-        (b"+ 2", Err(LineError::UnknownAllocation)),
-        (b"- 2", Err(LineError::UnknownAllocation)),
-        (b"+ 40 1 1000", Err(LineError::NotInterpreted)),
-        (b"+0", Err(LineError::BadField)),
+    let lines =
+        b"v 10500 2\nv 10500 4\ni 1 5\ni 1 4 5\ni 1 4 4 5 1\ni 1 4 4 4 1 4 5 1\ni 1 1 2 3\nt 3 0\nt 9 0\nt 9 5\nt 1 3\nt 1 5\na 1 3\n+ 2\n- 2\n+ 40 1 1000\n+0";
+    let faults = [
+        LineError::SecondVersion,
+        LineError::BadVersion,
+        LineError::UnknownString,
+        LineError::UnknownString,
+        LineError::UnknownString,
+        LineError::UnknownString,
+        LineError::MissingField,
+        LineError::UnknownInstruction,
+        LineError::UnknownInstruction,
+        LineError::UnknownInstruction,
+        LineError::UnknownParent,
+        LineError::UnknownParent,
+        LineError::UnknownTrace,
+        LineError::UnknownAllocation,
+        LineError::UnknownAllocation,
+        LineError::NotInterpreted,
+        LineError::BadField,
     ];
     let mut tables = worked_trace(&rt, rt.alloc())?;
-    answers(&rt, &mut tables, &lines);
+    refuses(&rt, &mut tables, lines, &faults);
     read_all(&rt, &mut tables, &[b"z what", b"", b"X other"])?;
     holds(&rt, &tables, 3, Some(b"demo"));
     has_info(&rt, &tables, 2, None);
