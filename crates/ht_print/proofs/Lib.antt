@@ -5,3 +5,10 @@ pub mod FlameLemmas
 pub mod FlameTrees
 pub mod FlameWalks
 pub mod FlameFigures
+pub mod EntryOrder
+pub mod EntryLists
+pub mod ReportLemmas
+pub mod GroupLemmas
+pub mod GroupTexts
+pub mod LeakLemmas
+pub mod ReportParts

@@ -6,3 +6,9 @@ pub mod Suppressed
 pub mod FlameCosts
 pub mod FlameText
 pub mod FlameWalk
+pub mod ReportOrder
+pub mod IsEntry
+pub mod ReportGroups
+pub mod ReportLines
+pub mod IsGroup
+pub mod ReportText

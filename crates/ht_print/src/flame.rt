@@ -62,7 +62,7 @@ pub fn put_flame(
 }
 
 /// What the stack costs.
-fn cost_of(cost: FlameCost, peaks: &Peaks, stack: u32) -> u64
+pub(crate) fn cost_of(cost: FlameCost, peaks: &Peaks, stack: u32) -> u64
     requires held { stack < peaks.now.ledger.stacks }
     requires sound { IsSound peaks.now }
     ensures { slice_get (flame_costs cost peaks.now) stack ≡ Some result }

@@ -3,6 +3,7 @@ ghost use Rattle.std.specs.Prelude.{◌≡◌, ◌≤◌, ◌<◌, ◌*◌, List
 ghost use Rattle.live_ledger.specs.declared.event.Event.{Event};
 ghost use Rattle.live_ledger.specs.LedgerState.{HeldInfo};
 ghost use Rattle.live_ledger.specs.StandsFor.{StandsFor};
+ghost use Rattle.ht_lines.specs.Extends.{Extends};
 ghost use Rattle.ht_trace.specs.LedgerFits.{IsBeside};
 ghost use Rattle.ht_print.specs.Histogram.{allocations_at, histogram_lines, histogram_text, is_in, large_ranges, range_line, small_ranges, weight};
 
@@ -18,6 +19,7 @@ pub fn put_histogram(ledger: &Ledger, tables: &Tables, out: &mut Vec<u8>) -> Res
     requires beside { IsBeside tables.now ledger.now }
     ensures appended { OnOk result ((events : List Event) → StandsFor ledger.now events → out.new.items ≡ out.old.items ++ histogram_text events) }
     ensures unchanged { OnErr result (out.new.items ≡ out.old.items) }
+    ensures kept { Extends out.old.items out.new.items }
 {
     sums_by_info();
     let before = out.len();

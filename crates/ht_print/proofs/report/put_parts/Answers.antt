@@ -1,0 +1,30 @@
+use Rattle.std.proofs.Common.{ℕ, ◌+◌, ◌++◌, List, [], cond, length, ap, ◌∙◌}
+use Rattle.std.proofs.lemmas.Result.{on_ok_weaker}
+use Rattle.ht_print.specs.FlameCosts.{trace_costs}
+use Rattle.ht_print.specs.Histogram.{histogram_text}
+use Rattle.ht_print.specs.ReportText.{first_sections, last_sections, report_of_trace}
+use Rattle.ht_print.specs.SummaryText.{summary_text}
+use Rattle.ht_print.proofs.FlameLemmas.{four-appended}
+use Rattle.ht_print.proofs.ReportParts.{first-are, last-are}
+use Rattle.ht_print.proofs.report.put_parts.Goals as goal
+
+pub returns-clause-appended : goal.returns-clause-appended
+unfolding report_of_trace
+returns-clause-appended c =
+    let options = c.args.options.now in
+    let tables = c.args.tables.now in
+    let peaks = c.args.peaks.now in
+    let out : List ℕ = c.args.out.now.items in
+    let sound = c.peak_total-total.ensures.sound in
+    let beside = c.requires.beside.stacks in
+    on_ok_weaker c.put_summary.result
+    (λ added events stands.
+    let first : List ℕ = first_sections options tables (λ cost. trace_costs cost (length tables.nodes + 1) events) in
+    let last : List ℕ = last_sections options tables (λ cost. trace_costs cost (length tables.nodes + 1) events) in
+    let histogram : List ℕ = cond options.histogram (histogram_text events) [] in
+    four-appended out c.put_first_sections.new.out.items c.put_last_sections.new.out.items c.put_wanted_histogram.new.out.items c.put_summary.new.out.items first last histogram (summary_text events)
+    (c.in_ok-put_first_sections.ensures.appended ∙ ap (λ (bytes : List ℕ). out ++ bytes) (first-are options tables peaks events sound stands beside))
+    (c.in_ok-put_last_sections.ensures.appended ∙ ap (λ (bytes : List ℕ). c.put_first_sections.new.out.items ++ bytes) (last-are options tables peaks events sound stands beside))
+    (c.in_ok-put_wanted_histogram.ensures.appended events stands)
+    (added events stands))
+    c.put_summary.ensures.appended

@@ -1,0 +1,78 @@
+-- Reports: up to four sections of a trace's stacks, the histogram, and the summary.
+use Rattle.std.specs.Prelude.{ℕ, ◌==◌, ◌+◌, Bool, List, [], ◌∷◌, ◌++◌, codes, decimal, length, sum, if◌then◌else◌}
+use Rattle.ht_trace.specs.TableState.{TableState}
+use Rattle.live_ledger.specs.declared.event.Event.{Event}
+use Rattle.ht_print.specs.declared.entry.Entry.{Entry}
+use Rattle.ht_print.specs.declared.flame.FlameCost.{FlameCost}
+use Rattle.ht_print.specs.declared.flame.FlameCost.TheVariants as figure
+use Rattle.ht_print.specs.declared.options.PrintOptions.{PrintOptions}
+use Rattle.ht_print.specs.declared.scale.Scale.{Scale}
+use Rattle.ht_print.specs.declared.scale.Unit.{Unit}
+use Rattle.ht_print.specs.declared.scale.Unit.TheVariants.{Calls, Bytes, Temporary}
+use Rattle.ht_print.specs.FlameCosts.{trace_costs}
+use Rattle.ht_print.specs.Histogram.{histogram_text}
+use Rattle.ht_print.specs.ReportLines.{merged_lines, unmerged_lines}
+use Rattle.ht_print.specs.ReportOrder.{ordered_stacks}
+use Rattle.ht_print.specs.SummaryText.{summary_text}
+use Rattle.ht_print.specs.Suppressed.{suppressed_stacks}
+
+-- the figures with a 0 for each stack that is suppressed, and with a 0 for each that isn't
+abbrev pub unsuppressed : List Bool → List ℕ → List ℕ
+unsuppressed [] figures = []
+unsuppressed (is ∷ more) [] = []
+unsuppressed (is ∷ more) (figure ∷ figures) = (if is then 0 else figure) ∷ unsuppressed more figures
+
+abbrev pub suppressed_figures : List Bool → List ℕ → List ℕ
+suppressed_figures [] figures = []
+suppressed_figures (is ∷ more) [] = []
+suppressed_figures (is ∷ more) (figure ∷ figures) = (if is then figure else 0) ∷ suppressed_figures more figures
+
+-- the stacks that have a figure, in groups or by themselves
+unfoldable pub stacks_text : PrintOptions → TableState → Scale → List Entry → List ℕ
+stacks_text options tables scale [] = codes "(none)\n"
+stacks_text options tables scale (entry ∷ more) =
+    if options.merge
+    then merged_lines tables scale options.limit options.sub_limit (entry ∷ more)
+    else unmerged_lines tables scale options.limit (entry ∷ more)
+
+-- the lines of a section with the figures of all stacks
+unfoldable pub section_lines : PrintOptions → TableState → Unit → List ℕ → List ℕ
+section_lines options tables unit figures =
+    stacks_text options tables (record { unit = unit; total = sum figures }) (ordered_stacks figures)
+
+-- a section: its heading, its lines, and an empty line
+unfoldable pub section_text : PrintOptions → TableState → List ℕ → Unit → List ℕ → List ℕ
+section_text options tables heading unit figures = heading ++ (section_lines options tables unit figures ++ codes "\n")
+
+-- how many bytes the suppressed stacks have, where they have some
+unfoldable pub suppressed_line : ℕ → List ℕ
+suppressed_line bytes = if bytes == 0 then [] else codes "suppressed: " ++ (decimal bytes ++ codes " bytes\n")
+
+-- the section of leaks with what each stack has live at the end: that of a suppressed stack is told in one line with the
+-- others
+unfoldable pub leaks_text : PrintOptions → TableState → List ℕ → List ℕ
+leaks_text options tables live =
+    codes "MEMORY LEAKS\n" ++
+    (section_lines options tables Bytes (unsuppressed (suppressed_stacks tables) live) ++
+    (suppressed_line (sum (suppressed_figures (suppressed_stacks tables) live)) ++
+    codes "\n"))
+
+-- the sections of calls and of the peak
+unfoldable pub first_sections : PrintOptions → TableState → (FlameCost → List ℕ) → List ℕ
+first_sections options tables figures =
+    (if options.allocators then section_text options tables (codes "MOST CALLS TO ALLOCATION FUNCTIONS\n") Calls (figures figure.Allocations) else []) ++
+    (if options.peaks then section_text options tables (codes "PEAK MEMORY CONSUMERS\n") Bytes (figures figure.Peak) else [])
+
+-- the sections of leaks and of temporary allocations
+unfoldable pub last_sections : PrintOptions → TableState → (FlameCost → List ℕ) → List ℕ
+last_sections options tables figures =
+    (if options.leaks then leaks_text options tables (figures figure.Leaked) else []) ++
+    (if options.temporary then section_text options tables (codes "MOST TEMPORARY ALLOCATIONS\n") Temporary (figures figure.Temporary) else [])
+
+-- the report on a trace with these tables and events
+unfoldable pub report_of_trace : PrintOptions → TableState → List Event → List ℕ
+report_of_trace options tables events =
+    first_sections options tables (λ cost. trace_costs cost (length tables.nodes + 1) events) ++
+    (last_sections options tables (λ cost. trace_costs cost (length tables.nodes + 1) events) ++
+    ((if options.histogram then histogram_text events else []) ++
+    summary_text events))

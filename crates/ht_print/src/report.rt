@@ -1,0 +1,238 @@
+//! Reports on a trace: up to four sections of its stacks by some figure, the histogram, and the summary.
+//! How a section is written is in `section`.
+#![tactic(auto, using(crate::proofs::FlameLemmas::extends_same, crate::proofs::FlameLemmas::extends_more, crate::proofs::FlameLemmas::extends_trans))]
+
+ghost use Rattle.std.specs.Prelude.{◌≡◌, ℕ, ◌+◌, ◌^◌, ◌<◌, ◌≤◌, List, [], ◌++◌, codes, if◌then◌else◌, length, sum, IfOk, OnErr, OnOk};
+ghost use Rattle.live_ledger.specs.declared.event.Event.{Event};
+ghost use Rattle.ht_lines.specs.Extends.{Extends};
+ghost use Rattle.ht_trace.specs.LedgerFits.{IsBeside};
+ghost use Rattle.peak_costs.specs.Peak.{StandsFor};
+ghost use Rattle.peak_costs.specs.PeakState.{IsSound};
+ghost use Rattle.ht_print.specs.FlameCosts.{flame_costs};
+ghost use Rattle.ht_print.specs.Histogram.{histogram_text};
+ghost use Rattle.ht_print.specs.ReportText.{first_sections, last_sections, leaks_text, report_of_trace, section_text};
+ghost use Rattle.ht_print.specs.SummaryText.{summary_text};
+ghost use Rattle.ht_print.specs.Suppressed.{suppressed_stacks};
+
+use crate::flame::{FlameCost, cost_of};
+use crate::histogram::put_histogram;
+use crate::options::PrintOptions;
+use crate::scale::Unit;
+use crate::section::{put_leaks, put_section};
+use crate::summary::put_summary;
+use crate::suppressed::Suppressed;
+use hp_num::NoMemory;
+use ht_trace::Tables;
+use peak_costs::Peaks;
+use std::alloc::Global;
+
+/// Appends the report on a trace: the sections that the options ask for, the histogram where they do, and the summary.
+///
+/// The peaks' ledger and the tables hold the same stacks and infos, and `suppressed` was built of these tables. On
+/// `NoMemory`, `out` holds what it held before.
+pub fn put_report(
+    alloc: Global,
+    options: &PrintOptions,
+    tables: &Tables,
+    peaks: &Peaks,
+    suppressed: &Suppressed,
+    out: &mut Vec<u8>,
+) -> Result<(), NoMemory>
+    requires beside { IsBeside tables.now peaks.now.ledger }
+    requires suppressed { suppressed.now ≡ suppressed_stacks tables.now }
+    ensures appended { OnOk result ((events : List Event) → StandsFor peaks.now events → out.new.items ≡ out.old.items ++ report_of_trace options.now tables.now events) }
+    ensures unchanged { OnErr result (out.new.items ≡ out.old.items) }
+{
+    let before = out.len();
+    let put = put_parts(alloc, options, tables, peaks, suppressed, out);
+    if put.is_err() {
+        out.truncate(before);
+    }
+    put
+}
+
+/// Appends the report, or a part of it.
+fn put_parts(
+    alloc: Global,
+    options: &PrintOptions,
+    tables: &Tables,
+    peaks: &Peaks,
+    suppressed: &Suppressed,
+    out: &mut Vec<u8>,
+) -> Result<(), NoMemory>
+    requires beside { IsBeside tables.now peaks.now.ledger }
+    requires suppressed { suppressed.now ≡ suppressed_stacks tables.now }
+    ensures appended { OnOk result ((events : List Event) → StandsFor peaks.now events → out.new.items ≡ out.old.items ++ report_of_trace options.now tables.now events) }
+    ensures kept { OnErr result (Extends out.old.items out.new.items) }
+{
+    // Says what holds of all peaks.
+    let _total = peaks.peak_total();
+    put_first_sections(alloc, options, tables, peaks, out)?;
+    put_last_sections(alloc, options, tables, peaks, suppressed, out)?;
+    put_wanted_histogram(options, tables, peaks, out)?;
+    put_summary(peaks, out)
+}
+
+/// Appends the sections of calls and of the peak, where they are asked for.
+#[tactic(auto, unfolding(crate::specs::ReportText::first_sections))]
+fn put_first_sections(
+    alloc: Global,
+    options: &PrintOptions,
+    tables: &Tables,
+    peaks: &Peaks,
+    out: &mut Vec<u8>,
+) -> Result<(), NoMemory>
+    requires beside { IsBeside tables.now peaks.now.ledger }
+    requires sound { IsSound peaks.now }
+    ensures appended { OnOk result (out.new.items ≡ out.old.items ++ first_sections options.now tables.now (λ cost. flame_costs cost peaks.now)) }
+    ensures kept { Extends out.old.items out.new.items }
+{
+    put_calls(alloc, options, tables, peaks, out)?;
+    put_peak(alloc, options, tables, peaks, out)
+}
+
+/// Appends the sections of leaks and of temporary allocations, where they are asked for.
+#[tactic(auto, unfolding(crate::specs::ReportText::last_sections))]
+fn put_last_sections(
+    alloc: Global,
+    options: &PrintOptions,
+    tables: &Tables,
+    peaks: &Peaks,
+    suppressed: &Suppressed,
+    out: &mut Vec<u8>,
+) -> Result<(), NoMemory>
+    requires beside { IsBeside tables.now peaks.now.ledger }
+    requires sound { IsSound peaks.now }
+    requires suppressed { suppressed.now ≡ suppressed_stacks tables.now }
+    ensures appended { OnOk result (out.new.items ≡ out.old.items ++ last_sections options.now tables.now (λ cost. flame_costs cost peaks.now)) }
+    ensures kept { Extends out.old.items out.new.items }
+{
+    put_wanted_leaks(alloc, options, tables, peaks, suppressed, out)?;
+    put_temporary(alloc, options, tables, peaks, out)
+}
+
+/// Appends the section of calls, where it is asked for.
+fn put_calls(
+    alloc: Global,
+    options: &PrintOptions,
+    tables: &Tables,
+    peaks: &Peaks,
+    out: &mut Vec<u8>,
+) -> Result<(), NoMemory>
+    requires beside { IsBeside tables.now peaks.now.ledger }
+    requires sound { IsSound peaks.now }
+    ensures appended { OnOk result (out.new.items ≡ out.old.items ++ (if options.now.allocators then section_text options.now tables.now (codes "MOST CALLS TO ALLOCATION FUNCTIONS\n") Unit.Calls (flame_costs FlameCost.Allocations peaks.now) else [])) }
+    ensures kept { Extends out.old.items out.new.items }
+{
+    if !options.allocators {
+        return Ok(());
+    }
+    let heading = b"MOST CALLS TO ALLOCATION FUNCTIONS\n";
+    let calls = costs(alloc, FlameCost::Allocations, peaks)?;
+    put_section(alloc, options, tables, heading, Unit::Calls, &calls, out)
+}
+
+/// Appends the section of what is live at the peak, where it is asked for.
+fn put_peak(
+    alloc: Global,
+    options: &PrintOptions,
+    tables: &Tables,
+    peaks: &Peaks,
+    out: &mut Vec<u8>,
+) -> Result<(), NoMemory>
+    requires beside { IsBeside tables.now peaks.now.ledger }
+    requires sound { IsSound peaks.now }
+    ensures appended { OnOk result (out.new.items ≡ out.old.items ++ (if options.now.peaks then section_text options.now tables.now (codes "PEAK MEMORY CONSUMERS\n") Unit.Bytes (flame_costs FlameCost.Peak peaks.now) else [])) }
+    ensures kept { Extends out.old.items out.new.items }
+{
+    if !options.peaks {
+        return Ok(());
+    }
+    let heading = b"PEAK MEMORY CONSUMERS\n";
+    let shares = costs(alloc, FlameCost::Peak, peaks)?;
+    put_section(alloc, options, tables, heading, Unit::Bytes, &shares, out)
+}
+
+/// Appends the section of leaks, where it is asked for.
+fn put_wanted_leaks(
+    alloc: Global,
+    options: &PrintOptions,
+    tables: &Tables,
+    peaks: &Peaks,
+    suppressed: &Suppressed,
+    out: &mut Vec<u8>,
+) -> Result<(), NoMemory>
+    requires beside { IsBeside tables.now peaks.now.ledger }
+    requires sound { IsSound peaks.now }
+    requires suppressed { suppressed.now ≡ suppressed_stacks tables.now }
+    ensures appended { OnOk result (out.new.items ≡ out.old.items ++ (if options.now.leaks then leaks_text options.now tables.now (flame_costs FlameCost.Leaked peaks.now) else [])) }
+    ensures kept { Extends out.old.items out.new.items }
+{
+    if !options.leaks {
+        return Ok(());
+    }
+    let live = costs(alloc, FlameCost::Leaked, peaks)?;
+    put_leaks(alloc, options, tables, suppressed, &live, out)
+}
+
+/// Appends the section of temporary allocations, where it is asked for.
+fn put_temporary(
+    alloc: Global,
+    options: &PrintOptions,
+    tables: &Tables,
+    peaks: &Peaks,
+    out: &mut Vec<u8>,
+) -> Result<(), NoMemory>
+    requires beside { IsBeside tables.now peaks.now.ledger }
+    requires sound { IsSound peaks.now }
+    ensures appended { OnOk result (out.new.items ≡ out.old.items ++ (if options.now.temporary then section_text options.now tables.now (codes "MOST TEMPORARY ALLOCATIONS\n") Unit.Temporary (flame_costs FlameCost.Temporary peaks.now) else [])) }
+    ensures kept { Extends out.old.items out.new.items }
+{
+    if !options.temporary {
+        return Ok(());
+    }
+    let heading = b"MOST TEMPORARY ALLOCATIONS\n";
+    let temporary = costs(alloc, FlameCost::Temporary, peaks)?;
+    put_section(
+        alloc,
+        options,
+        tables,
+        heading,
+        Unit::Temporary,
+        &temporary,
+        out,
+    )
+}
+
+/// Appends the histogram, where it is asked for.
+fn put_wanted_histogram(
+    options: &PrintOptions,
+    tables: &Tables,
+    peaks: &Peaks,
+    out: &mut Vec<u8>,
+) -> Result<(), NoMemory>
+    requires beside { IsBeside tables.now peaks.now.ledger }
+    ensures appended { OnOk result ((events : List Event) → StandsFor peaks.now events → out.new.items ≡ out.old.items ++ (if options.now.histogram then histogram_text events else [])) }
+    ensures kept { Extends out.old.items out.new.items }
+{
+    if !options.histogram {
+        return Ok(());
+    }
+    put_histogram(peaks.ledger(), tables, out)
+}
+
+/// What each stack costs, by number, or `NoMemory`.
+fn costs(alloc: Global, cost: FlameCost, peaks: &Peaks) -> Result<Vec<u64>, NoMemory>
+    requires sound { IsSound peaks.now }
+    ensures costs { IfOk result (λ costs. costs.items ≡ flame_costs cost peaks.now) }
+    ensures count { IfOk result (λ costs. length costs.items ≡ peaks.now.ledger.stacks) }
+    ensures few { IfOk result (λ costs. length costs.items < 2 ^ 32) }
+    ensures bound { IfOk result (λ costs. sum costs.items ≤ 2 ^ 62) }
+{
+    let stacks = peaks.ledger().stacks();
+    let mut costs = Vec::with_capacity(alloc, stacks as usize)?;
+    'each_stack: for stack in 0..stacks {
+        costs.push(cost_of(cost, peaks, stack))?;
+    }
+    Ok(costs)
+}

@@ -1,0 +1,201 @@
+//! The lines of a report's stacks and groups, each from its figure to its last frame, and how many are left.
+//! What the figures are, and in which order the entries stand, is no part of it.
+#![tactic(auto, using(crate::proofs::FlameLemmas::extends_same, crate::proofs::FlameLemmas::extends_more, crate::proofs::FlameLemmas::extends_trans))]
+
+ghost use Rattle.std.specs.Prelude.{◌≡◌, ℕ, ◌++◌, ◌-◌, ◌<◌, ◌≤◌, All, codes, length, map, take, OnOk};
+ghost use Rattle.std.specs.List.{flat_map};
+ghost use Rattle.cost_tree.specs.StackTexts.{stack_texts};
+ghost use Rattle.ht_lines.specs.Extends.{Extends};
+ghost use Rattle.ht_trace.specs.FrameText.{frame_text};
+ghost use Rattle.ht_trace.specs.IsFrame.{IsFrame};
+ghost use Rattle.ht_trace.specs.declared.frame.Style.TheVariants.{Plain};
+ghost use Rattle.ht_print.specs.IsEntry.{IsEntry};
+ghost use Rattle.ht_print.specs.ReportGroups.{place_of};
+ghost use Rattle.ht_print.specs.ReportLines.{frame_lines, group_lines, in_stack, left_line, member_lines, members_lines, place_line, stack_lines, unmerged_lines};
+
+use crate::entry::Entry;
+use crate::scale::Scale;
+use hp_num::{NoMemory, put_bytes, put_dec};
+use ht_trace::{FrameAt, Style, Tables};
+
+/// Of some entries the first ones up to a number, and how many are left.
+pub(crate) fn split_shown<T>(entries: &[T], limit: u32) -> (&[T], usize)
+    ensures shown { result.0.now ≡ take limit entries.now }
+    ensures left { result.1 ≡ length entries.now - limit }
+{
+    let (shown, left) = entries.split_at(entries.len().min(limit as usize));
+    (shown, left.len())
+}
+
+/// Appends how many entries are left, where some are.
+#[tactic(auto, unfolding(crate::specs::ReportLines::left_line))]
+pub(crate) fn put_left(label: &[u8], left: usize, out: &mut Vec<u8>) -> Result<(), NoMemory>
+    ensures appended { OnOk result (out.new.items ≡ out.old.items ++ left_line label.now left) }
+    ensures kept { Extends out.old.items out.new.items }
+{
+    if left == 0 {
+        return Ok(());
+    }
+    put_bytes(out, label)?;
+    put_dec(out, left as u64)?;
+    put_bytes(out, b"\n")
+}
+
+/// Appends the first stacks, each by itself, and how many are left. `frames` is a buffer.
+pub(crate) fn put_stacks(
+    tables: &Tables,
+    scale: Scale,
+    limit: u32,
+    stacks: &[Entry],
+    frames: &mut Vec<FrameAt>,
+    out: &mut Vec<u8>,
+) -> Result<(), NoMemory>
+    requires entries { All (IsEntry tables.now scale.total) stacks.now }
+    ensures appended { OnOk result (out.new.items ≡ out.old.items ++ unmerged_lines tables.now scale limit stacks.now) }
+    ensures kept { Extends out.old.items out.new.items }
+{
+    let (shown, left) = split_shown(stacks, limit);
+    'each_stack: for stack in shown {
+        put_stack(tables, scale, *stack, frames, out)?;
+    }
+    put_left(b"more stacks: ", left, out)
+}
+
+/// Appends a stack that stands by itself. `frames` is a buffer.
+#[tactic(auto, unfolding(crate::specs::ReportLines::stack_lines))]
+fn put_stack(
+    tables: &Tables,
+    scale: Scale,
+    stack: Entry,
+    frames: &mut Vec<FrameAt>,
+    out: &mut Vec<u8>,
+) -> Result<(), NoMemory>
+    requires entry { IsEntry tables.now scale.total stack }
+    ensures appended { OnOk result (out.new.items ≡ out.old.items ++ stack_lines scale (stack_texts Plain tables.now stack.stack) stack) }
+    ensures kept { Extends out.old.items out.new.items }
+{
+    tables.frames_into(stack.stack, frames)?;
+    let Some((innermost, others)) = frames.split_first() else {
+        return Ok(());
+    };
+    scale.put(stack.figure, out)?;
+    put_bytes(out, b" at ")?;
+    tables.put_frame(innermost, Style::Plain, out)?;
+    put_in_stack(stack.stack, out)?;
+    put_frames(tables, b"  ", others, out)
+}
+
+/// Appends a group: its figure and its place, which is that of the stack, its first members, and how many are left. `frames`
+/// is a buffer.
+pub(crate) fn put_group(
+    tables: &Tables,
+    scale: Scale,
+    limit: u32,
+    group: Entry,
+    members: &[Entry],
+    frames: &mut Vec<FrameAt>,
+    out: &mut Vec<u8>,
+) -> Result<(), NoMemory>
+    requires entry { IsEntry tables.now scale.total group }
+    requires members { All (IsEntry tables.now scale.total) members.now }
+    ensures appended { OnOk result (out.new.items ≡ out.old.items ++ group_lines tables.now scale limit (place_of tables.now group.stack) members.now group.figure) }
+    ensures kept { Extends out.old.items out.new.items }
+{
+    put_place(tables, scale, group, frames, out)?;
+    put_members(tables, scale, limit, members, frames, out)
+}
+
+/// Appends the line of a group. `frames` is a buffer.
+fn put_place(
+    tables: &Tables,
+    scale: Scale,
+    group: Entry,
+    frames: &mut Vec<FrameAt>,
+    out: &mut Vec<u8>,
+) -> Result<(), NoMemory>
+    requires entry { IsEntry tables.now scale.total group }
+    ensures appended { OnOk result (out.new.items ≡ out.old.items ++ place_line scale (place_of tables.now group.stack) group.figure) }
+    ensures kept { Extends out.old.items out.new.items }
+{
+    tables.frames_into(group.stack, frames)?;
+    let Some((innermost, _)) = frames.split_first() else {
+        return Ok(());
+    };
+    scale.put(group.figure, out)?;
+    put_bytes(out, b" at ")?;
+    tables.put_frame(innermost, Style::Plain, out)?;
+    put_bytes(out, b"\n")
+}
+
+/// Appends the first stacks of a group, and how many are left. `frames` is a buffer.
+fn put_members(
+    tables: &Tables,
+    scale: Scale,
+    limit: u32,
+    members: &[Entry],
+    frames: &mut Vec<FrameAt>,
+    out: &mut Vec<u8>,
+) -> Result<(), NoMemory>
+    requires members { All (IsEntry tables.now scale.total) members.now }
+    ensures appended { OnOk result (out.new.items ≡ out.old.items ++ members_lines tables.now scale limit members.now) }
+    ensures kept { Extends out.old.items out.new.items }
+{
+    let (shown, left) = split_shown(members, limit);
+    'each_member: for member in shown {
+        put_member(tables, scale, *member, frames, out)?;
+    }
+    put_left(b"  more stacks: ", left, out)
+}
+
+/// Appends a stack of a group. `frames` is a buffer.
+#[tactic(auto, unfolding(crate::specs::ReportLines::member_lines))]
+fn put_member(
+    tables: &Tables,
+    scale: Scale,
+    member: Entry,
+    frames: &mut Vec<FrameAt>,
+    out: &mut Vec<u8>,
+) -> Result<(), NoMemory>
+    requires entry { IsEntry tables.now scale.total member }
+    ensures appended { OnOk result (out.new.items ≡ out.old.items ++ member_lines scale (stack_texts Plain tables.now member.stack) member) }
+    ensures kept { Extends out.old.items out.new.items }
+{
+    tables.frames_into(member.stack, frames)?;
+    let Some((_, others)) = frames.split_first() else {
+        return Ok(());
+    };
+    put_bytes(out, b"  ")?;
+    scale.put(member.figure, out)?;
+    put_in_stack(member.stack, out)?;
+    put_frames(tables, b"    ", others, out)
+}
+
+/// Appends the number of a stack.
+#[tactic(auto, unfolding(crate::specs::ReportLines::in_stack))]
+fn put_in_stack(stack: u32, out: &mut Vec<u8>) -> Result<(), NoMemory>
+    ensures appended { OnOk result (out.new.items ≡ out.old.items ++ in_stack stack) }
+    ensures kept { Extends out.old.items out.new.items }
+{
+    put_bytes(out, b" in stack ")?;
+    put_dec(out, u64::from(stack))?;
+    put_bytes(out, b"\n")
+}
+
+/// Appends a line for each frame, with blanks before it.
+fn put_frames(
+    tables: &Tables,
+    blanks: &[u8],
+    frames: &[FrameAt],
+    out: &mut Vec<u8>,
+) -> Result<(), NoMemory>
+    requires frames { All (λ at. IsFrame tables.now at) frames.now }
+    ensures appended { OnOk result (out.new.items ≡ out.old.items ++ frame_lines blanks.now (map (frame_text Plain tables.now) frames.now)) }
+    ensures kept { Extends out.old.items out.new.items }
+{
+    'each_frame: for at in frames {
+        put_bytes(out, blanks)?;
+        tables.put_frame(at, Style::Plain, out)?;
+        put_bytes(out, b"\n")?;
+    }
+    Ok(())
+}

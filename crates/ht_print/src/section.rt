@@ -1,0 +1,210 @@
+//! The sections of a report: the stacks by one figure each, in groups or by themselves.
+#![tactic(auto, using(crate::proofs::FlameLemmas::extends_same, crate::proofs::FlameLemmas::extends_more, crate::proofs::FlameLemmas::extends_trans))]
+
+ghost use Rattle.std.specs.Prelude.{◌≡◌, ℕ, ◌++◌, ◌-◌, ◌+◌, ◌^◌, ◌<◌, ◌≤◌, All, if◌then◌else◌, IfOk, OnOk, length, map, sum, sum_by, take};
+ghost use Rattle.std.specs.List.{flat_map};
+ghost use Rattle.ht_lines.specs.Extends.{Extends};
+ghost use Rattle.ht_print.specs.IsEntry.{IsEntry};
+ghost use Rattle.ht_print.specs.IsGroup.{IsWritable, groups_lines};
+ghost use Rattle.ht_print.specs.ReportLines.{merged_lines};
+ghost use Rattle.ht_print.specs.ReportText.{leaks_text, section_lines, section_text, stacks_text, suppressed_figures, suppressed_line, unsuppressed};
+ghost use Rattle.ht_print.specs.Suppressed.{suppressed_stacks};
+
+use crate::entry::{Entry, ordered_stacks};
+use crate::groups::{Group, ordered_groups};
+use crate::options::PrintOptions;
+use crate::report_lines::{put_group, put_left, put_stacks, split_shown};
+use crate::scale::{Scale, Unit};
+use crate::suppressed::Suppressed;
+use hp_num::{NoMemory, put_bytes, put_dec};
+use ht_trace::Tables;
+use std::alloc::Global;
+
+/// Appends a section with the figures of all stacks: its heading, its stacks, and an empty line.
+#[tactic(auto, unfolding(crate::specs::ReportText::section_text))]
+pub(crate) fn put_section(
+    alloc: Global,
+    options: &PrintOptions,
+    tables: &Tables,
+    heading: &[u8],
+    unit: Unit,
+    figures: &[u64],
+    out: &mut Vec<u8>,
+) -> Result<(), NoMemory>
+    requires as_many { length figures.now ≡ length tables.now.nodes + 1 }
+    requires few { length figures.now < 2 ^ 32 }
+    requires bound { sum figures.now ≤ 2 ^ 62 }
+    ensures appended { OnOk result (out.new.items ≡ out.old.items ++ section_text options.now tables.now heading.now unit figures.now) }
+    ensures kept { Extends out.old.items out.new.items }
+{
+    put_bytes(out, heading)?;
+    put_figures(alloc, options, tables, unit, figures, out)?;
+    put_bytes(out, b"\n")
+}
+
+/// Appends the section of leaks with what each stack has live at the end.
+#[tactic(auto, unfolding(crate::specs::ReportText::leaks_text))]
+pub(crate) fn put_leaks(
+    alloc: Global,
+    options: &PrintOptions,
+    tables: &Tables,
+    suppressed: &Suppressed,
+    live: &[u64],
+    out: &mut Vec<u8>,
+) -> Result<(), NoMemory>
+    requires as_many { length live.now ≡ length tables.now.nodes + 1 }
+    requires few { length live.now < 2 ^ 32 }
+    requires suppressed { suppressed.now ≡ suppressed_stacks tables.now }
+    requires bound { sum live.now ≤ 2 ^ 62 }
+    ensures appended { OnOk result (out.new.items ≡ out.old.items ++ leaks_text options.now tables.now live.now) }
+    ensures kept { Extends out.old.items out.new.items }
+{
+    let leaks = unsuppressed(alloc, suppressed, live)?;
+    put_bytes(out, b"MEMORY LEAKS\n")?;
+    put_figures(alloc, options, tables, Unit::Bytes, &leaks, out)?;
+    put_suppressed(sum_of(live) - sum_of(&leaks), out)?;
+    put_bytes(out, b"\n")
+}
+
+/// The figures with a 0 for each stack that is suppressed, or `NoMemory`.
+fn unsuppressed(
+    alloc: Global,
+    suppressed: &Suppressed,
+    figures: &[u64],
+) -> Result<Vec<u64>, NoMemory>
+    requires as_many { length figures.now ≡ length suppressed.now }
+    requires few { length figures.now < 2 ^ 32 }
+    ensures figures { IfOk result (λ kept. kept.items ≡ unsuppressed suppressed.now figures.now) }
+{
+    let mut kept = Vec::with_capacity(alloc, figures.len())?;
+    'each_stack: for stack in 0..figures.len() {
+        kept.push(unsuppressed_figure(suppressed.has(stack as u32), figures[stack]))?;
+    }
+    Ok(kept)
+}
+
+/// The figure of a stack, where it isn't suppressed, else 0.
+fn unsuppressed_figure(is_suppressed: bool, figure: u64) -> u64
+    ensures { result ≡ (if is_suppressed then 0 else figure) }
+{
+    if is_suppressed { 0 } else { figure }
+}
+
+/// Appends how many bytes suppressed stacks have, where they have some.
+#[tactic(auto, unfolding(crate::specs::ReportText::suppressed_line))]
+fn put_suppressed(bytes: u64, out: &mut Vec<u8>) -> Result<(), NoMemory>
+    ensures appended { OnOk result (out.new.items ≡ out.old.items ++ suppressed_line bytes) }
+    ensures kept { Extends out.old.items out.new.items }
+{
+    if bytes == 0 {
+        return Ok(());
+    }
+    put_bytes(out, b"suppressed: ")?;
+    put_dec(out, bytes)?;
+    put_bytes(out, b" bytes\n")
+}
+
+/// Appends the stacks that have a figure, or that none has.
+fn put_figures(
+    alloc: Global,
+    options: &PrintOptions,
+    tables: &Tables,
+    unit: Unit,
+    figures: &[u64],
+    out: &mut Vec<u8>,
+) -> Result<(), NoMemory>
+    requires as_many { length figures.now ≡ length tables.now.nodes + 1 }
+    requires few { length figures.now < 2 ^ 32 }
+    requires bound { sum figures.now ≤ 2 ^ 62 }
+    ensures appended { OnOk result (out.new.items ≡ out.old.items ++ section_lines options.now tables.now unit figures.now) }
+    ensures kept { Extends out.old.items out.new.items }
+{
+    let scale = Scale {
+        unit,
+        total: sum_of(figures),
+    };
+    let stacks = ordered_stacks(alloc, figures)?;
+    put_entries(alloc, options, tables, scale, &stacks, out)
+}
+
+/// The sum of the figures.
+fn sum_of(figures: &[u64]) -> u64
+    requires { sum figures.now ≤ 2 ^ 62 }
+    ensures { result ≡ sum figures.now }
+{
+    figures.iter().sum()
+}
+
+/// Appends the stacks, which are in order.
+#[tactic(auto, unfolding(crate::specs::ReportText::stacks_text))]
+fn put_entries(
+    alloc: Global,
+    options: &PrintOptions,
+    tables: &Tables,
+    scale: Scale,
+    stacks: &[Entry],
+    out: &mut Vec<u8>,
+) -> Result<(), NoMemory>
+    requires entries { All (IsEntry tables.now scale.total) stacks.now }
+    requires within { sum_by (λ stack. stack.figure) stacks.now ≤ scale.total }
+    requires bound { scale.total ≤ 2 ^ 62 }
+    ensures appended { OnOk result (out.new.items ≡ out.old.items ++ stacks_text options.now tables.now scale stacks.now) }
+    ensures kept { Extends out.old.items out.new.items }
+{
+    if stacks.is_empty() {
+        return put_bytes(out, b"(none)\n");
+    }
+    if options.merge {
+        return put_merged(alloc, options, tables, scale, stacks, out);
+    }
+    let mut frames = Vec::new(alloc);
+    put_stacks(tables, scale, options.limit, stacks, &mut frames, out)
+}
+
+/// Appends the groups of the stacks.
+fn put_merged(
+    alloc: Global,
+    options: &PrintOptions,
+    tables: &Tables,
+    scale: Scale,
+    stacks: &[Entry],
+    out: &mut Vec<u8>,
+) -> Result<(), NoMemory>
+    requires entries { All (IsEntry tables.now scale.total) stacks.now }
+    requires within { sum_by (λ stack. stack.figure) stacks.now ≤ scale.total }
+    requires bound { scale.total ≤ 2 ^ 62 }
+    ensures appended { OnOk result (out.new.items ≡ out.old.items ++ merged_lines tables.now scale options.now.limit options.now.sub_limit stacks.now) }
+    ensures kept { Extends out.old.items out.new.items }
+{
+    let groups = ordered_groups(alloc, tables, stacks)?;
+    put_groups(alloc, options, tables, scale, &groups, out)
+}
+
+/// Appends the first groups, and how many are left.
+fn put_groups(
+    alloc: Global,
+    options: &PrintOptions,
+    tables: &Tables,
+    scale: Scale,
+    groups: &[Group],
+    out: &mut Vec<u8>,
+) -> Result<(), NoMemory>
+    requires groups { All (IsWritable tables.now scale.total) groups.now }
+    ensures appended { OnOk result (out.new.items ≡ out.old.items ++ groups_lines tables.now scale options.now.limit options.now.sub_limit groups.now) }
+    ensures kept { Extends out.old.items out.new.items }
+{
+    let mut frames = Vec::new(alloc);
+    let (shown, left) = split_shown(groups, options.limit);
+    'each_group: for group in shown {
+        put_group(
+            tables,
+            scale,
+            options.sub_limit,
+            group.entry,
+            &group.members,
+            &mut frames,
+            out,
+        )?;
+    }
+    put_left(b"more places: ", left, out)
+}
