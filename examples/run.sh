@@ -1,6 +1,6 @@
 #!/bin/sh
-# Runs `heapsuite summary` and `heapsuite flame` on each trace of this folder, and compares what they print with the files
-# beside the trace. The program is the first argument, or bin/heapsuite at the top of the repository.
+# Runs `heapsuite summary`, `heapsuite print` and `heapsuite flame` on each trace of this folder, and compares what they print
+# with the files beside the trace. The program is the first argument, or bin/heapsuite at the top of the repository.
 cd "$(dirname "$0")" || exit 1
 heapsuite=${1:-../bin/heapsuite}
 failed=0
@@ -20,7 +20,9 @@ compare() {
 
 for trace in *.trace; do
     compare "$trace" summary summary
+    compare "$trace" print print
     compare "$trace" flame flame
     compare "$trace" peak-flame flame --flamegraph-cost-type=peak
 done
+compare pages.trace suppressed-print print --merge-backtraces=0 --suppressions=pages.suppressions
 exit "$failed"

@@ -1,10 +1,26 @@
 -- Which commands write nothing while they read.
-use Rattle.std.proofs.Common.{ℕ, List, Some, refl}
-use Rattle.heapsuite.specs.Asked.{Help, Summary}
+use Rattle.std.proofs.Common.{ℕ, List, Option, Some, None, refl}
+use Rattle.command_frame.specs.Silent.{IsSilent}
+use Rattle.heapsuite.specs.Asked.{Flame, Help, Print, Summary}
+use Rattle.heapsuite.specs.FlameWords.{FlameAsked}
+use Rattle.heapsuite.specs.PrintReport.{report_written}
+use Rattle.heapsuite.specs.PrintWords.{PrintAsked}
 use Rattle.heapsuite.specs.Silent.{IsSilentFor}
+use Rattle.heapsuite.specs.SuppressionsReport.{plan_behind}
 
 pub help_is_silent : IsSilentFor (Some Help)
 help_is_silent = tt
 
 pub summary_is_silent : (trace : List ℕ) → IsSilentFor (Some (Summary trace))
 summary_is_silent trace = (λ earlier line. refl, λ lines. tt)
+
+-- a trace behind suppressions or none
+behind_is_silent : (suppressions : Option (List ℕ)) (trace : List ℕ) (text : List (List ℕ) → List (List ℕ) → List ℕ) → IsSilent (plan_behind suppressions trace text)
+behind_is_silent None trace text = (λ earlier line. refl, λ lines. tt)
+behind_is_silent (Some name) trace text = (λ earlier line. refl, λ texts. (λ earlier line. refl, λ lines. tt))
+
+pub print_is_silent : (print : PrintAsked) → IsSilentFor (Some (Print print))
+print_is_silent print = behind_is_silent print.suppressions print.trace (report_written print.options)
+
+pub flame_is_silent : (flame : FlameAsked) → IsSilentFor (Some (Flame flame))
+flame_is_silent flame = (λ earlier line. refl, λ lines. tt)

@@ -6,8 +6,11 @@ use Rattle.command_frame.specs.Plan.{Ends, Plan}
 use Rattle.command_frame.specs.Report.{Writes}
 use Rattle.heapsuite.specs.FlameReport.{flame_plan}
 use Rattle.heapsuite.specs.FlameWords.{FlameAsked, flame_asked}
+use Rattle.heapsuite.specs.PrintReport.{print_plan}
+use Rattle.heapsuite.specs.PrintWords.{PrintAsked, print_asked}
 use Rattle.heapsuite.specs.SummaryReport.{summary_plan}
 use Rattle.heapsuite.specs.SummaryWords.{summary_trace}
+use Rattle.heapsuite.specs.SuppressionsReport.{names_behind}
 use Rattle.heapsuite.specs.Texts.{heapsuite_texts}
 
 pub data Asked : Type 0 where
@@ -15,6 +18,8 @@ pub data Asked : Type 0 where
   Help : Asked
   -- the summary of a named trace
   Summary : List ℕ → Asked
+  -- the report on a named trace
+  Print : PrintAsked → Asked
   -- the flame stacks of a named trace
   Flame : FlameAsked → Asked
 
@@ -28,6 +33,7 @@ unfoldable pub command_asked : List ℕ → List (List ℕ) → Option Asked
 command_asked command words =
     if bytes_eq command (codes "--help") then help_asked words
     else if bytes_eq command (codes "summary") then option_map Summary (summary_trace words)
+    else if bytes_eq command (codes "print") then option_map Print (print_asked words)
     else if bytes_eq command (codes "flame") then option_map Flame (flame_asked words)
     else None
 
@@ -39,18 +45,20 @@ asked (command ∷ words) = command_asked command words
 -- whether the first word is one that the program knows
 unfoldable pub knows_first : List (List ℕ) → Bool
 knows_first [] = false
-knows_first (command ∷ words) = bytes_eq command (codes "--help") || (bytes_eq command (codes "summary") || bytes_eq command (codes "flame"))
+knows_first (command ∷ words) = bytes_eq command (codes "--help") || (bytes_eq command (codes "summary") || (bytes_eq command (codes "print") || bytes_eq command (codes "flame")))
 
 -- the files that are read for it, in order
 abbrev pub names_of : Asked → List (List ℕ)
 names_of Help = []
 names_of (Summary trace) = trace ∷ []
+names_of (Print print) = names_behind print.suppressions print.trace
 names_of (Flame flame) = flame.trace ∷ []
 
 -- what is done with them
 abbrev pub plan_of : Asked → Plan
 plan_of Help = Ends (Writes heapsuite_texts.usage)
 plan_of (Summary trace) = summary_plan trace
+plan_of (Print print) = print_plan print
 plan_of (Flame flame) = flame_plan flame
 
 -- the files that words name, where they are taken

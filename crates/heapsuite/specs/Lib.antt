@@ -1,12 +1,15 @@
 pub mod CommandFault
 pub mod TraceReport
 pub mod ReadTrace
+pub mod SuppressionsReport
 pub mod SummaryReport
 pub mod Batch
 pub mod Texts
 pub mod SummaryWords
 pub mod FlameWords
 pub mod FlameReport
+pub mod PrintWords
+pub mod PrintReport
 pub mod Asked
 pub mod Requests
 pub mod Answer

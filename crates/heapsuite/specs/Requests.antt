@@ -1,9 +1,17 @@
 -- A request of the code as what was asked.
+use Rattle.std.specs.Option.{option_map}
+use Rattle.heapsuite.specs.declared.print_command.PrintRequest.{PrintRequest}
 use Rattle.heapsuite.specs.declared.words.Request.{Request}
 use Rattle.heapsuite.specs.declared.words.Request.TheVariants as request
-use Rattle.heapsuite.specs.Asked.{Asked, Flame, Help, Summary}
+use Rattle.heapsuite.specs.Asked.{Asked, Flame, Help, Print, Summary}
+use Rattle.heapsuite.specs.PrintWords.{PrintAsked}
+
+-- what a request of `print` asks for
+abbrev pub print_asked_by : PrintRequest → PrintAsked
+print_asked_by print = record { trace = print.trace.now; suppressions = option_map (λ name. name.now) print.suppressions; options = print.options }
 
 abbrev pub asked_of : Request → Asked
 asked_of request.Help = Help
 asked_of (request.Summary summary) = Summary summary.trace.now
+asked_of (request.Print print) = Print (print_asked_by print)
 asked_of (request.Flame flame) = Flame (record { trace = flame.trace.now; cost = flame.cost })

@@ -7,10 +7,14 @@
 mod batch;
 mod fault;
 mod flame_command;
+mod print_command;
+mod print_words;
 mod read_trace;
 mod run;
 mod run_words;
 mod summary_command;
+mod suppressed_trace;
+mod suppressions;
 mod texts;
 mod trace_reader;
 mod trace_run;
@@ -53,6 +57,8 @@ fn main(rt: HostRuntime) -> ExitCode {
 
 #[cfg(test)]
 mod flame_tests;
+#[cfg(test)]
+mod print_tests;
 #[cfg(test)]
 mod refusal_tests;
 #[cfg(test)]

@@ -71,6 +71,7 @@ fn run_request<S: Store, O: Sink>(
     match request {
         Request::Help => usage(desk),
         Request::Summary(request) => request.run(desk, store, out),
+        Request::Print(request) => request.run(desk, store, out),
         Request::Flame(request) => request.run(desk, store, out),
     }
 }

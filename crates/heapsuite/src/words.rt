@@ -4,6 +4,7 @@ ghost use Rattle.heapsuite.specs.Asked.{asked, help_asked, knows_first};
 ghost use Rattle.heapsuite.specs.Requests.{asked_of};
 
 use crate::flame_command::FlameRequest;
+use crate::print_command::PrintRequest;
 use crate::summary_command::SummaryRequest;
 use command_words::WordsFault;
 use std::alloc::Global;
@@ -15,6 +16,8 @@ pub enum Request<'a> {
     Help,
     /// The figures of a trace.
     Summary(SummaryRequest<'a>),
+    /// The report on a trace.
+    Print(PrintRequest<'a>),
     /// The flame stacks of a trace.
     Flame(FlameRequest<'a>),
 }
@@ -36,6 +39,10 @@ pub fn read_words<'a>(alloc: Global, words: &'a [String]) -> Result<Request<'a>,
     if command.as_str() == "summary" {
         let request = SummaryRequest::read(alloc, words)?;
         return Ok(Request::Summary(request));
+    }
+    if command.as_str() == "print" {
+        let request = PrintRequest::read(alloc, words)?;
+        return Ok(Request::Print(request));
     }
     if command.as_str() == "flame" {
         let request = FlameRequest::read(alloc, words)?;
