@@ -1,5 +1,8 @@
+mod AddingLemmas
 mod EntryLemmas
+mod ExtendLemmas
 mod FieldLemmas
+mod FirstLemmas
 mod KeyLemmas
 mod ListLemmas
 mod TableLemmas

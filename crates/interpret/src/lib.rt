@@ -1,9 +1,17 @@
-//! Tables of symbols, for the interpretation of raw traces: what stands at the offsets of modules.
-//! The lines of traces are no part of it.
+//! From raw traces of heaptrack to interpreted ones: tables of symbols, and the lines that each raw line gives.
+//! Files and outputs are no part of it.
 #![tactic(auto)]
 
 mod fault;
+mod infos;
+mod instruction_lines;
+mod known_ips;
+mod modules;
+mod name_table;
+mod pointers;
+mod resolved;
 mod start_index;
+mod symbol_frame;
 mod symbol_line;
 mod symbols;
 
