@@ -63,6 +63,7 @@ impl InfoSet {
         ensures held { IfOk result (λ found. found.number < length self.new) }
         ensures is_new { IfOk result (λ found. found.is_new ≡ not (list_any (same_info info) self.old)) }
         ensures fault { IfErr result (λ error. Tells error (over_fault most_entries (length (with_new same_info self.old info)))) }
+        ensures few { length self.new ≤ most_entries }
         ensures unchanged { OnErr result (self.new ≡ self.old) }
     {
         if self.infos.len() == MAX_INFOS && !self.infos.contains(&info) {

@@ -31,8 +31,10 @@ pub fn add_names(
     found: &ResolvedIp,
     out: &mut Vec<u8>,
 ) -> Result<(), LineError>
+    requires few { length names.old ≤ most_entries }
     ensures added { OnOk result (AddsNames version (names_called (resolved_kept found.now)) names.old names.new out.old.items out.new.items) }
     ensures fault { IfErr result (λ error. Tells error (over_fault most_entries (length (with_all bytes_eq names.old (names_called (resolved_kept found.now)))))) }
+    ensures few { length names.new ≤ most_entries }
     ensures kept { Extends out.old.items out.new.items }
 {
     add_module_name(names, version, found.module_name, out)?;
@@ -46,8 +48,10 @@ fn add_module_name(
     name: Option<&[u8]>,
     out: &mut Vec<u8>,
 ) -> Result<(), LineError>
+    requires few { length names.old ≤ most_entries }
     ensures added { OnOk result (AddsNames version (option_to_list (option_copied name.entry)) names.old names.new out.old.items out.new.items) }
     ensures fault { IfErr result (λ error. Tells error (over_fault most_entries (length (with_all bytes_eq names.old (option_to_list (option_copied name.entry)))))) }
+    ensures few { length names.new ≤ most_entries }
     ensures kept { Extends out.old.items out.new.items }
 {
     match name {
@@ -63,8 +67,10 @@ fn add_frames(
     texts: Option<&[u8]>,
     out: &mut Vec<u8>,
 ) -> Result<(), LineError>
+    requires few { length names.old ≤ most_entries }
     ensures added { OnOk result (AddsNames version (flat_map frame_names (frames_of (following (option_copied texts.entry)))) names.old names.new out.old.items out.new.items) }
     ensures fault { IfErr result (λ error. Tells error (over_fault most_entries (length (with_all bytes_eq names.old (flat_map frame_names (frames_of (following (option_copied texts.entry)))))))) }
+    ensures few { length names.new ≤ most_entries }
     ensures kept { Extends out.old.items out.new.items }
 {
     let mut rest = texts;
@@ -83,8 +89,10 @@ fn add_frame(
     frame: &SymbolFrame,
     out: &mut Vec<u8>,
 ) -> Result<(), LineError>
+    requires few { length names.old ≤ most_entries }
     ensures added { OnOk result (AddsNames version (frame_names (frame_kept frame.now)) names.old names.new out.old.items out.new.items) }
     ensures fault { IfErr result (λ error. Tells error (over_fault most_entries (length (with_all bytes_eq names.old (frame_names (frame_kept frame.now)))))) }
+    ensures few { length names.new ≤ most_entries }
     ensures kept { Extends out.old.items out.new.items }
 {
     add_name(names, version, frame.function, out)?;
@@ -101,8 +109,10 @@ fn add_name(
     name: &[u8],
     out: &mut Vec<u8>,
 ) -> Result<(), LineError>
+    requires few { length names.old ≤ most_entries }
     ensures added { OnOk result (AddsNames version (name.now ∷ []) names.old names.new out.old.items out.new.items) }
     ensures fault { IfErr result (λ error. Tells error (over_fault most_entries (length (with_all bytes_eq names.old (name.now ∷ []))))) }
+    ensures few { length names.new ≤ most_entries }
     ensures kept { Extends out.old.items out.new.items }
 {
     let is_new = names.add(name)?;

@@ -77,6 +77,7 @@ impl KnownIps {
         ensures added { OnOk result (self.new ≡ self.old ++ record { ip = ip; frames = frames } ∷ []) }
         ensures no_fault { OnOk result (over_fault most_entries (length self.old + 1) ≡ None) }
         ensures fault { IfErr result (λ error. Tells error (over_fault most_entries (length self.old + 1))) }
+        ensures few { length self.new ≤ most_entries }
         ensures unchanged { OnErr result (self.new ≡ self.old) }
     {
         if self.frames.len() == MAX_INSTRUCTIONS {

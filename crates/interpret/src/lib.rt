@@ -8,6 +8,7 @@ mod instruction_lines;
 mod known_ips;
 mod modules;
 mod name_table;
+mod node_lines;
 mod pointers;
 mod resolved;
 mod start_index;

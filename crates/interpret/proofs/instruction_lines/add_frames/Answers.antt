@@ -22,4 +22,5 @@ frames-preserved c =
     let left = adding-next c.args.version _ c.frames.rest c.in-Some.texts (frame_kept c.next_frame.result.0) c.next_frame.result.1 c.args.names.now c.frames.names c.args.out.now.items c.frames.out.items c.in-Some.is c.next_frame.ensures.frames c.frames.invariant.0 in (
       adding-more c.args.version _ (frame_names (frame_kept c.next_frame.result.0)) _ c.args.names.now _ _ c.args.out.now.items _ _ left c.in_ok-add_frame.ensures.added,
       extends_trans c.args.out.now.items c.frames.out.items c.add_frame.new.out.items c.frames.invariant.1 c.add_frame.ensures.kept,
+      c.add_frame.ensures.few,
     )
