@@ -2,7 +2,10 @@ mod AddingLemmas
 mod EntryLemmas
 mod ExtendLemmas
 mod FieldLemmas
+mod GrowthLemmas
+mod RepeatLemmas
 mod FirstLemmas
 mod KeyLemmas
 mod ListLemmas
 mod TableLemmas
+mod TakeLemmas

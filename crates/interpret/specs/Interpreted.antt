@@ -64,6 +64,6 @@ lines_read symbols version earlier line (Ok said) = lines_after symbols version 
 lines_read symbols version earlier line (Err fault) = []
 
 -- the lines that a line gives after earlier lines, where it has no fault
-unfoldable pub out : List Symbol → List (List ℕ) → List ℕ → List (List ℕ)
-out symbols earlier line =
+unfoldable pub interpreted_lines : List Symbol → List (List ℕ) → List ℕ → List (List ℕ)
+interpreted_lines symbols earlier line =
     lines_read symbols (file_version earlier) (contents earlier) line (reading Raw (file_version earlier) line)

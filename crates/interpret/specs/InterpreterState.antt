@@ -4,13 +4,15 @@ use Rattle.std.specs.List.{AllByRecursion}
 use Rattle.std.specs.Map.{lookup}
 use Rattle.ht_lines.specs.Content.{Content, raw_allocation_line, raw_free_line}
 use Rattle.ht_trace.specs.declared.error.LineError.{LineError}
+use Rattle.ht_trace.specs.declared.error.LineError.TheVariants.{NoMemory, TooMany}
 use Rattle.ht_trace.specs.Gathered.{gathered}
 use Rattle.ht_trace.specs.LineFault.{may_stand_first, most_entries, most_nodes}
+use Rattle.stack_table.specs.Node.{Node}
 use Rattle.interpret.specs.declared.infos.AllocationInfo.{AllocationInfo}
 use Rattle.interpret.specs.RawBlocks.{freed_info, held}
 use Rattle.interpret.specs.RawContents.{contents, version_of}
 use Rattle.interpret.specs.RawFault.{raw_fault}
-use Rattle.interpret.specs.RawTables.{RawTables, info_number, tables_of}
+use Rattle.interpret.specs.RawTables.{KnownIp, RawTables, info_number, tables_of}
 use Rattle.interpret.specs.SymbolLine.{Symbol}
 
 -- the symbols that are looked up, the file version where there was one, the tables, an info for each pointer that stands
@@ -33,6 +35,12 @@ info_after infos (raw_allocation_line size trace named) ptr before =
 info_after infos (raw_free_line named) ptr before = if named == ptr then None else before
 info_after infos _ ptr before = before
 
+-- the fault after which no line is taken, with one more fault
+abbrev pub failed_with : Option LineError → LineError → Option LineError
+failed_with failed TooMany = Some TooMany
+failed_with failed NoMemory = Some NoMemory
+failed_with failed error = failed
+
 -- each pointer has the info of its block, which is held
 pub record PointsAs (pointers : List (ℕ × ℕ)) (infos : List AllocationInfo) (said : List Content) : Type 0 where
   pub info : (ptr : ℕ) → info_at pointers ptr ≡ freed_info infos (held said ptr)
@@ -50,10 +58,10 @@ pub record StandsFor (state : InterpreterState) (symbols : List Symbol) (lines :
   pub first : is_some state.version ≡ false → AllByRecursion (λ line. may_stand_first line ≡ true) lines
 
 -- the file version is one that there is, and no table has more than it may have
-pub record IsWithin (version : Option ℕ) (tables : RawTables) : Type 0 where
+pub record IsWithin (version : Option ℕ) (names : List (List ℕ)) (held : List KnownIp) (nodes : List Node) (infos : List AllocationInfo) : Type 0 where
   pub low : 1 ≤ unwrap_or version 1
   pub high : unwrap_or version 1 ≤ 3
-  pub names : length tables.names ≤ most_entries
-  pub known : length tables.known ≤ most_entries
-  pub nodes : length tables.nodes ≤ most_nodes
-  pub infos : length tables.infos ≤ most_entries
+  pub names_few : length names ≤ most_entries
+  pub known_few : length held ≤ most_entries
+  pub nodes_few : length nodes ≤ most_nodes
+  pub infos_few : length infos ≤ most_entries

@@ -14,3 +14,4 @@ pub mod RawBlocks
 pub mod Interpreted
 pub mod RawFault
 pub mod InterpreterState
+pub mod TakesLine

@@ -93,10 +93,13 @@ tables_of symbols said = record {
   infos = infos said;
 }
 
+-- whether an instruction pointer has a number
+abbrev pub is_numbered : List KnownIp → ℕ → Bool
+is_numbered held ip = ip == 0 || list_any (λ k. ip == k.ip) held
+
 -- what stands at an address that is new
 abbrev pub new_call : List Symbol → RawTables → ℕ → Option Resolved
-new_call symbols tables ip =
-    if ip == 0 || list_any (λ k. ip == k.ip) tables.known then None else Some (resolved symbols tables.loaded ip)
+new_call symbols tables ip = if is_numbered tables.known ip then None else Some (resolved symbols tables.loaded ip)
 
 -- the instruction pointers with that of a call
 abbrev pub known_with : List KnownIp → Option Resolved → List KnownIp

@@ -3,7 +3,7 @@ ghost use Rattle.std.specs.Prelude.{◌≡◌, ◌≢◌, ℕ, ◌+◌, ◌<◌,
 ghost use Rattle.std.specs.List.{list_any};
 ghost use Rattle.ht_trace.specs.LineFault.{Tells, most_entries};
 ghost use Rattle.interpret.specs.FirstAppearances.{over_fault};
-ghost use Rattle.interpret.specs.RawTables.{KnownIp, ip_frames, ip_number};
+ghost use Rattle.interpret.specs.RawTables.{KnownIp, ip_frames, ip_number, is_numbered};
 
 use ht_trace::LineError;
 use indexmap::IndexMap;
@@ -50,12 +50,30 @@ impl KnownIps {
         }
     }
 
-    /// The number and the frames of an instruction pointer: `None` exactly where it has no number. It takes no memory.
+    /// The number and the frames of an instruction pointer: `None` exactly where it has no number. Address 0 has number 0
+    /// and one frame. It takes no memory.
     pub fn find(&self, ip: u64) -> Option<Numbered>
+        ensures none { IfNone result (is_numbered self.now ip ≡ false) }
+        ensures some { IfSome result (λ found. is_numbered self.now ip ≡ true) }
+        ensures number { IfSome result (λ found. found.number ≡ ip_number self.now ip) }
+        ensures frames { IfSome result (λ found. found.frames ≡ ip_frames self.now ip) }
+    {
+        if ip == 0 {
+            return Some(Numbered {
+                number: 0,
+                frames: 1,
+            });
+        }
+        self.find_some(ip)
+    }
+
+    // The same for an address that isn't 0.
+    fn find_some(&self, ip: u64) -> Option<Numbered>
+        requires some { ip ≢ 0 }
         ensures none { IfNone result (list_any (λ k. ip == k.ip) self.now ≡ false) }
         ensures some { IfSome result (λ found. list_any (λ k. ip == k.ip) self.now ≡ true) }
-        ensures number { IfSome result (λ found. ip ≢ 0 → found.number ≡ ip_number self.now ip) }
-        ensures frames { IfSome result (λ found. ip ≢ 0 → found.frames ≡ ip_frames self.now ip) }
+        ensures number { IfSome result (λ found. found.number ≡ ip_number self.now ip) }
+        ensures frames { IfSome result (λ found. found.frames ≡ ip_frames self.now ip) }
     {
         let (place, _, frames) = self.frames.get_full(&ip)?;
         Some(Numbered {

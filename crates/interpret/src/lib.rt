@@ -2,9 +2,11 @@
 //! Files and outputs are no part of it.
 #![tactic(auto)]
 
+mod allocation_lines;
 mod fault;
 mod infos;
 mod instruction_lines;
+mod interpreter;
 mod known_ips;
 mod modules;
 mod name_table;
@@ -17,6 +19,7 @@ mod symbol_line;
 mod symbols;
 
 pub use fault::SymbolFault;
+pub use interpreter::Interpreter;
 pub use symbols::Symbols;
 
 #[cfg(test)]

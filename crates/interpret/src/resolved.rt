@@ -21,7 +21,8 @@ pub struct ResolvedIp<'a> {
 /// What stands at an instruction pointer while these modules are loaded. It takes no memory.
 #[tactic(auto, unfolding(crate::specs::Resolved::resolved))]
 pub fn resolve<'a>(symbols: &'a Symbols, modules: &'a ModuleList, ip: u64) -> ResolvedIp<'a>
-    ensures { resolved_kept result ≡ resolved symbols.now «modules».now ip }
+    ensures found { resolved_kept result ≡ resolved symbols.now modules.now ip }
+    ensures ip { result.ip ≡ ip }
 {
     let Some(found) = modules.last_holding(ip) else {
         return ResolvedIp {
