@@ -1,7 +1,7 @@
 -- Places in lists, and lists in which each element stands once.
-use Rattle.std.proofs.Common.{◌≡◌, ℕ, ◌+◌, ◌<◌, ◌≤◌, Bool, true, false, not, cond, ◌||◌, List, [], ◌∷◌, ◌++◌, length, map, filter, Option, Some, None, refl, sym, ap, ◌∙◌, subst, arith, true≢false, length-append, append-nil}
-use Rattle.std.specs.Prelude.{position, nat_lt, fold, find, ◌==◌, nat_eq}
-use Rattle.std.specs.List.{list_any, position_or_len, prefix_len}
+use Rattle.std.proofs.Common.{◌≡◌, ℕ, ◌+◌, ◌<◌, Bool, true, false, not, cond, ◌||◌, List, [], ◌∷◌, ◌++◌, length, map, Option, Some, None, refl, sym, ap, ◌∙◌, arith, true≢false, length-append}
+use Rattle.std.specs.Prelude.{position, nat_lt, find, ◌==◌}
+use Rattle.std.specs.List.{list_any, position_or_len}
 use Rattle.std.specs.Map.{lookup, keys_of}
 use Rattle.std.specs.Option.{is_some, option_map}
 use Rattle.std.proofs.lemmas.Bool.Decides.{nat_tests}
@@ -10,7 +10,7 @@ use Rattle.indexmap.specs.IndexMap.{insert_entry}
 use Rattle.intern_tables.specs.Numbers.{number_of}
 use Rattle.ht_trace.specs.declared.error.LineError.{LineError}
 use Rattle.ht_trace.specs.declared.error.LineError.TheVariants.{TooMany}
-use Rattle.interpret.specs.FirstAppearances.{over_fault, with_new, with_all}
+use Rattle.interpret.specs.FirstAppearances.{over_fault, with_new}
 use Rattle.interpret.specs.RawTables.{KnownIp}
 use Rattle.interpret.specs.KnownEntries.{known_kept}
 

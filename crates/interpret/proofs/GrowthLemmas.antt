@@ -1,29 +1,25 @@
 -- What one line more adds to the tables of a raw trace.
-use Rattle.std.proofs.Common.{◌≡◌, ℕ, ◌+◌, ◌<◌, ◌≤◌, Bool, true, false, not, cond, ◌||◌, List, [], ◌∷◌, ◌++◌, length, map, reverse, Option, Some, None, refl, sym, ap, ◌∙◌, arith, append_assoc, append-nil, length-append, subst, true≢false}
-use Rattle.std.specs.Prelude.{fold, ◌==◌, IfSome}
-use Rattle.std.specs.List.{cons_option, filter_map, flat_map, list_any, position_or_len}
-use Rattle.std.specs.Option.{option_map, option_to_list}
+use Rattle.std.proofs.Common.{◌≡◌, ℕ, Bool, true, false, cond, ◌||◌, List, [], ◌∷◌, ◌++◌, map, Option, Some, None, refl, sym, ap, ◌∙◌, append_assoc, append-nil}
+use Rattle.std.specs.Prelude.{◌==◌}
+use Rattle.std.specs.List.{cons_option, filter_map, flat_map, list_any}
+use Rattle.std.specs.Option.{option_to_list}
 use Rattle.std.specs.Str.{bytes_eq}
-use Rattle.std.proofs.lemmas.Bool.Decides.{nat_tests}
 use Rattle.std.proofs.lemmas.Slice.Eq.{bytes_eq-Decides}
-use Rattle.std.proofs.lemmas.List.{map-append, reverse-append, length-reverse}
+use Rattle.std.proofs.lemmas.List.{map-append}
 use Rattle.std.proofs.lemmas.List.Elements.{filter_map-append}
-use Rattle.std.proofs.lemmas.List.Folds.{position_or_len_push}
 use Rattle.std.proofs.lemmas.List.Sums.{fold_push}
 use Rattle.std.proofs.lemmas.Grind.{flat_map-append}
-use Rattle.ht_lines.specs.Content.{Content, node_line, raw_allocation_line, raw_free_line}
+use Rattle.ht_lines.specs.Content.{Content, node_line}
 use Rattle.ht_trace.specs.Gathered.{gathered}
 use Rattle.intern_tables.specs.WithoutRepeats.{without_repeats}
-use Rattle.stack_table.specs.Node.{Node}
 use Rattle.interpret.specs.declared.infos.AllocationInfo.{AllocationInfo}
 use Rattle.interpret.specs.FirstAppearances.{with_all, with_new}
-use Rattle.interpret.specs.InterpreterState.{PointsAs, info_after, info_at}
 use Rattle.interpret.specs.Modules.{LoadedModule, modules, modules_after}
-use Rattle.interpret.specs.RawBlocks.{RawBlock, freed_info, held, held_back}
-use Rattle.interpret.specs.RawTables.{KnownIp, RawTables, call_in, info_in, info_number, infos, instructions, is_numbered, known, known_of, known_with, names, names_with, new_call, node_in, node_of, nodes, same_info, same_ip, tables_after, tables_of, tables_with}
+use Rattle.interpret.specs.RawBlocks.{held}
+use Rattle.interpret.specs.RawTables.{KnownIp, call_in, info_in, infos, instructions, known, known_of, known_with, names, names_with, new_call, node_in, node_of, nodes, same_info, same_ip, tables_after, tables_of}
 use Rattle.interpret.specs.Resolved.{Resolved, names_called, resolved}
 use Rattle.interpret.specs.SymbolLine.{Symbol}
-use Rattle.interpret.proofs.FirstLemmas.{place-none, place-within, with-absent, with-held}
+use Rattle.interpret.proofs.FirstLemmas.{with-absent, with-held}
 use Rattle.interpret.proofs.RepeatLemmas.{infos-decide, ips-decide, repeats-all, repeats-push}
 use Rattle.interpret.proofs.TakeLemmas.{resolved-ip}
 
@@ -100,7 +96,7 @@ names-push symbols said c =
     ∙ ap (without_repeats bytes_eq) (flat_map-append names_called (instructions symbols said) (option_to_list (added symbols said c)))
     ∙ repeats-all (λ (name : List ℕ). name) bytes_eq bytes_eq-Decides (flat_map names_called (instructions symbols said)) (flat_map names_called (option_to_list (added symbols said c)))
 
-infos-push : (said : List Content) (c : Content) → infos (said ++ c ∷ []) ≡ with_all same_info (infos said) (option_to_list (info_in c))
+pub infos-push : (said : List Content) (c : Content) → infos (said ++ c ∷ []) ≡ with_all same_info (infos said) (option_to_list (info_in c))
 unfolding infos
 infos-push said c = ap (without_repeats same_info) (filter_map-push info_in said c) ∙ repeats-all (λ (info : AllocationInfo). info) same_info infos-decide (filter_map info_in said) (option_to_list (info_in c))
 

@@ -3,7 +3,9 @@ mod EntryLemmas
 mod ExtendLemmas
 mod FieldLemmas
 mod GrowthLemmas
+mod PointerLemmas
 mod RepeatLemmas
+mod StandLemmas
 mod FirstLemmas
 mod KeyLemmas
 mod ListLemmas

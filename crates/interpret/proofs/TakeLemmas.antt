@@ -1,11 +1,9 @@
 -- What each kind of line does to an interpreter, over what contracts see of it.
-use Rattle.std.proofs.Common.{Bor, ◌≡◌, ◌≢◌, ℕ, zero, suc, ◌+◌, ◌<◌, ◌≤◌, Bool, true, false, not, cond, eqb, ◌||◌, List, [], ◌∷◌, ◌++◌, length, map, max, Option, Some, None, refl, sym, ap, ◌∙◌, arith, append_assoc, append-nil, length-append, subst, true≢false}
-use Rattle.std.specs.Prelude.{◌==◌, drop, find, fold, is_some, nat_lt, unwrap_or}
-use Rattle.std.specs.List.{flat_map, list_any, position_or_len}
-use Rattle.std.specs.Option.{option_map, option_or, option_to_list}
-use Rattle.std.specs.Str.{bytes_eq}
-use Rattle.std.proofs.Math.Seq.{drop-append_seam, drop-length}
-use Rattle.std.proofs.lemmas.Bool.{cond-true, cond-false}
+use Rattle.std.proofs.Common.{Bor, ◌≡◌, ◌≢◌, ℕ, ◌+◌, ◌<◌, ◌≤◌, Bool, true, false, cond, eqb, ◌||◌, List, [], ◌∷◌, ◌++◌, length, map, Option, Some, None, refl, sym, ap, ◌∙◌, arith, append-nil, length-append, true≢false}
+use Rattle.std.specs.Prelude.{◌==◌, find, is_some, nat_lt, unwrap_or}
+use Rattle.std.specs.List.{list_any, position_or_len}
+use Rattle.std.specs.Option.{option_or, option_to_list}
+use Rattle.std.proofs.Math.Seq.{drop-length}
 use Rattle.std.proofs.lemmas.Bool.Decides.{nat_tests}
 use Rattle.std.proofs.lemmas.List.Folds.{position_or_len_push}
 use Rattle.ht_lines.specs.Content.{Content, version_line, clear_line, module_line, string_line, node_line, allocation_line, raw_allocation_line, raw_free_line, free_line}
@@ -15,18 +13,17 @@ use Rattle.ht_lines.specs.declared.item.Item.TheVariants as kind
 use Rattle.ht_lines.specs.ItemContent.{content}
 use Rattle.ht_lines.specs.Written.{written}
 use Rattle.stack_table.specs.Node.{Node}
-use Rattle.stack_table.specs.Stack as stack
 use Rattle.ht_trace.specs.declared.error.LineError.{LineError}
 use Rattle.ht_trace.specs.declared.error.LineError.TheVariants.{NoMemory, SecondVersion, TooMany, UnknownTrace}
 use Rattle.ht_trace.specs.LineFault.{Tells, most_entries, most_nodes}
 use Rattle.interpret.specs.declared.infos.AllocationInfo.{AllocationInfo}
-use Rattle.interpret.specs.FirstAppearances.{over_fault, with_all, with_new}
-use Rattle.interpret.specs.Interpreted.{info_said, lines_for, new_in, said_for, text_of}
-use Rattle.interpret.specs.InterpreterState.{InterpreterState, IsWithin, info_after, info_at}
+use Rattle.interpret.specs.FirstAppearances.{over_fault, with_new}
+use Rattle.interpret.specs.Interpreted.{info_said, new_in, said_for, text_of}
+use Rattle.interpret.specs.InterpreterState.{InterpreterState, IsWithin, info_at}
 use Rattle.interpret.specs.Modules.{LoadedModule, ranges_said}
 use Rattle.interpret.specs.RawFault.{content_fault, full_fault, lists_fault, node_fault}
 use Rattle.interpret.specs.RawTables.{KnownIp, RawTables, info_number, ip_frames, ip_number, is_numbered, known_of, known_with, names_with, new_call, node_of, same_info, tables_after, tables_with}
-use Rattle.interpret.specs.Resolved.{Resolved, frame_count, instruction_said, names_called, resolved, resolved_in}
+use Rattle.interpret.specs.Resolved.{Resolved, frame_count, instruction_said, resolved, resolved_in}
 use Rattle.interpret.specs.Modules as loaded
 use Rattle.interpret.specs.SymbolLine.{Symbol}
 use Rattle.interpret.specs.TakesLine.{Refuses, Takes}

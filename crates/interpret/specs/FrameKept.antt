@@ -1,5 +1,5 @@
 -- What stands at an address, as the parts of a symbol's texts.
-use Rattle.std.specs.Prelude.{ℕ, List, Option, Some, None}
+use Rattle.std.specs.Prelude.{ℕ, List}
 use Rattle.std.specs.Option.{option_copied, option_map}
 use Rattle.interpret.specs.declared.resolved.ResolvedIp.{ResolvedIp}
 use Rattle.interpret.specs.declared.symbol_frame.SourcePlace.{SourcePlace}

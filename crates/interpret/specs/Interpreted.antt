@@ -1,5 +1,5 @@
 -- The lines that the interpretation of a raw trace gives for each of its lines.
-use Rattle.std.specs.Prelude.{ℕ, List, [], ◌∷◌, ◌++◌, drop, length, map, Option, Some, None, Result, Ok, Err}
+use Rattle.std.specs.Prelude.{ℕ, List, [], ◌∷◌, ◌++◌, drop, length, map, Option, Result, Ok, Err}
 use Rattle.std.specs.List.{flat_map}
 use Rattle.std.specs.Option.{option_to_list}
 use Rattle.ht_lines.specs.declared.item.Malformed.{Malformed}
@@ -7,7 +7,6 @@ use Rattle.ht_lines.specs.declared.item.Form.TheVariants.{Raw}
 use Rattle.ht_lines.specs.Content.{Content, version_line, string_line, clear_line, module_line, node_line, info_line, allocation_line, free_line, raw_allocation_line, raw_free_line}
 use Rattle.ht_lines.specs.Reading.{reading}
 use Rattle.ht_lines.specs.Written.{written}
-use Rattle.ht_trace.specs.Gathered.{gathered}
 use Rattle.interpret.specs.declared.infos.AllocationInfo.{AllocationInfo}
 use Rattle.interpret.specs.RawBlocks.{freed_by, freed_info}
 use Rattle.interpret.specs.RawContents.{contents, file_version}

@@ -150,11 +150,7 @@ fn module_number(names: &NameTable, name: Option<&[u8]>) -> u64
 }
 
 // Appends the numbers of the frames that the texts of a symbol say.
-fn put_frames(
-    names: &NameTable,
-    texts: Option<&[u8]>,
-    out: &mut Vec<u8>,
-) -> Result<(), NoMemory>
+fn put_frames(names: &NameTable, texts: Option<&[u8]>, out: &mut Vec<u8>) -> Result<(), NoMemory>
     ensures appended { OnOk result (out.new.items ≡ out.old.items ++ spelled (flat_map (frame_numbers names.now) (frames_of (following (option_copied texts.entry))))) }
     ensures kept { Extends out.old.items out.new.items }
 {

@@ -16,11 +16,11 @@ ghost use Rattle.interpret.specs.RawFault.{raw_end_fault, raw_fault};
 ghost use Rattle.interpret.specs.SymbolLine.{Symbol};
 ghost use Rattle.interpret.specs.TakesLine.{HasRead, HasRefused, Refuses, Takes};
 
+use crate::allocation_lines::put_allocation;
 use crate::infos::{AllocationInfo, InfoSet};
 use crate::known_ips::{KnownIps, Numbered};
 use crate::modules::ModuleList;
 use crate::name_table::NameTable;
-use crate::allocation_lines::put_allocation;
 use crate::node_lines::{add_held_node, add_new_node};
 use crate::pointers::Pointers;
 use crate::resolved::resolve;
@@ -263,7 +263,12 @@ impl Interpreter {
             return Err(LineError::UnknownTrace);
         }
         let version = self.version.unwrap_or(1);
-        let info = put_allocation(&mut self.infos, version, AllocationInfo { size, trace }, out)?;
+        let info = put_allocation(
+            &mut self.infos,
+            version,
+            AllocationInfo { size, trace },
+            out,
+        )?;
         self.pointers.set(ptr, info)?;
         Ok(())
     }

@@ -23,4 +23,6 @@ pub use interpreter::Interpreter;
 pub use symbols::Symbols;
 
 #[cfg(test)]
+mod interpreter_tests;
+#[cfg(test)]
 mod symbol_tests;

@@ -1,14 +1,8 @@
-use Rattle.std.proofs.Common.{◌≡◌, List, ◌++◌, Option, sym, ap, ◌∙◌, subst}
 use Rattle.interpret.proofs.ExtendLemmas.{extends_trans}
-use Rattle.std.specs.List.{flat_map}
-use Rattle.std.specs.Option.{option_copied}
 use Rattle.std.proofs.lemmas.Result.{err_from_is_err_and}
-use Rattle.ht_trace.specs.declared.error.LineError.{LineError}
-use Rattle.ht_trace.specs.LineFault.{Tells, most_entries}
 use Rattle.interpret.specs.FrameKept.{frame_kept}
-use Rattle.interpret.specs.Resolved.{SourceFrame, frame_names, frames_of}
-use Rattle.interpret.specs.SymbolEntries.{following}
-use Rattle.interpret.proofs.AddingLemmas.{IsAdding, adding-fault, adding-more, adding-next}
+use Rattle.interpret.specs.Resolved.{frame_names}
+use Rattle.interpret.proofs.AddingLemmas.{adding-fault, adding-more, adding-next}
 use Rattle.interpret.proofs.instruction_lines.add_frames.Goals as goal
 
 pub returns-in_err-add_frame-clause-fault : goal.returns-in_err-add_frame-clause-fault

@@ -1,8 +1,5 @@
-use Rattle.std.specs.Option.{option_copied}
-use Rattle.std.specs.List.{flat_map}
 use Rattle.std.proofs.lemmas.Result.{MatchResult-weaker}
-use Rattle.interpret.specs.Resolved.{frame_numbers, frames_of, instruction_said}
-use Rattle.interpret.specs.SymbolEntries.{following}
+use Rattle.interpret.specs.Resolved.{instruction_said}
 use Rattle.interpret.proofs.AddingLemmas.{put-line}
 use Rattle.interpret.proofs.instruction_lines.put_instruction.Goals as goal
 

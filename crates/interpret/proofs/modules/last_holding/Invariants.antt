@@ -1,4 +1,4 @@
-use Rattle.std.proofs.Common.{◌≡◌, ℕ, ◌≤◌, length, map, take}
+use Rattle.std.proofs.Common.{◌≡◌, ◌≤◌, length, map, take}
 use Rattle.std.specs.Prelude.{find, reverse}
 use Rattle.interpret.specs.ModuleEntries.{module_kept}
 use Rattle.interpret.specs.Modules.{holds_address, module_of}

@@ -1,4 +1,4 @@
-use Rattle.std.proofs.Common.{◌≡◌, ap, sym, ◌∙◌, refl}
+use Rattle.std.proofs.Common.{refl}
 use Rattle.std.proofs.lemmas.Result.{err_from_is_err_and}
 use Rattle.interpret.proofs.TakeLemmas.{new-ip, takes-held, takes-new, refuses-held, refuses-new}
 use Rattle.interpret.proofs.interpreter.Interpreter.add_node.Goals as goal

@@ -1,4 +1,4 @@
-use Rattle.std.proofs.Common.{◌≡◌, ◌<◌, ◌≤◌, length, ap, sym, ◌∙◌, arith, refl}
+use Rattle.std.proofs.Common.{◌<◌, ◌≤◌, length, arith, refl}
 use Rattle.std.proofs.lemmas.Result.{err_from_is_err_and}
 use Rattle.interpret.proofs.TakeLemmas.{takes-allocation, refuses-info, refuses-trace}
 use Rattle.interpret.proofs.interpreter.Interpreter.allocate.Goals as goal

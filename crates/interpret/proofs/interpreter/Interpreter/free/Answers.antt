@@ -1,4 +1,4 @@
-use Rattle.std.proofs.Common.{◌≡◌, List, ℕ, [], ◌∷◌, ◌++◌, ap, sym, ◌∙◌, refl, None, Some, append-nil}
+use Rattle.std.proofs.Common.{List, ℕ, [], ◌∷◌, ◌++◌, ap, sym, ◌∙◌, refl, None, Some, append-nil}
 use Rattle.ht_lines.specs.Content.{free_line}
 use Rattle.ht_lines.specs.Written.{written}
 use Rattle.interpret.proofs.AddingLemmas.{text-one}

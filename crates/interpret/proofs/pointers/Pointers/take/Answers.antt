@@ -1,4 +1,4 @@
-use Rattle.std.proofs.Common.{◌≡◌, ℕ, List, Option, None, ap, ◌∙◌, cond}
+use Rattle.std.proofs.Common.{ℕ, List, Option, None, ap, ◌∙◌, cond}
 use Rattle.std.specs.Prelude.{◌==◌}
 use Rattle.interpret.specs.InterpreterState.{info_at}
 use Rattle.interpret.proofs.pointers.Pointers.take.Goals as goal

@@ -1,4 +1,4 @@
-use Rattle.std.proofs.Common.{◌≡◌, ℕ, ◌+◌, ◌≤◌, length}
+use Rattle.std.proofs.Common.{◌≡◌, ◌+◌, ◌≤◌, length}
 use Rattle.std.specs.Option.{option_copied}
 use Rattle.interpret.specs.Resolved.{frames_of}
 use Rattle.interpret.specs.SymbolEntries.{bytes_left, following}
