@@ -1,5 +1,13 @@
+mod AddingLemmas
 mod EntryLemmas
+mod ExtendLemmas
 mod FieldLemmas
+mod GrowthLemmas
+mod PointerLemmas
+mod RepeatLemmas
+mod StandLemmas
+mod FirstLemmas
 mod KeyLemmas
 mod ListLemmas
 mod TableLemmas
+mod TakeLemmas

@@ -1,3 +1,17 @@
 pub mod SymbolLine
 pub mod SymbolList
 pub mod SymbolEntries
+pub mod FirstAppearances
+pub mod RawContents
+pub mod Modules
+pub mod ModuleEntries
+pub mod KnownEntries
+pub mod Resolved
+pub mod FrameKept
+pub mod AddsNames
+pub mod RawTables
+pub mod RawBlocks
+pub mod Interpreted
+pub mod RawFault
+pub mod InterpreterState
+pub mod TakesLine

@@ -1,14 +1,28 @@
-//! Tables of symbols, for the interpretation of raw traces: what stands at the offsets of modules.
-//! The lines of traces are no part of it.
+//! From raw traces of heaptrack to interpreted ones: tables of symbols, and the lines that each raw line gives.
+//! Files and outputs are no part of it.
 #![tactic(auto)]
 
+mod allocation_lines;
 mod fault;
+mod infos;
+mod instruction_lines;
+mod interpreter;
+mod known_ips;
+mod modules;
+mod name_table;
+mod node_lines;
+mod pointers;
+mod resolved;
 mod start_index;
+mod symbol_frame;
 mod symbol_line;
 mod symbols;
 
 pub use fault::SymbolFault;
+pub use interpreter::Interpreter;
 pub use symbols::Symbols;
 
+#[cfg(test)]
+mod interpreter_tests;
 #[cfg(test)]
 mod symbol_tests;

@@ -1,0 +1,195 @@
+-- That an interpreter stands for one line more.
+use Rattle.std.proofs.Common.{◌≡◌, ℕ, true, false, eqb, List, [], ◌∷◌, ◌++◌, Option, Some, None, Result, Ok, refl, sym, ap, ◌∙◌, ◌⊎◌, inl, inr, arith, append-nil, subst}
+use Rattle.std.specs.Prelude.{◌||◌, is_some, option_and_then, slice_get, unwrap_or}
+use Rattle.std.specs.Option.{option_or, option_to_list}
+use Rattle.std.specs.Result.{result_ok}
+use Rattle.std.specs.List.{filter_map, cons_option, AllByRecursion}
+use Rattle.std.proofs.lemmas.Bool.{false≢true}
+use Rattle.std.proofs.lemmas.Bool.Decides.{nat_tests}
+use Rattle.ht_lines.specs.declared.item.Malformed.{Malformed}
+use Rattle.ht_lines.specs.Content.{Content, raw_free_line}
+use Rattle.ht_lines.specs.declared.item.Form.TheVariants.{Raw}
+use Rattle.ht_lines.specs.Reading.{reading, reading_kind}
+use Rattle.ht_trace.specs.Contents.{version_in}
+use Rattle.ht_trace.specs.Gathered.{gathered}
+use Rattle.ht_trace.specs.declared.error.LineError.{LineError}
+use Rattle.ht_trace.specs.LineFault.{Tells, may_stand_first}
+use Rattle.interpret.specs.declared.infos.AllocationInfo.{AllocationInfo}
+use Rattle.interpret.specs.FirstAppearances.{with_all}
+use Rattle.interpret.specs.Interpreted.{interpreted_lines, lines_for, lines_read, text_of}
+use Rattle.interpret.specs.InterpreterState.{InterpreterState, PointsAs, StandsFor}
+use Rattle.interpret.specs.RawBlocks.{freed_by, freed_info, held}
+use Rattle.interpret.specs.RawContents.{contents, file_version, version_of, versions}
+use Rattle.interpret.specs.RawFault.{content_fault, fault_in, raw_fault}
+use Rattle.interpret.specs.Modules.{modules}
+use Rattle.interpret.specs.RawTables.{RawTables, info_in, infos, instructions, known, names, nodes, same_info, tables_after, tables_of}
+use Rattle.interpret.specs.SymbolLine.{Symbol}
+use Rattle.interpret.specs.TakesLine.{HasRead, HasRefused, Takes, freed_at}
+use Rattle.interpret.proofs.GrowthLemmas.{filter_map-push, gathered-push, infos-push, tables-push}
+use Rattle.interpret.proofs.PointerLemmas.{points-push}
+
+-- each of a list with one more at its end
+all-push : {X : Type 0} (P : X → Type 0) (xs : List X) (x : X) → AllByRecursion P xs → P x → AllByRecursion P (xs ++ x ∷ [])
+all-push P [] x all here = (here, tt)
+all-push P (y ∷ ys) x all here = (all.0, all-push P ys x all.1 here)
+
+-- the first of a list with one more at the end
+first-push : {Y : Type 0} (ys : List Y) (o : Option Y) → slice_get (ys ++ option_to_list o) 0 ≡ option_or (slice_get ys 0) o
+first-push [] None = refl
+first-push [] (Some y) = refl
+first-push (y ∷ ys) o = refl
+
+-- its first byte is that of a comment or of a version line
+byte_of : (b : ℕ) → (eqb b 35 || eqb b 118) ≡ true → (b ≡ 35) ⊎ (b ≡ 118)
+byte_of b may = grind (arith, nat_tests)
+
+-- a line that may stand before the version line reads alike in each file version
+reading-first : (v w : ℕ) (line : List ℕ) → may_stand_first line ≡ true → reading Raw v line ≡ reading Raw w line
+unfolding reading reading_kind
+reading-first v w [] may = absurd (false≢true may)
+reading-first v w (b ∷ rest) may = elim (byte_of b may) [ inl is ↦ rw is refl | inr is ↦ rw is refl ]
+
+-- lines that may stand there
+same-readings : (v w : ℕ) (lines : List (List ℕ)) → AllByRecursion (λ line. may_stand_first line ≡ true) lines → filter_map (λ line. result_ok (reading Raw v line)) lines ≡ filter_map (λ line. result_ok (reading Raw w line)) lines
+same-readings v w [] all = refl
+same-readings v w (line ∷ lines) all =
+    ap (λ (read : Result Content Malformed). cons_option (result_ok read) (filter_map (λ line. result_ok (reading Raw v line)) lines)) (reading-first v w line all.0)
+    ∙ ap (λ (rest : List Content). cons_option (result_ok (reading Raw w line)) rest) (same-readings v w lines all.1)
+
+-- how the version and the contents of lines change with one more
+record Reads (lines : List (List ℕ)) (line : List ℕ) (said : Content) : Type 0 where
+  version : version_of (lines ++ line ∷ []) ≡ option_or (version_of lines) (version_in said)
+  said_is : contents (lines ++ line ∷ []) ≡ contents lines ++ said ∷ []
+  first : is_some (version_of (lines ++ line ∷ [])) ≡ false → AllByRecursion (λ line. may_stand_first line ≡ true) (lines ++ line ∷ [])
+
+-- the version of lines with one more, where the versions so far are known
+version-push : (lines : List (List ℕ)) (line : List ℕ) → version_of (lines ++ line ∷ []) ≡ option_or (version_of lines) (option_and_then version_in (result_ok (reading Raw 1 line)))
+version-push lines line =
+    let version_at = λ (line : List ℕ). option_and_then version_in (result_ok (reading Raw 1 line)) in
+    ap (λ (all : List ℕ). slice_get all 0) (filter_map-push version_at lines line) ∙ first-push (versions lines) (version_at line)
+
+-- what the lines say in a file version, with one more
+readings-push : (v : ℕ) (lines : List (List ℕ)) (line : List ℕ) (said : Content) → reading Raw v line ≡ Ok said → filter_map (λ line. result_ok (reading Raw v line)) (lines ++ line ∷ []) ≡ filter_map (λ line. result_ok (reading Raw v line)) lines ++ said ∷ []
+readings-push v lines line said read =
+    filter_map-push (λ line. result_ok (reading Raw v line)) lines line
+    ∙ ap (λ (r : Result Content Malformed). filter_map (λ line. result_ok (reading Raw v line)) lines ++ option_to_list (result_ok r)) read
+
+-- after the version line its file version stays
+reads-later : (version : ℕ) (lines : List (List ℕ)) (line : List ℕ) (said : Content) → version_of lines ≡ Some version → reading Raw version line ≡ Ok said → Reads lines line said
+reads-later version lines line said is read =
+    let same : version_of (lines ++ line ∷ []) ≡ Some version = version-push lines line ∙ ap (λ (o : Option ℕ). option_or o (option_and_then version_in (result_ok (reading Raw 1 line)))) is in
+    let now : file_version (lines ++ line ∷ []) ≡ version = ap (λ (o : Option ℕ). unwrap_or o 1) same in
+    let before : file_version lines ≡ version = ap (λ (o : Option ℕ). unwrap_or o 1) is in
+    record {
+      version = same ∙ sym (ap (λ (o : Option ℕ). option_or o (version_in said)) is);
+      said_is =
+          ap (λ (v : ℕ). filter_map (λ line. result_ok (reading Raw v line)) (lines ++ line ∷ [])) now
+          ∙ readings-push version lines line said read
+          ∙ ap (λ (v : ℕ). filter_map (λ line. result_ok (reading Raw v line)) lines ++ said ∷ []) (sym before);
+      first = λ none. absurd (false≢true (sym none ∙ ap (λ (o : Option ℕ). is_some o) same));
+    }
+
+-- before the version line, and at it, the lines read alike in each file version
+reads-first : (lines : List (List ℕ)) (line : List ℕ) (said : Content) → version_of lines ≡ None → AllByRecursion (λ line. may_stand_first line ≡ true) lines → may_stand_first line ≡ true → reading Raw 1 line ≡ Ok said → Reads lines line said
+reads-first lines line said none before may read =
+    let all = all-push (λ (line : List ℕ). may_stand_first line ≡ true) lines line before may in
+    let one : file_version lines ≡ 1 = ap (λ (o : Option ℕ). unwrap_or o 1) none in
+    let gives = ap (λ (r : Result Content Malformed). option_or (version_of lines) (option_and_then version_in (result_ok r))) read in
+    record {
+      version = version-push lines line ∙ gives;
+      said_is =
+          same-readings (file_version (lines ++ line ∷ [])) 1 (lines ++ line ∷ []) all
+          ∙ readings-push 1 lines line said read
+          ∙ ap (λ (v : ℕ). filter_map (λ line. result_ok (reading Raw v line)) lines ++ said ∷ []) (sym one);
+      first = λ _. all;
+    }
+
+-- the line is read in the file version so far, which before the version line may be any
+reads-next : (old : InterpreterState) (symbols : List Symbol) (lines : List (List ℕ)) (line : List ℕ) (said : Content) → StandsFor old symbols lines → (is_some old.version || may_stand_first line) ≡ true → reading Raw (unwrap_or old.version 1) line ≡ Ok said
+    → Reads lines line said
+reads-next old symbols lines line said stands may read = by_version old.version stands.version stands.first may read
+  where
+    by_version : (v : Option ℕ) → v ≡ version_of lines → (is_some v ≡ false → AllByRecursion (λ line. may_stand_first line ≡ true) lines) → (is_some v || may_stand_first line) ≡ true → reading Raw (unwrap_or v 1) line ≡ Ok said → Reads lines line said
+    by_version None is first may read = reads-first lines line said (sym is) (first refl) may read
+    by_version (Some version) is first may read = reads-later version lines line said (sym is) read
+
+-- the fault of the line after the lines is that beside the state
+pub fault-is : (old : InterpreterState) (symbols : List Symbol) (lines : List (List ℕ)) (line : List ℕ) → StandsFor old symbols lines → raw_fault symbols lines line ≡ fault_in old.symbols old.version old.tables line
+unfolding raw_fault
+fault-is old symbols lines line stands =
+    ap (λ (s : List Symbol). fault_in s (version_of lines) (tables_of symbols (contents lines)) line) (sym stands.symbols_are)
+    ∙ ap (λ (v : Option ℕ). fault_in old.symbols v (tables_of symbols (contents lines)) line) (sym stands.version)
+    ∙ ap (λ (t : RawTables). fault_in old.symbols old.version t line) (sym stands.tables)
+
+pub fault-told : (old new : InterpreterState) (line : List ℕ) (error : LineError) → HasRefused old new line error → (symbols : List Symbol) (lines : List (List ℕ)) → StandsFor old symbols lines → Tells error (raw_fault symbols lines line)
+fault-told old new line error refused symbols lines stands = λ other. fault-is old symbols lines line stands ∙ refused.fault other
+
+-- a line that was taken has none
+pub no-fault : (old new : InterpreterState) (line before after : List ℕ) → HasRead old new line before after → (symbols : List Symbol) (lines : List (List ℕ)) → StandsFor old symbols lines → raw_fault symbols lines line ≡ None
+no-fault old new line before after read symbols lines stands =
+    let here : fault_in old.symbols old.version old.tables line ≡ content_fault old.symbols old.version old.tables read.said = rw (read.may_stand, read.read) refl in
+    fault-is old symbols lines line stands ∙ here ∙ read.takes.no_fault
+
+-- the tables with what the line says
+tables-after : (old new : InterpreterState) (line before after : List ℕ) (said : Content) (symbols : List Symbol) (lines : List (List ℕ)) → Takes old new line said before after → StandsFor old symbols lines → new.tables ≡ tables_of symbols (contents lines ++ said ∷ [])
+tables-after old new line before after said symbols lines takes stands =
+    takes.tables ∙ ap (λ (s : List Symbol). tables_after s old.tables said) stands.symbols_are ∙ ap (λ (t : RawTables). tables_after symbols t said) stands.tables ∙ sym (tables-push symbols (contents lines) said)
+
+-- the info of the block that a line frees
+freed-is : (pointers : List (ℕ × ℕ)) (infos : List AllocationInfo) (earlier : List Content) (said : Content) → PointsAs pointers infos earlier → freed_at pointers said ≡ freed_info infos (freed_by earlier said)
+freed-is pointers infos earlier (raw_free_line ptr) points = points.info ptr
+freed-is pointers infos earlier said points = refl
+
+-- the interpreter stands for one line more
+pub stands-push : (old new : InterpreterState) (line before after : List ℕ) → HasRead old new line before after → (symbols : List Symbol) (lines : List (List ℕ)) → StandsFor old symbols lines → StandsFor new symbols (lines ++ line ∷ [])
+stands-push old new line before after read symbols lines stands =
+    let said = read.said in
+    let reads = reads-next old symbols lines line said stands read.may_stand read.read in
+    let version = read.takes.version ∙ ap (λ (v : Option ℕ). option_or v (version_in said)) stands.version ∙ sym reads.version in
+    let grown = tables-after old new line before after said symbols lines read.takes stands in
+    let new_infos = ap (λ (t : RawTables). t.infos) grown ∙ infos-push (contents lines) said ∙ ap (λ (l : List AllocationInfo). with_all same_info l (option_to_list (info_in said))) (sym (ap (λ (t : RawTables). t.infos) stands.tables)) in
+    record {
+      symbols_are = read.takes.symbols ∙ stands.symbols_are;
+      version = version;
+      tables = grown ∙ ap (λ (l : List Content). tables_of symbols l) (sym reads.said_is);
+      pointers = subst (λ (l : List Content). PointsAs new.pointers new.tables.infos l) (sym reads.said_is) (points-push old.pointers new.pointers old.tables.infos new.tables.infos (contents lines) said stands.pointers new_infos read.takes.pointers);
+      not_failed = read.takes.failed ∙ stands.not_failed;
+      no_fault =
+          gathered-push (raw_fault symbols) [] lines line
+          ∙ (ap (λ (found : Option LineError). gathered (raw_fault symbols) [] lines ++ option_to_list found) (no-fault old new line before after read symbols lines stands) ∙ (append-nil (gathered (raw_fault symbols) [] lines) ∙ stands.no_fault));
+      first = λ none. reads.first (ap (λ (v : Option ℕ). is_some v) (sym version) ∙ none);
+    }
+
+-- and its lines are written
+pub lines-push : (old new : InterpreterState) (line before after : List ℕ) → HasRead old new line before after → (symbols : List Symbol) (lines : List (List ℕ)) → StandsFor old symbols lines → after ≡ before ++ text_of (interpreted_lines symbols lines line)
+unfolding interpreted_lines
+lines-push old new line before after read symbols lines stands =
+    let said = read.said in
+    let version : unwrap_or old.version 1 ≡ file_version lines = ap (λ (v : Option ℕ). unwrap_or v 1) stands.version in
+    let grown = tables-after old new line before after said symbols lines read.takes stands in
+    let freed : freed_at old.pointers said ≡ freed_info (tables_of symbols (contents lines)).infos (freed_by (contents lines) said) =
+    freed-is old.pointers old.tables.infos (contents lines) said stands.pointers ∙ ap (λ (t : RawTables). freed_info t.infos (freed_by (contents lines) said)) stands.tables in
+    let same : lines_for old.symbols (unwrap_or old.version 1) old.tables new.tables (freed_at old.pointers said) line said
+    ≡ lines_for symbols (file_version lines) (tables_of symbols (contents lines)) (tables_of symbols (contents lines ++ said ∷ [])) (freed_info (tables_of symbols (contents lines)).infos (freed_by (contents lines) said)) line said =
+    ap (λ (s : List Symbol). lines_for s (unwrap_or old.version 1) old.tables new.tables (freed_at old.pointers said) line said) stands.symbols_are
+    ∙ ap (λ (v : ℕ). lines_for symbols v old.tables new.tables (freed_at old.pointers said) line said) version
+    ∙ ap (λ (t : RawTables). lines_for symbols (file_version lines) t new.tables (freed_at old.pointers said) line said) stands.tables
+    ∙ ap (λ (t : RawTables). lines_for symbols (file_version lines) (tables_of symbols (contents lines)) t (freed_at old.pointers said) line said) grown
+    ∙ ap (λ (o : Option ℕ). lines_for symbols (file_version lines) (tables_of symbols (contents lines)) (tables_of symbols (contents lines ++ said ∷ [])) o line said) freed in
+    let spoken : reading Raw (file_version lines) line ≡ Ok said = ap (λ (v : ℕ). reading Raw v line) (sym version) ∙ read.read in
+    read.takes.lines ∙ ap (λ (l : List (List ℕ)). before ++ text_of l) same
+    ∙ ap (λ (r : Result Content Malformed). before ++ text_of (lines_read symbols (file_version lines) (contents lines) line r)) (sym spoken)
+
+-- an interpreter of no lines
+pub stands-new : (symbols : List Symbol)
+    → StandsFor (record { symbols = symbols; version = None; tables = record { loaded = []; names = []; known = []; nodes = []; infos = [] }; pointers = []; failed = None }) symbols []
+unfolding modules names known instructions nodes infos held
+stands-new symbols = record {
+  symbols_are = refl;
+  version = refl;
+  tables = refl;
+  pointers = record { info = λ ptr. refl; within = λ ptr. tt };
+  not_failed = refl;
+  no_fault = refl;
+  first = λ none. tt;
+}

@@ -1,0 +1,29 @@
+use Rattle.std.proofs.Common.{refl}
+use Rattle.std.proofs.lemmas.Result.{err_from_is_err_and}
+use Rattle.interpret.proofs.TakeLemmas.{new-ip, takes-held, takes-new, refuses-held, refuses-new}
+use Rattle.interpret.proofs.interpreter.Interpreter.add_node.Goals as goal
+
+pub returns-in_err-add_held_node-clause-refuses : goal.returns-in_err-add_held_node-clause-refuses
+returns-in_err-add_held_node-clause-refuses c =
+    let p = err_from_is_err_and c.from_residual.result c.from_residual.ensures.1 in
+    rw (p.1, p.2, ← c.self.view_is) (refuses-held _ _ c.args.ip c.args.parent c.in-Some.instruction.number c.in-Some.instruction.frames c.in_err-add_held_node.field-0.0 c.self.invariant c.in-Some.ensures.some c.in-Some.ensures.number c.in-Some.ensures.frames
+    c.in_err-add_held_node.ensures.fault (λ other. rw (c.in_err-add_held_node.ensures.unchanged other) refl) refl refl)
+
+pub returns-in-Some-clause-takes : goal.returns-in-Some-clause-takes
+returns-in-Some-clause-takes c =
+    rw (← c.self.view_is) (λ line. takes-held _ c.add_held_node.new.nodes c.args.ip c.args.parent c.in-Some.instruction.number c.in-Some.instruction.frames c.unwrap_or-version.result line _ _ c.self.invariant c.unwrap_or-version.ensures
+    c.in-Some.ensures.some c.in-Some.ensures.number c.in-Some.ensures.frames c.in_ok-add_held_node.ensures.added c.in_ok-add_held_node.ensures.lines c.in_ok-add_held_node.ensures.no_fault)
+
+pub add_new_node-requires-clause-new : goal.add_new_node-requires-clause-new
+add_new_node-requires-clause-new c = rw c.resolve-found.ensures.ip (new-ip c.self.inside.known c.args.ip c.in_default.ensures.none).1
+
+pub returns-clause-takes : goal.returns-clause-takes
+returns-clause-takes c =
+    rw (← c.self.view_is) (λ line. takes-new _ c.add_new_node.new.names c.add_new_node.new.known c.add_new_node.new.nodes _ c.args.ip c.args.parent c.unwrap_or-version.result line _ _ c.self.invariant c.unwrap_or-version.ensures
+    c.resolve-found.ensures.found c.in_default.ensures.none c.in_ok-add_new_node.ensures.names c.in_ok-add_new_node.ensures.known c.in_ok-add_new_node.ensures.nodes c.in_ok-add_new_node.ensures.lines c.in_ok-add_new_node.ensures.no_fault)
+
+pub returns-in_err-add_new_node-clause-refuses : goal.returns-in_err-add_new_node-clause-refuses
+returns-in_err-add_new_node-clause-refuses c =
+    let p = err_from_is_err_and c.from_residual-in_err-add_new_node.result c.from_residual-in_err-add_new_node.ensures.1 in
+    rw (p.1, p.2, ← c.self.view_is) (refuses-new _ _ _ c.args.ip c.args.parent c.in_err-add_new_node.field-0.0 c.self.invariant c.resolve-found.ensures.found c.in_default.ensures.none
+    c.in_err-add_new_node.ensures.fault (λ one two. let same = c.in_err-add_new_node.ensures.unchanged one two in rw (same.0, same.1, same.2) refl) refl refl)

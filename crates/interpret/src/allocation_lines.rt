@@ -1,0 +1,44 @@
+//! The allocations of a raw trace, and the lines that each gives.
+#![tactic(auto, using(crate::proofs::ExtendLemmas::extends_same, crate::proofs::ExtendLemmas::extends_more, crate::proofs::ExtendLemmas::extends_trans))]
+
+ghost use Rattle.std.specs.Prelude.{◌≡◌, ◌≢◌, ℕ, ◌<◌, ◌≤◌, List, [], ◌∷◌, ◌++◌, length, map, IfOk, IfErr};
+ghost use Rattle.ht_lines.specs.Content.{allocation_line};
+ghost use Rattle.ht_lines.specs.Extends.{Extends};
+ghost use Rattle.ht_lines.specs.Written.{written};
+ghost use Rattle.ht_trace.specs.LineFault.{Tells, most_entries};
+ghost use Rattle.interpret.specs.FirstAppearances.{over_fault, with_new};
+ghost use Rattle.interpret.specs.Interpreted.{info_said, new_in, text_of};
+ghost use Rattle.interpret.specs.RawTables.{info_number, same_info};
+
+use crate::infos::{AllocationInfo, InfoSet};
+use ht_lines::{Item, put_item};
+use ht_trace::LineError;
+
+/// The number of an allocation's info, which is added where it is new. Appends the line of a new info and that of the
+/// allocation.
+///
+/// `TooMany` comes exactly where there would be more infos than 2^32 - 1.
+pub fn put_allocation(
+    infos: &mut InfoSet,
+    version: u8,
+    info: AllocationInfo,
+    out: &mut Vec<u8>,
+) -> Result<u32, LineError>
+    ensures added { IfOk result (λ number. infos.new ≡ with_new same_info infos.old info) }
+    ensures number { IfOk result (λ number. number ≡ info_number infos.new info) }
+    ensures lines { IfOk result (λ number. out.new.items ≡ out.old.items
+        ++ text_of (map (written version) (map info_said (new_in infos.old infos.new) ++ allocation_line number ∷ []))) }
+    ensures fault { IfErr result (λ error. Tells error (over_fault most_entries (length (with_new same_info infos.old info)))) }
+    ensures only { IfErr result (λ error. error ≢ LineError.NoMemory → error ≡ LineError.TooMany) }
+    ensures few { length infos.new ≤ most_entries }
+    ensures kept { Extends out.old.items out.new.items }
+{
+    let found = infos.intern(info)?;
+    if found.is_new {
+        let AllocationInfo { size, trace } = info;
+        put_item(version, &Item::Info { size, trace }, out)?;
+    }
+    let info = u64::from(found.number);
+    put_item(version, &Item::Alloc { info }, out)?;
+    Ok(found.number)
+}

@@ -1,0 +1,88 @@
+//! The nodes of a raw trace, and the lines that each gives.
+#![tactic(auto, using(crate::proofs::ExtendLemmas::extends_same, crate::proofs::ExtendLemmas::extends_more, crate::proofs::ExtendLemmas::extends_trans))]
+
+ghost use Rattle.std.specs.Prelude.{◌≡◌, ◌≢◌, ℕ, ◌+◌, ◌==◌, ◌<◌, ◌≤◌, List, [], ◌∷◌, ◌++◌, false, length, map, None, Some, OnOk, OnErr, IfErr};
+ghost use Rattle.std.specs.List.{list_any};
+ghost use Rattle.ht_lines.specs.Content.{node_line, string_line};
+ghost use Rattle.ht_lines.specs.Extends.{Extends};
+ghost use Rattle.ht_lines.specs.Written.{written};
+ghost use Rattle.ht_trace.specs.LineFault.{Tells, most_entries, most_nodes};
+ghost use Rattle.interpret.specs.FirstAppearances.{over_fault};
+ghost use Rattle.interpret.specs.FrameKept.{resolved_kept};
+ghost use Rattle.interpret.specs.Interpreted.{new_in, text_of};
+ghost use Rattle.interpret.specs.RawFault.{lists_fault, node_fault};
+ghost use Rattle.interpret.specs.RawTables.{known_with, names_with};
+ghost use Rattle.interpret.specs.Resolved.{frame_count, instruction_said};
+
+use crate::instruction_lines::{add_names, put_instruction};
+use crate::known_ips::{KnownIps, Numbered};
+use crate::name_table::NameTable;
+use crate::resolved::ResolvedIp;
+use ht_lines::{Item, put_item};
+use ht_trace::LineError;
+use stack_table::Nodes;
+
+/// Adds the node of an instruction that has a number, and appends its line.
+///
+/// `UnknownParent`, `TooDeep` and `TooMany` come as the node table tells them, and leave the nodes as they were.
+pub fn add_held_node(
+    nodes: &mut Nodes,
+    version: u8,
+    instruction: Numbered,
+    parent: u64,
+    out: &mut Vec<u8>,
+) -> Result<(), LineError>
+    ensures added { OnOk result (nodes.new ≡ nodes.old ++ record { ip = instruction.number; parent = parent; frames = instruction.frames } ∷ []) }
+    ensures lines { OnOk result (out.new.items ≡ out.old.items ++ text_of (written version (node_line instruction.number parent) ∷ [])) }
+    ensures no_fault { OnOk result (node_fault nodes.old instruction.frames parent (over_fault most_nodes (length nodes.old + 1)) ≡ None) }
+    ensures fault { IfErr result (λ error. Tells error (node_fault nodes.old instruction.frames parent (over_fault most_nodes (length nodes.old + 1)))) }
+    ensures few { length nodes.old ≤ most_nodes → length nodes.new ≤ most_nodes }
+    ensures unchanged { IfErr result (λ error. error ≢ LineError.NoMemory → nodes.new ≡ nodes.old) }
+    ensures kept { Extends out.old.items out.new.items }
+{
+    let Numbered { number, frames } = instruction;
+    nodes.add(number, parent, frames)?;
+    put_item(version, &Item::Node { ip: number, parent }, out)?;
+    Ok(())
+}
+
+/// Adds the node of an instruction that has no number yet, with the names that it calls for, and appends the lines of the
+/// new names, of the instruction and of the node.
+///
+/// `UnknownParent` and `TooDeep` come as the node table tells them, and leave all as it was; `TooMany` comes exactly where
+/// neither does and a table would have too many entries.
+pub fn add_new_node(
+    names: &mut NameTable,
+    known: &mut KnownIps,
+    nodes: &mut Nodes,
+    version: u8,
+    found: &ResolvedIp,
+    parent: u64,
+    out: &mut Vec<u8>,
+) -> Result<(), LineError>
+    requires new { list_any (λ k. found.now.ip == k.ip) known.old ≡ false }
+    requires few_names { length names.old ≤ most_entries }
+    ensures names { OnOk result (names.new ≡ names_with names.old (Some (resolved_kept found.now))) }
+    ensures known { OnOk result (known.new ≡ known_with known.old (Some (resolved_kept found.now))) }
+    ensures nodes { OnOk result (nodes.new ≡ nodes.old ++ record { ip = length known.old + 1; parent = parent; frames = frame_count (resolved_kept found.now) } ∷ []) }
+    ensures lines { OnOk result (out.new.items ≡ out.old.items
+        ++ text_of (map (written version) (map string_line (new_in names.old names.new) ++ (instruction_said names.new (resolved_kept found.now) ∷ node_line (length known.old + 1) parent ∷ [])))) }
+    ensures no_fault { OnOk result (node_fault nodes.old (frame_count (resolved_kept found.now)) parent (lists_fault names.new known.new nodes.new) ≡ None) }
+    ensures fault { IfErr result (λ error. Tells error (node_fault nodes.old (frame_count (resolved_kept found.now)) parent
+        (lists_fault (names_with names.old (Some (resolved_kept found.now))) (known_with known.old (Some (resolved_kept found.now)))
+        (nodes.old ++ record { ip = length known.old + 1; parent = parent; frames = frame_count (resolved_kept found.now) } ∷ [])))) }
+    ensures few_names { length names.new ≤ most_entries }
+    ensures few_known { length known.old ≤ most_entries → length known.new ≤ most_entries }
+    ensures few_nodes { length nodes.old ≤ most_nodes → length nodes.new ≤ most_nodes }
+    ensures unchanged { IfErr result (λ error. error ≢ LineError.NoMemory → error ≢ LineError.TooMany → (names.new ≡ names.old) × (known.new ≡ known.old) × (nodes.new ≡ nodes.old)) }
+    ensures kept { Extends out.old.items out.new.items }
+{
+    let number = known.next_number();
+    let frames = found.frame_count();
+    nodes.add(number, parent, frames)?;
+    known.add(found.ip, frames)?;
+    add_names(names, version, found, out)?;
+    put_instruction(names, found, out)?;
+    put_item(version, &Item::Node { ip: number, parent }, out)?;
+    Ok(())
+}
