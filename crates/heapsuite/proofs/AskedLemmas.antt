@@ -156,6 +156,8 @@ unknown_asks_nothing (command ∷ words) is =
     let help : Bool = bytes_eq command (codes "--help") in
     let summary : Bool = bytes_eq command (codes "summary") in
     let flame : Bool = bytes_eq command (codes "flame") in
-    let first = or_parts help (summary || flame) is in
-    let rest = or_parts summary flame first.1 in
-    rw (first.0, rest.0, rest.1) refl
+    let gen : Bool = bytes_eq command (codes "gen") in
+    let first = or_parts help (summary || (flame || gen)) is in
+    let second = or_parts summary (flame || gen) first.1 in
+    let third = or_parts flame gen second.1 in
+    rw (first.0, second.0, third.0, third.1) refl

@@ -7,6 +7,9 @@
 mod batch;
 mod fault;
 mod flame_command;
+mod gen_command;
+mod gen_summary;
+mod number_words;
 mod read_trace;
 mod run;
 mod run_words;
@@ -53,6 +56,8 @@ fn main(rt: HostRuntime) -> ExitCode {
 
 #[cfg(test)]
 mod flame_tests;
+#[cfg(test)]
+mod gen_tests;
 #[cfg(test)]
 mod refusal_tests;
 #[cfg(test)]
