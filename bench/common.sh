@@ -4,26 +4,9 @@ heapsuite=$(realpath "${1:-$(dirname "$0")/../bin/heapsuite}") || exit 1
 folder=$(mktemp -d) || exit 1
 trap 'rm -r "$folder"' EXIT
 
-# Writes an interpreted trace of about 100 MB: 18 million events over 4,096 stacks of at most 64 frames.
+# Writes a large trace of the generator: 10 million events over 4,000 stacks, about 60 MB.
 large_trace() {
-    awk 'BEGIN {
-        stacks = 4096
-        print "v 10400 2"
-        print "s libbench.so"
-        for (n = 1; n <= stacks; n++) {
-            printf "i %x 1\n", 4096 + 16 * n
-            printf "t %x %x\n", n, n % 64 == 1 ? 0 : n - 1
-            printf "a %x %x\n", 16 + n % 1000, n
-        }
-        for (k = 0; k < 9000000; k++) {
-            info = sprintf("%x", k * 7919 % stacks)
-            if (k % 3 == 0) print "+ " info "\n- " info
-            else if (k % 3 == 1) { print "+ " info; print "+ " info }
-            else { print "- " last; print "- " last }
-            last = info
-            if (k % 1000 == 0) printf "c %x\n", k / 1000
-        }
-    }' > "$1"
+    "$heapsuite" gen --seed=1 --events=10000000 --stacks=4000 > "$1"
 }
 
 # Says what is measured on a file of input.

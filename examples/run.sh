@@ -1,8 +1,11 @@
 #!/bin/sh
 # Runs `heapsuite summary`, `heapsuite print` and `heapsuite flame` on each trace of this folder, and compares what they print
-# with the files beside the trace. The program is the first argument, or bin/heapsuite at the top of the repository.
+# with the files beside the trace; and generates a trace of two million events, whose summary is `generated.summary`. The
+# program is the first argument, or bin/heapsuite at the top of the repository.
 cd "$(dirname "$0")" || exit 1
 heapsuite=${1:-../bin/heapsuite}
+work=$(mktemp -d) || exit 1
+trap 'rm -r "$work"' EXIT
 failed=0
 
 # Compares what a command prints of a trace with the file of an ending.
@@ -25,4 +28,19 @@ for trace in *.trace; do
     compare "$trace" peak-flame flame --flamegraph-cost-type=peak
 done
 compare pages.trace suppressed-print print --merge-backtraces=0 --suppressions=pages.suppressions
+
+# Compares what comes in with the summary of the generated trace.
+compare_generated() {
+    if cmp -s - generated.summary; then
+        echo "generated trace, $1: as expected"
+    else
+        echo "generated trace, $1: differs"
+        failed=1
+    fi
+}
+
+"$heapsuite" gen --run --seed=1 --events=2000000 --stacks=1000 > "$work/read"
+"$heapsuite" gen --seed=1 --events=2000000 --stacks=1000 | "$heapsuite" summary - > "$work/written"
+compare_generated "read while it is made" < "$work/read"
+compare_generated "written and read" < "$work/written"
 exit "$failed"

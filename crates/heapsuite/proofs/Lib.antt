@@ -2,3 +2,4 @@ pub mod ReadLemmas
 pub mod BatchLemmas
 pub mod AskedLemmas
 pub mod SilentLemmas
+pub mod GenLemmas

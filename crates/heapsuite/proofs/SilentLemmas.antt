@@ -1,7 +1,8 @@
 -- Which commands write nothing while they read.
-use Rattle.std.proofs.Common.{ℕ, List, Option, Some, None, refl}
+use Rattle.std.proofs.Common.{ℕ, List, Option, Some, None, true, refl}
 use Rattle.command_frame.specs.Silent.{IsSilent}
-use Rattle.heapsuite.specs.Asked.{Flame, Help, Print, Summary}
+use Rattle.trace_gen.specs.Sizes.{Sizes}
+use Rattle.heapsuite.specs.Asked.{Flame, Gen, Help, Print, Summary}
 use Rattle.heapsuite.specs.FlameWords.{FlameAsked}
 use Rattle.heapsuite.specs.PrintReport.{report_written}
 use Rattle.heapsuite.specs.PrintWords.{PrintAsked}
@@ -24,3 +25,6 @@ print_is_silent print = behind_is_silent print.suppressions print.trace (report_
 
 pub flame_is_silent : (flame : FlameAsked) → IsSilentFor (Some (Flame flame))
 flame_is_silent flame = (λ earlier line. refl, λ lines. tt)
+
+pub generated_summary_is_silent : (sizes : Sizes) → IsSilentFor (Some (Gen (record { sizes = sizes; run = true })))
+generated_summary_is_silent sizes = tt

@@ -8,6 +8,8 @@ use Rattle.heapsuite.specs.FlameReport.{flame_plan}
 use Rattle.heapsuite.specs.FlameWords.{FlameAsked, flame_asked}
 use Rattle.heapsuite.specs.PrintReport.{print_plan}
 use Rattle.heapsuite.specs.PrintWords.{PrintAsked, print_asked}
+use Rattle.heapsuite.specs.GenReport.{gen_plan}
+use Rattle.heapsuite.specs.GenWords.{GenAsked, gen_asked}
 use Rattle.heapsuite.specs.SummaryReport.{summary_plan}
 use Rattle.heapsuite.specs.SummaryWords.{summary_trace}
 use Rattle.heapsuite.specs.SuppressionsReport.{names_behind}
@@ -22,6 +24,8 @@ pub data Asked : Type 0 where
   Print : PrintAsked → Asked
   -- the flame stacks of a named trace
   Flame : FlameAsked → Asked
+  -- a generated trace, or its summary
+  Gen : GenAsked → Asked
 
 -- `--help` alone
 abbrev pub help_asked : List (List ℕ) → Option Asked
@@ -35,6 +39,7 @@ command_asked command words =
     else if bytes_eq command (codes "summary") then option_map Summary (summary_trace words)
     else if bytes_eq command (codes "print") then option_map Print (print_asked words)
     else if bytes_eq command (codes "flame") then option_map Flame (flame_asked words)
+    else if bytes_eq command (codes "gen") then option_map Gen (gen_asked words)
     else None
 
 -- what words ask for, or nothing where they aren't taken
@@ -45,7 +50,12 @@ asked (command ∷ words) = command_asked command words
 -- whether the first word is one that the program knows
 unfoldable pub knows_first : List (List ℕ) → Bool
 knows_first [] = false
-knows_first (command ∷ words) = bytes_eq command (codes "--help") || (bytes_eq command (codes "summary") || (bytes_eq command (codes "print") || bytes_eq command (codes "flame")))
+knows_first (command ∷ words) =
+    bytes_eq command (codes "--help") ||
+    (bytes_eq command (codes "summary") ||
+    (bytes_eq command (codes "print") ||
+    (bytes_eq command (codes "flame") ||
+    bytes_eq command (codes "gen"))))
 
 -- the files that are read for it, in order
 abbrev pub names_of : Asked → List (List ℕ)
@@ -53,6 +63,7 @@ names_of Help = []
 names_of (Summary trace) = trace ∷ []
 names_of (Print print) = names_behind print.suppressions print.trace
 names_of (Flame flame) = flame.trace ∷ []
+names_of (Gen gen) = []
 
 -- what is done with them
 abbrev pub plan_of : Asked → Plan
@@ -60,6 +71,7 @@ plan_of Help = Ends (Writes heapsuite_texts.usage)
 plan_of (Summary trace) = summary_plan trace
 plan_of (Print print) = print_plan print
 plan_of (Flame flame) = flame_plan flame
+plan_of (Gen gen) = gen_plan gen
 
 -- the files that words name, where they are taken
 abbrev pub names_asked : Option Asked → List (List ℕ)

@@ -8,8 +8,12 @@ pub mod Texts
 pub mod SummaryWords
 pub mod FlameWords
 pub mod FlameReport
+pub mod NumberWords
 pub mod PrintWords
 pub mod PrintReport
+pub mod GenWords
+pub mod GenReport
+pub mod GenTaken
 pub mod Asked
 pub mod Requests
 pub mod Answer

@@ -1,11 +1,11 @@
 -- The words of `print`.
-use Rattle.std.specs.Prelude.{ℕ, List, [], ◌∷◌, ◌&&◌, Bool, true, false, codes, nat_le, Option, Some, None, if◌then◌else◌}
+use Rattle.std.specs.Prelude.{ℕ, List, [], ◌∷◌, ◌&&◌, Bool, true, false, codes, Option, Some, None, if◌then◌else◌}
 use Rattle.std.specs.Option.{option_and_then}
 use Rattle.std.specs.Str.{bytes_eq}
 use Rattle.command_words.specs.TableApp.{Table}
 use Rattle.command_words.specs.WordsTaken.{only_file_in, value_in, words_taken}
-use Rattle.hp_num.specs.ParsedDec.{parsed_dec}
 use Rattle.ht_print.specs.declared.options.PrintOptions.{PrintOptions}
+use Rattle.heapsuite.specs.NumberWords.{number_or}
 
 -- which trace and which suppressions file, if any, and what is shown
 pub record PrintAsked : Type 0 where
@@ -38,17 +38,9 @@ switch_or absent (Some value) = switch_named value
 abbrev pub most_entries : ℕ
 most_entries = 1000000
 
-abbrev pub limit_within : ℕ → Option ℕ
-limit_within limit = if nat_le limit most_entries then Some limit else None
-
--- the number of entries that a value says
-abbrev pub limit_named : List ℕ → Option ℕ
-limit_named value = option_and_then limit_within (parsed_dec value)
-
 -- how many entries are shown; there are so many where no number is given
 abbrev pub limit_or : ℕ → Option (List ℕ) → Option ℕ
-limit_or absent None = Some absent
-limit_or absent (Some value) = limit_named value
+limit_or absent value = number_or absent 0 most_entries value
 
 -- what follows from a setting, where its value is in its range
 abbrev pub by_setting : {X Y : Type 0} → Option X → (X → Option Y) → Option Y

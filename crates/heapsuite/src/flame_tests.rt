@@ -1,6 +1,6 @@
 //! `flame` over a worked trace, and its words.
 
-use crate::tests::{Case, WORKED, expect, summary};
+use crate::tests::{Case, USAGE, WORKED, expect, summary};
 use std::test::Fail;
 
 /// `flame` with these words over a worked trace of two nested calls.
@@ -15,8 +15,6 @@ const fn flame(
         ..summary(WORKED, status, output, message)
     }
 }
-
-const USAGE: &str = "usage: heapsuite COMMAND [OPTION]... [FILE]\ncommands: summary print flame\n";
 
 #[test]
 fn draws_each_cost(rt: HostRuntime) -> Result<(), Fail> {

@@ -7,6 +7,9 @@
 mod batch;
 mod fault;
 mod flame_command;
+mod gen_command;
+mod gen_summary;
+mod number_words;
 mod print_command;
 mod print_words;
 mod read_trace;
@@ -57,6 +60,8 @@ fn main(rt: HostRuntime) -> ExitCode {
 
 #[cfg(test)]
 mod flame_tests;
+#[cfg(test)]
+mod gen_tests;
 #[cfg(test)]
 mod print_tests;
 #[cfg(test)]

@@ -1,7 +1,7 @@
 //! `print` over worked traces, with and without suppressions, its words, and each call of a store that fails.
 
 use crate::run::heapsuite_run;
-use crate::tests::WORKED;
+use crate::tests::{USAGE, WORKED};
 use hp_num::{put_bytes, put_dec};
 use hp_outside::{Limits, MemSink, MemStore};
 use std::alloc::Global;
@@ -216,9 +216,6 @@ print --histogram worked
 print --merge-backtraces=true worked
 print --suppressions=- -";
 
-const USAGE_TEXT: &str =
-    "usage: heapsuite COMMAND [OPTION]... [FILE]\ncommands: summary print flame\n2\n\n";
-
 #[test]
 fn refuses_other_words(rt: HostRuntime) -> Result<(), Fail> {
     let alloc = rt.alloc();
@@ -226,7 +223,8 @@ fn refuses_other_words(rt: HostRuntime) -> Result<(), Fail> {
     let mut wanted = Vec::new(alloc);
     for words in REFUSED.split('\n') {
         append_run(alloc, words, 0, &mut all)?;
-        put_bytes(&mut wanted, USAGE_TEXT.as_bytes())?;
+        put_bytes(&mut wanted, USAGE.as_bytes())?;
+        put_bytes(&mut wanted, b"2\n\n")?;
     }
     assert_eq!(rt; all.as_slice(), wanted.as_slice());
     Ok(())

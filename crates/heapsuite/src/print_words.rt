@@ -1,10 +1,10 @@
 //! What the words of `print` say of a report. Which report that is, is no part of it.
-ghost use Rattle.std.specs.Prelude.{◌≡◌, Bool, codes};
+ghost use Rattle.std.specs.Prelude.{◌≡◌, ◌≤◌, Bool, codes};
 ghost use Rattle.command_words.specs.WordsTaken.{rows_in, value_in};
-ghost use Rattle.heapsuite.specs.PrintWords.{limit_named, limit_or, options_given, switch_named, switch_or};
+ghost use Rattle.heapsuite.specs.PrintWords.{limit_or, options_given, switch_named, switch_or};
 
+use crate::number_words::number_or;
 use command_words::{TakenWords, WordTable};
-use hp_num::parse_dec;
 use ht_print::PrintOptions;
 
 /// The option that names a suppressions file.
@@ -62,14 +62,9 @@ fn switch_in(words: &TakenWords, option: &str, absent: bool) -> Option<bool>
 
 /// How many entries are shown: `absent` where the words don't say so.
 fn limit_in(words: &TakenWords, option: &str, absent: u32) -> Option<u32>
+    requires most { absent ≤ 1000000 }
     ensures { result ≡ limit_or absent (value_in (rows_in words.now) option.now) }
 {
-    let Some(value) = words.value(option) else {
-        return Some(absent);
-    };
-    let limit = parse_dec(value.as_bytes())?;
-    if limit > MOST_ENTRIES {
-        return None;
-    }
+    let limit = number_or(u64::from(absent), 0, MOST_ENTRIES, words.value(option))?;
     Some(limit as u32)
 }

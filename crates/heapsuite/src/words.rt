@@ -4,6 +4,7 @@ ghost use Rattle.heapsuite.specs.Asked.{asked, help_asked, knows_first};
 ghost use Rattle.heapsuite.specs.Requests.{asked_of};
 
 use crate::flame_command::FlameRequest;
+use crate::gen_command::GenRequest;
 use crate::print_command::PrintRequest;
 use crate::summary_command::SummaryRequest;
 use command_words::WordsFault;
@@ -20,6 +21,8 @@ pub enum Request<'a> {
     Print(PrintRequest<'a>),
     /// The flame stacks of a trace.
     Flame(FlameRequest<'a>),
+    /// A generated trace, or its summary.
+    Gen(GenRequest),
 }
 
 /// What the words ask for. `NotTaken` exactly where they aren't taken, unless memory is wanting; none is taken for no
@@ -47,6 +50,10 @@ pub fn read_words<'a>(alloc: Global, words: &'a [String]) -> Result<Request<'a>,
     if command.as_str() == "flame" {
         let request = FlameRequest::read(alloc, words)?;
         return Ok(Request::Flame(request));
+    }
+    if command.as_str() == "gen" {
+        let request = GenRequest::read(alloc, words)?;
+        return Ok(Request::Gen(request));
     }
     Err(WordsFault::NotTaken)
 }

@@ -1,11 +1,14 @@
 -- One line of a group, and the step to the next group.
-use Rattle.std.proofs.Common.{◌≡◌, ℕ, suc, ◌+◌, ◌-◌, ◌<◌, true, List, [], ◌∷◌, ◌++◌, ap, ap₂, sym, ◌∙◌, append_assoc, arith}
-use Rattle.hp_outside.specs.WholeLines.{text_of_lines}
+use Rattle.std.proofs.Common.{◌≡◌, ℕ, suc, ◌+◌, ◌-◌, ◌<◌, ◌≤◌, cond, Bool, List, [], ◌∷◌, ◌++◌, codes, length, refl, ap, ap₂, sym, subst, ◌∙◌, inl, inr, length-append, arith}
+use Rattle.std.proofs.lemmas.Bool.Decides.{eqb_tells}
+use Rattle.std.proofs.lemmas.List.FromFn.{length-map-range_with_len}
 use Rattle.trace_gen.specs.Sizes.{Sizes, sizes_of}
 use Rattle.trace_gen.specs.declared.generator.Generator.{Generator}
 use Rattle.trace_gen.specs.declared.generator.Group.{Group}
-use Rattle.trace_gen.specs.GeneratedTrace.{event_line, info_line, instruction_line, lines_from, name_line, node_line}
-use Rattle.trace_gen.specs.GeneratorState.{IsAt, Makes, events_left, infos_left, names_left, lines_left, pieces_left, text_left}
+use Rattle.trace_gen.specs.declared.generator.Group.TheVariants.{Version, Names, Instructions, Nodes, Infos, Events}
+use Rattle.trace_gen.specs.Draws.{state_after}
+use Rattle.trace_gen.specs.GeneratedTrace.{event_line, generated_lines, info_line, instruction_line, lines_from, name_line, node_line}
+use Rattle.trace_gen.specs.GeneratorState.{BlocksAre, IsAt, IsWithin, MakesLine, Stands, behind, draws_before, events_before, events_left, infos_left, lines_left, lines_yet}
 
 -- the first of the lines that are left, and none
 pub one_line : (line : ℕ → List ℕ) (next size : ℕ) → next < size → lines_from line next (size - next) ≡ line next ∷ lines_from line (next + 1) (size - (next + 1))
@@ -17,67 +20,101 @@ no_line line next size all = let count : size - next ≡ 0 = omega (arith, all) 
 pub from_first : (line : ℕ → List ℕ) (size : ℕ) → lines_from line 0 (size - 0) ≡ lines_from line 0 size
 from_first line size = let count : size - 0 ≡ size = omega arith in ap (lines_from line 0) count
 
--- a line of a group was made
-made_text : (before now line rest : List ℕ) → now ≡ before ++ (line ++ (10 ∷ [])) → now ++ rest ≡ before ++ (line ++ (10 ∷ rest))
-made_text before now line rest is =
-    ap (λ bytes. bytes ++ rest) is ∙ (append_assoc before (line ++ (10 ∷ [])) rest ∙ ap (λ bytes. before ++ bytes) (append_assoc line (10 ∷ []) rest))
+-- a group that has one line for each stack, and what follows it
+pub record HasLines (sizes : Sizes) (group following : Group) (line : ℕ → List ℕ) : Type 0 where
+  pub lines : (next : ℕ) → lines_left sizes group next ≡ lines_from line next (sizes.stacks - next) ++ lines_left sizes following 0
+  pub draws : draws_before sizes group sizes.stacks ≡ draws_before sizes following 0
+  pub no_events : (next : ℕ) → events_before group next ≡ 0
+  pub none_follow : events_before following 0 ≡ 0
+  pub within : (next : ℕ) → next < sizes.stacks → IsWithin sizes group next
+  pub begins : IsWithin sizes following 0
 
-pub line_made : (old new : Generator) (group : Group) (line : ℕ → List ℕ) (after : List (List ℕ)) (size : ℕ) (before now : List ℕ)
-    → ((next : ℕ) → lines_left (sizes_of old.options) group next ≡ lines_from line next (size - next) ++ after)
-    → (old.next < size → pieces_left (sizes_of old.options) group (old.next + 1) < pieces_left (sizes_of old.options) group old.next)
-    → old.group ≡ group → new.options ≡ old.options → new.group ≡ group → new.next ≡ old.next + 1
-    → old.next < size → now ≡ before ++ (line old.next ++ (10 ∷ [])) → IsAt new → Makes old new before now true
-line_made old new group line after size before now form fewer old_is options_is new_is next_is some now_is at =
-    let rest : List ℕ = text_of_lines (lines_from line (old.next + 1) (size - (old.next + 1)) ++ after) in
-    let new_text : text_left new ≡ rest =
-    ap (λ options. text_of_lines (lines_left (sizes_of options) new.group new.next)) options_is
-    ∙ (ap (λ g. text_of_lines (lines_left (sizes_of old.options) g new.next)) new_is
-    ∙ (ap (λ n. text_of_lines (lines_left (sizes_of old.options) group n)) next_is ∙ ap text_of_lines (form (old.next + 1)))) in
-    let old_text : text_left old ≡ line old.next ++ (10 ∷ rest) =
-    ap (λ g. text_of_lines (lines_left (sizes_of old.options) g old.next)) old_is
-    ∙ (ap text_of_lines (form old.next) ∙ ap (λ lines. text_of_lines (lines ++ after)) (one_line line old.next size some)) in
-    let new_pieces : pieces_left (sizes_of new.options) new.group new.next ≡ pieces_left (sizes_of old.options) group (old.next + 1) =
-    ap (λ options. pieces_left (sizes_of options) new.group new.next) options_is
-    ∙ (ap (λ g. pieces_left (sizes_of old.options) g new.next) new_is ∙ ap (pieces_left (sizes_of old.options) group) next_is) in
-    let old_pieces : pieces_left (sizes_of old.options) old.group old.next ≡ pieces_left (sizes_of old.options) group old.next = ap (λ g. pieces_left (sizes_of old.options) g old.next) old_is in
-    record {
-      at = at;
-      text = ap (λ text. now ++ text) new_text ∙ (made_text before now (line old.next) rest now_is ∙ ap (λ text. before ++ text) (sym old_text));
-      fewer = λ more. let less = fewer some in omega (arith, new_pieces, old_pieces, less);
-      end = λ none. absurd (cc);
-    }
+pub has_names : (sizes : Sizes) → 1 ≤ sizes.stacks → HasLines sizes Names Instructions name_line
+has_names sizes some = record { lines = λ next. refl; draws = refl; no_events = λ next. refl; none_follow = refl; within = λ next less. less; begins = some }
 
--- a group has no more lines
-pub group_ends : (old new : Generator) (group next_group : Group) (line : ℕ → List ℕ) (size : ℕ) (before : List ℕ)
-    → ((next : ℕ) → lines_left (sizes_of old.options) group next ≡ lines_from line next (size - next) ++ lines_left (sizes_of old.options) next_group 0)
-    → (old.next ≡ size → pieces_left (sizes_of old.options) next_group 0 < pieces_left (sizes_of old.options) group old.next)
-    → old.group ≡ group → new.options ≡ old.options → new.group ≡ next_group → new.next ≡ 0 → old.next ≡ size → IsAt new → Makes old new before before true
-group_ends old new group next_group line size before form fewer old_is options_is new_is next_is all at =
-    let new_text : text_left new ≡ text_of_lines (lines_left (sizes_of old.options) next_group 0) =
-    ap (λ options. text_of_lines (lines_left (sizes_of options) new.group new.next)) options_is
-    ∙ (ap (λ g. text_of_lines (lines_left (sizes_of old.options) g new.next)) new_is ∙ ap (λ n. text_of_lines (lines_left (sizes_of old.options) next_group n)) next_is) in
-    let old_text : text_left old ≡ text_of_lines (lines_left (sizes_of old.options) next_group 0) =
-    ap (λ g. text_of_lines (lines_left (sizes_of old.options) g old.next)) old_is
-    ∙ (ap text_of_lines (form old.next) ∙ ap (λ lines. text_of_lines (lines ++ lines_left (sizes_of old.options) next_group 0)) (no_line line old.next size all)) in
-    let new_pieces : pieces_left (sizes_of new.options) new.group new.next ≡ pieces_left (sizes_of old.options) next_group 0 =
-    ap (λ options. pieces_left (sizes_of options) new.group new.next) options_is
-    ∙ (ap (λ g. pieces_left (sizes_of old.options) g new.next) new_is ∙ ap (pieces_left (sizes_of old.options) next_group) next_is) in
-    let old_pieces : pieces_left (sizes_of old.options) old.group old.next ≡ pieces_left (sizes_of old.options) group old.next = ap (λ g. pieces_left (sizes_of old.options) g old.next) old_is in
-    record {
-      at = at;
-      text = ap (λ text. before ++ text) (new_text ∙ sym old_text);
-      fewer = λ more. let less = fewer all in omega (arith, new_pieces, old_pieces, less);
-      end = λ none. absurd (cc);
-    }
+pub has_instructions : (sizes : Sizes) → 1 ≤ sizes.stacks → HasLines sizes Instructions Nodes instruction_line
+has_instructions sizes some = record { lines = λ next. refl; draws = refl; no_events = λ next. refl; none_follow = refl; within = λ next less. less; begins = some }
+
+pub has_nodes : (sizes : Sizes) → 1 ≤ sizes.stacks → HasLines sizes Nodes Infos (node_line sizes)
+has_nodes sizes some = record { lines = λ next. refl; draws = omega arith; no_events = λ next. refl; none_follow = refl; within = λ next less. less; begins = some }
+
+pub has_infos : (sizes : Sizes) → HasLines sizes Infos Events (info_line sizes)
+has_infos sizes = record { lines = λ next. refl; draws = omega arith; no_events = λ next. refl; none_follow = refl; within = λ next less. less; begins = omega arith }
+
+-- one of its lines was made, and the generator stands behind it
+pub passed : (old : Generator) (state : ℕ) (group following : Group) (line : ℕ → List ℕ) (before now : List ℕ) → HasLines (sizes_of old.options) group following line
+    → old.group ≡ group → IsAt old → old.next < old.options.stacks → state ≡ state_after old.options.seed (draws_before (sizes_of old.options) group (old.next + 1)) → state < 2147483648
+    → now ≡ before ++ line old.next → length (line old.next) ≤ 40 → MakesLine old (behind (record old { state = state }) following) before now
+passed old state group following line before now has group_is at some state_is small now_is short =
+    let sizes : Sizes = sizes_of old.options in
+    let after : List (List ℕ) = lines_left sizes following 0 in
+    let one : lines_yet old ≡ line old.next ∷ (lines_from line (old.next + 1) (sizes.stacks - (old.next + 1)) ++ after) =
+    ap (λ g. lines_left sizes g old.next) group_is ∙ (has.lines old.next ∙ ap (λ lines. lines ++ after) (one_line line old.next sizes.stacks some)) in
+    let stands : Stands sizes group old.next old.state old.live.items = subst (λ g. Stands sizes g old.next old.state old.live.items) group_is at in
+    let blocks : BlocksAre sizes old.live.items 0 = subst (BlocksAre sizes old.live.items) (has.no_events old.next) stands.blocks in
+    let there : Generator = record old { state = state; group = following; next = 0 } in
+    let here : Generator = record old { state = state; next = old.next + 1 } in
+    elim (eqb_tells (old.next + 1) old.options.stacks) [
+      | inl all ↦ subst (λ (ends : Bool). MakesLine old (cond {A = Generator} ends there here) before now) (sym all.0) (record {
+        at = record {
+          within = has.begins;
+          state_is = state_is ∙ (ap (λ n. state_after sizes.seed (draws_before sizes group n)) all.1 ∙ ap (state_after sizes.seed) has.draws);
+          small = small;
+          infos = stands.infos;
+          blocks = subst (BlocksAre sizes old.live.items) (sym has.none_follow) blocks;
+        };
+        line = line old.next;
+        lines = one ∙ ap (λ rest. line old.next ∷ (rest ++ after)) (no_line line (old.next + 1) sizes.stacks all.1);
+        text = now_is;
+        short = short;
+      })
+      | inr less ↦ subst (λ (ends : Bool). MakesLine old (cond {A = Generator} ends there here) before now) (sym less.0) (record {
+        at = subst (λ g. Stands sizes g (old.next + 1) state old.live.items) (sym group_is) (record {
+          within = has.within (old.next + 1) (omega (arith, some, less.1));
+          state_is = state_is;
+          small = small;
+          infos = stands.infos;
+          blocks = subst (BlocksAre sizes old.live.items) (sym (has.no_events (old.next + 1))) blocks;
+        });
+        line = line old.next;
+        lines = one ∙ ap (λ lines. line old.next ∷ lines) (sym (ap (λ g. lines_left sizes g (old.next + 1)) group_is ∙ has.lines (old.next + 1)));
+        text = now_is;
+        short = short;
+      })
+    ]
 
 -- all lines of all groups
-pub all_names : (sizes : Sizes) → names_left sizes 0
-    ≡ lines_from name_line 0 sizes.stacks ++ (lines_from instruction_line 0 sizes.stacks ++ (lines_from (node_line sizes) 0 sizes.stacks
-    ++ (lines_from (info_line sizes) 0 sizes.stacks ++ lines_from (event_line sizes) 0 sizes.events)))
-all_names sizes =
+pub all_lines : (sizes : Sizes) → lines_left sizes Version 0 ≡ generated_lines sizes
+all_lines sizes =
     let stacks = sizes.stacks in
     let events : events_left sizes 0 ≡ lines_from (event_line sizes) 0 sizes.events = from_first (event_line sizes) sizes.events in
     let infos : infos_left sizes 0 ≡ lines_from (info_line sizes) 0 stacks ++ lines_from (event_line sizes) 0 sizes.events = ap₂ (λ a b. a ++ b) (from_first (info_line sizes) stacks) events in
     let nodes = ap₂ (λ a b. a ++ b) (from_first (node_line sizes) stacks) infos in
     let instructions = ap₂ (λ a b. a ++ b) (from_first instruction_line stacks) nodes in
-    ap₂ (λ a b. a ++ b) (from_first name_line stacks) instructions
+    ap (λ lines. codes "v 10500 2" ∷ codes "X gen" ∷ codes "s m" ∷ lines) (ap₂ (λ a b. a ++ b) (from_first name_line stacks) instructions)
+
+-- how many there are
+count_from : (line : ℕ → List ℕ) (count : ℕ) → length (lines_from line 0 count) ≡ count
+count_from line count = length-map-range_with_len line 0 count
+
+pub few_lines : (sizes : Sizes) → sizes.stacks ≤ 4000 → sizes.events ≤ 10000000 → length (generated_lines sizes) ≤ 10016003
+few_lines sizes stacks events =
+    let infos : List (List ℕ) = lines_from (info_line sizes) 0 sizes.stacks in
+    let moves : List (List ℕ) = lines_from (event_line sizes) 0 sizes.events in
+    let nodes : List (List ℕ) = lines_from (node_line sizes) 0 sizes.stacks in
+    let instructions : List (List ℕ) = lines_from instruction_line 0 sizes.stacks in
+    let names : List (List ℕ) = lines_from name_line 0 sizes.stacks in
+    omega (
+      arith,
+      stacks,
+      events,
+      length-append names (instructions ++ (nodes ++ (infos ++ moves))),
+      length-append instructions (nodes ++ (infos ++ moves)),
+      length-append nodes (infos ++ moves),
+      length-append infos moves,
+      count_from name_line sizes.stacks,
+      count_from instruction_line sizes.stacks,
+      count_from (node_line sizes) sizes.stacks,
+      count_from (info_line sizes) sizes.stacks,
+      count_from (event_line sizes) sizes.events,
+    )

@@ -1,19 +1,13 @@
 -- Where a generator stands in its trace.
-use Rattle.std.specs.Prelude.{◌≡◌, ℕ, ◌+◌, ◌-◌, ◌*◌, ◌<◌, ◌≤◌, List, [], ◌++◌, length, slice_index_or, Bool, true, false}
+use Rattle.std.specs.Prelude.{◌≡◌, ℕ, ◌+◌, ◌-◌, ◌*◌, ◌<◌, ◌≤◌, ◌==◌, List, [], ◌∷◌, ◌++◌, codes, length, slice_index_or, Bool, true, false, if◌then◌else◌}
 use Rattle.hp_outside.specs.WholeLines.{text_of_lines}
 use Rattle.trace_gen.specs.Sizes.{Sizes, sizes_of}
 use Rattle.trace_gen.specs.declared.generator.Generator.{Generator}
 use Rattle.trace_gen.specs.declared.generator.Group.{Group}
-use Rattle.trace_gen.specs.declared.generator.Group.TheVariants.{Head, Names, Instructions, Nodes, Infos, Events}
+use Rattle.trace_gen.specs.declared.generator.Group.TheVariants.{Version, Command, Module, Names, Instructions, Nodes, Infos, Events}
 use Rattle.trace_gen.specs.Draws.{state_after}
 use Rattle.trace_gen.specs.Moves.{allocated, freed, moves}
-use Rattle.trace_gen.specs.GeneratedTrace.{event_line, generated_lines, info_line, instruction_line, lines_from, name_line, node_line}
-
--- how many lines a group has
-abbrev pub group_len : Sizes → Group → ℕ
-group_len sizes Head = 0
-group_len sizes Events = sizes.events
-group_len sizes _ = sizes.stacks
+use Rattle.trace_gen.specs.GeneratedTrace.{event_line, info_line, instruction_line, lines_from, name_line, node_line}
 
 -- the lines from one of a group on
 abbrev pub events_left : Sizes → ℕ → List (List ℕ)
@@ -32,16 +26,29 @@ abbrev pub names_left : Sizes → ℕ → List (List ℕ)
 names_left sizes next = lines_from name_line next (sizes.stacks - next) ++ instructions_left sizes 0
 
 abbrev pub lines_left : Sizes → Group → ℕ → List (List ℕ)
-lines_left sizes Head next = generated_lines sizes
+lines_left sizes Version next = codes "v 10500 2" ∷ codes "X gen" ∷ codes "s m" ∷ names_left sizes 0
+lines_left sizes Command next = codes "X gen" ∷ codes "s m" ∷ names_left sizes 0
+lines_left sizes Module next = codes "s m" ∷ names_left sizes 0
 lines_left sizes Names next = names_left sizes next
 lines_left sizes Instructions next = instructions_left sizes next
 lines_left sizes Nodes next = nodes_left sizes next
 lines_left sizes Infos next = infos_left sizes next
 lines_left sizes Events next = events_left sizes next
 
--- their text
+-- the lines that a generator has yet to make, and their text
+abbrev pub lines_yet : Generator → List (List ℕ)
+lines_yet generator = lines_left (sizes_of generator.options) generator.group generator.next
+
 abbrev pub text_left : Generator → List ℕ
-text_left generator = text_of_lines (lines_left (sizes_of generator.options) generator.group generator.next)
+text_left generator = text_of_lines (lines_yet generator)
+
+-- a group has a line at this place; behind the last event there is none
+abbrev pub IsWithin : Sizes → Group → ℕ → Type 0
+IsWithin sizes Version next = next ≡ 0
+IsWithin sizes Command next = next ≡ 0
+IsWithin sizes Module next = next ≡ 0
+IsWithin sizes Events next = next ≤ sizes.events
+IsWithin sizes _ next = next < sizes.stacks
 
 -- the draws and the events before one of a group
 abbrev pub draws_before : Sizes → Group → ℕ → ℕ
@@ -54,30 +61,36 @@ abbrev pub events_before : Group → ℕ → ℕ
 events_before Events next = next
 events_before _ next = 0
 
--- how many pieces are left at most: one for each line, and one where a group ends
-abbrev pub pieces_left : Sizes → Group → ℕ → ℕ
-pieces_left sizes Head next = 5 * (sizes.stacks + sizes.events + 1)
-pieces_left sizes Names next = 4 * (sizes.stacks + sizes.events + 1) + (sizes.stacks - next)
-pieces_left sizes Instructions next = 3 * (sizes.stacks + sizes.events + 1) + (sizes.stacks - next)
-pieces_left sizes Nodes next = 2 * (sizes.stacks + sizes.events + 1) + (sizes.stacks - next)
-pieces_left sizes Infos next = (sizes.stacks + sizes.events + 1) + (sizes.stacks - next)
-pieces_left sizes Events next = sizes.events - next
+-- the live blocks of each info are those of the first so many events
+abbrev pub BlocksAre : Sizes → List ℕ → ℕ → Type 0
+BlocksAre sizes live events =
+    (info : ℕ) → info < sizes.stacks → slice_index_or live info 0 + freed info (moves sizes events) ≡ allocated info (moves sizes events)
 
 -- at a place, the state and the live blocks of each info are those of the draws and events before
 pub record Stands (sizes : Sizes) (group : Group) (next state : ℕ) (live : List ℕ) : Type 0 where
-  pub within : next ≤ group_len sizes group
+  pub within : IsWithin sizes group next
   pub state_is : state ≡ state_after sizes.seed (draws_before sizes group next)
   pub small : state < 2147483648
   pub infos : length live ≡ sizes.stacks
-  pub blocks : (info : ℕ) → info < sizes.stacks
-      → slice_index_or live info 0 + freed info (moves sizes (events_before group next)) ≡ allocated info (moves sizes (events_before group next))
+  pub blocks : BlocksAre sizes live (events_before group next)
 
 abbrev pub IsAt : Generator → Type 0
 IsAt generator = Stands (sizes_of generator.options) generator.group generator.next generator.state generator.live.items
 
--- a piece of the text was made behind some bytes, or its end was found
-pub record Makes (old new : Generator) (before now : List ℕ) (more : Bool) : Type 0 where
+-- where a generator stands behind a line of a group that has one for each stack
+abbrev pub behind : Generator → Group → Generator
+behind generator following =
+    if generator.next + 1 == generator.options.stacks then record generator { group = following; next = 0 } else record generator { next = generator.next + 1 }
+
+-- the next line was made behind some bytes
+pub record MakesLine (old new : Generator) (before now : List ℕ) : Type 0 where
   pub at : IsAt new
-  pub text : now ++ text_left new ≡ before ++ text_left old
-  pub fewer : more ≡ true → pieces_left (sizes_of new.options) new.group new.next < pieces_left (sizes_of old.options) old.group old.next
-  pub end : more ≡ false → text_left new ≡ []
+  pub line : List ℕ
+  pub lines : lines_yet old ≡ line ∷ lines_yet new
+  pub text : now ≡ before ++ line
+  pub short : length line ≤ 40
+
+-- so it was, or there is none
+abbrev pub Gives : Generator → Generator → List ℕ → List ℕ → Bool → Type 0
+Gives old new before now true = MakesLine old new before now
+Gives old new before now false = (lines_yet old ≡ []) × (new ≡ old) × (now ≡ before)

@@ -1,8 +1,8 @@
 //! A generator of a trace, which makes its lines one after another. It holds what the next draws need, and how many blocks
 //! each info has live.
-ghost use Rattle.std.specs.Prelude.{◌≡◌, ◌+◌, ◌<◌, ◌≤◌, ◌==◌, ◌&&◌, nat_lt, true, false, IfOk, IsTrue};
-ghost use Rattle.trace_gen.specs.GeneratedTrace.{generated_text};
-ghost use Rattle.trace_gen.specs.GeneratorState.{IsAt, Makes, text_left};
+ghost use Rattle.std.specs.Prelude.{◌≡◌, ◌+◌, ◌<◌, ◌≤◌, ◌==◌, ◌∷◌, ◌&&◌, nat_lt, length, true, false, IfOk, IsTrue, OnOk};
+ghost use Rattle.trace_gen.specs.GeneratedTrace.{generated_lines, generated_text};
+ghost use Rattle.trace_gen.specs.GeneratorState.{Gives, IsAt, MakesLine, Stands, behind, lines_left, lines_yet, text_left};
 ghost use Rattle.trace_gen.specs.Sizes.{sizes_of};
 
 use crate::draws::{next_state, number_below};
@@ -12,10 +12,12 @@ use command_frame::TextMaker;
 use hp_num::{NoMemory, put_bytes};
 use std::alloc::Global;
 
-/// The groups of lines of a trace, in order.
+/// The groups of lines of a trace, in order. The first three have one line each.
 #[derive(Clone, Copy, Debug, PartialEq, Eq)]
 pub enum Group {
-    Head,
+    Version,
+    Command,
+    Module,
     Names,
     Instructions,
     Nodes,
@@ -40,142 +42,156 @@ impl Generator {
     /// A generator that has made no line. `NoMemory` where memory is wanting.
     pub fn new(alloc: Global, options: &GeneratorOptions) -> Result<Generator, NoMemory>
         ensures at { IfOk result (λ generator. IsAt generator) }
+        ensures lines { IfOk result (λ generator. lines_yet generator ≡ generated_lines (sizes_of options.now)) }
+        ensures few { IfOk result (λ generator. length (lines_yet generator) ≤ 10016003) }
         ensures text { IfOk result (λ generator. text_left generator ≡ generated_text (sizes_of options.now)) }
     {
         let mut live = Vec::new(alloc);
         live.resize(options.stacks as usize, 0)?;
         Ok(Generator {
             options: *options,
-            group: Group::Head,
+            group: Group::Version,
             next: 0,
             state: options.seed,
             live,
         })
     }
 
-    /// The three lines before all groups.
-    fn head(&mut self, output: &mut Vec<u8>) -> Result<bool, NoMemory>
+    /// Appends the next line without a line feed, and answers whether there was one. `NoMemory` where memory is wanting; the
+    /// generator is then of no use, and `line` may hold anything.
+    pub fn line(&mut self, line: &mut Vec<u8>) -> Result<bool, NoMemory>
         requires at { IsAt self.old }
-        requires group { self.old.group ≡ Group.Head }
-        ensures made { IfOk result (λ more. Makes self.old self.new output.old.items output.new.items more) }
+        ensures made { IfOk result (λ more. Gives self.old self.new line.old.items line.new.items more) }
     {
-        put_bytes(output, b"v 10500 2\nX gen\ns m\n")?;
-        self.group = Group::Names;
-        self.next = 0;
+        match self.group {
+            Group::Version => self.head(b"v 10500 2", Group::Command, line)?,
+            Group::Command => self.head(b"X gen", Group::Module, line)?,
+            Group::Module => self.head(b"s m", Group::Names, line)?,
+            Group::Names => self.name(line)?,
+            Group::Instructions => self.instruction(line)?,
+            Group::Nodes => self.node(line)?,
+            Group::Infos => self.info(line)?,
+            Group::Events => {
+                if self.next == self.options.events {
+                    return Ok(false);
+                }
+                self.event(line)?
+            }
+        }
         Ok(true)
     }
 
-    /// The next name, or where there is none, the step to the next group.
-    fn name(&mut self, output: &mut Vec<u8>) -> Result<bool, NoMemory>
+    /// A group of one line.
+    fn head(&mut self, text: &[u8], following: Group, line: &mut Vec<u8>) -> Result<(), NoMemory>
+        requires lines { lines_yet self.old ≡ text.now ∷ lines_left (sizes_of self.old.options) following 0 }
+        requires following { Stands (sizes_of self.old.options) following 0 self.old.state self.old.live.items }
+        requires first { self.old.next ≡ 0 }
+        requires short { length text.now ≤ 40 }
+        ensures made { OnOk result (MakesLine self.old self.new line.old.items line.new.items) }
+    {
+        put_bytes(line, text)?;
+        self.group = following;
+        Ok(())
+    }
+
+    /// The next name.
+    fn name(&mut self, line: &mut Vec<u8>) -> Result<(), NoMemory>
         requires at { IsAt self.old }
         requires group { self.old.group ≡ Group.Names }
-        ensures made { IfOk result (λ more. Makes self.old self.new output.old.items output.new.items more) }
+        ensures made { OnOk result (MakesLine self.old self.new line.old.items line.new.items) }
     {
-        if self.next == self.options.stacks {
-            self.group = Group::Instructions;
-            self.next = 0;
-            return Ok(true);
-        }
-        put_name(output, self.next)?;
-        self.next += 1;
-        Ok(true)
+        put_name(line, self.next)?;
+        self.pass(Group::Instructions);
+        Ok(())
     }
 
-    /// The next instruction, or where there is none, the step to the next group.
-    fn instruction(&mut self, output: &mut Vec<u8>) -> Result<bool, NoMemory>
+    /// The next instruction.
+    fn instruction(&mut self, line: &mut Vec<u8>) -> Result<(), NoMemory>
         requires at { IsAt self.old }
         requires group { self.old.group ≡ Group.Instructions }
-        ensures made { IfOk result (λ more. Makes self.old self.new output.old.items output.new.items more) }
+        ensures made { OnOk result (MakesLine self.old self.new line.old.items line.new.items) }
     {
-        if self.next == self.options.stacks {
-            self.group = Group::Nodes;
-            self.next = 0;
-            return Ok(true);
-        }
-        put_instruction(output, self.next)?;
-        self.next += 1;
-        Ok(true)
+        put_instruction(line, self.next)?;
+        self.pass(Group::Nodes);
+        Ok(())
     }
 
-    /// The next node, or where there is none, the step to the next group.
-    fn node(&mut self, output: &mut Vec<u8>) -> Result<bool, NoMemory>
+    /// The next node.
+    fn node(&mut self, line: &mut Vec<u8>) -> Result<(), NoMemory>
         requires at { IsAt self.old }
         requires group { self.old.group ≡ Group.Nodes }
-        ensures made { IfOk result (λ more. Makes self.old self.new output.old.items output.new.items more) }
+        ensures made { OnOk result (MakesLine self.old self.new line.old.items line.new.items) }
     {
-        if self.next == self.options.stacks {
-            self.group = Group::Infos;
-            self.next = 0;
-            return Ok(true);
-        }
         let number = self.next + 1;
         self.state = next_state(self.state);
         let parent = number_below(number, self.state);
-        put_pair(output, b"t ", number, b" ", parent)?;
-        self.next = number;
-        Ok(true)
+        put_pair(line, b"t ", number, b" ", parent)?;
+        self.pass(Group::Infos);
+        Ok(())
     }
 
-    /// The next info, or where there is none, the step to the events.
-    fn info(&mut self, output: &mut Vec<u8>) -> Result<bool, NoMemory>
+    /// The next info.
+    fn info(&mut self, line: &mut Vec<u8>) -> Result<(), NoMemory>
         requires at { IsAt self.old }
         requires group { self.old.group ≡ Group.Infos }
-        ensures made { IfOk result (λ more. Makes self.old self.new output.old.items output.new.items more) }
+        ensures made { OnOk result (MakesLine self.old self.new line.old.items line.new.items) }
     {
-        if self.next == self.options.stacks {
-            self.group = Group::Events;
-            self.next = 0;
-            return Ok(true);
-        }
         let number = self.next + 1;
         self.state = next_state(self.state);
         let size = number_below(4096, self.state) + 1;
-        put_pair(output, b"a ", size, b" ", number)?;
-        self.next = number;
-        Ok(true)
+        put_pair(line, b"a ", size, b" ", number)?;
+        self.pass(Group::Events);
+        Ok(())
     }
 
-    /// The next event, if there is one.
-    fn event(&mut self, output: &mut Vec<u8>) -> Result<bool, NoMemory>
+    /// Passes a line of a group that has one for each stack.
+    fn pass(&mut self, following: Group)
+        requires some { self.old.next < self.old.options.stacks }
+        ensures passed { self.new ≡ behind self.old following }
+    {
+        self.next += 1;
+        if self.next == self.options.stacks {
+            self.group = following;
+            self.next = 0;
+        }
+    }
+
+    /// The next event.
+    fn event(&mut self, line: &mut Vec<u8>) -> Result<(), NoMemory>
         requires at { IsAt self.old }
         requires group { self.old.group ≡ Group.Events }
-        ensures made { IfOk result (λ more. Makes self.old self.new output.old.items output.new.items more) }
+        requires some { self.old.next < self.old.options.events }
+        ensures made { OnOk result (MakesLine self.old self.new line.old.items line.new.items) }
     {
-        if self.next == self.options.events {
-            return Ok(false);
-        }
         self.state = next_state(self.state);
         let info = number_below(self.options.stacks, self.state);
         self.state = next_state(self.state);
         let kind = number_below(2, self.state);
         let blocks = self.live[info as usize];
         let frees = is_free(kind, blocks);
-        put_event(output, frees, info)?;
+        put_event(line, frees, info)?;
         self.live[info as usize] = blocks_behind(blocks, frees);
         self.next += 1;
-        Ok(true)
+        Ok(())
     }
 }
 
 impl TextMaker for Generator {
-    ghost use Rattle.trace_gen.specs.GeneratorState.{IsAt, pieces_left, text_left};
-    ghost use Rattle.trace_gen.specs.Sizes.{sizes_of};
+    ghost use Rattle.std.specs.Prelude.{length};
+    ghost use Rattle.trace_gen.specs.GeneratorState.{IsAt, lines_yet, text_left};
 
     ghost is_sound = { IsAt };
 
     ghost rest = { text_left };
 
-    ghost pieces = { λ generator. pieces_left (sizes_of generator.options) generator.group generator.next };
+    ghost pieces = { λ generator. length (lines_yet generator) };
 
     fn piece(&mut self, output: &mut Vec<u8>) -> Result<bool, NoMemory> {
-        match self.group {
-            Group::Head => self.head(output),
-            Group::Names => self.name(output),
-            Group::Instructions => self.instruction(output),
-            Group::Nodes => self.node(output),
-            Group::Infos => self.info(output),
-            Group::Events => self.event(output),
+        if !self.line(output)? {
+            return Ok(false);
         }
+        put_bytes(output, b"\n")?;
+        Ok(true)
     }
 }
 

@@ -1,12 +1,11 @@
-use Rattle.std.proofs.Common.{◌≡◌, ℕ, ◌+◌, ◌-◌, ◌*◌, ◌<◌, ◌≤◌, ◌==◌, ◌&&◌, List, [], ◌∷◌, ◌++◌, slice_index_or, slice_set, length, refl, ap, ap₂, subst, sym, ◌∙◌, append-nil, arith}
+use Rattle.std.proofs.Common.{◌≡◌, ℕ, ◌+◌, ◌*◌, ◌<◌, ◌≤◌, ◌==◌, ◌&&◌, Bool, List, ◌∷◌, ◌++◌, slice_index_or, slice_set, length, refl, ap, ap₂, subst, sym, ◌∙◌, arith}
 use Rattle.std.proofs.lemmas.Grind.{get_or_default_zero}
-use Rattle.trace_gen.specs.declared.generator.Group.TheVariants.{Events}
 use Rattle.trace_gen.specs.Draws.{draw, next_state, number_below, state_after}
 use Rattle.trace_gen.specs.Moves.{Move, allocated, freed, moves, next_move}
-use Rattle.trace_gen.specs.GeneratedTrace.{event_line, lines_from, move_line}
+use Rattle.trace_gen.specs.GeneratedTrace.{event_line, move_line}
 use Rattle.trace_gen.specs.Sizes.{sizes_of}
-use Rattle.trace_gen.specs.GeneratorState.{Stands}
-use Rattle.trace_gen.proofs.Steps.{line_made}
+use Rattle.trace_gen.specs.GeneratorState.{Stands, events_left, lines_left, lines_yet}
+use Rattle.trace_gen.proofs.Steps.{one_line}
 use Rattle.trace_gen.proofs.Live.{drawn, few_blocks, has_block, moved}
 use Rattle.trace_gen.proofs.generator.Generator.event.Goals as goal
 
@@ -34,7 +33,7 @@ returns c =
     let new = c.blocks_behind.result in
     let below : info < sizes.stacks = c.number_below-info.ensures.below in
     let stands = subst (λ group. Stands sizes group old.next old.state old.live.items) c.requires.group c.requires.at in
-    let some : old.next < sizes.events = omega (arith, stands.within, c.if-self.false) in
+    let some : old.next < sizes.events = c.requires.some in
     let held : info < length old.live.items = omega (arith, below, stands.infos) in
     let blocks : c.index-blocks.result.now ≡ slice_index_or old.live.items info 0 = c.index-blocks.ensures ∙ get_or_default_zero old.live.items info c.index-blocks.result.now held in
     let draws : ℕ = 2 * sizes.stacks + 2 * old.next in
@@ -48,12 +47,17 @@ returns c =
     let here : c.index-blocks.result.now + freed move.info earlier ≡ allocated move.info earlier =
     subst (λ i. c.index-blocks.result.now + freed i earlier ≡ allocated i earlier) info_is (ap (λ n. n + freed info earlier) blocks ∙ stands.blocks info below) in
     let frees_is : frees ≡ move.frees = c.is_free-frees.ensures.free ∙ ap₂ (λ k b. (k == 0) && b) kind_is (has_block c.index-blocks.result.now (freed move.info earlier) (allocated move.info earlier) here) in
+    let line : Bool → ℕ → List ℕ = λ kind number. move_line (record { info = number; frees = kind }) in
+    let same : line frees info ≡ event_line sizes old.next = ap₂ line frees_is info_is in
+    let left : lines_yet old ≡ event_line sizes old.next ∷ events_left sizes (old.next + 1) = ap (λ g. lines_left sizes g old.next) c.requires.group ∙ one_line (event_line sizes) old.next sizes.events some in
     record {
-      made = line_made old _ Events (event_line sizes) [] sizes.events c.args.output.now.items c.put_event.new.output.items
-          (λ next. sym (append-nil (lines_from (event_line sizes) next (sizes.events - next)))) (λ less. omega (arith, less))
-          c.requires.group refl c.requires.group refl some
-          (c.in_ok-put_event.ensures ∙ ap₂ (λ kind i. c.args.output.now.items ++ (move_line (record { info = i; frees = kind }) ++ (10 ∷ []))) frees_is info_is)
-          (subst (λ group. Stands sizes group (old.next + 1) second (slice_set old.live.items info new)) (sym c.requires.group)
-          (moved sizes old.next old.state second old.live.items info new frees stands some info_is frees_is below
-          (λ kind. c.blocks_behind.ensures.allocated kind ∙ ap (λ n. n + 1) blocks) (λ kind. c.blocks_behind.ensures.freed kind ∙ blocks) second_is c.next_state-self-2.ensures.small));
+      made = record {
+        at = subst (λ group. Stands sizes group (old.next + 1) second (slice_set old.live.items info new)) (sym c.requires.group)
+            (moved sizes old.next old.state second old.live.items info new frees stands some info_is frees_is below
+            (λ kind. c.blocks_behind.ensures.allocated kind ∙ ap (λ n. n + 1) blocks) (λ kind. c.blocks_behind.ensures.freed kind ∙ blocks) second_is c.next_state-self-2.ensures.small);
+        line = event_line sizes old.next;
+        lines = left ∙ ap (λ lines. event_line sizes old.next ∷ lines) (sym (ap (λ g. lines_left sizes g (old.next + 1)) c.requires.group));
+        text = c.in_ok-put_event.ensures.appended ∙ ap (λ line. c.args.line.now.items ++ line) same;
+        short = omega (arith, c.in_ok-put_event.ensures.short, ap length same);
+      };
     }

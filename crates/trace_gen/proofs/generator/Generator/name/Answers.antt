@@ -1,9 +1,10 @@
-use Rattle.std.proofs.Common.{◌+◌, ◌<◌, refl, subst, sym, arith}
-use Rattle.trace_gen.specs.declared.generator.Group.TheVariants.{Names}
+use Rattle.std.proofs.Common.{subst, sym}
+use Rattle.trace_gen.specs.declared.generator.Generator.{Generator}
+use Rattle.trace_gen.specs.declared.generator.Group.TheVariants.{Names, Instructions}
 use Rattle.trace_gen.specs.GeneratedTrace.{name_line}
 use Rattle.trace_gen.specs.Sizes.{sizes_of}
-use Rattle.trace_gen.specs.GeneratorState.{Stands, instructions_left}
-use Rattle.trace_gen.proofs.Steps.{line_made}
+use Rattle.trace_gen.specs.GeneratorState.{MakesLine, Stands}
+use Rattle.trace_gen.proofs.Steps.{has_names, passed}
 use Rattle.trace_gen.proofs.generator.Generator.name.Goals as goal
 
 pub returns : goal.returns
@@ -11,10 +12,8 @@ returns c =
     let old = c.args.self.now in
     let sizes = sizes_of old.options in
     let stands = subst (λ group. Stands sizes group old.next old.state old.live.items) c.requires.group c.requires.at in
-    let some : old.next < sizes.stacks = omega (arith, stands.within, c.if-self.false) in
     record {
-      made = line_made old _ Names name_line (instructions_left sizes 0) sizes.stacks c.args.output.now.items c.put_name.new.output.items (λ next. refl) (λ less. omega (arith, less))
-          c.requires.group refl c.requires.group refl some c.in_ok-put_name.ensures
-          (subst (λ group. Stands sizes group (old.next + 1) old.state old.live.items) (sym c.requires.group)
-          (record { within = omega (arith, some); state_is = stands.state_is; small = stands.small; infos = stands.infos; blocks = stands.blocks }));
+      made = subst (λ (new : Generator). MakesLine old new c.args.line.now.items c.put_name.new.line.items) (sym c.pass.ensures.passed)
+          (passed old old.state Names Instructions name_line c.args.line.now.items c.put_name.new.line.items (has_names sizes old.options.stacks_above_zero) c.requires.group c.requires.at stands.within
+          stands.state_is stands.small c.in_ok-put_name.ensures.appended c.in_ok-put_name.ensures.short);
     }

@@ -1,0 +1,13 @@
+-- Numbers as values of options.
+use Rattle.std.specs.Prelude.{ℕ, ◌&&◌, nat_le, List, Option, Some, None, if◌then◌else◌}
+use Rattle.std.specs.Option.{option_and_then}
+use Rattle.hp_num.specs.ParsedDec.{parsed_dec}
+
+-- the number that decimal digits write, where it is within a range
+abbrev pub number_within : ℕ → ℕ → List ℕ → Option ℕ
+number_within least most text = option_and_then (λ number. if nat_le least number && nat_le number most then Some number else None) (parsed_dec text)
+
+-- the number of an option: a default where it isn't given
+unfoldable pub number_or : ℕ → ℕ → ℕ → Option (List ℕ) → Option ℕ
+number_or default least most None = Some default
+number_or default least most (Some text) = number_within least most text
