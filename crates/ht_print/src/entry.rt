@@ -17,7 +17,7 @@ pub(crate) struct Entry {
 impl Entry {
     /// `Less` where this entry stands before the other: its figure is greater, or it is the same and the stack's number is
     /// lower.
-    pub(crate) fn place(&self, other: &Entry) -> Ordering
+    pub(crate) fn compare(&self, other: &Entry) -> Ordering
         ensures { is_lt result ≡ is_before self.now other.now }
     {
         other
@@ -64,5 +64,5 @@ fn add_stack(stacks: &mut Vec<Entry>, figure: u64, stack: u32) -> Result<(), NoM
 fn sort(entries: &mut Vec<Entry>)
     ensures { entries.new.items ≡ in_order entries.old.items }
 {
-    entries.sort_unstable_by(|one, other| one.place(other));
+    entries.sort_unstable_by(|one, other| one.compare(other));
 }

@@ -1,6 +1,5 @@
 //! The stacks of a section in groups, by the text of their innermost frame. How a group is written is in `report_lines`.
-ghost use Rattle.std.specs.Prelude.{◌≡◌, ℕ, ◌+◌, ◌-◌, ◌^◌, ◌<◌, ◌≤◌, All, IfOk, OnOk, Some, length, map, slice_get, sum_by, take};
-ghost use Rattle.ht_trace.specs.FrameText.{frame_text};
+ghost use Rattle.std.specs.Prelude.{◌≡◌, ℕ, ◌+◌, ◌-◌, ◌^◌, ◌<◌, ◌≤◌, All, IfOk, OnOk, Some, length, map, slice_get, sum_by};
 ghost use Rattle.ht_print.specs.IsGroup.{Adds, AreGroups, IsShared};
 ghost use Rattle.ht_print.specs.ReportGroups.{ordered_groups, place_of, places};
 
@@ -29,7 +28,7 @@ pub(crate) fn ordered_groups(
     ensures members { IfOk result (λ groups. All (IsShared tables.now stacks.now) groups.items) }
 {
     let mut groups = share_out(alloc, tables, stacks)?;
-    groups.sort_unstable_by(|one, other| one.entry.place(&other.entry));
+    groups.sort_unstable_by(|one, other| one.entry.compare(&other.entry));
     Ok(groups)
 }
 

@@ -11,7 +11,6 @@ ghost use Rattle.peak_costs.specs.PeakState.{IsSound};
 ghost use Rattle.ht_print.specs.FlameCosts.{flame_costs};
 ghost use Rattle.ht_print.specs.Histogram.{histogram_text};
 ghost use Rattle.ht_print.specs.ReportText.{first_sections, last_sections, leaks_text, report_of_trace, section_text};
-ghost use Rattle.ht_print.specs.SummaryText.{summary_text};
 ghost use Rattle.ht_print.specs.Suppressed.{suppressed_stacks};
 
 use crate::flame::{FlameCost, cost_of};

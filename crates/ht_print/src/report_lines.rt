@@ -2,8 +2,7 @@
 //! What the figures are, and in which order the entries stand, is no part of it.
 #![tactic(auto, using(crate::proofs::FlameLemmas::extends_same, crate::proofs::FlameLemmas::extends_more, crate::proofs::FlameLemmas::extends_trans))]
 
-ghost use Rattle.std.specs.Prelude.{◌≡◌, ℕ, ◌++◌, ◌-◌, ◌<◌, ◌≤◌, All, codes, length, map, take, OnOk};
-ghost use Rattle.std.specs.List.{flat_map};
+ghost use Rattle.std.specs.Prelude.{◌≡◌, ℕ, ◌++◌, ◌-◌, ◌<◌, All, length, map, take, OnOk};
 ghost use Rattle.cost_tree.specs.StackTexts.{stack_texts};
 ghost use Rattle.ht_lines.specs.Extends.{Extends};
 ghost use Rattle.ht_trace.specs.FrameText.{frame_text};

@@ -1,13 +1,12 @@
 //! The sections of a report: the stacks by one figure each, in groups or by themselves.
 #![tactic(auto, using(crate::proofs::FlameLemmas::extends_same, crate::proofs::FlameLemmas::extends_more, crate::proofs::FlameLemmas::extends_trans))]
 
-ghost use Rattle.std.specs.Prelude.{◌≡◌, ℕ, ◌++◌, ◌-◌, ◌+◌, ◌^◌, ◌<◌, ◌≤◌, All, if◌then◌else◌, IfOk, OnOk, length, map, sum, sum_by, take};
-ghost use Rattle.std.specs.List.{flat_map};
+ghost use Rattle.std.specs.Prelude.{◌≡◌, ℕ, ◌++◌, ◌-◌, ◌+◌, ◌^◌, ◌<◌, ◌≤◌, All, if◌then◌else◌, IfOk, OnOk, length, sum, sum_by};
 ghost use Rattle.ht_lines.specs.Extends.{Extends};
 ghost use Rattle.ht_print.specs.IsEntry.{IsEntry};
 ghost use Rattle.ht_print.specs.IsGroup.{IsWritable, groups_lines};
 ghost use Rattle.ht_print.specs.ReportLines.{merged_lines};
-ghost use Rattle.ht_print.specs.ReportText.{leaks_text, section_lines, section_text, stacks_text, suppressed_figures, suppressed_line, unsuppressed};
+ghost use Rattle.ht_print.specs.ReportText.{leaks_text, section_lines, section_text, stacks_text, suppressed_line, unsuppressed};
 ghost use Rattle.ht_print.specs.Suppressed.{suppressed_stacks};
 
 use crate::entry::{Entry, ordered_stacks};
