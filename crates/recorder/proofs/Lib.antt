@@ -1,0 +1,4 @@
+mod KeptLemmas
+mod NodeLemmas
+mod TableLemmas
+mod TurnLemmas

@@ -1,0 +1,21 @@
+-- The turns of a script.
+use Rattle.std.specs.Prelude.{ℕ, Bool, true, false, ◌==◌, if◌then◌else◌, List, [], ◌∷◌, reverse}
+
+-- what a thread does in one turn: it allocates a block of so many bytes under an ID, by a stack that is listed from the
+-- innermost instruction pointer outwards; it frees the block with the ID; or it does both, one after the other
+pub data Turn : Type 0 where
+  allocates : (id size : ℕ) (ips : List ℕ) → Turn
+  frees : (id : ℕ) → Turn
+  reallocates : (id size : ℕ) (ips : List ℕ) → Turn
+
+-- for turns listed from the last to the first, whether the block with the ID is live after them: the last turn that names
+-- it leaves it live
+abbrev pub is_live_after : List Turn → ℕ → Bool
+is_live_after [] id = false
+is_live_after (allocates other size ips ∷ before) id = if other == id then true else is_live_after before id
+is_live_after (frees other ∷ before) id = if other == id then false else is_live_after before id
+is_live_after (reallocates other size ips ∷ before) id = if other == id then true else is_live_after before id
+
+-- whether the block with the ID is live after the turns of a script
+abbrev pub is_live : List Turn → ℕ → Bool
+is_live turns id = is_live_after (reverse turns) id

@@ -1,0 +1,17 @@
+//! Scripts of threads: what each thread allocates and frees, line by line. How they are run, and the program's files and
+//! words, are no part of it.
+#![tactic(auto)]
+
+mod fault;
+mod module_line;
+mod script;
+mod script_line;
+mod script_table;
+mod scripts;
+mod turn_entry;
+
+pub use fault::ScriptFault;
+pub use scripts::Scripts;
+
+#[cfg(test)]
+mod script_tests;

@@ -1,0 +1,65 @@
+//! Lines of scripts and of modules files.
+
+use crate::fault::ScriptFault;
+use crate::scripts::Scripts;
+use hp_num::NoMemory;
+use std::alloc::Global;
+use std::process::Abort;
+
+/// A letter for the answer to a line, `.` for one that is taken.
+fn letter(answer: Result<(), ScriptFault>) -> u8 {
+    match answer {
+        Ok(()) => b'.',
+        Err(ScriptFault::BadScriptLine) => b'b',
+        Err(ScriptFault::BlockLive) => b'l',
+        Err(ScriptFault::BlockNotLive) => b'n',
+        Err(ScriptFault::TooManyEvents) => b'm',
+        Err(ScriptFault::NoMemory) => b'?',
+    }
+}
+
+/// The letters of the lines of a new script, which are parted by `;`.
+fn script_answers(alloc: Global, scripts: &mut Scripts, text: &[u8]) -> Result<Vec<u8>, NoMemory> {
+    let mut letters = Vec::new(alloc);
+    if scripts.threads() < 64 {
+        scripts.begin()?;
+    }
+    for line in text.split(|byte| *byte == b';') {
+        if scripts.threads() > 0 {
+            letters.push(letter(scripts.line(line)))?;
+        }
+    }
+    Ok(letters)
+}
+
+fn has_letters(rt: &impl Abort, letters: &[u8], want: &[u8]) {
+    assert_eq!(rt; letters, want);
+}
+
+#[test]
+fn lines_of_scripts(rt: HostRuntime) -> Result<(), NoMemory> {
+    let mut scripts = Scripts::new(rt.alloc(), 5);
+    let grammar =
+        b"a 1;ax 1 8;a  1 8;a 1 8;f 1 2;f;f 1;b 1;a 1 100000001;a 1 8 1 0;a 1 8 x;;# a 1;r 1 8";
+    let letters = script_answers(rt.alloc(), &mut scripts, grammar)?;
+    has_letters(&rt, letters.as_slice(), b"bb.lbb.bbbb..n");
+    let counts = b"a 1 100000000 500 400;r 1 20;r 1 8;f 1;f 1";
+    let letters = script_answers(rt.alloc(), &mut scripts, counts)?;
+    has_letters(&rt, letters.as_slice(), b"..mmm");
+    let shared = scripts.share()?;
+    assert_eq!(&rt; shared.threads(), 2);
+    Ok(())
+}
+
+#[test]
+fn lines_of_modules(rt: HostRuntime) {
+    let mut scripts = Scripts::new(rt.alloc(), 5);
+    let answers = [
+        letter(scripts.module_line(b"m app 1000 0 1000")),
+        letter(scripts.module_line(b"m -")),
+        letter(scripts.module_line(b"x app")),
+        letter(scripts.module_line(b"m app")),
+        letter(scripts.module_line(b"# m app")),
+    ];
+    has_letters(&rt, &answers, b"..bb.");
+}
