@@ -1,6 +1,6 @@
 -- The children of a node stand for the fronts that are one text longer than the node's.
-use Rattle.std.proofs.Common.{◌≡◌, ℕ, zero, suc, ◌+◌, ◌-◌, ◌<◌, ◌≤◌, min, inl, inr, ◌&&◌, Bool, true, eqb, List, [], ◌∷◌, ◌++◌, length, map, filter, take, get_or, Some, refl, sym, ap, ◌∙◌, subst, arith}
-use Rattle.std.specs.Prelude.{AllPairs, Contains, nat_lt, slice_get}
+use Rattle.std.proofs.Common.{◌≡◌, ℕ, ◌+◌, ◌<◌, ◌≤◌, inl, inr, ◌&&◌, Bool, true, eqb, List, [], ◌∷◌, ◌++◌, length, map, filter, take, get_or, Some, refl, sym, ap, ◌∙◌, subst, arith}
+use Rattle.std.specs.Prelude.{Contains, nat_lt, slice_get}
 use Rattle.std.specs.List.{range_with_len}
 use Rattle.std.specs.Option.{option_map_or}
 use Rattle.std.proofs.lemmas.Bool.{and_from, and_parts, cases_eq, eq-eqb, eqb-true, lt-ltb, ltb-true}
@@ -38,12 +38,12 @@ shorter-front front texts text is =
     ∙ take-take (length front) (length front + 1) texts (omega arith)
 
 -- a front one text longer that costs something is opened by its least stack
-record IsOpened (front longer : List (List ℕ)) (stacks : List Costed) : Type 0 where
+pub record IsOpened (front longer : List (List ℕ)) (stacks : List Costed) : Type 0 where
   pub is : longer_front front stacks (least longer stacks) ≡ longer
   pub opened : opens front stacks (least longer stacks) ≡ true
   pub within : least longer stacks < length stacks
 
-opened-is : (front longer : List (List ℕ)) (text : List ℕ) (stacks : List Costed) → longer ≡ front ++ text ∷ [] → 0 < inclusive longer stacks → IsOpened front longer stacks
+pub opened-is : (front longer : List (List ℕ)) (text : List ℕ) (stacks : List Costed) → longer ≡ front ++ text ∷ [] → 0 < inclusive longer stacks → IsOpened front longer stacks
 opened-is front longer text stacks longer_is some =
     let n : ℕ = least longer stacks in
     let within = least-within longer stacks some in
@@ -64,13 +64,13 @@ opened-is front longer text stacks longer_is some =
     }
 
 -- a stack that opens a front
-record Opens (front : List (List ℕ)) (stacks : List Costed) (n : ℕ) : Type 0 where
+pub record Opens (front : List (List ℕ)) (stacks : List Costed) (n : ℕ) : Type 0 where
   pub count : length (longer_front front stacks n) ≡ length front + 1
   pub begins : front ≡ take (length front) (longer_front front stacks n)
   pub some : 0 < inclusive (longer_front front stacks n) stacks
   pub least_is : least (longer_front front stacks n) stacks ≡ n
 
-opens-is : (front : List (List ℕ)) (stacks : List Costed) (n : ℕ) → n < length stacks → opens front stacks n ≡ true → Opens front stacks n
+pub opens-is : (front : List (List ℕ)) (stacks : List Costed) (n : ℕ) → n < length stacks → opens front stacks n ≡ true → Opens front stacks n
 unfolding least
 opens-is front stacks n within opened =
     let texts : List (List ℕ) = texts_at stacks n in

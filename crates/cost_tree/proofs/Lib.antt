@@ -14,3 +14,4 @@ pub mod Needing
 pub mod Alike
 pub mod Ascending
 pub mod Brothers
+pub mod NextSums

@@ -2,7 +2,7 @@
 ghost use Rattle.std.specs.Prelude.{◌≡◌, ℕ, ◌+◌, ◌<◌, ◌≤◌, List, [], length, map, sum_by, Some, slice_get, slice_index_or};
 ghost use Rattle.cost_tree.specs.Children.{children_of};
 ghost use Rattle.cost_tree.specs.Costed.{Costed};
-ghost use Rattle.cost_tree.specs.Inclusive.{inclusive};
+ghost use Rattle.cost_tree.specs.Inclusive.{inclusive, own};
 ghost use Rattle.cost_tree.specs.IsTreeOf.{IsTreeOf};
 ghost use Rattle.cost_tree.specs.NextFronts.{next_fronts};
 ghost use Rattle.cost_tree.specs.TreeState.{TreeState};
@@ -21,4 +21,9 @@ pub fn children_fronts()
         map (λ m. slice_index_or tree.fronts m []) (children_of tree.nodes n) ≡ next_fronts front stacks }
     ensures longest { (tree : TreeState) (stacks : List Costed) (depth n : ℕ) (front : List (List ℕ)) → IsTreeOf tree stacks depth →
         slice_get tree.fronts n ≡ Some front → depth ≤ length front → children_of tree.nodes n ≡ [] }
+{}
+
+/// A front costs its own cost, and what the fronts cost that are one text longer. It does nothing.
+pub fn next_sums()
+    ensures whole { (front : List (List ℕ)) (stacks : List Costed) → inclusive front stacks ≡ own front stacks + sum_by (λ next. inclusive next stacks) (next_fronts front stacks) }
 {}

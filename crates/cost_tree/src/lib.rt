@@ -17,7 +17,7 @@ pub use costing::Costing;
 pub use direction::Direction;
 pub use frame_test::FrameTest;
 pub use fronts::Fronts;
-pub use laws::{children_fronts, front_sums};
+pub use laws::{children_fronts, front_sums, next_sums};
 pub use node::CostNode;
 pub use tree::CostTree;
 

@@ -1,11 +1,10 @@
-use Rattle.std.proofs.Common.{ℕ, ◌+◌, List, length, ap, sym, ◌∙◌, subst, arith}
+use Rattle.std.proofs.Common.{ℕ, ◌+◌, List, length, ap, ◌∙◌, subst, arith}
 use Rattle.std.specs.Prelude.{IfOk}
 use Rattle.std.specs.Global.{Vec}
 use Rattle.std.proofs.lemmas.List.{length-map}
 use Rattle.std.proofs.lemmas.Result.{IfOk-weaker}
 use Rattle.cost_tree.specs.Costed.{costed}
 use Rattle.cost_tree.specs.IsTreeOf.{IsTreeOf}
-use Rattle.cost_tree.specs.Needed.{needed_lists}
 use Rattle.cost_tree.specs.Texts.{lists_of, texts_of}
 use Rattle.cost_tree.proofs.Needing.{IsTreeOf-needed, needed_lists-count}
 use Rattle.cost_tree.proofs.tree.CostTree.of_stacks.Goals as goal
