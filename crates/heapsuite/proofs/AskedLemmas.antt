@@ -156,6 +156,8 @@ unknown_asks_nothing (command ∷ words) is =
     let help : Bool = bytes_eq command (codes "--help") in
     let summary : Bool = bytes_eq command (codes "summary") in
     let flame : Bool = bytes_eq command (codes "flame") in
-    let first = or_parts help (summary || flame) is in
-    let rest = or_parts summary flame first.1 in
-    rw (first.0, rest.0, rest.1) refl
+    let interpret : Bool = bytes_eq command (codes "interpret") in
+    let first = or_parts help (summary || (flame || interpret)) is in
+    let rest = or_parts summary (flame || interpret) first.1 in
+    let last = or_parts flame interpret rest.1 in
+    rw (first.0, rest.0, last.0, last.1) refl

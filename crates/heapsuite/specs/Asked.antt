@@ -6,6 +6,8 @@ use Rattle.command_frame.specs.Plan.{Ends, Plan}
 use Rattle.command_frame.specs.Report.{Writes}
 use Rattle.heapsuite.specs.FlameReport.{flame_plan}
 use Rattle.heapsuite.specs.FlameWords.{FlameAsked, flame_asked}
+use Rattle.heapsuite.specs.InterpretReport.{interpret_files, interpret_plan}
+use Rattle.heapsuite.specs.InterpretWords.{InterpretAsked, interpret_asked}
 use Rattle.heapsuite.specs.SummaryReport.{summary_plan}
 use Rattle.heapsuite.specs.SummaryWords.{summary_trace}
 use Rattle.heapsuite.specs.Texts.{heapsuite_texts}
@@ -17,6 +19,8 @@ pub data Asked : Type 0 where
   Summary : List ℕ → Asked
   -- the flame stacks of a named trace
   Flame : FlameAsked → Asked
+  -- the interpretation of a named raw trace
+  Interpret : InterpretAsked → Asked
 
 -- `--help` alone
 abbrev pub help_asked : List (List ℕ) → Option Asked
@@ -29,6 +33,7 @@ command_asked command words =
     if bytes_eq command (codes "--help") then help_asked words
     else if bytes_eq command (codes "summary") then option_map Summary (summary_trace words)
     else if bytes_eq command (codes "flame") then option_map Flame (flame_asked words)
+    else if bytes_eq command (codes "interpret") then option_map Interpret (interpret_asked words)
     else None
 
 -- what words ask for, or nothing where they aren't taken
@@ -39,19 +44,22 @@ asked (command ∷ words) = command_asked command words
 -- whether the first word is one that the program knows
 unfoldable pub knows_first : List (List ℕ) → Bool
 knows_first [] = false
-knows_first (command ∷ words) = bytes_eq command (codes "--help") || (bytes_eq command (codes "summary") || bytes_eq command (codes "flame"))
+knows_first (command ∷ words) =
+    bytes_eq command (codes "--help") || (bytes_eq command (codes "summary") || (bytes_eq command (codes "flame") || bytes_eq command (codes "interpret")))
 
 -- the files that are read for it, in order
 abbrev pub names_of : Asked → List (List ℕ)
 names_of Help = []
 names_of (Summary trace) = trace ∷ []
 names_of (Flame flame) = flame.trace ∷ []
+names_of (Interpret interpret) = interpret_files interpret
 
 -- what is done with them
 abbrev pub plan_of : Asked → Plan
 plan_of Help = Ends (Writes heapsuite_texts.usage)
 plan_of (Summary trace) = summary_plan trace
 plan_of (Flame flame) = flame_plan flame
+plan_of (Interpret interpret) = interpret_plan interpret
 
 -- the files that words name, where they are taken
 abbrev pub names_asked : Option Asked → List (List ℕ)

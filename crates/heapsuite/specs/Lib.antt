@@ -7,6 +7,8 @@ pub mod Texts
 pub mod SummaryWords
 pub mod FlameWords
 pub mod FlameReport
+pub mod InterpretWords
+pub mod InterpretReport
 pub mod Asked
 pub mod Requests
 pub mod Answer

@@ -16,7 +16,8 @@ const fn flame(
     }
 }
 
-const USAGE: &str = "usage: heapsuite COMMAND [OPTION]... [FILE]\ncommands: summary flame\n";
+const USAGE: &str =
+    "usage: heapsuite COMMAND [OPTION]... [FILE]\ncommands: summary flame interpret\n";
 
 #[test]
 fn draws_each_cost(rt: HostRuntime) -> Result<(), Fail> {

@@ -7,6 +7,8 @@
 mod batch;
 mod fault;
 mod flame_command;
+mod interpret_command;
+mod interpret_reader;
 mod read_trace;
 mod run;
 mod run_words;
@@ -53,6 +55,8 @@ fn main(rt: HostRuntime) -> ExitCode {
 
 #[cfg(test)]
 mod flame_tests;
+#[cfg(test)]
+mod interpret_tests;
 #[cfg(test)]
 mod refusal_tests;
 #[cfg(test)]

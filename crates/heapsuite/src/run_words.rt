@@ -72,6 +72,7 @@ fn run_request<S: Store, O: Sink>(
         Request::Help => usage(desk),
         Request::Summary(request) => request.run(desk, store, out),
         Request::Flame(request) => request.run(desk, store, out),
+        Request::Interpret(request) => request.run(desk, store, out),
     }
 }
 

@@ -4,6 +4,7 @@ ghost use Rattle.heapsuite.specs.Asked.{asked, help_asked, knows_first};
 ghost use Rattle.heapsuite.specs.Requests.{asked_of};
 
 use crate::flame_command::FlameRequest;
+use crate::interpret_command::InterpretRequest;
 use crate::summary_command::SummaryRequest;
 use command_words::WordsFault;
 use std::alloc::Global;
@@ -17,6 +18,8 @@ pub enum Request<'a> {
     Summary(SummaryRequest<'a>),
     /// The flame stacks of a trace.
     Flame(FlameRequest<'a>),
+    /// The interpretation of a raw trace.
+    Interpret(InterpretRequest<'a>),
 }
 
 /// What the words ask for. `NotTaken` exactly where they aren't taken, unless memory is wanting; none is taken for no
@@ -40,6 +43,10 @@ pub fn read_words<'a>(alloc: Global, words: &'a [String]) -> Result<Request<'a>,
     if command.as_str() == "flame" {
         let request = FlameRequest::read(alloc, words)?;
         return Ok(Request::Flame(request));
+    }
+    if command.as_str() == "interpret" {
+        let request = InterpretRequest::read(alloc, words)?;
+        return Ok(Request::Interpret(request));
     }
     Err(WordsFault::NotTaken)
 }
