@@ -1,7 +1,8 @@
 #!/bin/sh
-# Runs `heapsuite summary`, `heapsuite print` and `heapsuite flame` on each trace of this folder, and compares what they print
-# with the files beside the trace; and generates a trace of two million events, whose summary is `generated.summary`. The
-# program is the first argument, or bin/heapsuite at the top of the repository.
+# Runs `heapsuite summary`, `heapsuite print` and `heapsuite flame` on each trace of this folder, and `heapsuite interpret` on
+# each raw one, and compares what they print with the files beside the trace. The summary of what `interpret` writes has to be
+# that of the trace which heaptrack interpreted. And a trace of two million events is generated, whose summary is
+# `generated.summary`. The program is the first argument, or bin/heapsuite at the top of the repository.
 cd "$(dirname "$0")" || exit 1
 heapsuite=${1:-../bin/heapsuite}
 work=$(mktemp -d) || exit 1
@@ -26,6 +27,20 @@ for trace in *.trace; do
     compare "$trace" print print
     compare "$trace" flame flame
     compare "$trace" peak-flame flame --flamegraph-cost-type=peak
+done
+for raw in *.raw; do
+    name=${raw%.raw}
+    for expected in interpreted summary; do
+        case $expected in
+            interpreted) "$heapsuite" interpret --symbols="$name.symbols" "$raw" ;;
+            summary) "$heapsuite" interpret --symbols="$name.symbols" "$raw" | "$heapsuite" summary - ;;
+        esac | if cmp -s - "$name.$expected"; then
+            echo "$raw, $expected: as expected"
+        else
+            echo "$raw, $expected: differs"
+            exit 1
+        fi || failed=1
+    done
 done
 compare pages.trace suppressed-print print --merge-backtraces=0 --suppressions=pages.suppressions
 

@@ -6,10 +6,12 @@ use Rattle.command_frame.specs.Plan.{Ends, Plan}
 use Rattle.command_frame.specs.Report.{Writes}
 use Rattle.heapsuite.specs.FlameReport.{flame_plan}
 use Rattle.heapsuite.specs.FlameWords.{FlameAsked, flame_asked}
-use Rattle.heapsuite.specs.PrintReport.{print_plan}
-use Rattle.heapsuite.specs.PrintWords.{PrintAsked, print_asked}
 use Rattle.heapsuite.specs.GenReport.{gen_plan}
 use Rattle.heapsuite.specs.GenWords.{GenAsked, gen_asked}
+use Rattle.heapsuite.specs.InterpretReport.{interpret_files, interpret_plan}
+use Rattle.heapsuite.specs.InterpretWords.{InterpretAsked, interpret_asked}
+use Rattle.heapsuite.specs.PrintReport.{print_plan}
+use Rattle.heapsuite.specs.PrintWords.{PrintAsked, print_asked}
 use Rattle.heapsuite.specs.SummaryReport.{summary_plan}
 use Rattle.heapsuite.specs.SummaryWords.{summary_trace}
 use Rattle.heapsuite.specs.SuppressionsReport.{names_behind}
@@ -24,6 +26,8 @@ pub data Asked : Type 0 where
   Print : PrintAsked → Asked
   -- the flame stacks of a named trace
   Flame : FlameAsked → Asked
+  -- the interpretation of a named raw trace
+  Interpret : InterpretAsked → Asked
   -- a generated trace, or its summary
   Gen : GenAsked → Asked
 
@@ -39,6 +43,7 @@ command_asked command words =
     else if bytes_eq command (codes "summary") then option_map Summary (summary_trace words)
     else if bytes_eq command (codes "print") then option_map Print (print_asked words)
     else if bytes_eq command (codes "flame") then option_map Flame (flame_asked words)
+    else if bytes_eq command (codes "interpret") then option_map Interpret (interpret_asked words)
     else if bytes_eq command (codes "gen") then option_map Gen (gen_asked words)
     else None
 
@@ -55,7 +60,8 @@ knows_first (command ∷ words) =
     (bytes_eq command (codes "summary") ||
     (bytes_eq command (codes "print") ||
     (bytes_eq command (codes "flame") ||
-    bytes_eq command (codes "gen"))))
+    (bytes_eq command (codes "interpret") ||
+    bytes_eq command (codes "gen")))))
 
 -- the files that are read for it, in order
 abbrev pub names_of : Asked → List (List ℕ)
@@ -63,6 +69,7 @@ names_of Help = []
 names_of (Summary trace) = trace ∷ []
 names_of (Print print) = names_behind print.suppressions print.trace
 names_of (Flame flame) = flame.trace ∷ []
+names_of (Interpret interpret) = interpret_files interpret
 names_of (Gen gen) = []
 
 -- what is done with them
@@ -71,6 +78,7 @@ plan_of Help = Ends (Writes heapsuite_texts.usage)
 plan_of (Summary trace) = summary_plan trace
 plan_of (Print print) = print_plan print
 plan_of (Flame flame) = flame_plan flame
+plan_of (Interpret interpret) = interpret_plan interpret
 plan_of (Gen gen) = gen_plan gen
 
 -- the files that words name, where they are taken

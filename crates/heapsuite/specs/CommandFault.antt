@@ -9,7 +9,8 @@ use Rattle.command_frame.specs.declared.fault.FaultStatus.{FaultStatus}
 use Rattle.command_frame.specs.declared.fault.FaultStatus.TheVariants.{Malformed, PastLimit}
 use Rattle.command_frame.specs.Told.{Told}
 use Rattle.heapsuite.specs.declared.fault.CommandFault.{CommandFault}
-use Rattle.heapsuite.specs.declared.fault.CommandFault.TheVariants.{Line, Event as event}
+use Rattle.interpret.specs.SymbolFaultText as symbol_text
+use Rattle.heapsuite.specs.declared.fault.CommandFault.TheVariants.{Line, Event as event, Symbol as symbol}
 
 -- the kind of a line's fault; want of memory is no fault of a line, and never told as one
 abbrev pub line_status : LineError → FaultStatus
@@ -24,3 +25,4 @@ event_status ledger.CostTooLarge = PastLimit
 abbrev pub told : CommandFault → Told
 told (Line error) = record { text = error_text error; status = line_status error }
 told (event fault) = record { text = ledger_text.fault_text fault; status = event_status fault }
+told (symbol fault) = record { text = symbol_text.fault_text fault; status = Malformed }

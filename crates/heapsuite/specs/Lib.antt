@@ -11,6 +11,8 @@ pub mod FlameReport
 pub mod NumberWords
 pub mod PrintWords
 pub mod PrintReport
+pub mod InterpretWords
+pub mod InterpretReport
 pub mod GenWords
 pub mod GenReport
 pub mod GenTaken

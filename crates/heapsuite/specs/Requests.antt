@@ -1,10 +1,10 @@
 -- A request of the code as what was asked.
-use Rattle.std.specs.Option.{option_map}
+use Rattle.std.specs.Option.{option_copied, option_map}
 use Rattle.trace_gen.specs.Sizes.{sizes_of}
 use Rattle.heapsuite.specs.declared.print_command.PrintRequest.{PrintRequest}
 use Rattle.heapsuite.specs.declared.words.Request.{Request}
 use Rattle.heapsuite.specs.declared.words.Request.TheVariants as request
-use Rattle.heapsuite.specs.Asked.{Asked, Flame, Gen, Help, Print, Summary}
+use Rattle.heapsuite.specs.Asked.{Asked, Flame, Gen, Help, Interpret, Print, Summary}
 use Rattle.heapsuite.specs.PrintWords.{PrintAsked}
 
 -- what a request of `print` asks for
@@ -16,4 +16,5 @@ asked_of request.Help = Help
 asked_of (request.Summary summary) = Summary summary.trace.now
 asked_of (request.Print print) = Print (print_asked_by print)
 asked_of (request.Flame flame) = Flame (record { trace = flame.trace.now; cost = flame.cost })
+asked_of (request.Interpret interpret) = Interpret (record { symbols = option_copied interpret.symbols; trace = interpret.trace.now })
 asked_of (request.Gen gen) = Gen (record { sizes = sizes_of gen.options; run = gen.run })

@@ -6,6 +6,7 @@ ghost use Rattle.heapsuite.specs.CommandFault.{event_status, line_status, told};
 use command_frame::{Fault, FaultStatus};
 use hp_num::{NoMemory, put_bytes};
 use ht_trace::LineError;
+use interpret::SymbolFault;
 use live_ledger::EventFault;
 
 /// What is wrong with an input.
@@ -15,6 +16,8 @@ pub enum CommandFault {
     Line(LineError),
     /// The event of a trace can't follow the events before it.
     Event(EventFault),
+    /// The line of a table of symbols can't follow the lines before it.
+    Symbol(SymbolFault),
 }
 
 impl CommandFault {
@@ -25,6 +28,7 @@ impl CommandFault {
         match self {
             CommandFault::Line(error) => error.text(),
             CommandFault::Event(fault) => fault.text(),
+            CommandFault::Symbol(fault) => fault.text(),
         }
     }
 }
@@ -42,6 +46,7 @@ impl Fault for CommandFault {
         match self {
             CommandFault::Line(error) => line_kind(*error),
             CommandFault::Event(fault) => event_kind(*fault),
+            CommandFault::Symbol(_) => FaultStatus::Malformed,
         }
     }
 }

@@ -9,6 +9,8 @@ mod fault;
 mod flame_command;
 mod gen_command;
 mod gen_summary;
+mod interpret_command;
+mod interpret_reader;
 mod number_words;
 mod print_command;
 mod print_words;
@@ -62,6 +64,8 @@ fn main(rt: HostRuntime) -> ExitCode {
 mod flame_tests;
 #[cfg(test)]
 mod gen_tests;
+#[cfg(test)]
+mod interpret_tests;
 #[cfg(test)]
 mod print_tests;
 #[cfg(test)]

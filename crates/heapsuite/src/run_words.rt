@@ -73,6 +73,7 @@ fn run_request<S: Store, O: Sink>(
         Request::Summary(request) => request.run(desk, store, out),
         Request::Print(request) => request.run(desk, store, out),
         Request::Flame(request) => request.run(desk, store, out),
+        Request::Interpret(request) => request.run(desk, store, out),
         Request::Gen(request) => request.run(desk, out),
     }
 }

@@ -23,7 +23,7 @@ const NO_EVENTS_SUMMARY: &str =
     "events: 0\ncalls: 0\ntemporary: 0\nallocated: 0\npeak: 0 at event 0\nleaked: 0 in 0 blocks\n";
 
 pub const USAGE: &str =
-    "usage: heapsuite COMMAND [OPTION]... [FILE]\ncommands: summary print flame gen\n";
+    "usage: heapsuite COMMAND [OPTION]... [FILE]\ncommands: summary print flame interpret gen\n";
 
 /// A run over a folder with one file, and what is expected of it. A call of number 0 never fails.
 #[derive(Clone, Copy)]
@@ -83,7 +83,7 @@ const fn words(
 }
 
 /// The words of a command line.
-fn words_of(alloc: Global, words: &[&str]) -> Result<Vec<String>, Fail> {
+pub fn words_of(alloc: Global, words: &[&str]) -> Result<Vec<String>, Fail> {
     let mut all = Vec::new(alloc);
     for word in words {
         all.push(String::from_str(alloc, word)?)?;

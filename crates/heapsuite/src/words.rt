@@ -5,6 +5,7 @@ ghost use Rattle.heapsuite.specs.Requests.{asked_of};
 
 use crate::flame_command::FlameRequest;
 use crate::gen_command::GenRequest;
+use crate::interpret_command::InterpretRequest;
 use crate::print_command::PrintRequest;
 use crate::summary_command::SummaryRequest;
 use command_words::WordsFault;
@@ -21,6 +22,8 @@ pub enum Request<'a> {
     Print(PrintRequest<'a>),
     /// The flame stacks of a trace.
     Flame(FlameRequest<'a>),
+    /// The interpretation of a raw trace.
+    Interpret(InterpretRequest<'a>),
     /// A generated trace, or its summary.
     Gen(GenRequest),
 }
@@ -50,6 +53,10 @@ pub fn read_words<'a>(alloc: Global, words: &'a [String]) -> Result<Request<'a>,
     if command.as_str() == "flame" {
         let request = FlameRequest::read(alloc, words)?;
         return Ok(Request::Flame(request));
+    }
+    if command.as_str() == "interpret" {
+        let request = InterpretRequest::read(alloc, words)?;
+        return Ok(Request::Interpret(request));
     }
     if command.as_str() == "gen" {
         let request = GenRequest::read(alloc, words)?;

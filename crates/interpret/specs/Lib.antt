@@ -1,5 +1,6 @@
 pub mod SymbolLine
 pub mod SymbolList
+pub mod SymbolFaultText
 pub mod SymbolEntries
 pub mod FirstAppearances
 pub mod RawContents

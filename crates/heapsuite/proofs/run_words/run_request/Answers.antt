@@ -7,7 +7,7 @@ use Rattle.command_frame.specs.Outcome.{moment}
 use Rattle.command_frame.specs.Run.{RanTo}
 use Rattle.command_frame.specs.Texts.{Texts}
 use Rattle.heapsuite.specs.declared.words.Request.{Request}
-use Rattle.heapsuite.specs.declared.words.Request.TheVariants.{Flame, Gen, Print, Summary}
+use Rattle.heapsuite.specs.declared.words.Request.TheVariants.{Flame, Gen, Interpret, Print, Summary}
 use Rattle.heapsuite.specs.Asked.{names_of, plan_of}
 use Rattle.heapsuite.specs.Requests.{asked_of}
 use Rattle.heapsuite.specs.Texts.{heapsuite_texts}
@@ -78,6 +78,28 @@ returns-in-Print-clause-halted g c =
     (g.O.Sink.written c.args.out.now) (g.O.Sink.written c.run-in-Print.new.out) answer in
     IfErr-weaker c.run-in-Print.result _ _ (λ halt ran. subst (λ request. ran_as heapsuite_texts request (halt_answer heapsuite_texts halt)) (sym c.in-Print.is)
     (subst (λ texts. ran_as texts (Print c.in-Print.request) (halt_answer texts halt)) c.requires.texts (ran []))) c.run-in-Print.ensures.halted
+
+pub returns-in-Interpret-clause-all : goal.returns-in-Interpret-clause-all
+returns-in-Interpret-clause-all g c =
+    let store = g.S.Store in
+    let ran_as : Texts → Request → Answer → Type 0 = λ texts request answer.
+    RanTo texts (bounds_of c.args.desk.now.limits) (store.files c.args.store.now) [] (names_of (asked_of request)) (plan_of (asked_of request))
+    (moment (store.opens c.args.store.now) (store.current c.args.store.now) (store.left c.args.store.now) (store.faults c.args.store.now))
+    (moment (store.opens c.run-in-Interpret.new.store) (store.current c.run-in-Interpret.new.store) (store.left c.run-in-Interpret.new.store) (store.faults c.run-in-Interpret.new.store))
+    (g.O.Sink.written c.args.out.now) (g.O.Sink.written c.run-in-Interpret.new.out) answer in
+    IfOk-weaker c.run-in-Interpret.result _ _ (λ rest ran. subst (λ request. ran_as heapsuite_texts request (done rest.items)) (sym c.in-Interpret.is)
+    (subst (λ texts. ran_as texts (Interpret c.in-Interpret.request) (done rest.items)) c.requires.texts (ran []))) c.run-in-Interpret.ensures.all
+
+pub returns-in-Interpret-clause-halted : goal.returns-in-Interpret-clause-halted
+returns-in-Interpret-clause-halted g c =
+    let store = g.S.Store in
+    let ran_as : Texts → Request → Answer → Type 0 = λ texts request answer.
+    RanTo texts (bounds_of c.args.desk.now.limits) (store.files c.args.store.now) [] (names_of (asked_of request)) (plan_of (asked_of request))
+    (moment (store.opens c.args.store.now) (store.current c.args.store.now) (store.left c.args.store.now) (store.faults c.args.store.now))
+    (moment (store.opens c.run-in-Interpret.new.store) (store.current c.run-in-Interpret.new.store) (store.left c.run-in-Interpret.new.store) (store.faults c.run-in-Interpret.new.store))
+    (g.O.Sink.written c.args.out.now) (g.O.Sink.written c.run-in-Interpret.new.out) answer in
+    IfErr-weaker c.run-in-Interpret.result _ _ (λ halt ran. subst (λ request. ran_as heapsuite_texts request (halt_answer heapsuite_texts halt)) (sym c.in-Interpret.is)
+    (subst (λ texts. ran_as texts (Interpret c.in-Interpret.request) (halt_answer texts halt)) c.requires.texts (ran []))) c.run-in-Interpret.ensures.halted
 
 pub returns-in-Gen-clause-all : goal.returns-in-Gen-clause-all
 returns-in-Gen-clause-all g c =
