@@ -1,0 +1,26 @@
+-- Lemmas on appends in a row, which may fail halfway.
+use Rattle.std.proofs.Common.{◌≡◌, ℕ, List, ◌++◌, ap, ◌∙◌, append_assoc}
+use Rattle.ht_lines.specs.Extends.{Extends}
+use Rattle.ht_lines.proofs.ExtendLemmas as extend
+
+pub extends_same : (old new : List ℕ) → new ≡ old → Extends old new
+extends_same = extend.extends_same
+
+pub extends_more : (old new more : List ℕ) → new ≡ old ++ more → Extends old new
+extends_more = extend.extends_more
+
+pub extends_trans : (old middle new : List ℕ) → Extends old middle → Extends middle new → Extends old new
+extends_trans = extend.extends_trans
+
+-- so many texts, one after the other
+pub two-appended : {X : Type 0} (o a b p q : List X) → a ≡ o ++ p → b ≡ a ++ q → b ≡ o ++ (p ++ q)
+two-appended {X} o a b p q p_is q_is = q_is ∙ ap (λ (xs : List X). xs ++ q) p_is ∙ append_assoc o p q
+
+pub three-appended : (o a b c p q r : List ℕ) → a ≡ o ++ p → b ≡ a ++ q → c ≡ b ++ r → c ≡ o ++ (p ++ (q ++ r))
+three-appended o a b c p q r p_is q_is r_is = two-appended o a c p (q ++ r) p_is (two-appended a b c q r q_is r_is)
+
+pub four-appended : (o a b c d p q r s : List ℕ) → a ≡ o ++ p → b ≡ a ++ q → c ≡ b ++ r → d ≡ c ++ s → d ≡ o ++ (p ++ (q ++ (r ++ s)))
+four-appended o a b c d p q r s p_is q_is r_is s_is = two-appended o a d p (q ++ (r ++ s)) p_is (three-appended a b c d q r s q_is r_is s_is)
+
+pub five-appended : (o a b c d e p q r s t : List ℕ) → a ≡ o ++ p → b ≡ a ++ q → c ≡ b ++ r → d ≡ c ++ s → e ≡ d ++ t → e ≡ o ++ (p ++ (q ++ (r ++ (s ++ t))))
+five-appended o a b c d e p q r s t p_is q_is r_is s_is t_is = two-appended o a e p (q ++ (r ++ (s ++ t))) p_is (four-appended a b c d e q r s t q_is r_is s_is t_is)

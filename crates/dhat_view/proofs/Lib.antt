@@ -1,0 +1,9 @@
+pub mod Appends
+pub mod Lists
+pub mod Costs
+pub mod Orders
+pub mod Faults
+pub mod Sorting
+pub mod Pushing
+pub mod Trees
+pub mod Walks

@@ -1,0 +1,9 @@
+pub mod PointFronts
+pub mod PointCosts
+pub mod Order
+pub mod Lines
+pub mod TreeText
+pub mod ViewFault
+pub mod ViewText
+pub mod Children
+pub mod Pendings

@@ -1,0 +1,15 @@
+-- Why a profile has no view.
+use Rattle.std.specs.Prelude.{◌^◌, nat_lt, if◌then◌else◌, Option, Some, None, sum}
+use Rattle.dhat_json.specs.declared.figure.FigureKey.{FigureKey}
+use Rattle.dhat_json.specs.declared.profile.Dhat.{Dhat}
+use Rattle.dhat_json.specs.Figure.{has_figures}
+use Rattle.dhat_view.specs.declared.fault.ViewFault.{ViewFault}
+use Rattle.dhat_view.specs.declared.fault.ViewFault.TheVariants.{NoFigures, TooLarge}
+use Rattle.dhat_view.specs.PointCosts.{point_costs}
+
+-- its points have no figures of the key, or the figures sum to more than 2^62
+unfoldable pub view_fault : FigureKey → Dhat → Option ViewFault
+view_fault key dhat =
+    if has_figures key dhat
+    then (if nat_lt (2 ^ 62) (sum (point_costs key dhat)) then Some TooLarge else None)
+    else Some NoFigures
