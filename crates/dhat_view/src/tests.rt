@@ -7,23 +7,13 @@ use std::alloc::Global;
 use std::process::Abort;
 use std::test::Fail;
 
-/// The profile of a trace of three events.
-const DEMO: &str =
-    r#"{"Mtu":"Mevents","bkacc":false,"bklt":true,"cmd":"demo","dhatFileVersion":2,"ftbl":["[root]","0x400: main (a.c:20)","0x500: f (a.c:10)"],"mode":"heap","pid":0,"pps":[{"eb":100,"ebk":1,"fs":[1],"gb":0,"gbk":0,"mb":100,"mbk":1,"tb":100,"tbk":1,"tl":0},{"eb":0,"ebk":0,"fs":[2,1],"gb":100,"gbk":1,"mb":100,"mbk":1,"tb":100,"tbk":1,"tl":1}],"te":3,"tg":1,"tu":"events","tuth":500,"verb":"Allocated"}"#;
-
 /// A profile with equal costs, small ones, a point without frames, and texts that can't be shown as they are.
 const PLACES: &str =
     r#"{"dhatFileVersion":2,"mode":"copy","verb":"Copied","bklt":false,"bkacc":false,"tu":"instrs","Mtu":"Minstr","cmd":" a\tb","pid":7,"te":9,"ftbl":["[root]","a","b"," c\n",""],"pps":[{"tb":5,"tbk":0,"fs":[1]},{"tb":40,"tbk":4611686018427387904,"fs":[2]},{"tb":40,"tbk":1,"fs":[3,2]},{"tb":3,"tbk":0,"fs":[1,2]},{"tb":2,"tbk":0,"fs":[1,4]},{"tb":10,"tbk":0,"fs":[]}]}"#;
 
-/// The view of the document is this text.
-fn shows(
-    rt: &impl Abort,
-    alloc: Global,
-    document: &str,
-    options: ViewOptions,
-    text: &str,
-) -> Result<(), Fail> {
-    let dhat = read_profile(alloc, document.as_bytes())?;
+/// The view of the profile is this text.
+fn shows(rt: &impl Abort, alloc: Global, options: ViewOptions, text: &str) -> Result<(), Fail> {
+    let dhat = read_profile(alloc, PLACES.as_bytes())?;
     let mut out = Vec::new(alloc);
     put_view(alloc, &options, &dhat, &mut out)?;
     assert_eq!(rt; out.as_slice(), text.as_bytes());
@@ -42,27 +32,17 @@ fn by(key: FigureKey, threshold: u64, depth: u32) -> ViewOptions
 
 #[test]
 fn views(rt: HostRuntime) -> Result<(), Fail> {
-    let allocated =
-        "command: demo\npoints: 2\ntb: 200\n\n50.00% (100) 0x400: main (a.c:20)\n50.00% (100) 0x500: f (a.c:10)\n  50.00% (100) 0x400: main (a.c:20)\n";
-    shows(&rt, rt.alloc(), DEMO, by(FigureKey::Tb, 100, 30), allocated)?;
-    let leaked = "command: demo\npoints: 2\neb: 100\n\n100.00% (100) 0x400: main (a.c:20)\n";
-    shows(&rt, rt.alloc(), DEMO, by(FigureKey::Eb, 100, 30), leaked)?;
     let places =
         "command: ?a?b\npoints: 6\ntb: 100\n\n40.00% (40) b\n40.00% (40) ?c?\n  40.00% (40) b\n10.00% (10) a\n  05.00% (5) in 2 places below 10.00%\n";
-    shows(&rt, rt.alloc(), PLACES, by(FigureKey::Tb, 1000, 30), places)?;
+    shows(&rt, rt.alloc(), by(FigureKey::Tb, 1000, 30), places)?;
     let shallow =
         "command: ?a?b\npoints: 6\ntb: 100\n\n40.00% (40) b\n40.00% (40) ?c?\n10.00% (10) in 1 place below 11.00%\n";
-    shows(&rt, rt.alloc(), PLACES, by(FigureKey::Tb, 1100, 1), shallow)
+    shows(&rt, rt.alloc(), by(FigureKey::Tb, 1100, 1), shallow)
 }
 
-/// Why the document has no view by the key.
-fn fault_by(
-    rt: &impl Abort,
-    alloc: Global,
-    document: &str,
-    key: FigureKey,
-) -> Result<Option<ViewFault>, Fail> {
-    let dhat = read_profile(alloc, document.as_bytes())?;
+/// Why the profile has no view by the key.
+fn fault_by(rt: &impl Abort, alloc: Global, key: FigureKey) -> Result<Option<ViewFault>, Fail> {
+    let dhat = read_profile(alloc, PLACES.as_bytes())?;
     let mut out = Vec::new(alloc);
     let fault = put_view(alloc, &by(key, 100, 30), &dhat, &mut out).err();
     assert!(rt; out.is_empty());
@@ -71,9 +51,9 @@ fn fault_by(
 
 #[test]
 fn profiles_without_a_view(rt: HostRuntime) -> Result<(), Fail> {
-    let accesses = fault_by(&rt, rt.alloc(), DEMO, FigureKey::Rb)?;
+    let accesses = fault_by(&rt, rt.alloc(), FigureKey::Rb)?;
     assert_eq!(rt; accesses, Some(ViewFault::NoFigures));
-    let blocks = fault_by(&rt, rt.alloc(), PLACES, FigureKey::Tbk)?;
+    let blocks = fault_by(&rt, rt.alloc(), FigureKey::Tbk)?;
     assert_eq!(rt; blocks, Some(ViewFault::TooLarge));
     Ok(())
 }
