@@ -3,7 +3,9 @@ mod EntryLemmas
 mod ExtendLemmas
 mod FieldLemmas
 mod GrowthLemmas
+mod LedgerLemmas
 mod PointerLemmas
+mod RawLedgerLemmas
 mod RepeatLemmas
 mod StandLemmas
 mod FirstLemmas

@@ -7,7 +7,8 @@ use Rattle.std.specs.List.{filter_map, cons_option, AllByRecursion}
 use Rattle.std.proofs.lemmas.Bool.{false≢true}
 use Rattle.std.proofs.lemmas.Bool.Decides.{nat_tests}
 use Rattle.ht_lines.specs.declared.item.Malformed.{Malformed}
-use Rattle.ht_lines.specs.Content.{Content, raw_free_line}
+use Rattle.ht_lines.specs.Content.{Content, string_line, instruction_line, info_line, allocation_line, free_line, raw_free_line}
+use Rattle.ht_lines.specs.Written.{IsWritable}
 use Rattle.ht_lines.specs.declared.item.Form.TheVariants.{Raw}
 use Rattle.ht_lines.specs.Reading.{reading, reading_kind}
 use Rattle.ht_trace.specs.Contents.{version_in}
@@ -19,13 +20,15 @@ use Rattle.interpret.specs.FirstAppearances.{with_all}
 use Rattle.interpret.specs.Interpreted.{interpreted_lines, lines_for, lines_read, text_of}
 use Rattle.interpret.specs.InterpreterState.{InterpreterState, PointsAs, StandsFor}
 use Rattle.interpret.specs.RawBlocks.{freed_by, freed_info, held}
-use Rattle.interpret.specs.RawContents.{contents, file_version, version_of, versions}
+use Rattle.interpret.specs.RawContents.{IsRaw, contents, file_version, version_of, versions}
 use Rattle.interpret.specs.RawFault.{content_fault, fault_in, raw_fault}
 use Rattle.interpret.specs.Modules.{modules}
+use Rattle.interpret.specs.RawLedger.{KeepsLedger}
 use Rattle.interpret.specs.RawTables.{RawTables, info_in, infos, instructions, known, names, nodes, same_info, tables_after, tables_of}
 use Rattle.interpret.specs.SymbolLine.{Symbol}
 use Rattle.interpret.specs.TakesLine.{HasRead, HasRefused, Takes, freed_at}
 use Rattle.interpret.proofs.GrowthLemmas.{filter_map-push, gathered-push, infos-push, tables-push}
+use Rattle.interpret.proofs.LedgerLemmas.{keeps-ledger}
 use Rattle.interpret.proofs.PointerLemmas.{points-push}
 
 -- each of a list with one more at its end
@@ -157,6 +160,7 @@ stands-push old new line before after read symbols lines stands =
       no_fault =
           gathered-push (raw_fault symbols) [] lines line
           ∙ (ap (λ (found : Option LineError). gathered (raw_fault symbols) [] lines ++ option_to_list found) (no-fault old new line before after read symbols lines stands) ∙ (append-nil (gathered (raw_fault symbols) [] lines) ∙ stands.no_fault));
+      raw = subst (λ (l : List Content). AllByRecursion IsRaw l) (sym reads.said_is) (all-push IsRaw (contents lines) said stands.raw read.raw);
       first = λ none. reads.first (ap (λ (v : Option ℕ). is_some v) (sym version) ∙ none);
     }
 
@@ -191,5 +195,19 @@ stands-new symbols = record {
   pointers = record { info = λ ptr. refl; within = λ ptr. tt };
   not_failed = refl;
   no_fault = refl;
+  raw = tt;
   first = λ none. tt;
 }
+
+-- what can be written of a raw trace is raw
+pub raw-writable : (version : ℕ) (said : Content) → IsWritable Raw version said → IsRaw said
+raw-writable version (string_line bytes) writable = absurd (cc (writable.1))
+raw-writable version (instruction_line ip module_string frames) writable = absurd (cc (writable.2))
+raw-writable version (info_line size trace) writable = absurd (cc (writable.1))
+raw-writable version (allocation_line info) writable = absurd (cc (writable.1))
+raw-writable version (free_line info) writable = absurd (cc (writable.1))
+raw-writable version _ writable = tt
+
+-- the ledger of what is written is that of what was recorded, with one line more
+pub ledger-push : (old new : InterpreterState) (line before after : List ℕ) → HasRead old new line before after → (symbols : List Symbol) (lines : List (List ℕ)) → StandsFor old symbols lines → KeepsLedger symbols (contents (lines ++ line ∷ []))
+ledger-push old new line before after read symbols lines stands = keeps-ledger symbols (contents (lines ++ line ∷ [])) (stands-push old new line before after read symbols lines stands).raw

@@ -10,7 +10,7 @@ use Rattle.ht_trace.specs.LineFault.{may_stand_first, most_entries, most_nodes}
 use Rattle.stack_table.specs.Node.{Node}
 use Rattle.interpret.specs.declared.infos.AllocationInfo.{AllocationInfo}
 use Rattle.interpret.specs.RawBlocks.{freed_info, held}
-use Rattle.interpret.specs.RawContents.{contents, version_of}
+use Rattle.interpret.specs.RawContents.{IsRaw, contents, version_of}
 use Rattle.interpret.specs.RawFault.{raw_fault}
 use Rattle.interpret.specs.RawTables.{KnownIp, RawTables, info_number, tables_of}
 use Rattle.interpret.specs.SymbolLine.{Symbol}
@@ -55,6 +55,7 @@ pub record StandsFor (state : InterpreterState) (symbols : List Symbol) (lines :
   pub pointers : PointsAs state.pointers state.tables.infos (contents lines)
   pub not_failed : state.failed ≡ None
   pub no_fault : gathered (raw_fault symbols) [] lines ≡ []
+  pub raw : AllByRecursion IsRaw (contents lines)
   pub first : is_some state.version ≡ false → AllByRecursion (λ line. may_stand_first line ≡ true) lines
 
 -- the file version is one that there is, and no table has more than it may have

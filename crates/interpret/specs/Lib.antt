@@ -14,5 +14,7 @@ pub mod RawTables
 pub mod RawBlocks
 pub mod Interpreted
 pub mod RawFault
+pub mod InterpretedSaid
+pub mod RawLedger
 pub mod InterpreterState
 pub mod TakesLine

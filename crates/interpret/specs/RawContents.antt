@@ -2,7 +2,7 @@
 use Rattle.std.specs.Prelude.{ℕ, List, Option, option_and_then, slice_get, unwrap_or}
 use Rattle.std.specs.Result.{result_ok}
 use Rattle.std.specs.List.{filter_map}
-use Rattle.ht_lines.specs.Content.{Content}
+use Rattle.ht_lines.specs.Content.{Content, string_line, instruction_line, info_line, allocation_line, free_line}
 use Rattle.ht_lines.specs.declared.item.Form.TheVariants.{Raw}
 use Rattle.ht_lines.specs.Reading.{reading}
 use Rattle.ht_trace.specs.Contents.{version_in}
@@ -22,3 +22,12 @@ file_version lines = unwrap_or (version_of lines) 1
 -- what each line says
 abbrev pub contents : List (List ℕ) → List Content
 contents lines = filter_map (λ line. result_ok (reading Raw (file_version lines) line)) lines
+
+-- no line of a raw trace says a string, an instruction, an info, or an allocation or a free of one
+abbrev pub IsRaw : Content → Type 0
+IsRaw (string_line bytes) = ⊥
+IsRaw (instruction_line ip module_string frames) = ⊥
+IsRaw (info_line size trace) = ⊥
+IsRaw (allocation_line info) = ⊥
+IsRaw (free_line info) = ⊥
+IsRaw _ = Unit {0}

@@ -10,6 +10,7 @@ use Rattle.ht_trace.specs.declared.error.LineError.TheVariants.{NoMemory, TooMan
 use Rattle.ht_trace.specs.LineFault.{Tells, may_stand_first}
 use Rattle.interpret.specs.Interpreted.{lines_for, text_of}
 use Rattle.interpret.specs.InterpreterState.{InterpreterState, info_after, info_at}
+use Rattle.interpret.specs.RawContents.{IsRaw}
 use Rattle.interpret.specs.RawFault.{content_fault, fault_in}
 use Rattle.interpret.specs.RawTables.{tables_after}
 
@@ -41,6 +42,7 @@ pub record HasRead (old new : InterpreterState) (line : List ℕ) (before after 
   pub said : Content
   pub may_stand : (is_some old.version || may_stand_first line) ≡ true
   pub read : reading Raw (unwrap_or old.version 1) line ≡ Ok said
+  pub raw : IsRaw said
   pub takes : Takes old new line said before after
 
 -- the error is the fault of the line, unless memory was wanting; only a want of memory and a full table may change anything

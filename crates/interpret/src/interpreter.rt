@@ -12,7 +12,9 @@ ghost use Rattle.ht_lines.specs.declared.item.Form.TheVariants.{Raw};
 ghost use Rattle.ht_trace.specs.LineFault.{Tells, may_stand_first};
 ghost use Rattle.interpret.specs.Interpreted.{interpreted_lines, text_of};
 ghost use Rattle.interpret.specs.InterpreterState.{StandsFor, failed_with};
+ghost use Rattle.interpret.specs.RawContents.{contents};
 ghost use Rattle.interpret.specs.RawFault.{raw_end_fault, raw_fault};
+ghost use Rattle.interpret.specs.RawLedger.{KeepsLedger};
 ghost use Rattle.interpret.specs.SymbolLine.{Symbol};
 ghost use Rattle.interpret.specs.TakesLine.{HasRead, HasRefused, Refuses, Takes};
 
@@ -109,6 +111,9 @@ impl Interpreter {
         ensures no_fault { OnOk result ((symbols : List Symbol) (lines : List (List ℕ)) → StandsFor self.old symbols lines → raw_fault symbols lines line.now ≡ None) }
         ensures fault { IfErr result (λ error. (symbols : List Symbol) (lines : List (List ℕ)) → StandsFor self.old symbols lines → Tells error (raw_fault symbols lines line.now)) }
         ensures symbols { self.new.symbols ≡ self.old.symbols }
+
+        // The live blocks of every node.
+        ensures ledger { OnOk result ((symbols : List Symbol) (lines : List (List ℕ)) → StandsFor self.old symbols lines → KeepsLedger symbols (contents (lines ++ line.now ∷ []))) }
 
         // After a refusal.
         ensures out_unchanged { OnErr result (out.new.items ≡ out.old.items) }

@@ -23,6 +23,7 @@ fn takes(
     out: &mut Vec<u8>,
     want: Result<(), LineError>,
 ) {
+    assert!(rt; line.len() < 100);
     assert_eq!(rt; interpreter.line(line, out), want, "at {line:?}");
 }
 

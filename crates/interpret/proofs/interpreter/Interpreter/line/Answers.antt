@@ -1,5 +1,5 @@
 use Rattle.std.proofs.lemmas.Result.{MatchResult-weaker}
-use Rattle.interpret.proofs.StandLemmas.{fault-told, lines-push, no-fault, stands-push}
+use Rattle.interpret.proofs.StandLemmas.{fault-told, ledger-push, lines-push, no-fault, stands-push}
 use Rattle.interpret.proofs.interpreter.Interpreter.line.Goals as goal
 
 pub returns-in-Err-clause-fault : goal.returns-in-Err-clause-fault
@@ -16,3 +16,7 @@ returns-in_default-done-clause-lines c =
 pub returns-in_default-done-clause-no_fault : goal.returns-in_default-done-clause-no_fault
 returns-in_default-done-clause-no_fault c =
     MatchResult-weaker c.take_line-done.result c.take_line-done.ensures.read (λ done read. no-fault c.args.self.now _ c.args.line.now _ _ read) (λ error all. all)
+
+pub returns-in_default-done-clause-ledger : goal.returns-in_default-done-clause-ledger
+returns-in_default-done-clause-ledger c =
+    MatchResult-weaker c.take_line-done.result c.take_line-done.ensures.read (λ done read. ledger-push c.args.self.now _ c.args.line.now _ _ read) (λ error all. all)
