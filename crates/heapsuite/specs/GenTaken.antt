@@ -2,16 +2,16 @@
 use Rattle.std.specs.Prelude.{◌≡◌, ℕ, ◌+◌, ◌*◌, ◌^◌, ◌≤◌, List, [], ◌++◌, length}
 use Rattle.trace_gen.specs.declared.generator.Generator.{Generator}
 use Rattle.trace_gen.specs.GeneratorState.{IsAt, lines_yet}
+use Rattle.sound_traces.specs.NoFault.{HasNoFault}
 use Rattle.heapsuite.specs.declared.read_trace.ReadTrace.{ReadTrace}
-use Rattle.heapsuite.specs.GenReport.{fault_among}
 use Rattle.heapsuite.specs.ReadTrace.{HasRead, IsSound}
 
--- some of these lines were read without a fault, and a generator has yet to make the others
+-- some of these lines were read, and a generator has yet to make the others, which have no fault behind them
 pub record HasTaken (trace : ReadTrace) (generator : Generator) (lines : List (List ℕ)) : Type 0 where
   pub at : IsAt generator
   pub sound : IsSound trace
   pub taken : List (List ℕ)
   pub read : HasRead trace [] taken
   pub split : lines ≡ taken ++ lines_yet generator
-  pub fault : fault_among [] lines ≡ fault_among taken (lines_yet generator)
+  pub no_fault : HasNoFault taken (lines_yet generator)
   pub room : 4 * trace.peaks.ledger.totals.events + 64 * length (lines_yet generator) ≤ 2 ^ 34

@@ -7,6 +7,7 @@ ghost use Rattle.command_frame.specs.FirstFault.{Bounds};
 ghost use Rattle.command_frame.specs.Halts.{halt_answer, status_code};
 ghost use Rattle.command_frame.specs.Moment.{Moment};
 ghost use Rattle.command_frame.specs.Plan.{Ends, Pieces};
+ghost use Rattle.command_frame.specs.Report.{Writes};
 ghost use Rattle.command_frame.specs.Run.{RanTo};
 ghost use Rattle.command_frame.specs.Texts.{texts_of};
 ghost use Rattle.command_words.specs.WordsTaken.{flag_in, rows_in, value_in};
@@ -17,7 +18,7 @@ ghost use Rattle.heapsuite.specs.GenWords.{events_number, gen_asked, gen_of, see
 
 use crate::gen_summary::gen_summary;
 use crate::number_words::number_or;
-use command_frame::{Desk, Halt, LineRefusal, run_text};
+use command_frame::{Desk, Halt, run_text};
 use command_words::{TakenWords, WordTable, WordsFault, take_words};
 use hp_num::NoMemory;
 use hp_outside::Sink;
@@ -124,15 +125,14 @@ fn write_trace<O: Sink>(
 
 /// The summary of the trace. It writes nothing.
 fn summary_of(desk: &Desk, options: &GeneratorOptions) -> Result<Vec<u8>, Halt>
-    ensures all { IfOk result (λ rest. (bounds : Bounds) (files : Option Folder) (now : Moment) (out : Option (List ℕ)) → RanTo (texts_of desk.now.texts) bounds files [] [] (Ends (gen_summary (sizes_of options.now))) now now
+    ensures all { IfOk result (λ rest. (bounds : Bounds) (files : Option Folder) (now : Moment) (out : Option (List ℕ)) → RanTo (texts_of desk.now.texts) bounds files [] [] (Ends (Writes (gen_summary (sizes_of options.now)))) now now
         out out (done rest.items)) }
-    ensures halted { IfErr result (λ halt. (bounds : Bounds) (files : Option Folder) (now : Moment) (out : Option (List ℕ)) → RanTo (texts_of desk.now.texts) bounds files [] [] (Ends (gen_summary (sizes_of options.now))) now now
+    ensures halted { IfErr result (λ halt. (bounds : Bounds) (files : Option Folder) (now : Moment) (out : Option (List ℕ)) → RanTo (texts_of desk.now.texts) bounds files [] [] (Ends (Writes (gen_summary (sizes_of options.now)))) now now
         out out (halt_answer (texts_of desk.now.texts) halt)) }
     ensures no_write { IfErr result (λ halt. status_code halt.status ≢ 4) }
 {
     match gen_summary(desk.alloc, options) {
         Ok(summary) => Ok(summary),
-        Err(LineRefusal::Fault(fault)) => Err(Halt::at_file(desk.alloc, &desk.texts, "", &fault)),
-        Err(LineRefusal::NoMemory) => Err(Halt::no_memory()),
+        Err(NoMemory) => Err(Halt::no_memory()),
     }
 }

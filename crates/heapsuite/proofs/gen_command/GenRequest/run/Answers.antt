@@ -6,6 +6,7 @@ use Rattle.command_frame.specs.FirstFault.{Bounds}
 use Rattle.command_frame.specs.Halts.{halt_answer}
 use Rattle.command_frame.specs.Moment.{Moment}
 use Rattle.command_frame.specs.Plan.{Ends, Pieces, Plan}
+use Rattle.command_frame.specs.Report.{Writes}
 use Rattle.command_frame.specs.Run.{RanTo}
 use Rattle.command_frame.specs.Texts.{Texts, texts_of}
 use Rattle.trace_gen.specs.GeneratedTrace.{generated_text}
@@ -16,7 +17,7 @@ use Rattle.heapsuite.proofs.gen_command.GenRequest.run.Goals as goal
 -- a run for one value of the flag
 abbrev RanFor : Texts → Bounds → Option Folder → Moment → Option (List ℕ) → Option (List ℕ) → Sizes → Answer → Bool → Type 0
 RanFor texts bounds files now old new sizes answer run =
-    RanTo texts bounds files [] [] (cond {A = Plan} run (Ends (gen_summary sizes)) (Pieces (generated_text sizes))) now now old new answer
+    RanTo texts bounds files [] [] (cond {A = Plan} run (Ends (Writes (gen_summary sizes))) (Pieces (generated_text sizes))) now now old new answer
 
 pub returns-then-self-clause-all : goal.returns-then-self-clause-all
 returns-then-self-clause-all g c =
