@@ -83,14 +83,13 @@ fn take_pending(
     ensures below { OnOk result (pending.new.items ≡ pending.old.items ++ pending_below scale tree.now next) }
 {
     let alloc = *pending.allocator();
-    let line = match next {
+    match next {
         Pending::Node { node } => {
             let count = push_children(tree, scale, node, children, pending)?;
-            line_of_node(alloc, tree, node, count)?
+            lines.push(line_of_node(alloc, tree, node, count)?)
         }
-        Pending::Gathered { gathered } => line_of_gathered(alloc, scale, gathered)?,
-    };
-    lines.push(line)
+        Pending::Gathered { gathered } => lines.push(line_of_gathered(alloc, scale, gathered)?),
+    }
 }
 
 /// The line of a node with so many children.
@@ -151,13 +150,28 @@ fn push_children(
     ensures count { IfOk result (λ count. count ≡ length (pending_children scale tree.now node)) }
 {
     let before = pending.len();
+    push_shown(tree, scale, node, children, pending)?;
+    Ok((pending.len() - before) as u32)
+}
+
+/// Appends the children of a node, the first one last. `children` are buffers.
+fn push_shown(
+    tree: &CostTree,
+    scale: Scale,
+    node: usize,
+    children: &mut Children,
+    pending: &mut Vec<Pending>,
+) -> Result<(), NoMemory>
+    requires held { node < length tree.now.nodes }
+    requires within { sum_by (cost_at tree.now) (children_of tree.now.nodes node) ≤ 2 ^ 62 }
+    ensures appended { OnOk result (pending.new.items ≡ pending.old.items ++ pending_children scale tree.now node) }
+{
     tree.children_into(node, &mut children.nodes)?;
     children.kept.clear();
     let gathered = split_children(tree, scale, &children.nodes, &mut children.kept)?;
     sort_children(&mut children.kept);
     push_gathered(gathered, pending)?;
-    push_kept(&mut children.kept, pending)?;
-    Ok((pending.len() - before) as u32)
+    push_kept(&mut children.kept, pending)
 }
 
 /// Appends the children that are gathered, where there are some.
