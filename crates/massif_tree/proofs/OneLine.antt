@@ -1,8 +1,8 @@
 -- Texts of one line, as labels are.
-use Rattle.std.proofs.Common.{◌≡◌, ◌≢◌, ℕ, zero, suc, ◌+◌, ◌/◌, ◌%◌, ◌<◌, ◌==◌, eqb, inl, inr, Bool, true, false, cond, not, List, [], ◌∷◌, ◌++◌, length, map, get_or, Option, None, Some, refl, sym, ap, ◌∙◌, subst, arith}
+use Rattle.std.proofs.Common.{◌≡◌, ◌≢◌, ℕ, zero, suc, ◌+◌, ◌-◌, ◌/◌, ◌%◌, ◌<◌, ◌==◌, eqb, inl, inr, Bool, true, false, cond, not, List, [], ◌∷◌, ◌++◌, length, map, get_or, Option, None, Some, refl, sym, ap, ◌∙◌, subst, arith}
 use Rattle.std.specs.Prelude.{All, codes, decimal, nat_lt, slice_get, unwrap_or}
 use Rattle.std.specs.Fmt.{digit_glyph, digits, digits_onto}
-use Rattle.std.proofs.lemmas.Bool.{cases_lt, cond_both, eqb-true}
+use Rattle.std.proofs.lemmas.Bool.{cond_both, eqb-false, false≢true}
 use Rattle.std.proofs.lemmas.List.Elements.{All-append, All-cons, All-head, All-nil, All-tail}
 use Rattle.std.proofs.lemmas.Option.{same_Some}
 use Rattle.hp_num.specs.Hexadecimal.{hexadecimal}
@@ -23,11 +23,11 @@ is_line (b ∷ bs) = cond (eqb b 10) false (is_line bs)
 line-tested : (text : List ℕ) → is_line text ≡ true → IsLine text
 unfolding is_line
 line-tested [] passes = All-nil (λ b. b ≢ 10)
-line-tested (b ∷ bs) passes = by (eqb b 10) refl passes
+line-tested (b ∷ bs) passes = by (eqb b 10) refl passes (line-tested bs)
   where
-    by : (t : Bool) → eqb b 10 ≡ t → cond t false (is_line bs) ≡ true → IsLine (b ∷ bs)
-    by true is no_byte = absurd cc
-    by false is rest = All-cons (λ x. x ≢ 10) b bs (Rattle.std.proofs.lemmas.Bool.eqb-false b 10 is) (line-tested bs rest)
+    by : (t : Bool) → eqb b 10 ≡ t → cond t false (is_line bs) ≡ true → (is_line bs ≡ true → IsLine bs) → IsLine (b ∷ bs)
+    by true is passes more = absurd (false≢true passes)
+    by false is passes more = All-cons (λ x. x ≢ 10) b bs (eqb-false b 10 is) (more passes)
 
 -- digits are no line feeds
 glyph-apart : (d : ℕ) → digit_glyph false d ≢ 10
