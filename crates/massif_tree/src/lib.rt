@@ -18,6 +18,5 @@ pub use lines::tree_lines;
 pub use options::TreeOptions;
 pub use snapshot::snapshot_tree;
 
-
 #[cfg(test)]
 mod tests;

@@ -56,9 +56,15 @@ fn peak_without(rt: &impl Abort, alloc: Global, name: &[u8]) -> Result<Vec<u8>, 
 #[test]
 fn peaks_of_a_trace(rt: HostRuntime) -> Result<(), LineError> {
     let whole = peak_without(&rt, rt.alloc(), b"main")?;
-    assert_eq!(rt; whole.as_slice(), b"1 100 (heap allocation functions) malloc/new/new[], --alloc-fns, etc.\n1 100 0x500: f (a.c:10)\n0 100 0x400: main (a.c:20)\n".as_slice());
+    assert_eq!(rt;
+        whole.as_slice(),
+        b"1 100 (heap allocation functions) malloc/new/new[], --alloc-fns, etc.\n1 100 0x500: f (a.c:10)\n0 100 0x400: main (a.c:20)\n".as_slice()
+    );
     let trimmed = peak_without(&rt, rt.alloc(), b"f")?;
-    assert_eq!(rt; trimmed.as_slice(), b"1 100 (heap allocation functions) malloc/new/new[], --alloc-fns, etc.\n0 100 0x400: main (a.c:20)\n".as_slice());
+    assert_eq!(rt;
+        trimmed.as_slice(),
+        b"1 100 (heap allocation functions) malloc/new/new[], --alloc-fns, etc.\n0 100 0x400: main (a.c:20)\n".as_slice()
+    );
     Ok(())
 }
 
@@ -88,10 +94,22 @@ fn tree_of(
 // The least cost that has a line of its own, equal costs, and small ones.
 #[test]
 fn places_below_the_threshold(rt: HostRuntime) -> Result<(), NoMemory> {
-    let places = tree_of(&rt, rt.alloc(), b"abcdef", &[20, 91, 10, 8960, 10, 91], 9100)?;
-    assert_eq!(rt; places.as_slice(), b"4 9182 (heap allocation functions) malloc/new/new[], --alloc-fns, etc.\n0 8960 d\n0 91 b\n0 91 f\n0 40 in 3 places, all below massif's threshold (1.00%)\n".as_slice());
+    let places = tree_of(
+        &rt,
+        rt.alloc(),
+        b"abcdef",
+        &[20, 91, 10, 8960, 10, 91],
+        9100,
+    )?;
+    assert_eq!(rt;
+        places.as_slice(),
+        b"4 9182 (heap allocation functions) malloc/new/new[], --alloc-fns, etc.\n0 8960 d\n0 91 b\n0 91 f\n0 40 in 3 places, all below massif's threshold (1.00%)\n".as_slice()
+    );
     let place = tree_of(&rt, rt.alloc(), b"ab", &[1, 99], 200)?;
-    assert_eq!(rt; place.as_slice(), b"2 100 (heap allocation functions) malloc/new/new[], --alloc-fns, etc.\n0 99 b\n0 1 in 1 place, below massif's threshold (1.00%)\n".as_slice());
+    assert_eq!(rt;
+        place.as_slice(),
+        b"2 100 (heap allocation functions) malloc/new/new[], --alloc-fns, etc.\n0 99 b\n0 1 in 1 place, below massif's threshold (1.00%)\n".as_slice()
+    );
     Ok(())
 }
 
