@@ -49,14 +49,3 @@ ignored-is tables alloc_fns ignore_fns stack n frames are front =
     ap answer (first-unlisted all (prefix_len listed all))
     ∙ ap (λ (xs : List FrameAt). answer (slice_get xs (prefix_len listed xs))) (sym are)
     ∙ ap (λ (k : ℕ). answer (slice_get frames k)) (sym front)
-
--- the names of a list of one name are those with its bytes
-pub only-listed : (only name : List ℕ) (answer : Bool) → answer ≡ bytes_eq name only → (IsTrue answer ↔ Contains (only ∷ []) name)
-only-listed only name answer is = (
-  (λ passes. (0, omega arith, sym ((bytes_eq-Decides name only).0 (sym is ∙ passes)))),
-  (λ held. is ∙ (bytes_eq-Decides name only).1 (sym (here held.0 held.1 held.2))),
-)
-  where
-    here : (k : ℕ) → k < length (only ∷ []) → get_or (only ∷ []) k name ≡ name → only ≡ name
-    here zero within same = same
-    here (suc k) within same = absurd (omega arith)

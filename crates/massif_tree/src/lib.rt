@@ -17,6 +17,3 @@ pub use laws::massif_trees;
 pub use lines::tree_lines;
 pub use options::TreeOptions;
 pub use snapshot::snapshot_tree;
-
-#[cfg(test)]
-mod tests;

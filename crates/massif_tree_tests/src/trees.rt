@@ -1,11 +1,11 @@
 //! Worked trees, and each call once with ample memory.
 ghost use Rattle.std.specs.Prelude.{◌^◌, ◌≤◌, sum};
 
-use crate::{TreeOptions, is_ignored, snapshot_tree, tree_lines};
 use cost_tree::{CostTree, Costing, FrameTest, Fronts};
 use hp_num::{NoMemory, put_bytes, put_dec};
 use ht_trace::{LineError, Tables};
 use massif_file::Tree;
+use massif_tree::{TreeOptions, is_ignored, snapshot_tree, tree_lines};
 use std::alloc::Global;
 use std::process::Abort;
 
