@@ -42,15 +42,27 @@ const ONE_PERCENT: TreeOptions = TreeOptions {
     depth: 30,
 };
 
+/// The tree of the stacks with these costs, without the front of functions with this name.
+fn tree_without(
+    rt: &impl Abort,
+    alloc: Global,
+    tables: &Tables,
+    name: &[u8],
+    costs: &[u64],
+) -> Result<Vec<u8>, NoMemory>
+    requires { sum costs.now ≤ 2 ^ 62 }
+{
+    assert_eq!(rt; tables.stacks() as usize, costs.len());
+    let costing = Costing::new(tables.stacks(), |stack: u32| costs[stack as usize]);
+    let alloc_fns = FrameTest::new(|function: &[u8]| function == name);
+    let tree = snapshot_tree(alloc, tables, &alloc_fns, &costing, &ONE_PERCENT, 120)?;
+    shown(rt, alloc, &tree)
+}
+
 /// The tree at the peak of the worked trace, without the front of functions with this name.
 fn peak_without(rt: &impl Abort, alloc: Global, name: &[u8]) -> Result<Vec<u8>, LineError> {
     let tables = worked_tables(rt, alloc)?;
-    let costs = [0, 0, 100];
-    assert_eq!(rt; tables.stacks(), 3);
-    let costing = Costing::new(3, |stack: u32| costs[stack as usize]);
-    let alloc_fns = FrameTest::new(|function: &[u8]| function == name);
-    let tree = snapshot_tree(alloc, &tables, &alloc_fns, &costing, &ONE_PERCENT, 120)?;
-    Ok(shown(rt, alloc, &tree)?)
+    Ok(tree_without(rt, alloc, &tables, name, &[0, 0, 100])?)
 }
 
 #[test]
