@@ -35,7 +35,7 @@ use Rattle.interpret.proofs.RawLedgerLemmas.{AreHeld, held-none, held-step}
 use Rattle.interpret.proofs.RepeatLemmas.{infos-decide}
 
 -- what a list gives behind others
-gathered-append : {X Y : Type 0} (f : List X → X → Option Y) (earlier xs ys : List X) → gathered f earlier (xs ++ ys) ≡ gathered f earlier xs ++ gathered f (earlier ++ xs) ys
+pub gathered-append : {X Y : Type 0} (f : List X → X → Option Y) (earlier xs ys : List X) → gathered f earlier (xs ++ ys) ≡ gathered f earlier xs ++ gathered f (earlier ++ xs) ys
 gathered-append f earlier [] ys = ap (λ before. gathered f before ys) (sym (append-nil earlier))
 gathered-append f earlier (x ∷ xs) ys =
     ap (λ rest. option_to_list (f earlier x) ++ rest) (gathered-append f (earlier ++ x ∷ []) xs ys ∙ ap (λ before. gathered f (earlier ++ x ∷ []) xs ++ gathered f before ys) (append_assoc earlier (x ∷ []) xs))
@@ -55,7 +55,7 @@ told-push symbols earlier (x ∷ xs) c =
     ap (λ rest. told_after symbols earlier x ++ rest) (told-push symbols (earlier ++ x ∷ []) xs c ∙ ap (λ before. told_from symbols (earlier ++ x ∷ []) xs ++ told_after symbols before c) (append_assoc earlier (x ∷ []) xs))
     ∙ sym (append_assoc (told_after symbols earlier x) (told_from symbols (earlier ++ x ∷ []) xs) (told_after symbols (earlier ++ x ∷ xs) c))
 
-interpreted-push : (symbols : List Symbol) (said : List Content) (c : Content) → interpreted_said symbols (said ++ c ∷ []) ≡ interpreted_said symbols said ++ told_after symbols said c
+pub interpreted-push : (symbols : List Symbol) (said : List Content) (c : Content) → interpreted_said symbols (said ++ c ∷ []) ≡ interpreted_said symbols said ++ told_after symbols said c
 unfolding interpreted_said
 interpreted-push symbols said c = told-push symbols [] said c
 
@@ -75,7 +75,7 @@ quiet-events : (earlier xs : List Content) → AllByRecursion IsQuiet xs → gat
 quiet-events earlier [] all = refl
 quiet-events earlier (x ∷ xs) all = rw (all.0.1 (lists.infos earlier)) (quiet-events (earlier ++ x ∷ []) xs all.1)
 
-all-append : {X : Type 0} (P : X → Type 0) (xs ys : List X) → AllByRecursion P xs → AllByRecursion P ys → AllByRecursion P (xs ++ ys)
+pub all-append : {X : Type 0} (P : X → Type 0) (xs ys : List X) → AllByRecursion P xs → AllByRecursion P ys → AllByRecursion P (xs ++ ys)
 all-append P [] ys a b = b
 all-append P (x ∷ xs) ys a b = (a.0, all-append P xs ys a.1 b)
 
@@ -137,22 +137,22 @@ stays-held held info other there = by (list_any (same_info info) held)
     by false = list_any-append (same_info other) held (info ∷ []) ∙ ap (λ (b : Bool). b || (same_info other info || false)) there
 
 -- what an event counts for, by the block that it allocates or frees
-record CountsAllocs (f : Event → ℕ) (w : RawBlock → ℕ) : Type 0 where
-  alloc : (n : ℕ) (block : RawBlock) → f (Alloc n block.info.trace block.info.size) ≡ w block
-  free : (n stack size : ℕ) → f (Free n stack size) ≡ 0
-  tick : (ms : ℕ) → f (Tick ms) ≡ 0
+pub record CountsAllocs (f : Event → ℕ) (w : RawBlock → ℕ) : Type 0 where
+  pub alloc : (n : ℕ) (block : RawBlock) → f (Alloc n block.info.trace block.info.size) ≡ w block
+  pub free : (n stack size : ℕ) → f (Free n stack size) ≡ 0
+  pub tick : (ms : ℕ) → f (Tick ms) ≡ 0
 
-record CountsFrees (f : Event → ℕ) (w : RawBlock → ℕ) : Type 0 where
-  alloc : (n stack size : ℕ) → f (Alloc n stack size) ≡ 0
-  free : (n : ℕ) (block : RawBlock) → f (Free n block.info.trace block.info.size) ≡ w block
-  tick : (ms : ℕ) → f (Tick ms) ≡ 0
+pub record CountsFrees (f : Event → ℕ) (w : RawBlock → ℕ) : Type 0 where
+  pub alloc : (n stack size : ℕ) → f (Alloc n stack size) ≡ 0
+  pub free : (n : ℕ) (block : RawBlock) → f (Free n block.info.trace block.info.size) ≡ w block
+  pub tick : (ms : ℕ) → f (Tick ms) ≡ 0
 
 -- the interpreted lines have the infos of the raw ones, and their events are those of the blocks
-record AreTold (symbols : List Symbol) (said : List Content) : Type 0 where
-  infos_are : lists.infos (interpreted_said symbols said) ≡ map held_of (infos said)
-  block_infos : (ptr : ℕ) (block : RawBlock) → held said ptr ≡ Some block → list_any (same_info block.info) (infos said) ≡ true
-  allocs : (f : Event → ℕ) (w : RawBlock → ℕ) → CountsAllocs f w → sum_by f (interpreted_events symbols said) ≡ sum_by w (blocks said)
-  frees : (f : Event → ℕ) (w : RawBlock → ℕ) → CountsFrees f w → sum_by f (interpreted_events symbols said) ≡ sum_by w (freed said)
+pub record AreTold (symbols : List Symbol) (said : List Content) : Type 0 where
+  pub infos_are : lists.infos (interpreted_said symbols said) ≡ map held_of (infos said)
+  pub block_infos : (ptr : ℕ) (block : RawBlock) → held said ptr ≡ Some block → list_any (same_info block.info) (infos said) ≡ true
+  pub allocs : (f : Event → ℕ) (w : RawBlock → ℕ) → CountsAllocs f w → sum_by f (interpreted_events symbols said) ≡ sum_by w (blocks said)
+  pub frees : (f : Event → ℕ) (w : RawBlock → ℕ) → CountsFrees f w → sum_by f (interpreted_events symbols said) ≡ sum_by w (freed said)
 
 -- what one line adds: infos, and the events of the blocks that it allocates or frees
 record Adds (symbols : List Symbol) (said : List Content) (c : Content) : Type 0 where
@@ -279,7 +279,7 @@ blocks-held said (raw_free_line named) old ptr block is =
     by false e = old ptr block e
 blocks-held said c old ptr block is = ap (λ (l : List AllocationInfo). list_any (same_info block.info) l) (infos-same said c refl) ∙ old ptr block (sym (held-push said c ptr) ∙ is)
 
-told-step : (symbols : List Symbol) (said : List Content) (c : Content) → IsRaw c → AreTold symbols said → AreTold symbols (said ++ c ∷ [])
+pub told-step : (symbols : List Symbol) (said : List Content) (c : Content) → IsRaw c → AreTold symbols said → AreTold symbols (said ++ c ∷ [])
 unfolding interpreted_events blocks freed
 told-step symbols said c raw are =
     let more = adds symbols said c raw are in
@@ -308,35 +308,6 @@ told-step symbols said c raw are =
         by None = ap (λ (l : List AllocationInfo). infos said ++ l) (drop-length (infos said)) ∙ append-nil (infos said)
         by (Some info) = new-infos (infos said) info
 
-told-none : (symbols : List Symbol) → AreTold symbols []
+pub told-none : (symbols : List Symbol) → AreTold symbols []
 unfolding interpreted_events interpreted_said events_said infos blocks freed held
 told-none symbols = record { infos_are = refl; block_infos = λ ptr block is. absurd (cc); allocs = λ f w counts. refl; frees = λ f w counts. refl }
-
--- both hold of all raw lines
-record Both (symbols : List Symbol) (said : List Content) : Type 0 where
-  are_held : AreHeld said
-  are_told : AreTold symbols said
-
-steps : (symbols : List Symbol) (earlier said : List Content) → Both symbols earlier → AllByRecursion IsRaw said → Both symbols (earlier ++ said)
-steps symbols earlier [] both raw = subst (λ (l : List Content). Both symbols l) (sym (append-nil earlier)) both
-steps symbols earlier (c ∷ said) both raw =
-    subst (λ (l : List Content). Both symbols l) (append_assoc earlier (c ∷ []) said)
-    (steps symbols (earlier ++ c ∷ []) said (record { are_held = held-step earlier c both.are_held; are_told = told-step symbols earlier c raw.0 both.are_told }) raw.1)
-
--- so the ledger of the interpreted lines is that of the raw ones
-pub keeps-ledger : (symbols : List Symbol) (said : List Content) → AllByRecursion IsRaw said → KeepsLedger symbols said
-keeps-ledger symbols said raw =
-    let both = steps symbols [] said (record { are_held = held-none; are_told = told-none symbols }) raw in
-    record {
-      bytes = λ node.
-          let a = both.are_told.allocs (alloc_size_in node) (bytes_of node) (record { alloc = λ n block. refl; free = λ n stack size. refl; tick = λ ms. refl }) in
-          let b = both.are_told.frees (free_size_in node) (bytes_of node) (record { alloc = λ n stack size. refl; free = λ n block. refl; tick = λ ms. refl }) in
-          let c = both.are_held.balance (bytes_of node) in
-          omega (arith, a, b, c);
-      blocks = λ node.
-          let w = λ (block : RawBlock). cond {A = ℕ} (is_of node block) 1 0 in
-          let a = both.are_told.allocs (λ event. cond {A = ℕ} (is_alloc_in node event) 1 0) w (record { alloc = λ n block. refl; free = λ n stack size. refl; tick = λ ms. refl }) in
-          let b = both.are_told.frees (λ event. cond {A = ℕ} (is_free_in node event) 1 0) w (record { alloc = λ n stack size. refl; free = λ n block. refl; tick = λ ms. refl }) in
-          let c = both.are_held.balance w in
-          omega (arith, a, b, c);
-    }

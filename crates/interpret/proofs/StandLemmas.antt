@@ -28,7 +28,7 @@ use Rattle.interpret.specs.RawTables.{RawTables, info_in, infos, instructions, k
 use Rattle.interpret.specs.SymbolLine.{Symbol}
 use Rattle.interpret.specs.TakesLine.{HasRead, HasRefused, Takes, freed_at}
 use Rattle.interpret.proofs.GrowthLemmas.{filter_map-push, gathered-push, infos-push, tables-push}
-use Rattle.interpret.proofs.LedgerLemmas.{keeps-ledger}
+use Rattle.interpret.proofs.KeepLemmas.{keeps-ledger}
 use Rattle.interpret.proofs.PointerLemmas.{points-push}
 
 -- each of a list with one more at its end

@@ -15,6 +15,7 @@ pub mod RawBlocks
 pub mod Interpreted
 pub mod RawFault
 pub mod InterpretedSaid
+pub mod IpLists
 pub mod RawLedger
 pub mod InterpreterState
 pub mod TakesLine
