@@ -40,7 +40,7 @@ cons_option-nil (Some y) = refl
 pub filter_map-push : {X Y : Type 0} (f : X → Option Y) (xs : List X) (x : X) → filter_map f (xs ++ x ∷ []) ≡ filter_map f xs ++ option_to_list (f x)
 filter_map-push f xs x = filter_map-append f xs (x ∷ []) ∙ ap (λ more. filter_map f xs ++ more) (cons_option-nil (f x))
 
-modules-push : (said : List Content) (c : Content) → modules (said ++ c ∷ []) ≡ modules_after (modules said) c
+pub modules-push : (said : List Content) (c : Content) → modules (said ++ c ∷ []) ≡ modules_after (modules said) c
 unfolding modules
 modules-push said c = fold_push modules_after [] said c
 

@@ -16,3 +16,5 @@ mod ListLemmas
 mod TableLemmas
 mod TakeLemmas
 mod ToldLemmas
+mod WritableLemmas
+mod ReadAgainLemmas

@@ -36,7 +36,7 @@ use Rattle.interpret.proofs.TakeLemmas.{held-call, new-call, resolved-ip}
 -- the numbers of frames that texts say, and how many frames they are again
 
 -- the frames of a symbol give three numbers each, but one that stands last may give one
-numbers-count : (held : List (List ℕ)) (texts : List (List ℕ))
+pub numbers-count : (held : List (List ℕ)) (texts : List (List ℕ))
     → (length (flat_map (frame_numbers held) (frames_of texts)) ≡ 3 * length (frames_of texts))
     ⊎ (length (flat_map (frame_numbers held) (frames_of texts)) + 2 ≡ 3 * length (frames_of texts))
 numbers-count held [] = inl refl
@@ -68,7 +68,7 @@ frames-again (function ∷ more) count is = by (length more % 3 == 0) refl is
     by false e (inr is) = let divided : length more % 3 ≡ 0 = omega (arith, is) in absurd (true≢false (sym (eq-eqb (length more % 3) 0 divided) ∙ e))
 
 -- what stands at an address has the frames that some texts say
-resolved-texts : (symbols : List Symbol) (loaded : List LoadedModule) (ip : ℕ) → (texts : List (List ℕ)) × ((resolved symbols loaded ip).frames ≡ frames_of texts)
+pub resolved-texts : (symbols : List Symbol) (loaded : List LoadedModule) (ip : ℕ) → (texts : List (List ℕ)) × ((resolved symbols loaded ip).frames ≡ frames_of texts)
 unfolding resolved
 resolved-texts symbols loaded ip = by (module_of loaded ip)
   where
@@ -172,21 +172,33 @@ now-numbered symbols tables ip = by (is_numbered tables.known ip) refl
         or-true true = refl
         or-true false = refl
 
--- a list that grows keeps its front
-all-more : {X : Type 0} (same : X → X → Bool) (held called : List X) → (more : List X) × (with_all same held called ≡ held ++ more)
-all-more same held [] = ([], sym (append-nil held))
-all-more {X} same held (x ∷ called) = by (list_any (same x) held) refl (all-more same held called) (all-more same (held ++ x ∷ []) called)
+-- a list that grows keeps its front, and what is behind it was called for
+pub record Grows {X : Type 0} (P : X → Type 0) (held all : List X) : Type 0 where
+  pub more : List X
+  pub grown : all ≡ held ++ more
+  pub each : AllByRecursion P more
+
+pub all-more : {X : Type 0} (P : X → Type 0) (same : X → X → Bool) (held called : List X) → AllByRecursion P called → Grows P held (with_all same held called)
+all-more P same held [] all = record { more = []; grown = sym (append-nil held); each = tt }
+all-more {X} P same held (x ∷ called) all = by (list_any (same x) held) refl (all-more P same held called all.1) (all-more P same (held ++ x ∷ []) called all.1)
   where
-    by : (b : Bool) → list_any (same x) held ≡ b → (more : List X) × (with_all same held called ≡ held ++ more) → (more : List X) × (with_all same (held ++ x ∷ []) called ≡ (held ++ x ∷ []) ++ more)
-        → (more : List X) × (with_all same (with_new same held x) called ≡ held ++ more)
-    by true e rest other = (rest.0, ap (λ (l : List X). with_all same l called) (with-held same held x e) ∙ rest.1)
-    by false e other rest = (x ∷ rest.0, ap (λ (l : List X). with_all same l called) (with-absent same held x e) ∙ (rest.1 ∙ append_assoc held (x ∷ []) rest.0))
+    by : (b : Bool) → list_any (same x) held ≡ b → Grows P held (with_all same held called) → Grows P (held ++ x ∷ []) (with_all same (held ++ x ∷ []) called) → Grows P held (with_all same (with_new same held x) called)
+    by true e rest other = record { more = rest.more; grown = ap (λ (l : List X). with_all same l called) (with-held same held x e) ∙ rest.grown; each = rest.each }
+    by false e other rest =
+        record { more = x ∷ rest.more; grown = ap (λ (l : List X). with_all same l called) (with-absent same held x e) ∙ (rest.grown ∙ append_assoc held (x ∷ []) rest.more); each = (all.0, rest.each) }
+
+pub new-grown : {X : Type 0} (P : X → Type 0) (held all : List X) (grows : Grows P held all) → new_in held all ≡ grows.more
+new-grown {X} P held all grows = ap (λ (l : List X). drop (length held) l) grows.grown ∙ drop-append_seam held grows.more
+
+any-all : {X : Type 0} (xs : List X) → AllByRecursion (λ x. Unit {0}) xs
+any-all [] = tt
+any-all (x ∷ xs) = (tt, any-all xs)
 
 -- what is new at its end, behind what it held
 pub new-all : {X : Type 0} (same : X → X → Bool) (held called : List X) → held ++ new_in held (with_all same held called) ≡ with_all same held called
 new-all {X} same held called =
-    let grown = all-more same held called in
-    ap (λ (l : List X). held ++ drop (length held) l) grown.1 ∙ (ap (λ (l : List X). held ++ l) (drop-append_seam held grown.0) ∙ sym grown.1)
+    let grows = all-more (λ x. Unit {0}) same held called (any-all called) in
+    ap (λ (l : List X). held ++ l) (new-grown (λ x. Unit {0}) held (with_all same held called) grows) ∙ sym grows.grown
 
 -- what lines give to the tables
 

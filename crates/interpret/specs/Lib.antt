@@ -17,5 +17,6 @@ pub mod RawFault
 pub mod InterpretedSaid
 pub mod IpLists
 pub mod RawLedger
+pub mod InterpretedTrace
 pub mod InterpreterState
 pub mod TakesLine

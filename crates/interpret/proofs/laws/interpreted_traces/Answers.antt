@@ -1,0 +1,11 @@
+use Rattle.interpret.proofs.ReadAgainLemmas.{events-again, said-again, version-again}
+use Rattle.interpret.proofs.laws.interpreted_traces.Goals as goal
+
+pub returns-clause-version : goal.returns-clause-version
+returns-clause-version c = version-again c.hexadecimal_texts.ensures.reads_back
+
+pub returns-clause-reads_back : goal.returns-clause-reads_back
+returns-clause-reads_back c = said-again c.hexadecimal_texts.ensures.reads_back
+
+pub returns-clause-events : goal.returns-clause-events
+returns-clause-events c = events-again c.hexadecimal_texts.ensures.reads_back

@@ -1,0 +1,25 @@
+-- All lines of the interpretation of a raw trace.
+use Rattle.std.specs.Prelude.{◌≡◌, ℕ, ◌^◌, ◌<◌, List, [], ◌∷◌, ◌++◌, length}
+use Rattle.std.specs.List.{AllByRecursion}
+use Rattle.ht_trace.specs.Gathered.{gathered}
+use Rattle.interpret.specs.Interpreted.{interpreted_lines}
+use Rattle.interpret.specs.RawFault.{raw_fault}
+use Rattle.interpret.specs.SymbolLine.{Symbol}
+
+-- the lines that lines after earlier lines give
+abbrev pub lines_from : List Symbol → List (List ℕ) → List (List ℕ) → List (List ℕ)
+lines_from symbols earlier [] = []
+lines_from symbols earlier (line ∷ lines) = interpreted_lines symbols earlier line ++ lines_from symbols (earlier ++ line ∷ []) lines
+
+unfoldable pub interpreted_trace : List Symbol → List (List ℕ) → List (List ℕ)
+interpreted_trace symbols lines = lines_from symbols [] lines
+
+-- each text of a symbol has a length that fits 64 bits
+abbrev pub HasShortTexts : Symbol → Type 0
+HasShortTexts symbol = AllByRecursion (λ text. length text < 2 ^ 64) symbol.texts
+
+-- no line has a fault after those before it, and neither lines nor texts are longer than what can be read
+pub record AreInterpretable (symbols : List Symbol) (lines : List (List ℕ)) : Type 0 where
+  pub texts : AllByRecursion HasShortTexts symbols
+  pub short : AllByRecursion (λ line. length line < 2 ^ 32) lines
+  pub no_fault : gathered (raw_fault symbols) [] lines ≡ []
