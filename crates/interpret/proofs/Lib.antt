@@ -18,3 +18,4 @@ mod TakeLemmas
 mod ToldLemmas
 mod WritableLemmas
 mod ReadAgainLemmas
+mod OneLineLemmas

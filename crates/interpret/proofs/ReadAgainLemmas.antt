@@ -160,7 +160,7 @@ passed-reads v line (raw_allocation_line size trace ptr) passed r = absurd passe
 passed-reads v line (raw_free_line ptr) passed r = absurd passed
 passed-reads v line said passed r = r
 
-read-of : (v : ℕ) (line : List ℕ) (said : Content) → reading Raw v line ≡ Ok said → Reads Raw v line said
+pub read-of : (v : ℕ) (line : List ℕ) (said : Content) → reading Raw v line ≡ Ok said → Reads Raw v line said
 read-of v line said is = subst (λ (r : Result Content Malformed). MatchResult r (λ said. Reads Raw v line said) (λ fault. Refuses Raw v line fault)) is (reading-sides Raw v line)
 
 -- a line of a kind that doesn't stand before the version line
@@ -235,6 +235,10 @@ says-one symbols lines out said line stage may read told =
       told = reads.said_is ∙ ap (λ (l : List Content). trace.contents out ++ l) (sym told);
       first = λ without. reads.first (ap (λ (o : Option ℕ). is_some o) version ∙ without);
     }
+
+pub no-faults : (o : Option LineError) (rest : List LineError) → option_to_list o ++ rest ≡ [] → (o ≡ None) × (rest ≡ [])
+no-faults None rest none = (refl, none)
+no-faults (Some error) rest none = absurd (cc)
 
 module _ (back : (n : ℕ) → n < 2 ^ 64 → parsed_hex (hexadecimal n) ≡ Some n) where
   -- several lines behind the version line, written from what they say
@@ -330,12 +334,8 @@ module _ (back : (n : ℕ) → n < 2 ^ 64 → parsed_hex (hexadecimal n) ≡ Som
       let rest = stages symbols (earlier ++ line ∷ []) lines (out ++ interpreted_lines symbols earlier line) texts short.1 parts.1 (stage-step symbols earlier out line texts short.0 parts.0 stage) in
       subst (λ (l : List (List ℕ)). Stage symbols l (out ++ lines_from symbols earlier (line ∷ lines))) (append_assoc earlier (line ∷ []) lines)
       (subst (λ (l : List (List ℕ)). Stage symbols ((earlier ++ line ∷ []) ++ lines) l) (append_assoc out (interpreted_lines symbols earlier line) (lines_from symbols (earlier ++ line ∷ []) lines)) rest)
-    where
-      no-faults : (o : Option LineError) (rest : List LineError) → option_to_list o ++ rest ≡ [] → (o ≡ None) × (rest ≡ [])
-      no-faults None rest none = (refl, none)
-      no-faults (Some error) rest none = absurd (cc)
 
-  first-stage : (symbols : List Symbol) → Stage symbols [] []
+  pub first-stage : (symbols : List Symbol) → Stage symbols [] []
   unfolding interpreted_said names known nodes infos instructions modules
   first-stage symbols = record {
     version = refl;

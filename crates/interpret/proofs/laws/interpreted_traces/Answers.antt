@@ -1,3 +1,4 @@
+use Rattle.interpret.proofs.OneLineLemmas.{all-one-line}
 use Rattle.interpret.proofs.ReadAgainLemmas.{events-again, said-again, version-again}
 use Rattle.interpret.proofs.laws.interpreted_traces.Goals as goal
 
@@ -9,3 +10,6 @@ returns-clause-reads_back c = said-again c.hexadecimal_texts.ensures.reads_back
 
 pub returns-clause-events : goal.returns-clause-events
 returns-clause-events c = events-again c.hexadecimal_texts.ensures.reads_back
+
+pub returns-clause-one_line : goal.returns-clause-one_line
+returns-clause-one_line c = all-one-line c.hexadecimal_texts.ensures.reads_back
