@@ -1,7 +1,6 @@
 -- The instruction pointers outwards from a node are those of the raw trace.
-use Rattle.std.proofs.Common.{◌≡◌, ℕ, zero, suc, ◌+◌, ◌-◌, Bool, true, false, cond, eqb, List, [], ◌∷◌, ◌++◌, length, map, reverse, Option, Some, None, refl, sym, ap, ◌∙◌, arith, append-nil, subst}
+use Rattle.std.proofs.Common.{◌≡◌, ℕ, zero, suc, ◌+◌, ◌-◌, Bool, true, false, cond, List, [], ◌∷◌, ◌++◌, length, map, reverse, Option, Some, None, refl, sym, ap, ◌∙◌, arith, append-nil, subst}
 use Rattle.std.specs.Prelude.{◌==◌, slice_get}
-use Rattle.std.specs.List.{filter_map}
 use Rattle.std.specs.Option.{option_map, option_to_list}
 use Rattle.std.proofs.lemmas.List.{reverse-append}
 use Rattle.std.proofs.lemmas.Option.{slice_get-map}
@@ -12,7 +11,7 @@ use Rattle.stack_table.specs.Node.{Node}
 use Rattle.stack_table.specs.Stack.{outwards, stack, stack_nodes}
 use Rattle.interpret.specs.InterpretedSaid.{interpreted_said}
 use Rattle.interpret.specs.IpLists.{interpreted_ips, ip_of, raw_ips, raw_node_in, raw_nodes}
-use Rattle.interpret.specs.RawTables.{KnownIp, ip_frames, ip_number, instructions, is_numbered, known, known_of, known_with, new_call, node_in, node_of, nodes, tables_of}
+use Rattle.interpret.specs.RawTables.{KnownIp, ip_number, instructions, is_numbered, known, known_of, known_with, new_call, node_in, node_of, nodes, tables_of}
 use Rattle.interpret.specs.Resolved.{Resolved}
 use Rattle.interpret.specs.SymbolLine.{Symbol}
 use Rattle.interpret.proofs.GrowthLemmas.{added, filter_map-push, known-push, nodes-push}

@@ -1,5 +1,5 @@
 -- That interpretation keeps the ledger and the stacks.
-use Rattle.std.proofs.Common.{◌≡◌, ℕ, cond, List, [], ◌∷◌, ◌++◌, refl, sym, arith, append_assoc, append-nil, subst}
+use Rattle.std.proofs.Common.{ℕ, cond, List, [], ◌∷◌, ◌++◌, refl, sym, arith, append_assoc, append-nil, subst}
 use Rattle.std.specs.List.{AllByRecursion}
 use Rattle.ht_lines.specs.Content.{Content}
 use Rattle.live_ledger.specs.InStack.{alloc_size_in, free_size_in, is_alloc_in, is_free_in}
@@ -13,11 +13,11 @@ use Rattle.interpret.proofs.RawLedgerLemmas.{AreHeld, held-none, held-step}
 use Rattle.interpret.proofs.ToldLemmas.{AreTables, tables-none, tables-step}
 
 -- all of them hold of all raw lines
-record Holds (symbols : List Symbol) (said : List Content) : Type 0 where
-  are_held : AreHeld said
-  are_told : AreTold symbols said
-  are_tables : AreTables symbols said
-  are_ips : AreIps symbols said
+pub record Holds (symbols : List Symbol) (said : List Content) : Type 0 where
+  pub are_held : AreHeld said
+  pub are_told : AreTold symbols said
+  pub are_tables : AreTables symbols said
+  pub are_ips : AreIps symbols said
 
 steps : (symbols : List Symbol) (earlier said : List Content) → Holds symbols earlier → AllByRecursion IsRaw said → Holds symbols (earlier ++ said)
 steps symbols earlier [] all raw = subst (λ (l : List Content). Holds symbols l) (sym (append-nil earlier)) all
@@ -25,10 +25,13 @@ steps symbols earlier (c ∷ said) all raw =
     subst (λ (l : List Content). Holds symbols l) (append_assoc earlier (c ∷ []) said)
     (steps symbols (earlier ++ c ∷ []) said (record { are_held = held-step earlier c all.are_held; are_told = told-step symbols earlier c raw.0 all.are_told; are_tables = tables-step symbols earlier c raw.0 all.are_tables; are_ips = ips-step symbols earlier c all.are_ips }) raw.1)
 
+pub all-hold : (symbols : List Symbol) (said : List Content) → AllByRecursion IsRaw said → Holds symbols said
+all-hold symbols said raw = steps symbols [] said (record { are_held = held-none; are_told = told-none symbols; are_tables = tables-none symbols; are_ips = ips-none symbols }) raw
+
 -- so the ledger of the interpreted lines is that of the raw ones, and the tables are
 pub keeps-ledger : (symbols : List Symbol) (said : List Content) → AllByRecursion IsRaw said → KeepsLedger symbols said
 keeps-ledger symbols said raw =
-    let all = steps symbols [] said (record { are_held = held-none; are_told = told-none symbols; are_tables = tables-none symbols; are_ips = ips-none symbols }) raw in
+    let all = all-hold symbols said raw in
     record {
       bytes = λ node.
           let a = all.are_told.allocs (alloc_size_in node) (bytes_of node) (record { alloc = λ n block. refl; free = λ n stack size. refl; tick = λ ms. refl }) in

@@ -1,37 +1,33 @@
 -- That the interpreted lines of a raw trace bring the events of its blocks.
-use Rattle.std.proofs.Common.{◌≡◌, ◌≢◌, ℕ, zero, suc, ◌+◌, ◌-◌, ◌<◌, ◌≤◌, Bool, true, false, not, cond, eqb, ◌||◌, List, [], ◌∷◌, ◌++◌, length, map, reverse, Option, Some, None, refl, sym, ap, ◌∙◌, arith, append_assoc, append-nil, length-append, subst, true≢false}
+use Rattle.std.proofs.Common.{◌≡◌, ℕ, suc, ◌+◌, Bool, true, false, not, cond, ◌||◌, List, [], ◌∷◌, ◌++◌, length, map, reverse, Option, Some, None, refl, sym, ap, ◌∙◌, arith, append_assoc, append-nil, subst, true≢false}
 use Rattle.std.specs.Prelude.{◌==◌, drop, slice_get, sum_by}
-use Rattle.std.specs.List.{AllByRecursion, filter_map, list_any, position_or_len}
+use Rattle.std.specs.List.{AllByRecursion, list_any}
 use Rattle.std.specs.Option.{option_map, option_to_list}
 use Rattle.std.proofs.Math.Seq.{drop-append_seam, drop-length}
-use Rattle.std.proofs.lemmas.Bool.Decides.{nat_tests}
 use Rattle.std.proofs.lemmas.List.{map-append}
 use Rattle.std.proofs.lemmas.List.Elements.{filter_map-append}
 use Rattle.std.proofs.lemmas.List.Folds.{list_any-append}
 use Rattle.std.proofs.lemmas.List.Sums.{sum_by-append}
 use Rattle.std.proofs.lemmas.Option.{slice_get-map}
-use Rattle.ht_lines.specs.Content.{Content, version_line, executable_line, command_line, system_line, string_line, clear_line, module_line, instruction_line, node_line, info_line, allocation_line, free_line, raw_allocation_line, raw_free_line, clock_line, resident_line, attached_line, suppression_line, comment_line, other_line}
+use Rattle.ht_lines.specs.Content.{Content, string_line, clear_line, module_line, instruction_line, node_line, info_line, allocation_line, free_line, raw_allocation_line, raw_free_line, clock_line}
 use Rattle.ht_trace.specs.Gathered.{gathered}
 use Rattle.ht_trace.specs.StepOf.{event_in}
 use Rattle.ht_trace.specs.TraceLists as lists
 use Rattle.live_ledger.specs.declared.event.Event.{Event}
 use Rattle.live_ledger.specs.declared.event.Event.TheVariants.{Alloc, Free, Tick}
 use Rattle.live_ledger.specs.LedgerState.{HeldInfo}
-use Rattle.live_ledger.specs.InStack.{alloc_size_in, blocks_in, free_size_in, is_alloc_in, is_free_in, live_in}
 use Rattle.interpret.specs.declared.infos.AllocationInfo.{AllocationInfo}
 use Rattle.interpret.specs.FirstAppearances.{with_all, with_new}
-use Rattle.interpret.specs.Interpreted.{info_said, new_in, said_for}
-use Rattle.interpret.specs.InterpretedSaid.{events_said, interpreted_events, interpreted_said, told_after, told_for, told_from}
-use Rattle.interpret.specs.RawBlocks.{RawBlock, freed_by, freed_info, held, held_back}
-use Rattle.interpret.specs.RawLedger.{KeepsLedger, block_in, blocks, bytes_of, freed, is_of, live_blocks}
+use Rattle.interpret.specs.Interpreted.{info_said, new_in}
+use Rattle.interpret.specs.InterpretedSaid.{events_said, interpreted_events, interpreted_said, told_after, told_from}
+use Rattle.interpret.specs.RawBlocks.{RawBlock, freed_by, freed_info, held}
+use Rattle.interpret.specs.RawLedger.{block_in, blocks, freed}
 use Rattle.interpret.specs.RawContents.{IsRaw}
-use Rattle.interpret.specs.RawTables.{RawTables, info_in, info_number, infos, ip_number, new_call, same_info, tables_of}
+use Rattle.interpret.specs.RawTables.{info_in, info_number, infos, new_call, same_info, tables_of}
 use Rattle.interpret.specs.Resolved.{Resolved, instruction_said}
 use Rattle.interpret.specs.SymbolLine.{Symbol}
-use Rattle.interpret.proofs.FirstLemmas.{place-within, with-absent, with-held}
 use Rattle.interpret.proofs.GrowthLemmas.{gathered-push, infos-push}
 use Rattle.interpret.proofs.PointerLemmas.{held-push}
-use Rattle.interpret.proofs.RawLedgerLemmas.{AreHeld, held-none, held-step}
 use Rattle.interpret.proofs.RepeatLemmas.{infos-decide}
 
 -- what a list gives behind others
@@ -60,7 +56,7 @@ unfolding interpreted_said
 interpreted-push symbols said c = told-push symbols [] said c
 
 -- the info of a pair, as a trace holds it
-abbrev held_of : AllocationInfo → HeldInfo
+abbrev pub held_of : AllocationInfo → HeldInfo
 held_of info = record { stack = info.trace; size = info.size }
 
 -- lines that bring neither an info nor an event
@@ -93,11 +89,11 @@ infos-quiet : (earlier : List Content) (more : List AllocationInfo) → gathered
 infos-quiet earlier [] = refl
 infos-quiet earlier (info ∷ more) = infos-quiet (earlier ++ info_said info ∷ []) more
 
-infos-of : (more : List AllocationInfo) → lists.infos (map info_said more) ≡ map held_of more
+pub infos-of : (more : List AllocationInfo) → lists.infos (map info_said more) ≡ map held_of more
 infos-of [] = refl
 infos-of (info ∷ more) = ap (λ (l : List HeldInfo). held_of info ∷ l) (infos-of more)
 
-infos-append : (xs ys : List Content) → lists.infos (xs ++ ys) ≡ lists.infos xs ++ lists.infos ys
+pub infos-append : (xs ys : List Content) → lists.infos (xs ++ ys) ≡ lists.infos xs ++ lists.infos ys
 infos-append xs ys = filter_map-append lists.info_in xs ys
 
 -- what is new at the end of a list of infos

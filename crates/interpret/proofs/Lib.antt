@@ -19,3 +19,5 @@ mod ToldLemmas
 mod WritableLemmas
 mod ReadAgainLemmas
 mod OneLineLemmas
+mod GoodLemmas
+mod NoFaultLemmas

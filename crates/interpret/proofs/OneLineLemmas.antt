@@ -1,17 +1,15 @@
 -- No interpreted line has a line feed, where neither raw lines nor symbols have one.
-use Rattle.std.proofs.Common.{◌≡◌, ℕ, ◌^◌, ◌<◌, Bool, true, false, cond, ◌||◌, List, [], ◌∷◌, ◌++◌, length, map, Option, Some, None, Result, Ok, refl, sym, ap, ◌∙◌, append_assoc, append-nil, subst}
+use Rattle.std.proofs.Common.{◌≡◌, ℕ, ◌^◌, ◌<◌, List, [], ◌∷◌, ◌++◌, length, map, Option, Some, None, Result, refl, sym, subst}
 use Rattle.std.specs.List.{AllByRecursion}
 use Rattle.std.specs.Option.{option_to_list}
 use Rattle.hp_num.specs.Hexadecimal.{hexadecimal}
 use Rattle.hp_num.specs.ParsedHex.{parsed_hex}
 use Rattle.ht_lines.specs.declared.item.Malformed.{Malformed}
 use Rattle.ht_lines.specs.declared.item.Form.TheVariants.{Raw}
-use Rattle.ht_lines.specs.Content.{Content, version_line, string_line, clear_line, module_line, node_line, allocation_line, free_line, raw_allocation_line, raw_free_line}
+use Rattle.ht_lines.specs.Content.{Content, version_line, string_line, clear_line, module_line, node_line, free_line, raw_allocation_line, raw_free_line}
 use Rattle.ht_lines.specs.OneLine.{HasOneLineTexts, IsOneLine}
-use Rattle.ht_lines.specs.Reads.{Reads}
 use Rattle.ht_lines.specs.Written.{written}
 use Rattle.ht_lines.proofs.OneLineTexts.{Reads-one_line, written-one_line}
-use Rattle.ht_trace.specs.declared.error.LineError.{LineError}
 use Rattle.ht_trace.specs.Gathered.{gathered}
 use Rattle.interpret.specs.declared.infos.AllocationInfo.{AllocationInfo}
 use Rattle.interpret.specs.Interpreted.{info_said, interpreted_lines, lines_after, lines_read, new_in}
@@ -25,7 +23,7 @@ use Rattle.interpret.specs.Resolved.{Resolved, instruction_said}
 use Rattle.interpret.specs.SymbolLine.{Symbol}
 use Rattle.interpret.proofs.GrowthLemmas.{modules-push, names-push}
 use Rattle.interpret.proofs.LedgerLemmas.{all-append}
-use Rattle.interpret.proofs.ReadAgainLemmas.{IsGoodLine, Stage, first-stage, good-line, no-faults, read-of, stage-step}
+use Rattle.interpret.proofs.ReadAgainLemmas.{Stage, first-stage, good-line, no-faults, read-of, stage-step}
 use Rattle.interpret.proofs.StandLemmas.{all-push, reads-by}
 use Rattle.interpret.proofs.WritableLemmas.{fresh-all}
 

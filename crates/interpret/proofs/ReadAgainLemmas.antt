@@ -32,13 +32,14 @@ use Rattle.interpret.specs.InterpretedTrace.{AreInterpretable, HasShortTexts, in
 use Rattle.interpret.specs.Modules.{LoadedModule, modules, modules_after}
 use Rattle.interpret.specs.RawBlocks.{held}
 use Rattle.interpret.specs.RawContents.{IsRaw, contents, file_version, version_of}
-use Rattle.interpret.specs.RawFault.{allocation_fault, content_fault, fault_in, full_fault, lists_fault, node_fault, raw_fault, reading_fault}
-use Rattle.interpret.specs.RawTables.{KnownIp, RawTables, infos, instructions, ip_frames, known, known_with, names, names_with, new_call, nodes, tables_after, tables_of}
+use Rattle.interpret.specs.RawFault.{allocation_fault, content_fault, fault_in, full_fault, node_fault, raw_fault, reading_fault}
+use Rattle.interpret.specs.RawLedger.{KeepsLedger}
+use Rattle.interpret.specs.RawTables.{RawTables, infos, instructions, ip_frames, known, known_with, names, new_call, nodes, tables_after, tables_of}
 use Rattle.interpret.specs.SymbolLine.{Symbol}
-use Rattle.interpret.proofs.GrowthLemmas.{infos-push, known-push, modules-push, names-push, tables-push}
+use Rattle.interpret.proofs.GrowthLemmas.{infos-push, modules-push, names-push, tables-push}
+use Rattle.interpret.proofs.KeepLemmas.{keeps-ledger}
 use Rattle.interpret.proofs.LedgerLemmas.{interpreted-push}
 use Rattle.interpret.proofs.StandLemmas.{all-push, raw-writable, reads-by}
-use Rattle.interpret.proofs.StandLemmas as raw
 use Rattle.interpret.proofs.WritableLemmas.{allocation-writable, free-writable, node-writable}
 use Rattle.stack_table.specs.Stack as stacks
 
@@ -53,7 +54,7 @@ pub record AreFew (tables : RawTables) : Type 0 where
   pub nodes_few : length tables.nodes ≤ most_nodes
   pub infos_few : length tables.infos ≤ most_entries
 
-below : (most n : ℕ) → nat_lt most n ≡ false → n ≤ most
+pub below : (most n : ℕ) → nat_lt most n ≡ false → n ≤ most
 below most n without = grind (arith, nat_tests, without)
 
 few-full : (tables : RawTables) → full_fault tables ≡ None → AreFew tables
@@ -98,7 +99,7 @@ good-allocation nodes trace full none = by (nat_lt (length nodes) trace) refl no
     by false is none = (is, none)
 
 -- tables stay so where what a line says has no fault
-few-after : (symbols : List Symbol) (version : Option ℕ) (tables : RawTables) (said : Content) → AreFew tables → content_fault symbols version tables said ≡ None → AreFew (tables_after symbols tables said)
+pub few-after : (symbols : List Symbol) (version : Option ℕ) (tables : RawTables) (said : Content) → AreFew tables → content_fault symbols version tables said ≡ None → AreFew (tables_after symbols tables said)
 unfolding content_fault tables_after
 few-after symbols version tables (node_line ip parent) few none =
     few-full (tables_after symbols tables (node_line ip parent)) (good-node tables.nodes (ip_frames (known_with tables.known (new_call symbols tables ip)) ip) parent (full_fault (tables_after symbols tables (node_line ip parent))) none).has_room
@@ -131,7 +132,7 @@ read-by None out line said is first may read = told.reads-first out line said is
 read-by (Some version) out line said is first may read = told.reads-later version out line said is read
 
 -- what a line that is passed on says in both forms
-IsPassed : Content → Type 0
+abbrev pub IsPassed : Content → Type 0
 IsPassed (version_line heaptrack file) = ⊥
 IsPassed (string_line bytes) = ⊥
 IsPassed clear_line = ⊥
@@ -145,8 +146,7 @@ IsPassed (raw_allocation_line size trace ptr) = ⊥
 IsPassed (raw_free_line ptr) = ⊥
 IsPassed _ = Unit {0}
 
-passed-reads : (v : ℕ) (line : List ℕ) (said : Content) → IsPassed said → Reads Raw v line said → Reads Interpreted v line said
-unfolding IsPassed
+pub passed-reads : (v : ℕ) (line : List ℕ) (said : Content) → IsPassed said → Reads Raw v line said → Reads Interpreted v line said
 passed-reads v line (version_line heaptrack file) passed r = absurd passed
 passed-reads v line (string_line bytes) passed r = absurd passed
 passed-reads v line clear_line passed r = absurd passed
@@ -169,7 +169,7 @@ kind-first k [] kind = absurd kind
 kind-first k (b ∷ []) kind = ap (λ (n : ℕ). n == 35 || n == 118) kind
 kind-first k (b ∷ c ∷ rest) kind = ap (λ (n : ℕ). n == 35 || n == 118) kind.0
 
-has-version : (k : ℕ) (version : Option ℕ) (line : List ℕ) → IsOfKind k line → (k == 35 || k == 118) ≡ false → (is_some version || may_stand_first line) ≡ true → (v : ℕ) × (version ≡ Some v)
+pub has-version : (k : ℕ) (version : Option ℕ) (line : List ℕ) → IsOfKind k line → (k == 35 || k == 118) ≡ false → (is_some version || may_stand_first line) ≡ true → (v : ℕ) × (version ≡ Some v)
 has-version k None line kind other may = absurd (true≢false (sym may ∙ (kind-first k line kind ∙ other)))
 has-version k (Some v) line kind other may = (v, refl)
 
@@ -282,7 +282,7 @@ module _ (back : (n : ℕ) → n < 2 ^ 64 → parsed_hex (hexadecimal n) ≡ Som
   says : (symbols : List Symbol) (lines out : List (List ℕ)) (line : List ℕ) (said : Content) → AllByRecursion HasShortTexts symbols → Stage symbols lines out
       → (is_some (version_of lines) || may_stand_first line) ≡ true → Reads Raw (file_version lines) line said → IsRaw said → IsWritable Raw (file_version lines) said → content_fault symbols (version_of lines) (tables_of symbols (contents lines)) said ≡ None
       → SaysMore symbols lines out said (lines_after symbols (file_version lines) (contents lines) line said)
-  unfolding content_fault IsPassed
+  unfolding content_fault
   says symbols lines out line (string_line bytes) texts stage may reads raw writable good = absurd raw
   says symbols lines out line (instruction_line ip module_string frames) texts stage may reads raw writable good = absurd raw
   says symbols lines out line (info_line size trace) texts stage may reads raw writable good = absurd raw
@@ -360,3 +360,6 @@ module _ (back : (n : ℕ) → n < 2 ^ 64 → parsed_hex (hexadecimal n) ≡ Som
   pub events-again : (symbols : List Symbol) (lines : List (List ℕ)) → AreInterpretable symbols lines → events (interpreted_trace symbols lines) ≡ interpreted_events symbols (contents lines)
   unfolding interpreted_events events_said
   events-again symbols lines are = ap (λ (l : List Content). events_said l) (said-again symbols lines are)
+
+  pub ledger-again : (symbols : List Symbol) (lines : List (List ℕ)) → AreInterpretable symbols lines → KeepsLedger symbols (contents lines)
+  ledger-again symbols lines are = keeps-ledger symbols (contents lines) (whole-stage symbols lines are).raw

@@ -1,7 +1,7 @@
 -- The tables that the interpreted lines give are those of the raw ones.
-use Rattle.std.proofs.Common.{◌≡◌, ℕ, suc, ◌+◌, ◌*◌, ◌-◌, ◌%◌, ◌⊎◌, inl, inr, Bool, true, false, cond, eqb, ◌||◌, List, [], ◌∷◌, ◌++◌, length, map, max, Option, Some, None, refl, sym, ap, ◌∙◌, arith, append_assoc, append-nil, length-append, subst, true≢false}
+use Rattle.std.proofs.Common.{◌≡◌, ℕ, ◌+◌, ◌*◌, ◌-◌, ◌%◌, ◌⊎◌, inl, inr, Bool, true, false, cond, ◌||◌, List, [], ◌∷◌, ◌++◌, length, map, max, Option, Some, None, refl, sym, ap, ◌∙◌, arith, append_assoc, append-nil, true≢false}
 use Rattle.std.specs.Prelude.{◌==◌, drop, find, slice_get, unwrap_or}
-use Rattle.std.specs.List.{AllByRecursion, filter_map, flat_map, list_any, position_or_len}
+use Rattle.std.specs.List.{AllByRecursion, flat_map, list_any, position_or_len}
 use Rattle.std.specs.Option.{option_map, option_to_list}
 use Rattle.std.specs.Str.{bytes_eq}
 use Rattle.std.proofs.Math.Seq.{drop-append_seam}
@@ -21,12 +21,11 @@ use Rattle.interpret.specs.declared.infos.AllocationInfo.{AllocationInfo}
 use Rattle.interpret.specs.FirstAppearances.{with_all, with_new}
 use Rattle.interpret.specs.Interpreted.{info_said, new_in}
 use Rattle.interpret.specs.InterpretedSaid.{interpreted_said, told_after}
-use Rattle.interpret.specs.IpLists.{ip_of}
 use Rattle.interpret.specs.Modules.{LoadedModule, module_of}
-use Rattle.interpret.specs.RawBlocks.{RawBlock, freed_by, freed_info, held}
+use Rattle.interpret.specs.RawBlocks.{freed_by, freed_info, held}
 use Rattle.interpret.specs.RawContents.{IsRaw}
 use Rattle.interpret.specs.RawTables.{KnownIp, RawTables, ip_frames, instructions, ip_number, is_numbered, known, known_of, known_with, names, names_with, new_call, node_in, node_of, nodes, tables_of}
-use Rattle.interpret.specs.Resolved.{Resolved, SourceFrame, frame_count, frame_numbers, frames_of, instruction_said, module_number, names_called, resolved, resolved_in, texts_in}
+use Rattle.interpret.specs.Resolved.{Resolved, SourceFrame, frame_numbers, frames_of, instruction_said, module_number, names_called, resolved, resolved_in, texts_in}
 use Rattle.interpret.specs.SymbolLine.{Symbol}
 use Rattle.interpret.proofs.FirstLemmas.{with-absent, with-held}
 use Rattle.interpret.proofs.GrowthLemmas.{added, known-push, names-push, nodes-push}
@@ -118,27 +117,24 @@ place-found held ip some =
 entry-of : (instructions : List Instruction) (held : List KnownIp) (n : ℕ) → map known_by instructions ≡ held → option_map known_by (slice_get instructions n) ≡ slice_get held n
 entry-of instructions held n is = sym (slice_get-map known_by instructions n) ∙ ap (λ (l : List KnownIp). slice_get l n) is
 
-number-count : (instructions : List Instruction) (held : List KnownIp) (ip : ℕ) → map known_by instructions ≡ held → is_numbered held ip ≡ true → unwrap_or (frame_count_of instructions (ip_number held ip)) 0 ≡ ip_frames held ip
-number-count instructions held ip is some = by (ip == 0) some
+pub number-frames : (instructions : List Instruction) (held : List KnownIp) (ip : ℕ) → map known_by instructions ≡ held → is_numbered held ip ≡ true → frame_count_of instructions (ip_number held ip) ≡ Some (ip_frames held ip)
+number-frames instructions held ip is some = by (ip == 0) some
   where
-    place : ℕ
-    place = position_or_len (λ (k : KnownIp). ip == k.ip) held
-
     frames-of : (o : Option Instruction) → option_map (λ (i : Instruction). length i.frames) o ≡ option_map (λ (k : KnownIp). k.frames) (option_map known_by o)
     frames-of None = refl
     frames-of (Some i) = refl
 
     by : (b : Bool) → (b || list_any (λ (k : KnownIp). ip == k.ip) held) ≡ true
-        → unwrap_or (frame_count_of instructions (cond b 0 (position_or_len (λ (k : KnownIp). ip == k.ip) held + 1))) 0 ≡ cond b 1 (unwrap_or (option_map (λ (k : KnownIp). k.frames) (find (λ (k : KnownIp). ip == k.ip) held)) 1)
+        → frame_count_of instructions (cond b 0 (position_or_len (λ (k : KnownIp). ip == k.ip) held + 1)) ≡ Some (cond b 1 (unwrap_or (option_map (λ (k : KnownIp). k.frames) (find (λ (k : KnownIp). ip == k.ip) held)) 1))
     by true some = refl
     by false some =
         let found = place-found held ip some in
         let other : (position_or_len (λ (k : KnownIp). ip == k.ip) held + 1 == 0) ≡ false = grind (arith, nat_tests) in
         let at = entry-of instructions held (position_or_len (λ (k : KnownIp). ip == k.ip) held + 1 - 1) is ∙ found.2 in
-        ap (λ (b : Bool). unwrap_or (cond {A = Option ℕ} b (Some 1) (option_map (λ (i : Instruction). length i.frames) (slice_get instructions (position_or_len (λ (k : KnownIp). ip == k.ip) held + 1 - 1)))) 0) other
-        ∙ (ap (λ (o : Option ℕ). unwrap_or o 0) (frames-of (slice_get instructions (position_or_len (λ (k : KnownIp). ip == k.ip) held + 1 - 1)))
-        ∙ (ap (λ (o : Option KnownIp). unwrap_or (option_map (λ (k : KnownIp). k.frames) o) 0) at
-        ∙ sym (ap (λ (o : Option KnownIp). unwrap_or (option_map (λ (k : KnownIp). k.frames) o) 1) found.1)))
+        ap (λ (b : Bool). cond {A = Option ℕ} b (Some 1) (option_map (λ (i : Instruction). length i.frames) (slice_get instructions (position_or_len (λ (k : KnownIp). ip == k.ip) held + 1 - 1)))) other
+        ∙ (frames-of (slice_get instructions (position_or_len (λ (k : KnownIp). ip == k.ip) held + 1 - 1))
+        ∙ (ap (λ (o : Option KnownIp). option_map (λ (k : KnownIp). k.frames) o) at
+        ∙ sym (ap (λ (o : Option KnownIp). Some (unwrap_or (option_map (λ (k : KnownIp). k.frames) o) 1)) found.1)))
 
 -- the numbers of the addresses, in the terms of what is known
 abbrev pub known_ip : List KnownIp → ℕ → Option ℕ
@@ -230,11 +226,11 @@ frees-tableless None = tt
 frees-tableless (Some n) = ((refl, refl, λ held. refl), tt)
 
 -- lines of names
-strings-said : (names : List (List ℕ)) → lists.strings (map string_line names) ≡ names
+pub strings-said : (names : List (List ℕ)) → lists.strings (map string_line names) ≡ names
 strings-said [] = refl
 strings-said (name ∷ names) = ap (λ (l : List (List ℕ)). name ∷ l) (strings-said names)
 
-no-instructions-said : (names : List (List ℕ)) → lists.instructions (map string_line names) ≡ []
+pub no-instructions-said : (names : List (List ℕ)) → lists.instructions (map string_line names) ≡ []
 no-instructions-said [] = refl
 no-instructions-said (name ∷ names) = no-instructions-said names
 
@@ -264,13 +260,13 @@ pub record AreTables (symbols : List Symbol) (said : List Content) : Type 0 wher
   pub known_are : map known_by (lists.instructions (interpreted_said symbols said)) ≡ known symbols said
   pub nodes_are : lists.nodes (interpreted_said symbols said) ≡ nodes symbols said
 
-strings-append : (xs ys : List Content) → lists.strings (xs ++ ys) ≡ lists.strings xs ++ lists.strings ys
+pub strings-append : (xs ys : List Content) → lists.strings (xs ++ ys) ≡ lists.strings xs ++ lists.strings ys
 strings-append xs ys = filter_map-append lists.string_in xs ys
 
-instructions-append : (xs ys : List Content) → lists.instructions (xs ++ ys) ≡ lists.instructions xs ++ lists.instructions ys
+pub instructions-append : (xs ys : List Content) → lists.instructions (xs ++ ys) ≡ lists.instructions xs ++ lists.instructions ys
 instructions-append xs ys = filter_map-append lists.instruction_in xs ys
 
-nodes-append : (xs ys : List Content) → lists.nodes (xs ++ ys) ≡ lists.nodes xs ++ gathered node_behind xs ys
+pub nodes-append : (xs ys : List Content) → lists.nodes (xs ++ ys) ≡ lists.nodes xs ++ gathered node_behind xs ys
 nodes-append xs ys = gathered-append node_behind [] xs ys
 
 -- with a line more that gives nothing
@@ -292,51 +288,77 @@ tables-same symbols said c all none no_node are =
           ∙ (are.nodes_are ∙ sym (nodes-push symbols said c ∙ (ap (λ (o : Option Node). nodes symbols said ++ option_to_list o) no_node ∙ append-nil (nodes symbols said)))))));
     }
 
+-- what a node's line gives before it says the node: new names, and then a new instruction
+abbrev pub node_names : List Symbol → List Content → Content → List Content
+node_names symbols said c = map string_line (new_in (names symbols said) (names symbols (said ++ c ∷ [])))
+
+abbrev pub node_calls : List Symbol → List Content → Content → ℕ → List Content
+node_calls symbols said c ip = map (instruction_said (names symbols (said ++ c ∷ []))) (option_to_list (new_call symbols (tables_of symbols said) ip))
+
+-- the tables when the node is said
+pub record HasTold (symbols : List Symbol) (said : List Content) (ip parent : ℕ) (front : List Content) : Type 0 where
+  pub strings_now : lists.strings front ≡ names symbols (said ++ node_line ip parent ∷ [])
+  pub known_now : map known_by (lists.instructions front) ≡ known symbols (said ++ node_line ip parent ∷ [])
+  pub nodes_now : lists.nodes front ≡ nodes symbols said
+  pub numbered : is_numbered (known symbols (said ++ node_line ip parent ∷ [])) ip ≡ true
+
+pub names-grown : (symbols : List Symbol) (said : List Content) (c : Content) → names symbols said ++ new_in (names symbols said) (names symbols (said ++ c ∷ [])) ≡ names symbols (said ++ c ∷ [])
+names-grown symbols said c =
+    ap (λ (l : List (List ℕ)). names symbols said ++ new_in (names symbols said) l) (names-push symbols said c)
+    ∙ (new-all bytes_eq (names symbols said) (flat_map names_called (option_to_list (added symbols said c))) ∙ sym (names-push symbols said c))
+
+pub has-told : (symbols : List Symbol) (said : List Content) (ip parent : ℕ) → AreTables symbols said
+    → HasTold symbols said ip parent (interpreted_said symbols said ++ (node_names symbols said (node_line ip parent) ++ node_calls symbols said (node_line ip parent) ip))
+has-told symbols said ip parent are =
+    let c = node_line ip parent in
+    let told = interpreted_said symbols said in
+    let before = tables_of symbols said in
+    let after = names symbols (said ++ c ∷ []) in
+    let call = new_call symbols before ip in
+    let fresh = new_in before.names after in
+    let strings = node_names symbols said c in
+    let instructions = node_calls symbols said c ip in
+    record {
+      strings_now =
+          strings-append told (strings ++ instructions)
+          ∙ (ap (λ (l : List (List ℕ)). lists.strings told ++ l) (strings-append strings instructions ∙ (ap (λ (l : List (List ℕ)). lists.strings strings ++ l) (calls-strings after (option_to_list call)) ∙ (append-nil (lists.strings strings) ∙ strings-said fresh)))
+          ∙ (ap (λ (l : List (List ℕ)). l ++ fresh) are.strings_are ∙ names-grown symbols said c));
+      known_now =
+          ap (λ (l : List Instruction). map known_by l)
+          (instructions-append told (strings ++ instructions) ∙ ap (λ (l : List Instruction). lists.instructions told ++ l) (instructions-append strings instructions ∙ (ap (λ (l : List Instruction). l ++ lists.instructions instructions) (no-instructions-said fresh) ∙ calls-instructions after (option_to_list call))))
+          ∙ (map-append known_by (lists.instructions told) (map (said_instruction after) (option_to_list call))
+          ∙ (ap (λ (l : List KnownIp). l ++ map known_by (map (said_instruction after) (option_to_list call))) are.known_are
+          ∙ (ap (λ (l : List KnownIp). known symbols said ++ l) (call-known after symbols before.loaded ip (is_numbered before.known ip)) ∙ sym (known-push symbols said c))));
+      nodes_now =
+          nodes-append told (strings ++ instructions)
+          ∙ (ap (λ (l : List Node). lists.nodes told ++ l) (gathered-append node_behind told strings instructions ∙ (ap (λ (l : List Node). l ++ gathered node_behind (told ++ strings) instructions) (no-nodes-said told fresh) ∙ calls-nodes after (told ++ strings) (option_to_list call)))
+          ∙ (append-nil (lists.nodes told) ∙ are.nodes_are));
+      numbered = ap (λ (l : List KnownIp). is_numbered l ip) (known-push symbols said c) ∙ now-numbered symbols before ip;
+    }
+
 -- with a node more
 tables-node : (symbols : List Symbol) (said : List Content) (ip parent : ℕ) → AreTables symbols said → AreTables symbols (said ++ node_line ip parent ∷ [])
 tables-node symbols said ip parent are =
     let c = node_line ip parent in
     let told = interpreted_said symbols said in
-    let before = tables_of symbols said in
-    let after = tables_of symbols (said ++ c ∷ []) in
-    let call = new_call symbols before ip in
-    let fresh = new_in before.names after.names in
-    let strings = map string_line fresh in
-    let instructions = map (instruction_said after.names) (option_to_list call) in
-    let last : List Content = node_line (ip_number after.known ip) parent ∷ [] in
+    let held = known symbols (said ++ c ∷ []) in
+    let strings = node_names symbols said c in
+    let instructions = node_calls symbols said c ip in
+    let last : List Content = node_line (ip_number held ip) parent ∷ [] in
+    let front = told ++ (strings ++ instructions) in
+    let now = has-told symbols said ip parent are in
     let push : interpreted_said symbols (said ++ c ∷ []) ≡ told ++ (strings ++ (instructions ++ last)) = interpreted-push symbols said c in
-    let grown : before.names ++ fresh ≡ after.names =
-    ap (λ (l : List (List ℕ)). before.names ++ new_in before.names l) (names-push symbols said c) ∙ (new-all bytes_eq before.names (flat_map names_called (option_to_list call)) ∙ sym (names-push symbols said c)) in
-    let known_now : map known_by (lists.instructions (told ++ (strings ++ instructions))) ≡ after.known =
-    ap (λ (l : List Instruction). map known_by l)
-    (instructions-append told (strings ++ instructions) ∙ ap (λ (l : List Instruction). lists.instructions told ++ l) (instructions-append strings instructions ∙ (ap (λ (l : List Instruction). l ++ lists.instructions instructions) (no-instructions-said fresh) ∙ calls-instructions after.names (option_to_list call))))
-    ∙ (map-append known_by (lists.instructions told) (map (said_instruction after.names) (option_to_list call))
-    ∙ (ap (λ (l : List KnownIp). l ++ map known_by (map (said_instruction after.names) (option_to_list call))) are.known_are
-    ∙ (ap (λ (l : List KnownIp). known symbols said ++ l) (call-known after.names symbols before.loaded ip (is_numbered before.known ip)) ∙ sym (known-push symbols said c)))) in
-    let numbered : is_numbered after.known ip ≡ true = ap (λ (l : List KnownIp). is_numbered l ip) (known-push symbols said c) ∙ now-numbered symbols before ip in
-    let node : gathered node_behind (told ++ (strings ++ instructions)) last ≡ node_of after.known ip parent ∷ [] =
-    ap (λ (n : ℕ). record { ip = ip_number after.known ip; parent = parent; frames = n } ∷ []) (number-count (lists.instructions (told ++ (strings ++ instructions))) after.known ip known_now numbered) in
-    let split : told ++ (strings ++ (instructions ++ last)) ≡ (told ++ (strings ++ instructions)) ++ last =
+    let node : gathered node_behind front last ≡ node_of held ip parent ∷ [] =
+    ap (λ (o : Option ℕ). record { ip = ip_number held ip; parent = parent; frames = unwrap_or o 0 } ∷ []) (number-frames (lists.instructions front) held ip now.known_now now.numbered) in
+    let split : told ++ (strings ++ (instructions ++ last)) ≡ front ++ last =
     ap (λ (l : List Content). told ++ l) (sym (append_assoc strings instructions last)) ∙ sym (append_assoc told (strings ++ instructions) last) in
     let whole = push ∙ split in
     record {
-      strings_are =
-          ap (λ (l : List Content). lists.strings l) whole ∙ (strings-append (told ++ (strings ++ instructions)) last ∙ (append-nil (lists.strings (told ++ (strings ++ instructions)))
-          ∙ (strings-append told (strings ++ instructions)
-          ∙ (ap (λ (l : List (List ℕ)). lists.strings told ++ l) (strings-append strings instructions ∙ (ap (λ (l : List (List ℕ)). lists.strings strings ++ l) (calls-strings after.names (option_to_list call)) ∙ (append-nil (lists.strings strings) ∙ strings-said fresh)))
-          ∙ (ap (λ (l : List (List ℕ)). l ++ fresh) are.strings_are ∙ grown)))));
-      known_are =
-          ap (λ (l : List Content). map known_by (lists.instructions l)) whole
-          ∙ (ap (λ (l : List Instruction). map known_by l) (instructions-append (told ++ (strings ++ instructions)) last ∙ append-nil (lists.instructions (told ++ (strings ++ instructions)))) ∙ known_now);
+      strings_are = ap (λ (l : List Content). lists.strings l) whole ∙ (strings-append front last ∙ (append-nil (lists.strings front) ∙ now.strings_now));
+      known_are = ap (λ (l : List Content). map known_by (lists.instructions l)) whole ∙ (ap (λ (l : List Instruction). map known_by l) (instructions-append front last ∙ append-nil (lists.instructions front)) ∙ now.known_now);
       nodes_are =
           ap (λ (l : List Content). lists.nodes l) whole
-          ∙ (nodes-append (told ++ (strings ++ instructions)) last
-          ∙ (ap (λ (l : List Node). lists.nodes (told ++ (strings ++ instructions)) ++ l) node
-          ∙ (ap (λ (l : List Node). l ++ node_of after.known ip parent ∷ [])
-          (nodes-append told (strings ++ instructions)
-          ∙ (ap (λ (l : List Node). lists.nodes told ++ l) (gathered-append node_behind told strings instructions ∙ (ap (λ (l : List Node). l ++ gathered node_behind (told ++ strings) instructions) (no-nodes-said told fresh) ∙ calls-nodes after.names (told ++ strings) (option_to_list call)))
-          ∙ (append-nil (lists.nodes told) ∙ are.nodes_are)))
-          ∙ sym (nodes-push symbols said c))));
+          ∙ (nodes-append front last ∙ (ap (λ (l : List Node). lists.nodes front ++ l) node ∙ (ap (λ (l : List Node). l ++ node_of held ip parent ∷ []) now.nodes_now ∙ sym (nodes-push symbols said c))));
     }
 
 pub tables-step : (symbols : List Symbol) (said : List Content) (c : Content) → IsRaw c → AreTables symbols said → AreTables symbols (said ++ c ∷ [])

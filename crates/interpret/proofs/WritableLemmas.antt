@@ -1,7 +1,7 @@
 -- What the interpreted lines of a raw line say may be written in its file version.
-use Rattle.std.proofs.Common.{◌≡◌, ℕ, ◌+◌, ◌*◌, ◌-◌, ◌%◌, ◌^◌, ◌<◌, ◌≤◌, ◌⊎◌, inl, inr, Bool, true, false, not, cond, ◌||◌, ◌&&◌, List, [], ◌∷◌, ◌++◌, length, map, reverse, Option, Some, None, refl, sym, ap, ◌∙◌, arith, subst, true≢false}
-use Rattle.std.specs.Prelude.{◌==◌, drop, find, nat_le, nat_lt, position, unwrap_or}
-use Rattle.std.specs.List.{AllByRecursion, flat_map, list_any, position_or_len}
+use Rattle.std.proofs.Common.{◌≡◌, ℕ, ◌+◌, ◌-◌, ◌%◌, ◌^◌, ◌<◌, ◌≤◌, ◌⊎◌, inl, inr, Bool, true, false, not, cond, ◌&&◌, List, [], ◌∷◌, ◌++◌, length, map, reverse, Option, Some, None, refl, sym, ap, arith, subst, true≢false}
+use Rattle.std.specs.Prelude.{◌==◌, find, nat_le, nat_lt, position, unwrap_or}
+use Rattle.std.specs.List.{AllByRecursion, flat_map, position_or_len}
 use Rattle.std.specs.Option.{option_map, option_to_list}
 use Rattle.std.specs.Str.{bytes_eq}
 use Rattle.std.specs.Str.Parse.{digits_value}
@@ -9,13 +9,13 @@ use Rattle.std.proofs.lemmas.Bool.Decides.{nat_tests}
 use Rattle.std.proofs.lemmas.List.{reverse-append}
 use Rattle.hp_num.specs.Numeral.{is_numeral}
 use Rattle.hp_num.specs.ParsedDec.{parsed_dec}
-use Rattle.ht_lines.specs.Content.{Content, string_line, node_line, allocation_line, free_line, raw_allocation_line}
+use Rattle.ht_lines.specs.Content.{string_line, node_line, allocation_line, free_line}
 use Rattle.ht_lines.specs.declared.item.Form.TheVariants.{Interpreted}
 use Rattle.ht_lines.specs.Written.{AreWords, IsWritable}
 use Rattle.ht_trace.specs.LineFault.{most_entries}
 use Rattle.intern_tables.specs.Numbers.{number_of}
 use Rattle.interpret.specs.declared.infos.AllocationInfo.{AllocationInfo}
-use Rattle.interpret.specs.FirstAppearances.{with_all, with_new}
+use Rattle.interpret.specs.FirstAppearances.{with_all}
 use Rattle.interpret.specs.Interpreted.{info_said, new_in}
 use Rattle.interpret.specs.InterpretedTrace.{HasShortTexts}
 use Rattle.interpret.specs.Modules.{LoadedModule, holds_address, module_of}
@@ -27,10 +27,10 @@ use Rattle.interpret.specs.SymbolList.{holds, symbol_at}
 use Rattle.interpret.proofs.FirstLemmas.{place-within, position-some}
 use Rattle.interpret.proofs.LedgerLemmas.{all-append}
 use Rattle.interpret.proofs.TakeLemmas.{resolved-ip}
-use Rattle.interpret.proofs.ToldLemmas.{Grows, all-more, new-grown, numbers-count, resolved-texts}
+use Rattle.interpret.proofs.ToldLemmas.{all-more, new-grown, numbers-count, resolved-texts}
 
 -- what is found is one of the list
-find-all : {X : Type 0} (P : X → Type 0) (p : X → Bool) (xs : List X) (x : X) → AllByRecursion P xs → find p xs ≡ Some x → P x
+pub find-all : {X : Type 0} (P : X → Type 0) (p : X → Bool) (xs : List X) (x : X) → AllByRecursion P xs → find p xs ≡ Some x → P x
 find-all P p [] x all is = absurd (cc)
 find-all {X} P p (y ∷ ys) x all is = by (p y) is (λ rest. find-all P p ys x all.1 rest)
   where
@@ -51,7 +51,7 @@ place-most p (x ∷ xs) =
     ]
 
 -- a number of names is at most their count
-name-few : (names : List (List ℕ)) (name : List ℕ) → name_number names name ≤ length names
+pub name-few : (names : List (List ℕ)) (name : List ℕ) → name_number names name ≤ length names
 unfolding number_of
 name-few names name = by (position (bytes_eq name) names) refl
   where
@@ -59,7 +59,7 @@ name-few names name = by (position (bytes_eq name) names) refl
     by None is = omega arith
     by (Some place) is = let at = position-some (bytes_eq name) names place is in let within = place-within (bytes_eq name) names at.0 in omega (arith, at.1, within)
 
-module-few : (names : List (List ℕ)) (o : Option (List ℕ)) → module_number names o ≤ length names
+pub module-few : (names : List (List ℕ)) (o : Option (List ℕ)) → module_number names o ≤ length names
 module-few names None = omega arith
 module-few names (Some name) = name-few names name
 

@@ -1,10 +1,10 @@
 -- All lines of the interpretation of a raw trace.
-use Rattle.std.specs.Prelude.{◌≡◌, ℕ, ◌^◌, ◌<◌, List, [], ◌∷◌, ◌++◌, length}
+use Rattle.std.specs.Prelude.{◌≡◌, ℕ, ◌^◌, ◌<◌, true, List, [], ◌∷◌, ◌++◌, length}
 use Rattle.std.specs.List.{AllByRecursion}
 use Rattle.ht_trace.specs.Gathered.{gathered}
 use Rattle.interpret.specs.Interpreted.{interpreted_lines}
 use Rattle.interpret.specs.RawFault.{raw_fault}
-use Rattle.interpret.specs.SymbolLine.{Symbol}
+use Rattle.interpret.specs.SymbolLine.{Symbol, are_texts}
 
 -- the lines that lines after earlier lines give
 abbrev pub lines_from : List Symbol → List (List ℕ) → List (List ℕ) → List (List ℕ)
@@ -17,6 +17,10 @@ interpreted_trace symbols lines = lines_from symbols [] lines
 -- each text of a symbol has a length that fits 64 bits
 abbrev pub HasShortTexts : Symbol → Type 0
 HasShortTexts symbol = AllByRecursion (λ text. length text < 2 ^ 64) symbol.texts
+
+-- its texts are a function alone, or frames, as each line of a table says them
+abbrev pub HasFrames : Symbol → Type 0
+HasFrames symbol = are_texts symbol.texts ≡ true
 
 -- no line has a fault after those before it, and neither lines nor texts are longer than what can be read
 pub record AreInterpretable (symbols : List Symbol) (lines : List (List ℕ)) : Type 0 where

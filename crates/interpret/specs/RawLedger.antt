@@ -1,7 +1,6 @@
 -- What the blocks of a raw trace allocate and free at a node, and what stays live.
-use Rattle.std.specs.Prelude.{◌≡◌, ℕ, ◌==◌, Bool, not, List, [], ◌∷◌, ◌++◌, if◌then◌else◌, filter, length, count_by, sum_by, map, Option, Some, None}
+use Rattle.std.specs.Prelude.{◌≡◌, ℕ, ◌==◌, Bool, not, List, [], if◌then◌else◌, filter, length, count_by, sum_by, map, Option, Some, None}
 use Rattle.std.specs.List.{list_any}
-use Rattle.std.specs.Option.{option_map}
 use Rattle.ht_lines.specs.Content.{Content, raw_allocation_line}
 use Rattle.ht_trace.specs.Gathered.{gathered}
 use Rattle.live_ledger.specs.InStack.{blocks_in, live_in}
