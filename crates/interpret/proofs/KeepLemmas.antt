@@ -19,14 +19,21 @@ pub record Holds (symbols : List Symbol) (said : List Content) : Type 0 where
   pub are_tables : AreTables symbols said
   pub are_ips : AreIps symbols said
 
+pub none-hold : (symbols : List Symbol) → Holds symbols []
+none-hold symbols = record { are_held = held-none; are_told = told-none symbols; are_tables = tables-none symbols; are_ips = ips-none symbols }
+
+pub holds-step : (symbols : List Symbol) (said : List Content) (c : Content) → IsRaw c → Holds symbols said → Holds symbols (said ++ c ∷ [])
+holds-step symbols said c raw all =
+    record { are_held = held-step said c all.are_held; are_told = told-step symbols said c raw all.are_told; are_tables = tables-step symbols said c raw all.are_tables; are_ips = ips-step symbols said c all.are_ips }
+
 steps : (symbols : List Symbol) (earlier said : List Content) → Holds symbols earlier → AllByRecursion IsRaw said → Holds symbols (earlier ++ said)
 steps symbols earlier [] all raw = subst (λ (l : List Content). Holds symbols l) (sym (append-nil earlier)) all
 steps symbols earlier (c ∷ said) all raw =
     subst (λ (l : List Content). Holds symbols l) (append_assoc earlier (c ∷ []) said)
-    (steps symbols (earlier ++ c ∷ []) said (record { are_held = held-step earlier c all.are_held; are_told = told-step symbols earlier c raw.0 all.are_told; are_tables = tables-step symbols earlier c raw.0 all.are_tables; are_ips = ips-step symbols earlier c all.are_ips }) raw.1)
+    (steps symbols (earlier ++ c ∷ []) said (holds-step symbols earlier c raw.0 all) raw.1)
 
 pub all-hold : (symbols : List Symbol) (said : List Content) → AllByRecursion IsRaw said → Holds symbols said
-all-hold symbols said raw = steps symbols [] said (record { are_held = held-none; are_told = told-none symbols; are_tables = tables-none symbols; are_ips = ips-none symbols }) raw
+all-hold symbols said raw = steps symbols [] said (none-hold symbols) raw
 
 -- so the ledger of the interpreted lines is that of the raw ones, and the tables are
 pub keeps-ledger : (symbols : List Symbol) (said : List Content) → AllByRecursion IsRaw said → KeepsLedger symbols said

@@ -38,10 +38,10 @@ gathered-append f earlier (x ∷ xs) ys =
     ∙ sym (append_assoc (option_to_list (f earlier x)) (gathered f (earlier ++ x ∷ []) xs) (gathered f (earlier ++ x ∷ xs) ys))
 
 -- an event of what a line says after others
-abbrev event_behind : List Content → Content → Option Event
+abbrev pub event_behind : List Content → Content → Option Event
 event_behind earlier said = event_in (lists.infos earlier) said
 
-events-append : (xs ys : List Content) → events_said (xs ++ ys) ≡ events_said xs ++ gathered event_behind xs ys
+pub events-append : (xs ys : List Content) → events_said (xs ++ ys) ≡ events_said xs ++ gathered event_behind xs ys
 unfolding events_said
 events-append xs ys = gathered-append event_behind [] xs ys
 
@@ -60,14 +60,14 @@ abbrev pub held_of : AllocationInfo → HeldInfo
 held_of info = record { stack = info.trace; size = info.size }
 
 -- lines that bring neither an info nor an event
-abbrev IsQuiet : Content → Type 0
+abbrev pub IsQuiet : Content → Type 0
 IsQuiet said = (lists.info_in said ≡ None) × ((infos : List HeldInfo) → event_in infos said ≡ None)
 
 quiet-infos : (xs : List Content) → AllByRecursion IsQuiet xs → lists.infos xs ≡ []
 quiet-infos [] all = refl
 quiet-infos (x ∷ xs) all = rw (all.0.0) (quiet-infos xs all.1)
 
-quiet-events : (earlier xs : List Content) → AllByRecursion IsQuiet xs → gathered event_behind earlier xs ≡ []
+pub quiet-events : (earlier xs : List Content) → AllByRecursion IsQuiet xs → gathered event_behind earlier xs ≡ []
 quiet-events earlier [] all = refl
 quiet-events earlier (x ∷ xs) all = rw (all.0.1 (lists.infos earlier)) (quiet-events (earlier ++ x ∷ []) xs all.1)
 
@@ -75,11 +75,11 @@ pub all-append : {X : Type 0} (P : X → Type 0) (xs ys : List X) → AllByRecur
 all-append P [] ys a b = b
 all-append P (x ∷ xs) ys a b = (a.0, all-append P xs ys a.1 b)
 
-quiet-strings : (names : List (List ℕ)) → AllByRecursion IsQuiet (map string_line names)
+pub quiet-strings : (names : List (List ℕ)) → AllByRecursion IsQuiet (map string_line names)
 quiet-strings [] = tt
 quiet-strings (name ∷ names) = ((refl, λ infos. refl), quiet-strings names)
 
-quiet-instructions : (names : List (List ℕ)) (calls : List Resolved) → AllByRecursion IsQuiet (map (instruction_said names) calls)
+pub quiet-instructions : (names : List (List ℕ)) (calls : List Resolved) → AllByRecursion IsQuiet (map (instruction_said names) calls)
 unfolding instruction_said
 quiet-instructions names [] = tt
 quiet-instructions names (call ∷ calls) = ((refl, λ infos. refl), quiet-instructions names calls)
@@ -105,7 +105,7 @@ new-infos held info = by (list_any (same_info info) held)
     by false = ap (λ (l : List AllocationInfo). held ++ l) (drop-append_seam held (info ∷ []))
 
 -- the info of a number is the info whose number it is
-info-at : (held : List AllocationInfo) (info : AllocationInfo) → list_any (same_info info) held ≡ true → slice_get held (info_number held info) ≡ Some info
+pub info-at : (held : List AllocationInfo) (info : AllocationInfo) → list_any (same_info info) held ≡ true → slice_get held (info_number held info) ≡ Some info
 info-at [] info none = absurd (true≢false (sym none))
 info-at (x ∷ held) info some = by (same_info info x) refl some (λ rest. info-at held info rest)
   where
@@ -125,7 +125,7 @@ added-held held info = by (list_any (same_info info) held) refl
     by true e = e
     by false e = list_any-append (same_info info) held (info ∷ []) ∙ ap (λ (b : Bool). b || (same_info info info || false)) e ∙ ap (λ (b : Bool). b || false) ((infos-decide info info).1 refl)
 
-stays-held : (held : List AllocationInfo) (info other : AllocationInfo) → list_any (same_info other) held ≡ true → list_any (same_info other) (with_new same_info held info) ≡ true
+pub stays-held : (held : List AllocationInfo) (info other : AllocationInfo) → list_any (same_info other) held ≡ true → list_any (same_info other) (with_new same_info held info) ≡ true
 stays-held held info other there = by (list_any (same_info info) held)
   where
     by : (b : Bool) → list_any (same_info other) (cond b held (held ++ info ∷ [])) ≡ true
@@ -165,33 +165,49 @@ quiet-adds symbols said c all same no_block no_free = record {
 }
 
 -- the infos stay but at an allocation
-infos-same : (said : List Content) (c : Content) → info_in c ≡ None → infos (said ++ c ∷ []) ≡ infos said
+pub infos-same : (said : List Content) (c : Content) → info_in c ≡ None → infos (said ++ c ∷ []) ≡ infos said
 infos-same said c none = infos-push said c ∙ ap (λ (o : Option AllocationInfo). with_all same_info (infos said) (option_to_list o)) none
 
 -- one event
 one-event : (f : Event → ℕ) (event : Event) → sum_by f (event ∷ []) ≡ f event
 one-event f event = omega arith
 
-alloc-adds : (symbols : List Symbol) (said : List Content) (size trace ptr : ℕ) → AreTold symbols said → Adds symbols said (raw_allocation_line size trace ptr)
-alloc-adds symbols said size trace ptr are =
+-- the infos behind an allocation's lines
+infos-behind : (symbols : List Symbol) (said : List Content) (size trace ptr : ℕ) → AreTold symbols said
+    → lists.infos (interpreted_said symbols said ++ map info_said (new_in (infos said) (infos (said ++ raw_allocation_line size trace ptr ∷ [])))) ≡ map held_of (infos (said ++ raw_allocation_line size trace ptr ∷ []))
+infos-behind symbols said size trace ptr are =
     let c = raw_allocation_line size trace ptr in
-    let info : AllocationInfo = record { size = size; trace = trace } in
-    let block : RawBlock = record { place = length said; info = record { size = size; trace = trace } } in
     let told = interpreted_said symbols said in
     let grown : infos (said ++ c ∷ []) ≡ with_new same_info (infos said) (record { size = size; trace = trace }) = infos-push said c in
     let more = new_in (infos said) (infos (said ++ c ∷ [])) in
-    let number = info_number (infos (said ++ c ∷ [])) (record { size = size; trace = trace }) in
-    let there : list_any (same_info (record { size = size; trace = trace })) (infos (said ++ c ∷ [])) ≡ true =
-    ap (λ (l : List AllocationInfo). list_any (same_info (record { size = size; trace = trace })) l) grown ∙ added-held (infos said) (record { size = size; trace = trace }) in
-    let held_now : lists.infos (told ++ map info_said more) ≡ map held_of (infos (said ++ c ∷ [])) =
     infos-append told (map info_said more) ∙ ap (λ (l : List HeldInfo). l ++ lists.infos (map info_said more)) are.infos_are ∙ ap (λ (l : List HeldInfo). map held_of (infos said) ++ l) (infos-of more)
     ∙ sym (map-append held_of (infos said) more)
-    ∙ ap (λ (l : List AllocationInfo). map held_of l) (ap (λ (l : List AllocationInfo). infos said ++ new_in (infos said) l) grown ∙ new-infos (infos said) (record { size = size; trace = trace }) ∙ sym grown) in
-    let event : gathered event_behind told (told_after symbols said c) ≡ Alloc number trace size ∷ [] =
+    ∙ ap (λ (l : List AllocationInfo). map held_of l) (ap (λ (l : List AllocationInfo). infos said ++ new_in (infos said) l) grown ∙ new-infos (infos said) (record { size = size; trace = trace }) ∙ sym grown)
+
+pub now-held : (said : List Content) (size trace ptr : ℕ) → list_any (same_info (record { size = size; trace = trace })) (infos (said ++ raw_allocation_line size trace ptr ∷ [])) ≡ true
+now-held said size trace ptr =
+    ap (λ (l : List AllocationInfo). list_any (same_info (record { size = size; trace = trace })) l) (infos-push said (raw_allocation_line size trace ptr)) ∙ added-held (infos said) (record { size = size; trace = trace })
+
+-- the one event of an allocation
+pub alloc-event : (symbols : List Symbol) (said : List Content) (size trace ptr : ℕ) → AreTold symbols said
+    → gathered event_behind (interpreted_said symbols said) (told_after symbols said (raw_allocation_line size trace ptr)) ≡ Alloc (info_number (infos (said ++ raw_allocation_line size trace ptr ∷ [])) (record { size = size; trace = trace })) trace size ∷ []
+alloc-event symbols said size trace ptr are =
+    let c = raw_allocation_line size trace ptr in
+    let told = interpreted_said symbols said in
+    let more = new_in (infos said) (infos (said ++ c ∷ [])) in
+    let number = info_number (infos (said ++ c ∷ [])) (record { size = size; trace = trace }) in
     gathered-append event_behind told (map info_said more) (allocation_line number ∷ [])
     ∙ ap (λ (l : List Event). l ++ gathered event_behind (told ++ map info_said more) (allocation_line number ∷ [])) (infos-quiet told more)
-    ∙ ap (λ (l : List HeldInfo). option_to_list (option_map (λ (found : HeldInfo). Alloc number found.stack found.size) (slice_get l number)) ++ []) held_now
-    ∙ ap (λ (o : Option HeldInfo). option_to_list (option_map (λ (found : HeldInfo). Alloc number found.stack found.size) o) ++ []) (held-info (infos (said ++ c ∷ [])) (record { size = size; trace = trace }) there) in
+    ∙ ap (λ (l : List HeldInfo). option_to_list (option_map (λ (found : HeldInfo). Alloc number found.stack found.size) (slice_get l number)) ++ []) (infos-behind symbols said size trace ptr are)
+    ∙ ap (λ (o : Option HeldInfo). option_to_list (option_map (λ (found : HeldInfo). Alloc number found.stack found.size) o) ++ []) (held-info (infos (said ++ c ∷ [])) (record { size = size; trace = trace }) (now-held said size trace ptr))
+
+alloc-adds : (symbols : List Symbol) (said : List Content) (size trace ptr : ℕ) → AreTold symbols said → Adds symbols said (raw_allocation_line size trace ptr)
+alloc-adds symbols said size trace ptr are =
+    let c = raw_allocation_line size trace ptr in
+    let block : RawBlock = record { place = length said; info = record { size = size; trace = trace } } in
+    let more = new_in (infos said) (infos (said ++ c ∷ [])) in
+    let number = info_number (infos (said ++ c ∷ [])) (record { size = size; trace = trace }) in
+    let event = alloc-event symbols said size trace ptr are in
     record {
       more_infos = infos-append (map info_said more) (allocation_line number ∷ []) ∙ append-nil (lists.infos (map info_said more)) ∙ infos-of more;
       allocs = λ f w counts. ap (λ (l : List Event). sum_by f l) event ∙ one-event f (Alloc number trace size) ∙ counts.alloc number block ∙ sym (one-block w block);
@@ -201,19 +217,26 @@ alloc-adds symbols said size trace ptr are =
     one-block : (w : RawBlock → ℕ) (block : RawBlock) → sum_by w (block ∷ []) ≡ w block
     one-block w block = omega arith
 
+-- the one event of a free
+pub free-event : (symbols : List Symbol) (said : List Content) (ptr : ℕ) (block : RawBlock) → held said ptr ≡ Some block → AreTold symbols said
+    → gathered event_behind (interpreted_said symbols said) (told_after symbols said (raw_free_line ptr)) ≡ Free (info_number (infos said) block.info) block.info.trace block.info.size ∷ []
+free-event symbols said ptr block here are =
+    let told = interpreted_said symbols said in
+    let number = info_number (infos said) block.info in
+    let lines : told_after symbols said (raw_free_line ptr) ≡ free_line number ∷ [] = ap (λ (o : Option RawBlock). map free_line (option_to_list (freed_info (infos said) o))) here in
+    ap (λ (l : List Content). gathered event_behind told l) lines
+    ∙ ap (λ (l : List HeldInfo). option_to_list (option_map (λ (found : HeldInfo). Free number found.stack found.size) (slice_get l number)) ++ []) are.infos_are
+    ∙ ap (λ (o : Option HeldInfo). option_to_list (option_map (λ (found : HeldInfo). Free number found.stack found.size) o) ++ []) (held-info (infos said) block.info (are.block_infos ptr block here))
+
 free-adds : (symbols : List Symbol) (said : List Content) (ptr : ℕ) (o : Option RawBlock) → held said ptr ≡ o → AreTold symbols said → Adds symbols said (raw_free_line ptr)
 free-adds symbols said ptr None here are =
     let told : told_after symbols said (raw_free_line ptr) ≡ [] = ap (λ (o : Option RawBlock). map free_line (option_to_list (freed_info (infos said) o))) here in
     quiet-adds symbols said (raw_free_line ptr) (subst (λ (l : List Content). AllByRecursion IsQuiet l) (sym told) tt) (infos-same said (raw_free_line ptr) refl) refl here
 free-adds symbols said ptr (Some block) here are =
     let c = raw_free_line ptr in
-    let told = interpreted_said symbols said in
     let number = info_number (infos said) block.info in
     let lines : told_after symbols said c ≡ free_line number ∷ [] = ap (λ (o : Option RawBlock). map free_line (option_to_list (freed_info (infos said) o))) here in
-    let event : gathered event_behind told (told_after symbols said c) ≡ Free number block.info.trace block.info.size ∷ [] =
-    ap (λ (l : List Content). gathered event_behind told l) lines
-    ∙ ap (λ (l : List HeldInfo). option_to_list (option_map (λ (found : HeldInfo). Free number found.stack found.size) (slice_get l number)) ++ []) are.infos_are
-    ∙ ap (λ (o : Option HeldInfo). option_to_list (option_map (λ (found : HeldInfo). Free number found.stack found.size) o) ++ []) (held-info (infos said) block.info (are.block_infos ptr block here)) in
+    let event = free-event symbols said ptr block here are in
     record {
       more_infos = ap (λ (l : List Content). lists.infos l) lines ∙ sym (ap (λ (l : List AllocationInfo). map held_of (new_in (infos said) l)) (infos-same said c refl) ∙ ap (λ (l : List AllocationInfo). map held_of l) (drop-length (infos said)));
       allocs = λ f w counts. ap (λ (l : List Event). sum_by f l) event ∙ one-event f (Free number block.info.trace block.info.size) ∙ counts.free number block.info.trace block.info.size;
@@ -223,14 +246,15 @@ free-adds symbols said ptr (Some block) here are =
     one-block : (w : RawBlock → ℕ) (block : RawBlock) → sum_by w (block ∷ []) ≡ w block
     one-block w block = omega arith
 
-node-adds : (symbols : List Symbol) (said : List Content) (ip parent : ℕ) → Adds symbols said (node_line ip parent)
-node-adds symbols said ip parent =
+pub node-quiet : (symbols : List Symbol) (said : List Content) (ip parent : ℕ) → AllByRecursion IsQuiet (told_after symbols said (node_line ip parent))
+node-quiet symbols said ip parent =
     let before = tables_of symbols said in
     let after = tables_of symbols (said ++ node_line ip parent ∷ []) in
-    quiet-adds symbols said (node_line ip parent)
-    (all-append IsQuiet (map string_line (new_in before.names after.names)) _ (quiet-strings (new_in before.names after.names))
-    (all-append IsQuiet (map (instruction_said after.names) (option_to_list (new_call symbols before ip))) _ (quiet-instructions after.names (option_to_list (new_call symbols before ip))) ((refl, λ infos. refl), tt)))
-    (infos-same said (node_line ip parent) refl) refl refl
+    all-append IsQuiet (map string_line (new_in before.names after.names)) _ (quiet-strings (new_in before.names after.names))
+    (all-append IsQuiet (map (instruction_said after.names) (option_to_list (new_call symbols before ip))) _ (quiet-instructions after.names (option_to_list (new_call symbols before ip))) ((refl, λ infos. refl), tt))
+
+node-adds : (symbols : List Symbol) (said : List Content) (ip parent : ℕ) → Adds symbols said (node_line ip parent)
+node-adds symbols said ip parent = quiet-adds symbols said (node_line ip parent) (node-quiet symbols said ip parent) (infos-same said (node_line ip parent) refl) refl refl
 
 clock-adds : (symbols : List Symbol) (said : List Content) (ms : ℕ) → Adds symbols said (clock_line ms)
 clock-adds symbols said ms = record {

@@ -20,4 +20,5 @@ mod WritableLemmas
 mod ReadAgainLemmas
 mod OneLineLemmas
 mod GoodLemmas
+mod FreeLemmas
 mod NoFaultLemmas

@@ -76,7 +76,7 @@ filter-stays gone block (x ∷ xs) apart =
     or-false false = refl
 
 -- what one freed block takes from the live ones
-frees-once : (w : RawBlock → ℕ) (gone all : List RawBlock) (block : RawBlock) → IsOnce block all → is_freed gone block ≡ false
+pub frees-once : (w : RawBlock → ℕ) (gone all : List RawBlock) (block : RawBlock) → IsOnce block all → is_freed gone block ≡ false
     → sum_by w (filter (λ x. not (is_freed (gone ++ block ∷ []) x)) all) + w block ≡ sum_by w (filter (λ x. not (is_freed gone x)) all)
 frees-once w gone all block once live =
     let now = λ (x : RawBlock). not (is_freed (gone ++ block ∷ []) x) in
@@ -114,7 +114,7 @@ once-new new all below = record {
   back_apart = tt;
 }
 
-some-is : {X : Type 0} (x y : X) → Some x ≡ Some y → x ≡ y
+pub some-is : {X : Type 0} (x y : X) → Some x ≡ Some y → x ≡ y
 some-is x y is = cc
 
 -- the block of an allocation behind the lines

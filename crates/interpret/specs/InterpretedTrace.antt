@@ -1,7 +1,11 @@
 -- All lines of the interpretation of a raw trace.
-use Rattle.std.specs.Prelude.{◌≡◌, ℕ, ◌^◌, ◌<◌, true, List, [], ◌∷◌, ◌++◌, length}
+use Rattle.std.specs.Prelude.{◌≡◌, ℕ, ◌^◌, ◌<◌, true, List, [], ◌∷◌, ◌++◌, length, Option, None}
 use Rattle.std.specs.List.{AllByRecursion}
 use Rattle.ht_trace.specs.Gathered.{gathered}
+use Rattle.live_ledger.specs.declared.event.Event.{Event}
+use Rattle.live_ledger.specs.declared.event.Event.TheVariants.{Alloc, Free, Tick}
+use Rattle.live_ledger.specs.declared.event.EventFault.{EventFault}
+use Rattle.live_ledger.specs.Faults.{fault_of}
 use Rattle.interpret.specs.Interpreted.{interpreted_lines}
 use Rattle.interpret.specs.RawFault.{raw_fault}
 use Rattle.interpret.specs.SymbolLine.{Symbol, are_texts}
@@ -27,3 +31,9 @@ pub record AreInterpretable (symbols : List Symbol) (lines : List (List ℕ)) : 
   pub texts : AllByRecursion HasShortTexts symbols
   pub short : AllByRecursion (λ line. length line < 2 ^ 32) lines
   pub no_fault : gathered (raw_fault symbols) [] lines ≡ []
+
+-- the fault of a free; that of an allocation is a limit of the ledger
+abbrev pub free_fault : List Event → Event → Option EventFault
+free_fault earlier (Alloc info stack size) = None
+free_fault earlier (Free info stack size) = fault_of earlier (Free info stack size)
+free_fault earlier (Tick ms) = None

@@ -1,3 +1,4 @@
+use Rattle.interpret.proofs.FreeLemmas.{event-fault-again, free-fault-again}
 use Rattle.interpret.proofs.NoFaultLemmas.{end-again, no-fault-again}
 use Rattle.interpret.proofs.OneLineLemmas.{all-one-line}
 use Rattle.interpret.proofs.ReadAgainLemmas.{events-again, ledger-again, said-again, version-again}
@@ -23,3 +24,9 @@ returns-clause-no_fault c = no-fault-again c.hexadecimal_texts.ensures.reads_bac
 
 pub returns-clause-end : goal.returns-clause-end
 returns-clause-end c = end-again c.hexadecimal_texts.ensures.reads_back
+
+pub returns-clause-free_fault : goal.returns-clause-free_fault
+returns-clause-free_fault c = free-fault-again c.hexadecimal_texts.ensures.reads_back
+
+pub returns-clause-event_fault : goal.returns-clause-event_fault
+returns-clause-event_fault c = event-fault-again c.hexadecimal_texts.ensures.reads_back
