@@ -166,5 +166,5 @@ returns-clause-keeps_ledger g c = λ folder told zero.
     let laws : AreLaws = record { reads_back = c.interpreted_traces.ensures.reads_back; events = c.interpreted_traces.ensures.events; ledger = c.interpreted_traces.ensures.ledger; one_line = c.interpreted_traces.ensures.one_line } in (
       (answer (map string_bytes c.args.words.now) (bounds_of c.args.limits.now) folder).output,
       delivered.output,
-      run-keeps laws (bounds_of c.args.limits.now) folder (asked (map string_bytes c.args.words.now)) {0} (sym delivered.status_is ∙ zero),
+      run-keeps laws (bounds_of c.args.limits.now) folder (asked (map string_bytes c.args.words.now)) (omega (arith, c.args.limits.now.line_in_range)) (sym delivered.status_is ∙ zero),
     )
