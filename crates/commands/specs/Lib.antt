@@ -21,3 +21,4 @@ pub mod Requests
 pub mod Answer
 pub mod Run
 pub mod Silent
+pub mod InterpretKeeps

@@ -11,6 +11,7 @@ ghost use Rattle.command_frame.specs.Outcome.{moment};
 ghost use Rattle.command_frame.specs.RunFacts.{NotRead};
 ghost use Rattle.commands.specs.Answer.{answer};
 ghost use Rattle.commands.specs.Asked.{asked, files_asked, knows_first};
+ghost use Rattle.commands.specs.InterpretKeeps.{KeepsLedgerOf};
 ghost use Rattle.commands.specs.Run.{WordsRan};
 ghost use Rattle.commands.specs.Silent.{IsSilentFor};
 ghost use Rattle.commands.specs.Texts.{heapsuite_texts as the_texts};
@@ -20,6 +21,7 @@ use crate::texts::heapsuite_texts;
 use command_frame::{Desk, Halt, Outcome, deliver};
 use hp_num::NoMemory;
 use hp_outside::{Limits, Sink, Store};
+use interpret::interpreted_traces;
 use std::alloc::Global;
 
 /// Runs `heapsuite` with these words, which leave out the program's name: a command with its options and files, or
@@ -90,6 +92,10 @@ pub fn heapsuite_run<S: Store, O: Sink, E: Sink>(
     ensures past_limit { (folder : Folder) → S.files store.old ≡ Some folder → ¬ Rose (S.faults store.old) (S.faults store.new)
         → (answer (map string_bytes words.now) (bounds_of limits.now) folder).status ≡ 6 → result ≢ 4 → result ≢ 5 → result ≡ 6 }
 
+    // `interpret` at status 0: what was written has the ledger and the stacks of the raw trace.
+    ensures keeps_ledger { (folder : Folder) → S.files store.old ≡ Some folder → result ≡ 0
+        → (output : List ℕ) × (O.written out.new ≡ append_known (O.written out.old) output) × KeepsLedgerOf folder (asked (map string_bytes words.now)) output }
+
     // Unless the status is 0 or 4, a command that writes nothing while it reads has written nothing.
     ensures silent { IsSilentFor (asked (map string_bytes words.now)) → result ≢ 0 → result ≢ 4 → O.written out.new ≡ O.written out.old }
 
@@ -116,6 +122,7 @@ pub fn heapsuite_run<S: Store, O: Sink, E: Sink>(
     ensures out_faults { result ≢ 4 → O.faults out.new ≡ O.faults out.old }
     ensures err_faults { result ≢ 4 → E.faults err.new ≡ E.faults err.old }
 {
+    interpreted_traces();
     let desk = Desk {
         alloc,
         limits: *limits,

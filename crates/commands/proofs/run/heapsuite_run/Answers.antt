@@ -13,6 +13,7 @@ use Rattle.commands.specs.Answer.{answer}
 use Rattle.commands.specs.Asked.{asked}
 use Rattle.commands.specs.Texts.{heapsuite_texts}
 use Rattle.commands.proofs.AskedLemmas.{Ended, asked_quiet, delivered_as, ended_run}
+use Rattle.commands.proofs.KeepLemmas.{AreLaws, run-keeps}
 use Rattle.commands.proofs.run.heapsuite_run.Given.{Over}
 use Rattle.commands.proofs.run.heapsuite_run.Goals as goal
 
@@ -158,3 +159,12 @@ returns-clause-silent g c = λ silent zero four.
     let e = ended g c in
     let delivered = e.delivered four in
     delivered.output ∙ (ap (append_known (g.O.Sink.written c.args.out.now)) (e.facts.silent silent (λ is. zero (delivered.status_is ∙ is))) ∙ append_nothing (g.O.Sink.written c.args.out.now))
+
+pub returns-clause-keeps_ledger : goal.returns-clause-keeps_ledger
+returns-clause-keeps_ledger g c = λ folder told zero.
+    let delivered = returns-clause-judged g c folder told (λ three. omega (arith, zero, three)) (λ four. omega (arith, zero, four)) (λ five. omega (arith, zero, five)) in
+    let laws : AreLaws = record { reads_back = c.interpreted_traces.ensures.reads_back; events = c.interpreted_traces.ensures.events; ledger = c.interpreted_traces.ensures.ledger; one_line = c.interpreted_traces.ensures.one_line } in (
+      (answer (map string_bytes c.args.words.now) (bounds_of c.args.limits.now) folder).output,
+      delivered.output,
+      run-keeps laws (bounds_of c.args.limits.now) folder (asked (map string_bytes c.args.words.now)) (omega (arith, c.args.limits.now.line_in_range)) (sym delivered.status_is ∙ zero),
+    )
