@@ -1,7 +1,7 @@
 -- That `interpret` at status 0 keeps the ledger and the stacks of the raw trace.
-use Rattle.std.proofs.Common.{◌≡◌, ◌≢◌, ℕ, suc, ◌+◌, ◌^◌, ◌<◌, ◌≤◌, Bool, true, false, cond, ◌&&◌, List, [], ◌∷◌, ◌++◌, length, map, Option, Some, None, refl, sym, ap, ◌∙◌, arith, append_assoc, append-nil, subst, ne_eqb}
-use Rattle.std.specs.Prelude.{count_by, nat_le, nat_lt, sum_by, unwrap_or, All}
-use Rattle.std.specs.List.{AllByRecursion, cons_option, filter_map, onto_first, slice_split}
+use Rattle.std.proofs.Common.{◌≡◌, ◌≢◌, ℕ, ◌+◌, ◌^◌, ◌<◌, ◌≤◌, Bool, true, false, cond, ◌&&◌, List, [], ◌∷◌, ◌++◌, length, Option, Some, None, refl, sym, ap, ◌∙◌, arith, append-nil, subst, ne_eqb}
+use Rattle.std.specs.Prelude.{nat_le, nat_lt, unwrap_or}
+use Rattle.std.specs.List.{AllByRecursion, cons_option, onto_first, slice_split}
 use Rattle.std.specs.Option.{option_map, option_or, option_to_list}
 use Rattle.std.proofs.lemmas.Bool.Decides.{nat_tests}
 use Rattle.std.proofs.lemmas.Grind.{flat_map-append}
@@ -26,7 +26,7 @@ use Rattle.interpret.specs.RawContents.{contents}
 use Rattle.interpret.specs.RawFault.{raw_fault}
 use Rattle.interpret.specs.RawLedger.{KeepsLedger}
 use Rattle.interpret.specs.SymbolLine.{Symbol, are_texts, fields, is_tab, is_text, symbol_from, symbol_of}
-use Rattle.interpret.specs.SymbolList.{is_skipped, symbol_in, symbols_of}
+use Rattle.interpret.specs.SymbolList.{is_skipped, symbols_of}
 use Rattle.command_frame.specs.Answer.{Answer, after, lines_answer, named_answer, plan_answer}
 use Rattle.command_frame.specs.FirstFault.{Bounds, Refusal, bytes_of_lines, end_refusal, file_fault, first_fault, length_fault, line_fault, line_faults, line_too_long, input_too_long}
 use Rattle.command_frame.specs.Plan.{Ends, one_file}
@@ -42,7 +42,6 @@ use Rattle.commands.specs.CommandFault as fault
 use Rattle.commands.specs.declared.fault.CommandFault.TheVariants.{Line}
 use Rattle.commands.specs.InterpretKeeps.{KeepsLedgerOf, KeepsTrace, lines_in, symbols_in}
 use Rattle.commands.specs.InterpretReport.{interpret_report, plan_with, symbols_report}
-use Rattle.commands.specs.InterpretWords.{InterpretAsked}
 use Rattle.commands.specs.Texts.{heapsuite_texts}
 
 -- a text that is short and has no line feed

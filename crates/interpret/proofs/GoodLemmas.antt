@@ -14,7 +14,7 @@ use Rattle.ht_trace.specs.declared.frame.Frame.{Frame}
 use Rattle.ht_trace.specs.FramesSaid.{frames_said, triples, without_file}
 use Rattle.ht_trace.specs.Instruction.{Instruction, frame_count_of}
 use Rattle.ht_trace.specs.LineFault as of_trace
-use Rattle.ht_trace.specs.LineFault.{end_fault, growth_fault, line_fault, may_stand_first, most_entries, most_nodes}
+use Rattle.ht_trace.specs.LineFault.{growth_fault, most_entries, most_nodes}
 use Rattle.ht_trace.specs.Pattern.{pattern_of}
 use Rattle.ht_trace.specs.TableState.{TableState}
 use Rattle.ht_trace.specs.TraceLists as lists
@@ -29,9 +29,9 @@ use Rattle.interpret.specs.Modules.{LoadedModule, module_of}
 use Rattle.interpret.specs.RawBlocks.{RawBlock, freed_by, freed_info, held}
 use Rattle.interpret.specs.RawContents.{IsRaw}
 use Rattle.interpret.specs.RawFault as raw_fault_of
-use Rattle.interpret.specs.RawFault.{full_fault, raw_end_fault, raw_fault}
+use Rattle.interpret.specs.RawFault.{full_fault}
 use Rattle.interpret.specs.RawTables as raw_tables
-use Rattle.interpret.specs.RawTables.{KnownIp, RawTables, info_number, infos, ip_frames, ip_number, is_numbered, known, known_of, known_with, names, new_call, nodes, same_info, tables_of}
+use Rattle.interpret.specs.RawTables.{KnownIp, info_number, infos, ip_frames, ip_number, is_numbered, known, known_of, known_with, names, new_call, nodes, same_info, tables_of}
 use Rattle.interpret.specs.Resolved.{Resolved, SourceFrame, frame_numbers, frames_of, instruction_said, module_number, name_number, resolved, resolved_in, texts_in}
 use Rattle.interpret.specs.SymbolLine.{Symbol, are_frames, are_texts, is_text}
 use Rattle.interpret.specs.SymbolList.{holds, symbol_at}

@@ -18,7 +18,7 @@ use Rattle.ht_trace.specs.declared.error.LineError.TheVariants.{NoVersion}
 use Rattle.ht_trace.specs.Contents as trace
 use Rattle.ht_trace.specs.Gathered.{gathered}
 use Rattle.ht_trace.specs.LineFault as of_trace
-use Rattle.ht_trace.specs.LineFault.{end_fault, growth_fault, line_fault, may_stand_first, most_entries, most_nodes}
+use Rattle.ht_trace.specs.LineFault.{end_fault, line_fault, may_stand_first, most_entries}
 use Rattle.ht_trace.specs.TableState.{TableState, tables_after}
 use Rattle.ht_trace.specs.TraceLists as lists
 use Rattle.ht_trace.proofs.LineLemmas as told
@@ -29,7 +29,7 @@ use Rattle.interpret.specs.InterpretedTrace.{AreInterpretable, HasFrames, HasSho
 use Rattle.interpret.specs.RawBlocks.{held}
 use Rattle.interpret.specs.RawContents.{IsRaw, contents, file_version, version_of}
 use Rattle.interpret.specs.RawFault as raw_fault_of
-use Rattle.interpret.specs.RawFault.{full_fault, raw_end_fault, raw_fault}
+use Rattle.interpret.specs.RawFault.{raw_end_fault, raw_fault}
 use Rattle.interpret.specs.RawTables.{RawTables, infos, known, names, tables_of}
 use Rattle.interpret.specs.SymbolLine.{Symbol}
 use Rattle.interpret.proofs.GrowthLemmas.{gathered-push, infos-push, names-push, tables-push}
