@@ -21,3 +21,6 @@ pub mod Requests
 pub mod Answer
 pub mod Run
 pub mod Silent
+pub mod ProfileFault
+pub mod ViewWords
+pub mod ViewReport
