@@ -1,6 +1,6 @@
 #!/bin/sh
 # Runs `heapsuite summary`, `heapsuite print` and `heapsuite flame` on each trace of this folder, and `heapsuite interpret` on
-# each raw one, and compares what they print with the files beside the trace. The summary of what `interpret` writes has to be
+# each raw one, and compares what they print with the files beside the trace; and `heapsuite dhat_view` on the profiles of `dhat`. The summary of what `interpret` writes has to be
 # that of the trace which heaptrack interpreted. And a trace of two million events is generated, whose summary is
 # `generated.summary`. The program is the first argument, or bin/heapsuite at the top of the repository.
 cd "$(dirname "$0")" || exit 1
@@ -42,6 +42,23 @@ for raw in *.raw; do
         fi || failed=1
     done
 done
+
+# Compares the view of a profile with the file of an ending.
+compare_view() {
+    profile=$1
+    ending=$2
+    shift 2
+    if "$heapsuite" dhat_view "$@" "$profile" | cmp -s - "${profile%.json}.$ending"; then
+        echo "$profile, $ending: as expected"
+    else
+        echo "$profile, $ending: differs"
+        failed=1
+    fi
+}
+
+compare_view dhat/pages.heap.json view
+compare_view dhat/pages.heap.json peak-view --sort=gb
+compare_view dhat/pages.copy.json view
 compare pages.trace suppressed-print print --merge-backtraces=0 --suppressions=pages.suppressions
 
 # Compares what comes in with the summary of the generated trace.

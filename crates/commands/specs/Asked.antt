@@ -16,6 +16,8 @@ use Rattle.commands.specs.SummaryReport.{summary_plan}
 use Rattle.commands.specs.SummaryWords.{summary_trace}
 use Rattle.commands.specs.SuppressionsReport.{names_behind}
 use Rattle.commands.specs.Texts.{heapsuite_texts}
+use Rattle.commands.specs.ViewReport.{view_plan}
+use Rattle.commands.specs.ViewWords.{ViewAsked, view_asked}
 
 pub data Asked : Type 0 where
   -- how the program is called
@@ -30,6 +32,8 @@ pub data Asked : Type 0 where
   Interpret : InterpretAsked → Asked
   -- a generated trace, or its summary
   Gen : GenAsked → Asked
+  -- the view of a named DHAT profile
+  DhatView : ViewAsked → Asked
 
 -- `--help` alone
 abbrev pub help_asked : List (List ℕ) → Option Asked
@@ -45,6 +49,7 @@ command_asked command words =
     else if bytes_eq command (codes "flame") then option_map Flame (flame_asked words)
     else if bytes_eq command (codes "interpret") then option_map Interpret (interpret_asked words)
     else if bytes_eq command (codes "gen") then option_map Gen (gen_asked words)
+    else if bytes_eq command (codes "dhat_view") then option_map DhatView (view_asked words)
     else None
 
 -- what words ask for, or nothing where they aren't taken
@@ -61,7 +66,8 @@ knows_first (command ∷ words) =
     (bytes_eq command (codes "print") ||
     (bytes_eq command (codes "flame") ||
     (bytes_eq command (codes "interpret") ||
-    bytes_eq command (codes "gen")))))
+    (bytes_eq command (codes "gen") ||
+    bytes_eq command (codes "dhat_view"))))))
 
 -- the files that are read for it, in order
 abbrev pub names_of : Asked → List (List ℕ)
@@ -71,6 +77,7 @@ names_of (Print print) = names_behind print.suppressions print.trace
 names_of (Flame flame) = flame.trace ∷ []
 names_of (Interpret interpret) = interpret_files interpret
 names_of (Gen gen) = []
+names_of (DhatView view) = view.profile ∷ []
 
 -- what is done with them
 abbrev pub plan_of : Asked → Plan
@@ -80,6 +87,7 @@ plan_of (Print print) = print_plan print
 plan_of (Flame flame) = flame_plan flame
 plan_of (Interpret interpret) = interpret_plan interpret
 plan_of (Gen gen) = gen_plan gen
+plan_of (DhatView view) = view_plan view
 
 -- the files that words name, where they are taken
 abbrev pub names_asked : Option Asked → List (List ℕ)

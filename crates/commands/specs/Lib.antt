@@ -22,3 +22,6 @@ pub mod Answer
 pub mod Run
 pub mod Silent
 pub mod InterpretKeeps
+pub mod ProfileFault
+pub mod ViewWords
+pub mod ViewReport

@@ -3,6 +3,7 @@
 #![tactic(auto)]
 
 mod batch;
+mod dhat_view_command;
 mod fault;
 mod flame_command;
 mod gen_command;
@@ -12,6 +13,7 @@ mod interpret_reader;
 mod number_words;
 mod print_command;
 mod print_words;
+mod profile_fault;
 mod read_trace;
 mod run;
 mod run_words;
@@ -22,6 +24,7 @@ mod texts;
 mod trace_reader;
 mod trace_run;
 mod trace_writer;
+mod view_words;
 mod words;
 
 pub use run::{heapsuite_main, heapsuite_run};

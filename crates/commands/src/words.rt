@@ -3,6 +3,7 @@ ghost use Rattle.std.specs.Prelude.{◌≡◌, ◌≢◌, Err, IfOk, None, Some,
 ghost use Rattle.commands.specs.Asked.{asked, help_asked, knows_first};
 ghost use Rattle.commands.specs.Requests.{asked_of};
 
+use crate::dhat_view_command::DhatViewRequest;
 use crate::flame_command::FlameRequest;
 use crate::gen_command::GenRequest;
 use crate::interpret_command::InterpretRequest;
@@ -26,6 +27,8 @@ pub enum Request<'a> {
     Interpret(InterpretRequest<'a>),
     /// A generated trace, or its summary.
     Gen(GenRequest),
+    /// The view of a DHAT profile.
+    DhatView(DhatViewRequest<'a>),
 }
 
 /// What the words ask for. `NotTaken` exactly where they aren't taken, unless memory is wanting; none is taken for no
@@ -61,6 +64,10 @@ pub fn read_words<'a>(alloc: Global, words: &'a [String]) -> Result<Request<'a>,
     if command.as_str() == "gen" {
         let request = GenRequest::read(alloc, words)?;
         return Ok(Request::Gen(request));
+    }
+    if command.as_str() == "dhat_view" {
+        let request = DhatViewRequest::read(alloc, words)?;
+        return Ok(Request::DhatView(request));
     }
     Err(WordsFault::NotTaken)
 }

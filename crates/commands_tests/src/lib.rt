@@ -18,3 +18,5 @@ mod refusal_tests;
 mod summary_tests;
 #[cfg(test)]
 mod transcript;
+#[cfg(test)]
+mod view_tests;

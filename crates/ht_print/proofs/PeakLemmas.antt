@@ -6,8 +6,8 @@ use Rattle.std.specs.List.{position_or_len, range_with_len}
 use Rattle.live_ledger.specs.declared.event.Event.{Event}
 use Rattle.live_ledger.specs.Events.{counted, event_count, is_counted}
 use Rattle.peak_costs.specs.Peak.{IsPeak, total_after}
-use Rattle.ht_print.specs.Peak.{first_greatest, greatest}
-use Rattle.ht_print.specs.Totals.{total, totals}
+use Rattle.peak_costs.specs.FirstGreatest.{first_greatest, greatest}
+use Rattle.peak_costs.specs.Totals.{total, totals}
 
 -- numbers of which none is above a bound
 greatest_at_most : (f : ℕ → ℕ) (n from most : ℕ) → ((k : ℕ) → k < n → f (from + k) ≤ most) → greatest (map f (range_with_len from n)) ≤ most

@@ -5,8 +5,8 @@ use Rattle.live_ledger.specs.declared.event.Event.{Event}
 use Rattle.live_ledger.specs.Events.{counted}
 use Rattle.live_ledger.specs.InStack.{calls_in, live_in, temporary_in}
 use Rattle.peak_costs.specs.Peak.{first_events}
-use Rattle.ht_print.specs.Peak.{first_greatest}
-use Rattle.ht_print.specs.Totals.{totals}
+use Rattle.peak_costs.specs.FirstGreatest.{first_greatest}
+use Rattle.peak_costs.specs.Totals.{totals}
 use Rattle.live_ledger.specs.declared.figures.Figures.{Figures}
 use Rattle.peak_costs.specs.PeakState.{PeakState}
 use Rattle.ht_print.specs.declared.flame.FlameCost.{FlameCost}

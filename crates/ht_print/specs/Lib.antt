@@ -1,5 +1,3 @@
-pub mod Totals
-pub mod Peak
 pub mod SummaryText
 pub mod Histogram
 pub mod Suppressed

@@ -6,8 +6,8 @@ use Rattle.live_ledger.specs.LiveBytes.{allocated_bytes, live_bytes}
 use Rattle.live_ledger.specs.LiveBlocks.{calls, live_blocks}
 use Rattle.live_ledger.specs.Temporary.{temporary_count}
 use Rattle.ht_print.specs.declared.summary.Summary.{Summary}
-use Rattle.ht_print.specs.Totals.{totals}
-use Rattle.ht_print.specs.Peak.{first_greatest, greatest}
+use Rattle.peak_costs.specs.Totals.{totals}
+use Rattle.peak_costs.specs.FirstGreatest.{first_greatest, greatest}
 
 -- the figures of a trace of these events; the peak's moment counts allocations and frees alone
 unfoldable pub summary_of : List Event → Summary

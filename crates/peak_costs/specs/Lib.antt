@@ -3,3 +3,5 @@ pub mod Saved
 pub mod PeakState
 pub mod Peak
 pub mod Kept
+pub mod FirstGreatest
+pub mod Totals

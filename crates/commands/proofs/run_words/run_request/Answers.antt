@@ -7,7 +7,7 @@ use Rattle.command_frame.specs.Outcome.{moment}
 use Rattle.command_frame.specs.Run.{RanTo}
 use Rattle.command_frame.specs.Texts.{Texts}
 use Rattle.commands.specs.declared.words.Request.{Request}
-use Rattle.commands.specs.declared.words.Request.TheVariants.{Flame, Gen, Interpret, Print, Summary}
+use Rattle.commands.specs.declared.words.Request.TheVariants.{DhatView, Flame, Gen, Interpret, Print, Summary}
 use Rattle.commands.specs.Asked.{names_of, plan_of}
 use Rattle.commands.specs.Requests.{asked_of}
 use Rattle.commands.specs.Texts.{heapsuite_texts}
@@ -122,3 +122,25 @@ returns-in-Gen-clause-halted g c =
     (g.O.Sink.written c.args.out.now) (g.O.Sink.written c.run-in-Gen.new.out) answer in
     IfErr-weaker c.run-in-Gen.result _ _ (λ halt ran. subst (λ request. ran_as heapsuite_texts request (halt_answer heapsuite_texts halt)) (sym c.in-Gen.is)
     (subst (λ texts. ran_as texts (Gen c.in-Gen.request) (halt_answer texts halt)) c.requires.texts (ran (bounds_of c.args.desk.now.limits) (store.files c.args.store.now) (moment (store.opens c.args.store.now) (store.current c.args.store.now) (store.left c.args.store.now) (store.faults c.args.store.now))))) c.run-in-Gen.ensures.halted
+
+pub returns-in-DhatView-clause-all : goal.returns-in-DhatView-clause-all
+returns-in-DhatView-clause-all g c =
+    let store = g.S.Store in
+    let out = g.O.Sink.written c.args.out.now in
+    let ran_as : Texts → Request → Answer → Type 0 = λ texts request answer.
+    RanTo texts (bounds_of c.args.desk.now.limits) (store.files c.args.store.now) [] (names_of (asked_of request)) (plan_of (asked_of request))
+    (moment (store.opens c.args.store.now) (store.current c.args.store.now) (store.left c.args.store.now) (store.faults c.args.store.now))
+    (moment (store.opens c.run-in-DhatView.new.store) (store.current c.run-in-DhatView.new.store) (store.left c.run-in-DhatView.new.store) (store.faults c.run-in-DhatView.new.store)) out out answer in
+    IfOk-weaker c.run-in-DhatView.result _ _ (λ rest ran. subst (λ request. ran_as heapsuite_texts request (done rest.items)) (sym c.in-DhatView.is)
+    (subst (λ texts. ran_as texts (DhatView c.in-DhatView.request) (done rest.items)) c.requires.texts (ran [] out))) c.run-in-DhatView.ensures.all
+
+pub returns-in-DhatView-clause-halted : goal.returns-in-DhatView-clause-halted
+returns-in-DhatView-clause-halted g c =
+    let store = g.S.Store in
+    let out = g.O.Sink.written c.args.out.now in
+    let ran_as : Texts → Request → Answer → Type 0 = λ texts request answer.
+    RanTo texts (bounds_of c.args.desk.now.limits) (store.files c.args.store.now) [] (names_of (asked_of request)) (plan_of (asked_of request))
+    (moment (store.opens c.args.store.now) (store.current c.args.store.now) (store.left c.args.store.now) (store.faults c.args.store.now))
+    (moment (store.opens c.run-in-DhatView.new.store) (store.current c.run-in-DhatView.new.store) (store.left c.run-in-DhatView.new.store) (store.faults c.run-in-DhatView.new.store)) out out answer in
+    IfErr-weaker c.run-in-DhatView.result _ _ (λ halt ran. subst (λ request. ran_as heapsuite_texts request (halt_answer heapsuite_texts halt)) (sym c.in-DhatView.is)
+    (subst (λ texts. ran_as texts (DhatView c.in-DhatView.request) (halt_answer texts halt)) c.requires.texts (ran [] out))) c.run-in-DhatView.ensures.halted

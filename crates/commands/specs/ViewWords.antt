@@ -1,0 +1,61 @@
+-- The words of `dhat_view`.
+use Rattle.std.specs.Prelude.{ℕ, List, [], ◌∷◌, codes, true, Option, Some, None, if◌then◌else◌}
+use Rattle.std.specs.Option.{option_and_then, option_map}
+use Rattle.std.specs.Str.{bytes_eq}
+use Rattle.command_words.specs.TableApp.{Table}
+use Rattle.command_words.specs.WordsTaken.{only_file_in, value_in, words_taken}
+use Rattle.dhat_json.specs.declared.figure.FigureKey.{FigureKey}
+use Rattle.dhat_json.specs.declared.figure.FigureKey.TheVariants.{Tb, Tbk, Tl, Gb, Gbk, Eb, Ebk, Rb, Wb}
+use Rattle.hp_num.specs.ParsedPercent.{parsed_percent}
+use Rattle.commands.specs.NumberWords.{number_or}
+
+-- which profile, which figure of a point is its cost, the least share that is shown by itself, and how many frames deep
+pub record ViewAsked : Type 0 where
+  pub profile : List ℕ
+  pub key : FigureKey
+  pub threshold : ℕ
+  pub depth : ℕ
+
+-- three options, and one file
+abbrev pub view_table : Table
+view_table = record { options = codes "sort" ∷ codes "threshold" ∷ codes "depth" ∷ []; flags = []; files = true }
+
+-- the key of a name
+unfoldable pub key_named : List ℕ → Option FigureKey
+key_named name =
+    if bytes_eq name (codes "tb") then Some Tb
+    else if bytes_eq name (codes "tbk") then Some Tbk
+    else if bytes_eq name (codes "tl") then Some Tl
+    else if bytes_eq name (codes "gb") then Some Gb
+    else if bytes_eq name (codes "gbk") then Some Gbk
+    else if bytes_eq name (codes "eb") then Some Eb
+    else if bytes_eq name (codes "ebk") then Some Ebk
+    else if bytes_eq name (codes "rb") then Some Rb
+    else if bytes_eq name (codes "wb") then Some Wb
+    else None
+
+-- the key of an option's value: bytes of all blocks where it isn't given
+abbrev pub key_or : Option (List ℕ) → Option FigureKey
+key_or None = Some Tb
+key_or (Some name) = key_named name
+
+-- the percentage of an option's value: one percent where it isn't given
+abbrev pub percent_or : Option (List ℕ) → Option ℕ
+percent_or None = Some 100
+percent_or (Some text) = parsed_percent text
+
+-- the number of frames
+abbrev pub depth_or : Option (List ℕ) → Option ℕ
+depth_or value = number_or 30 1 200 value
+
+-- what a file and the options' values say
+abbrev pub view_of : Option (List ℕ) → Option FigureKey → Option ℕ → Option ℕ → Option ViewAsked
+view_of file key threshold depth =
+    option_and_then (λ profile. option_and_then (λ key. option_and_then (λ threshold. option_map (λ depth. record { profile = profile; key = key; threshold = threshold; depth = depth })
+    depth) threshold) key) file
+
+-- what the words ask for
+abbrev pub view_asked : List (List ℕ) → Option ViewAsked
+view_asked words =
+    option_and_then (λ rows. view_of (only_file_in rows) (key_or (value_in rows (codes "sort"))) (percent_or (value_in rows (codes "threshold"))) (depth_or (value_in rows (codes "depth"))))
+    (words_taken view_table words)

@@ -1,0 +1,118 @@
+//! The command `dhat_view`: a DHAT profile as a tree of its points' frames. What the words say of the view is read in
+//! `view_words`.
+ghost use Rattle.std.specs.Prelude.{codes, option_map, ◌≡◌, ◌≢◌, ◌^◌, ◌<◌, Err, IfErr, IfOk, List, [], ◌∷◌, None, Option, Some, ℕ, map, string_bytes};
+ghost use Rattle.command_frame.specs.Answer.{done};
+ghost use Rattle.command_frame.specs.FirstFault.{bounds_of};
+ghost use Rattle.command_frame.specs.Halts.{halt_answer, status_code};
+ghost use Rattle.command_frame.specs.Outcome.{moment};
+ghost use Rattle.command_frame.specs.Run.{RanTo};
+ghost use Rattle.command_frame.specs.Texts.{texts_of};
+ghost use Rattle.commands.specs.ViewReport.{document_refusal, view_plan, view_refusal};
+ghost use Rattle.commands.specs.Requests.{view_asked_by};
+ghost use Rattle.commands.specs.ViewWords.{view_asked};
+
+use crate::profile_fault::ProfileFault;
+use crate::view_words::{WORDS, request_in};
+use command_frame::{Desk, DocumentReport, Halt, LineRefusal, run_document};
+use command_words::{WordsFault, take_words};
+use dhat_json::{DhatFault, FigureKey, read_profile};
+use dhat_view::{ViewFault, ViewOptions, put_view};
+use hp_outside::Store;
+use std::alloc::Global;
+
+/// What `dhat_view` is to do.
+#[derive(Clone, Copy, Debug)]
+pub struct DhatViewRequest<'a> {
+    /// The name of the profile.
+    pub profile: &'a str,
+    /// What is shown of it.
+    pub options: ViewOptions,
+}
+
+/// Makes the view of a profile.
+#[derive(Clone, Copy, Debug)]
+pub struct ViewReport {
+    options: ViewOptions,
+}
+
+impl DocumentReport for ViewReport {
+    ghost use Rattle.commands.specs.ViewReport.{view_verdict};
+
+    type Fault = ProfileFault;
+
+    ghost verdict = { λ report. view_verdict report.options.key report.options.threshold report.options.depth };
+
+    fn report(&self, alloc: Global, bytes: &[u8]) -> Result<Vec<u8>, LineRefusal<ProfileFault>> {
+        let dhat = match read_profile(alloc, bytes) {
+            Ok(dhat) => dhat,
+            Err(fault) => return Err(document_refusal(fault)),
+        };
+        let mut view = Vec::new(alloc);
+        match put_view(alloc, &self.options, &dhat, &mut view) {
+            Ok(()) => Ok(view),
+            Err(fault) => Err(view_refusal(fault, self.options.key)),
+        }
+    }
+}
+
+impl<'a> DhatViewRequest<'a> {
+    /// The request that the words behind `dhat_view` make. `NotTaken` exactly where they aren't taken, unless memory is
+    /// wanting.
+    pub fn read(alloc: Global, words: &'a [String]) -> Result<DhatViewRequest<'a>, WordsFault>
+        ensures taken { IfOk result (λ request. view_asked (map string_bytes words.entry.now) ≡ Some (view_asked_by request)) }
+        ensures refused { result ≡ Err WordsFault.NotTaken → view_asked (map string_bytes words.entry.now) ≡ None }
+    {
+        let words = match take_words(alloc, &WORDS, words) {
+            Ok(words) => words,
+            Err(fault) => return Err(fault),
+        };
+        match request_in(&words) {
+            Some(request) => Ok(request),
+            None => Err(WordsFault::NotTaken),
+        }
+    }
+
+    /// Reads the profile, and gives its view.
+    pub fn run<S: Store>(&self, desk: &Desk, store: &mut S) -> Result<Vec<u8>, Halt>
+        requires { S.opens store.old < 2 ^ 63 }
+        ensures all { IfOk result (λ rest. (last : List ℕ) (out : Option (List ℕ)) → RanTo (texts_of desk.now.texts) (bounds_of desk.now.limits) (S.files store.old) last (self.now.profile.now ∷ []) (view_plan (view_asked_by self.now))
+            (moment (S.opens store.old) (S.current store.old) (S.left store.old) (S.faults store.old)) (moment (S.opens store.new) (S.current store.new) (S.left store.new) (S.faults store.new)) out out (done rest.items)) }
+        ensures halted { IfErr result (λ halt. (last : List ℕ) (out : Option (List ℕ)) → RanTo (texts_of desk.now.texts) (bounds_of desk.now.limits) (S.files store.old) last (self.now.profile.now ∷ []) (view_plan (view_asked_by self.now))
+            (moment (S.opens store.old) (S.current store.old) (S.left store.old) (S.faults store.old)) (moment (S.opens store.new) (S.current store.new) (S.left store.new) (S.faults store.new)) out out
+            (halt_answer (texts_of desk.now.texts) halt)) }
+        ensures files { S.files store.new ≡ S.files store.old }
+        ensures no_write { IfErr result (λ halt. status_code halt.status ≢ 4) }
+    {
+        let report = ViewReport {
+            options: self.options,
+        };
+        run_document(desk, self.profile, &report, store)
+    }
+}
+
+/// The fault of a document as the refusal of it.
+fn document_refusal(fault: DhatFault) -> LineRefusal<ProfileFault>
+    ensures { result ≡ document_refusal fault }
+{
+    match fault {
+        DhatFault::NoMemory => LineRefusal::NoMemory,
+        DhatFault::NotJson
+        | DhatFault::WrongFileVersion
+        | DhatFault::MissingKey { .. }
+        | DhatFault::WrongKind { .. }
+        | DhatFault::FrameOutOfTable { .. }
+        | DhatFault::TooMany => LineRefusal::Fault(ProfileFault::Document(fault)),
+    }
+}
+
+/// Why a profile has no view, as the refusal of its document.
+fn view_refusal(fault: ViewFault, key: FigureKey) -> LineRefusal<ProfileFault>
+    ensures { result ≡ view_refusal key fault }
+{
+    match fault {
+        ViewFault::NoMemory => LineRefusal::NoMemory,
+        ViewFault::NoFigures | ViewFault::TooLarge => {
+            LineRefusal::Fault(ProfileFault::View(fault, key))
+        }
+    }
+}

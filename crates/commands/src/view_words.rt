@@ -1,0 +1,92 @@
+//! What the words of `dhat_view` say of a view. Which profile is shown so, and how, is no part of it.
+ghost use Rattle.std.specs.Prelude.{codes, option_map, ◌≡◌, ◌≤◌, IfSome};
+ghost use Rattle.command_words.specs.WordsTaken.{only_file_in, rows_in, value_in};
+ghost use Rattle.commands.specs.Requests.{view_asked_by};
+ghost use Rattle.commands.specs.ViewWords.{depth_or, key_named, key_or, percent_or, view_of};
+
+use crate::dhat_view_command::DhatViewRequest;
+use crate::number_words::number_or;
+use command_words::{TakenWords, WordTable};
+use dhat_json::FigureKey;
+use dhat_view::ViewOptions;
+use hp_num::parse_percent;
+
+/// The option that names the figure.
+const SORT: &str = "sort";
+
+/// The option that gives the least share.
+const THRESHOLD: &str = "threshold";
+
+/// The option that gives the number of frames.
+const DEPTH: &str = "depth";
+
+/// Three options, and one file.
+pub const WORDS: WordTable<'static> = WordTable {
+    options: &[SORT, THRESHOLD, DEPTH],
+    flags: &[],
+    files: true,
+};
+
+/// What taken words ask for.
+pub fn request_in<'a>(words: &TakenWords<'a>) -> Option<DhatViewRequest<'a>>
+    ensures { option_map view_asked_by result ≡ view_of (only_file_in (rows_in words.now)) (key_or (value_in (rows_in words.now) (codes "sort"))) (percent_or (value_in (rows_in words.now) (codes "threshold"))) (depth_or (value_in (rows_in words.now) (codes "depth"))) }
+{
+    let profile = words.only_file()?;
+    let key = key_in(words)?;
+    let threshold = threshold_in(words)?;
+    let depth = depth_in(words)?;
+    let options = ViewOptions {
+        key,
+        threshold,
+        depth,
+    };
+    Some(DhatViewRequest { profile, options })
+}
+
+/// The figure that is a point's cost: bytes of all blocks where the words name none.
+fn key_in(words: &TakenWords) -> Option<FigureKey>
+    ensures { result ≡ key_or (value_in (rows_in words.now) (codes "sort")) }
+{
+    let Some(name) = words.value(SORT) else {
+        return Some(FigureKey::Tb);
+    };
+    key_named(name)
+}
+
+/// The figure of a name.
+#[tactic(auto, unfolding(crate::specs::ViewWords::key_named))]
+fn key_named(name: &str) -> Option<FigureKey>
+    ensures { result ≡ key_named name.now }
+{
+    match name {
+        "tb" => Some(FigureKey::Tb),
+        "tbk" => Some(FigureKey::Tbk),
+        "tl" => Some(FigureKey::Tl),
+        "gb" => Some(FigureKey::Gb),
+        "gbk" => Some(FigureKey::Gbk),
+        "eb" => Some(FigureKey::Eb),
+        "ebk" => Some(FigureKey::Ebk),
+        "rb" => Some(FigureKey::Rb),
+        "wb" => Some(FigureKey::Wb),
+        _ => None,
+    }
+}
+
+/// The least share that is shown by itself, in hundredths of a percent: one percent where the words give none.
+fn threshold_in(words: &TakenWords) -> Option<u64>
+    ensures percent { result ≡ percent_or (value_in (rows_in words.now) (codes "threshold")) }
+    ensures within { IfSome result (λ threshold. threshold ≤ 10000) }
+{
+    match words.value(THRESHOLD) {
+        Some(text) => parse_percent(text.as_bytes()),
+        None => Some(100),
+    }
+}
+
+/// The most frames below each other: 30 where the words give no number.
+fn depth_in(words: &TakenWords) -> Option<u32>
+    ensures { result ≡ depth_or (value_in (rows_in words.now) (codes "depth")) }
+{
+    let depth = number_or(30, 1, 200, words.value(DEPTH))?;
+    Some(depth as u32)
+}

@@ -1,0 +1,115 @@
+-- The whole profile: what it is, and that it can be written.
+use Rattle.std.proofs.Common.{◌≡◌, ℕ, ◌+◌, ◌-◌, ◌^◌, ◌<◌, ◌≤◌, zero, suc, true, false, List, add-one, codes, length, length-append, map, refl, ap, ◌∙◌, sym, subst, arith}
+use Rattle.std.specs.Prelude.{All, IsUtf8, sum_by}
+use Rattle.std.specs.List.{range_with_len}
+use Rattle.std.proofs.lemmas.Bool.Decides.{nat_tests}
+use Rattle.std.proofs.lemmas.List.{length-map}
+use Rattle.std.proofs.lemmas.List.FromFn.{fill_by_all, sum_by-map-range_with_len_more}
+use Rattle.dhat_json.specs.declared.profile.Point.{Point}
+use Rattle.dhat_json.specs.IsSound.{IsSoundPoint, IsWritable}
+use Rattle.dhat_metrics.specs.LifeState.{LifeState}
+use Rattle.dhat_metrics.specs.StandsFor as life_spec
+use Rattle.ht_trace.specs.TableState.{TableState}
+use Rattle.live_ledger.specs.declared.event.Event.{Event}
+use Rattle.live_ledger.specs.declared.figures.Figures.{Figures}
+use Rattle.live_ledger.specs.Events.{event_count}
+use Rattle.live_ledger.specs.LedgerState.{figures_at, no_figures}
+use Rattle.live_ledger.specs.Sound as ledger_sound
+use Rattle.peak_costs.specs.Peak as peak_spec
+use Rattle.peak_costs.specs.PeakState.{PeakState}
+use Rattle.dhat_trace.specs.declared.points.PointFigures.{PointFigures}
+use Rattle.dhat_trace.specs.DhatOf.{dhat_of, heap_profile, profile_of, profile_with}
+use Rattle.dhat_trace.specs.FrameTable.{table_of}
+use Rattle.dhat_trace.specs.PointFigures.{figures_in, figures_of, peak_moment}
+use Rattle.dhat_trace.specs.Points.{ArePoints, called, if_called, points_of}
+use Rattle.dhat_trace.specs.ProfileTexts.{command_text}
+use Rattle.dhat_trace.proofs.FigureLemmas.{all_figures, peak_moment_is}
+use Rattle.dhat_trace.proofs.PointLists.{called_more}
+use Rattle.dhat_trace.proofs.TextLemmas.{command_is_utf8, literal_is_utf8, table_utf8}
+
+-- what is put together is the profile
+pub profile_is : (tables : TableState) (te tg last peak : ℕ) (figures : ℕ → PointFigures) (stacks : List ℕ) (cmd : List ℕ) (points : List Point) (ftbl table : List (List ℕ))
+    → cmd ≡ command_text tables.command → te ≡ last → tg ≡ peak → ftbl ≡ table → ArePoints tables figures stacks table points
+    → heap_profile cmd te tg points ftbl ≡ profile_with tables last peak figures stacks
+unfolding profile_with
+profile_is tables te tg last peak figures stacks cmd points ftbl table command last_is peak_is same are =
+    let whole : ftbl ≡ table_of tables stacks = same ∙ are.table_is in
+    let own : points ≡ points_of table tables figures stacks = are.points_are table (λ text number is. is) in
+    let all : points ≡ points_of (table_of tables stacks) tables figures stacks = own ∙ ap (λ t. points_of t tables figures stacks) are.table_is in
+    ap (λ c. heap_profile c te tg points ftbl) command
+    ∙ (ap (λ n. heap_profile (command_text tables.command) n tg points ftbl) last_is
+    ∙ (ap (λ n. heap_profile (command_text tables.command) last n points ftbl) peak_is
+    ∙ (ap (λ ps. heap_profile (command_text tables.command) last peak ps ftbl) all
+    ∙ ap (λ t. heap_profile (command_text tables.command) last peak (points_of (table_of tables stacks) tables figures stacks) t) whole)))
+
+-- it is that of the events
+pub trace_is : (tables : TableState) (peaks : PeakState) (lifetimes : LifeState) (events : List Event) → peak_spec.StandsFor peaks events → life_spec.StandsFor lifetimes events
+    → profile_of tables peaks.ledger.totals.events peaks.moment (figures_of peaks lifetimes) ≡ dhat_of tables events
+unfolding dhat_of
+trace_is tables peaks lifetimes events by_peaks by_lives =
+    let te : peaks.ledger.totals.events ≡ event_count events = by_peaks.ledger.figures.events_is in
+    let tg : peaks.moment ≡ peak_moment events = sym (peak_moment_is peaks.moment events by_peaks.peak) in
+    let figures : figures_of peaks lifetimes ≡ figures_in events = all_figures peaks lifetimes events by_peaks by_lives in
+    ap (λ n. profile_of tables n peaks.moment (figures_of peaks lifetimes)) te
+    ∙ (ap (λ n. profile_of tables (event_count events) n (figures_of peaks lifetimes)) tg
+    ∙ ap (λ f. profile_of tables (event_count events) (peak_moment events) f) figures)
+
+-- a stack that allocated has a call
+one_call : (figures : ℕ → PointFigures) (stack : ℕ) → length (if_called figures stack) ≤ (figures stack).tbk
+one_call figures stack = grind (arith, nat_tests)
+
+-- so many stacks allocated at most
+call_more : (peaks : PeakState) (lifetimes : LifeState) (count : ℕ)
+    → length (called (figures_of peaks lifetimes) count) ≤ sum_by (λ (f : Figures). f.calls) (map (figures_at peaks.ledger) (range_with_len 0 count))
+    → length (called (figures_of peaks lifetimes) (count + 1)) ≤ sum_by (λ (f : Figures). f.calls) (map (figures_at peaks.ledger) (range_with_len 0 (count + 1)))
+call_more peaks lifetimes count before =
+    let figures : ℕ → PointFigures = figures_of peaks lifetimes in
+    let longer : length (called figures (count + 1)) ≡ length (called figures count) + length (if_called figures count) =
+    ap (λ (stacks : List ℕ). length stacks) (called_more figures count) ∙ length-append (called figures count) (if_called figures count) in
+    let sum = sum_by-map-range_with_len_more (λ (f : Figures). f.calls) (figures_at peaks.ledger) 0 count count (omega arith) in
+    let call : length (if_called figures count) ≤ (figures_at peaks.ledger count).calls = one_call figures count in
+    omega (arith, before, longer, sum, call)
+
+calls_at_least : (peaks : PeakState) (lifetimes : LifeState) (count : ℕ)
+    → length (called (figures_of peaks lifetimes) count) ≤ sum_by (λ (f : Figures). f.calls) (map (figures_at peaks.ledger) (range_with_len 0 count))
+unfolding called
+calls_at_least peaks lifetimes zero = omega arith
+calls_at_least peaks lifetimes (suc count) =
+    let P : ℕ → Type 0 = λ n. length (called (figures_of peaks lifetimes) n) ≤ sum_by (λ (f : Figures). f.calls) (map (figures_at peaks.ledger) (range_with_len 0 n)) in
+    subst P (add-one count) (call_more peaks lifetimes count (calls_at_least peaks lifetimes count))
+
+pub called_few : (peaks : PeakState) (lifetimes : LifeState) → ledger_sound.IsSound peaks.ledger
+    → length (called (figures_of peaks lifetimes) peaks.ledger.stacks) ≤ peaks.ledger.totals.events
+called_few peaks lifetimes sound =
+    let held : List Figures = peaks.ledger.figures in
+    let same : held ≡ map (figures_at peaks.ledger) (range_with_len 0 peaks.ledger.stacks) =
+    fill_by_all (figures_at peaks.ledger) held peaks.ledger.stacks no_figures sound.stacks (λ k within. refl) in
+    let at_most = calls_at_least peaks lifetimes peaks.ledger.stacks in
+    let all : sum_by (λ (f : Figures). f.calls) (map (figures_at peaks.ledger) (range_with_len 0 peaks.ledger.stacks)) ≡ peaks.ledger.totals.calls =
+    ap (sum_by (λ (f : Figures). f.calls)) (sym same) ∙ sound.sums.calls in
+    omega (arith, at_most, all, sound.calls_and_frees, sound.blocks_within)
+
+-- it can be written
+pub profile_writable : (tables : TableState) (te tg : ℕ) (figures : ℕ → PointFigures) (stacks : List ℕ) (cmd : List ℕ) (points : List Point) (ftbl table : List (List ℕ))
+    → cmd ≡ command_text tables.command → ftbl ≡ table → ArePoints tables figures stacks table points → length stacks < 2 ^ 32 - 1
+    → IsWritable (heap_profile cmd te tg points ftbl)
+profile_writable tables te tg figures stacks cmd points ftbl table command same are few =
+    let own : points ≡ points_of table tables figures stacks = are.points_are table (λ text number is. is) in
+    let count : length points ≡ length stacks = ap (λ (ps : List Point). length ps) own ∙ length-map stacks _ in
+    record {
+      sound = record {
+        few = omega (arith, few, count);
+        points = subst (λ (t : List (List ℕ)). All (IsSoundPoint true false (length t)) points) (sym same) are.sound;
+      };
+      texts = record {
+        mode = literal_is_utf8 (codes "heap") refl;
+        verb = literal_is_utf8 (codes "Allocated") refl;
+        bu = tt;
+        bsu = tt;
+        bksu = tt;
+        tu = literal_is_utf8 (codes "events") refl;
+        mtu = literal_is_utf8 (codes "Mevents") refl;
+        cmd = subst IsUtf8 (sym command) (command_is_utf8 tables.command);
+        ftbl = subst (All IsUtf8) (sym (same ∙ are.table_is)) (table_utf8 tables stacks);
+      };
+    }
