@@ -4,3 +4,4 @@ pub mod AskedLemmas
 pub mod SilentLemmas
 pub mod GenLemmas
 pub mod ViewLemmas
+pub mod LifeLemmas

@@ -24,3 +24,6 @@ pub mod Silent
 pub mod ProfileFault
 pub mod ViewWords
 pub mod ViewReport
+pub mod DhatWords
+pub mod DhatReport
+pub mod ReadLives

@@ -1,22 +1,37 @@
 //! The profile of a trace without lines. Those of worked traces are tried through the program.
+ghost use Rattle.std.specs.Prelude.{IfOk};
+ghost use Rattle.dhat_json.specs.IsSound.{IsWritable};
+
 use crate::trace_profile;
-use dhat_json::profile_text;
+use dhat_json::{Dhat, profile_text};
 use dhat_metrics::Lifetimes;
+use hp_num::NoMemory;
 use ht_trace::Tables;
 use peak_costs::Peaks;
+use std::alloc::Global;
 use std::test::Fail;
 
-#[test]
-fn no_stack_has_a_point(rt: HostRuntime) -> Result<(), Fail> {
-    let alloc = rt.alloc();
+/// The profile of no lines.
+const EMPTY: &str =
+    r#"{"Mtu":"Mevents","bkacc":false,"bklt":true,"cmd":"(none)","dhatFileVersion":2,"ftbl":["[root]"],"mode":"heap","pid":0,"pps":[],"te":0,"tg":0,"tu":"events","tuth":500,"verb":"Allocated"}"#;
+
+fn empty_profile(alloc: Global) -> Result<Dhat, NoMemory>
+    ensures { IfOk result IsWritable }
+{
     let tables = Tables::new(alloc);
     let peaks = Peaks::new(alloc)?;
     let lifetimes = Lifetimes::new(alloc)?;
-    let dhat = trace_profile(alloc, &tables, &peaks, &lifetimes)?;
-    let text = profile_text(alloc, &dhat)?;
-    assert!(rt;
-        text.as_str()
-            == r#"{"Mtu":"Mevents","bkacc":false,"bklt":true,"cmd":"(none)","dhatFileVersion":2,"ftbl":["[root]"],"mode":"heap","pid":0,"pps":[],"te":0,"tg":0,"tu":"events","tuth":500,"verb":"Allocated"}"#
-    );
+    trace_profile(alloc, &tables, &peaks, &lifetimes)
+}
+
+fn empty_text(alloc: Global) -> Result<String, NoMemory> {
+    let dhat = empty_profile(alloc)?;
+    profile_text(alloc, &dhat)
+}
+
+#[test]
+fn no_stack_has_a_point(rt: HostRuntime) -> Result<(), Fail> {
+    let text = empty_text(rt.alloc())?;
+    assert!(rt; text.as_str() == EMPTY);
     Ok(())
 }
