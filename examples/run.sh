@@ -27,6 +27,7 @@ for trace in *.trace; do
     compare "$trace" print print
     compare "$trace" flame flame
     compare "$trace" peak-flame flame --flamegraph-cost-type=peak
+    compare "$trace" dhat dhat
 done
 for raw in *.raw; do
     name=${raw%.raw}

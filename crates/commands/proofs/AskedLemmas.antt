@@ -159,11 +159,13 @@ unknown_asks_nothing (command ∷ words) is =
     let flame : Bool = bytes_eq command (codes "flame") in
     let interpret : Bool = bytes_eq command (codes "interpret") in
     let gen : Bool = bytes_eq command (codes "gen") in
+    let dhat : Bool = bytes_eq command (codes "dhat") in
     let dhat_view : Bool = bytes_eq command (codes "dhat_view") in
-    let first = or_parts help (summary || (print || (flame || (interpret || (gen || dhat_view))))) is in
-    let second = or_parts summary (print || (flame || (interpret || (gen || dhat_view)))) first.1 in
-    let third = or_parts print (flame || (interpret || (gen || dhat_view))) second.1 in
-    let fourth = or_parts flame (interpret || (gen || dhat_view)) third.1 in
-    let fifth = or_parts interpret (gen || dhat_view) fourth.1 in
-    let sixth = or_parts gen dhat_view fifth.1 in
-    rw (first.0, second.0, third.0, fourth.0, fifth.0, sixth.0, sixth.1) refl
+    let first = or_parts help (summary || (print || (flame || (interpret || (gen || (dhat || dhat_view)))))) is in
+    let second = or_parts summary (print || (flame || (interpret || (gen || (dhat || dhat_view))))) first.1 in
+    let third = or_parts print (flame || (interpret || (gen || (dhat || dhat_view)))) second.1 in
+    let fourth = or_parts flame (interpret || (gen || (dhat || dhat_view))) third.1 in
+    let fifth = or_parts interpret (gen || (dhat || dhat_view)) fourth.1 in
+    let sixth = or_parts gen (dhat || dhat_view) fifth.1 in
+    let seventh = or_parts dhat dhat_view sixth.1 in
+    rw (first.0, second.0, third.0, fourth.0, fifth.0, sixth.0, seventh.0, seventh.1) refl

@@ -5,3 +5,4 @@ pub mod SilentLemmas
 pub mod GenLemmas
 pub mod KeepLemmas
 pub mod ViewLemmas
+pub mod LifeLemmas

@@ -2,7 +2,7 @@
 use Rattle.std.proofs.Common.{ℕ, List, Option, Some, None, true, refl}
 use Rattle.command_frame.specs.Silent.{IsSilent}
 use Rattle.trace_gen.specs.Sizes.{Sizes}
-use Rattle.commands.specs.Asked.{DhatView, Flame, Gen, Help, Print, Summary}
+use Rattle.commands.specs.Asked.{Dhat, DhatView, Flame, Gen, Help, Print, Summary}
 use Rattle.commands.specs.FlameWords.{FlameAsked}
 use Rattle.commands.specs.PrintReport.{report_written}
 use Rattle.commands.specs.PrintWords.{PrintAsked}
@@ -29,6 +29,9 @@ flame_is_silent flame = (λ earlier line. refl, λ lines. tt)
 
 pub generated_summary_is_silent : (sizes : Sizes) → IsSilentFor (Some (Gen (record { sizes = sizes; run = true })))
 generated_summary_is_silent sizes = tt
+
+pub dhat_is_silent : (trace : List ℕ) → IsSilentFor (Some (Dhat trace))
+dhat_is_silent trace = (λ earlier line. refl, λ lines. tt)
 
 pub view_is_silent : (view : ViewAsked) → IsSilentFor (Some (DhatView view))
 view_is_silent view = λ bytes. tt

@@ -4,6 +4,8 @@ use Rattle.std.specs.Option.{option_map}
 use Rattle.std.specs.Str.{bytes_eq}
 use Rattle.command_frame.specs.Plan.{Ends, Plan}
 use Rattle.command_frame.specs.Report.{Writes}
+use Rattle.commands.specs.DhatReport.{dhat_plan}
+use Rattle.commands.specs.DhatWords.{dhat_trace}
 use Rattle.commands.specs.FlameReport.{flame_plan}
 use Rattle.commands.specs.FlameWords.{FlameAsked, flame_asked}
 use Rattle.commands.specs.GenReport.{gen_plan}
@@ -32,6 +34,8 @@ pub data Asked : Type 0 where
   Interpret : InterpretAsked → Asked
   -- a generated trace, or its summary
   Gen : GenAsked → Asked
+  -- the DHAT profile of a named trace
+  Dhat : List ℕ → Asked
   -- the view of a named DHAT profile
   DhatView : ViewAsked → Asked
 
@@ -49,6 +53,7 @@ command_asked command words =
     else if bytes_eq command (codes "flame") then option_map Flame (flame_asked words)
     else if bytes_eq command (codes "interpret") then option_map Interpret (interpret_asked words)
     else if bytes_eq command (codes "gen") then option_map Gen (gen_asked words)
+    else if bytes_eq command (codes "dhat") then option_map Dhat (dhat_trace words)
     else if bytes_eq command (codes "dhat_view") then option_map DhatView (view_asked words)
     else None
 
@@ -67,7 +72,8 @@ knows_first (command ∷ words) =
     (bytes_eq command (codes "flame") ||
     (bytes_eq command (codes "interpret") ||
     (bytes_eq command (codes "gen") ||
-    bytes_eq command (codes "dhat_view"))))))
+    (bytes_eq command (codes "dhat") ||
+    bytes_eq command (codes "dhat_view")))))))
 
 -- the files that are read for it, in order
 abbrev pub names_of : Asked → List (List ℕ)
@@ -77,6 +83,7 @@ names_of (Print print) = names_behind print.suppressions print.trace
 names_of (Flame flame) = flame.trace ∷ []
 names_of (Interpret interpret) = interpret_files interpret
 names_of (Gen gen) = []
+names_of (Dhat trace) = trace ∷ []
 names_of (DhatView view) = view.profile ∷ []
 
 -- what is done with them
@@ -87,6 +94,7 @@ plan_of (Print print) = print_plan print
 plan_of (Flame flame) = flame_plan flame
 plan_of (Interpret interpret) = interpret_plan interpret
 plan_of (Gen gen) = gen_plan gen
+plan_of (Dhat trace) = dhat_plan trace
 plan_of (DhatView view) = view_plan view
 
 -- the files that words name, where they are taken

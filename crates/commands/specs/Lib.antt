@@ -25,3 +25,6 @@ pub mod InterpretKeeps
 pub mod ProfileFault
 pub mod ViewWords
 pub mod ViewReport
+pub mod DhatWords
+pub mod DhatReport
+pub mod ReadLives

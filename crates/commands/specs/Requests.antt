@@ -5,7 +5,7 @@ use Rattle.commands.specs.declared.dhat_view_command.DhatViewRequest.{DhatViewRe
 use Rattle.commands.specs.declared.print_command.PrintRequest.{PrintRequest}
 use Rattle.commands.specs.declared.words.Request.{Request}
 use Rattle.commands.specs.declared.words.Request.TheVariants as request
-use Rattle.commands.specs.Asked.{Asked, DhatView, Flame, Gen, Help, Interpret, Print, Summary}
+use Rattle.commands.specs.Asked.{Asked, Dhat, DhatView, Flame, Gen, Help, Interpret, Print, Summary}
 use Rattle.commands.specs.PrintWords.{PrintAsked}
 use Rattle.commands.specs.ViewWords.{ViewAsked}
 
@@ -24,4 +24,5 @@ asked_of (request.Print print) = Print (print_asked_by print)
 asked_of (request.Flame flame) = Flame (record { trace = flame.trace.now; cost = flame.cost })
 asked_of (request.Interpret interpret) = Interpret (record { symbols = option_copied interpret.symbols; trace = interpret.trace.now })
 asked_of (request.Gen gen) = Gen (record { sizes = sizes_of gen.options; run = gen.run })
+asked_of (request.Dhat dhat) = Dhat dhat.trace.now
 asked_of (request.DhatView view) = DhatView (view_asked_by view)

@@ -3,6 +3,8 @@
 #![tactic(auto)]
 
 mod batch;
+mod dhat_command;
+mod dhat_reader;
 mod dhat_view_command;
 mod fault;
 mod flame_command;

@@ -8,9 +8,11 @@ ghost use Rattle.live_ledger.specs.Faults.{fault_of};
 ghost use Rattle.live_ledger.specs.LedgerState.{IsHeld};
 ghost use Rattle.peak_costs.specs.Peak as peaks_spec;
 ghost use Rattle.ht_trace.specs.Continues.{Continues};
+ghost use Rattle.ht_trace.specs.HeldStack.{HasHeldStack};
 ghost use Rattle.ht_trace.specs.LedgerFits.{CanTake, infos_in, least_length, least_length_of, stacks_in};
 ghost use Rattle.ht_trace.specs.PassesEvents.{PassesEvents};
 ghost use Rattle.ht_trace.specs.StepOf.{event_of};
+ghost use Rattle.ht_trace.specs.TraceEvents.{events};
 ghost use Rattle.command_frame.specs.Taker.{Tells};
 ghost use Rattle.commands.specs.CommandFault.{told};
 ghost use Rattle.commands.specs.ReadTrace.{HasRead, IsSound};
@@ -49,6 +51,7 @@ impl ReadTrace {
     }
 
     /// Reads the next line. After a refusal this is of no use.
+    #[inline(always)]
     pub(crate) fn read(&mut self, line: &[u8]) -> Result<(), LineRefusal<CommandFault>>
         requires sound { IsSound self.old }
         requires short { length line.now < 2 ^ 32 }
@@ -60,10 +63,36 @@ impl ReadTrace {
         ensures events { OnOk result (4 * self.new.peaks.ledger.totals.events ≤ 4 * self.old.peaks.ledger.totals.events + length line.now + 1) }
         ensures continues { Continues self.old.tables self.new.tables }
     {
+        match self.read_step(line) {
+            Ok(_) => Ok(()),
+            Err(refusal) => Err(refusal),
+        }
+    }
+
+    /// Reads the next line, and answers what it brings beside the tables. After a refusal this is of no use.
+    pub(crate) fn read_step(&mut self, line: &[u8]) -> Result<Step, LineRefusal<CommandFault>>
+        requires sound { IsSound self.old }
+        requires short { length line.now < 2 ^ 32 }
+        requires room { 4 * self.old.peaks.ledger.totals.events + length line.now ≤ 2 ^ 34 }
+        ensures sound { OnOk result (IsSound self.new) }
+        ensures read { OnOk result ((patterns lines : List (List ℕ)) → HasRead self.old patterns lines → HasRead self.new patterns (lines ++ line.now ∷ [])) }
+        ensures no_fault { OnOk result ((patterns lines : List (List ℕ)) → HasRead self.old patterns lines → content_fault patterns lines line.now ≡ None) }
+        ensures fault { IfErr result (λ refusal. (patterns lines : List (List ℕ)) → HasRead self.old patterns lines → Tells told refusal (content_fault patterns lines line.now)) }
+        ensures events { OnOk result (4 * self.new.peaks.ledger.totals.events ≤ 4 * self.old.peaks.ledger.totals.events + length line.now + 1) }
+        ensures continues { Continues self.old.tables self.new.tables }
+
+        // What the line brings.
+        ensures step_events { IfOk result (λ step. (patterns lines : List (List ℕ)) → HasRead self.old patterns lines → events (lines ++ line.now ∷ []) ≡ events lines ++ option_to_list (event_of step)) }
+        ensures peaks { IfOk result (λ step. (taken : List Event) → peaks_spec.StandsFor self.old.peaks taken → peaks_spec.StandsFor self.new.peaks (taken ++ option_to_list (event_of step))) }
+        ensures can { IfOk result (λ step. CanTake self.old.peaks.ledger step) }
+        ensures held { IfOk result (λ step. HasHeldStack self.new.tables step) }
+        ensures stacks { IfOk result (λ step. length self.new.tables.nodes ≡ length self.old.tables.nodes + stacks_in step) }
+        ensures least_length { IfOk result (λ step. least_length step ≤ length line.now) }
+    {
         match self.tables.line(line) {
             Ok(step) => {
                 take_step(&mut self.peaks, step)?;
-                Ok(())
+                Ok(step)
             }
             Err(LineError::NoMemory) => Err(LineRefusal::NoMemory),
             Err(error) => Err(LineRefusal::Fault(CommandFault::Line(error))),

@@ -75,6 +75,7 @@ fn run_request<S: Store, O: Sink>(
         Request::Flame(request) => request.run(desk, store, out),
         Request::Interpret(request) => request.run(desk, store, out),
         Request::Gen(request) => request.run(desk, out),
+        Request::Dhat(request) => request.run(desk, store, out),
         Request::DhatView(request) => request.run(desk, store),
     }
 }

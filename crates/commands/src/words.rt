@@ -3,6 +3,7 @@ ghost use Rattle.std.specs.Prelude.{◌≡◌, ◌≢◌, Err, IfOk, None, Some,
 ghost use Rattle.commands.specs.Asked.{asked, help_asked, knows_first};
 ghost use Rattle.commands.specs.Requests.{asked_of};
 
+use crate::dhat_command::DhatRequest;
 use crate::dhat_view_command::DhatViewRequest;
 use crate::flame_command::FlameRequest;
 use crate::gen_command::GenRequest;
@@ -27,6 +28,8 @@ pub enum Request<'a> {
     Interpret(InterpretRequest<'a>),
     /// A generated trace, or its summary.
     Gen(GenRequest),
+    /// The DHAT profile of a trace.
+    Dhat(DhatRequest<'a>),
     /// The view of a DHAT profile.
     DhatView(DhatViewRequest<'a>),
 }
@@ -64,6 +67,10 @@ pub fn read_words<'a>(alloc: Global, words: &'a [String]) -> Result<Request<'a>,
     if command.as_str() == "gen" {
         let request = GenRequest::read(alloc, words)?;
         return Ok(Request::Gen(request));
+    }
+    if command.as_str() == "dhat" {
+        let request = DhatRequest::read(alloc, words)?;
+        return Ok(Request::Dhat(request));
     }
     if command.as_str() == "dhat_view" {
         let request = DhatViewRequest::read(alloc, words)?;

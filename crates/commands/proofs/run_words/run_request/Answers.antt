@@ -7,7 +7,7 @@ use Rattle.command_frame.specs.Outcome.{moment}
 use Rattle.command_frame.specs.Run.{RanTo}
 use Rattle.command_frame.specs.Texts.{Texts}
 use Rattle.commands.specs.declared.words.Request.{Request}
-use Rattle.commands.specs.declared.words.Request.TheVariants.{DhatView, Flame, Gen, Interpret, Print, Summary}
+use Rattle.commands.specs.declared.words.Request.TheVariants.{Dhat, DhatView, Flame, Gen, Interpret, Print, Summary}
 use Rattle.commands.specs.Asked.{names_of, plan_of}
 use Rattle.commands.specs.Requests.{asked_of}
 use Rattle.commands.specs.Texts.{heapsuite_texts}
@@ -144,3 +144,25 @@ returns-in-DhatView-clause-halted g c =
     (moment (store.opens c.run-in-DhatView.new.store) (store.current c.run-in-DhatView.new.store) (store.left c.run-in-DhatView.new.store) (store.faults c.run-in-DhatView.new.store)) out out answer in
     IfErr-weaker c.run-in-DhatView.result _ _ (λ halt ran. subst (λ request. ran_as heapsuite_texts request (halt_answer heapsuite_texts halt)) (sym c.in-DhatView.is)
     (subst (λ texts. ran_as texts (DhatView c.in-DhatView.request) (halt_answer texts halt)) c.requires.texts (ran [] out))) c.run-in-DhatView.ensures.halted
+
+pub returns-in-Dhat-clause-all : goal.returns-in-Dhat-clause-all
+returns-in-Dhat-clause-all g c =
+    let store = g.S.Store in
+    let ran_as : Texts → Request → Answer → Type 0 = λ texts request answer.
+    RanTo texts (bounds_of c.args.desk.now.limits) (store.files c.args.store.now) [] (names_of (asked_of request)) (plan_of (asked_of request))
+    (moment (store.opens c.args.store.now) (store.current c.args.store.now) (store.left c.args.store.now) (store.faults c.args.store.now))
+    (moment (store.opens c.run-in-Dhat.new.store) (store.current c.run-in-Dhat.new.store) (store.left c.run-in-Dhat.new.store) (store.faults c.run-in-Dhat.new.store))
+    (g.O.Sink.written c.args.out.now) (g.O.Sink.written c.run-in-Dhat.new.out) answer in
+    IfOk-weaker c.run-in-Dhat.result _ _ (λ rest ran. subst (λ request. ran_as heapsuite_texts request (done rest.items)) (sym c.in-Dhat.is)
+    (subst (λ texts. ran_as texts (Dhat c.in-Dhat.request) (done rest.items)) c.requires.texts (ran []))) c.run-in-Dhat.ensures.all
+
+pub returns-in-Dhat-clause-halted : goal.returns-in-Dhat-clause-halted
+returns-in-Dhat-clause-halted g c =
+    let store = g.S.Store in
+    let ran_as : Texts → Request → Answer → Type 0 = λ texts request answer.
+    RanTo texts (bounds_of c.args.desk.now.limits) (store.files c.args.store.now) [] (names_of (asked_of request)) (plan_of (asked_of request))
+    (moment (store.opens c.args.store.now) (store.current c.args.store.now) (store.left c.args.store.now) (store.faults c.args.store.now))
+    (moment (store.opens c.run-in-Dhat.new.store) (store.current c.run-in-Dhat.new.store) (store.left c.run-in-Dhat.new.store) (store.faults c.run-in-Dhat.new.store))
+    (g.O.Sink.written c.args.out.now) (g.O.Sink.written c.run-in-Dhat.new.out) answer in
+    IfErr-weaker c.run-in-Dhat.result _ _ (λ halt ran. subst (λ request. ran_as heapsuite_texts request (halt_answer heapsuite_texts halt)) (sym c.in-Dhat.is)
+    (subst (λ texts. ran_as texts (Dhat c.in-Dhat.request) (halt_answer texts halt)) c.requires.texts (ran []))) c.run-in-Dhat.ensures.halted

@@ -3,7 +3,7 @@ use Rattle.std.specs.Option.{option_to_list}
 use Rattle.peak_costs.specs.Peak.{StandsFor}
 use Rattle.ht_trace.specs.StepOf.{event_of}
 use Rattle.ht_trace.specs.TraceEvents.{events}
-use Rattle.commands.proofs.read_trace.ReadTrace.read.Goals as goal
+use Rattle.commands.proofs.read_trace.ReadTrace.read_step.Goals as goal
 
 pub take_step-requires-clause-can : goal.take_step-requires-clause-can
 take_step-requires-clause-can c = c.in-Ok.ensures.can_take c.args.self.now.peaks.ledger c.requires.sound
