@@ -1,5 +1,5 @@
 -- Which lines were read of a trace whose blocks' lifetimes are kept beside it.
-use Rattle.std.specs.Prelude.{◌≡◌, ◌+◌, ◌-◌, ◌^◌, ◌<◌, ℕ, List, [], ◌∷◌, ◌++◌, length}
+use Rattle.std.specs.Prelude.{◌≡◌, ◌+◌, ◌*◌, ◌-◌, ◌^◌, ◌<◌, ◌≤◌, ℕ, List, [], ◌∷◌, ◌++◌, length}
 use Rattle.dhat_metrics.specs.Changes.{IsOfHeld}
 use Rattle.dhat_metrics.specs.LifeState.{LifeState}
 use Rattle.dhat_metrics.specs.StandsFor as life_spec
@@ -12,13 +12,19 @@ use Rattle.peak_costs.specs.Peak as peak_spec
 use Rattle.commands.specs.declared.dhat_reader.DhatReader.{DhatReader}
 use Rattle.commands.specs.ReadTrace.{HasRead, IsSound}
 
--- the lifetimes hold the stacks of the tables, and some events are those of the peaks and of the lifetimes
+-- what the lines that were read take at least
+abbrev pub weight_of : DhatReader → ℕ
+weight_of reader = 4 * reader.trace.peaks.ledger.totals.events + length reader.trace.tables.nodes
+
+-- the lifetimes hold the stacks of the tables, some events are those of the peaks and of the lifetimes, and the lines may be those
+-- of a file
 pub record IsSoundReader (reader : DhatReader) : Type 0 where
   pub sound : IsSound reader.trace
   pub stacks : length reader.lifetimes.figures ≡ length reader.trace.tables.nodes + 1
   pub taken : List Event
   pub peaks : peak_spec.StandsFor reader.trace.peaks taken
   pub lives : life_spec.StandsFor reader.lifetimes taken
+  pub few : weight_of reader ≤ 2 ^ 34 + 1
 
 -- the trace was read, and the lifetimes are those of its events
 pub record HasReadLives (reader : DhatReader) (lines : List (List ℕ)) : Type 0 where

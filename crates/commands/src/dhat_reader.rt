@@ -19,9 +19,6 @@ use hp_num::NoMemory;
 use ht_trace::{Step, Tables};
 use std::alloc::Global;
 
-/// The number of events that no profile has: a file within the limits has fewer.
-const TOO_MANY_EVENTS: u64 = 0xffff_ffff;
-
 /// What was read of a trace, and the lifetimes of its blocks, which are grown step by step together.
 #[derive(Debug, Drop)]
 pub struct DhatReader {
@@ -34,7 +31,7 @@ impl DhatReader {
     pub fn new(alloc: Global) -> Result<DhatReader, NoMemory>
         ensures sound { IfOk result (λ reader. lives_spec.IsSoundReader reader) }
         ensures read { IfOk result (λ reader. lives_spec.HasReadLives reader []) }
-        ensures events { IfOk result (λ reader. reader.trace.peaks.ledger.totals.events ≡ 0) }
+        ensures weight { IfOk result (λ reader. lives_spec.weight_of reader ≡ 0) }
     {
         let trace = ReadTrace::new(alloc, Tables::new(alloc))?;
         let lifetimes = Lifetimes::new(alloc)?;
@@ -46,9 +43,6 @@ impl DhatReader {
         requires sound { lives_spec.IsSoundReader self.now }
         ensures { IfOk result (λ output. (lines : List (List ℕ)) → lives_spec.HasReadLives self.now lines → output.items ≡ dhat_written [] lines) }
     {
-        if self.trace.peaks.ledger().totals().events >= TOO_MANY_EVENTS {
-            return Err(NoMemory);
-        }
         let dhat = trace_profile(
             alloc,
             &self.trace.tables,
@@ -71,16 +65,20 @@ impl LineTaker for DhatReader {
 
     ghost is_sound = { lives_spec.IsSoundReader };
 
-    ghost weight = { λ reader. 4 * reader.trace.peaks.ledger.totals.events };
+    ghost weight = { lives_spec.weight_of };
 
     fn line(
         &mut self,
         line: &[u8],
         _output: &mut Vec<u8>,
     ) -> Result<(), LineRefusal<CommandFault>> {
-        let step = self.trace.read_step(line)?;
-        follow(&mut self.lifetimes, step)?;
-        Ok(())
+        match self.trace.read_step(line) {
+            Ok(step) => {
+                follow(&mut self.lifetimes, step)?;
+                Ok(())
+            }
+            Err(refusal) => Err(refusal),
+        }
     }
 
     fn end(&self) -> Result<(), CommandFault> {

@@ -88,6 +88,7 @@ impl ReadTrace {
         ensures held { IfOk result (λ step. HasHeldStack self.new.tables step) }
         ensures stacks { IfOk result (λ step. length self.new.tables.nodes ≡ length self.old.tables.nodes + stacks_in step) }
         ensures least_length { IfOk result (λ step. least_length step ≤ length line.now) }
+        ensures weight { IfOk result (λ step. 4 * self.new.peaks.ledger.totals.events + stacks_in step ≤ 4 * self.old.peaks.ledger.totals.events + length line.now + 1) }
     {
         match self.tables.line(line) {
             Ok(step) => {
@@ -121,7 +122,7 @@ fn take_step(peaks: &mut Peaks, step: Step) -> Result<(), LineRefusal<CommandFau
     ensures fault { IfErr result (λ refusal. (taken : List Event) → peaks_spec.StandsFor peaks.old taken → Tells told refusal (option_map (λ fault. told (CommandFault.Event fault)) (ledger_fault taken (event_of step)))) }
     ensures stacks { OnOk result (peaks.new.ledger.stacks ≡ peaks.old.ledger.stacks + stacks_in step) }
     ensures infos { OnOk result (peaks.new.ledger.infos ≡ peaks.old.ledger.infos ++ infos_in step) }
-    ensures events { OnOk result (4 * peaks.new.ledger.totals.events ≤ 4 * peaks.old.ledger.totals.events + least_length step + 1) }
+    ensures weight { OnOk result (4 * peaks.new.ledger.totals.events + stacks_in step ≤ 4 * peaks.old.ledger.totals.events + least_length step + 1) }
 {
     match step {
         Step::Nothing => Ok(()),

@@ -1,6 +1,6 @@
 -- The whole profile: what it is, and that it can be written.
-use Rattle.std.proofs.Common.{◌≡◌, ℕ, ◌+◌, ◌-◌, ◌^◌, ◌<◌, ◌≤◌, zero, suc, true, false, List, add-one, codes, length, length-append, map, refl, ap, ◌∙◌, sym, subst, arith}
-use Rattle.std.specs.Prelude.{All, IsUtf8, sum_by}
+use Rattle.std.proofs.Common.{◌≡◌, ℕ, ◌+◌, ◌*◌, ◌-◌, ◌^◌, ◌<◌, ◌≤◌, zero, suc, Bool, true, false, cond, List, [], ◌∷◌, add-one, codes, length, length-append, map, refl, ap, ◌∙◌, sym, subst, arith}
+use Rattle.std.specs.Prelude.{All, IsUtf8, nat_lt, sum_by}
 use Rattle.std.specs.List.{range_with_len}
 use Rattle.std.proofs.lemmas.Bool.Decides.{nat_tests}
 use Rattle.std.proofs.lemmas.List.{length-map}
@@ -88,6 +88,26 @@ called_few peaks lifetimes sound =
     let all : sum_by (λ (f : Figures). f.calls) (map (figures_at peaks.ledger) (range_with_len 0 peaks.ledger.stacks)) ≡ peaks.ledger.totals.calls =
     ap (sum_by (λ (f : Figures). f.calls)) (sym same) ∙ sound.sums.calls in
     omega (arith, at_most, all, sound.calls_and_frees, sound.blocks_within)
+
+-- no more stacks than there are
+called_held : (figures : ℕ → PointFigures) (count : ℕ) → length (called figures count) ≤ count
+unfolding called
+called_held figures zero = omega arith
+called_held figures (suc count) =
+    let longer : length (called figures (count + 1)) ≡ length (called figures count) + length (if_called figures count) =
+    ap (λ (stacks : List ℕ). length stacks) (called_more figures count) ∙ length-append (called figures count) (if_called figures count) in
+    let one : length (if_called figures count) ≤ 1 = at_most_one (nat_lt 0 (figures count).tbk) in
+    subst (λ n. length (called figures n) ≤ n) (add-one count) (omega (arith, called_held figures count, longer, one))
+  where
+    at_most_one : (b : Bool) → length (cond {A = List ℕ} b (count ∷ []) []) ≤ 1
+    at_most_one true = omega arith
+    at_most_one false = omega arith
+
+-- so they can be numbered, where events and stacks aren't both too many
+pub called_numbered : (peaks : PeakState) (lifetimes : LifeState) → ledger_sound.IsSound peaks.ledger → 4 * peaks.ledger.totals.events + peaks.ledger.stacks < 5 * (2 ^ 32 - 1)
+    → length (called (figures_of peaks lifetimes) peaks.ledger.stacks) < 2 ^ 32 - 1
+called_numbered peaks lifetimes sound few =
+    omega (arith, few, called_few peaks lifetimes sound, called_held (figures_of peaks lifetimes) peaks.ledger.stacks)
 
 -- it can be written
 pub profile_writable : (tables : TableState) (te tg : ℕ) (figures : ℕ → PointFigures) (stacks : List ℕ) (cmd : List ℕ) (points : List Point) (ftbl table : List (List ℕ))

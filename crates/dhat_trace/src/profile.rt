@@ -1,5 +1,5 @@
 //! The profile of a trace: its points, their frames, and when it peaked and ended.
-ghost use Rattle.std.specs.Prelude.{◌≡◌, ◌+◌, ◌-◌, ◌^◌, ◌<◌, List, IfOk, length};
+ghost use Rattle.std.specs.Prelude.{◌*◌, ◌≡◌, ◌+◌, ◌-◌, ◌^◌, ◌<◌, List, IfOk, length};
 ghost use Rattle.live_ledger.specs.declared.event.Event.{Event};
 ghost use Rattle.dhat_json.specs.IsSound.{IsWritable};
 ghost use Rattle.dhat_metrics.specs.StandsFor as life_spec;
@@ -25,8 +25,8 @@ const SHORT_LIFE: u64 = 500;
 /// begins with `[root]` and has each text where it first comes. Times are numbers of events. A text of the trace that isn't
 /// UTF-8 has `?` for each byte that isn't ASCII. `NoMemory` where memory is wanting.
 ///
-/// Peaks and lifetimes must have as many stacks as the tables. There must be fewer than 2^32 - 1 allocations and frees, so
-/// that the points can be numbered.
+/// Peaks and lifetimes must have as many stacks as the tables. Allocations and frees on the one hand and stacks on the other
+/// must not both be 2^32 - 1 or more, so that the points can be numbered; of a file within the limits they aren't.
 pub fn trace_profile(
     alloc: Global,
     tables: &Tables,
@@ -35,7 +35,7 @@ pub fn trace_profile(
 ) -> Result<Dhat, NoMemory>
     requires peaks { peaks.now.ledger.stacks ≡ length tables.now.nodes + 1 }
     requires lifetimes { length lifetimes.now.figures ≡ length tables.now.nodes + 1 }
-    requires few { peaks.now.ledger.totals.events < 2 ^ 32 - 1 }
+    requires few { 4 * peaks.now.ledger.totals.events + peaks.now.ledger.stacks < 5 * (2 ^ 32 - 1) }
     ensures profile { IfOk result (λ dhat. dhat ≡ profile_of tables.now peaks.now.ledger.totals.events peaks.now.moment (figures_of peaks.now lifetimes.now)) }
     ensures trace { IfOk result (λ dhat. (events : List Event) → peak_spec.StandsFor peaks.now events → life_spec.StandsFor lifetimes.now events
         → dhat ≡ dhat_of tables.now events) }

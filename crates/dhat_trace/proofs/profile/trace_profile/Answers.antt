@@ -7,7 +7,7 @@ use Rattle.live_ledger.specs.LedgerState.{LedgerState}
 use Rattle.dhat_trace.specs.DhatOf.{heap_profile, profile_of}
 use Rattle.dhat_trace.specs.PointFigures.{figures_of}
 use Rattle.dhat_trace.specs.Points.{called}
-use Rattle.dhat_trace.proofs.ProfileLemmas.{called_few, profile_is, profile_writable, trace_is}
+use Rattle.dhat_trace.proofs.ProfileLemmas.{called_numbered, profile_is, profile_writable, trace_is}
 use Rattle.dhat_trace.proofs.profile.trace_profile.Goals as goal
 use Rattle.dhat_trace.proofs.profile.trace_profile.Goals.{After-drop-table-7}
 
@@ -36,9 +36,8 @@ returns-clause-trace c = IfOk-weaker c.heap_profile.result _ _
 pub returns-clause-writable : goal.returns-clause-writable
 returns-clause-writable c =
     let figures = figures_of c.args.peaks.now c.args.lifetimes.now in
-    let at_most = called_few c.args.peaks.now c.args.lifetimes.now c.peak_moment.ensures.sound.ledger in
     let few : length (called figures (length c.args.tables.now.nodes + 1)) < 2 ^ 32 - 1 =
-    subst (λ count. length (called figures count) < 2 ^ 32 - 1) c.requires.peaks (let events = c.requires.few in omega arith) in
+    subst (λ count. length (called figures count) < 2 ^ 32 - 1) c.requires.peaks (called_numbered c.args.peaks.now c.args.lifetimes.now c.peak_moment.ensures.sound.ledger c.requires.few) in
     IfOk-weaker c.heap_profile.result _ _ (λ dhat is. subst IsWritable (sym is)
     (profile_writable c.args.tables.now _ _ figures (called figures (length c.args.tables.now.nodes + 1)) c.in_ok-cmd.cmd c.in_ok-pps.pps c.in_ok-ftbl.ftbl c.all_points.new.table.texts
     c.in_ok-cmd.ensures.text c.in_ok-ftbl.ensures.texts c.in_ok-pps.ensures.points few)) c.heap_profile.ensures

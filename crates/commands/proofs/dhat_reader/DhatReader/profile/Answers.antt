@@ -21,8 +21,8 @@ tables_are trace lines has =
 pub returns : goal.returns
 unfolding dhat_written
 returns c = λ lines has.
-    c.in_ok-push.ensures.appended
+    c.in_ok-push.ensures.items
     ∙ ap (λ (text : List ℕ). text ++ codes "\n")
-      (c.into_bytes-output.ensures
-      ∙ (c.in_ok-text.ensures.text
-      ∙ ap dhat_text (c.in_ok-dhat.ensures.trace (events lines) has.read.peaks_of has.lives ∙ ap (λ tables. dhat_of tables (events lines)) (tables_are c.args.self.now.trace lines has.read))))
+    (ap (λ v. v.items) c.into_bytes-output.ensures.value
+    ∙ (c.in_ok-text.ensures.text
+    ∙ ap dhat_text (c.in_ok-dhat.ensures.trace (events lines) has.read.peaks_of has.lives ∙ ap (λ tables. dhat_of tables (events lines)) (tables_are c.args.self.now.trace lines has.read))))

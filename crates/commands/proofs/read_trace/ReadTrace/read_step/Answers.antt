@@ -17,3 +17,6 @@ returns-in_ok-take_step-in-Ok-clause-read c = λ patterns lines has.
       tables_of = c.in-Ok.ensures.stands has.given lines has.tables_of;
       peaks_of = subst (λ es. StandsFor c.take_step.new.peaks es) (sym after) (c.in_ok-take_step-in-Ok.ensures.peaks (events lines) has.peaks_of);
     }
+
+pub returns-in_ok-take_step-in-Ok-clause-can : goal.returns-in_ok-take_step-in-Ok-clause-can
+returns-in_ok-take_step-in-Ok-clause-can c = c.in-Ok.ensures.can_take c.args.self.now.peaks.ledger c.requires.sound
