@@ -1,6 +1,6 @@
 pub mod Lists
 pub mod Appends
-pub mod Tests
+pub mod PlacesText
 pub mod LabelLemmas
 pub mod NumberLemmas
 pub mod SumLemmas

@@ -9,6 +9,7 @@ use Rattle.massif_file.specs.LastTime.{last_time, time_of}
 use Rattle.ms_print.specs.declared.plot.Plot.{Plot}
 use Rattle.ms_print.specs.BarSteps.{IsPlotted}
 use Rattle.ms_print.specs.Plots.{plot_of}
+use Rattle.ms_print.specs.Rows.{HasTree}
 use Rattle.ms_print.specs.Sums.{greatest_sum, sum_of}
 use Rattle.ms_print.proofs.Lists.{take-next}
 
@@ -51,3 +52,8 @@ all-plotted width height snaps right numbers = λ k d within. record {
   in_time = below-last 0 snaps right k d within;
   below_peak = below-greatest snaps k d within;
 }
+
+-- each has a tree where its mark says so
+pub all-trees : (time : ℕ) (snaps : List Snap) → AreRight time snaps → All HasTree snaps
+all-trees time [] right = All-nil HasTree
+all-trees time (s ∷ snaps) right = All-cons HasTree s snaps (record { tree = right.1 }) (all-trees s.time snaps right.2)

@@ -151,9 +151,9 @@ pub ends-more : (lines : List TreeLine) (ends : List ℕ) (from end : ℕ) → 0
 ends-more lines ends from end some low known is = record {
   count = length-set ends (from - 1) end ∙ known.count;
   each = λ place later within. elim (cases_lt place from) [
-      | inl here ↦ subst (λ (e : ℕ). IsEnd lines place e) (sym (get_or-set_at ends (from - 1) place end 0 (omega arith) (let count = known.count in omega arith))) (subst (λ (p : ℕ). IsEnd lines p end) {x = from - 1} {y = place} (omega arith) is)
-      | inr above ↦ subst (λ (e : ℕ). IsEnd lines place e) (sym (get_or-set_other ends (from - 1) place end 0 (λ e. absurd (omega arith)))) (known.each place above within)
-    ];
+    | inl here ↦ subst (λ (e : ℕ). IsEnd lines place e) (sym (get_or-set_at ends (from - 1) place end 0 (omega arith) (let count = known.count in omega arith))) (subst (λ (p : ℕ). IsEnd lines p end) {x = from - 1} {y = place} (omega arith) is)
+    | inr above ↦ subst (λ (e : ℕ). IsEnd lines place e) (sym (get_or-set_other ends (from - 1) place end 0 (λ e. absurd (omega arith)))) (known.each place above within)
+  ];
 }
 
 -- fewer are known

@@ -11,12 +11,14 @@ abbrev pub named_line : List ℕ → List ℕ → List ℕ
 named_line name text = name ++ (text ++ codes "\n")
 
 -- the command, how the profile was made, and the words that ask for the page
+unfoldable pub asked_text : List ℕ → Profile → List ℕ
+asked_text words profile =
+    named_line (codes "Command:            ") profile.cmd
+    ++ (named_line (codes "Massif arguments:   ") profile.desc ++ named_line (codes "ms_print arguments: ") words)
+
+-- these between two rules, and two empty lines
 unfoldable pub title_text : List ℕ → Profile → List ℕ
-title_text words profile =
-    rule_line
-    ++ (named_line (codes "Command:            ") profile.cmd
-    ++ (named_line (codes "Massif arguments:   ") profile.desc
-    ++ (named_line (codes "ms_print arguments: ") words ++ (rule_line ++ codes "\n\n"))))
+title_text words profile = rule_line ++ (asked_text words profile ++ (rule_line ++ codes "\n\n"))
 
 -- the page with this threshold, so many columns and rows, and these words
 unfoldable pub page_text : ℕ → ℕ → ℕ → List ℕ → Profile → List ℕ

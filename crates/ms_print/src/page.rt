@@ -4,7 +4,7 @@
 ghost use Rattle.std.specs.Prelude.{◌≡◌, ◌++◌, OnErr, OnOk};
 ghost use Rattle.ht_lines.specs.Extends.{Extends};
 ghost use Rattle.massif_file.specs.IsWritable.{IsWritable};
-ghost use Rattle.ms_print.specs.PageText.{named_line, page_text, title_text};
+ghost use Rattle.ms_print.specs.PageText.{asked_text, named_line, page_text, title_text};
 
 use crate::graph::put_graph;
 use crate::options::PageOptions;
@@ -46,22 +46,33 @@ fn put_all(options: &PageOptions, profile: &Profile, out: &mut Vec<u8>) -> Resul
     put_table(alloc, options.threshold, profile.unit, &profile.snaps, out)
 }
 
-/// Appends the command, how the profile was made, and the words that ask for the page.
+/// Appends the title of the page.
 #[tactic(auto, unfolding(crate::specs::PageText::title_text))]
 fn put_title(words: &[u8], profile: &Profile, out: &mut Vec<u8>) -> Result<(), NoMemory>
     ensures appended { OnOk result (out.new.items ≡ out.old.items ++ title_text words.now profile.now) }
     ensures kept { Extends out.old.items out.new.items }
 {
     put_rule(out)?;
-    put_text(b"Command:            ", profile.cmd.bytes(), out)?;
-    put_text(b"Massif arguments:   ", profile.desc.bytes(), out)?;
-    put_text(b"ms_print arguments: ", words, out)?;
+    put_asked(words, profile, out)?;
     put_rule(out)?;
     put_bytes(out, b"\n\n")
 }
 
+/// Appends the command, how the profile was made, and the words that ask for the page.
+fn put_asked(words: &[u8], profile: &Profile, out: &mut Vec<u8>) -> Result<(), NoMemory>
+    ensures appended { OnOk result (out.new.items ≡ out.old.items ++ asked_text words.now profile.now) }
+    ensures kept { Extends out.old.items out.new.items }
+{
+    put_text(b"Command:            ", profile.cmd.bytes(), out)?;
+    put_text(b"Massif arguments:   ", profile.desc.bytes(), out)?;
+    put_text(b"ms_print arguments: ", words, out)
+}
+
 /// Appends a line of a name and a text.
-fn put_text(name: &[u8], text: &[u8], out: &mut Vec<u8>) -> Result<(), NoMemory> {
+fn put_text(name: &[u8], text: &[u8], out: &mut Vec<u8>) -> Result<(), NoMemory>
+    ensures appended { OnOk result (out.new.items ≡ out.old.items ++ named_line name.now text.now) }
+    ensures kept { Extends out.old.items out.new.items }
+{
     put_bytes(out, name)?;
     put_bytes(out, text)?;
     put_bytes(out, b"\n")

@@ -10,7 +10,6 @@ use massif_file::{HeapTree, Snaps};
 
 /// Appends how many snapshots there are, and the numbers of those that have a tree. On `NoMemory`, some of it may stand at the end
 /// of `out`.
-#[tactic(auto, unfolding(crate::specs::SnapshotsText::snapshots_text))]
 pub(crate) fn put_snapshots(snaps: &Snaps, out: &mut Vec<u8>) -> Result<(), NoMemory>
     ensures appended { OnOk result (out.new.items ≡ out.old.items ++ snapshots_text snaps.now) }
     ensures kept { Extends out.old.items out.new.items }

@@ -104,7 +104,6 @@ fn put_head_before(unit: TimeUnit, later: usize, out: &mut Vec<u8>) -> Result<()
 }
 
 /// Appends the heads of the columns, between two rules.
-#[tactic(auto, unfolding(crate::specs::TableText::head_text))]
 fn put_head(unit: TimeUnit, out: &mut Vec<u8>) -> Result<(), NoMemory>
     ensures appended { OnOk result (out.new.items ≡ out.old.items ++ head_text unit) }
     ensures kept { Extends out.old.items out.new.items }
@@ -142,7 +141,6 @@ fn time_head(unit: TimeUnit) -> &'static [u8]
 }
 
 /// Appends the row of a snapshot with its number.
-#[tactic(auto, unfolding(crate::specs::TableText::snap_row))]
 fn put_row(n: u64, snap: &Snap, out: &mut Vec<u8>) -> Result<(), NoMemory>
     requires numbers { IsWritableSnap snap.now }
     ensures appended { OnOk result (out.new.items ≡ out.old.items ++ snap_row n snap.now) }

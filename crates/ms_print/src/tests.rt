@@ -1,10 +1,11 @@
 //! Worked pages. Expected texts are worked out by hand.
-ghost use Rattle.std.specs.Prelude.{ℕ, List, IfOk};
-ghost use Rattle.massif_file.specs.IsWritable.{IsWritable};
+ghost use Rattle.std.specs.Prelude.{ℕ, List, [], ◌∷◌, ◌++◌, IfOk, OnOk};
+ghost use Rattle.massif_file.specs.IsWritable.{IsLine, IsWritable};
+ghost use Rattle.massif_file.specs.StandsFor.{StandsFor};
 
 use crate::{PageOptions, cell, put_page};
 use hp_num::Text;
-use massif_file::{ProfileFault, ProfileReader};
+use massif_file::{Profile, ProfileFault, ProfileReader};
 use std::alloc::Global;
 use std::process::Abort;
 use std::test::Fail;
@@ -152,15 +153,27 @@ Number of snapshots: 2
 
 ";
 
-/// A reader that has read the lines of a text.
-fn reader_of(alloc: Global, text: &[u8]) -> Result<ProfileReader, ProfileFault>
-    ensures stands { IfOk result (λ reader. (lines : List (List ℕ)) × StandsFor reader lines × All IsLine lines) }
+/// Takes a line, which has no line feed.
+fn take_line(reader: &mut ProfileReader, line: &[u8]) -> Result<(), ProfileFault>
+    ensures stands { OnOk result
+        ((lines : List (List ℕ)) → StandsFor reader.old lines → StandsFor reader.new (lines ++ line.now ∷ [])) }
+    ensures line { OnOk result (IsLine line.now) }
+{
+    if !line.iter().all(|byte| *byte != b'\n') {
+        return Err(ProfileFault::BadHeader);
+    }
+    reader.line(line)
+}
+
+/// The profile that a text says.
+fn profile_of(alloc: Global, text: &[u8]) -> Result<Profile, ProfileFault>
+    ensures writable { IfOk result (λ profile. IsWritable profile) }
 {
     let mut reader = ProfileReader::new(alloc);
-    for line in text.split(|byte| *byte == b'\n') {
-        reader.line(line)?;
+    'each_line: for line in text.split(|byte| *byte == b'\n') {
+        take_line(&mut reader, line)?;
     }
-    Ok(reader)
+    reader.finish()
 }
 
 fn options(alloc: Global) -> Result<PageOptions, Fail> {
@@ -174,7 +187,7 @@ fn options(alloc: Global) -> Result<PageOptions, Fail> {
 
 /// The page of the profile that a text says.
 fn shows(rt: &impl Abort, alloc: Global, text: &[u8], page: &[u8]) -> Result<(), Fail> {
-    let profile = reader_of(alloc, text)?.finish()?;
+    let profile = profile_of(alloc, text)?;
     let mut out = Vec::new(alloc);
     put_page(&options(alloc)?, &profile, &mut out)?;
     assert_eq!(rt; out.as_slice(), page);
@@ -189,7 +202,7 @@ fn worked_pages(rt: HostRuntime) -> Result<(), Fail> {
 
 #[test]
 fn single_cells(rt: HostRuntime) -> Result<(), Fail> {
-    let profile = reader_of(rt.alloc(), DEMO)?.finish()?;
+    let profile = profile_of(rt.alloc(), DEMO)?;
     let options = options(rt.alloc())?;
     assert_eq!(rt; cell(&options, &profile, 4, 4), b'#');
     assert_eq!(rt; cell(&options, &profile, 4, 3), b' ');

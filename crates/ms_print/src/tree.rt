@@ -36,12 +36,7 @@ pub(crate) fn put_tree(
 }
 
 /// Appends the entries below the root.
-fn put_entries(
-    alloc: Global,
-    scale: Scale,
-    tree: &Tree,
-    out: &mut Vec<u8>,
-) -> Result<(), NoMemory>
+fn put_entries(alloc: Global, scale: Scale, tree: &Tree, out: &mut Vec<u8>) -> Result<(), NoMemory>
     requires whole { AreWhole tree.now }
     requires some { 0 < length tree.now }
     requires threshold { scale.threshold ≤ 10000 }
@@ -85,12 +80,7 @@ fn put_line(
 }
 
 /// Appends what an entry says.
-fn put_what(
-    scale: Scale,
-    tree: &Tree,
-    entry: Entry,
-    out: &mut Vec<u8>,
-) -> Result<(), NoMemory>
+fn put_what(scale: Scale, tree: &Tree, entry: Entry, out: &mut Vec<u8>) -> Result<(), NoMemory>
     requires held { IsHeld tree.now entry }
     requires threshold { scale.threshold ≤ 10000 }
     ensures appended { OnOk result (out.new.items ≡ out.old.items ++ entry_text scale (entry_bytes tree.now entry) (entry_label scale tree.now entry)) }

@@ -2,7 +2,7 @@ use Rattle.std.proofs.Common.{ℕ, List, ◌++◌, sym, ap, ◌∙◌}
 use Rattle.std.specs.Prelude.{codes, decimal}
 use Rattle.std.proofs.lemmas.Result.{on_ok_weaker}
 use Rattle.ms_print.proofs.Appends.{three-appended}
-use Rattle.ms_print.proofs.Tests.{places-more}
+use Rattle.ms_print.proofs.PlacesText.{places-more}
 use Rattle.ms_print.proofs.entry.put_places.Goals as goal
 
 pub returns-clause-appended : goal.returns-clause-appended
