@@ -1,6 +1,6 @@
-use Rattle.std.proofs.Common.{Bool, cond, Some, sym, ap, ◌∙◌, true, false, eqb, arith}
+use Rattle.std.proofs.Common.{sym, arith}
 use Rattle.std.proofs.lemmas.Bool.Decides.{nat_tests}
-use Rattle.ms_print.specs.BarSteps.{IsPlotted, better}
+use Rattle.ms_print.specs.BarSteps.{IsPlotted}
 use Rattle.ms_print.proofs.BarLemmas.{bar-next, bar-none}
 use Rattle.ms_print.proofs.Lists.{held-by}
 use Rattle.ms_print.proofs.bars.bar_in.Goals as goal

@@ -1,4 +1,4 @@
-use Rattle.std.proofs.Common.{◌≡◌, ◌-◌, Option, List, None, Some, refl, sym, ap, ◌∙◌, arith, rules, ◌+◌, get_or, replicate}
+use Rattle.std.proofs.Common.{◌-◌, Option, List, None, Some, sym, ap, ◌∙◌, arith, rules, ◌+◌, get_or}
 use Rattle.std.proofs.lemmas.List.{get_or_read_under, get_or-replicate, length-set}
 use Rattle.ms_print.specs.declared.bars.Bar.{Bar}
 use Rattle.ms_print.specs.BarSteps.{IsPlotted, better}

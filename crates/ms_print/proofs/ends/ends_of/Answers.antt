@@ -1,6 +1,5 @@
-use Rattle.std.proofs.Common.{◌-◌, ◌+◌, ℕ, arith, subst}
-use Rattle.ms_print.specs.Ends.{AreEnds}
-use Rattle.ms_print.proofs.TreesOfLemmas.{ends-fewer, ends-more, ends-none}
+use Rattle.std.proofs.Common.{arith}
+use Rattle.ms_print.proofs.TreesOfLemmas.{ends-more}
 use Rattle.ms_print.proofs.ends.ends_of.Goals as goal
 
 pub each_line-preserved : goal.each_line-preserved

@@ -1,4 +1,4 @@
-use Rattle.std.proofs.Common.{◌++◌, ◌+◌, ◌-◌, arith}
+use Rattle.std.proofs.Common.{◌+◌, ◌-◌, arith}
 use Rattle.ht_lines.proofs.ExtendLemmas.{extends_trans}
 use Rattle.ms_print.specs.GraphText.{row_text, rows_text}
 use Rattle.ms_print.proofs.Appends.{left-appended}

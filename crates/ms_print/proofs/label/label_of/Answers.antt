@@ -1,4 +1,4 @@
-use Rattle.std.proofs.Common.{◌^◌, ◌<◌, arith, subst, sym, ℕ}
+use Rattle.std.proofs.Common.{arith}
 use Rattle.std.proofs.Math.Nat.{one-le-pow}
 use Rattle.ms_print.proofs.LabelLemmas.{power-small}
 use Rattle.ms_print.proofs.label.label_of.Goals as goal

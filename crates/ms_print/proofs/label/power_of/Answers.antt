@@ -1,6 +1,5 @@
 use Rattle.std.proofs.Common.{arith}
-use Rattle.ms_print.proofs.LabelLemmas.{power-down, power-here, power-small}
-use Rattle.ms_print.specs.Labels.{power_of}
+use Rattle.ms_print.proofs.LabelLemmas.{power-small}
 use Rattle.ms_print.proofs.label.power_of.Goals as goal
 
 pub pow-requires : goal.pow-requires

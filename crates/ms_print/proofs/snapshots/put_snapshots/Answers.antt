@@ -4,7 +4,7 @@ use Rattle.std.proofs.lemmas.Result.{on_ok_weaker}
 use Rattle.ms_print.specs.SnapshotsText.{numbers_text, snapshots_text}
 use Rattle.ms_print.proofs.Appends.{five-appended}
 use Rattle.ms_print.proofs.snapshots.put_snapshots.Goals as goal
-use Rattle.std.proofs.Common.{◌≡◌, ◌++◌, ℕ, List, ap, ◌∙◌}
+use Rattle.std.proofs.Common.{◌++◌, ℕ, ap, ◌∙◌}
 
 pub returns-clause-appended : goal.returns-clause-appended
 unfolding snapshots_text

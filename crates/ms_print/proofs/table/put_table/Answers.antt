@@ -1,4 +1,4 @@
-use Rattle.std.proofs.Common.{◌≡◌, ◌++◌, ◌+◌, ◌-◌, ℕ, List, length, drop, ap, ◌∙◌}
+use Rattle.std.proofs.Common.{◌++◌, ◌+◌, ◌-◌, ℕ, length, drop, ap, ◌∙◌}
 use Rattle.ht_lines.proofs.ExtendLemmas.{extends_trans}
 use Rattle.ms_print.specs.TableText.{below_row, snap_row, snap_rows}
 use Rattle.ms_print.proofs.Appends.{left-appended, two-appended}

@@ -1,4 +1,4 @@
-use Rattle.std.proofs.Common.{◌≡◌, ℕ, List}
+use Rattle.std.proofs.Common.{ℕ, List}
 use Rattle.std.specs.Prelude.{All}
 use Rattle.massif_file.specs.IsWritable.{IsLine}
 use Rattle.massif_file.specs.StandsFor.{StandsFor}

@@ -1,7 +1,6 @@
-use Rattle.std.proofs.Common.{◌≡◌, ◌++◌, ℕ, [], List, sym, ap, ◌∙◌}
+use Rattle.std.proofs.Common.{◌++◌, ℕ, [], List, sym, ap, ◌∙◌}
 use Rattle.std.specs.Prelude.{codes}
 use Rattle.std.proofs.lemmas.Result.{on_ok_weaker}
-use Rattle.ht_lines.proofs.ExtendLemmas.{extends_trans}
 use Rattle.ms_print.specs.Ends.{children_at}
 use Rattle.ms_print.specs.Entries.{entry_text}
 use Rattle.ms_print.specs.Shown.{shown}
