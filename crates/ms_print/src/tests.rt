@@ -1,10 +1,10 @@
 //! Worked pages. Expected texts are worked out by hand.
-ghost use Rattle.std.specs.Prelude.{ℕ, List, [], ◌∷◌, ◌++◌, IfOk, OnOk};
+ghost use Rattle.std.specs.Prelude.{◌≡◌, ℕ, List, [], ◌∷◌, ◌++◌, IfOk, OnOk};
 ghost use Rattle.massif_file.specs.IsWritable.{IsLine, IsWritable};
 ghost use Rattle.massif_file.specs.StandsFor.{StandsFor};
 
 use crate::{PageOptions, cell, put_page};
-use hp_num::Text;
+use hp_num::{NoMemory, Text};
 use massif_file::{Profile, ProfileFault, ProfileReader};
 use std::alloc::Global;
 use std::process::Abort;
@@ -176,7 +176,10 @@ fn profile_of(alloc: Global, text: &[u8]) -> Result<Profile, ProfileFault>
     reader.finish()
 }
 
-fn options(alloc: Global) -> Result<PageOptions, Fail> {
+/// A graph of 8 columns and 4 rows.
+fn options(alloc: Global) -> Result<PageOptions, NoMemory>
+    ensures { IfOk result (λ options. options.x ≡ 8) }
+{
     Ok(PageOptions {
         threshold: 100,
         x: 8,
