@@ -79,7 +79,7 @@ impl LineTaker for RawReader {
 }
 
 impl LineReport for RawReader {
-    fn finish(&self, alloc: Global) -> Result<Vec<u8>, LineRefusal<CommandFault>> {
+    fn finish(&mut self, alloc: Global) -> Result<Vec<u8>, LineRefusal<CommandFault>> {
         Ok(Vec::new(alloc))
     }
 }

@@ -76,7 +76,7 @@ impl<W: TraceWriter> LineTaker for TraceReader<W> {
 }
 
 impl<W: TraceWriter> LineReport for TraceReader<W> {
-    fn finish(&self, alloc: Global) -> Result<Vec<u8>, LineRefusal<CommandFault>> {
+    fn finish(&mut self, alloc: Global) -> Result<Vec<u8>, LineRefusal<CommandFault>> {
         let mut output = Vec::new(alloc);
         self.writer
             .put(&self.trace.tables, &self.trace.peaks, &mut output)?;
