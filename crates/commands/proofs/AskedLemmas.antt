@@ -158,10 +158,12 @@ unknown_asks_nothing (command ∷ words) is =
     let print : Bool = bytes_eq command (codes "print") in
     let flame : Bool = bytes_eq command (codes "flame") in
     let interpret : Bool = bytes_eq command (codes "interpret") in
+    let page : Bool = bytes_eq command (codes "ms_print") in
     let gen : Bool = bytes_eq command (codes "gen") in
-    let first = or_parts help (summary || (print || (flame || (interpret || gen)))) is in
-    let second = or_parts summary (print || (flame || (interpret || gen))) first.1 in
-    let third = or_parts print (flame || (interpret || gen)) second.1 in
-    let fourth = or_parts flame (interpret || gen) third.1 in
-    let fifth = or_parts interpret gen fourth.1 in
-    rw (first.0, second.0, third.0, fourth.0, fifth.0, fifth.1) refl
+    let first = or_parts help (summary || (print || (flame || (interpret || (page || gen))))) is in
+    let second = or_parts summary (print || (flame || (interpret || (page || gen)))) first.1 in
+    let third = or_parts print (flame || (interpret || (page || gen))) second.1 in
+    let fourth = or_parts flame (interpret || (page || gen)) third.1 in
+    let fifth = or_parts interpret (page || gen) fourth.1 in
+    let sixth = or_parts page gen fifth.1 in
+    rw (first.0, second.0, third.0, fourth.0, fifth.0, sixth.0, sixth.1) refl

@@ -2,8 +2,9 @@
 use Rattle.std.proofs.Common.{ℕ, List, Option, Some, None, true, refl}
 use Rattle.command_frame.specs.Silent.{IsSilent}
 use Rattle.trace_gen.specs.Sizes.{Sizes}
-use Rattle.commands.specs.Asked.{Flame, Gen, Help, Print, Summary}
+use Rattle.commands.specs.Asked.{Flame, Gen, Help, Page, Print, Summary}
 use Rattle.commands.specs.FlameWords.{FlameAsked}
+use Rattle.commands.specs.PageWords.{PageAsked}
 use Rattle.commands.specs.PrintReport.{report_written}
 use Rattle.commands.specs.PrintWords.{PrintAsked}
 use Rattle.commands.specs.Silent.{IsSilentFor}
@@ -28,3 +29,6 @@ flame_is_silent flame = (λ earlier line. refl, λ lines. tt)
 
 pub generated_summary_is_silent : (sizes : Sizes) → IsSilentFor (Some (Gen (record { sizes = sizes; run = true })))
 generated_summary_is_silent sizes = tt
+
+pub page_is_silent : (page : PageAsked) → IsSilentFor (Some (Page page))
+page_is_silent page = (λ earlier line. refl, λ lines. tt)

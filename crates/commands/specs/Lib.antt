@@ -21,3 +21,5 @@ pub mod Requests
 pub mod Answer
 pub mod Run
 pub mod Silent
+pub mod PageWords
+pub mod PageReport

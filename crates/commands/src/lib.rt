@@ -10,6 +10,8 @@ mod gen_summary;
 mod interpret_command;
 mod interpret_reader;
 mod number_words;
+mod page_command;
+mod page_reader;
 mod print_command;
 mod print_words;
 mod read_trace;

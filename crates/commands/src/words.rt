@@ -6,6 +6,7 @@ ghost use Rattle.commands.specs.Requests.{asked_of};
 use crate::flame_command::FlameRequest;
 use crate::gen_command::GenRequest;
 use crate::interpret_command::InterpretRequest;
+use crate::page_command::PageRequest;
 use crate::print_command::PrintRequest;
 use crate::summary_command::SummaryRequest;
 use command_words::WordsFault;
@@ -24,6 +25,8 @@ pub enum Request<'a> {
     Flame(FlameRequest<'a>),
     /// The interpretation of a raw trace.
     Interpret(InterpretRequest<'a>),
+    /// The page of a Massif file.
+    Page(PageRequest<'a>),
     /// A generated trace, or its summary.
     Gen(GenRequest),
 }
@@ -57,6 +60,10 @@ pub fn read_words<'a>(alloc: Global, words: &'a [String]) -> Result<Request<'a>,
     if command.as_str() == "interpret" {
         let request = InterpretRequest::read(alloc, words)?;
         return Ok(Request::Interpret(request));
+    }
+    if command.as_str() == "ms_print" {
+        let request = PageRequest::read(alloc, words)?;
+        return Ok(Request::Page(request));
     }
     if command.as_str() == "gen" {
         let request = GenRequest::read(alloc, words)?;

@@ -76,7 +76,7 @@ fn figures_of_traces(rt: HostRuntime) -> Result<(), Fail> {
 
 const WORDS: &str = "$ --help
 usage: heapsuite COMMAND [OPTION]... [FILE]
-commands: summary print flame interpret gen
+commands: summary print flame interpret ms_print gen
 [0]
 $ summary -- t
 events: 4
