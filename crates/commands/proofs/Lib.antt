@@ -3,3 +3,4 @@ pub mod BatchLemmas
 pub mod AskedLemmas
 pub mod SilentLemmas
 pub mod GenLemmas
+pub mod WordLemmas

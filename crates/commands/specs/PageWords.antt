@@ -1,5 +1,5 @@
 -- The words of `ms_print`.
-use Rattle.std.specs.Prelude.{ℕ, List, [], ◌∷◌, codes, Option, Some, None}
+use Rattle.std.specs.Prelude.{ℕ, List, [], ◌∷◌, codes, true, nat_eq, if◌then◌else◌, Option, Some, None}
 use Rattle.std.specs.List.{join_by}
 use Rattle.std.specs.Option.{option_and_then, option_map}
 use Rattle.command_words.specs.TableApp.{Table}
@@ -41,6 +41,10 @@ abbrev pub page_asked : List (List ℕ) → Option PageAsked
 page_asked words =
     option_and_then (λ rows. page_of words (only_file_in rows) (threshold_or (value_in rows (codes "threshold"))) (columns_or (value_in rows (codes "x"))) (rows_or (value_in rows (codes "y"))))
     (words_taken page_table words)
+
+-- a blank stands before each word but the first
+abbrev pub before_word : ℕ → List ℕ
+before_word place = if nat_eq place 0 then [] else codes " "
 
 -- the words as the page shows them
 unfoldable pub shown_words : List (List ℕ) → List ℕ

@@ -12,6 +12,7 @@ mod interpret_reader;
 mod number_words;
 mod page_command;
 mod page_reader;
+mod page_size;
 mod print_command;
 mod print_words;
 mod read_trace;

@@ -9,16 +9,16 @@ ghost use Rattle.command_frame.specs.Run.{RanTo};
 ghost use Rattle.command_frame.specs.Texts.{texts_of};
 ghost use Rattle.command_words.specs.WordsTaken.{only_file_in, rows_in, value_in};
 ghost use Rattle.commands.specs.PageReport.{page_plan};
-ghost use Rattle.commands.specs.PageWords.{columns_or, page_asked, page_of, rows_or, shown_words, threshold_or};
+ghost use Rattle.commands.specs.PageWords.{columns_or, page_asked, page_of, rows_or, threshold_or};
 
 use crate::number_words::number_or;
 use crate::page_reader::PageReader;
+use crate::page_size::PageSize;
 use command_frame::{Desk, Halt, run_lines};
 use command_words::{TakenWords, WordTable, WordsFault, take_words};
-use hp_num::{NoMemory, Text, parse_percent, put_bytes};
+use hp_num::parse_percent;
 use hp_outside::{Sink, Store};
 use massif_file::ProfileReader;
-use ms_print::PageOptions;
 use std::alloc::Global;
 
 /// The option that says which share is shown by itself.
@@ -26,6 +26,7 @@ const THRESHOLD: &str = "threshold";
 
 /// The options that say how large the graph is.
 const COLUMNS: &str = "x";
+
 const ROWS: &str = "y";
 
 /// The share where none is given, in hundredths of a percent.
@@ -37,19 +38,6 @@ const WORDS: WordTable<'static> = WordTable {
     flags: &[],
     files: true,
 };
-
-/// How a page is made. The ranges of its numbers are facts of the type.
-#[derive(Clone, Copy, Debug)]
-pub struct PageSize {
-    pub threshold: u64,
-    pub x: u32,
-    pub y: u32,
-    pub ghost threshold_in_range: { threshold ≤ 10000 },
-    pub ghost least_x: { 4 ≤ x },
-    pub ghost most_x: { x ≤ 1000 },
-    pub ghost least_y: { 4 ≤ y },
-    pub ghost most_y: { y ≤ 1000 },
-}
 
 /// What `ms_print` is to do.
 #[derive(Clone, Copy, Debug)]
@@ -95,18 +83,11 @@ impl<'a> PageRequest<'a> {
         ensures sound_writes { IfErr result (λ halt. status_code halt.status ≢ 4 → O.faults out.new ≡ O.faults out.old) }
         ensures sound { OnOk result (O.faults out.new ≡ O.faults out.old) }
     {
-        let words = match shown_words(desk.alloc, self.words) {
-            Ok(words) => words,
-            Err(NoMemory) => return Err(Halt::no_memory()),
+        let mut taker = PageReader {
+            size: self.size,
+            words: self.words,
+            reader: ProfileReader::new(desk.alloc),
         };
-        let options = PageOptions {
-            threshold: self.size.threshold,
-            x: self.size.x,
-            y: self.size.y,
-            words,
-        };
-        let reader = ProfileReader::new(desk.alloc);
-        let mut taker = PageReader { options, reader };
         run_lines(desk, self.file, &mut taker, store, out)
     }
 }
@@ -138,19 +119,4 @@ fn threshold_or(value: Option<&str>) -> Option<u64>
         Some(text) => parse_percent(text.as_bytes()),
         None => Some(ONE_PERCENT),
     }
-}
-
-/// The words with a blank between each two.
-#[tactic(auto, unfolding(crate::specs::PageWords::shown_words))]
-fn shown_words(alloc: Global, words: &[String]) -> Result<Text, NoMemory>
-    ensures { IfOk result (λ text. text ≡ shown_words (map string_bytes words.now)) }
-{
-    let mut text = Vec::new(alloc);
-    'each_word: for place in 0..words.len() {
-        if place > 0 {
-            put_bytes(&mut text, b" ")?;
-        }
-        put_bytes(&mut text, words[place].as_str().as_bytes())?;
-    }
-    Ok(Text::from(text))
 }
