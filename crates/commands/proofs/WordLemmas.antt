@@ -28,7 +28,7 @@ blank-is (w ∷ words) zero within = refl
 blank-is (w ∷ words) (suc place) within = sym (ap (λ (b : Bool). cond b [] (codes " ")) (eqb-suc-zero place))
 
 -- one word more
-pub joined-next : (words : List (List ℕ)) (place : ℕ) (word old new : List ℕ) → place < length words → get_or words place [] ≡ word → old ≡ join_by (λ w. w) (codes " ") (take place words) → new ≡ old ++ (before_word place ++ word)
+pub joined-next : (words : List (List ℕ)) (place : ℕ) (word old new : List ℕ) → place < length words → get_or words place word ≡ word → old ≡ join_by (λ w. w) (codes " ") (take place words) → new ≡ old ++ (before_word place ++ word)
     → new ≡ join_by (λ w. w) (codes " ") (take (place + 1) words)
 joined-next words place word old new within is old_is new_is =
     new_is
@@ -36,4 +36,4 @@ joined-next words place word old new within is old_is new_is =
     ∙ ap (λ (blank : List ℕ). joined (take place words) ++ (blank ++ word)) (sym (blank-is words place within))
     ∙ sym (join-push (take place words) word)
     ∙ ap (λ (last : List ℕ). joined (take place words ++ last ∷ [])) (sym is)
-    ∙ ap joined (sym (take_more words place [] within))
+    ∙ ap joined (sym (take_more words place word within))
