@@ -6,3 +6,4 @@ pub mod GenLemmas
 pub mod KeepLemmas
 pub mod ViewLemmas
 pub mod LifeLemmas
+pub mod WordLemmas

@@ -28,3 +28,5 @@ pub mod ViewReport
 pub mod DhatWords
 pub mod DhatReport
 pub mod ReadLives
+pub mod PageWords
+pub mod PageReport

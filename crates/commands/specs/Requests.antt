@@ -1,11 +1,12 @@
 -- A request of the code as what was asked.
+use Rattle.std.specs.Prelude.{map, string_bytes}
 use Rattle.std.specs.Option.{option_copied, option_map}
 use Rattle.trace_gen.specs.Sizes.{sizes_of}
 use Rattle.commands.specs.declared.dhat_view_command.DhatViewRequest.{DhatViewRequest}
 use Rattle.commands.specs.declared.print_command.PrintRequest.{PrintRequest}
 use Rattle.commands.specs.declared.words.Request.{Request}
 use Rattle.commands.specs.declared.words.Request.TheVariants as request
-use Rattle.commands.specs.Asked.{Asked, Dhat, DhatView, Flame, Gen, Help, Interpret, Print, Summary}
+use Rattle.commands.specs.Asked.{Asked, Dhat, DhatView, Flame, Gen, Help, Interpret, Page, Print, Summary}
 use Rattle.commands.specs.PrintWords.{PrintAsked}
 use Rattle.commands.specs.ViewWords.{ViewAsked}
 
@@ -23,6 +24,7 @@ asked_of (request.Summary summary) = Summary summary.trace.now
 asked_of (request.Print print) = Print (print_asked_by print)
 asked_of (request.Flame flame) = Flame (record { trace = flame.trace.now; cost = flame.cost })
 asked_of (request.Interpret interpret) = Interpret (record { symbols = option_copied interpret.symbols; trace = interpret.trace.now })
-asked_of (request.Gen gen) = Gen (record { sizes = sizes_of gen.options; run = gen.run })
+asked_of (request.Page page) = Page (record { file = page.file.now; threshold = page.size.threshold; x = page.size.x; y = page.size.y; words = map string_bytes page.words.now })
 asked_of (request.Dhat dhat) = Dhat dhat.trace.now
+asked_of (request.Gen gen) = Gen (record { sizes = sizes_of gen.options; run = gen.run })
 asked_of (request.DhatView view) = DhatView (view_asked_by view)

@@ -74,8 +74,9 @@ fn run_request<S: Store, O: Sink>(
         Request::Print(request) => request.run(desk, store, out),
         Request::Flame(request) => request.run(desk, store, out),
         Request::Interpret(request) => request.run(desk, store, out),
-        Request::Gen(request) => request.run(desk, out),
+        Request::Page(request) => request.run(desk, store, out),
         Request::Dhat(request) => request.run(desk, store, out),
+        Request::Gen(request) => request.run(desk, out),
         Request::DhatView(request) => request.run(desk, store),
     }
 }

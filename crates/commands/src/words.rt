@@ -8,6 +8,7 @@ use crate::dhat_view_command::DhatViewRequest;
 use crate::flame_command::FlameRequest;
 use crate::gen_command::GenRequest;
 use crate::interpret_command::InterpretRequest;
+use crate::page_command::PageRequest;
 use crate::print_command::PrintRequest;
 use crate::summary_command::SummaryRequest;
 use command_words::WordsFault;
@@ -26,10 +27,12 @@ pub enum Request<'a> {
     Flame(FlameRequest<'a>),
     /// The interpretation of a raw trace.
     Interpret(InterpretRequest<'a>),
-    /// A generated trace, or its summary.
-    Gen(GenRequest),
+    /// The page of a Massif file.
+    Page(PageRequest<'a>),
     /// The DHAT profile of a trace.
     Dhat(DhatRequest<'a>),
+    /// A generated trace, or its summary.
+    Gen(GenRequest),
     /// The view of a DHAT profile.
     DhatView(DhatViewRequest<'a>),
 }
@@ -64,13 +67,17 @@ pub fn read_words<'a>(alloc: Global, words: &'a [String]) -> Result<Request<'a>,
         let request = InterpretRequest::read(alloc, words)?;
         return Ok(Request::Interpret(request));
     }
-    if command.as_str() == "gen" {
-        let request = GenRequest::read(alloc, words)?;
-        return Ok(Request::Gen(request));
+    if command.as_str() == "ms_print" {
+        let request = PageRequest::read(alloc, words)?;
+        return Ok(Request::Page(request));
     }
     if command.as_str() == "dhat" {
         let request = DhatRequest::read(alloc, words)?;
         return Ok(Request::Dhat(request));
+    }
+    if command.as_str() == "gen" {
+        let request = GenRequest::read(alloc, words)?;
+        return Ok(Request::Gen(request));
     }
     if command.as_str() == "dhat_view" {
         let request = DhatViewRequest::read(alloc, words)?;

@@ -1,4 +1,5 @@
 pub mod Complete
+pub mod Lent
 pub mod LineLemmas
 pub mod NoTruncation
 pub mod Profiles

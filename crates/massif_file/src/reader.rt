@@ -1,6 +1,6 @@
 //! The reader of a Massif file: it is given the lines one by one, and answers the profile at their end.
 //! Where the lines come from, and how they are numbered in messages, is the caller's business.
-ghost use Rattle.std.specs.Prelude.{◌≡◌, ◌≢◌, ℕ, ◌+◌, List, [], ◌∷◌, ◌++◌, length, Err, Ok, None, All, IfOk, IfErr, OnOk};
+ghost use Rattle.std.specs.Prelude.{◌≡◌, ◌≢◌, ℕ, ◌+◌, List, [], ◌∷◌, ◌++◌, length, Err, Ok, None, All, IfOk, IfErr, IsOkAnd, OnOk};
 ghost use Rattle.massif_file.specs.declared.fault.ProfileFault.{ProfileFault};
 ghost use Rattle.massif_file.specs.declared.profile.Profile.{Profile};
 ghost use Rattle.massif_file.specs.IsProfile.{is_profile};
@@ -68,6 +68,32 @@ impl ProfileReader {
             profile_fault (lines ++ line.now ∷ later) (length lines + 1) fault)) }
     {
         self.reading.line(line)
+    }
+
+    /// The profile of the lines so far, which is lent, or `Truncated` where they can't end here. After a fault of `line` it
+    /// is that fault. It takes no memory.
+    pub fn profile(&self) -> Result<&Profile, ProfileFault>
+        ensures exact { IfOk result (λ profile. end_of self.now ≡ Ok profile.now) }
+        ensures refused { IfErr result (λ fault. end_of self.now ≡ Err fault) }
+
+        // All lines.
+        ensures read { (lines : List (List ℕ)) → StandsFor self.now lines → IfOk result (λ profile. is_profile lines profile.now) }
+        ensures only { (lines : List (List ℕ)) (profile : Profile) →
+            StandsFor self.now lines → is_profile lines profile → IsOkAnd result (λ lent. lent.now ≡ profile) }
+        ensures writable { (lines : List (List ℕ)) →
+            StandsFor self.now lines → All IsLine lines → IfOk result (λ profile. IsWritable profile.now) }
+        ensures truncated { (lines : List (List ℕ)) → StandsFor self.now lines →
+            IfErr result (λ fault. fault ≡ ProfileFault.Truncated) }
+        ensures first_fault { (lines : List (List ℕ)) → StandsFor self.now lines →
+            IfErr result (λ fault. profile_fault lines (length lines + 1) fault) }
+
+        // The same by the function.
+        ensures profile { (lines : List (List ℕ)) → StandsFor self.now lines →
+            IfOk result (λ profile. profile_of lines ≡ Ok profile.now) }
+        ensures fault { (lines : List (List ℕ)) → StandsFor self.now lines →
+            IfErr result (λ fault. profile_of lines ≡ Err (length lines + 1, fault)) }
+    {
+        self.reading.whole()
     }
 
     /// The profile of the lines, or `Truncated` where they end too early. After a fault of `line` it is that fault.

@@ -1,12 +1,12 @@
 //! Reading a Massif file line by line: one short step for each line that may come next.
 //! The lines' own forms are read elsewhere; skipped lines and repeated faults are the reader's part.
-ghost use Rattle.std.specs.Prelude.{◌≡◌, [], Err, None, OnOk, IfErr};
+ghost use Rattle.std.specs.Prelude.{◌≡◌, [], Err, Ok, None, OnOk, IfErr, IfOk};
 ghost use Rattle.massif_file.specs.declared.fault.ProfileFault.{ProfileFault};
 ghost use Rattle.massif_file.specs.declared.fault.ProfileFault.TheVariants as faults;
-ghost use Rattle.massif_file.specs.Progress.{at_extra, at_heap, at_mark, at_snapshot, at_stacks, at_time, at_unit, in_descriptions, in_tree, refused_for, after, end_of, fault_in, taken, whole, with_snap};
+ghost use Rattle.massif_file.specs.Progress.{at_extra, at_heap, at_mark, at_snapshot, at_stacks, at_time, at_unit, in_descriptions, in_tree, refused_for, after, end_of, fault_in, taken, with_snap};
 ghost use Rattle.massif_file.specs.Descriptions.{joined};
 ghost use Rattle.massif_file.specs.LastTime.{last_time};
-ghost use Rattle.massif_file.specs.Reading.{Goes, profile_in, shown};
+ghost use Rattle.massif_file.specs.Reading.{Goes, shown};
 ghost use Rattle.massif_file.specs.UnlessNoMemory.{UnlessNoMemory};
 
 use crate::fault::ProfileFault;
@@ -41,10 +41,10 @@ pub enum Stage {
 pub struct Reading {
     alloc: Global,
     pub stage: Stage,
+    // The description, as long as lines of it may come. Then it is the profile's.
     desc: Vec<u8>,
-    cmd: Text,
-    unit: TimeUnit,
-    snaps: Snaps,
+    // The header and the whole snapshots.
+    profile: Profile,
     // The snapshot that is being read.
     snap: Snap,
     levels: Levels,
@@ -58,9 +58,12 @@ impl Reading {
             alloc,
             stage: Stage::Descriptions,
             desc: Vec::new(alloc),
-            cmd: Text::from(Vec::new(alloc)),
-            unit: TimeUnit::Bytes,
-            snaps: Snaps::new(alloc),
+            profile: Profile {
+                desc: Text::from(Vec::new(alloc)),
+                cmd: Text::from(Vec::new(alloc)),
+                unit: TimeUnit::Bytes,
+                snaps: Snaps::new(alloc),
+            },
             snap: empty_snap(alloc),
             levels: Levels::new(alloc),
         }
@@ -109,9 +112,19 @@ impl Reading {
     pub fn end(self) -> Result<Profile, ProfileFault>
         ensures { result ≡ end_of (shown self) }
     {
+        self.whole()?;
+        Ok(self.profile)
+    }
+
+    /// The profile, lent, where the lines may end here.
+    pub fn whole(&self) -> Result<&Profile, ProfileFault>
+        ensures profile { IfOk result (λ profile. end_of (shown self.now) ≡ Ok profile.now) }
+        ensures same { IfOk result (λ profile. profile.now ≡ self.now.profile) }
+        ensures fault { IfErr result (λ fault. end_of (shown self.now) ≡ Err fault) }
+    {
         match self.stage {
             Stage::Refused(fault) => Err(fault),
-            Stage::Snapshot => self.whole(),
+            Stage::Snapshot if self.profile.snaps.len() > 0 => Ok(&self.profile),
             _ => Err(ProfileFault::Truncated),
         }
     }
@@ -128,30 +141,32 @@ impl Reading {
         let Some(cmd) = header_value(b"cmd:", line) else {
             return Err(ProfileFault::BadHeader);
         };
-        self.cmd = Text::new(self.alloc, cmd)?;
+        self.profile.cmd = Text::new(self.alloc, cmd)?;
+        let desc = mem::replace(&mut self.desc, Vec::new(self.alloc));
+        self.profile.desc = Text::from(desc);
         self.stage = Stage::Unit;
         Ok(())
     }
 
     #[tactic(auto, unfolding(crate::specs::Progress::taken))]
     fn unit(&mut self, line: &[u8]) -> Result<(), ProfileFault>
-        ensures { Goes result (taken (at_unit self.old.desc.items self.old.cmd) line.now) (shown self.new) }
+        ensures { Goes result (taken (at_unit self.old.profile.desc self.old.profile.cmd) line.now) (shown self.new) }
     {
         let Some(unit) = unit_after(line) else {
             return Err(ProfileFault::BadHeader);
         };
-        self.unit = unit;
-        self.snaps = Snaps::new(self.alloc);
+        self.profile.unit = unit;
+        self.profile.snaps = Snaps::new(self.alloc);
         self.stage = Stage::Snapshot;
         Ok(())
     }
 
     #[tactic(auto, unfolding(crate::specs::Progress::taken))]
     fn number(&mut self, line: &[u8]) -> Result<(), ProfileFault>
-        ensures { Goes result (taken (at_snapshot (profile_in self.old)) line.now) (shown self.new) }
+        ensures { Goes result (taken (at_snapshot self.old.profile) line.now) (shown self.new) }
     {
         let number = key_number(b"snapshot=", line)?;
-        if number != self.snaps.len() as u64 {
+        if number != self.profile.snaps.len() as u64 {
             return Err(ProfileFault::WrongOrder);
         }
         self.stage = Stage::Time;
@@ -160,10 +175,10 @@ impl Reading {
 
     #[tactic(auto, unfolding(crate::specs::Progress::taken))]
     fn time(&mut self, line: &[u8]) -> Result<(), ProfileFault>
-        ensures { Goes result (taken (at_time (profile_in self.old)) line.now) (shown self.new) }
+        ensures { Goes result (taken (at_time self.old.profile) line.now) (shown self.new) }
     {
         let time = key_number(b"time=", line)?;
-        if time < last_time(&self.snaps) {
+        if time < last_time(&self.profile.snaps) {
             return Err(ProfileFault::WrongOrder);
         }
         self.snap.time = time;
@@ -173,7 +188,7 @@ impl Reading {
 
     #[tactic(auto, unfolding(crate::specs::Progress::taken))]
     fn heap(&mut self, line: &[u8]) -> Result<(), ProfileFault>
-        ensures { Goes result (taken (at_heap (profile_in self.old) self.old.snap.time) line.now) (shown self.new) }
+        ensures { Goes result (taken (at_heap self.old.profile self.old.snap.time) line.now) (shown self.new) }
     {
         self.snap.heap = key_number(b"mem_heap_B=", line)?;
         self.stage = Stage::Extra;
@@ -182,7 +197,7 @@ impl Reading {
 
     #[tactic(auto, unfolding(crate::specs::Progress::taken))]
     fn extra(&mut self, line: &[u8]) -> Result<(), ProfileFault>
-        ensures { Goes result (taken (at_extra (profile_in self.old) self.old.snap.time self.old.snap.heap) line.now) (shown self.new) }
+        ensures { Goes result (taken (at_extra self.old.profile self.old.snap.time self.old.snap.heap) line.now) (shown self.new) }
     {
         self.snap.extra = key_number(b"mem_heap_extra_B=", line)?;
         self.stage = Stage::Stacks;
@@ -191,7 +206,7 @@ impl Reading {
 
     #[tactic(auto, unfolding(crate::specs::Progress::taken))]
     fn stacks(&mut self, line: &[u8]) -> Result<(), ProfileFault>
-        ensures { Goes result (taken (at_stacks (profile_in self.old) self.old.snap.time self.old.snap.heap self.old.snap.extra) line.now) (shown self.new) }
+        ensures { Goes result (taken (at_stacks self.old.profile self.old.snap.time self.old.snap.heap self.old.snap.extra) line.now) (shown self.new) }
     {
         self.snap.stacks = key_number(b"mem_stacks_B=", line)?;
         self.stage = Stage::Mark;
@@ -201,7 +216,7 @@ impl Reading {
     #[tactic(auto, unfolding(crate::specs::Progress::taken))]
     fn mark(&mut self, line: &[u8]) -> Result<(), ProfileFault>
         ensures { Goes result
-            (taken (at_mark (profile_in self.old) self.old.snap.time self.old.snap.heap self.old.snap.extra self.old.snap.stacks) line.now)
+            (taken (at_mark self.old.profile self.old.snap.time self.old.snap.heap self.old.snap.extra self.old.snap.stacks) line.now)
             (shown self.new) }
     {
         let Some(mark) = mark_after(line) else {
@@ -220,7 +235,7 @@ impl Reading {
     #[tactic(auto, unfolding(crate::specs::Progress::taken))]
     fn tree_line(&mut self, line: &[u8]) -> Result<(), ProfileFault>
         requires { self.old.stage ≡ Stage.Tree }
-        ensures { Goes result (taken (in_tree (profile_in self.old) self.old.snap self.old.levels) line.now) (shown self.new) }
+        ensures { Goes result (taken (in_tree self.old.profile self.old.snap self.old.levels) line.now) (shown self.new) }
     {
         if self.levels.len() > MAX_LEVELS {
             return Err(ProfileFault::BadTree);
@@ -243,27 +258,13 @@ impl Reading {
 
     /// The snapshot that is being read is whole.
     fn end_snap(&mut self) -> Result<(), ProfileFault>
-        ensures ok { OnOk result (shown self.new ≡ at_snapshot (with_snap (profile_in self.old) self.old.snap)) }
+        ensures ok { OnOk result (shown self.new ≡ at_snapshot (with_snap self.old.profile self.old.snap)) }
         ensures err { IfErr result (λ fault. fault ≡ faults.NoMemory) }
     {
         let snap = mem::replace(&mut self.snap, empty_snap(self.alloc));
-        self.snaps.push(snap)?;
+        self.profile.snaps.push(snap)?;
         self.stage = Stage::Snapshot;
         Ok(())
-    }
-
-    fn whole(self) -> Result<Profile, ProfileFault>
-        ensures { result ≡ whole (profile_in self) }
-    {
-        if self.snaps.len() == 0 {
-            return Err(ProfileFault::Truncated);
-        }
-        Ok(Profile {
-            desc: Text::from(self.desc),
-            cmd: self.cmd,
-            unit: self.unit,
-            snaps: self.snaps,
-        })
     }
 }
 

@@ -313,6 +313,7 @@ fn at_level(alloc: Global, level: usize) -> Result<ProfileReader, ProfileFault> 
 fn refuses_a_level_above_256(rt: HostRuntime) -> Result<(), Fail> {
     let mut reader = at_level(rt.alloc(), 256)?;
     reader.line(b"n0: 1 level 256")?;
+    assert_eq!(rt; reader.profile()?.snaps.len(), 1);
     let profile = reader.finish()?;
     assert_eq!(rt; profile.snaps.len(), 1);
     assert_eq!(rt; profile.snaps.at(0).tree.len(), 257);

@@ -1,0 +1,11 @@
+pub mod Lists
+pub mod Appends
+pub mod PlacesText
+pub mod LabelLemmas
+pub mod NumberLemmas
+pub mod SumLemmas
+pub mod BarLemmas
+pub mod RowLemmas
+pub mod TreesOfLemmas
+pub mod LeftLemmas
+pub mod SplitLemmas

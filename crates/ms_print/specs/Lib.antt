@@ -1,0 +1,17 @@
+pub mod Sums
+pub mod Plots
+pub mod Bars
+pub mod BarSteps
+pub mod Cells
+pub mod Labels
+pub mod GraphText
+pub mod SnapshotsText
+pub mod TreesOf
+pub mod Entries
+pub mod Shown
+pub mod TreeText
+pub mod TableText
+pub mod Rows
+pub mod PageText
+pub mod Ends
+pub mod Pendings

@@ -1,0 +1,142 @@
+//! The entries that stand below an entry: its children with many bytes, and the others gathered.
+ghost use Rattle.std.specs.Prelude.{◌≡◌, ◌+◌, ◌-◌, ◌<◌, ◌^◌, ◌++◌, List, [], length, IfOk, OnOk, min};
+ghost use Rattle.massif_file.specs.Trees.{Trees};
+ghost use Rattle.ms_print.specs.Ends.{AreEnds, AreWhole, children_at};
+ghost use Rattle.ms_print.specs.Pendings.{AreRoots, AreSmall, IsHeld, entry_children, pending_gathered};
+ghost use Rattle.ms_print.specs.Shown.{beside, kept, shown};
+
+use crate::entry::Scale;
+use hp_num::NoMemory;
+use massif_file::Tree;
+
+/// Places that are too small to be shown by themselves.
+#[derive(Clone, Copy, Debug, PartialEq, Eq)]
+pub(crate) struct Gathered {
+    /// How many there are.
+    pub(crate) places: u64,
+    /// What they have together, or 2^64 - 1 where that is more.
+    pub(crate) bytes: u64,
+}
+
+/// An entry of a tree.
+#[derive(Clone, Copy, Debug)]
+pub(crate) enum Entry {
+    /// The line at this place of the tree.
+    Line(usize),
+    /// The places that are gathered.
+    Gathered(Gathered),
+}
+
+/// An entry that is still to be written.
+#[derive(Clone, Copy, Debug)]
+pub(crate) struct Pending {
+    /// How many bytes stand before it on its line.
+    pub(crate) indent: usize,
+    pub(crate) entry: Entry,
+}
+
+/// Puts the entries below an entry into `children`, in their order.
+pub(crate) fn children_into(
+    tree: &Tree,
+    ends: &[usize],
+    scale: Scale,
+    entry: Entry,
+    indent: usize,
+    children: &mut Vec<Pending>,
+) -> Result<(), NoMemory>
+    requires whole { AreWhole tree.now }
+    requires ends { AreEnds tree.now 0 ends.now }
+    requires held { IsHeld tree.now entry }
+    ensures roots { OnOk result (AreRoots scale tree.now indent children.new.items (entry_children scale tree.now entry)) }
+{
+    children.clear();
+    match entry {
+        Entry::Line(place) => push_children(tree, ends, scale, place, indent, children),
+        Entry::Gathered(_) => Ok(()),
+    }
+}
+
+/// Appends the entries below the line at this place to none.
+#[tactic(auto, unfolding(crate::specs::Shown::shown))]
+fn push_children(
+    tree: &Tree,
+    ends: &[usize],
+    scale: Scale,
+    place: usize,
+    indent: usize,
+    children: &mut Vec<Pending>,
+) -> Result<(), NoMemory>
+    requires whole { AreWhole tree.now }
+    requires ends { AreEnds tree.now 0 ends.now }
+    requires held { place < length tree.now }
+    requires empty { children.old.items ≡ [] }
+    ensures roots { OnOk result (AreRoots scale tree.now indent children.new.items (shown scale (children_at tree.now place))) }
+{
+    let gathered = split_children(tree, ends, scale, place, indent, children)?;
+    push_gathered(indent, gathered, children)
+}
+
+/// Appends the children that are shown by themselves to none, and gathers the others.
+fn split_children(
+    tree: &Tree,
+    ends: &[usize],
+    scale: Scale,
+    place: usize,
+    indent: usize,
+    children: &mut Vec<Pending>,
+) -> Result<Gathered, NoMemory>
+    requires whole { AreWhole tree.now }
+    requires ends { AreEnds tree.now 0 ends.now }
+    requires held { place < length tree.now }
+    requires empty { children.old.items ≡ [] }
+    ensures kept { OnOk result ((more : List Pending) (trees : Trees) → AreRoots scale tree.now indent more trees →
+        AreRoots scale tree.now indent (children.new.items ++ more) (beside (kept scale (children_at tree.now place)) trees)) }
+    ensures gathered { IfOk result (λ gathered. AreSmall scale (children_at tree.now place) gathered) }
+{
+    let mut gathered = Gathered {
+        places: 0,
+        bytes: 0,
+    };
+    let mut child = place + 1;
+    'each_child: for _ in 0..tree.at(place).children {
+        let bytes = tree.at(child).bytes;
+        if scale.is_small(bytes) {
+            gathered = gathered.with(bytes);
+        } else {
+            let entry = Entry::Line(child);
+            children.push(Pending { indent, entry })?;
+        }
+        child = ends[child];
+    }
+    Ok(gathered)
+}
+
+impl Gathered {
+    /// These and one place more.
+    fn with(self, bytes: u64) -> Gathered
+        requires few { self.places < 2 ^ 32 }
+        ensures places { result.places ≡ self.places + 1 }
+        ensures bytes { result.bytes ≡ min (self.bytes + bytes) (2 ^ 64 - 1) }
+    {
+        Gathered {
+            places: self.places + 1,
+            bytes: self.bytes.saturating_add(bytes),
+        }
+    }
+}
+
+/// Appends the entry of places that are gathered, where there are some.
+fn push_gathered(
+    indent: usize,
+    gathered: Gathered,
+    children: &mut Vec<Pending>,
+) -> Result<(), NoMemory>
+    ensures appended { OnOk result (children.new.items ≡ children.old.items ++ pending_gathered indent gathered) }
+{
+    if gathered.places == 0 {
+        return Ok(());
+    }
+    let entry = Entry::Gathered(gathered);
+    children.push(Pending { indent, entry })?;
+    Ok(())
+}

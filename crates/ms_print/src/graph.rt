@@ -1,0 +1,138 @@
+//! The graph of a page: its rows from the top, and the line below them.
+#![tactic(auto, using(ht_lines::proofs::ExtendLemmas::extends_same, ht_lines::proofs::ExtendLemmas::extends_more, ht_lines::proofs::ExtendLemmas::extends_trans))]
+
+ghost use Rattle.std.specs.Prelude.{◌≡◌, ◌<◌, ◌++◌, All, OnOk, replicate};
+ghost use Rattle.ht_lines.specs.Extends.{Extends};
+ghost use Rattle.ms_print.specs.BarSteps.{AreBars, IsPlotted};
+ghost use Rattle.ms_print.specs.GraphText.{axis_text, edge_text, graph_text, row_cells, row_text, rows_text};
+ghost use Rattle.massif_file.specs.declared.profile.TimeUnit.TheVariants.{Bytes};
+ghost use Rattle.ms_print.specs.Labels.{label_text};
+
+use crate::bars::{Bar, bars_of};
+use crate::cells::cell_of;
+use crate::label::{label_of, unit_label};
+use crate::plot::Plot;
+use hp_num::{NoMemory, put_bytes, put_right};
+use massif_file::{Snaps, TimeUnit};
+use std::alloc::Global;
+
+/// The width of the column of labels.
+const LABEL_WIDTH: usize = 5;
+
+/// Appends the graph of snapshots, whose times have a unit. On `NoMemory`, some of it may stand at the end of `out`.
+#[tactic(auto, unfolding(crate::specs::GraphText::graph_text))]
+pub(crate) fn put_graph(
+    alloc: Global,
+    unit: TimeUnit,
+    plot: Plot,
+    snaps: &Snaps,
+    out: &mut Vec<u8>,
+) -> Result<(), NoMemory>
+    requires wide { 0 < plot.width }
+    requires plotted { All (IsPlotted plot) snaps.now }
+    ensures appended { OnOk result (out.new.items ≡ out.old.items ++ graph_text unit plot snaps.now) }
+    ensures kept { Extends out.old.items out.new.items }
+{
+    put_bytes(out, b"    ")?;
+    put_bytes(out, unit_label(TimeUnit::Bytes, plot.peak))?;
+    put_bytes(out, b"\n")?;
+    put_rows(alloc, plot, snaps, out)?;
+    put_axis(alloc, unit, plot, out)
+}
+
+/// Appends the rows, from the top.
+fn put_rows(alloc: Global, plot: Plot, snaps: &Snaps, out: &mut Vec<u8>) -> Result<(), NoMemory>
+    requires wide { 0 < plot.width }
+    requires plotted { All (IsPlotted plot) snaps.now }
+    ensures appended { OnOk result (out.new.items ≡ out.old.items ++ rows_text plot snaps.now plot.height) }
+    ensures kept { Extends out.old.items out.new.items }
+{
+    let bars = bars_of(alloc, plot, snaps)?;
+    let label = label_of(alloc, TimeUnit::Bytes, plot.peak)?;
+    'each_row: for below in (0..plot.height).rev() {
+        put_row(plot, snaps, &bars, &label, below + 1, out)?;
+    }
+    Ok(())
+}
+
+/// Appends row `y`. The bars are those of the snapshots.
+#[tactic(auto, unfolding(crate::specs::GraphText::row_text))]
+fn put_row(
+    plot: Plot,
+    snaps: &Snaps,
+    bars: &[Option<Bar>],
+    label: &[u8],
+    y: u32,
+    out: &mut Vec<u8>,
+) -> Result<(), NoMemory>
+    requires bars { AreBars plot snaps.now bars.now }
+    requires label { label.now ≡ label_text Bytes plot.peak }
+    ensures appended { OnOk result (out.new.items ≡ out.old.items ++ row_text plot snaps.now y) }
+    ensures kept { Extends out.old.items out.new.items }
+{
+    put_edge(plot, label, y, out)?;
+    put_cells(plot, snaps, bars, y, out)?;
+    put_bytes(out, b"\n")
+}
+
+/// Appends what stands before the cells of row `y`.
+#[tactic(auto, unfolding(crate::specs::GraphText::edge_text))]
+fn put_edge(plot: Plot, label: &[u8], y: u32, out: &mut Vec<u8>) -> Result<(), NoMemory>
+    requires label { label.now ≡ label_text Bytes plot.peak }
+    ensures appended { OnOk result (out.new.items ≡ out.old.items ++ edge_text plot y) }
+    ensures kept { Extends out.old.items out.new.items }
+{
+    if y != plot.height {
+        return put_bytes(out, b"     |");
+    }
+    put_right(out, label, LABEL_WIDTH)?;
+    put_bytes(out, b"^")
+}
+
+/// Appends the cells of row `y`.
+fn put_cells(
+    plot: Plot,
+    snaps: &Snaps,
+    bars: &[Option<Bar>],
+    y: u32,
+    out: &mut Vec<u8>,
+) -> Result<(), NoMemory>
+    requires bars { AreBars plot snaps.now bars.now }
+    ensures appended { OnOk result (out.new.items ≡ out.old.items ++ row_cells plot snaps.now y) }
+    ensures kept { Extends out.old.items out.new.items }
+{
+    let mut nearest = None;
+    'each_column: for bar in bars {
+        nearest = bar.or(nearest);
+        out.push(cell_of(*bar, nearest, y))?;
+    }
+    Ok(())
+}
+
+/// Appends the line below the rows, with the labels of its ends.
+#[tactic(auto, unfolding(crate::specs::GraphText::axis_text))]
+fn put_axis(alloc: Global, unit: TimeUnit, plot: Plot, out: &mut Vec<u8>) -> Result<(), NoMemory>
+    requires wide { 0 < plot.width }
+    ensures appended { OnOk result (out.new.items ≡ out.old.items ++ axis_text unit plot) }
+    ensures kept { Extends out.old.items out.new.items }
+{
+    let width = plot.width as usize - 1;
+    put_bytes(out, b"   0 +")?;
+    put_dashes(width, out)?;
+    put_bytes(out, b">")?;
+    put_bytes(out, unit_label(unit, plot.last))?;
+    put_bytes(out, b"\n     0")?;
+    put_right(out, &label_of(alloc, unit, plot.last)?, width)?;
+    put_bytes(out, b"\n\n")
+}
+
+/// Appends so many dashes.
+pub(crate) fn put_dashes(count: usize, out: &mut Vec<u8>) -> Result<(), NoMemory>
+    ensures appended { OnOk result (out.new.items ≡ out.old.items ++ replicate count 45) }
+    ensures kept { Extends out.old.items out.new.items }
+{
+    'dashes: for _ in 0..count {
+        out.push(b'-')?;
+    }
+    Ok(())
+}
