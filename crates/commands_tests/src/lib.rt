@@ -3,6 +3,8 @@
 #![tactic(auto)]
 
 #[cfg(test)]
+mod dhat_tests;
+#[cfg(test)]
 mod failure_tests;
 #[cfg(test)]
 mod flame_tests;
@@ -10,6 +12,8 @@ mod flame_tests;
 mod gen_tests;
 #[cfg(test)]
 mod interpret_tests;
+#[cfg(test)]
+mod page_tests;
 #[cfg(test)]
 mod print_tests;
 #[cfg(test)]

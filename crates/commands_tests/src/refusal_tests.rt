@@ -25,6 +25,14 @@ interpret --symbols=- -
 gen t
 gen --stacks=0
 gen --run=1
+dhat
+dhat t e
+ms_print
+ms_print t e
+ms_print --x=3 t
+ms_print --y=1001 t
+ms_print --threshold=1.000 t
+ms_print --threshold=101 t
 print
 print t e
 print --peak-limit=1 --peak-limit=2 t

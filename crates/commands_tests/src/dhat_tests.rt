@@ -1,0 +1,40 @@
+//! `dhat` over the worked trace, over one of no lines, and over one whose blocks live on, and its refusals.
+
+use crate::transcript::{expect, sound};
+use std::test::Fail;
+
+const PROFILES: &str = "$ dhat e
+{\"Mtu\":\"Mevents\",\"bkacc\":false,\"bklt\":true,\"cmd\":\"demo\",\"dhatFileVersion\":2,\"ftbl\":[\"[root]\",\"0x400: main (a.c:20)\",\"0x500: f (a.c:10)\"],\"mode\":\"heap\",\"pid\":0,\"pps\":[{\"eb\":100,\"ebk\":1,\"fs\":[1],\"gb\":0,\"gbk\":0,\"mb\":100,\"mbk\":1,\"tb\":100,\"tbk\":1,\"tl\":0},{\"eb\":0,\"ebk\":0,\"fs\":[2,1],\"gb\":100,\"gbk\":1,\"mb\":100,\"mbk\":1,\"tb\":100,\"tbk\":1,\"tl\":1}],\"te\":3,\"tg\":1,\"tu\":\"events\",\"tuth\":500,\"verb\":\"Allocated\"}
+[0]
+> v 10500 2
+$ dhat t
+{\"Mtu\":\"Mevents\",\"bkacc\":false,\"bklt\":true,\"cmd\":\"(none)\",\"dhatFileVersion\":2,\"ftbl\":[\"[root]\"],\"mode\":\"heap\",\"pid\":0,\"pps\":[],\"te\":0,\"tg\":0,\"tu\":\"events\",\"tuth\":500,\"verb\":\"Allocated\"}
+[0]
+> v 10500 2
+> i 400 0
+> t 1 0
+> a 10 0
+> a 8 1
+> + 0
+> + 0
+> - 0
+> + 1
+$ dhat t
+{\"Mtu\":\"Mevents\",\"bkacc\":false,\"bklt\":true,\"cmd\":\"(none)\",\"dhatFileVersion\":2,\"ftbl\":[\"[root]\",\"(no stack)\",\"0x400: ???\"],\"mode\":\"heap\",\"pid\":0,\"pps\":[{\"eb\":16,\"ebk\":1,\"fs\":[1],\"gb\":32,\"gbk\":2,\"mb\":32,\"mbk\":2,\"tb\":32,\"tbk\":2,\"tl\":4},{\"eb\":8,\"ebk\":1,\"fs\":[2],\"gb\":0,\"gbk\":0,\"mb\":8,\"mbk\":1,\"tb\":8,\"tbk\":1,\"tl\":0}],\"te\":4,\"tg\":2,\"tu\":\"events\",\"tuth\":500,\"verb\":\"Allocated\"}
+[0]
+> v 10500 2
+> a 64 0
+> - 0
+$ dhat t
+heapsuite: t:3: free of nothing
+[1]
+$ dhat --sort=tb e
+usage: heapsuite COMMAND [OPTION]... [FILE]
+commands: summary print flame interpret ms_print dhat gen dhat_view
+[2]
+";
+
+#[test]
+fn profiles(rt: HostRuntime) -> Result<(), Fail> {
+    expect(&rt, rt.alloc(), &sound(""), PROFILES)
+}
