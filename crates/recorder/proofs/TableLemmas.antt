@@ -1,10 +1,12 @@
 -- What one turn more in the last script changes.
-use Rattle.std.proofs.Common.{◌≡◌, ℕ, ◌+◌, ◌<◌, List, [], ◌∷◌, ◌++◌, length, reverse, refl, ap, ◌∙◌, arith, length-append, append-nil}
-use Rattle.std.specs.Prelude.{flat_map}
+use Rattle.std.proofs.Common.{◌≡◌, ℕ, zero, suc, ◌+◌, ◌<◌, List, [], ◌∷◌, ◌++◌, length, reverse, Some, refl, ap, ◌∙◌, subst, arith, length-append, append-nil}
+use Rattle.std.specs.Prelude.{flat_map, slice_get}
 use Rattle.std.proofs.lemmas.List.{reverse-append}
+use Rattle.std.proofs.lemmas.Option.{same_Some}
 use Rattle.std.proofs.lemmas.List.Sums.{sum_by-append, sum_by-cons}
 use Rattle.std.proofs.lemmas.Grind.{flat_map-append}
-use Rattle.recorder.specs.Turns.{Turn, is_live, is_live_after}
+use Rattle.std.specs.List.{AllByRecursion}
+use Rattle.recorder.specs.Turns.{AreBounded, IsBounded, Turn, is_live, is_live_after, script_at}
 use Rattle.recorder.specs.Events.{Event, event_count, events_of, events_of_turn}
 use Rattle.recorder.specs.Job.{in_last, last_script}
 
@@ -46,3 +48,24 @@ pub last-begun : (scripts : List (List Turn)) → last_script (scripts ++ [] ∷
 last-begun [] = refl
 last-begun (script ∷ []) = refl
 last-begun (script ∷ next ∷ more) = last-begun (next ∷ more)
+
+-- bounds of a turn more
+bounded-more : (script : List Turn) (turn : Turn) → AllByRecursion IsBounded script → IsBounded turn → AllByRecursion IsBounded (script ++ turn ∷ [])
+bounded-more [] turn all here = (here, tt)
+bounded-more (first ∷ script) turn all here = (all.0, bounded-more script turn all.1 here)
+
+pub bounded-push : (scripts : List (List Turn)) (turn : Turn) → AreBounded scripts → IsBounded turn → AreBounded (in_last scripts turn)
+bounded-push [] turn all here = tt
+bounded-push (script ∷ []) turn all here = (bounded-more script turn all.0 here, tt)
+bounded-push (script ∷ next ∷ more) turn all here = (all.0, bounded-push (next ∷ more) turn all.1 here)
+
+-- the bounds of a turn of a script
+bounded-in : (script : List Turn) (k : ℕ) (turn : Turn) → AllByRecursion IsBounded script → slice_get script k ≡ Some turn → IsBounded turn
+bounded-in [] k turn all at = absurd (grind (arith, at))
+bounded-in (first ∷ script) zero turn all at = subst IsBounded (same_Some first turn at) all.0
+bounded-in (first ∷ script) (suc k) turn all at = bounded-in script k turn all.1 at
+
+pub bounded-at : (scripts : List (List Turn)) (thread k : ℕ) (turn : Turn) → AreBounded scripts → slice_get (script_at scripts thread) k ≡ Some turn → IsBounded turn
+bounded-at [] thread k turn all at = absurd (grind (arith, at))
+bounded-at (script ∷ scripts) zero k turn all at = bounded-in script k turn all.0 at
+bounded-at (script ∷ scripts) (suc thread) k turn all at = bounded-at scripts thread k turn all.1 at

@@ -8,13 +8,13 @@ use Rattle.stack_table.specs.Node.{Node}
 use Rattle.stack_table.specs.Continues.{Continues}
 use Rattle.recorder.specs.declared.script.Script.{Script}
 use Rattle.recorder.specs.declared.turn_entry.TurnEntry.{TurnEntry}
-use Rattle.recorder.specs.Turns.{Turn, allocates, frees, reallocates, is_live, is_live_after}
+use Rattle.recorder.specs.Turns.{AreBounded, IsBounded, Turn, allocates, frees, reallocates, is_live, is_live_after}
 use Rattle.recorder.specs.Events.{event_count, events_of_turn}
 use Rattle.recorder.specs.Job.{Job, in_last, last_script}
 use Rattle.recorder.specs.ScriptFaults.{with_turn}
 use Rattle.recorder.specs.ScriptTurns.{AreHeld, AreScripts, AreSingle, IsHeld, script_kept, scripts_kept, turn_kept}
 use Rattle.recorder.proofs.KeptLemmas.{all-push, kept-grown}
-use Rattle.recorder.proofs.TableLemmas.{count-begun, count-push, last-begun, last-push, live-push}
+use Rattle.recorder.proofs.TableLemmas.{bounded-push, count-begun, count-push, last-begun, last-push, live-push}
 
 -- the scripts with the turn
 pub kept-next : (nodes new : List Node) (scripts reserved pushed : List Script) (turn : TurnEntry) (said : Turn) → Continues nodes new → AreHeld (length nodes) scripts
@@ -35,6 +35,7 @@ scripts-same nodes scripts others live later events limit table kept held count 
   within = table.within;
   few_events = table.few_events;
   few_scripts = omega (arith, count, table.few_scripts);
+  bounded = subst AreBounded (sym kept) table.bounded;
   live_blocks = λ id. same id ∙ table.live_blocks id ∙ ap (λ (all : List (List Turn)). is_live (last_script all) id) (sym kept);
 }
 
@@ -52,6 +53,7 @@ scripts-begun nodes scripts empty live later events limit table few none gone =
       within = table.within;
       few_events = table.few_events;
       few_scripts = omega (arith, few, length-map scripts (script_kept nodes), length-append scripts (empty ∷ []));
+      bounded = subst AreBounded (sym kept) (all-push (λ (script : List Turn). AllByRecursion IsBounded script) (scripts_kept nodes scripts) [] table.bounded tt);
       live_blocks = λ id. gone id ∙ ap (λ (turns : List Turn). is_live turns id) (sym (last-begun (scripts_kept nodes scripts)) ∙ ap last_script (sym kept));
     }
 
@@ -75,9 +77,9 @@ some_events (reallocates id size ips) = omega arith
 pub scripts-next : (nodes new : List Node) (scripts pushed : List Script) (live later : ℕ → Bool) (events limit : ℕ) (said : Turn) → AreScripts nodes scripts live events limit
     → 0 < length (scripts_kept nodes scripts) → length pushed ≡ length scripts → AreHeld (length new) pushed → AreSingle (reverse new) → length new ≤ length nodes + 256
     → scripts_kept new pushed ≡ in_last (scripts_kept nodes scripts) said → events + length (events_of_turn said) ≤ limit
-    → ((id : ℕ) → later id ≡ is_live_after (said ∷ reverse (last_script (scripts_kept nodes scripts))) id)
+    → ((id : ℕ) → later id ≡ is_live_after (said ∷ reverse (last_script (scripts_kept nodes scripts))) id) → IsBounded said
     → AreScripts new pushed later (events + length (events_of_turn said)) limit
-scripts-next nodes new scripts pushed live later events limit said table some count held single few kept within live_then =
+scripts-next nodes new scripts pushed live later events limit said table some count held single few kept within live_then bound =
     record {
       held = held;
       single = single;
@@ -86,6 +88,7 @@ scripts-next nodes new scripts pushed live later events limit said table some co
       within = within;
       few_events = table.few_events;
       few_scripts = omega (arith, count, table.few_scripts);
+      bounded = subst AreBounded (sym kept) (bounded-push (scripts_kept nodes scripts) said table.bounded bound);
       live_blocks = λ id.
           live_then id ∙ sym (live-push (last_script (scripts_kept nodes scripts)) said id)
           ∙ ap (λ (turns : List Turn). is_live turns id) (sym (last-push (scripts_kept nodes scripts) said some) ∙ ap last_script (sym kept));

@@ -8,7 +8,7 @@ use Rattle.recorder.specs.declared.script_line.ScriptLine.TheVariants.{Allocatio
 use Rattle.recorder.specs.declared.turn_entry.TurnEntry.{TurnEntry}
 use Rattle.recorder.specs.declared.turn_entry.TurnEntry.TheVariants.{Allocation, Free, Reallocation}
 use Rattle.recorder.specs.declared.script.Script.{Script}
-use Rattle.recorder.specs.Turns.{Turn, allocates, frees, reallocates, is_live}
+use Rattle.recorder.specs.Turns.{AreBounded, Turn, allocates, frees, reallocates, is_live}
 use Rattle.recorder.specs.Events.{event_count}
 use Rattle.recorder.specs.Job.{last_script}
 
@@ -62,4 +62,5 @@ pub record AreScripts (nodes : List Node) (scripts : List Script) (live : ℕ �
   pub within : events ≤ limit
   pub few_events : limit < 2 ^ 24
   pub few_scripts : length scripts ≤ 64
+  pub bounded : AreBounded (scripts_kept nodes scripts)
   pub live_blocks : (id : ℕ) → live id ≡ is_live (last_script (scripts_kept nodes scripts)) id

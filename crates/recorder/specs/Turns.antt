@@ -1,5 +1,6 @@
 -- The turns of a script.
-use Rattle.std.specs.Prelude.{ℕ, Bool, true, false, ◌==◌, if◌then◌else◌, List, [], ◌∷◌, reverse}
+use Rattle.std.specs.Prelude.{ℕ, ◌^◌, ◌≤◌, Bool, true, false, ◌==◌, if◌then◌else◌, List, [], ◌∷◌, length, reverse, slice_get, unwrap_or}
+use Rattle.std.specs.List.{AllByRecursion}
 
 -- what a thread does in one turn: it allocates a block of so many bytes under an ID, by a stack that is listed from the
 -- innermost instruction pointer outwards; it frees the block with the ID; or it does both, one after the other
@@ -19,3 +20,17 @@ is_live_after (reallocates other size ips ∷ before) id = if other == id then t
 -- whether the block with the ID is live after the turns of a script
 abbrev pub is_live : List Turn → ℕ → Bool
 is_live turns id = is_live_after (reverse turns) id
+
+-- a block has at most 2^32 bytes, and its stack at most 256 instruction pointers
+abbrev pub IsBounded : Turn → Type 0
+IsBounded (allocates id size ips) = (size ≤ 2 ^ 32) × (length ips ≤ 256)
+IsBounded (frees id) = Unit {0}
+IsBounded (reallocates id size ips) = (size ≤ 2 ^ 32) × (length ips ≤ 256)
+
+-- the same of each turn of each script
+abbrev pub AreBounded : List (List Turn) → Type 0
+AreBounded scripts = AllByRecursion (λ script. AllByRecursion IsBounded script) scripts
+
+-- the script of a thread, which is empty where there is no such thread
+abbrev pub script_at : List (List Turn) → ℕ → List Turn
+script_at scripts thread = unwrap_or (slice_get scripts thread) []

@@ -11,6 +11,8 @@ mod scripts;
 mod turn_entry;
 
 pub use fault::ScriptFault;
+pub use module_line::FILE_VERSION;
+pub use script_line::ScriptLine;
 pub use scripts::Scripts;
 
 #[cfg(test)]

@@ -6,7 +6,7 @@ ghost use Rattle.recorder.specs.ModuleLine.{is_module, module_in};
 use crate::fault::ScriptFault;
 use ht_lines::{Form, Item, put_item, read_item};
 
-/// The file version of the traces.
+/// The file version of recorded traces, and of the lines of modules files.
 pub const FILE_VERSION: u8 = 2;
 
 /// Appends the written form of a line of a modules file, which is neither empty nor a comment, and its line feed.

@@ -1,7 +1,8 @@
 //! The script of one thread, and its next turn. What its lines say is no part of it.
-ghost use Rattle.std.specs.Prelude.{◌≡◌, ℕ, ◌<◌, ◌≤◌, List, length, IsOk, OnOk, OnErr};
+ghost use Rattle.std.specs.Prelude.{◌≡◌, ℕ, ◌<◌, ◌≤◌, List, length, IfSome, IsOk, OnOk, OnErr, option_map, slice_get};
 ghost use Rattle.stack_table.specs.Node.{Node};
 ghost use Rattle.recorder.specs.Job.{in_last};
+ghost use Rattle.recorder.specs.Turns.{script_at};
 ghost use Rattle.recorder.specs.ScriptTurns.{AreHeld, HasRoom, IsHeld, scripts_kept, turn_kept};
 
 use crate::turn_entry::TurnEntry;
@@ -41,4 +42,14 @@ pub fn push_turn(scripts: &mut Vec<Script>, turn: TurnEntry) -> Result<(), NoMem
     let script = &mut scripts[last];
     script.turns.push(turn)?;
     Ok(())
+}
+
+/// The turn of a thread with the number `place` from 0.
+pub fn turn_at(scripts: &[Script], thread: u32, place: u32) -> Option<TurnEntry>
+    requires { thread < length scripts.now }
+    ensures kept { (nodes : List Node) → slice_get (script_at (scripts_kept nodes scripts.now) thread) place ≡ option_map (turn_kept nodes) result }
+    ensures held { (count : ℕ) → AreHeld count scripts.now → IfSome result (λ turn. IsHeld count turn) }
+{
+    let script = &scripts[thread as usize];
+    script.turns.get(place as usize).copied()
 }

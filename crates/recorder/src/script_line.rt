@@ -1,9 +1,10 @@
 //! One line of a script, by itself. Which blocks are live, and how many events there are, is no part of it.
-ghost use Rattle.std.specs.Prelude.{◌≡◌, ◌≢◌, ◌≤◌, true, false, [], length, None, Some, IfErr, IfOk, OnOk, option_map};
+ghost use Rattle.std.specs.Prelude.{◌≡◌, ◌≢◌, ◌^◌, ◌≤◌, true, false, [], length, None, Some, IfErr, IfOk, OnOk, option_map};
 ghost use Rattle.ht_lines.specs.Fields.{field_ends, fields, numbers};
 ghost use Rattle.recorder.specs.Skipped.{is_skipped};
 ghost use Rattle.recorder.specs.ScriptLine.{are_ips, block_of, free_of, sized_of, turn_in, turn_of};
 ghost use Rattle.recorder.specs.ScriptTurns.{turn_said};
+ghost use Rattle.recorder.specs.Turns.{IsBounded};
 
 use crate::fault::ScriptFault;
 use ht_lines::{field, next_number};
@@ -14,7 +15,7 @@ const MAX_SIZE: u64 = 1 << 32;
 /// The greatest number of ips of one line.
 const MAX_IPS: usize = 256;
 
-/// What a line of a script says, but for its ips.
+/// What a line of a script says, which is a turn of its thread, but for its ips.
 #[derive(Clone, Copy, Debug, PartialEq, Eq)]
 pub enum ScriptLine {
     /// `a`: allocates a block of so many bytes.
@@ -48,7 +49,7 @@ pub fn is_skipped(line: &[u8]) -> bool
 /// - `NoMemory` only where memory for the ips is wanting.
 pub fn read_script_line(line: &[u8], ips: &mut Vec<u64>) -> Result<ScriptLine, ScriptFault>
     ensures said { IfOk result (λ said. turn_in line.now ≡ Some (turn_said said ips.new.items)) }
-    ensures few { OnOk result (length ips.new.items ≤ 256) }
+    ensures bounded { IfOk result (λ said. IsBounded (turn_said said ips.new.items)) }
     ensures fault { IfErr result (λ fault. fault ≢ ScriptFault.NoMemory → (fault ≡ ScriptFault.BadScriptLine) × (turn_in line.now ≡ None)) }
 {
     ips.clear();
@@ -66,7 +67,7 @@ pub fn read_script_line(line: &[u8], ips: &mut Vec<u64>) -> Result<ScriptLine, S
 fn read_turn(kind: u8, rest: &[u8], ips: &mut Vec<u64>) -> Result<ScriptLine, ScriptFault>
     requires { ips.old.items ≡ [] }
     ensures said { IfOk result (λ said. turn_of kind (fields rest.now) ≡ Some (turn_said said ips.new.items)) }
-    ensures few { OnOk result (length ips.new.items ≤ 256) }
+    ensures bounded { IfOk result (λ said. IsBounded (turn_said said ips.new.items)) }
     ensures fault { IfErr result (λ fault. fault ≢ ScriptFault.NoMemory → (fault ≡ ScriptFault.BadScriptLine) × (turn_of kind (fields rest.now) ≡ None)) }
 {
     match kind {
@@ -112,7 +113,8 @@ fn read_free(rest: &[u8]) -> Option<u64>
 fn read_block(rest: &[u8], ips: &mut Vec<u64>) -> Result<Block, ScriptFault>
     requires { ips.old.items ≡ [] }
     ensures said { IfOk result (λ block. block_of (fields rest.now) ≡ Some (block.id, block.size, ips.new.items)) }
-    ensures few { OnOk result (length ips.new.items ≤ 256) }
+    ensures few_bytes { IfOk result (λ block. block.size ≤ 2 ^ 32) }
+    ensures few_ips { OnOk result (length ips.new.items ≤ 256) }
     ensures fault { IfErr result (λ fault. fault ≢ ScriptFault.NoMemory → (fault ≡ ScriptFault.BadScriptLine) × (block_of (fields rest.now) ≡ None)) }
 {
     let Some((block, stack)) = read_size(rest) else {

@@ -1,17 +1,18 @@
 //! The scripts and the modules as they are kept: each turn with the node of its stack, and each distinct stack once.
 //! The lines that say the turns are no part of it.
-ghost use Rattle.std.specs.Prelude.{◌≡◌, ◌≢◌, ℕ, ◌+◌, ◌-◌, ◌^◌, ◌<◌, ◌≤◌, List, [], ◌∷◌, ◌++◌, length, reverse, IsSome, None, Some, IfErr, IfOk, OnOk, OnErr, unwrap_or};
+ghost use Rattle.std.specs.Prelude.{◌≡◌, ◌≢◌, ℕ, ◌+◌, ◌-◌, ◌^◌, ◌<◌, ◌≤◌, List, [], ◌∷◌, ◌++◌, length, reverse, IsSome, None, Some, IfErr, IfOk, IfSome, OnOk, OnErr, option_map, slice_get, unwrap_or};
 ghost use Rattle.stack_table.specs.Continues.{Continues};
 ghost use Rattle.stack_table.specs.Stack.{stack};
+ghost use Rattle.recorder.specs.Events.{event_count};
 ghost use Rattle.recorder.specs.Job.{Job};
 ghost use Rattle.recorder.specs.ModuleLine.{module_in};
-ghost use Rattle.recorder.specs.Turns.{allocates, frees, reallocates};
+ghost use Rattle.recorder.specs.Turns.{IsBounded, allocates, frees, reallocates, script_at};
 ghost use Rattle.recorder.specs.ScriptFaults.{Tells, turn_fault, with_turn};
-ghost use Rattle.recorder.specs.ScriptTurns.{AreSingle, turn_said};
+ghost use Rattle.recorder.specs.ScriptTurns.{AreSingle, IsHeld, turn_kept, turn_said};
 
 use crate::fault::ScriptFault;
 use crate::module_line::put_module_line;
-use crate::script::{Script, push_turn, reserve_turn};
+use crate::script::{Script, push_turn, reserve_turn, turn_at};
 use crate::script_line::ScriptLine;
 use crate::turn_entry::{Request, TurnEntry};
 use hp_num::NoMemory;
@@ -36,6 +37,7 @@ pub struct ScriptTable {
 impl Model for ScriptTable {
     ghost use Rattle.std.specs.Prelude.{nat_eq};
     ghost use Rattle.std.specs.HashSet.{contains};
+    ghost use Rattle.recorder.specs.Events.{event_count};
     ghost use Rattle.recorder.specs.Job.{Job};
     ghost use Rattle.recorder.specs.ScriptTurns.{AreScripts, scripts_kept};
 
@@ -92,7 +94,7 @@ impl ScriptTable {
     /// the table is as before.
     pub fn add(&mut self, line: ScriptLine, ips: &[u64]) -> Result<(), ScriptFault>
         requires begun { 0 < length self.old.scripts }
-        requires few_ips { length ips.now ≤ 256 }
+        requires bounded { IsBounded (turn_said line ips.now) }
         ensures added { OnOk result (self.new ≡ with_turn self.old (Some (turn_said line ips.now))) }
         ensures no_fault { OnOk result (turn_fault self.old (Some (turn_said line ips.now)) ≡ None) }
         ensures fault { IfErr result (λ fault. Tells fault (turn_fault self.old (Some (turn_said line ips.now)))) }
@@ -105,6 +107,20 @@ impl ScriptTable {
         }
     }
 
+    /// How many events all scripts together may have.
+    pub fn limit(&self) -> u64
+        ensures limit { result ≡ self.now.limit }
+    {
+        self.limit
+    }
+
+    /// The text of the modules.
+    pub fn modules(&self) -> &[u8]
+        ensures lines { result.now ≡ self.now.modules }
+    {
+        self.module_lines.as_slice()
+    }
+
     /// How many scripts there are, at most 64.
     pub fn threads(&self) -> u32
         ensures count { result ≡ length self.now.scripts }
@@ -113,9 +129,29 @@ impl ScriptTable {
         self.scripts.len() as u32
     }
 
+    /// The turn of a thread with the number `place` from 0, with its ips in `ips` in the place of what that held.
+    pub fn turn_into(
+        &self,
+        thread: u32,
+        place: u32,
+        ips: &mut Vec<u64>,
+    ) -> Result<Option<ScriptLine>, NoMemory>
+        requires { thread < length self.now.scripts }
+        ensures turn { IfOk result (λ said. slice_get (script_at self.now.scripts thread) place ≡ option_map (λ turn. turn_said turn ips.new.items) said) }
+        ensures bounded { IfOk result (λ said. IfSome said (λ turn. IsBounded (turn_said turn ips.new.items))) }
+        ensures few_events { event_count self.now.scripts < 2 ^ 24 }
+    {
+        let Some(turn) = turn_at(&self.scripts, thread, place) else {
+            return Ok(None);
+        };
+        let said = line_of(&self.nodes, turn, ips)?;
+        Ok(Some(said))
+    }
+
     // Appends an allocation to the last script.
     fn allocate(&mut self, id: u64, size: u64, ips: &[u64]) -> Result<(), ScriptFault>
         requires begun { 0 < length self.old.scripts }
+        requires few_bytes { size ≤ 2 ^ 32 }
         requires few_ips { length ips.now ≤ 256 }
         ensures added { OnOk result (self.new ≡ with_turn self.old (Some (allocates id size ips.now))) }
         ensures no_fault { OnOk result (turn_fault self.old (Some (allocates id size ips.now)) ≡ None) }
@@ -163,6 +199,7 @@ impl ScriptTable {
     // Appends a reallocation to the last script.
     fn reallocate(&mut self, id: u64, size: u64, ips: &[u64]) -> Result<(), ScriptFault>
         requires begun { 0 < length self.old.scripts }
+        requires few_bytes { size ≤ 2 ^ 32 }
         requires few_ips { length ips.now ≤ 256 }
         ensures added { OnOk result (self.new ≡ with_turn self.old (Some (reallocates id size ips.now))) }
         ensures no_fault { OnOk result (turn_fault self.old (Some (reallocates id size ips.now)) ≡ None) }
@@ -181,6 +218,24 @@ impl ScriptTable {
         push_turn(&mut self.scripts, turn)?;
         self.events += 2;
         Ok(())
+    }
+}
+
+// What a turn says, with its ips in `ips`.
+fn line_of(nodes: &Nodes, turn: TurnEntry, ips: &mut Vec<u64>) -> Result<ScriptLine, NoMemory>
+    requires { IsHeld (length nodes.now) turn }
+    ensures { IfOk result (λ line. turn_said line ips.new.items ≡ turn_kept nodes.now turn) }
+{
+    match turn {
+        TurnEntry::Allocation(Request { id, size, node }) => {
+            nodes.stack_into(node, ips)?;
+            Ok(ScriptLine::Allocation { id, size })
+        }
+        TurnEntry::Free { id } => Ok(ScriptLine::Free { id }),
+        TurnEntry::Reallocation(Request { id, size, node }) => {
+            nodes.stack_into(node, ips)?;
+            Ok(ScriptLine::Reallocation { id, size })
+        }
     }
 }
 

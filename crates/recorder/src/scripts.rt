@@ -1,12 +1,15 @@
 //! The scripts of all threads, and the modules, by the lines of their files. The order in which the threads take their
 //! turns is no part of it.
-ghost use Rattle.std.specs.Prelude.{◌≡◌, ℕ, ◌^◌, ◌<◌, ◌≤◌, List, [], ◌∷◌, ◌++◌, length, None, IfErr, IfOk, OnOk, OnErr};
+ghost use Rattle.std.specs.Prelude.{◌≡◌, ℕ, ◌^◌, ◌<◌, ◌≤◌, List, [], ◌∷◌, ◌++◌, length, None, IfErr, IfOk, IfSome, OnOk, OnErr, option_map, slice_get};
 ghost use Rattle.std.specs.Arc.{arc_value};
+ghost use Rattle.recorder.specs.Events.{event_count};
 ghost use Rattle.recorder.specs.Job.{Job};
 ghost use Rattle.recorder.specs.ScriptFaults.{Tells, line_fault, module_fault, with_line, with_module_line};
+ghost use Rattle.recorder.specs.ScriptTurns.{turn_said};
+ghost use Rattle.recorder.specs.Turns.{IsBounded, script_at};
 
 use crate::fault::ScriptFault;
-use crate::script_line::{is_skipped, read_script_line};
+use crate::script_line::{ScriptLine, is_skipped, read_script_line};
 use crate::script_table::ScriptTable;
 use hp_num::NoMemory;
 use std::alloc::Global;
@@ -101,6 +104,40 @@ impl Scripts {
         }
         let said = read_script_line(line, &mut self.ips)?;
         self.table.add(said, &self.ips)
+    }
+
+    /// The turn of a thread with the number `place`, counted from 0, or `None` exactly where the thread's script has no such
+    /// turn. The ips of an allocation or a reallocation are in `ips`, in the place of what that held.
+    ///
+    /// The thread's script has to be begun. On `NoMemory` nothing is said of `ips`.
+    pub fn turn_into(
+        &self,
+        thread: u32,
+        place: u32,
+        ips: &mut Vec<u64>,
+    ) -> Result<Option<ScriptLine>, NoMemory>
+        requires { thread < length self.now.scripts }
+        ensures turn { IfOk result (λ said. slice_get (script_at self.now.scripts thread) place ≡ option_map (λ turn. turn_said turn ips.new.items) said) }
+
+        // Its bounds, and that of all events.
+        ensures bounded { IfOk result (λ said. IfSome said (λ turn. IsBounded (turn_said turn ips.new.items))) }
+        ensures few_events { event_count self.now.scripts < 2 ^ 24 }
+    {
+        self.table.turn_into(thread, place, ips)
+    }
+
+    /// How many events all scripts together may have.
+    pub fn limit(&self) -> u64
+        ensures limit { result ≡ self.now.limit }
+    {
+        self.table.limit()
+    }
+
+    /// The lines of the modules in their written form, each with its line feed.
+    pub fn modules(&self) -> &[u8]
+        ensures lines { result.now ≡ self.now.modules }
+    {
+        self.table.modules()
     }
 
     /// How many scripts were begun, at most 64.

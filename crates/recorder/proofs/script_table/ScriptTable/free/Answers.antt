@@ -16,4 +16,4 @@ invariant_of-self-2 c =
     scripts-next c.self.inside.nodes c.self.inside.nodes c.self.inside.scripts.items c.push_turn.new.scripts.items (contains nat_eq c.self.inside.live) (contains nat_eq c.remove.new.self) c.self.inside.events c.self.inside.limit
     (frees c.args.id) c.self.invariant (omega (arith, ap (λ (job : Job). length job.scripts) c.self.view_is)) c.push_turn.ensures.count
     (c.in_ok-push_turn.ensures.held _ tt c.self.invariant.held) c.self.invariant.single (omega arith) (c.in_ok-push_turn.ensures.pushed c.self.inside.nodes) (omega arith)
-    (λ q. c.remove.ensures.updates.0 q ∙ ap (λ (b : Bool). cond (nat_eq c.args.id q) false b) (c.self.invariant.live_blocks q))
+    (λ q. c.remove.ensures.updates.0 q ∙ ap (λ (b : Bool). cond (nat_eq c.args.id q) false b) (c.self.invariant.live_blocks q)) tt

@@ -34,7 +34,7 @@ invariant_of-self-2 c =
     (reallocates c.args.id c.args.size c.args.ips.now) c.self.invariant (omega (arith, ap (λ (job : Job). length job.scripts) c.self.view_is)) (c.push_turn.ensures.count ∙ c.reserve_turn.ensures.count)
     (c.in_ok-push_turn.ensures.held _ c.in_ok-node.ensures.within (c.reserve_turn.ensures.held _ (held-grown _ _ c.intern.ensures.continues.held c.self.inside.scripts.items c.self.invariant.held)))
     c.intern.ensures.single c.intern.ensures.few_more (kept c) (omega arith)
-    (live-kept (contains nat_eq c.self.inside.live) _ c.args.id c.self.invariant.live_blocks (sym c.contains.ensures ∙ c.if-not-contains.false))
+    (live-kept (contains nat_eq c.self.inside.live) _ c.args.id c.self.invariant.live_blocks (sym c.contains.ensures ∙ c.if-not-contains.false)) (c.requires.few_bytes, c.requires.few_ips)
 
 pub returns-clause-added : goal.returns-clause-added
 returns-clause-added c =

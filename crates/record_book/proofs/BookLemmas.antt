@@ -1,0 +1,184 @@
+-- A book with a turn more of a thread.
+use Rattle.std.proofs.Common.{◌≡◌, ◌≢◌, ℕ, zero, suc, ◌+◌, ◌^◌, ◌<◌, ◌≤◌, ◌==◌, Bool, true, false, List, [], ◌∷◌, ◌++◌, length, get_or, take, Option, Some, refl, sym, ap, ap₂, ◌∙◌, subst, arith, length-append}
+use Rattle.std.specs.Prelude.{replicate, slice_get, slice_set}
+use Rattle.std.specs.List.{AllByRecursion}
+use Rattle.std.proofs.lemmas.Bool.Decides.{nat_tests}
+use Rattle.std.proofs.lemmas.List.Sums.{sum_by-cons}
+use Rattle.std.proofs.lemmas.List.{get_or_read}
+use Rattle.std.proofs.lemmas.Option.{slice_get_within, unwrap_or-slice_get}
+use Rattle.recorder.specs.Events.{event_count, events_of, events_of_turn}
+use Rattle.recorder.specs.Job.{Job}
+use Rattle.recorder.specs.Turns.{Turn, script_at}
+use Rattle.record_book.specs.declared.trace.Trace.{Trace}
+use Rattle.record_book.specs.Actions.{Action, actions, times}
+use Rattle.record_book.specs.BookState.{IsBook, done_at, done_count, entries_of}
+use Rattle.record_book.specs.HeapPlaces.{AreApart, LiveBlock, Place, taken, empty, class_of, end_of, live_blocks}
+use Rattle.record_book.specs.HeapState.{AreOnly}
+use Rattle.record_book.specs.Orders.{ArePaired, IsUnder, awaited}
+use Rattle.record_book.specs.TraceState.{IsTrace, with_turn}
+use Rattle.record_book.proofs.OrderLemmas.{actions-none, actions-turn, closed-turn, entries-length, events-more, events-within, paired-turn, some_events, times-append, times-other, times-own, times-within}
+
+-- numbers of turns
+done-here : (done : List ℕ) (thread count : ℕ) → thread < length done → done_at (slice_set done thread count) thread ≡ count
+done-here [] thread count within = absurd (omega (arith, within))
+done-here (n ∷ done) zero count within = refl
+done-here (n ∷ done) (suc thread) count within = done-here done thread count (omega (arith, within))
+
+done-other : (done : List ℕ) (thread other count : ℕ) → thread ≢ other → done_at (slice_set done thread count) other ≡ done_at done other
+done-other [] thread other count apart = refl
+done-other (n ∷ done) zero zero count apart = absurd (apart refl)
+done-other (n ∷ done) zero (suc other) count apart = refl
+done-other (n ∷ done) (suc thread) zero count apart = refl
+done-other (n ∷ done) (suc thread) (suc other) count apart = done-other done thread other count (λ same. apart (ap (λ (k : ℕ). suc k) same))
+
+length-slice_set : (done : List ℕ) (thread count : ℕ) → length (slice_set done thread count) ≡ length done
+length-slice_set [] thread count = refl
+length-slice_set (n ∷ done) zero count = refl
+length-slice_set (n ∷ done) (suc thread) count = ap (λ (k : ℕ). suc k) (length-slice_set done thread count)
+
+-- events of the turns of all threads
+count-set : (scripts : List (List Turn)) (done : List ℕ) (thread : ℕ) (turn : Turn) → length done ≡ length scripts → slice_get (script_at scripts thread) (done_at done thread) ≡ Some turn
+    → done_count scripts (slice_set done thread (done_at done thread + 1)) ≡ done_count scripts done + length (events_of_turn turn)
+count-set [] done thread turn same at = absurd (grind (arith, at))
+count-set (script ∷ scripts) [] thread turn same at = absurd (omega (arith, same))
+count-set (script ∷ scripts) (n ∷ done) zero turn same at =
+    let more = ap length (events-more script n turn at) ∙ length-append (events_of (take n script)) (events_of_turn turn) in
+    omega (arith, more)
+count-set (script ∷ scripts) (n ∷ done) (suc thread) turn same at =
+    let rest = count-set scripts done thread turn (omega (arith, same)) at in
+    omega (arith, rest)
+
+count-within : (scripts : List (List Turn)) (done : List ℕ) → done_count scripts done ≤ event_count scripts
+count-within [] done = omega arith
+count-within (script ∷ scripts) [] = omega arith
+count-within (script ∷ scripts) (n ∷ done) =
+    let whole : event_count (script ∷ scripts) ≡ length (events_of script) + event_count scripts = sum_by-cons (λ (s : List Turn). length (events_of s)) script scripts in
+    omega (arith, whole, count-within scripts done, events-within script n)
+
+-- there is an event more where there is a turn
+pub room : (job : Job) (done order : List ℕ) (trace : Trace) (thread : ℕ) (turn : Turn) → IsBook job done order trace → slice_get (script_at job.scripts thread) (done_at done thread) ≡ Some turn
+    → length order + 1 ≤ event_count job.scripts
+room job done order trace thread turn book at =
+    let more = count-set job.scripts done thread turn book.threads at in
+    let within = count-within job.scripts (slice_set done thread (done_at done thread + 1)) in
+    omega (arith, more, within, book.count, some_events turn)
+
+some-taken : (script : List Turn) (n : ℕ) → n ≤ length script → n ≤ length (events_of (take n script))
+some-taken [] n within = omega (arith, within)
+some-taken (turn ∷ script) zero within = omega arith
+some-taken (turn ∷ script) (suc n) within =
+    omega (arith, some-taken script n (omega (arith, within)), some_events turn, length-append (events_of_turn turn) (events_of (take n script)))
+
+pub few-done : (job : Job) (done order : List ℕ) (trace : Trace) (thread : ℕ) → IsBook job done order trace → done_at done thread ≤ length order
+few-done job done order trace thread book =
+    omega (arith, some-taken (script_at job.scripts thread) (done_at done thread) (book.few_taken thread), book.taken thread, times-within thread order)
+
+taken-more : (job : Job) (done order : List ℕ) (trace : Trace) (thread : ℕ) (turn : Turn) → IsBook job done order trace → thread < length done → slice_get (script_at job.scripts thread) (done_at done thread) ≡ Some turn
+    → (other : ℕ) → (b : Bool) → (thread == other) ≡ b
+    → (times other (order ++ entries_of thread turn) ≡ length (events_of (take (done_at (slice_set done thread (done_at done thread + 1)) other) (script_at job.scripts other))))
+    × (done_at (slice_set done thread (done_at done thread + 1)) other ≤ length (script_at job.scripts other))
+taken-more job done order trace thread turn book within at other true p =
+    let script = script_at job.scripts thread in
+    let same : thread ≡ other = grind (arith, nat_tests, p) in
+    let more = ap length (events-more script (done_at done thread) turn at) ∙ length-append (events_of (take (done_at done thread) script)) (events_of_turn turn) in
+    let P : ℕ → Type 0 = λ k. (times k (order ++ entries_of thread turn) ≡ length (events_of (take (done_at (slice_set done thread (done_at done thread + 1)) k) (script_at job.scripts k))))
+    × (done_at (slice_set done thread (done_at done thread + 1)) k ≤ length (script_at job.scripts k)) in
+    let counted : times thread (order ++ entries_of thread turn) ≡ length (events_of (take (done_at done thread + 1) script)) =
+    omega (arith, times-append thread order (entries_of thread turn), times-own thread turn, book.taken thread, more) in
+    let bound = slice_get_within script (done_at done thread) turn at in
+    let here = done-here done thread (done_at done thread + 1) within in
+    subst P same (counted ∙ ap (λ (n : ℕ). length (events_of (take n script))) (sym here), omega (arith, here, bound))
+taken-more job done order trace thread turn book within at other false p =
+    let apart : thread ≢ other = λ (same : thread ≡ other). absurd (grind (arith, nat_tests, p, same)) in
+    let stays = done-other done thread other (done_at done thread + 1) apart in
+    let counted : times other (order ++ entries_of thread turn) ≡ times other order = omega (arith, times-append other order (entries_of thread turn), times-other thread other turn apart) in
+    (counted ∙ book.taken other ∙ ap (λ (n : ℕ). length (events_of (take n (script_at job.scripts other)))) (sym stays), omega (arith, stays, book.few_taken other))
+
+-- the book with the turn
+pub book-next : (job : Job) (done order : List ℕ) (trace new : Trace) (thread : ℕ) (turn : Turn) → IsBook job done order trace → thread < length job.scripts
+    → slice_get (script_at job.scripts thread) (done_at done thread) ≡ Some turn
+    → IsTrace new job.modules (with_turn thread turn (actions job.scripts order)) → length new.nodes ≤ length trace.nodes + 256 → new.heap.end ≤ trace.heap.end + 2 ^ 33
+    → IsBook job (slice_set done thread (done_at done thread + 1)) (order ++ entries_of thread turn) new
+book-next job done order trace new thread turn book held at is nodes end =
+    let within : thread < length done = omega (arith, held, book.threads) in
+    let means = actions-turn job.scripts order thread (done_at done thread) turn at (book.taken thread) in
+    let len : length (order ++ entries_of thread turn) ≡ length order + length (events_of_turn turn) = length-append order (entries_of thread turn) ∙ ap (λ (n : ℕ). length order + n) (entries-length thread turn) in
+    record {
+      threads = length-slice_set done thread (done_at done thread + 1) ∙ book.threads;
+      taken = λ other. (taken-more job done order trace thread turn book within at other (thread == other) refl).0;
+      few_taken = λ other. (taken-more job done order trace thread turn book within at other (thread == other) refl).1;
+      count = len ∙ ap (λ (n : ℕ). n + length (events_of_turn turn)) book.count ∙ sym (count-set job.scripts done thread turn book.threads at);
+      paired = subst ArePaired (sym means) (paired-turn thread turn (actions job.scripts order) book.paired book.closed);
+      closed = ap awaited means ∙ closed-turn thread turn (actions job.scripts order);
+      trace_is = subst (λ (all : List Action). IsTrace new job.modules all) (sym means) is;
+      few_nodes = omega (arith, nodes, book.few_nodes, len, some_events turn);
+      end = omega (arith, end, book.end, len, some_events turn);
+    }
+
+-- the book of no turns
+zero-at : (n thread : ℕ) → done_at (replicate n 0) thread ≡ 0
+zero-at zero thread = refl
+zero-at (suc n) zero = refl
+zero-at (suc n) (suc thread) = zero-at n thread
+
+zero-count : (scripts : List (List Turn)) (n : ℕ) → done_count scripts (replicate n 0) ≡ 0
+zero-count [] n = refl
+zero-count (script ∷ scripts) zero = refl
+zero-count (script ∷ scripts) (suc n) = omega (arith, zero-count scripts n)
+
+length-zeros : (n : ℕ) → length {A = ℕ} (replicate n 0) ≡ n
+length-zeros zero = refl
+length-zeros (suc n) = ap (λ (k : ℕ). suc k) (length-zeros n)
+
+pub book-none : (job : Job) (done : List ℕ) (n : ℕ) (trace : Trace) → done ≡ replicate n 0 → n ≡ length job.scripts → IsTrace trace job.modules [] → length trace.nodes ≡ 0 → trace.heap.end ≡ 65536
+    → IsBook job done [] trace
+book-none job done n trace zeros all is nodes end = record {
+  threads = ap length zeros ∙ length-zeros n ∙ all;
+  taken = λ thread. ap (λ (k : ℕ). length (events_of (take k (script_at job.scripts thread)))) (sym (none thread));
+  few_taken = λ thread. omega (arith, none thread);
+  count = sym (ap (λ (ds : List ℕ). done_count job.scripts ds) zeros ∙ zero-count job.scripts n);
+  paired = subst ArePaired (sym (actions-none job.scripts)) tt;
+  closed = ap awaited (actions-none job.scripts);
+  trace_is = subst (λ (all : List Action). IsTrace trace job.modules all) (sym (actions-none job.scripts)) is;
+  few_nodes = omega (arith, nodes);
+  end = omega (arith, end);
+}
+  where
+    none : (thread : ℕ) → done_at done thread ≡ 0
+    none thread = ap (λ (ds : List ℕ). done_at ds thread) zeros ∙ zero-at n thread
+
+-- an order under the scripts
+pub under-of : (job : Job) (done order : List ℕ) (trace : Trace) → IsBook job done order trace → IsUnder job.scripts order
+under-of job done order trace book = record {
+  at_most = λ thread. omega (arith, book.taken thread, events-within (script_at job.scripts thread) (done_at done thread));
+  paired = book.paired;
+  closed = book.closed;
+}
+
+-- blocks that lie in places of their own are apart
+below-more : (blocks : List LiveBlock) (n m : ℕ) → n ≤ m → AllByRecursion (λ block. block.address + block.block.size ≤ n) blocks → AllByRecursion (λ block. block.address + block.block.size ≤ m) blocks
+below-more [] n m le all = tt
+below-more (block ∷ blocks) n m le all = (omega (arith, le, all.0), below-more blocks n m le all.1)
+
+class-holds : (size : ℕ) → size ≤ class_of size
+class-holds size = grind (arith, nat_tests)
+
+blocks-below : (places : List Place) → AreOnly places → AllByRecursion (λ block. block.address + block.block.size ≤ end_of places) (live_blocks places)
+blocks-below [] only = tt
+blocks-below (taken class block ∷ older) only =
+    (omega (arith, only.1, class-holds block.size), below-more (live_blocks older) (end_of older) (end_of older + class) (omega arith) (blocks-below older only.3))
+blocks-below (empty class ∷ older) only = below-more (live_blocks older) (end_of older) (end_of older + class) (omega arith) (blocks-below older only.1)
+
+pub apart-of : (places : List Place) → AreOnly places → AreApart (live_blocks places)
+apart-of [] only = tt
+apart-of (taken class block ∷ older) only = (blocks-below older only.3, apart-of older only.3)
+apart-of (empty class ∷ older) only = apart-of older only.1
+
+-- what indexing gives
+pub place-is : (done : List ℕ) (thread place : ℕ) → thread < length done → place ≡ get_or done thread place → done_at done thread ≡ place
+place-is done thread place within is = unwrap_or-slice_get done thread 0 ∙ sym (get_or_read done thread place within is 0)
+
+-- the turn of a thread
+pub turn-found : (job seen : Job) (done : List ℕ) (thread place : ℕ) (found : Option Turn) → seen ≡ job → done_at done thread ≡ place → slice_get (script_at seen.scripts thread) place ≡ found
+    → slice_get (script_at job.scripts thread) (done_at done thread) ≡ found
+turn-found job seen done thread place found same here at = ap₂ (λ (j : Job) (p : ℕ). slice_get (script_at j.scripts thread) p) (sym same) here ∙ at

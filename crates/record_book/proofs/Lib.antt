@@ -1,0 +1,10 @@
+mod PlaceKeys
+mod HeapLemmas
+mod NextLemmas
+mod ExtendLemmas
+mod NodeLemmas
+mod TraceLemmas
+mod OrderLemmas
+mod BookLemmas
+mod FinishLemmas
+mod SameLemmas

@@ -1,0 +1,50 @@
+use Rattle.std.proofs.Common.{ℕ, ◌+◌, ◌==◌, ◌&&◌, false, Some, cond, sym, ap, ◌∙◌}
+use Rattle.record_book.specs.declared.heap.Heap.{Heap}
+use Rattle.std.specs.Map.{lookup}
+use Rattle.record_book.specs.HeapPlaces.{class_of}
+use Rattle.record_book.specs.HeapState.{entry_at, has_place, same_key}
+use Rattle.record_book.proofs.HeapLemmas.{same}
+use Rattle.record_book.proofs.NextLemmas.{end-stays, end-up, if-none, of-put, of-same, on-err}
+use Rattle.record_book.proofs.heap.Heap.place.Goals as goal
+
+pub returns-in_err-insert-clause-unchanged : goal.returns-in_err-insert-clause-unchanged
+returns-in_err-insert-clause-unchanged c =
+    let heap = c.args.self.now in
+    let left = c.free_place.new.self in
+    let new : Heap = record { live = c.insert.new.self; free = left.free; end = left.end } in
+    let live_same = c.in_ok-free_place.ensures.live in
+    let none = sym (ap (λ live. entry_at (record heap { live = live }) c.args.thread c.args.id) live_same) ∙ c.in_err-insert.ensures.absent in
+    on-err c.from_residual-in_err-insert.result _ (λ places of.
+    rw (c.in_ok-free_place.ensures.end) (
+    of-same (entry_at heap) (entry_at new) (has_place heap.free) (has_place left.free) heap.end places of
+    (λ t i. ap (λ entries. lookup (same_key (t, i)) entries) c.in_err-insert.ensures.err ∙ ap (λ live. entry_at (record heap { live = live }) t i) live_same)
+    (if-none (entry_at heap c.args.thread c.args.id) _ none c.in_ok-free_place.ensures.none)
+    ))
+
+pub returns-then-address-self-clause-placed : goal.returns-then-address-self-clause-placed
+returns-then-address-self-clause-placed c = λ places of.
+    let heap = c.args.self.now in
+    let left = c.free_place.new.self in
+    let new : Heap = record { live = c.insert.new.self; free = c.remove.new.self; end = c.free_place.new.self.end + c.class_of-class.result } in
+    of-put (entry_at heap) (entry_at new) (has_place heap.free) (has_place left.free) (has_place new.free) heap.end new.end places c.args.thread c.args.id c.args.size c.next_address-address.result of
+    c.in_ok-free_place.ensures.freed c.in_ok-free_place.ensures.none (c.next_address-address.ensures places of)
+    (λ k a. c.remove.ensures k a ∙ ap (λ (n : ℕ). cond (n == k && c.next_address-address.result == a) false (has_place left.free k a)) c.class_of-class.ensures.class)
+    (λ t i.
+    c.in_ok-insert.ensures.updates.0 (t, i)
+    ∙ ap (λ live. cond (same c.args.thread c.args.id t i) (Some (record { address = c.next_address-address.result; class = c.class_of-class.result })) (entry_at (record heap { live = live }) t i)) c.in_ok-free_place.ensures.live
+    ∙ ap (λ (n : ℕ). cond (same c.args.thread c.args.id t i) (Some (record { address = c.next_address-address.result; class = n })) (entry_at heap t i)) c.class_of-class.ensures.class)
+    (end-up c.next_address-address.result left.end heap.end c.class_of-class.result (class_of c.args.size) c.if-address-self.true c.in_ok-free_place.ensures.end c.class_of-class.ensures.class)
+
+pub returns-else-address-self-clause-placed : goal.returns-else-address-self-clause-placed
+returns-else-address-self-clause-placed c = λ places of.
+    let heap = c.args.self.now in
+    let left = c.free_place.new.self in
+    let new : Heap = record { live = c.insert.new.self; free = c.remove.new.self; end = c.free_place.new.self.end } in
+    of-put (entry_at heap) (entry_at new) (has_place heap.free) (has_place left.free) (has_place new.free) heap.end new.end places c.args.thread c.args.id c.args.size c.next_address-address.result of
+    c.in_ok-free_place.ensures.freed c.in_ok-free_place.ensures.none (c.next_address-address.ensures places of)
+    (λ k a. c.remove.ensures k a ∙ ap (λ (n : ℕ). cond (n == k && c.next_address-address.result == a) false (has_place left.free k a)) c.class_of-class.ensures.class)
+    (λ t i.
+    c.in_ok-insert.ensures.updates.0 (t, i)
+    ∙ ap (λ live. cond (same c.args.thread c.args.id t i) (Some (record { address = c.next_address-address.result; class = c.class_of-class.result })) (entry_at (record heap { live = live }) t i)) c.in_ok-free_place.ensures.live
+    ∙ ap (λ (n : ℕ). cond (same c.args.thread c.args.id t i) (Some (record { address = c.next_address-address.result; class = n })) (entry_at heap t i)) c.class_of-class.ensures.class)
+    (end-stays c.next_address-address.result left.end heap.end (class_of c.args.size) c.if-address-self.false c.in_ok-free_place.ensures.end)

@@ -1,0 +1,9 @@
+pub mod Actions
+pub mod Orders
+pub mod HeapPlaces
+pub mod NodeNumbers
+pub mod RecordedTrace
+pub mod HeapState
+pub mod NodeState
+pub mod TraceState
+pub mod BookState

@@ -1,0 +1,33 @@
+-- How nodes stand for numbered stacks.
+use Rattle.std.specs.Prelude.{◌≡◌, ◌≢◌, ℕ, ◌+◌, ◌≤◌, ◌==◌, if◌then◌else◌, List, ◌∷◌, ◌++◌, length}
+use Rattle.stack_table.specs.AreNodes.{AreNodes}
+use Rattle.stack_table.specs.Node.{Node}
+use Rattle.stack_table.specs.Stack.{frame_count, stack}
+use Rattle.record_book.specs.NodeNumbers.{number_in, with_stack, with_suffixes}
+use Rattle.record_book.specs.RecordedTrace.{node_text, nodes_text}
+
+-- the nodes are the stacks that are numbered, each of which has one frame for each of its pointers
+pub record AreNumbered (nodes : List Node) (known : List (List ℕ)) : Type 0 where
+  pub law : AreNodes nodes
+  pub count : length known ≡ length nodes
+  pub numbers : (n : ℕ) → n ≤ length nodes → number_in known (stack nodes n) ≡ n
+  pub stacks : (ips : List ℕ) → number_in known ips ≢ 0 → stack nodes (number_in known ips) ≡ ips
+  pub frames : (n : ℕ) → n ≤ length nodes → frame_count nodes n ≡ length (stack nodes n)
+
+-- the node of a pointer that is called from a parent is among the new nodes, and is one more where its stack wasn't known
+pub record IsInterned (old : List Node) (known : List (List ℕ)) (new : List Node) (node ip parent : ℕ) : Type 0 where
+  pub numbered : AreNumbered new (with_stack known (ip ∷ stack old parent))
+  pub stack_is : stack new node ≡ ip ∷ stack old parent
+  pub count : length new ≡ (if number_in known (ip ∷ stack old parent) == 0 then length old + 1 else length old)
+
+-- the same, with the line of a new node
+pub record IsNext (old : List Node) (known : List (List ℕ)) (new : List Node) (node ip parent : ℕ) (before after : List ℕ) : Type 0 where
+  pub numbered : AreNumbered new (with_stack known (ip ∷ stack old parent))
+  pub stack_is : stack new node ≡ ip ∷ stack old parent
+  pub text : after ≡ before ++ node_text known ip (stack old parent)
+
+-- the nodes of a stack and of those that it is called from, with the lines of new nodes
+pub record ArePut (known : List (List ℕ)) (ips : List ℕ) (new : List Node) (node : ℕ) (before after : List ℕ) : Type 0 where
+  pub numbered : AreNumbered new (with_suffixes known ips)
+  pub stack_is : stack new node ≡ ips
+  pub text : after ≡ before ++ nodes_text known ips

@@ -1,0 +1,191 @@
+//! The book: which thread took which turns of its script, and in what order. The text of the trace is made elsewhere.
+ghost use Rattle.std.specs.Prelude.{◌≡◌, ◌≢◌, ℕ, ◌+◌, ◌<◌, ◌≤◌, false, List, [], ◌++◌, length, vec_capacity, vec_len, IfOk, IsOk, OnOk, OnErr, nat_lt};
+ghost use Rattle.std.specs.Arc.{arc_value};
+ghost use Rattle.recorder.specs.ScriptTurns.{turn_said};
+ghost use Rattle.record_book.specs.Actions.{actions, events_at, times};
+ghost use Rattle.record_book.specs.BookState.{HasStepped, entries_of, stepped};
+ghost use Rattle.record_book.specs.HeapPlaces.{AreApart, live_blocks, places_after};
+ghost use Rattle.record_book.specs.Orders.{Continues, IsInterleaving, IsUnder};
+ghost use Rattle.record_book.specs.RecordedTrace.{recorded};
+
+use crate::same_scripts::is_same;
+use crate::trace::Trace;
+use hp_num::NoMemory;
+use recorder::{ScriptLine, Scripts};
+use std::alloc::Global;
+use std::marker::Model;
+use std::sync::Arc;
+
+/// The recording of scripts, as far as their threads have come.
+///
+/// Contracts see it as the scripts with their modules, and the order: the thread of each event so far. At every moment the
+/// order is one under the scripts, and the bytes are its trace.
+#[derive(Drop)]
+pub struct Book {
+    job: Arc<Scripts>,
+    done: Vec<u32>,
+    order: Vec<u32>,
+    trace: Trace,
+    ips: Vec<u64>,
+    alloc: Global,
+}
+
+impl Model for Book {
+    ghost use Rattle.std.specs.Arc.{arc_value};
+    ghost use Rattle.record_book.specs.BookState.{IsBook, Recording};
+
+    ghost Value = { Recording };
+
+    ghost view = { λ book. record { job = arc_value book.job; order = book.order.items } };
+
+    ghost invariant = { λ book. IsBook (arc_value book.job) book.done.items book.order.items book.trace };
+}
+
+impl Book {
+    /// The book of these scripts, of which no turn is taken.
+    pub fn new(alloc: Global, job: Arc<Scripts>) -> Result<Book, NoMemory>
+        ensures empty { IfOk result (λ book. book ≡ record { job = arc_value job; order = [] }) }
+    {
+        let done = vec![in alloc; 0; job.threads() as usize]?;
+        let trace = Trace::new(alloc, job.modules())?;
+        Ok(Book {
+            job,
+            done,
+            order: Vec::new(alloc),
+            trace,
+            ips: Vec::new(alloc),
+            alloc,
+        })
+    }
+
+    /// Takes the next turn of a thread, whose script has to be there: the thread is appended to the order, twice for a
+    /// reallocation and else once, and its lines to the trace. It answers `true`, or `false` exactly where the script is
+    /// done. On `NoMemory` the book is as before.
+    pub fn step(&mut self, thread: u32) -> Result<bool, NoMemory>
+        requires { thread < length self.old.job.scripts }
+        ensures stepped { OnOk result (self.new ≡ record self.old { order = stepped self.old.job.scripts thread self.old.order }) }
+        ensures more { IfOk result (λ more. more ≡ nat_lt (times thread self.old.order) (length (events_at self.old.job.scripts thread))) }
+        ensures done { IfOk result (λ more. more ≡ false → times thread self.new.order ≡ length (events_at self.new.job.scripts thread)) }
+        ensures under { OnOk result (IsUnder self.new.job.scripts self.new.order) }
+        ensures unchanged { OnErr result (self.new ≡ self.old) }
+    {
+        let place = self.done[thread as usize];
+        let Some(turn) = self.job.turn_into(thread, place, &mut self.ips)? else {
+            return Ok(false);
+        };
+        self.order.reserve(2)?;
+        self.trace.add(thread, turn, &self.ips)?;
+        push_entries(&mut self.order, thread, turn)?;
+        self.done[thread as usize] = place + 1;
+        Ok(true)
+    }
+
+    /// Takes turns of a thread, whose script has to be there, until `most` are taken, from 1 to 64, or the script is done,
+    /// and answers how many. The answer is below `most` exactly where the script is done with fewer. On `NoMemory` the
+    /// turns that were taken before in this call stay.
+    pub fn steps(&mut self, thread: u32, most: u32) -> Result<u32, NoMemory>
+        requires there { thread < length self.old.job.scripts }
+        requires some { 1 ≤ most }
+        requires few { most ≤ 64 }
+        ensures stepped { IfOk result (λ count. HasStepped self.old.job.scripts thread count self.old.order self.new.order) }
+        ensures within { IfOk result (λ count. count ≤ most) }
+        ensures done { IfOk result (λ count. count < most → times thread self.new.order ≡ length (events_at self.new.job.scripts thread)) }
+        ensures part { OnErr result ((count : ℕ) × (count < most) × HasStepped self.old.job.scripts thread count self.old.order self.new.order) }
+        ensures job { self.new.job ≡ self.old.job }
+    {
+        for count in 0..most {
+            if !self.step(thread)? {
+                return Ok(count);
+            }
+        }
+        Ok(most)
+    }
+
+    /// The trace so far.
+    pub fn bytes(&self) -> &[u8]
+        ensures trace { result.now ≡ recorded self.now.job self.now.order }
+    {
+        self.trace.text.as_slice()
+    }
+
+    /// The thread of each event so far.
+    pub fn order(&self) -> &[u32]
+        ensures order { result.now ≡ self.now.order }
+
+        // The order.
+        ensures under { IsUnder self.now.job.scripts self.now.order }
+        ensures apart { AreApart (live_blocks (places_after (actions self.now.job.scripts self.now.order))) }
+    {
+        self.order.as_slice()
+    }
+
+    /// How many scripts there are, at most 64.
+    pub fn threads(&self) -> u32
+        ensures count { result ≡ length self.now.job.scripts }
+        ensures few { result ≤ 64 }
+        ensures under { IsUnder self.now.job.scripts self.now.order }
+    {
+        self.job.threads()
+    }
+
+    /// The book of these scripts with all turns taken. Where this is a book of the same scripts and modules for as many
+    /// events, its order stays and goes on; else they are recorded from nothing on. On `NoMemory` the book is given up.
+    pub fn finish(self, job: Arc<Scripts>) -> Result<Book, NoMemory>
+        ensures job { IfOk result (λ book. book.job ≡ arc_value job) }
+        ensures all { IfOk result (λ book. IsInterleaving book.job.scripts book.order) }
+        ensures grown { self.job ≡ arc_value job → IfOk result (λ book. Continues self.order book.order) }
+    {
+        let mut book = self.for_job(job)?;
+        book.complete()?;
+        Ok(book)
+    }
+
+    // This book where it is one of the same job, else a new one.
+    fn for_job(self, job: Arc<Scripts>) -> Result<Book, NoMemory>
+        ensures job { IfOk result (λ book. book.job ≡ arc_value job) }
+        ensures same { self.job ≡ arc_value job → IfOk result (λ book. book ≡ self) }
+    {
+        if is_same(self.alloc, &self.job, &job)? {
+            return Ok(self);
+        }
+        Book::new(self.alloc, job)
+    }
+
+    // Takes the turns that are left of all threads.
+    fn complete(&mut self) -> Result<(), NoMemory>
+        ensures all { OnOk result (IsInterleaving self.new.job.scripts self.new.order) }
+        ensures job { self.new.job ≡ self.old.job }
+        ensures grown { OnOk result (Continues self.old.order self.new.order) }
+    {
+        for thread in 0..self.threads() {
+            self.complete_thread(thread)?;
+        }
+        Ok(())
+    }
+
+    // Takes the turns that are left of a thread, whose script has to be there.
+    fn complete_thread(&mut self, thread: u32) -> Result<(), NoMemory>
+        requires { thread < length self.old.job.scripts }
+        ensures done { OnOk result (times thread self.new.order ≡ length (events_at self.new.job.scripts thread)) }
+        ensures others { OnOk result ((other : ℕ) → thread ≢ other → times other self.new.order ≡ times other self.old.order) }
+        ensures under { OnOk result (IsUnder self.new.job.scripts self.new.order) }
+        ensures job { self.new.job ≡ self.old.job }
+        ensures grown { OnOk result (Continues self.old.order self.new.order) }
+    {
+        'turns: while self.step(thread)? {}
+        Ok(())
+    }
+}
+
+// Appends a thread to an order, once for each event of its turn. It can't fail where there is room for two.
+fn push_entries(order: &mut Vec<u32>, thread: u32, turn: ScriptLine) -> Result<(), NoMemory>
+    ensures pushed { OnOk result ((ips : List ℕ) → order.new.items ≡ order.old.items ++ entries_of thread (turn_said turn ips)) }
+    ensures room { vec_len order.old + 2 ≤ vec_capacity order.old → IsOk result }
+{
+    order.push(thread)?;
+    match turn {
+        ScriptLine::Reallocation { .. } => order.push(thread)?,
+        _ => {}
+    }
+    Ok(())
+}

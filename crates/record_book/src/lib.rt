@@ -1,0 +1,15 @@
+//! The book of a recording: which thread took which turns of its script, and the trace that this gives. How threads share
+//! it is no part of it.
+#![tactic(auto)]
+
+mod book;
+mod free_places;
+mod heap;
+mod node_lines;
+mod same_scripts;
+mod trace;
+
+pub use book::Book;
+
+#[cfg(test)]
+mod tests;

@@ -1,0 +1,76 @@
+//! The nodes of a recorded trace, and the lines of new ones.
+#![tactic(auto, using(crate::proofs::ExtendLemmas::extends_same, crate::proofs::ExtendLemmas::extends_more, crate::proofs::ExtendLemmas::extends_trans))]
+
+ghost use Rattle.std.specs.Prelude.{◌≡◌, ℕ, ◌+◌, ◌-◌, ◌^◌, ◌<◌, ◌≤◌, List, length, IfOk, OnErr};
+ghost use Rattle.ht_lines.specs.Extends.{Extends};
+ghost use Rattle.stack_table.specs.Continues.{Continues};
+ghost use Rattle.stack_table.specs.Stack.{stack};
+ghost use Rattle.record_book.specs.NodeState.{AreNumbered, ArePut, IsInterned, IsNext};
+
+use hp_num::NoMemory;
+use ht_lines::{Item, put_item};
+use recorder::FILE_VERSION;
+use stack_table::{NodeFault, Nodes};
+
+/// The node of a stack, given from its innermost ip outwards; the lines of new nodes are appended to `text`, the outermost
+/// first.
+///
+/// On `NoMemory` some of the nodes and of their lines may stand.
+pub fn put_nodes(nodes: &mut Nodes, ips: &[u64], text: &mut Vec<u8>) -> Result<u32, NoMemory>
+    requires numbered { (known : List (List ℕ)) × AreNumbered nodes.old known }
+    requires few_ips { length ips.now ≤ 256 }
+    requires room { length nodes.old + 256 ≤ 2 ^ 32 - 2 }
+    ensures put { IfOk result (λ node. (known : List (List ℕ)) → AreNumbered nodes.old known → ArePut known ips.now nodes.new node text.old.items text.new.items) }
+    ensures within { IfOk result (λ node. node ≤ length nodes.new) }
+    ensures few_more { length nodes.new ≤ length nodes.old + 256 }
+    ensures continues { Continues nodes.old nodes.new }
+    ensures kept { Extends text.old.items text.new.items }
+{
+    let mut parent = 0;
+    for ip in ips.iter().rev() {
+        parent = put_node(nodes, *ip, parent, text)?;
+    }
+    Ok(parent)
+}
+
+// The node of an ip that is called from a node, with its line where it is new.
+fn put_node(nodes: &mut Nodes, ip: u64, parent: u32, text: &mut Vec<u8>) -> Result<u32, NoMemory>
+    requires numbered { (known : List (List ℕ)) × AreNumbered nodes.old known }
+    requires held { parent ≤ length nodes.old }
+    requires shallow { length (stack nodes.old parent) < 4096 }
+    requires room { length nodes.old < 2 ^ 32 - 2 }
+    ensures next { IfOk result (λ node. (known : List (List ℕ)) → AreNumbered nodes.old known → IsNext nodes.old known nodes.new node ip parent text.old.items text.new.items) }
+    ensures within { IfOk result (λ node. node ≤ length nodes.new) }
+    ensures few_more { length nodes.new ≤ length nodes.old + 1 }
+    ensures continues { Continues nodes.old nodes.new }
+    ensures kept { Extends text.old.items text.new.items }
+{
+    let len = nodes.len();
+    let node = intern(nodes, ip, parent)?;
+    if nodes.len() > len {
+        let parent = u64::from(parent);
+        put_item(FILE_VERSION, &Item::Node { ip, parent }, text)?;
+    }
+    Ok(node)
+}
+
+// The number of the node of an ip that is called from a node. On `NoMemory` the nodes are as before.
+fn intern(nodes: &mut Nodes, ip: u64, parent: u32) -> Result<u32, NoMemory>
+    requires numbered { (known : List (List ℕ)) × AreNumbered nodes.old known }
+    requires held { parent ≤ length nodes.old }
+    requires shallow { length (stack nodes.old parent) < 4096 }
+    requires room { length nodes.old < 2 ^ 32 - 2 }
+    ensures interned { IfOk result (λ node. (known : List (List ℕ)) → AreNumbered nodes.old known → IsInterned nodes.old known nodes.new node ip parent) }
+    ensures within { IfOk result (λ node. node ≤ length nodes.new) }
+    ensures few_more { length nodes.new ≤ length nodes.old + 1 }
+    ensures continues { Continues nodes.old nodes.new }
+    ensures unchanged { OnErr result (nodes.new ≡ nodes.old) }
+{
+    match nodes.intern(ip, u64::from(parent), 1) {
+        Ok(node) => Ok(node),
+        Err(fault) => match fault {
+            NodeFault::NoMemory => Err(NoMemory),
+            _ => unreachable!(),
+        },
+    }
+}

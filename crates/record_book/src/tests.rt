@@ -1,0 +1,91 @@
+//! Recordings of small scripts, as texts.
+
+use crate::book::Book;
+use hp_num::{NoMemory, put_bytes, put_dec};
+use recorder::{ScriptFault, Scripts};
+use std::alloc::Global;
+use std::process::Abort;
+
+/// The scripts of a text, which are parted by `|`, and their lines by `;`.
+fn scripts_of(alloc: Global, text: &[u8]) -> Result<Scripts, ScriptFault> {
+    let mut scripts = Scripts::new(alloc, 100);
+    for script in text.split(|byte| *byte == b'|') {
+        if scripts.threads() < 64 {
+            scripts.begin()?;
+        }
+        for line in script.split(|byte| *byte == b';') {
+            if scripts.threads() > 0 {
+                scripts.line(line)?;
+            }
+        }
+    }
+    Ok(scripts)
+}
+
+/// Takes turns of these threads, given by digits, and then those that are left of thread 0, up to 64.
+fn take_turns(book: &mut Book, threads: &[u8]) -> Result<(), NoMemory> {
+    for digit in threads {
+        let thread = u32::from(*digit & 7);
+        if thread < book.threads() {
+            book.step(thread)?;
+        }
+    }
+    if book.threads() > 0 {
+        book.steps(0, 64)?;
+    }
+    Ok(())
+}
+
+/// Appends the trace so far, and a line with the order.
+fn put_book(book: &Book, out: &mut Vec<u8>) -> Result<(), NoMemory> {
+    put_bytes(out, book.bytes())?;
+    for thread in book.order() {
+        put_dec(out, u64::from(*thread))?;
+    }
+    put_bytes(out, b"\n")
+}
+
+/// Appends the trace and the order of scripts, of which these threads take turns before all are finished.
+fn put_recording(
+    alloc: Global,
+    text: &[u8],
+    threads: &[u8],
+    out: &mut Vec<u8>,
+) -> Result<(), ScriptFault> {
+    let job = scripts_of(alloc, text)?.share()?;
+    let mut book = Book::new(alloc, job)?;
+    take_turns(&mut book, threads)?;
+    let same = scripts_of(alloc, text)?.share()?;
+    put_book(&book.finish(same)?, out)?;
+    Ok(())
+}
+
+fn has_text(rt: &impl Abort, text: &[u8], want: &[u8]) {
+    assert_eq!(rt; text, want);
+}
+
+#[test]
+fn recordings(rt: HostRuntime) -> Result<(), ScriptFault> {
+    let mut out = Vec::new(rt.alloc());
+    put_recording(rt.alloc(), b"a 1 40 500 400;f 1;a 2 8 400", b"", &mut out)?;
+    put_recording(
+        rt.alloc(),
+        b"a 1 40 500 400;f 1|a 1 8 400",
+        b"010",
+        &mut out,
+    )?;
+    put_recording(rt.alloc(), b"a 1 40 500 400;f 1|a 1 8 400", b"", &mut out)?;
+    put_recording(
+        rt.alloc(),
+        b"a 1 10 1;a 2 10 1;f 1;f 2;a 3 10 1",
+        b"0000",
+        &mut out,
+    )?;
+    put_recording(rt.alloc(), b"a 1 10 1;r 1 20 1;r 1 20 2", b"00", &mut out)?;
+    has_text(
+        &rt,
+        out.as_slice(),
+        b"v 10500 2\nX heaprec\n# thread 0\nt 400 0\nt 500 1\n+ 40 2 10000\n- 10000\n+ 8 1 10040\n000\nv 10500 2\nX heaprec\n# thread 0\nt 400 0\nt 500 1\n+ 40 2 10000\n# thread 1\n+ 8 1 10040\n# thread 0\n- 10000\n010\nv 10500 2\nX heaprec\n# thread 0\nt 400 0\nt 500 1\n+ 40 2 10000\n- 10000\n# thread 1\n+ 8 1 10040\n001\nv 10500 2\nX heaprec\n# thread 0\nt 1 0\n+ 10 1 10000\n+ 10 1 10010\n- 10000\n- 10010\n+ 10 1 10000\n00000\nv 10500 2\nX heaprec\n# thread 0\nt 1 0\n+ 10 1 10000\n- 10000\n+ 20 1 10010\n- 10010\nt 2 0\n+ 20 2 10010\n00000\n",
+    );
+    Ok(())
+}
