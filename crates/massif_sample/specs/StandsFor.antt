@@ -67,8 +67,8 @@ abbrev pub AreJudged : FunctionNames → TableState → List Bool → Type 0
 AreJudged names tables judged = (stack : ℕ) → stack < length judged → slice_get judged stack ≡ Some (ignores tables names stack)
 
 -- the offers are those of the events
-pub record StandsFor (judged : List Bool) (samples : SamplesState) (names : FunctionNames) (tables : TableState) (events : List Event) : Type 0 where
-  pub judged : AreJudged names tables judged
-  pub held : length judged ≤ length tables.nodes + 1
+pub record StandsFor (flags : List Bool) (samples : SamplesState) (names : FunctionNames) (tables : TableState) (events : List Event) : Type 0 where
+  pub judged : AreJudged names tables flags
+  pub held : length flags ≤ length tables.nodes + 1
   pub sampling : IsSampling samples names tables events (offers samples.options (ignores tables names) events)
   pub some : 0 < length samples.array.kept.entries

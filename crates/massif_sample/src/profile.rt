@@ -82,7 +82,7 @@ fn without_blanks(text: &[u8]) -> &[u8]
     ensures { result.now ≡ without_blanks text.now }
 {
     let mut rest = text;
-    'each_blank: while let Some((b' ', after)) = rest.split_first() {
+    'each_blank: while let [b' ', after @ ..] = rest {
         rest = after;
     }
     rest

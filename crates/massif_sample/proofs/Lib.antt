@@ -1,0 +1,6 @@
+pub mod UpTo
+pub mod Figures
+pub mod Offers
+pub mod Snaps
+pub mod Sampling
+pub mod Making
