@@ -4,3 +4,5 @@ pub mod Offers
 pub mod Snaps
 pub mod Sampling
 pub mod Making
+pub mod Costs
+pub mod Trees

@@ -1,5 +1,5 @@
 -- What samples stand for, step by step.
-use Rattle.std.proofs.Common.{◌≡◌, ℕ, ◌+◌, ◌-◌, ◌<◌, ◌≤◌, ◌^◌, List, [], ◌∷◌, ◌++◌, length, Bool, true, false, cond, refl, ap, sym, subst, ◌∙◌, inl, inr, arith}
+use Rattle.std.proofs.Common.{◌≡◌, ℕ, zero, suc, ◌+◌, ◌-◌, ◌<◌, ◌≤◌, ◌^◌, List, [], ◌∷◌, ◌++◌, length, Bool, true, false, cond, refl, ap, sym, subst, ◌∙◌, inl, inr, arith}
 use Rattle.std.specs.Prelude.{slice_get, Some, None, ◌⊎◌}
 use Rattle.ht_trace.specs.TableState.{TableState}
 use Rattle.live_ledger.specs.declared.event.Event.{Event}
@@ -12,12 +12,13 @@ use Rattle.massif_cull.specs.Kept.{nothing_kept}
 use Rattle.massif_cull.specs.StandsFor as array
 use Rattle.massif_cull.specs.declared.snapshot.SnapEntry.{SnapEntry}
 use Rattle.massif_sample.specs.declared.load.Load.{Load}
+use Rattle.massif_sample.specs.declared.running.Running.{Running}
 use Rattle.massif_sample.specs.FunctionNames.{FunctionNames, ignores}
 use Rattle.massif_sample.specs.Running.{AreFigures, no_figures}
 use Rattle.massif_sample.specs.SamplesState.{SamplesState}
-use Rattle.massif_sample.specs.StandsFor.{AreSnapshots, IsSampling, IsSnapshot, IsTreeAt}
+use Rattle.massif_sample.specs.StandsFor.{AreSnapshots, AreOfStacks, IsOfStack, IsSampling, IsSnapshot, IsTreeAt}
 use Rattle.massif_sample.proofs.Figures.{figures-none}
-use Rattle.massif_sample.proofs.Snaps.{here, snapshots-offered}
+use Rattle.massif_sample.proofs.Snaps.{here, snapshot-front, snapshots-offered}
 
 -- before any event
 pub sampling-none :
@@ -67,3 +68,25 @@ sampling-offered old new names tables events made offer load taken takes tree wa
           (λ some. here old.options names tables events old.running offer taken load was.figures takes.place takes.time takes.total takes.heap takes.extra tree) takes.origins);
       going = takes.failed ∙ was.going;
     }
+
+-- each event is of a stack of the tables, with one more
+of_stacks-push : (tables : TableState) (events : List Event) (last : Event) → AreOfStacks tables events → IsOfStack tables last → AreOfStacks tables (events ++ last ∷ [])
+of_stacks-push tables [] last all here zero event is = subst (IsOfStack tables) (let same : last ≡ event = cc in same) here
+of_stacks-push tables [] last all here (suc k) event is = absurd (cc)
+of_stacks-push tables (e ∷ es) last all here zero event is = all 0 event is
+of_stacks-push tables (e ∷ es) last all here (suc k) event is = of_stacks-push tables es last (λ j one at. all (suc j) one at) here k event is
+
+-- the samples behind one more event
+pub sampling-moved :
+    (samples : SamplesState) (names : FunctionNames) (tables : TableState) (events : List Event) (made : List Offer) (event : Event) (next : Running)
+    → IsSampling samples names tables events made
+    → IsOfStack tables event
+    → AreFigures samples.options (ignores tables names) (events ++ event ∷ []) next
+    → IsSampling (record samples { running = next }) names tables (events ++ event ∷ []) made
+sampling-moved samples names tables events made event next was of_stack figures = record {
+  stacks = of_stacks-push tables events event was.stacks of_stack;
+  figures = figures;
+  array = was.array;
+  snapshots = λ k entry load at beside. snapshot-front samples.options names tables events (event ∷ []) entry load (was.snapshots k entry load at beside);
+  going = was.going;
+}

@@ -1,11 +1,15 @@
 -- The snapshots that are kept, where one more is offered or one more event comes.
 use Rattle.std.proofs.Common.{◌≡◌, ◌≢◌, ◌⊎◌, ℕ, ◌+◌, ◌-◌, ◌<◌, ◌≤◌, ◌^◌, List, [], ◌∷◌, ◌++◌, length, map, Bool, true, false, cond, refl, ap, sym, subst, ◌∙◌, inl, inr, ⊎_elim, arith, sum}
 use Rattle.std.specs.Prelude.{slice_get, Option, Some, None}
+use Rattle.std.specs.List.{range_with_len}
 use Rattle.std.specs.Option.{option_map}
+use Rattle.std.proofs.lemmas.List.Sums.{sum_by-append}
 use Rattle.std.proofs.lemmas.Option.{same_Some, slice_get_within}
+use Rattle.cost_tree.specs.Costed.{costed}
 use Rattle.ht_trace.specs.TableState.{TableState}
 use Rattle.live_ledger.specs.declared.event.Event.{Event}
-use Rattle.live_ledger.specs.Events.{event_count}
+use Rattle.live_ledger.specs.Events.{event_count, is_counted}
+use Rattle.live_ledger.specs.InStack.{live_in}
 use Rattle.massif_cull.specs.declared.snapshot.Kind.{Kind}
 use Rattle.massif_cull.specs.declared.snapshot.Kind.TheVariants as kind
 use Rattle.massif_cull.specs.declared.snapshot.Offer.{Offer}
@@ -23,7 +27,13 @@ use Rattle.massif_sample.specs.Places.{gross_at, heap_at, time_at, up_to}
 use Rattle.massif_sample.specs.Running.{AreFigures}
 use Rattle.massif_sample.specs.Snapshots.{costs_at, tree_at}
 use Rattle.massif_sample.specs.StandsFor.{AreSnapshots, IsSnapshot, IsTreeAt, WhereTree}
+use Rattle.massif_sample.specs.HeapTotals.{gross_total, heap_total}
+use Rattle.massif_sample.specs.Options.{tree_options}
+use Rattle.massif_sample.specs.Times.{time_of}
+use Rattle.massif_tree.specs.FunctionLists.{trimmed_lists}
+use Rattle.massif_tree.specs.MassifTree.{massif_tree}
 use Rattle.massif_sample.proofs.Figures.{gross-now, heap-now}
+use Rattle.massif_sample.proofs.UpTo.{up_to-front}
 
 -- a peak that became normal has the figures that it had
 pub ended : (options : MassifOptions) (names : FunctionNames) (tables : TableState) (events : List Event) (entry : SnapEntry) (load : Load)
@@ -95,3 +105,46 @@ snapshots-offered options names tables events earlier earlier_loads offer load t
       let load_is : load ≡ held = same_Some load held (sym new_load ∙ beside) in
       subst (λ (l : Load). IsSnapshot options names tables events entry l) load_is
       (subst (λ (e : SnapEntry). IsSnapshot options names tables events e load) entry_is (is some))
+
+-- a place that was passed stays one
+pub count-front : (events more : List Event) → event_count events ≤ event_count (events ++ more)
+count-front events more = let both = sum_by-append (λ (e : Event). cond {A = ℕ} (is_counted e) 1 0) events more in omega arith
+
+-- the costs and the tree of a place that was passed stay
+costs-front : (stacks : ℕ) (ignored : ℕ → Bool) (events more : List Event) (k : ℕ) → k ≤ event_count events → costs_at stacks ignored (events ++ more) k ≡ costs_at stacks ignored events k
+unfolding costs_at
+costs-front stacks ignored events more k within =
+    ap (λ (es : List Event). map (λ (stack : ℕ). cond {A = ℕ} (ignored stack) 0 (live_in stack es)) (range_with_len 0 stacks)) (up_to-front k events more within)
+
+tree-front : (options : MassifOptions) (names : FunctionNames) (tables : TableState) (events more : List Event) (k : ℕ) → k ≤ event_count events → tree_at options names tables (events ++ more) k ≡ tree_at options names tables events k
+unfolding tree_at
+tree-front options names tables events more k within =
+    ap (λ (t : ℕ). massif_tree (tree_options options) t (costed (trimmed_lists tables names.alloc_fns) (costs_at (length tables.nodes + 1) (ignores tables names) (events ++ more) k)))
+    (ap (gross_total options (ignores tables names)) (up_to-front k events more within))
+    ∙ ap (λ (costs : List ℕ). massif_tree (tree_options options) (gross_at options (ignores tables names) events k) (costed (trimmed_lists tables names.alloc_fns) costs))
+      (costs-front (length tables.nodes + 1) (ignores tables names) events more k within)
+
+-- a snapshot stays one when more events come
+pub snapshot-front : (options : MassifOptions) (names : FunctionNames) (tables : TableState) (events more : List Event) (entry : SnapEntry) (load : Load)
+    → IsSnapshot options names tables events entry load → IsSnapshot options names tables (events ++ more) entry load
+snapshot-front options names tables events more entry load is =
+    let same = up_to-front entry.place events more is.place in
+    record {
+      place = let count = count-front events more in let within = is.place in omega arith;
+      time = is.time ∙ sym (ap (time_of options (ignores tables names)) same);
+      total = is.total ∙ sym (ap (gross_total options (ignores tables names)) same);
+      heap = is.heap ∙ sym (ap (heap_total (ignores tables names)) same);
+      extra = is.extra;
+      tree = by_kind entry.kind is.tree;
+    }
+  where
+  there : IsTreeAt options names tables events entry.place load.tree → IsTreeAt options names tables (events ++ more) entry.place load.tree
+  there at = record {
+    tree_is = at.tree_is ∙ sym (tree-front options names tables events more entry.place is.place);
+    costs = subst (λ (cs : List ℕ). sum cs ≤ 2 ^ 62) (sym (costs-front (length tables.nodes + 1) (ignores tables names) events more entry.place is.place)) at.costs;
+  }
+
+  by_kind : (k : Kind) → WhereTree k (IsTreeAt options names tables events entry.place load.tree) → WhereTree k (IsTreeAt options names tables (events ++ more) entry.place load.tree)
+  by_kind kind.Normal tree = tt
+  by_kind kind.Detailed tree = there tree
+  by_kind kind.Peak tree = there tree

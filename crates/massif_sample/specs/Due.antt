@@ -13,8 +13,8 @@ use Rattle.massif_sample.specs.Offers.{offer_at, offers, peak_before}
 use Rattle.massif_sample.specs.Options.{settings_of}
 
 -- an offer after these is taken as this
-abbrev pub IsTakenAs : MassifOptions → List Offer → Offer → Taken → Type 0
-IsTakenAs options earlier offer taken = taken_as (settings_of options) (kept_of (settings_of options) earlier) offer ≡ taken
+pub record IsTakenAs (options : MassifOptions) (earlier : List Offer) (offer : Offer) (taken : Taken) : Type 0 where
+  pub taken_is : taken_as (settings_of options) (kept_of (settings_of options) earlier) offer ≡ taken
 
 -- what a snapshot with a tree is taken as
 abbrev pub with_tree : Bool → Taken

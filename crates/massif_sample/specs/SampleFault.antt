@@ -34,8 +34,8 @@ abbrev pub sample_fault : MassifOptions → (ℕ → Bool) → List Event → Ev
 sample_fault options ignored events event = fault_or (fault_of events event) (size_fault options ignored events event)
 
 -- an answer tells this fault; want of memory comes in place of none
-abbrev pub Tells : Result Unit₀ SampleFault → Option SampleFault → Type 0
-Tells (Ok _) found = found ≡ None
+abbrev pub Tells : {T : Type 0} → Result T SampleFault → Option SampleFault → Type 0
+Tells (Ok answer) found = found ≡ None
 Tells (Err FreeOfNothing) found = found ≡ Some FreeOfNothing
 Tells (Err CostTooLarge) found = found ≡ Some CostTooLarge
 Tells (Err NoMemory) found = found ≡ None

@@ -17,7 +17,7 @@ ghost use Rattle.massif_sample.specs.declared.fault.SampleFault.TheVariants.{NoM
 ghost use Rattle.massif_sample.specs.Due.{IsDue, IsTakenAs, with_tree};
 ghost use Rattle.massif_sample.specs.FunctionNames.{FunctionNames, ignores};
 ghost use Rattle.massif_sample.specs.HasApplied.{HasApplied};
-ghost use Rattle.massif_sample.specs.LiveCosts.{live_cost};
+ghost use Rattle.massif_sample.specs.LiveCosts.{live_costs};
 ghost use Rattle.massif_sample.specs.Offers.{offer_at, offers};
 ghost use Rattle.massif_sample.specs.Running.{AreFigures, AreSound, passed};
 ghost use Rattle.massif_sample.specs.SampleFault.{Tells, sample_fault};
@@ -82,7 +82,7 @@ pub(crate) fn sample<A: Fn(&[u8]) -> bool, F: Fn(u32) -> u64>(
 fn live_cost(judged: &[bool], ledger: &Ledger, stack: u32) -> u64
     requires judged { stack < length judged.now }
     requires held { stack < ledger.now.stacks }
-    ensures { result ≡ live_cost judged.now ledger.now stack }
+    ensures { slice_get (live_costs judged.now ledger.now) stack ≡ Some result }
 {
     if judged[stack as usize] {
         return 0;
