@@ -6,3 +6,5 @@ pub mod Sampling
 pub mod Making
 pub mod Costs
 pub mod Trees
+pub mod GrossSizes
+pub mod Standing

@@ -1,6 +1,6 @@
 -- The tree of the present place, and when one is taken.
 use Rattle.std.proofs.Common.{◌≡◌, ◌≢◌, ℕ, ◌+◌, ◌≤◌, ◌^◌, List, length, Bool, true, false, cond, sum, refl, ap, sym, subst, ◌∙◌, arith}
-use Rattle.std.specs.Prelude.{◌==◌, ◌%◌, nat_le, nat_lt, Result, Ok, Err, OnErr}
+use Rattle.std.specs.Prelude.{◌==◌, ◌%◌, nat_le, nat_lt, Result, Ok, Err, OnErr, OnOk}
 use Rattle.cost_tree.specs.Costed.{costed}
 use Rattle.ht_trace.specs.TableState.{TableState}
 use Rattle.live_ledger.specs.declared.event.Event.{Event}
@@ -65,3 +65,17 @@ taken-with_tree settings kept offer taken is some no_normal =
 pub at_err : {T E : Type 0} (r : Result T E) {P : Type 0} → P → OnErr r P
 at_err (Ok answer) p = tt
 at_err (Err error) p = p
+
+-- and at an answer
+pub at_ok : {T E : Type 0} (r : Result T E) {P : Type 0} → P → OnOk r P
+at_ok (Ok answer) p = p
+at_ok (Err error) p = tt
+
+-- two facts at an answer
+pub both_ok : {T E : Type 0} (r : Result T E) {P Q R : Type 0} → (P → Q → R) → OnOk r P → OnOk r Q → OnOk r R
+both_ok (Ok answer) f p q = f p q
+both_ok (Err error) f p q = tt
+
+-- what holds at an error holds where there is one
+pub of_err : {T E : Type 0} (r : Result T E) (error : E) {P : Type 0} → r ≡ Err error → OnErr r P → P
+of_err {T} {E} r error {P} is p = subst (λ (x : Result T E). OnErr x P) is p

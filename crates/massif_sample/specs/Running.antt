@@ -82,3 +82,15 @@ pub record AreSound (options : MassifOptions) (running : Running) : Type 0 where
   pub gross_most : running.gross ≤ 2 ^ 62
   pub heap_within : running.heap ≤ running.gross
   pub time : TimeFits options.unit running
+
+-- a block of the size is live: it can be freed, and what the heap adds to it with it
+pub record HasBlock (options : MassifOptions) (running : Running) (size : ℕ) : Type 0 where
+  pub heap : size ≤ running.heap
+  pub gross_within : gross options size ≤ running.gross
+  pub extra : running.heap + gross options size ≤ running.gross + size
+
+-- the figures are sound, and no time falls or passes 2^62
+pub record Follows (options : MassifOptions) (running next : Running) : Type 0 where
+  pub sound : AreSound options next
+  pub later : running.time ≤ next.time
+  pub within : next.time ≤ 2 ^ 62

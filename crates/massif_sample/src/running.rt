@@ -1,12 +1,10 @@
 //! The figures of a trace that grow with each event, and what an event makes of them.
 //! Which snapshots are taken is no part of it.
-ghost use Rattle.std.specs.Prelude.{◌≡◌, ◌+◌, ◌-◌, ◌^◌, ◌<◌, ◌≤◌, true, false, IfOk, IfErr};
-ghost use Rattle.massif_sample.specs.declared.fault.SampleFault.TheVariants.{CostTooLarge};
+ghost use Rattle.std.specs.Prelude.{◌≡◌, ◌+◌, ◌-◌, ◌^◌, ◌<◌, ◌≤◌, true, false, IfNone, IfSome};
 ghost use Rattle.massif_sample.specs.Gross.{gross};
 ghost use Rattle.massif_sample.specs.Options.{AreInRange};
 ghost use Rattle.massif_sample.specs.Running.{TimeFits, no_figures, passed, passes_most, ticked, time_after, time_passed, with_alloc, with_free};
 
-use crate::fault::SampleFault;
 use crate::options::MassifOptions;
 use massif_file::TimeUnit;
 
@@ -104,16 +102,15 @@ impl Running {
         }
     }
 
-    /// These figures, or `CostTooLarge` where the live bytes or the time are more than they may be.
-    pub(crate) fn bounded(self) -> Result<Running, SampleFault>
-        ensures same { IfOk result (λ bounded. bounded ≡ self) }
-        ensures fits { IfOk result (λ bounded. passes_most self ≡ false) }
-        ensures fault { IfErr result (λ fault. (fault ≡ CostTooLarge) × (passes_most self ≡ true)) }
+    /// These figures, or `None` where the live bytes or the time are more than they may be.
+    pub(crate) fn bounded(self) -> Option<Running>
+        ensures some { IfSome result (λ bounded. (bounded ≡ self) × (passes_most self ≡ false)) }
+        ensures none { IfNone result (passes_most self ≡ true) }
     {
         if self.gross > MOST || self.time > MOST {
-            return Err(SampleFault::CostTooLarge);
+            return None;
         }
-        Ok(self)
+        Some(self)
     }
 
     /// The time behind a counted event of so many gross bytes.

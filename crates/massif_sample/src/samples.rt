@@ -1,6 +1,6 @@
 //! The snapshots that are kept of a trace, with the figures that the next one would have.
 //! What a tree says, and which stacks are ignored, are no part of it.
-ghost use Rattle.std.specs.Prelude.{◌≡◌, ◌⊎◌, ℕ, ◌+◌, ◌-◌, ◌^◌, ◌<◌, ◌≤◌, List, [], ◌∷◌, ◌++◌, true, false, length, IfOk, IfErr};
+ghost use Rattle.std.specs.Prelude.{◌≡◌, ◌⊎◌, ℕ, ◌+◌, ◌-◌, ◌^◌, ◌<◌, ◌≤◌, List, [], ◌∷◌, ◌++◌, true, false, length, IfNone, IfOk, IfSome};
 ghost use Rattle.ht_trace.specs.TableState.{TableState};
 ghost use Rattle.live_ledger.specs.declared.event.Event.{Event};
 ghost use Rattle.live_ledger.specs.Events.{event_count};
@@ -8,17 +8,14 @@ ghost use Rattle.massif_cull.specs.declared.snapshot.Offer.{Offer};
 ghost use Rattle.massif_cull.specs.declared.snapshot.Taken.TheVariants.{No, Normal};
 ghost use Rattle.massif_cull.specs.KeptOf.{kept_of};
 ghost use Rattle.massif_cull.specs.TakenAs.{taken_as};
-ghost use Rattle.massif_sample.specs.declared.fault.SampleFault.TheVariants.{CostTooLarge};
 ghost use Rattle.massif_sample.specs.FunctionNames.{FunctionNames};
-ghost use Rattle.massif_sample.specs.Gross.{gross};
 ghost use Rattle.massif_sample.specs.Made.{profile_made};
 ghost use Rattle.massif_sample.specs.Options.{AreInRange, settings_of, tree_options};
-ghost use Rattle.massif_sample.specs.Running.{AreSound, no_figures, passed, passes_most, ticked, with_alloc, with_free};
+ghost use Rattle.massif_sample.specs.Running.{Follows, HasBlock, no_figures, passed, passes_most, ticked, with_alloc, with_free};
 ghost use Rattle.massif_sample.specs.SamplesState.{IsSound};
 ghost use Rattle.massif_sample.specs.StandsFor.{IsSampling, IsTreeAt};
 ghost use Rattle.massif_sample.specs.View.{offer_of};
 
-use crate::fault::SampleFault;
 use crate::load::Load;
 use crate::options::MassifOptions;
 use crate::profile::{description, shown_command, take_snaps};
@@ -154,35 +151,33 @@ impl Samples {
         self.array.offer(offer, load);
     }
 
-    /// The figures behind an allocation that is counted, or `CostTooLarge` where one of them passes 2^62.
-    pub(crate) fn allocated(&self, size: u64) -> Result<Running, SampleFault>
+    /// The figures behind an allocation that is counted, or `None` where one of them passes 2^62.
+    pub(crate) fn allocated(&self, size: u64) -> Option<Running>
         requires place { self.now.running.place < 2 ^ 32 }
         requires size { size ≤ 2 ^ 62 }
-        ensures next { IfOk result (λ next. next ≡ with_alloc self.now.options self.now.running size) }
-        ensures fits { IfOk result (λ next. passes_most next ≡ false) }
-        ensures fault { IfErr result (λ fault. (fault ≡ CostTooLarge) × (passes_most (with_alloc self.now.options self.now.running size) ≡ true)) }
+        ensures next { IfSome result (λ next. next ≡ with_alloc self.now.options self.now.running size) }
+        ensures fits { IfSome result (λ next. passes_most next ≡ false) }
+        ensures follows { IfSome result (λ next. Follows self.now.options self.now.running next) }
+        ensures none { IfNone result (passes_most (with_alloc self.now.options self.now.running size) ≡ true) }
     {
         self.running.allocated(&self.options, size).bounded()
     }
 
-    /// The figures behind a free that is counted, or `CostTooLarge` where one of them passes 2^62.
-    pub(crate) fn freed(&self, size: u64) -> Result<Running, SampleFault>
+    /// The figures behind a free that is counted, or `None` where one of them passes 2^62.
+    pub(crate) fn freed(&self, size: u64) -> Option<Running>
         requires place { self.now.running.place < 2 ^ 32 }
-        requires size { size ≤ 2 ^ 62 }
-        requires heap { size ≤ self.now.running.heap }
-        requires gross { gross self.now.options size ≤ self.now.running.gross }
-        ensures next { IfOk result (λ next. next ≡ with_free self.now.options self.now.running size) }
-        ensures fits { IfOk result (λ next. passes_most next ≡ false) }
-        ensures fault { IfErr result (λ fault. (fault ≡ CostTooLarge) × (passes_most (with_free self.now.options self.now.running size) ≡ true)) }
-        ensures within { IfOk result (λ next. self.now.running.time ≤ 2 ^ 62) }
+        requires block { HasBlock self.now.options self.now.running size }
+        ensures next { IfSome result (λ next. next ≡ with_free self.now.options self.now.running size) }
+        ensures fits { IfSome result (λ next. passes_most next ≡ false) }
+        ensures follows { IfSome result (λ next. Follows self.now.options self.now.running next) }
+        ensures none { IfNone result (passes_most (with_free self.now.options self.now.running size) ≡ true) }
     {
         self.running.freed(&self.options, size).bounded()
     }
 
     /// Moves on to the place behind an event that is counted, which has these figures.
     pub(crate) fn move_to(&mut self, next: Running)
-        requires sound { AreSound self.old.options next }
-        requires later { self.old.running.time ≤ next.time }
+        requires { Follows self.old.options self.old.running next }
         ensures { self.new ≡ record self.old { running = next } }
     {
         self.running = next;

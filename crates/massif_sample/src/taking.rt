@@ -19,7 +19,7 @@ ghost use Rattle.massif_sample.specs.FunctionNames.{FunctionNames, ignores};
 ghost use Rattle.massif_sample.specs.HasApplied.{HasApplied};
 ghost use Rattle.massif_sample.specs.LiveCosts.{live_costs};
 ghost use Rattle.massif_sample.specs.Offers.{offer_at, offers};
-ghost use Rattle.massif_sample.specs.Running.{AreFigures, AreSound, passed};
+ghost use Rattle.massif_sample.specs.Running.{AreFigures, Follows, passed};
 ghost use Rattle.massif_sample.specs.SampleFault.{Tells, sample_fault};
 ghost use Rattle.massif_sample.specs.Snapshots.{costs_at};
 ghost use Rattle.massif_sample.specs.StandsFor.{AreJudged, IsOfStack, IsSampling, StandsFor};
@@ -136,9 +136,7 @@ fn advance<A: Fn(&[u8]) -> bool>(
     requires stacks { ledger.old.stacks ≡ length tables.now.nodes + 1 }
     requires judged { length judged.now ≡ length tables.now.nodes + 1 }
     requires callable { A.IsAlwaysCallable alloc_fns.now.test }
-    requires sound { AreSound samples.old.options next }
-    requires later { samples.old.running.time ≤ next.time }
-    requires within { next.time ≤ 2 ^ 62 }
+    requires follows { Follows samples.old.options samples.old.running next }
     ensures sampling { OnOk result ((names : FunctionNames) (events : List Event) (made : List Offer) →
         AreTexts (FnReturnsAt A.Fn alloc_fns.now.test) names.alloc_fns →
         AreJudged names tables.now judged.now → ledger_spec.StandsFor ledger.old events →
@@ -251,7 +249,9 @@ fn take_alloc<A: Fn(&[u8]) -> bool>(
     if judged[stack as usize] {
         return pass(samples, event, ledger);
     }
-    let next = samples.allocated(size)?;
+    let Some(next) = samples.allocated(size) else {
+        return Err(SampleFault::CostTooLarge);
+    };
     advance(samples, judged, event, next, ledger, tables, alloc_fns)
 }
 
@@ -290,7 +290,9 @@ fn take_free<A: Fn(&[u8]) -> bool>(
         return pass(samples, event, ledger);
     }
     possible_weights();
-    let next = samples.freed(size)?;
+    let Some(next) = samples.freed(size) else {
+        return Err(SampleFault::CostTooLarge);
+    };
     sample_ledger(samples, judged, true, ledger, tables, alloc_fns)?;
     advance(samples, judged, event, next, ledger, tables, alloc_fns)
 }
