@@ -211,6 +211,11 @@ due-free options ignored events info stack size counted taken =
       taken = subst (λ (o : Offer). IsTakenAs options (offers options ignored events ++ offer_at options ignored events true (event_count events) ∷ []) o Detailed) (sym (last-offer options ignored events (Free info stack size) refl)) taken;
     })
 
+pub due-peak : (options : MassifOptions) (ignored : ℕ → Bool) (events : List Event) (info stack size : ℕ) → ignored stack ≡ false
+    → IsTakenAs options (offers options ignored events) (offer_at options ignored events true (event_count events)) Peak
+    → IsDue options ignored events (Free info stack size)
+due-peak options ignored events info stack size counted taken = inl (record { counted = ap not counted; free = refl; taken = taken })
+
 -- sums of numbers that are sums
 sum-split : (f g h : Event → ℕ) (events : List Event) → ((e : Event) → f e ≡ g e + h e) → sum_by f events ≡ sum_by g events + sum_by h events
 sum-split f g h [] each = refl

@@ -127,7 +127,7 @@ impl<A: Fn(&[u8]) -> bool, I: Fn(&[u8]) -> bool> Sampler<A, I> {
             StandsFor self.new.judged.items self.new.samples names tables.now (events ++ event ∷ [])) }
         ensures fault { (names : FunctionNames) (events : List Event) → StandsFor self.old.judged.items self.old.samples names tables.now events → ledger_spec.StandsFor ledger.old events →
             Tells result (sample_fault self.old.samples.options (ignores tables.now names) events event) }
-        ensures due { result ≡ Err OutOfMemory → (names : FunctionNames) (events : List Event) →
+        ensures due { result ≡ Err OutOfMemory → (names : FunctionNames) (events : List Event) → AreStated (FnReturnsAt A.Fn self.old.alloc_fns.test) (FnReturnsAt I.Fn self.old.ignore_fns.test) names →
             StandsFor self.old.judged.items self.old.samples names tables.now events → ledger_spec.StandsFor ledger.old events →
             IsDue self.old.samples.options (ignores tables.now names) events event }
         ensures failed { result ≡ Err OutOfMemory → self.new.samples.failed ≡ true }

@@ -88,7 +88,8 @@ impl Samples {
 
     /// Whether memory was wanting for a snapshot.
     pub(crate) fn has_failed(&self) -> bool
-        ensures { result ≡ self.now.failed }
+        ensures failed { result ≡ self.now.failed }
+        ensures range { AreInRange self.now.options }
     {
         self.failed
     }

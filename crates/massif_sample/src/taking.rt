@@ -19,6 +19,7 @@ ghost use Rattle.massif_sample.specs.FunctionNames.{FunctionNames, ignores};
 ghost use Rattle.massif_sample.specs.HasApplied.{HasApplied};
 ghost use Rattle.massif_sample.specs.LiveCosts.{live_costs};
 ghost use Rattle.massif_sample.specs.Offers.{offer_at, offers};
+ghost use Rattle.massif_sample.specs.Options.{AreInRange};
 ghost use Rattle.massif_sample.specs.Running.{AreFigures, Follows, passed};
 ghost use Rattle.massif_sample.specs.SampleFault.{Tells, sample_fault};
 ghost use Rattle.massif_sample.specs.Snapshots.{costs_at};
@@ -183,6 +184,7 @@ pub(crate) fn take_event<A: Fn(&[u8]) -> bool>(
     tables: &Tables,
     alloc_fns: &FrameTest<A>,
 ) -> Result<(), SampleFault>
+    requires range { AreInRange samples.old.options }
     requires held { IsHeld ledger.old event }
     requires count { ledger.old.totals.events < 2 ^ 32 }
     requires stacks { ledger.old.stacks ≡ length tables.now.nodes + 1 }
@@ -194,7 +196,8 @@ pub(crate) fn take_event<A: Fn(&[u8]) -> bool>(
         StandsFor judged.now samples.new names tables.now (events ++ event ∷ [])) }
     ensures fault { (names : FunctionNames) (events : List Event) → StandsFor judged.now samples.old names tables.now events → ledger_spec.StandsFor ledger.old events →
         Tells result (sample_fault samples.old.options (ignores tables.now names) events event) }
-    ensures due { result ≡ Err OutOfMemory → (names : FunctionNames) (events : List Event) → StandsFor judged.now samples.old names tables.now events → ledger_spec.StandsFor ledger.old events →
+    ensures due { result ≡ Err OutOfMemory → (names : FunctionNames) (events : List Event) → AreTexts (FnReturnsAt A.Fn alloc_fns.now.test) names.alloc_fns →
+        StandsFor judged.now samples.old names tables.now events → ledger_spec.StandsFor ledger.old events →
         IsDue samples.old.options (ignores tables.now names) events event }
     ensures unchanged { IfErr result (λ fault. fault ≢ OutOfMemory → (samples.new ≡ samples.old) × (ledger.new ≡ ledger.old)) }
     ensures options { samples.new.options ≡ samples.old.options }
@@ -237,7 +240,8 @@ fn take_alloc<A: Fn(&[u8]) -> bool>(
         StandsFor judged.now samples.new names tables.now (events ++ Alloc info stack size ∷ [])) }
     ensures fault { (names : FunctionNames) (events : List Event) → StandsFor judged.now samples.old names tables.now events → ledger_spec.StandsFor ledger.old events →
         Tells result (sample_fault samples.old.options (ignores tables.now names) events (Alloc info stack size)) }
-    ensures due { result ≡ Err OutOfMemory → (names : FunctionNames) (events : List Event) → StandsFor judged.now samples.old names tables.now events → ledger_spec.StandsFor ledger.old events →
+    ensures due { result ≡ Err OutOfMemory → (names : FunctionNames) (events : List Event) → AreTexts (FnReturnsAt A.Fn alloc_fns.now.test) names.alloc_fns →
+        StandsFor judged.now samples.old names tables.now events → ledger_spec.StandsFor ledger.old events →
         IsDue samples.old.options (ignores tables.now names) events (Alloc info stack size) }
     ensures unchanged { IfErr result (λ fault. fault ≢ OutOfMemory → (samples.new ≡ samples.old) × (ledger.new ≡ ledger.old)) }
     ensures options { samples.new.options ≡ samples.old.options }
@@ -266,6 +270,7 @@ fn take_free<A: Fn(&[u8]) -> bool>(
     stack: u32,
     size: u64,
 ) -> Result<(), SampleFault>
+    requires range { AreInRange samples.old.options }
     requires held { IsHeld ledger.old (Free info stack size) }
     requires count { ledger.old.totals.events < 2 ^ 32 }
     requires stacks { ledger.old.stacks ≡ length tables.now.nodes + 1 }
@@ -277,7 +282,8 @@ fn take_free<A: Fn(&[u8]) -> bool>(
         StandsFor judged.now samples.new names tables.now (events ++ Free info stack size ∷ [])) }
     ensures fault { (names : FunctionNames) (events : List Event) → StandsFor judged.now samples.old names tables.now events → ledger_spec.StandsFor ledger.old events →
         Tells result (sample_fault samples.old.options (ignores tables.now names) events (Free info stack size)) }
-    ensures due { result ≡ Err OutOfMemory → (names : FunctionNames) (events : List Event) → StandsFor judged.now samples.old names tables.now events → ledger_spec.StandsFor ledger.old events →
+    ensures due { result ≡ Err OutOfMemory → (names : FunctionNames) (events : List Event) → AreTexts (FnReturnsAt A.Fn alloc_fns.now.test) names.alloc_fns →
+        StandsFor judged.now samples.old names tables.now events → ledger_spec.StandsFor ledger.old events →
         IsDue samples.old.options (ignores tables.now names) events (Free info stack size) }
     ensures unchanged { IfErr result (λ fault. fault ≢ OutOfMemory → (samples.new ≡ samples.old) × (ledger.new ≡ ledger.old)) }
     ensures options { samples.new.options ≡ samples.old.options }

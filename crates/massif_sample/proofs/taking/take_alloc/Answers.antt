@@ -82,7 +82,7 @@ pub returns-clause-due : goal.returns-clause-due
 returns-clause-due g c =
     let flag : slice_index_or c.args.judged.now c.args.stack false ≡ false = search rules in
     let held : c.args.stack < c.args.ledger.now.stacks = c.in_ok-check.ensures.sound.stack_held c.args.info _ c.requires.held in
-    λ err names events stands ledger.
+    λ err names events texts stands ledger.
     let ignored : ℕ → Bool = ignores c.args.tables.now names in
     let after : List Event = events ++ Alloc c.args.info c.args.stack c.args.size ∷ [] in
     let counted = judged-is names c.args.tables.now c.args.judged.now c.args.stack false stands.judged (omega arith) flag in
