@@ -1,0 +1,11 @@
+-- What a tree must be for its lines.
+use Rattle.std.specs.Prelude.{ℕ, ◌^◌, ◌<◌, ◌≤◌, List, length, sum_by}
+use Rattle.cost_tree.specs.Costed.{Costed}
+use Rattle.cost_tree.specs.IsTreeOf.{IsTreeOf}
+use Rattle.cost_tree.specs.TreeState.{TreeState}
+
+-- the tree is that of the stacks to fronts of so many texts; the stacks can be counted, and so can what they cost
+pub record IsShown (tree : TreeState) (stacks : List Costed) (depth : ℕ) : Type 0 where
+  pub tree_of : IsTreeOf tree stacks depth
+  pub few : length stacks < 2 ^ 32
+  pub within : sum_by (λ (stack : Costed). stack.cost) stacks ≤ 2 ^ 62

@@ -1,0 +1,8 @@
+pub mod FunctionLists
+pub mod Needed
+pub mod Labels
+pub mod Order
+pub mod MassifTree
+pub mod IsShown
+pub mod Children
+pub mod Pendings

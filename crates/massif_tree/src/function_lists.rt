@@ -1,0 +1,68 @@
+//! The frames that allocation functions leave of a stack, and which stacks are ignored.
+//! The lists of names are asked as they come, and what a stack costs is no part of it.
+ghost use Rattle.std.specs.Prelude.{◌≡◌, ℕ, ◌+◌, ◌≤◌, List, All, length, take, IfOk};
+ghost use Rattle.std.specs.Fn.{FnReturnsAt};
+ghost use Rattle.std.specs.List.{prefix_len};
+ghost use Rattle.cost_tree.specs.FrameTexts.{AreTexts};
+ghost use Rattle.ht_trace.specs.IsFrame.{IsFrame};
+ghost use Rattle.massif_tree.specs.FunctionLists.{is_ignored, is_listed};
+
+use cost_tree::FrameTest;
+use hp_num::NoMemory;
+use ht_trace::{FrameAt, Tables};
+
+/// Whether the stack, which must be below `tables.stacks()`, is ignored: the innermost of its frames that stands behind
+/// its front of allocation functions has a function that is to be ignored. `NoMemory` comes where memory is wanting for
+/// the stack's frames, which replace `frames`.
+pub fn is_ignored<A: Fn(&[u8]) -> bool, I: Fn(&[u8]) -> bool>(
+    tables: &Tables,
+    stack: u32,
+    alloc_fns: &FrameTest<A>,
+    ignore_fns: &FrameTest<I>,
+    frames: &mut Vec<FrameAt>,
+) -> Result<bool, NoMemory>
+    requires held { stack ≤ length tables.now.nodes }
+    requires alloc_callable { A.IsAlwaysCallable alloc_fns.now.test }
+    requires ignore_callable { I.IsAlwaysCallable ignore_fns.now.test }
+    ensures ignored { IfOk result (λ answer. (alloc_names ignore_names : List (List ℕ)) →
+        AreTexts (FnReturnsAt A.Fn alloc_fns.now.test) alloc_names → AreTexts (FnReturnsAt I.Fn ignore_fns.now.test) ignore_names →
+        answer ≡ is_ignored tables.now alloc_names ignore_names stack) }
+{
+    tables.frames_into(stack, frames)?;
+    let front = listed_front(tables, frames, alloc_fns);
+    match frames.get(front) {
+        Some(at) => Ok(is_listed(tables, at, ignore_fns)),
+        None => Ok(false),
+    }
+}
+
+/// How many frames from the first on have a function of the list.
+pub(crate) fn listed_front<F: Fn(&[u8]) -> bool>(
+    tables: &Tables,
+    frames: &[FrameAt],
+    names: &FrameTest<F>,
+) -> usize
+    requires frames { All (λ at. IsFrame tables.now at) frames.now }
+    requires callable { F.IsAlwaysCallable names.now.test }
+    ensures front { (texts : List (List ℕ)) → AreTexts (FnReturnsAt F.Fn names.now.test) texts → result ≡ prefix_len (is_listed tables.now texts) frames.now }
+    ensures within { result ≤ length frames.now }
+{
+    'each_frame: for (place, at) in frames.iter().enumerate() {
+        if !is_listed(tables, at, names) {
+            return place;
+        }
+    }
+    frames.len()
+}
+
+/// Whether the frame has a function of the list.
+fn is_listed<F: Fn(&[u8]) -> bool>(tables: &Tables, at: &FrameAt, names: &FrameTest<F>) -> bool
+    requires frame { IsFrame tables.now at.now }
+    requires callable { F.IsAlwaysCallable names.now.test }
+    ensures listed { (texts : List (List ℕ)) → AreTexts (FnReturnsAt F.Fn names.now.test) texts → result ≡ is_listed tables.now texts at.now }
+{
+    match tables.frame_function(at) {
+        Some(function) => names.of(function),
+        None => false,
+    }
+}
