@@ -6,7 +6,7 @@ ghost use Rattle.std.specs.Result.{result_err};
 ghost use Rattle.cost_tree.specs.Costs.{AreCosts};
 ghost use Rattle.cost_tree.specs.FrameTexts.{AreTexts};
 ghost use Rattle.live_ledger.specs.declared.event.Event.{Event};
-ghost use Rattle.live_ledger.specs.declared.event.Event.TheVariants.{Alloc, Free};
+ghost use Rattle.live_ledger.specs.declared.event.Event.TheVariants.{Alloc, Free, Tick};
 ghost use Rattle.live_ledger.specs.Events.{event_count};
 ghost use Rattle.live_ledger.specs.Faults.{fault_at, fault_of};
 ghost use Rattle.live_ledger.specs.LedgerState.{IsHeld};
@@ -20,7 +20,7 @@ ghost use Rattle.massif_sample.specs.HasApplied.{HasApplied};
 ghost use Rattle.massif_sample.specs.LiveCosts.{live_costs};
 ghost use Rattle.massif_sample.specs.Offers.{offer_at, offers};
 ghost use Rattle.massif_sample.specs.Options.{AreInRange};
-ghost use Rattle.massif_sample.specs.Running.{AreFigures, Follows, passed};
+ghost use Rattle.massif_sample.specs.Running.{AreFigures, Follows, passed, ticked};
 ghost use Rattle.massif_sample.specs.SampleFault.{Tells, sample_fault};
 ghost use Rattle.massif_sample.specs.Snapshots.{costs_at};
 ghost use Rattle.massif_sample.specs.StandsFor.{AreJudged, IsOfStack, IsSampling, StandsFor};
@@ -175,6 +175,18 @@ fn pass(samples: &mut Samples, event: Event, ledger: &mut Ledger) -> Result<(), 
     Ok(())
 }
 
+/// Applies a clock value to the ledger, and takes it.
+fn tick(samples: &mut Samples, ms: u64, ledger: &mut Ledger) -> Result<(), SampleFault>
+    requires count { ledger.old.totals.events < 2 ^ 32 }
+    ensures ok { IsOk result }
+    ensures samples { samples.new ≡ record samples.old { running = ticked samples.old.running ms } }
+    ensures applied { HasApplied ledger.old ledger.new (Tick ms) }
+{
+    ledger.apply(Event::Tick { ms })?;
+    samples.tick(ms);
+    Ok(())
+}
+
 /// Takes an event: applies it to the ledger and takes the snapshots that are due.
 pub(crate) fn take_event<A: Fn(&[u8]) -> bool>(
     samples: &mut Samples,
@@ -205,10 +217,7 @@ pub(crate) fn take_event<A: Fn(&[u8]) -> bool>(
     ensures applied_or_not { (ledger.new ≡ ledger.old) ⊎ HasApplied ledger.old ledger.new event }
 {
     match event {
-        Event::Tick { ms } => {
-            samples.tick(ms);
-            Ok(())
-        }
+        Event::Tick { ms } => tick(samples, ms, ledger),
         Event::Alloc { info, stack, size } => take_alloc(
             samples, judged, ledger, tables, alloc_fns, info, stack, size,
         ),
