@@ -8,3 +8,4 @@ pub mod Costs
 pub mod Trees
 pub mod GrossSizes
 pub mod Standing
+pub mod Judging

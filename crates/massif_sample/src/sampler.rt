@@ -1,12 +1,11 @@
 //! The sampler: it follows the events of a trace beside a ledger, and takes Massif's snapshots of it.
 //! How one event is taken is in `taking`, and what a profile says in `profile`.
-ghost use Rattle.std.specs.Prelude.{◌≡◌, ◌≢◌, ◌⊎◌, ℕ, ◌+◌, ◌^◌, ◌<◌, ◌≤◌, List, [], ◌∷◌, ◌++◌, true, false, length, All, Err, IfOk, IfErr, OnOk, OnErr};
+ghost use Rattle.std.specs.Prelude.{◌≡◌, ◌≢◌, ◌⊎◌, ℕ, ◌+◌, ◌^◌, ◌<◌, ◌≤◌, List, [], ◌∷◌, ◌++◌, true, false, length, Err, IfOk, IfErr, OnOk, OnErr};
 ghost use Rattle.std.specs.Fn.{FnReturnsAt};
 ghost use Rattle.ht_trace.specs.TableState.{TableState};
 ghost use Rattle.live_ledger.specs.declared.event.Event.{Event};
 ghost use Rattle.live_ledger.specs.LedgerState.{IsHeld};
 ghost use Rattle.live_ledger.specs.StandsFor as ledger_spec;
-ghost use Rattle.massif_file.specs.IsWritable.{IsLine, IsWritable};
 ghost use Rattle.massif_sample.specs.declared.fault.SampleFault.TheVariants.{NoMemory as OutOfMemory};
 ghost use Rattle.massif_sample.specs.Due.{IsDue};
 ghost use Rattle.massif_sample.specs.FunctionNames.{AreStated, FunctionNames, ignores};
@@ -89,8 +88,9 @@ impl<A: Fn(&[u8]) -> bool, I: Fn(&[u8]) -> bool> Sampler<A, I> {
         ensures alloc_fns { self.new.alloc_fns ≡ self.old.alloc_fns }
         ensures ignore_fns { self.new.ignore_fns ≡ self.old.ignore_fns }
     {
+        // Says how many stacks there may be.
+        let _stacks = tables.stacks();
         let stack = self.judged.len() as u32;
-        self.judged.reserve(1)?;
         let ignored = is_ignored(
             tables,
             stack,
@@ -151,21 +151,22 @@ impl<A: Fn(&[u8]) -> bool, I: Fn(&[u8]) -> bool> Sampler<A, I> {
             tables,
             &self.alloc_fns,
         );
-        if answer == Err(SampleFault::NoMemory) {
-            self.samples.fail();
+        match answer {
+            Ok(()) => Ok(()),
+            Err(SampleFault::FreeOfNothing) => Err(SampleFault::FreeOfNothing),
+            Err(SampleFault::CostTooLarge) => Err(SampleFault::CostTooLarge),
+            Err(SampleFault::NoMemory) => {
+                self.samples.fail();
+                Err(SampleFault::NoMemory)
+            }
         }
-        answer
     }
 
     /// The profile of the events, with the command of a trace, which is empty where the trace has none. `NoMemory` where
     /// memory is wanting.
-    ///
-    /// Where neither the command nor a string of the tables has a line feed, what is written of the profile is read again.
     pub fn finish(self, cmd: &[u8]) -> Result<Profile, NoMemory>
         ensures profile { IfOk result (λ profile. (names : FunctionNames) (tables : TableState) (events : List Event) →
             StandsFor self.judged.items self.samples names tables events → profile ≡ sampled self.samples.options names tables events cmd.now) }
-        ensures writable { IfOk result (λ profile. (names : FunctionNames) (tables : TableState) (events : List Event) →
-            StandsFor self.judged.items self.samples names tables events → IsLine cmd.now → All IsLine tables.strings → IsWritable profile) }
     {
         let Sampler { samples, .. } = self;
         samples.into_profile(cmd)

@@ -6,6 +6,7 @@ ghost use Rattle.live_ledger.specs.declared.event.Event.{Event};
 ghost use Rattle.live_ledger.specs.Events.{event_count};
 ghost use Rattle.massif_cull.specs.declared.snapshot.Offer.{Offer};
 ghost use Rattle.massif_cull.specs.declared.snapshot.Taken.TheVariants.{No, Normal};
+ghost use Rattle.massif_cull.specs.ArrayState as array;
 ghost use Rattle.massif_cull.specs.KeptOf.{kept_of};
 ghost use Rattle.massif_cull.specs.TakenAs.{taken_as};
 ghost use Rattle.massif_sample.specs.FunctionNames.{FunctionNames};
@@ -203,6 +204,7 @@ impl Samples {
     pub(crate) fn into_profile(self, cmd: &[u8]) -> Result<Profile, NoMemory>
         ensures profile { IfOk result (λ profile. profile ≡ profile_made self cmd.now) }
         ensures sound { IsSound self }
+        ensures array { array.IsSound self.array }
     {
         let Samples {
             options,
@@ -210,6 +212,8 @@ impl Samples {
             alloc,
             ..
         } = self;
+        // Says what holds of every array.
+        let _count = array.len();
         let desc = description(alloc)?;
         let cmd = shown_command(alloc, cmd)?;
         let snaps = take_snaps(alloc, &mut array)?;
