@@ -1,5 +1,5 @@
 -- What stacks cost.
-use Rattle.std.proofs.Common.{◌≡◌, ℕ, zero, suc, ◌+◌, ◌-◌, ◌<◌, ◌≤◌, ◌^◌, List, [], ◌∷◌, length, map, get_or, Bool, true, false, cond, sum, refl, ap, sym, ◌∙◌, arith}
+use Rattle.std.proofs.Common.{◌≡◌, ℕ, zero, suc, ◌+◌, ◌<◌, ◌≤◌, ◌^◌, List, [], ◌∷◌, length, map, get_or, Bool, true, false, cond, sum, refl, ap, sym, ◌∙◌, arith}
 use Rattle.std.specs.Prelude.{slice_get, slice_index_or, Some, sum_by}
 use Rattle.std.specs.List.{range_with_len}
 use Rattle.std.proofs.lemmas.List.FromFn.{get_or-map-range_with_len, length-map-range_with_len}
@@ -9,7 +9,7 @@ use Rattle.ht_trace.specs.TableState.{TableState}
 use Rattle.live_ledger.specs.declared.event.Event.{Event}
 use Rattle.live_ledger.specs.declared.figures.Figures.{Figures}
 use Rattle.live_ledger.specs.Events.{event_count}
-use Rattle.live_ledger.specs.InStack.{alloc_size_in, allocated_in, free_size_in, freed_in, live_in}
+use Rattle.live_ledger.specs.InStack.{alloc_size_in, free_size_in, live_in}
 use Rattle.live_ledger.specs.LedgerState.{LedgerState, figures_at, no_figures}
 use Rattle.live_ledger.specs.Sound.{IsSound}
 use Rattle.live_ledger.specs.StandsFor as ledger_spec
@@ -54,9 +54,9 @@ unfolding live_costs
 live_costs-bound judged ledger sound =
     let same = sum-map (live_cost judged ledger) (range_with_len 0 ledger.stacks) in
     let within = range-within (live_cost judged ledger) (λ (f : Figures). f.live) ledger.figures no_figures 0
-        (λ k inside. let one = cost-within judged ledger k in let e : live_cost judged ledger (0 + k) ≡ live_cost judged ledger k = ap (live_cost judged ledger) (let z : 0 + k ≡ k = omega arith in z) in omega arith) in
+    (λ k inside. let one = cost-within judged ledger k in let e : live_cost judged ledger (0 + k) ≡ live_cost judged ledger k = ap (live_cost judged ledger) (let z : 0 + k ≡ k = omega arith in z) in omega arith) in
     let count : sum_by (live_cost judged ledger) (range_with_len 0 (length ledger.figures)) ≡ sum_by (live_cost judged ledger) (range_with_len 0 ledger.stacks) =
-        ap (λ (n : ℕ). sum_by (live_cost judged ledger) (range_with_len 0 n)) sound.stacks in
+    ap (λ (n : ℕ). sum_by (live_cost judged ledger) (range_with_len 0 n)) sound.stacks in
     omega (arith, sound.sums.live, sound.live_within, sound.allocated_within)
 
 -- functions that agree over a range
@@ -85,9 +85,9 @@ unfolding live_costs costs_at
 live_costs-are judged ledger names tables events stacks are count held stands =
     ap (λ (n : ℕ). map (live_cost judged ledger) (range_with_len 0 n)) held
     ∙ map-same (live_cost judged ledger) (cost_at (ignores tables names) events (event_count events)) 0 stacks
-      (λ stack low high.
-      ap (λ (b : Bool). cond {A = ℕ} b 0 (figures_at ledger stack).live) (get_or_from_slice_get judged stack (ignores tables names stack) false (are stack (omega arith)))
-      ∙ ap (λ (n : ℕ). cond {A = ℕ} (ignores tables names stack) 0 n) ((stands.each_stack stack).live_is ∙ sym (live-now stack events)))
+    (λ stack low high.
+    ap (λ (b : Bool). cond {A = ℕ} b 0 (figures_at ledger stack).live) (get_or_from_slice_get judged stack (ignores tables names stack) false (are stack (omega arith)))
+    ∙ ap (λ (n : ℕ). cond {A = ℕ} (ignores tables names stack) 0 n) ((stands.each_stack stack).live_is ∙ sym (live-now stack events)))
 
 -- before any event no stack costs anything
 pub no_costs : ℕ → List ℕ

@@ -1,6 +1,6 @@
 -- The figures of a list of events with one more.
-use Rattle.std.proofs.Common.{◌≡◌, ℕ, ◌+◌, ◌-◌, ◌<◌, ◌≤◌, ◌^◌, List, [], ◌∷◌, ◌++◌, Bool, true, false, cond, max, refl, ap, sym, subst, ◌∙◌, arith}
-use Rattle.std.specs.Prelude.{count_by, sum_by, fold, not, slice_get, Some}
+use Rattle.std.proofs.Common.{◌≡◌, ℕ, ◌+◌, ◌≤◌, List, [], ◌∷◌, ◌++◌, Bool, true, false, cond, max, refl, ap, sym, ◌∙◌, arith}
+use Rattle.std.specs.Prelude.{not}
 use Rattle.std.proofs.lemmas.List.Sums.{fold_push, sum_by_push}
 use Rattle.live_ledger.specs.declared.event.Event.{Event}
 use Rattle.live_ledger.specs.declared.event.Event.TheVariants.{Alloc, Free, Tick}
@@ -13,11 +13,11 @@ use Rattle.massif_sample.specs.declared.options.MassifOptions.{MassifOptions}
 use Rattle.massif_sample.specs.declared.running.Running.{Running}
 use Rattle.massif_sample.specs.Counted.{counts}
 use Rattle.massif_sample.specs.Gross.{gross}
-use Rattle.massif_sample.specs.HeapTotals.{gross_total, gross_weight, heap_total, heap_weight}
+use Rattle.massif_sample.specs.HeapTotals.{gross_weight, heap_weight}
 use Rattle.massif_sample.specs.Places.{gross_at, heap_at, time_at, up_to}
 use Rattle.massif_sample.specs.Running.{AreFigures, no_figures, passed, ticked, time_after, time_passed, with_alloc, with_free}
 use Rattle.massif_sample.specs.Times.{clock, clock_value, moved_bytes, time_in, time_of}
-use Rattle.massif_sample.proofs.UpTo.{count-more, count-tick, sum-now, up_to-all, up_to-front, up_to-tick}
+use Rattle.massif_sample.proofs.UpTo.{count-more, count-tick, sum-now, up_to-all, up_to-tick}
 
 -- before any event
 pub figures-none : (options : MassifOptions) (ignored : ℕ → Bool) → AreFigures options ignored [] no_figures

@@ -68,10 +68,10 @@ made-is options names tables events entry load is =
     ∙ ap (λ (x : ℕ). with_parts (heap_at (ignores tables names) events entry.place) x (tree_of entry.kind load.tree)) extra
     ∙ ap (λ (t : List TreeLine). with_parts (heap_at (ignores tables names) events entry.place) (gross_at options (ignores tables names) events entry.place - heap_at (ignores tables names) events entry.place) t) (by_kind entry.kind is.tree)
   where
-  by_kind : (k : Kind) → WhereTree k (IsTreeAt options names tables events entry.place load.tree) → tree_of k load.tree ≡ tree_of k (tree_at options names tables events entry.place)
-  by_kind kind.Normal at = refl
-  by_kind kind.Detailed at = at.tree_is
-  by_kind kind.Peak at = at.tree_is
+    by_kind : (k : Kind) → WhereTree k (IsTreeAt options names tables events entry.place load.tree) → tree_of k load.tree ≡ tree_of k (tree_at options names tables events entry.place)
+    by_kind kind.Normal at = refl
+    by_kind kind.Detailed at = at.tree_is
+    by_kind kind.Peak at = at.tree_is
 
 -- and those of all entries
 made-all : (options : MassifOptions) (names : FunctionNames) (tables : TableState) (events : List Event) (entries : List SnapEntry) (loads : List Load)
@@ -89,8 +89,8 @@ pub profile-is : (flags : List Bool) (samples : SamplesState) (names : FunctionN
 unfolding sampled
 profile-is flags samples names tables events cmd sound array_sound stands =
     let kept_is : samples.array.kept ≡ held_of (settings_of samples.options) (kept_of (settings_of samples.options) (offers samples.options (ignores tables names) events)) =
-        stands.sampling.array.kept_is
-        ∙ ap (λ (s : Settings). held_of s (kept_of s (offers samples.options (ignores tables names) events))) sound.settings in
+    stands.sampling.array.kept_is
+    ∙ ap (λ (s : Settings). held_of s (kept_of s (offers samples.options (ignores tables names) events))) sound.settings in
     let with_snaps = λ (ss : List Snap). let profile : Profile = record { desc = description; cmd = shown_command cmd; unit = samples.options.unit; snaps = ss } in profile in
     ap with_snaps (made-all samples.options names tables events samples.array.kept.entries samples.array.loads array_sound.loads_beside stands.sampling.snapshots)
     ∙ ap (λ (k : Kept). with_snaps (map (snap_of samples.options names tables events) k.entries)) kept_is

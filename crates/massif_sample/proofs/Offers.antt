@@ -1,5 +1,5 @@
 -- The offers of a list of events with one more.
-use Rattle.std.proofs.Common.{◌≡◌, ℕ, zero, suc, ◌+◌, ◌<◌, ◌≤◌, List, [], ◌∷◌, ◌++◌, length, Bool, true, false, cond, refl, ap, sym, subst, ◌∙◌, arith, add-one, append-nil}
+use Rattle.std.proofs.Common.{◌≡◌, ℕ, zero, suc, ◌+◌, ◌<◌, ◌≤◌, List, [], ◌∷◌, ◌++◌, length, Bool, true, false, cond, refl, ap, sym, ◌∙◌, arith, add-one, append-nil}
 use Rattle.std.specs.Prelude.{flat_map, slice_get, Option, Some, None}
 use Rattle.std.specs.List.{range_with_len}
 use Rattle.std.specs.Option.{option_map_or}
@@ -7,15 +7,15 @@ use Rattle.std.proofs.lemmas.List.Concat.{flat_map-append}
 use Rattle.std.proofs.lemmas.List.Elements.{filter-append}
 use Rattle.std.proofs.lemmas.List.Sums.{length-filter}
 use Rattle.live_ledger.specs.declared.event.Event.{Event}
-use Rattle.live_ledger.specs.declared.event.Event.TheVariants.{Alloc, Free, Tick}
+use Rattle.live_ledger.specs.declared.event.Event.TheVariants.{Tick}
 use Rattle.live_ledger.specs.Events.{counted, event_count, is_counted, is_free}
 use Rattle.massif_cull.specs.declared.snapshot.Offer.{Offer}
 use Rattle.massif_sample.specs.declared.options.MassifOptions.{MassifOptions}
 use Rattle.massif_sample.specs.declared.running.Running.{Running}
 use Rattle.massif_sample.specs.Counted.{counts}
 use Rattle.massif_sample.specs.HeapTotals.{gross_total}
-use Rattle.massif_sample.specs.Offers.{offer_at, offers, offers_behind, offers_of_event, peak_before}
-use Rattle.massif_sample.specs.Places.{gross_at, time_at, up_to}
+use Rattle.massif_sample.specs.Offers.{offer_at, offers, offers_behind, offers_of_event}
+use Rattle.massif_sample.specs.Places.{time_at}
 use Rattle.massif_sample.specs.Running.{AreFigures}
 use Rattle.massif_sample.specs.Times.{time_of}
 use Rattle.massif_sample.specs.View.{offer_of}
@@ -72,19 +72,19 @@ behind-front : (options : MassifOptions) (ignored : ℕ → Bool) (events more :
     → k < event_count events → offers_behind options ignored (events ++ more) k ≡ offers_behind options ignored events k
 behind-front options ignored events more k within =
     let found : slice_get (counted (events ++ more)) k ≡ slice_get (counted events) k =
-        ap (λ (es : List Event). slice_get es k) (filter-append is_counted events more)
-        ∙ slice_get-more (counted events) (counted more) k (let count = length-filter is_counted events in omega arith) in
+    ap (λ (es : List Event). slice_get es k) (filter-append is_counted events more)
+    ∙ slice_get-more (counted events) (counted more) k (let count = length-filter is_counted events in omega arith) in
     ap (λ (e : Option Event). option_map_or (λ event. offers_of_event options ignored (events ++ more) event k) e []) found
     ∙ by_event (slice_get (counted events) k)
   where
-  made : Bool → Bool → Offer → Offer → List Offer
-  made is_counted is_free peak normal = cond is_counted (cond is_free (peak ∷ []) [] ++ normal ∷ []) []
+    made : Bool → Bool → Offer → Offer → List Offer
+    made is_counted is_free peak normal = cond is_counted (cond is_free (peak ∷ []) [] ++ normal ∷ []) []
 
-  by_event : (e : Option Event) → option_map_or (λ event. offers_of_event options ignored (events ++ more) event k) e [] ≡ option_map_or (λ event. offers_of_event options ignored events event k) e []
-  by_event None = refl
-  by_event (Some event) =
-      ap (λ (o : Offer). made (counts ignored event) (is_free event) o (offer_at options ignored (events ++ more) false (k + 1))) (offer-front options ignored events more true k (omega arith))
-      ∙ ap (λ (o : Offer). made (counts ignored event) (is_free event) (offer_at options ignored events true k) o) (offer-front options ignored events more false (k + 1) (omega arith))
+    by_event : (e : Option Event) → option_map_or (λ event. offers_of_event options ignored (events ++ more) event k) e [] ≡ option_map_or (λ event. offers_of_event options ignored events event k) e []
+    by_event None = refl
+    by_event (Some event) =
+        ap (λ (o : Offer). made (counts ignored event) (is_free event) o (offer_at options ignored (events ++ more) false (k + 1))) (offer-front options ignored events more true k (omega arith))
+        ∙ ap (λ (o : Offer). made (counts ignored event) (is_free event) (offer_at options ignored events true k) o) (offer-front options ignored events more false (k + 1) (omega arith))
 
 -- those up to the last place
 offers-front : (options : MassifOptions) (ignored : ℕ → Bool) (events more : List Event)
@@ -93,7 +93,7 @@ unfolding offers
 offers-front options ignored events more =
     ap (λ (o : Offer). o ∷ flat_map (offers_behind options ignored (events ++ more)) (range_with_len 0 (event_count events))) (offer-front options ignored events more false 0 (omega arith))
     ∙ ap (λ (os : List Offer). offer_at options ignored events false 0 ∷ os)
-      (range-same (offers_behind options ignored (events ++ more)) (offers_behind options ignored events) 0 (event_count events) (λ k low high. behind-front options ignored events more k (omega arith)))
+    (range-same (offers_behind options ignored (events ++ more)) (offers_behind options ignored events) 0 (event_count events) (λ k low high. behind-front options ignored events more k (omega arith)))
 
 -- a clock value brings none
 pub offers-tick : (options : MassifOptions) (ignored : ℕ → Bool) (events : List Event) (ms : ℕ) → offers options ignored (events ++ Tick ms ∷ []) ≡ offers options ignored events
@@ -110,8 +110,8 @@ offers-event options ignored events event is =
     let after : List Event = events ++ event ∷ [] in
     let n : ℕ = event_count events in
     let found : slice_get (counted after) n ≡ Some event =
-        ap (λ (es : List Event). slice_get es n) (filter-append is_counted events (event ∷ []) ∙ ap (λ (b : Bool). counted events ++ cond b (event ∷ []) []) is)
-        ∙ slice_get-next (counted events) event n (sym (length-filter is_counted events)) in
+    ap (λ (es : List Event). slice_get es n) (filter-append is_counted events (event ∷ []) ∙ ap (λ (b : Bool). counted events ++ cond b (event ∷ []) []) is)
+    ∙ slice_get-next (counted events) event n (sym (length-filter is_counted events)) in
     ap (λ (k : ℕ). offer_at options ignored after false 0 ∷ flat_map (offers_behind options ignored after) (range_with_len 0 k)) (count-more events event is ∙ add-one n)
     ∙ ap (λ (ks : List ℕ). offer_at options ignored after false 0 ∷ flat_map (offers_behind options ignored after) ks) (range-more 0 n)
     ∙ ap (λ (os : List Offer). offer_at options ignored after false 0 ∷ os) (flat_map-append (offers_behind options ignored after) (range_with_len 0 n) ((0 + n) ∷ []))

@@ -1,13 +1,13 @@
 -- What samples stand for, step by step.
-use Rattle.std.proofs.Common.{◌≡◌, ℕ, zero, suc, ◌+◌, ◌-◌, ◌<◌, ◌≤◌, ◌^◌, List, [], ◌∷◌, ◌++◌, length, Bool, true, false, cond, refl, ap, sym, subst, ◌∙◌, inl, inr, arith}
-use Rattle.std.specs.Prelude.{slice_get, Some, None, ◌⊎◌}
+use Rattle.std.proofs.Common.{◌≡◌, ℕ, zero, suc, ◌+◌, List, [], ◌∷◌, ◌++◌, false, ap, sym, subst, ◌∙◌}
+use Rattle.std.specs.Prelude.{slice_get, Some, ◌⊎◌}
 use Rattle.ht_trace.specs.TableState.{TableState}
 use Rattle.live_ledger.specs.declared.event.Event.{Event}
 use Rattle.live_ledger.specs.Events.{event_count}
 use Rattle.massif_cull.specs.Origins.{ComeFrom}
 use Rattle.massif_cull.specs.declared.snapshot.Offer.{Offer}
 use Rattle.massif_cull.specs.declared.snapshot.Taken.{Taken}
-use Rattle.massif_cull.specs.declared.snapshot.Taken.TheVariants.{No, Normal, Detailed, Peak}
+use Rattle.massif_cull.specs.declared.snapshot.Taken.TheVariants.{Normal}
 use Rattle.massif_cull.specs.Kept.{nothing_kept}
 use Rattle.massif_cull.specs.StandsFor as array
 use Rattle.massif_cull.specs.declared.snapshot.SnapEntry.{SnapEntry}
@@ -16,7 +16,7 @@ use Rattle.massif_sample.specs.declared.running.Running.{Running}
 use Rattle.massif_sample.specs.FunctionNames.{FunctionNames, ignores}
 use Rattle.massif_sample.specs.Running.{AreFigures, no_figures}
 use Rattle.massif_sample.specs.SamplesState.{SamplesState}
-use Rattle.massif_sample.specs.StandsFor.{AreSnapshots, AreOfStacks, IsOfStack, IsSampling, IsSnapshot, IsTreeAt}
+use Rattle.massif_sample.specs.StandsFor.{AreSnapshots, AreOfStacks, IsOfStack, IsSampling, IsTreeAt}
 use Rattle.massif_sample.proofs.Figures.{figures-none}
 use Rattle.massif_sample.proofs.Snaps.{here, snapshot-front, snapshots-offered}
 

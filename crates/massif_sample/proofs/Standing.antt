@@ -1,6 +1,6 @@
 -- What a sampler stands for behind one more event, and the event's fault.
-use Rattle.std.proofs.Common.{◌≡◌, ◌≢◌, ℕ, suc, ◌+◌, ◌-◌, ◌<◌, ◌≤◌, ◌^◌, List, [], ◌∷◌, ◌++◌, length, Bool, true, false, cond, Option, None, Some, Result, Ok, Err, refl, ap, sym, subst, ◌∙◌, arith, append-nil, append_assoc, inl, inr}
-use Rattle.std.specs.Prelude.{nat_lt, ◌||◌, ◌&&◌, not, slice_get, slice_index_or, sum_by, IfErr, IsOk}
+use Rattle.std.proofs.Common.{◌≡◌, ℕ, suc, ◌+◌, ◌-◌, ◌<◌, ◌≤◌, ◌^◌, List, [], ◌∷◌, ◌++◌, length, Bool, true, false, cond, Option, None, Some, Result, Ok, Err, refl, ap, sym, subst, ◌∙◌, arith, append-nil, append_assoc, inl, inr}
+use Rattle.std.specs.Prelude.{nat_lt, ◌||◌, ◌&&◌, not, slice_index_or, sum_by, IfErr, IsOk}
 use Rattle.std.proofs.lemmas.Option.{get_or_from_slice_get}
 use Rattle.std.proofs.lemmas.List.Sums.{sum_by-cons, sum_by_push}
 use Rattle.std.proofs.lemmas.Bool.Decides.{leb_tells}
@@ -14,7 +14,6 @@ use Rattle.live_ledger.specs.ByInfo.{alloc_weight, free_weight}
 use Rattle.live_ledger.specs.Events.{event_count, is_counted, is_free}
 use Rattle.live_ledger.specs.Faults.{fault_at, fault_of}
 use Rattle.live_ledger.specs.LedgerState.{HeldInfo, LedgerState}
-use Rattle.live_ledger.specs.Sound.{IsSound}
 use Rattle.massif_cull.specs.declared.snapshot.Offer.{Offer}
 use Rattle.massif_cull.specs.declared.snapshot.Taken.TheVariants.{Detailed, Peak}
 use Rattle.massif_sample.specs.declared.fault.SampleFault.{SampleFault}
@@ -22,15 +21,14 @@ use Rattle.massif_sample.specs.declared.fault.SampleFault.TheVariants.{FreeOfNot
 use Rattle.massif_sample.specs.declared.options.MassifOptions.{MassifOptions}
 use Rattle.massif_sample.specs.declared.running.Running.{Running}
 use Rattle.massif_sample.specs.Counted.{counts}
-use Rattle.massif_sample.specs.Due.{IsDetailedDue, IsDue, IsPeakDue, IsTakenAs}
+use Rattle.massif_sample.specs.Due.{IsDue, IsTakenAs}
 use Rattle.massif_sample.specs.FunctionNames.{FunctionNames, ignores}
 use Rattle.massif_sample.specs.Gross.{gross}
 use Rattle.massif_sample.specs.HeapTotals.{gross_total, gross_weight, heap_weight}
 use Rattle.massif_sample.specs.Offers.{offer_at, offers, offers_of_event, peak_before}
 use Rattle.massif_sample.specs.Options.{AreInRange}
-use Rattle.massif_sample.specs.Places.{time_at}
 use Rattle.massif_sample.specs.Running.{AreFigures, HasBlock, passed, passes_most, ticked}
-use Rattle.massif_sample.specs.SampleFault.{Tells, fault_or, is_too_large, of_ledger, sample_fault, size_fault}
+use Rattle.massif_sample.specs.SampleFault.{Tells, fault_or, is_too_large, sample_fault, size_fault}
 use Rattle.massif_sample.specs.SamplesState.{SamplesState}
 use Rattle.massif_sample.specs.StandsFor.{AreJudged, IsOfStack, IsSampling, StandsFor}
 use Rattle.massif_sample.specs.Times.{time_of}
@@ -65,9 +63,9 @@ stands-passed flags samples names tables events event is none of_stack figures s
     let ignored : ℕ → Bool = ignores tables names in
     let moved = sampling-moved samples names tables events (offers samples.options ignored events) event (passed samples.options samples.running) stands.sampling of_stack figures in
     let same : offers samples.options ignored (events ++ event ∷ []) ≡ offers samples.options ignored events =
-        offers-event samples.options ignored events event is
-        ∙ ap (λ (os : List Offer). offers samples.options ignored events ++ os) (offers-of samples.options ignored (events ++ event ∷ []) event (event_count events) false (is_free event) none refl)
-        ∙ append-nil (offers samples.options ignored events) in
+    offers-event samples.options ignored events event is
+    ∙ ap (λ (os : List Offer). offers samples.options ignored events ++ os) (offers-of samples.options ignored (events ++ event ∷ []) event (event_count events) false (is_free event) none refl)
+    ∙ append-nil (offers samples.options ignored events) in
     record {
       judged = stands.judged;
       held = stands.held;
@@ -101,9 +99,9 @@ stands-counted :
 stands-counted flags old new names tables events event made is stands options_is made_is sampling some =
     let ignored : ℕ → Bool = ignores tables names in
     let same : offers new.options ignored (events ++ event ∷ []) ≡ offers old.options ignored events ++ made =
-        ap (λ (o : MassifOptions). offers o ignored (events ++ event ∷ [])) options_is
-        ∙ offers-event old.options ignored events event is
-        ∙ ap (λ (os : List Offer). offers old.options ignored events ++ os) made_is in
+    ap (λ (o : MassifOptions). offers o ignored (events ++ event ∷ [])) options_is
+    ∙ offers-event old.options ignored events event is
+    ∙ ap (λ (os : List Offer). offers old.options ignored events ++ os) made_is in
     record {
       judged = stands.judged;
       held = stands.held;
@@ -122,7 +120,7 @@ pub stands-alloc :
     → StandsFor flags old names tables events
     → new.options ≡ old.options
     → IsSampling new names tables (events ++ Alloc info stack size ∷ [])
-      (offers old.options (ignores tables names) events ++ offer_at old.options (ignores tables names) (events ++ Alloc info stack size ∷ []) false (event_count (events ++ Alloc info stack size ∷ [])) ∷ [])
+    (offers old.options (ignores tables names) events ++ offer_at old.options (ignores tables names) (events ++ Alloc info stack size ∷ []) false (event_count (events ++ Alloc info stack size ∷ [])) ∷ [])
     → 0 < length new.array.kept.entries
     → StandsFor flags new names tables (events ++ Alloc info stack size ∷ [])
 stands-alloc flags old new names tables events info stack size counted stands options_is sampling some =
@@ -138,8 +136,8 @@ pub stands-free :
     → StandsFor flags old names tables events
     → new.options ≡ old.options
     → IsSampling new names tables (events ++ Free info stack size ∷ [])
-      ((offers old.options (ignores tables names) events ++ offer_at old.options (ignores tables names) events true (event_count events) ∷ [])
-      ++ offer_at old.options (ignores tables names) (events ++ Free info stack size ∷ []) false (event_count (events ++ Free info stack size ∷ [])) ∷ [])
+    ((offers old.options (ignores tables names) events ++ offer_at old.options (ignores tables names) events true (event_count events) ∷ [])
+    ++ offer_at old.options (ignores tables names) (events ++ Free info stack size ∷ []) false (event_count (events ++ Free info stack size ∷ [])) ∷ [])
     → 0 < length new.array.kept.entries
     → StandsFor flags new names tables (events ++ Free info stack size ∷ [])
 stands-free flags old new names tables events info stack size counted stands options_is sampling some =
@@ -173,9 +171,9 @@ fault-counted options ignored events event next large is none counted figures pa
     let gross_is : gross_total options ignored after ≡ next.gross = let was = figures.gross in omega arith in
     let time_is : time_of options ignored after ≡ next.time = sym (figures.time ∙ ap (time_of options ignored) (up_to-all events event is)) in
     let same : is_too_large options ignored after ≡ large =
-        ap (λ (g : ℕ). nat_lt (2 ^ 62) g || nat_lt (2 ^ 62) (time_of options ignored after)) gross_is
-        ∙ ap (λ (t : ℕ). nat_lt (2 ^ 62) next.gross || nat_lt (2 ^ 62) t) time_is
-        ∙ passes in
+    ap (λ (g : ℕ). nat_lt (2 ^ 62) g || nat_lt (2 ^ 62) (time_of options ignored after)) gross_is
+    ∙ ap (λ (t : ℕ). nat_lt (2 ^ 62) next.gross || nat_lt (2 ^ 62) t) time_is
+    ∙ passes in
     fault-taken options ignored events event true none counted
     ∙ ap (λ (b : Bool). cond {A = Option SampleFault} b (Some CostTooLarge) None) same
 

@@ -1,5 +1,5 @@
 -- The tree of the present place, and when one is taken.
-use Rattle.std.proofs.Common.{◌≡◌, ◌≢◌, ℕ, ◌+◌, ◌≤◌, ◌^◌, List, length, Bool, true, false, cond, sum, refl, ap, sym, subst, ◌∙◌, arith}
+use Rattle.std.proofs.Common.{◌≡◌, ◌≢◌, ℕ, ◌+◌, ◌≤◌, ◌^◌, List, length, Bool, true, false, cond, sum, refl, ap, subst, ◌∙◌}
 use Rattle.std.specs.Prelude.{◌==◌, ◌%◌, nat_le, nat_lt, Result, Ok, Err, OnErr, OnOk}
 use Rattle.cost_tree.specs.Costed.{costed}
 use Rattle.ht_trace.specs.TableState.{TableState}
@@ -51,15 +51,15 @@ taken-with_tree settings kept offer taken is some no_normal =
     by_tests offer.peak (nat_lt (peak_bound settings kept) offer.total) (nat_le (next_time_after kept.entries kept.interval) offer.time) ((kept.normals + 1) % settings.detailed_freq == 0)
     (λ none. some (is ∙ none)) (λ normal. no_normal (is ∙ normal))
   where
-  taken_by : Bool → Bool → Bool → Bool → Taken
-  taken_by peak above late freq = cond peak (cond above Peak No) (cond late (cond freq Detailed Normal) No)
+    taken_by : Bool → Bool → Bool → Bool → Taken
+    taken_by peak above late freq = cond peak (cond above Peak No) (cond late (cond freq Detailed Normal) No)
 
-  by_tests : (peak above late freq : Bool) → (taken_by peak above late freq ≢ No) → (taken_by peak above late freq ≢ Normal) → taken_by peak above late freq ≡ cond peak Peak Detailed
-  by_tests true true late freq some no_normal = refl
-  by_tests true false late freq some no_normal = absurd (some refl)
-  by_tests false above true true some no_normal = refl
-  by_tests false above true false some no_normal = absurd (no_normal refl)
-  by_tests false above false freq some no_normal = absurd (some refl)
+    by_tests : (peak above late freq : Bool) → (taken_by peak above late freq ≢ No) → (taken_by peak above late freq ≢ Normal) → taken_by peak above late freq ≡ cond peak Peak Detailed
+    by_tests true true late freq some no_normal = refl
+    by_tests true false late freq some no_normal = absurd (some refl)
+    by_tests false above true true some no_normal = refl
+    by_tests false above true false some no_normal = absurd (no_normal refl)
+    by_tests false above false freq some no_normal = absurd (some refl)
 
 -- what holds holds at an error too
 pub at_err : {T E : Type 0} (r : Result T E) {P : Type 0} → P → OnErr r P

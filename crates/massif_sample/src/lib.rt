@@ -10,8 +10,6 @@ mod running;
 mod sampler;
 mod samples;
 mod taking;
-#[cfg(test)]
-mod tests;
 
 pub use fault::SampleFault;
 pub use options::MassifOptions;

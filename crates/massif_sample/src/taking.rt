@@ -117,7 +117,10 @@ fn sample_ledger<A: Fn(&[u8]) -> bool>(
     ensures failed { samples.new.failed ≡ samples.old.failed }
     ensures some { OnOk result (0 < length samples.new.array.kept.entries) }
 {
-    let costing = Costing::new(ledger.stacks(), |stack: u32| live_cost(judged, ledger, stack));
+    let costing = Costing::new(
+        ledger.stacks(),
+        |stack: u32| live_cost(judged, ledger, stack),
+    );
     sample(samples, as_peak, tables, alloc_fns, &costing)
 }
 
@@ -144,7 +147,7 @@ fn advance<A: Fn(&[u8]) -> bool>(
         IsSampling samples.old names tables.now events made → IsOfStack tables.now event →
         AreFigures samples.old.options (ignores tables.now names) (events ++ event ∷ []) next →
         IsSampling samples.new names tables.now (events ++ event ∷ [])
-            (made ++ offer_at samples.old.options (ignores tables.now names) (events ++ event ∷ []) false (event_count (events ++ event ∷ [])) ∷ [])) }
+        (made ++ offer_at samples.old.options (ignores tables.now names) (events ++ event ∷ []) false (event_count (events ++ event ∷ [])) ∷ [])) }
     ensures only { IfErr result (λ fault. fault ≡ OutOfMemory) }
     ensures due { OnErr result ((names : FunctionNames) (events : List Event) (made : List Offer) →
         IsSampling samples.old names tables.now events made → IsOfStack tables.now event →

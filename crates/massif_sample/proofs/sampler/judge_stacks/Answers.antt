@@ -1,4 +1,4 @@
-use Rattle.std.proofs.Common.{◌≡◌, ◌∙◌, List, [], Bool, length, ap, sym, subst, arith}
+use Rattle.std.proofs.Common.{◌∙◌, List, Bool, length, ap, sym, subst, arith}
 use Rattle.std.proofs.lemmas.List.{length_push}
 use Rattle.massif_sample.specs.StandsFor.{AreJudged}
 use Rattle.massif_sample.proofs.Judging.{judged-none, judged-push}
@@ -17,7 +17,7 @@ each_stack-preserved g c =
     let count = c.each_stack.invariant.0 in (
       ap (λ (flags : List Bool). length flags) pushed ∙ (let more = length_push c.each_stack.judged.items c.in_ok-is_ignored.field-0 in omega arith),
       λ names stated.
-      subst (λ (flags : List Bool). AreJudged names c.args.tables.now flags) (sym pushed)
-      (judged-push names c.args.tables.now c.each_stack.judged.items c.each_stack.stack c.in_ok-is_ignored.field-0 (c.each_stack.invariant.1 names stated) (sym count)
-      (c.in_ok-is_ignored.ensures.ignored names.alloc_fns names.ignore_fns stated.alloc_fns stated.ignore_fns)),
+          subst (λ (flags : List Bool). AreJudged names c.args.tables.now flags) (sym pushed)
+          (judged-push names c.args.tables.now c.each_stack.judged.items c.each_stack.stack c.in_ok-is_ignored.field-0 (c.each_stack.invariant.1 names stated) (sym count)
+          (c.in_ok-is_ignored.ensures.ignored names.alloc_fns names.ignore_fns stated.alloc_fns stated.ignore_fns)),
     )

@@ -1,4 +1,4 @@
-use Rattle.std.proofs.Common.{◌≡◌, ◌∙◌, ◌++◌, ◌∷◌, []}
+use Rattle.std.proofs.Common.{◌++◌, ◌∷◌, []}
 use Rattle.massif_sample.proofs.Sampling.{sampling-moved}
 use Rattle.massif_sample.proofs.Trees.{at_err}
 use Rattle.massif_sample.proofs.taking.advance.Goals as goal

@@ -1,4 +1,4 @@
-use Rattle.std.proofs.Common.{◌≡◌, ℕ, Bool, true, false, cond, ap, sym, ◌∙◌, arith, rules}
+use Rattle.std.proofs.Common.{◌≡◌, ℕ, Bool, true, false, cond, ap, sym, ◌∙◌, rules}
 use Rattle.std.specs.Prelude.{Some, slice_index_or}
 use Rattle.live_ledger.specs.LedgerState.{figures_at}
 use Rattle.live_ledger.specs.declared.figures.Figures.{Figures}

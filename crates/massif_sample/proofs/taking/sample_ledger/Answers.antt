@@ -1,4 +1,4 @@
-use Rattle.std.proofs.Common.{◌≡◌, ◌∙◌, ℕ, ◌+◌, ◌<◌, List, length, arith, rules}
+use Rattle.std.proofs.Common.{ℕ, ◌+◌, ◌<◌, List, length, arith, rules}
 use Rattle.std.proofs.lemmas.Result.{on_ok_weaker}
 use Rattle.massif_sample.specs.LiveCosts.{live_costs}
 use Rattle.massif_sample.proofs.Costs.{live_costs-are, live_costs-bound, live_costs-count}

@@ -1,17 +1,16 @@
-use Rattle.std.proofs.Common.{◌≡◌, ◌≢◌, ◌∙◌, ℕ, ◌<◌, ◌≤◌, ◌^◌, ◌++◌, ◌∷◌, [], List, length, Bool, true, false, None, refl, ap, sym, subst, arith, rules}
-use Rattle.std.specs.Prelude.{not, slice_index_or, OnOk}
-use Rattle.std.proofs.lemmas.Result.{on_ok_weaker}
+use Rattle.std.proofs.Common.{◌≡◌, ℕ, ◌<◌, ◌++◌, ◌∷◌, [], List, Bool, true, false, None, refl, ap, sym, subst, arith, rules}
+use Rattle.std.specs.Prelude.{not, slice_index_or}
 use Rattle.live_ledger.specs.declared.event.Event.{Event}
 use Rattle.live_ledger.specs.declared.event.Event.TheVariants.{Alloc}
 use Rattle.live_ledger.specs.Faults.{fault_of}
-use Rattle.massif_sample.specs.FunctionNames.{FunctionNames, ignores}
+use Rattle.massif_sample.specs.FunctionNames.{ignores}
 use Rattle.massif_sample.specs.declared.running.Running.{Running}
 use Rattle.massif_sample.specs.Offers.{offers}
 use Rattle.massif_sample.specs.Running.{AreFigures, passes_most, with_alloc}
 use Rattle.massif_sample.specs.SamplesState.{SamplesState}
 use Rattle.massif_sample.specs.StandsFor.{StandsFor}
 use Rattle.massif_sample.proofs.Figures.{figures-alloc, figures-passed_alloc}
-use Rattle.massif_sample.proofs.Standing.{due-alloc, fault-counted, fault-passed, judged-is, size-fits, stands-alloc, stands-passed, tells-none, tells-ok}
+use Rattle.massif_sample.proofs.Standing.{due-alloc, fault-counted, fault-passed, judged-is, stands-alloc, stands-passed, tells-none, tells-ok}
 use Rattle.massif_sample.proofs.Trees.{at_ok, both_ok, of_err}
 use Rattle.massif_sample.proofs.taking.take_alloc.Goals as goal
 
@@ -58,7 +57,7 @@ returns-clause-stands g c =
     let after : List Event = events ++ Alloc c.args.info c.args.stack c.args.size ∷ [] in
     let counted = judged-is names c.args.tables.now c.args.judged.now c.args.stack false stands.judged (omega arith) flag in
     let figures = subst (λ (r : Running). AreFigures c.args.samples.now.options ignored after r) (sym c.in-Some.ensures.next)
-        (figures-alloc c.args.samples.now.options ignored events c.args.samples.now.running c.args.info c.args.stack c.args.size counted stands.sampling.figures) in
+    (figures-alloc c.args.samples.now.options ignored events c.args.samples.now.running c.args.info c.args.stack c.args.size counted stands.sampling.figures) in
     stands-alloc c.args.judged.now c.args.samples.now c.advance.new.samples names c.args.tables.now events c.args.info c.args.stack c.args.size counted stands c.advance.ensures.options
     (sampled names events (offers c.args.samples.now.options ignored events) texts stands.judged ledger stands.sampling (omega arith) figures)
     some)
@@ -74,7 +73,7 @@ returns-clause-fault g c =
     let counted = judged-is names c.args.tables.now c.args.judged.now c.args.stack false stands.judged (omega arith) flag in
     let none : None ≡ fault_of events (Alloc c.args.info c.args.stack c.args.size) = c.in_ok-check.ensures.fault events ledger in
     let figures = subst (λ (r : Running). AreFigures c.args.samples.now.options ignored after r) (sym c.in-Some.ensures.next)
-        (figures-alloc c.args.samples.now.options ignored events c.args.samples.now.running c.args.info c.args.stack c.args.size counted stands.sampling.figures) in
+    (figures-alloc c.args.samples.now.options ignored events c.args.samples.now.running c.args.info c.args.stack c.args.size counted stands.sampling.figures) in
     tells-none c.advance.result _ c.advance.ensures.only
     (fault-counted c.args.samples.now.options ignored events (Alloc c.args.info c.args.stack c.args.size) c.in-Some.next false refl (sym none) (ap not counted) figures c.in-Some.ensures.fits)
 
@@ -87,6 +86,6 @@ returns-clause-due g c =
     let after : List Event = events ++ Alloc c.args.info c.args.stack c.args.size ∷ [] in
     let counted = judged-is names c.args.tables.now c.args.judged.now c.args.stack false stands.judged (omega arith) flag in
     let figures = subst (λ (r : Running). AreFigures c.args.samples.now.options ignored after r) (sym c.in-Some.ensures.next)
-        (figures-alloc c.args.samples.now.options ignored events c.args.samples.now.running c.args.info c.args.stack c.args.size counted stands.sampling.figures) in
+    (figures-alloc c.args.samples.now.options ignored events c.args.samples.now.running c.args.info c.args.stack c.args.size counted stands.sampling.figures) in
     due-alloc c.args.samples.now.options ignored events c.args.info c.args.stack c.args.size counted
     (of_err c.advance.result _ err c.advance.ensures.due names events (offers c.args.samples.now.options ignored events) stands.sampling (omega arith) figures)

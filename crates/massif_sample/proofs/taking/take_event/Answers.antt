@@ -1,5 +1,4 @@
-use Rattle.std.proofs.Common.{◌≡◌, ◌∙◌, List, ◌++◌, ◌∷◌, [], refl, sym, subst}
-use Rattle.live_ledger.specs.declared.event.Event.{Event}
+use Rattle.std.proofs.Common.{◌++◌, ◌∷◌, [], refl, sym, subst}
 use Rattle.live_ledger.specs.declared.event.Event.TheVariants.{Tick}
 use Rattle.massif_sample.specs.SamplesState.{SamplesState}
 use Rattle.massif_sample.specs.StandsFor.{StandsFor}

@@ -1,22 +1,21 @@
-use Rattle.std.proofs.Common.{◌≡◌, ◌≢◌, ◌∙◌, ℕ, ◌<◌, ◌≤◌, ◌^◌, ◌++◌, ◌∷◌, [], List, length, Bool, true, false, None, refl, ap, sym, subst, arith, rules}
-use Rattle.std.specs.Prelude.{not, slice_index_or, OnOk}
-use Rattle.std.proofs.lemmas.Result.{on_ok_weaker}
+use Rattle.std.proofs.Common.{◌≡◌, ◌∙◌, ℕ, ◌<◌, ◌++◌, ◌∷◌, [], List, Bool, true, false, None, refl, ap, sym, subst, arith, rules}
+use Rattle.std.specs.Prelude.{not, slice_index_or}
 use Rattle.live_ledger.specs.declared.event.Event.{Event}
 use Rattle.live_ledger.specs.declared.event.Event.TheVariants.{Free}
 use Rattle.live_ledger.specs.Events.{event_count}
 use Rattle.live_ledger.specs.Faults.{fault_of}
-use Rattle.massif_sample.specs.FunctionNames.{FunctionNames, ignores}
+use Rattle.massif_sample.specs.FunctionNames.{ignores}
 use Rattle.massif_sample.specs.declared.options.MassifOptions.{MassifOptions}
 use Rattle.massif_sample.specs.declared.running.Running.{Running}
 use Rattle.massif_cull.specs.declared.snapshot.Taken.TheVariants.{Detailed}
 use Rattle.massif_sample.specs.Due.{IsTakenAs}
 use Rattle.massif_sample.specs.Offers.{offer_at, offers}
-use Rattle.massif_sample.specs.Running.{AreFigures, HasBlock, passes_most, with_free}
+use Rattle.massif_sample.specs.Running.{AreFigures, passes_most, with_free}
 use Rattle.massif_sample.specs.SamplesState.{SamplesState}
 use Rattle.massif_sample.specs.StandsFor.{IsSampling, StandsFor}
 use Rattle.massif_sample.proofs.Figures.{figures-free, figures-passed_free}
 use Rattle.massif_sample.proofs.Standing.{due-free, due-peak, fault-counted, fault-passed, judged-is, has-block, stands-free, stands-passed, tells-none, tells-ok}
-use Rattle.massif_sample.proofs.Trees.{at_err, at_ok, both_ok, of_err}
+use Rattle.massif_sample.proofs.Trees.{at_ok, both_ok, of_err}
 use Rattle.massif_sample.proofs.taking.take_free.Goals as goal
 
 pub returns-then-judged-stack-clause-stands : goal.returns-then-judged-stack-clause-stands
@@ -49,7 +48,7 @@ returns-in_default-clause-fault g c =
     let counted = judged-is names c.args.tables.now c.args.judged.now c.args.stack false stands.judged (omega arith) flag in
     let none : None ≡ fault_of events (Free c.args.info c.args.stack c.args.size) = c.in_ok-check.ensures.fault events ledger in
     let block = has-block c.args.samples.now.options (ignores c.args.tables.now names) events c.args.samples.now.running c.args.info c.args.stack c.args.size c.requires.range counted stands.sampling.figures
-        (λ weight. c.possible_weights.ensures (events ++ Free c.args.info c.args.stack c.args.size ∷ []) weight (c.in_ok-check.ensures.possible events ledger)) in
+    (λ weight. c.possible_weights.ensures (events ++ Free c.args.info c.args.stack c.args.size ∷ []) weight (c.in_ok-check.ensures.possible events ledger)) in
     fault-counted c.args.samples.now.options (ignores c.args.tables.now names) events (Free c.args.info c.args.stack c.args.size) _ true refl (sym none) (ap not counted)
     (figures-free c.args.samples.now.options (ignores c.args.tables.now names) events c.args.samples.now.running c.args.info c.args.stack c.args.size counted block.heap block.gross_within stands.sampling.figures)
     passes
@@ -64,9 +63,9 @@ returns-clause-stands g c =
     let after : List Event = events ++ Free c.args.info c.args.stack c.args.size ∷ [] in
     let counted = judged-is names c.args.tables.now c.args.judged.now c.args.stack false stands.judged (omega arith) flag in
     let block = has-block c.args.samples.now.options (ignores c.args.tables.now names) events c.args.samples.now.running c.args.info c.args.stack c.args.size c.requires.range counted stands.sampling.figures
-        (λ weight. c.possible_weights.ensures (events ++ Free c.args.info c.args.stack c.args.size ∷ []) weight (c.in_ok-check.ensures.possible events ledger)) in
+    (λ weight. c.possible_weights.ensures (events ++ Free c.args.info c.args.stack c.args.size ∷ []) weight (c.in_ok-check.ensures.possible events ledger)) in
     let figures = subst (λ (r : Running). AreFigures c.args.samples.now.options ignored after r) (sym c.in-Some.ensures.next)
-        (figures-free c.args.samples.now.options ignored events c.args.samples.now.running c.args.info c.args.stack c.args.size counted block.heap block.gross_within stands.sampling.figures) in
+    (figures-free c.args.samples.now.options ignored events c.args.samples.now.running c.args.info c.args.stack c.args.size counted block.heap block.gross_within stands.sampling.figures) in
     let same = c.sample_ledger.ensures.options in
     let here = subst (λ (o : MassifOptions). AreFigures o ignored after c.in-Some.next) (sym same) figures in
     let peak = c.in_ok-sample_ledger.ensures.sampling names events (offers c.args.samples.now.options ignored events) texts stands.judged ledger stands.sampling in
@@ -86,9 +85,9 @@ returns-clause-fault g c =
     let counted = judged-is names c.args.tables.now c.args.judged.now c.args.stack false stands.judged (omega arith) flag in
     let none : None ≡ fault_of events (Free c.args.info c.args.stack c.args.size) = c.in_ok-check.ensures.fault events ledger in
     let block = has-block c.args.samples.now.options (ignores c.args.tables.now names) events c.args.samples.now.running c.args.info c.args.stack c.args.size c.requires.range counted stands.sampling.figures
-        (λ weight. c.possible_weights.ensures (events ++ Free c.args.info c.args.stack c.args.size ∷ []) weight (c.in_ok-check.ensures.possible events ledger)) in
+    (λ weight. c.possible_weights.ensures (events ++ Free c.args.info c.args.stack c.args.size ∷ []) weight (c.in_ok-check.ensures.possible events ledger)) in
     let figures = subst (λ (r : Running). AreFigures c.args.samples.now.options ignored after r) (sym c.in-Some.ensures.next)
-        (figures-free c.args.samples.now.options ignored events c.args.samples.now.running c.args.info c.args.stack c.args.size counted block.heap block.gross_within stands.sampling.figures) in
+    (figures-free c.args.samples.now.options ignored events c.args.samples.now.running c.args.info c.args.stack c.args.size counted block.heap block.gross_within stands.sampling.figures) in
     tells-none c.advance.result _ c.advance.ensures.only
     (fault-counted c.args.samples.now.options ignored events (Free c.args.info c.args.stack c.args.size) c.in-Some.next false refl (sym none) (ap not counted) figures c.in-Some.ensures.fits)
 
@@ -101,9 +100,9 @@ returns-clause-due g c =
     let after : List Event = events ++ Free c.args.info c.args.stack c.args.size ∷ [] in
     let counted = judged-is names c.args.tables.now c.args.judged.now c.args.stack false stands.judged (omega arith) flag in
     let block = has-block c.args.samples.now.options (ignores c.args.tables.now names) events c.args.samples.now.running c.args.info c.args.stack c.args.size c.requires.range counted stands.sampling.figures
-        (λ weight. c.possible_weights.ensures (events ++ Free c.args.info c.args.stack c.args.size ∷ []) weight (c.in_ok-check.ensures.possible events ledger)) in
+    (λ weight. c.possible_weights.ensures (events ++ Free c.args.info c.args.stack c.args.size ∷ []) weight (c.in_ok-check.ensures.possible events ledger)) in
     let figures = subst (λ (r : Running). AreFigures c.args.samples.now.options ignored after r) (sym c.in-Some.ensures.next)
-        (figures-free c.args.samples.now.options ignored events c.args.samples.now.running c.args.info c.args.stack c.args.size counted block.heap block.gross_within stands.sampling.figures) in
+    (figures-free c.args.samples.now.options ignored events c.args.samples.now.running c.args.info c.args.stack c.args.size counted block.heap block.gross_within stands.sampling.figures) in
     let same = c.sample_ledger.ensures.options in
     let here = subst (λ (o : MassifOptions). AreFigures o ignored after c.in-Some.next) (sym same) figures in
     due-free c.args.samples.now.options ignored events c.args.info c.args.stack c.args.size counted
@@ -120,12 +119,11 @@ returns-in_err-sample_ledger-clause-fault g c =
     let counted = judged-is names c.args.tables.now c.args.judged.now c.args.stack false stands.judged (omega arith) flag in
     let none : None ≡ fault_of events (Free c.args.info c.args.stack c.args.size) = c.in_ok-check.ensures.fault events ledger in
     let block = has-block c.args.samples.now.options (ignores c.args.tables.now names) events c.args.samples.now.running c.args.info c.args.stack c.args.size c.requires.range counted stands.sampling.figures
-        (λ weight. c.possible_weights.ensures (events ++ Free c.args.info c.args.stack c.args.size ∷ []) weight (c.in_ok-check.ensures.possible events ledger)) in
+    (λ weight. c.possible_weights.ensures (events ++ Free c.args.info c.args.stack c.args.size ∷ []) weight (c.in_ok-check.ensures.possible events ledger)) in
     let figures = subst (λ (r : Running). AreFigures c.args.samples.now.options ignored after r) (sym c.in-Some.ensures.next)
-        (figures-free c.args.samples.now.options ignored events c.args.samples.now.running c.args.info c.args.stack c.args.size counted block.heap block.gross_within stands.sampling.figures) in
+    (figures-free c.args.samples.now.options ignored events c.args.samples.now.running c.args.info c.args.stack c.args.size counted block.heap block.gross_within stands.sampling.figures) in
     tells-none c.from_residual-in_err-sample_ledger.result _ (search rules)
     (fault-counted c.args.samples.now.options ignored events (Free c.args.info c.args.stack c.args.size) c.in-Some.next false refl (sym none) (ap not counted) figures c.in-Some.ensures.fits)
-
 
 pub returns-in_err-sample_ledger-clause-due : goal.returns-in_err-sample_ledger-clause-due
 returns-in_err-sample_ledger-clause-due g c =

@@ -1,5 +1,4 @@
-use Rattle.std.proofs.Common.{◌≡◌, ◌∙◌, ℕ, ◌+◌, ◌<◌, List, [], ◌∷◌, ◌++◌, Some, false, length, refl, ap, sym, subst, arith, rules}
-use Rattle.live_ledger.specs.Events.{event_count}
+use Rattle.std.proofs.Common.{◌≡◌, ◌∙◌, ℕ, ◌+◌, [], Some, length, ap, sym, arith, rules}
 use Rattle.massif_sample.specs.FunctionNames.{ignores}
 use Rattle.massif_sample.proofs.Costs.{no_costs, no_costs-are, no_costs-at, no_costs-bound, no_costs-count}
 use Rattle.massif_sample.proofs.Judging.{stands-new}

@@ -1,5 +1,4 @@
 use Rattle.std.proofs.Common.{◌≡◌, List, Bool, length, ap, sym, subst, arith, ◌∙◌}
-use Rattle.std.proofs.lemmas.List.{length_push}
 use Rattle.massif_sample.specs.FunctionNames.{ignores}
 use Rattle.massif_sample.specs.StandsFor.{StandsFor}
 use Rattle.massif_sample.proofs.Judging.{stands-judged}

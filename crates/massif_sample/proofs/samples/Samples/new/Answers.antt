@@ -1,5 +1,4 @@
 use Rattle.std.proofs.Common.{refl}
-use Rattle.massif_sample.specs.FunctionNames.{ignores}
 use Rattle.massif_sample.proofs.Sampling.{sampling-none}
 use Rattle.massif_sample.proofs.samples.Samples.new.Goals as goal
 

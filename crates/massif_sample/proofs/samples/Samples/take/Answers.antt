@@ -1,4 +1,4 @@
-use Rattle.std.proofs.Common.{◌≡◌, ◌⊎◌, ◌∙◌, ◌-◌, ap, refl, sym, arith, inl, inr}
+use Rattle.std.proofs.Common.{◌∙◌, ◌-◌, ap, refl, arith, inl, inr}
 use Rattle.massif_cull.specs.Kept.{Settings}
 use Rattle.massif_cull.specs.TakenAs.{taken_as}
 use Rattle.massif_sample.specs.View.{state_of}
