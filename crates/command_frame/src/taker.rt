@@ -1,5 +1,6 @@
 //! What takes the lines of a file, one after another. What the lines mean is the business of the commands.
 ghost use Rattle.std.specs.Prelude.{◌≡◌, ℕ, ◌+◌, ◌^◌, ◌<◌, ◌≤◌, List, [], ◌∷◌, ◌++◌, None, Some, length, OnOk, OnErr, IfErr};
+ghost use Rattle.hp_outside.specs.WholeLines.{IsLineText};
 ghost use Rattle.command_frame.specs.Batch.{HasTakenFront};
 ghost use Rattle.command_frame.specs.Report.{Report};
 ghost use Rattle.command_frame.specs.Taker.{Tells};
@@ -49,11 +50,12 @@ pub trait LineTaker {
     /// A number that grows by no more than a line's bytes and 1 with each line.
     ghost weight: { Self → ℕ };
 
-    /// Takes the next line, and appends what the line gives to standard output. `Fault` comes exactly where the line has
-    /// one after the lines before it, and `NoMemory` where memory is wanting; `output` then is as it was, and the taker
-    /// of no use.
+    /// Takes the next line, in which no line feed stands, and appends what the line gives to standard output. `Fault` comes
+    /// exactly where the line has one after the lines before it, and `NoMemory` where memory is wanting; `output` then is as
+    /// it was, and the taker of no use.
     fn line(&mut self, line: &[u8], output: &mut Vec<u8>) -> Result<(), LineRefusal<Self::Fault>>
         requires sound { is_sound self.old }
+        requires one_line { IsLineText line.now }
         requires short { length line.now < 2 ^ 32 }
         requires room { weight self.old + length line.now ≤ 2 ^ 34 }
         ensures sound { OnOk result (is_sound self.new) }

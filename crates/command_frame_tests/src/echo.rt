@@ -64,7 +64,7 @@ impl LineTaker for Echo {
 }
 
 impl LineReport for Echo {
-    fn finish(&self, alloc: Global) -> Result<Vec<u8>, LineRefusal<Bad>> {
+    fn finish(&mut self, alloc: Global) -> Result<Vec<u8>, LineRefusal<Bad>> {
         if self.refuses {
             return Err(LineRefusal::Fault(Bad));
         }

@@ -1,34 +1,12 @@
 //! `heapsuite`: reports on heap traces.
 //!
-//! The program makes the real store and outputs and ends with the status of `run::heapsuite_main`, which goes to
-//! `run::heapsuite_run`, the program's contract.
+//! The program makes the real store and outputs and ends with the status of `heapsuite_main` of `commands`, which goes to
+//! `heapsuite_run`, the program's contract.
 #![tactic(auto)]
 
-mod batch;
-mod fault;
-mod flame_command;
-mod gen_command;
-mod gen_summary;
-mod interpret_command;
-mod interpret_reader;
-mod number_words;
-mod print_command;
-mod print_words;
-mod read_trace;
-mod run;
-mod run_words;
-mod summary_command;
-mod suppressed_trace;
-mod suppressions;
-mod texts;
-mod trace_reader;
-mod trace_run;
-mod trace_writer;
-mod words;
-
+use commands::heapsuite_main;
 use hp_num::NoMemory;
 use hp_outside::{FsStore, StdSink};
-use run::heapsuite_main;
 use std::alloc::Global;
 use std::env;
 use std::io::ErrorKind;
@@ -59,16 +37,3 @@ fn main(rt: HostRuntime) -> ExitCode {
     let status = heapsuite_main(alloc, &words, &mut store, &mut out, &mut err);
     ExitCode::from(status)
 }
-
-#[cfg(test)]
-mod flame_tests;
-#[cfg(test)]
-mod gen_tests;
-#[cfg(test)]
-mod interpret_tests;
-#[cfg(test)]
-mod print_tests;
-#[cfg(test)]
-mod refusal_tests;
-#[cfg(test)]
-mod tests;

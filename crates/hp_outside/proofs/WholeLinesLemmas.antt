@@ -1,9 +1,13 @@
 -- Whole lines in front of other bytes are the first lines of them all.
-use Rattle.std.proofs.Common.{◌≡◌, ◌≢◌, ℕ, Bool, true, false, if◌then◌else◌, ◌+◌, ◌≤◌, List, [], ◌∷◌, ◌++◌, Option, length, take, drop, refl, sym, ap, ◌∙◌, arith, ne_eqb, append_assoc, length-append, length-take, All}
+use Rattle.std.proofs.Common.{◌≡◌, ◌≢◌, ℕ, suc, Bool, true, false, cond, not, if◌then◌else◌, ◌+◌, ◌≤◌, List, [], ◌∷◌, ◌++◌, Option, IfSome, None, Some, length, take, drop, refl, sym, ap, subst, ◌∙◌, arith, ne_eqb, append_assoc, length-append, length-take, All}
 use Rattle.std.proofs.lemmas.List.{take-append-drop}
-use Rattle.std.proofs.lemmas.List.Elements.{All-head, All-tail}
+use Rattle.std.proofs.lemmas.Bool.Decides.{nat_tests}
+use Rattle.std.proofs.lemmas.List.Elements.{All-cons, All-head, All-nil, All-tail}
+use Rattle.std.proofs.Math.Seq.{take-length}
+use Rattle.std.specs.List.{position_or_len}
 use Rattle.std.specs.Io.KnownBytes.{prepend_known}
-use Rattle.hp_outside.specs.Lines.{lines_of}
+use Rattle.hp_outside.specs.Lines.{is_line_feed, lines_of}
+use Rattle.hp_outside.specs.declared.span.Span.{Span}
 use Rattle.hp_outside.specs.WholeLines.{IsLineText, IsWholeLines, text_of_lines}
 use Rattle.hp_outside.proofs.Known.{prepend_known-append}
 
@@ -53,3 +57,22 @@ given_passed false passed count = omega arith
 pub given_within : (line_ended : Bool) (passed : ℕ) → (if line_ended then passed else passed + 1) ≤ passed + 1
 given_within true passed = omega arith
 given_within false passed = omega arith
+
+-- no line feed stands before the first one
+before-feed : (bytes : List ℕ) → IsLineText (take (position_or_len is_line_feed bytes) bytes)
+before-feed [] = All-nil (λ b. b ≢ 10)
+before-feed (byte ∷ bytes) = by (is_line_feed byte) refl (before-feed bytes)
+  where
+    by : (t : Bool) → is_line_feed byte ≡ t → IsLineText (take (position_or_len is_line_feed bytes) bytes) → IsLineText (take (cond (not t) (1 + position_or_len is_line_feed bytes) 0) (byte ∷ bytes))
+    by true is rest = All-nil (λ b. b ≢ 10)
+    by false is rest =
+        let one : suc (position_or_len is_line_feed bytes) ≡ 1 + position_or_len is_line_feed bytes = omega arith in
+        subst (λ n. IsLineText (take n (byte ∷ bytes))) one (All-cons (λ b. b ≢ 10) byte (take (position_or_len is_line_feed bytes) bytes) (grind (arith, nat_tests, is)) rest)
+
+-- a line before the first line feed has none, nor has one in bytes that have none
+pub line-one : (kept line : List ℕ) (count : ℕ) → position_or_len is_line_feed kept ≡ count → line ≡ take count kept → IsLineText line
+line-one kept line count place is = subst IsLineText (ap (λ n. take n kept) place ∙ sym is) (before-feed kept)
+
+pub last-one : (kept line : List ℕ) (place : Option Span) → position_or_len is_line_feed kept ≡ length kept → IfSome place (λ span. line ≡ kept) → IfSome place (λ span. IsLineText line)
+last-one kept line None none is = tt
+last-one kept line (Some span) none is = line-one kept line (length kept) none (is ∙ sym (take-length kept))

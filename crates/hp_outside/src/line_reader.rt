@@ -159,6 +159,7 @@ impl LineReader {
             (self.new.passed ≡ self.old.passed + length self.new.line + 1)
             ⊎ ((self.new.passed ≡ self.old.passed + length self.new.line) × (self.new.ended ≡ true)))) }
         ensures short { IfOk result (λ place. IfSome place (λ span. length self.new.line ≤ self.new.line_limit)) }
+        ensures one_line { IfOk result (λ place. IfSome place (λ span. IsLineText self.new.line)) }
 
         // Whether a line feed ends the line: what is told of the file says so, and how far the reader moved.
         ensures line_ended { self.old.fault ≡ None

@@ -73,10 +73,10 @@ same-readings v w (line ∷ lines) all =
     ∙ ap (λ (rest : List Content). cons_option (result_ok (reading Interpreted w line)) rest) (same-readings v w lines all.1)
 
 -- how the version and the contents of lines change with one more
-record Reads (lines : List (List ℕ)) (line : List ℕ) (said : Content) : Type 0 where
-  version : version_of (lines ++ line ∷ []) ≡ option_or (version_of lines) (version_in said)
-  said_is : contents (lines ++ line ∷ []) ≡ contents lines ++ said ∷ []
-  first : is_some (version_of (lines ++ line ∷ [])) ≡ false → AllByRecursion (λ line. may_stand_first line ≡ true) (lines ++ line ∷ [])
+pub record Reads (lines : List (List ℕ)) (line : List ℕ) (said : Content) : Type 0 where
+  pub version : version_of (lines ++ line ∷ []) ≡ option_or (version_of lines) (version_in said)
+  pub said_is : contents (lines ++ line ∷ []) ≡ contents lines ++ said ∷ []
+  pub first : is_some (version_of (lines ++ line ∷ [])) ≡ false → AllByRecursion (λ line. may_stand_first line ≡ true) (lines ++ line ∷ [])
 
 -- the version of lines with one more, where the versions so far are known
 version-push : (lines : List (List ℕ)) (line : List ℕ) → version_of (lines ++ line ∷ []) ≡ option_or (version_of lines) (option_and_then version_in (result_ok (reading Interpreted 1 line)))
@@ -91,7 +91,7 @@ readings-push v lines line said read =
     ∙ ap (λ (r : Result Content Malformed). filter_map (λ line. result_ok (reading Interpreted v line)) lines ++ option_to_list (result_ok r)) read
 
 -- after the version line its file version stays
-reads-later : (version : ℕ) (lines : List (List ℕ)) (line : List ℕ) (said : Content) → version_of lines ≡ Some version → reading Interpreted version line ≡ Ok said → Reads lines line said
+pub reads-later : (version : ℕ) (lines : List (List ℕ)) (line : List ℕ) (said : Content) → version_of lines ≡ Some version → reading Interpreted version line ≡ Ok said → Reads lines line said
 reads-later version lines line said is read =
     let same : version_of (lines ++ line ∷ []) ≡ Some version = version-push lines line ∙ ap (λ (o : Option ℕ). option_or o (option_and_then version_in (result_ok (reading Interpreted 1 line)))) is in
     let now : file_version (lines ++ line ∷ []) ≡ version = ap (λ (o : Option ℕ). unwrap_or o 1) same in
@@ -106,7 +106,7 @@ reads-later version lines line said is read =
     }
 
 -- before the version line, and at it, the lines read alike in each file version
-reads-first : (lines : List (List ℕ)) (line : List ℕ) (said : Content) → version_of lines ≡ None → AllByRecursion (λ line. may_stand_first line ≡ true) lines → may_stand_first line ≡ true → reading Interpreted 1 line ≡ Ok said → Reads lines line said
+pub reads-first : (lines : List (List ℕ)) (line : List ℕ) (said : Content) → version_of lines ≡ None → AllByRecursion (λ line. may_stand_first line ≡ true) lines → may_stand_first line ≡ true → reading Interpreted 1 line ≡ Ok said → Reads lines line said
 reads-first lines line said none before may read =
     let all = all-push (λ (line : List ℕ). may_stand_first line ≡ true) lines line before may in
     let one : file_version lines ≡ 1 = ap (λ (o : Option ℕ). unwrap_or o 1) none in

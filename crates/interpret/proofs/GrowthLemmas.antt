@@ -40,7 +40,7 @@ cons_option-nil (Some y) = refl
 pub filter_map-push : {X Y : Type 0} (f : X → Option Y) (xs : List X) (x : X) → filter_map f (xs ++ x ∷ []) ≡ filter_map f xs ++ option_to_list (f x)
 filter_map-push f xs x = filter_map-append f xs (x ∷ []) ∙ ap (λ more. filter_map f xs ++ more) (cons_option-nil (f x))
 
-modules-push : (said : List Content) (c : Content) → modules (said ++ c ∷ []) ≡ modules_after (modules said) c
+pub modules-push : (said : List Content) (c : Content) → modules (said ++ c ∷ []) ≡ modules_after (modules said) c
 unfolding modules
 modules-push said c = fold_push modules_after [] said c
 
@@ -85,11 +85,11 @@ unfolding instructions known
 instructions-push symbols said (node_line ip parent) = ap (without_repeats same_ip) (gathered-push (call_in symbols) [] said (node_line ip parent)) ∙ call-push symbols (modules said) (gathered (call_in symbols) [] said) ip
 instructions-push symbols said c = ap (without_repeats same_ip) (gathered-push (call_in symbols) [] said c ∙ append-nil _) ∙ sym (append-nil _)
 
-known-push : (symbols : List Symbol) (said : List Content) (c : Content) → known symbols (said ++ c ∷ []) ≡ known_with (known symbols said) (added symbols said c)
+pub known-push : (symbols : List Symbol) (said : List Content) (c : Content) → known symbols (said ++ c ∷ []) ≡ known_with (known symbols said) (added symbols said c)
 unfolding known
 known-push symbols said c = ap (map known_of) (instructions-push symbols said c) ∙ map-append known_of (instructions symbols said) (option_to_list (added symbols said c))
 
-names-push : (symbols : List Symbol) (said : List Content) (c : Content) → names symbols (said ++ c ∷ []) ≡ names_with (names symbols said) (added symbols said c)
+pub names-push : (symbols : List Symbol) (said : List Content) (c : Content) → names symbols (said ++ c ∷ []) ≡ names_with (names symbols said) (added symbols said c)
 unfolding names
 names-push symbols said c =
     ap (λ (found : List Resolved). without_repeats bytes_eq (flat_map names_called found)) (instructions-push symbols said c)
@@ -100,7 +100,7 @@ pub infos-push : (said : List Content) (c : Content) → infos (said ++ c ∷ []
 unfolding infos
 infos-push said c = ap (without_repeats same_info) (filter_map-push info_in said c) ∙ repeats-all (λ (info : AllocationInfo). info) same_info infos-decide (filter_map info_in said) (option_to_list (info_in c))
 
-nodes-push : (symbols : List Symbol) (said : List Content) (c : Content) → nodes symbols (said ++ c ∷ []) ≡ nodes symbols said ++ option_to_list (node_in symbols said c)
+pub nodes-push : (symbols : List Symbol) (said : List Content) (c : Content) → nodes symbols (said ++ c ∷ []) ≡ nodes symbols said ++ option_to_list (node_in symbols said c)
 unfolding nodes
 nodes-push symbols said c = gathered-push (node_in symbols) [] said c
 

@@ -3,6 +3,8 @@ mod EntryLemmas
 mod ExtendLemmas
 mod FieldLemmas
 mod GrowthLemmas
+mod IpLemmas
+mod KeepLemmas
 mod LedgerLemmas
 mod PointerLemmas
 mod RawLedgerLemmas
@@ -13,3 +15,10 @@ mod KeyLemmas
 mod ListLemmas
 mod TableLemmas
 mod TakeLemmas
+mod ToldLemmas
+mod WritableLemmas
+mod ReadAgainLemmas
+mod OneLineLemmas
+mod GoodLemmas
+mod FreeLemmas
+mod NoFaultLemmas

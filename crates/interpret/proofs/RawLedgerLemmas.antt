@@ -1,7 +1,7 @@
 -- The blocks of a raw trace: no block is freed twice, so that what is live and what was freed are all.
-use Rattle.std.proofs.Common.{◌≡◌, ◌≢◌, ℕ, ◌+◌, ◌<◌, ◌≤◌, Bool, true, false, not, cond, eqb, ◌||◌, List, [], ◌∷◌, ◌++◌, length, filter, reverse, Option, Some, None, refl, sym, ap, ◌∙◌, arith, append_assoc, append-nil, length-append, subst, true≢false}
+use Rattle.std.proofs.Common.{◌≡◌, ◌≢◌, ℕ, ◌+◌, ◌<◌, ◌≤◌, Bool, true, false, not, cond, ◌||◌, List, [], ◌∷◌, ◌++◌, length, filter, Option, Some, None, refl, sym, ap, ◌∙◌, arith, append_assoc, append-nil, length-append, subst}
 use Rattle.std.specs.Prelude.{◌==◌, sum_by}
-use Rattle.std.specs.List.{AllByRecursion, list_any}
+use Rattle.std.specs.List.{AllByRecursion}
 use Rattle.std.specs.Option.{option_to_list}
 use Rattle.std.proofs.lemmas.Bool.Decides.{nat_tests}
 use Rattle.std.proofs.lemmas.List.{length-reverse}
@@ -9,8 +9,7 @@ use Rattle.std.proofs.lemmas.List.Elements.{filter-append}
 use Rattle.std.proofs.lemmas.List.Folds.{list_any-append}
 use Rattle.std.proofs.lemmas.List.Sums.{sum_by-append}
 use Rattle.ht_lines.specs.Content.{Content, raw_allocation_line, raw_free_line}
-use Rattle.interpret.specs.declared.infos.AllocationInfo.{AllocationInfo}
-use Rattle.interpret.specs.RawBlocks.{RawBlock, freed_by, held, held_back}
+use Rattle.interpret.specs.RawBlocks.{RawBlock, freed_by, held}
 use Rattle.interpret.specs.RawLedger.{block_in, blocks, freed, is_freed, live_blocks}
 use Rattle.interpret.proofs.GrowthLemmas.{gathered-push}
 use Rattle.interpret.proofs.PointerLemmas.{held-push}
@@ -77,7 +76,7 @@ filter-stays gone block (x ∷ xs) apart =
     or-false false = refl
 
 -- what one freed block takes from the live ones
-frees-once : (w : RawBlock → ℕ) (gone all : List RawBlock) (block : RawBlock) → IsOnce block all → is_freed gone block ≡ false
+pub frees-once : (w : RawBlock → ℕ) (gone all : List RawBlock) (block : RawBlock) → IsOnce block all → is_freed gone block ≡ false
     → sum_by w (filter (λ x. not (is_freed (gone ++ block ∷ []) x)) all) + w block ≡ sum_by w (filter (λ x. not (is_freed gone x)) all)
 frees-once w gone all block once live =
     let now = λ (x : RawBlock). not (is_freed (gone ++ block ∷ []) x) in
@@ -115,7 +114,7 @@ once-new new all below = record {
   back_apart = tt;
 }
 
-some-is : {X : Type 0} (x y : X) → Some x ≡ Some y → x ≡ y
+pub some-is : {X : Type 0} (x y : X) → Some x ≡ Some y → x ≡ y
 some-is x y is = cc
 
 -- the block of an allocation behind the lines

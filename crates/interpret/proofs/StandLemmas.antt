@@ -28,11 +28,11 @@ use Rattle.interpret.specs.RawTables.{RawTables, info_in, infos, instructions, k
 use Rattle.interpret.specs.SymbolLine.{Symbol}
 use Rattle.interpret.specs.TakesLine.{HasRead, HasRefused, Takes, freed_at}
 use Rattle.interpret.proofs.GrowthLemmas.{filter_map-push, gathered-push, infos-push, tables-push}
-use Rattle.interpret.proofs.LedgerLemmas.{keeps-ledger}
+use Rattle.interpret.proofs.KeepLemmas.{keeps-ledger}
 use Rattle.interpret.proofs.PointerLemmas.{points-push}
 
 -- each of a list with one more at its end
-all-push : {X : Type 0} (P : X → Type 0) (xs : List X) (x : X) → AllByRecursion P xs → P x → AllByRecursion P (xs ++ x ∷ [])
+pub all-push : {X : Type 0} (P : X → Type 0) (xs : List X) (x : X) → AllByRecursion P xs → P x → AllByRecursion P (xs ++ x ∷ [])
 all-push P [] x all here = (here, tt)
 all-push P (y ∷ ys) x all here = (all.0, all-push P ys x all.1 here)
 
@@ -60,10 +60,10 @@ same-readings v w (line ∷ lines) all =
     ∙ ap (λ (rest : List Content). cons_option (result_ok (reading Raw w line)) rest) (same-readings v w lines all.1)
 
 -- how the version and the contents of lines change with one more
-record Reads (lines : List (List ℕ)) (line : List ℕ) (said : Content) : Type 0 where
-  version : version_of (lines ++ line ∷ []) ≡ option_or (version_of lines) (version_in said)
-  said_is : contents (lines ++ line ∷ []) ≡ contents lines ++ said ∷ []
-  first : is_some (version_of (lines ++ line ∷ [])) ≡ false → AllByRecursion (λ line. may_stand_first line ≡ true) (lines ++ line ∷ [])
+pub record Reads (lines : List (List ℕ)) (line : List ℕ) (said : Content) : Type 0 where
+  pub version : version_of (lines ++ line ∷ []) ≡ option_or (version_of lines) (version_in said)
+  pub said_is : contents (lines ++ line ∷ []) ≡ contents lines ++ said ∷ []
+  pub first : is_some (version_of (lines ++ line ∷ [])) ≡ false → AllByRecursion (λ line. may_stand_first line ≡ true) (lines ++ line ∷ [])
 
 -- the version of lines with one more, where the versions so far are known
 version-push : (lines : List (List ℕ)) (line : List ℕ) → version_of (lines ++ line ∷ []) ≡ option_or (version_of lines) (option_and_then version_in (result_ok (reading Raw 1 line)))
@@ -108,13 +108,14 @@ reads-first lines line said none before may read =
     }
 
 -- the line is read in the file version so far, which before the version line may be any
+pub reads-by : (version : Option ℕ) (lines : List (List ℕ)) (line : List ℕ) (said : Content) → version ≡ version_of lines → (is_some version ≡ false → AllByRecursion (λ line. may_stand_first line ≡ true) lines)
+    → (is_some version || may_stand_first line) ≡ true → reading Raw (unwrap_or version 1) line ≡ Ok said → Reads lines line said
+reads-by None lines line said is first may read = reads-first lines line said (sym is) (first refl) may read
+reads-by (Some version) lines line said is first may read = reads-later version lines line said (sym is) read
+
 reads-next : (old : InterpreterState) (symbols : List Symbol) (lines : List (List ℕ)) (line : List ℕ) (said : Content) → StandsFor old symbols lines → (is_some old.version || may_stand_first line) ≡ true → reading Raw (unwrap_or old.version 1) line ≡ Ok said
     → Reads lines line said
-reads-next old symbols lines line said stands may read = by_version old.version stands.version stands.first may read
-  where
-    by_version : (v : Option ℕ) → v ≡ version_of lines → (is_some v ≡ false → AllByRecursion (λ line. may_stand_first line ≡ true) lines) → (is_some v || may_stand_first line) ≡ true → reading Raw (unwrap_or v 1) line ≡ Ok said → Reads lines line said
-    by_version None is first may read = reads-first lines line said (sym is) (first refl) may read
-    by_version (Some version) is first may read = reads-later version lines line said (sym is) read
+reads-next old symbols lines line said stands may read = reads-by old.version lines line said stands.version stands.first may read
 
 -- the fault of the line after the lines is that beside the state
 pub fault-is : (old : InterpreterState) (symbols : List Symbol) (lines : List (List ℕ)) (line : List ℕ) → StandsFor old symbols lines → raw_fault symbols lines line ≡ fault_in old.symbols old.version old.tables line

@@ -15,6 +15,8 @@ pub mod RawBlocks
 pub mod Interpreted
 pub mod RawFault
 pub mod InterpretedSaid
+pub mod IpLists
 pub mod RawLedger
+pub mod InterpretedTrace
 pub mod InterpreterState
 pub mod TakesLine

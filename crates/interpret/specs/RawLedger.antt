@@ -1,11 +1,11 @@
 -- What the blocks of a raw trace allocate and free at a node, and what stays live.
-use Rattle.std.specs.Prelude.{◌≡◌, ℕ, ◌==◌, Bool, not, List, [], ◌∷◌, ◌++◌, if◌then◌else◌, filter, length, count_by, sum_by, map, Option, Some, None}
+use Rattle.std.specs.Prelude.{◌≡◌, ℕ, ◌==◌, Bool, not, List, [], if◌then◌else◌, filter, length, count_by, sum_by, map, Option, Some, None}
 use Rattle.std.specs.List.{list_any}
-use Rattle.std.specs.Option.{option_map}
 use Rattle.ht_lines.specs.Content.{Content, raw_allocation_line}
 use Rattle.ht_trace.specs.Gathered.{gathered}
 use Rattle.live_ledger.specs.InStack.{blocks_in, live_in}
-use Rattle.interpret.specs.InterpretedSaid.{interpreted_events}
+use Rattle.interpret.specs.InterpretedSaid.{interpreted_events, interpreted_said}
+use Rattle.interpret.specs.IpLists.{interpreted_ips, raw_ips}
 use Rattle.interpret.specs.RawBlocks.{RawBlock, freed_by}
 use Rattle.interpret.specs.SymbolLine.{Symbol}
 
@@ -35,7 +35,9 @@ is_of node block = block.info.trace == node
 abbrev pub bytes_of : ℕ → RawBlock → ℕ
 bytes_of node block = if block.info.trace == node then block.info.size else 0
 
--- at every node the interpreted lines leave the bytes and the blocks live that the raw ones do
+-- at every node the interpreted lines leave the bytes and the blocks live that the raw ones do, and its instruction pointers
+-- outwards are the same
 pub record KeepsLedger (symbols : List Symbol) (said : List Content) : Type 0 where
   pub bytes : (node : ℕ) → live_in node (interpreted_events symbols said) ≡ sum_by (bytes_of node) (live_blocks said)
   pub blocks : (node : ℕ) → blocks_in node (interpreted_events symbols said) ≡ count_by (is_of node) (live_blocks said)
+  pub stacks : (node : ℕ) → interpreted_ips (interpreted_said symbols said) node ≡ map Some (raw_ips said node)

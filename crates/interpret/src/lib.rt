@@ -8,6 +8,7 @@ mod infos;
 mod instruction_lines;
 mod interpreter;
 mod known_ips;
+mod laws;
 mod modules;
 mod name_table;
 mod node_lines;
@@ -20,6 +21,7 @@ mod symbols;
 
 pub use fault::SymbolFault;
 pub use interpreter::Interpreter;
+pub use laws::interpreted_traces;
 pub use symbols::Symbols;
 
 #[cfg(test)]

@@ -1,11 +1,11 @@
 //! Worked trees, and each call once with ample memory.
 ghost use Rattle.std.specs.Prelude.{◌^◌, ◌≤◌, sum};
 
-use cost_tree::{CostTree, Costing, FrameTest, Fronts};
+use cost_tree::{Costing, FrameTest};
 use hp_num::{NoMemory, put_bytes, put_dec};
 use ht_trace::{LineError, Tables};
 use massif_file::Tree;
-use massif_tree::{TreeOptions, is_ignored, snapshot_tree, tree_lines};
+use massif_tree::{TreeOptions, is_ignored, snapshot_tree};
 use std::alloc::Global;
 use std::process::Abort;
 
@@ -42,15 +42,27 @@ const ONE_PERCENT: TreeOptions = TreeOptions {
     depth: 30,
 };
 
+/// The tree of the stacks with these costs, without the front of functions with this name.
+fn tree_without(
+    rt: &impl Abort,
+    alloc: Global,
+    tables: &Tables,
+    name: &[u8],
+    costs: &[u64],
+) -> Result<Vec<u8>, NoMemory>
+    requires { sum costs.now ≤ 2 ^ 62 }
+{
+    assert_eq!(rt; tables.stacks() as usize, costs.len());
+    let costing = Costing::new(tables.stacks(), |stack: u32| costs[stack as usize]);
+    let alloc_fns = FrameTest::new(|function: &[u8]| function == name);
+    let tree = snapshot_tree(alloc, tables, &alloc_fns, &costing, &ONE_PERCENT, 120)?;
+    shown(rt, alloc, &tree)
+}
+
 /// The tree at the peak of the worked trace, without the front of functions with this name.
 fn peak_without(rt: &impl Abort, alloc: Global, name: &[u8]) -> Result<Vec<u8>, LineError> {
     let tables = worked_tables(rt, alloc)?;
-    let costs = [0, 0, 100];
-    assert_eq!(rt; tables.stacks(), 3);
-    let costing = Costing::new(3, |stack: u32| costs[stack as usize]);
-    let alloc_fns = FrameTest::new(|function: &[u8]| function == name);
-    let tree = snapshot_tree(alloc, &tables, &alloc_fns, &costing, &ONE_PERCENT, 120)?;
-    Ok(shown(rt, alloc, &tree)?)
+    Ok(tree_without(rt, alloc, &tables, name, &[0, 0, 100])?)
 }
 
 #[test]
@@ -64,51 +76,6 @@ fn peaks_of_a_trace(rt: HostRuntime) -> Result<(), LineError> {
     assert_eq!(rt;
         trimmed.as_slice(),
         b"1 100 (heap allocation functions) malloc/new/new[], --alloc-fns, etc.\n0 100 0x400: main (a.c:20)\n".as_slice()
-    );
-    Ok(())
-}
-
-/// The tree of one list of one text for each byte, with these costs.
-fn tree_of(
-    rt: &impl Abort,
-    alloc: Global,
-    texts: &[u8],
-    costs: &[u64],
-    total: u64,
-) -> Result<Vec<u8>, NoMemory>
-    requires { sum costs.now ≤ 2 ^ 62 }
-{
-    let mut fronts = Fronts::new(alloc);
-    for text in texts.chunks(1) {
-        assert!(rt; fronts.len() < u32::MAX);
-        let number = fronts.begin()?;
-        assert!(rt; fronts.len() > number);
-        fronts.push(text)?;
-    }
-    assert_eq!(rt; fronts.len() as usize, costs.len());
-    let costing = Costing::new(fronts.len(), |stack: u32| costs[stack as usize]);
-    let tree = CostTree::of_fronts(alloc, &fronts, &costing, ONE_PERCENT.depth)?;
-    shown(rt, alloc, &tree_lines(alloc, &tree, &ONE_PERCENT, total)?)
-}
-
-// The least cost that has a line of its own, equal costs, and small ones.
-#[test]
-fn places_below_the_threshold(rt: HostRuntime) -> Result<(), NoMemory> {
-    let places = tree_of(
-        &rt,
-        rt.alloc(),
-        b"abcdef",
-        &[20, 91, 10, 8960, 10, 91],
-        9100,
-    )?;
-    assert_eq!(rt;
-        places.as_slice(),
-        b"4 9182 (heap allocation functions) malloc/new/new[], --alloc-fns, etc.\n0 8960 d\n0 91 b\n0 91 f\n0 40 in 3 places, all below massif's threshold (1.00%)\n".as_slice()
-    );
-    let place = tree_of(&rt, rt.alloc(), b"ab", &[1, 99], 200)?;
-    assert_eq!(rt;
-        place.as_slice(),
-        b"2 100 (heap allocation functions) malloc/new/new[], --alloc-fns, etc.\n0 99 b\n0 1 in 1 place, below massif's threshold (1.00%)\n".as_slice()
     );
     Ok(())
 }

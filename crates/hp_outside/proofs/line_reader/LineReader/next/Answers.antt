@@ -4,6 +4,7 @@ use Rattle.hp_outside.specs.Lines.{is_line_feed}
 use Rattle.hp_outside.specs.declared.line_end.Judgement.TheVariants.{Line, LineTooLong, InputTooLong, Open}
 use Rattle.hp_outside.specs.NextLine.{IsUndecided}
 use Rattle.hp_outside.proofs.LineLemmas.{told_rest, line_answer, line_given, line_has_feed, last_has_none, line_too_long, input_too_long, position_or_len-grown, judged_at, last_given}
+use Rattle.hp_outside.proofs.WholeLinesLemmas.{last-one, line-one}
 use Rattle.hp_outside.proofs.line_reader.LineReader.next.Goals as goal
 
 pub returns-in-Line-clause-answer : goal.returns-in-Line-clause-answer
@@ -130,3 +131,14 @@ returns-in_err-take_more-clause-place g c = λ none failed.
     let undecided : IsUndecided c.take_more.new.self.input c.take_more.new.self.line_limit c.take_more.new.self.passed c.reads.self.kept =
     (judged.0, omega (arith, judged.1, more.limit, c.reads.invariant.line_limit), omega (arith, judged.2, within, more.passed, more.input, c.reads.invariant.passed, c.reads.invariant.input)) in
     subst (λ bytes. IsUndecided c.take_more.new.self.input c.take_more.new.self.line_limit c.take_more.new.self.passed bytes) (sym same) undecided
+
+pub returns-in-Line-clause-one_line : goal.returns-in-Line-clause-one_line
+returns-in-Line-clause-one_line g c =
+    let kept : c.kept.result.now ≡ c.reads.self.kept = c.kept.ensures ∙ ap (λ s. s.kept) c.self-in-reads.view_is in
+    line-one c.reads.self.kept _ c.in-Line.count (sym (ap (position_or_len is_line_feed) kept) ∙ c.in-Line.ensures.0) c.give.ensures.line
+
+pub returns-then-self-clause-one_line : goal.returns-then-self-clause-one_line
+returns-then-self-clause-one_line g c =
+    let kept : c.kept.result.now ≡ c.reads.self.kept = c.kept.ensures ∙ ap (λ s. s.kept) c.self-in-reads.view_is in
+    let none : position_or_len is_line_feed c.reads.self.kept ≡ length c.reads.self.kept = sym (ap (position_or_len is_line_feed) kept) ∙ c.in-Open.ensures.0 ∙ ap length kept in
+    last-one c.reads.self.kept _ c.give_last.result none c.give_last.ensures.line

@@ -1,0 +1,81 @@
+-- What a reader of a trace has read when it took lines of events at once.
+use Rattle.std.proofs.Common.{◌≡◌, ℕ, ◌+◌, ◌≤◌, List, [], ◌∷◌, ◌++◌, length, take, drop, None, Some, refl, ap, sym, subst, ◌∙◌, append-nil, append_assoc, length-append, arith}
+use Rattle.std.proofs.lemmas.List.{length_push}
+use Rattle.std.proofs.lemmas.List.Elements.{All-append, All-nil, All-cons}
+use Rattle.std.proofs.Math.Seq.{take-add, take-append-add}
+use Rattle.std.specs.Option.{option_map, option_or}
+use Rattle.hp_outside.specs.WholeLines.{IsLineText, text_of_lines}
+use Rattle.live_ledger.specs.declared.event.Event.{Event}
+use Rattle.live_ledger.specs.Faults.{fault_of}
+use Rattle.peak_costs.specs.Peak.{StandsFor}
+use Rattle.ht_trace.specs.PassesEvents.{PassesLine}
+use Rattle.ht_trace.specs.StandsFor.{StandsAfter}
+use Rattle.ht_trace.specs.StepOf.{event_of, step_of}
+use Rattle.ht_trace.specs.TraceEvents.{events}
+use Rattle.command_frame.specs.Batch.{AreSilent, IsShortLine}
+use Rattle.commands.specs.declared.fault.CommandFault.TheVariants.{Line, Event as event_fault}
+use Rattle.commands.specs.declared.read_trace.ReadTrace.{ReadTrace}
+use Rattle.commands.specs.Batch.{HasReadFront, HasReadLine}
+use Rattle.commands.specs.CommandFault.{told}
+use Rattle.commands.specs.ReadTrace.{HasRead}
+use Rattle.commands.specs.TraceReport.{content_fault, ledger_fault, trace_report}
+use Rattle.commands.proofs.ReadLemmas.{fault_behind}
+
+-- the line of an event that the tables pass and the ledger takes has no fault
+pub event_has_no_fault : (trace : ReadTrace) (line : List ℕ) (event : Event) → PassesLine trace.tables line event
+    → ((taken : List Event) → StandsFor trace.peaks taken → fault_of taken event ≡ None)
+    → (patterns earlier : List (List ℕ)) → HasRead trace patterns earlier → content_fault patterns earlier line ≡ None
+event_has_no_fault trace line event passes none patterns earlier has =
+    let brings : event_of (step_of earlier line) ≡ Some event = ap event_of (passes.brings has.given earlier has.tables_of) in
+    let in_ledger : ledger_fault (events earlier) (event_of (step_of earlier line)) ≡ None =
+    ap (ledger_fault (events earlier)) brings ∙ none (events earlier) has.peaks_of in
+    ap (λ found. option_or (option_map (λ error. told (Line error)) found) (option_map (λ fault. told (event_fault fault)) (ledger_fault (events earlier) (event_of (step_of earlier line)))))
+    (fault_behind trace patterns earlier line has ∙ passes.no_fault has.given earlier has.tables_of)
+    ∙ ap (option_map (λ fault. told (event_fault fault))) in_ledger
+
+-- it is then read
+pub event_is_read : (old new : ReadTrace) (line : List ℕ) (event : Event) → PassesLine old.tables line event → new.tables ≡ old.tables
+    → ((taken : List Event) → StandsFor old.peaks taken → StandsFor new.peaks (taken ++ event ∷ []))
+    → (patterns earlier : List (List ℕ)) → HasRead old patterns earlier → HasRead new patterns (earlier ++ line ∷ [])
+event_is_read old new line event passes same stands patterns earlier has =
+    let after : events (earlier ++ line ∷ []) ≡ events earlier ++ event ∷ [] = passes.events has.given earlier has.tables_of in
+    record {
+      given = has.given;
+      patterns_are = has.patterns_are;
+      tables_of = subst (λ tables. StandsAfter tables has.given (earlier ++ line ∷ [])) (sym same) (passes.stands has.given earlier has.tables_of);
+      peaks_of = subst (λ es. StandsFor new.peaks es) (sym after) (stands (events earlier) has.peaks_of);
+    }
+
+-- the bytes of one line more
+text_of_lines-push : (lines : List (List ℕ)) (line : List ℕ) → text_of_lines (lines ++ line ∷ []) ≡ text_of_lines lines ++ (line ++ (10 ∷ []))
+text_of_lines-push [] line = refl
+text_of_lines-push (first ∷ lines) line =
+    ap (λ rest. first ++ (10 ∷ rest)) (text_of_lines-push lines line) ∙ sym (append_assoc first (10 ∷ text_of_lines lines) (line ++ (10 ∷ [])))
+
+-- one line more without a fault; no line of a trace gives a byte before the end
+silent_more : (patterns : List (List ℕ)) (text : List (List ℕ) → List ℕ) (earlier lines : List (List ℕ)) (line : List ℕ) → AreSilent (trace_report patterns text) earlier lines
+    → content_fault patterns (earlier ++ lines) line ≡ None → AreSilent (trace_report patterns text) earlier (lines ++ line ∷ [])
+silent_more patterns text earlier [] line silent none = (ap (λ before. content_fault patterns before line) (sym (append-nil earlier)) ∙ none, refl, tt)
+silent_more patterns text earlier (first ∷ lines) line silent none =
+    (silent.0, silent.1, silent_more patterns text (earlier ++ first ∷ []) lines line silent.2 (ap (λ before. content_fault patterns before line) (append_assoc earlier (first ∷ []) lines) ∙ none))
+
+-- one line more was read
+pub line_more : (initial old new : ReadTrace) (patterns : List (List ℕ)) (written : List (List ℕ) → List ℕ) (ready : List ℕ) (bytes number more : ℕ)
+    → HasReadFront initial old patterns written ready bytes number → HasReadLine old new (drop bytes ready) more → HasReadFront initial new patterns written ready (bytes + more) (number + 1)
+line_more initial old new patterns written ready bytes number more front one =
+    let line_text : take more (drop bytes ready) ≡ one.line ++ (10 ∷ []) =
+    ap (λ n. take n (drop bytes ready)) one.size ∙ (ap (take (length one.line + 1)) one.split ∙ take-append-add one.line (10 ∷ one.rest) 1) in
+    record {
+      lines = front.lines ++ one.line ∷ [];
+      texts = All-append IsLineText front.lines (one.line ∷ []) front.texts (All-cons IsLineText one.line [] one.one_line (All-nil IsLineText));
+      short = All-append IsShortLine front.lines (one.line ∷ []) front.short (All-cons IsShortLine one.line [] one.short (All-nil IsShortLine));
+      text = take-add bytes more ready ∙ (ap (λ front. front ++ take more (drop bytes ready)) front.text
+          ∙ (ap (λ last. text_of_lines front.lines ++ last) line_text ∙ sym (text_of_lines-push front.lines one.line)));
+      count = length_push front.lines one.line ∙ ap (λ n. n + 1) front.count;
+      silent = λ earlier has. silent_more patterns written earlier front.lines one.line (front.silent earlier has) (one.no_fault patterns (earlier ++ front.lines) (front.taken earlier has));
+      taken = λ earlier has. subst (HasRead new patterns) (append_assoc earlier front.lines (one.line ∷ [])) (one.read patterns (earlier ++ front.lines) (front.taken earlier has));
+    }
+
+-- a line stands within the bytes
+pub line_within : (old new : ReadTrace) (ready : List ℕ) (bytes : ℕ) → HasReadLine old new ready bytes → bytes ≤ length ready
+line_within old new ready bytes one = omega (arith, one.size, ap length one.split, length-append one.line (10 ∷ one.rest))

@@ -1,0 +1,30 @@
+-- Which commands write nothing while they read.
+use Rattle.std.proofs.Common.{ℕ, List, Option, Some, None, true, refl}
+use Rattle.command_frame.specs.Silent.{IsSilent}
+use Rattle.trace_gen.specs.Sizes.{Sizes}
+use Rattle.commands.specs.Asked.{Flame, Gen, Help, Print, Summary}
+use Rattle.commands.specs.FlameWords.{FlameAsked}
+use Rattle.commands.specs.PrintReport.{report_written}
+use Rattle.commands.specs.PrintWords.{PrintAsked}
+use Rattle.commands.specs.Silent.{IsSilentFor}
+use Rattle.commands.specs.SuppressionsReport.{plan_behind}
+
+pub help_is_silent : IsSilentFor (Some Help)
+help_is_silent = tt
+
+pub summary_is_silent : (trace : List ℕ) → IsSilentFor (Some (Summary trace))
+summary_is_silent trace = (λ earlier line. refl, λ lines. tt)
+
+-- a trace behind suppressions or none
+behind_is_silent : (suppressions : Option (List ℕ)) (trace : List ℕ) (text : List (List ℕ) → List (List ℕ) → List ℕ) → IsSilent (plan_behind suppressions trace text)
+behind_is_silent None trace text = (λ earlier line. refl, λ lines. tt)
+behind_is_silent (Some name) trace text = (λ earlier line. refl, λ texts. (λ earlier line. refl, λ lines. tt))
+
+pub print_is_silent : (print : PrintAsked) → IsSilentFor (Some (Print print))
+print_is_silent print = behind_is_silent print.suppressions print.trace (report_written print.options)
+
+pub flame_is_silent : (flame : FlameAsked) → IsSilentFor (Some (Flame flame))
+flame_is_silent flame = (λ earlier line. refl, λ lines. tt)
+
+pub generated_summary_is_silent : (sizes : Sizes) → IsSilentFor (Some (Gen (record { sizes = sizes; run = true })))
+generated_summary_is_silent sizes = tt

@@ -1,0 +1,17 @@
+-- How far the lines of a generated trace were taken.
+use Rattle.std.specs.Prelude.{◌≡◌, ℕ, ◌+◌, ◌*◌, ◌^◌, ◌≤◌, List, [], ◌++◌, length}
+use Rattle.trace_gen.specs.declared.generator.Generator.{Generator}
+use Rattle.trace_gen.specs.GeneratorState.{IsAt, lines_yet}
+use Rattle.sound_traces.specs.NoFault.{HasNoFault}
+use Rattle.commands.specs.declared.read_trace.ReadTrace.{ReadTrace}
+use Rattle.commands.specs.ReadTrace.{HasRead, IsSound}
+
+-- some of these lines were read, and a generator has yet to make the others, which have no fault behind them
+pub record HasTaken (trace : ReadTrace) (generator : Generator) (lines : List (List ℕ)) : Type 0 where
+  pub at : IsAt generator
+  pub sound : IsSound trace
+  pub taken : List (List ℕ)
+  pub read : HasRead trace [] taken
+  pub split : lines ≡ taken ++ lines_yet generator
+  pub no_fault : HasNoFault taken (lines_yet generator)
+  pub room : 4 * trace.peaks.ledger.totals.events + 64 * length (lines_yet generator) ≤ 2 ^ 34

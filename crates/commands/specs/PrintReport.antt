@@ -1,0 +1,17 @@
+-- What `print` makes of the lines of a trace.
+use Rattle.std.specs.Prelude.{ℕ, List}
+use Rattle.ht_trace.specs.TraceEvents.{events}
+use Rattle.ht_print.specs.declared.options.PrintOptions.{PrintOptions}
+use Rattle.ht_print.specs.ReportText.{report_of_trace}
+use Rattle.command_frame.specs.Plan.{Plan}
+use Rattle.commands.specs.PrintWords.{PrintAsked}
+use Rattle.commands.specs.SuppressionsReport.{plan_behind}
+use Rattle.commands.specs.TraceReport.{tables_behind}
+
+-- the report on a trace with these lines, whose patterns stand behind those that were given before
+abbrev pub report_written : PrintOptions → List (List ℕ) → List (List ℕ) → List ℕ
+report_written options patterns lines = report_of_trace options (tables_behind patterns lines) (events lines)
+
+-- a report is written once all lines were read
+abbrev pub print_plan : PrintAsked → Plan
+print_plan asked = plan_behind asked.suppressions asked.trace (report_written asked.options)

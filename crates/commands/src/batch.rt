@@ -1,0 +1,69 @@
+//! Lines of events, taken many at a time where nothing about them is in doubt. Every other line is left to `read`.
+ghost use Rattle.std.specs.Prelude.{◌≡◌, ℕ, List, ◌+◌, ◌*◌, ◌^◌, ◌<◌, ◌≤◌, length, IfNone, IfSome};
+ghost use Rattle.ht_trace.specs.PassesEvents.{PassesEvents, event_of_info};
+ghost use Rattle.commands.specs.Batch.{HasReadFront, HasReadLine};
+ghost use Rattle.commands.specs.ReadTrace.{IsSound};
+
+use crate::read_trace::{ReadTrace, take_event};
+use command_frame::Batch;
+use ht_lines::{EventKind, event_line};
+use live_ledger::Event;
+
+impl ReadTrace {
+    /// Reads lines at the front of the bytes, as `read` would, as long as each is that of an event in its usual form, its
+    /// info is held, and it has no fault. A version line was read before. It takes no memory.
+    pub(crate) fn read_events(&mut self, ready: &[u8]) -> Batch
+        requires sound { IsSound self.old }
+        requires passes { PassesEvents self.old.tables }
+        requires room { 4 * self.old.peaks.ledger.totals.events + length ready.now ≤ 2 ^ 34 }
+        ensures sound { IsSound self.new }
+        ensures tables { self.new.tables ≡ self.old.tables }
+        ensures taken { (patterns : List (List ℕ)) (text : List (List ℕ) → List ℕ) → HasReadFront self.old self.new patterns text ready.now result.bytes result.lines }
+        ensures held { result.bytes ≤ length ready.now }
+        ensures events { 4 * self.new.peaks.ledger.totals.events ≤ 4 * self.old.peaks.ledger.totals.events + result.bytes }
+    {
+        let mut bytes = 0;
+        let mut lines = 0;
+        'lines: loop {
+            let Some(taken) = self.take_front(&ready[bytes..]) else {
+                return Batch { bytes, lines };
+            };
+            bytes += taken;
+            lines += 1;
+        }
+    }
+
+    /// Reads the line of an event at the front, and answers how many bytes it has with its line feed. Where it answers
+    /// `None`, nothing was read.
+    fn take_front(&mut self, ready: &[u8]) -> Option<usize>
+        requires sound { IsSound self.old }
+        requires passes { PassesEvents self.old.tables }
+        requires room { 4 * self.old.peaks.ledger.totals.events + length ready.now ≤ 2 ^ 34 }
+        ensures tables { self.new.tables ≡ self.old.tables }
+        ensures sound { IsSound self.new }
+        ensures taken { IfSome result (λ bytes. HasReadLine self.old self.new ready.now bytes) }
+        ensures some { IfSome result (λ bytes. 0 < bytes) }
+        ensures held { IfSome result (λ bytes. bytes ≤ length ready.now) }
+        ensures events { IfSome result (λ bytes. 4 * self.new.peaks.ledger.totals.events ≤ 4 * self.old.peaks.ledger.totals.events + bytes) }
+        ensures untaken { IfNone result (self.new ≡ self.old) }
+    {
+        let line = event_line(ready)?;
+        let info = line.info as u32;
+        let (size, stack) = self.peaks.ledger().info(info)?;
+        let event = event_of_info(line.kind, info, stack, size);
+        match take_event(&mut self.peaks, event) {
+            Ok(()) => Some(line.bytes),
+            Err(_) => None,
+        }
+    }
+}
+
+/// The event of an info with this stack and size.
+fn event_of_info(kind: EventKind, info: u32, stack: u32, size: u64) -> Event
+    ensures { result ≡ event_of_info kind info (record { stack = stack; size = size }) }
+{
+    match kind {
+        EventKind::Allocation => Event::Alloc { info, stack, size },
+        EventKind::Free => Event::Free { info, stack, size },
+    }
+}

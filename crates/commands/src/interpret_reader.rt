@@ -1,0 +1,106 @@
+//! The readers of a table of symbols and of a raw trace, whose interpreted lines are written while it is read.
+ghost use Rattle.std.specs.Prelude.{◌≡◌, ℕ, List, []};
+ghost use Rattle.interpret.specs.SymbolList.{symbols_of};
+ghost use Rattle.interpret.specs.InterpreterState.{StandsFor};
+ghost use Rattle.commands.specs.InterpretReport.{interpret_report, symbols_report};
+
+use crate::fault::CommandFault;
+use command_frame::{FilePair, LineRefusal, LineReport, LineTaker};
+use hp_num::NoMemory;
+use ht_trace::LineError;
+use interpret::{Interpreter, SymbolFault, Symbols};
+use std::alloc::Global;
+
+/// What was read of a table of symbols.
+#[derive(Debug, Drop)]
+pub struct SymbolReader {
+    pub symbols: Symbols,
+}
+
+impl LineTaker for SymbolReader {
+    type Fault = CommandFault;
+
+    ghost report = { λ _. symbols_report };
+
+    ghost has_taken = { λ reader lines. reader.symbols ≡ symbols_of lines };
+
+    ghost is_sound = { λ _. Unit {0} };
+
+    ghost weight = { λ _. 0 };
+
+    fn line(
+        &mut self,
+        line: &[u8],
+        _output: &mut Vec<u8>,
+    ) -> Result<(), LineRefusal<CommandFault>> {
+        match self.symbols.line(line) {
+            Ok(()) => Ok(()),
+            Err(SymbolFault::NoMemory) => Err(LineRefusal::NoMemory),
+            Err(fault) => Err(LineRefusal::Fault(CommandFault::Symbol(fault))),
+        }
+    }
+
+    fn end(&self) -> Result<(), CommandFault> {
+        Ok(())
+    }
+}
+
+/// What was read of a raw trace.
+#[derive(Debug, Drop)]
+pub struct RawReader {
+    pub interpreter: Interpreter,
+}
+
+impl LineTaker for RawReader {
+    type Fault = CommandFault;
+
+    ghost report = { λ reader. interpret_report reader.interpreter.symbols };
+
+    ghost has_taken = { λ reader. StandsFor reader.interpreter reader.interpreter.symbols };
+
+    ghost is_sound = { λ _. Unit {0} };
+
+    ghost weight = { λ _. 0 };
+
+    fn line(&mut self, line: &[u8], output: &mut Vec<u8>) -> Result<(), LineRefusal<CommandFault>> {
+        match self.interpreter.line(line, output) {
+            Ok(()) => Ok(()),
+            Err(LineError::NoMemory) => Err(LineRefusal::NoMemory),
+            Err(error) => Err(LineRefusal::Fault(CommandFault::Line(error))),
+        }
+    }
+
+    fn end(&self) -> Result<(), CommandFault> {
+        match self.interpreter.end() {
+            Ok(()) => Ok(()),
+            Err(error) => Err(CommandFault::Line(error)),
+        }
+    }
+}
+
+impl LineReport for RawReader {
+    fn finish(&mut self, alloc: Global) -> Result<Vec<u8>, LineRefusal<CommandFault>> {
+        Ok(Vec::new(alloc))
+    }
+}
+
+/// A table of symbols and a raw trace.
+#[derive(Clone, Copy, Debug)]
+pub struct SymbolsAndTrace;
+
+impl FilePair for SymbolsAndTrace {
+    ghost use Rattle.interpret.specs.SymbolList.{symbols_of};
+    ghost use Rattle.commands.specs.InterpretReport.{interpret_report};
+
+    type First = SymbolReader;
+
+    type Second = RawReader;
+
+    ghost second_report = { λ _ lines. interpret_report (symbols_of lines) };
+
+    fn second(&self, alloc: Global, first: SymbolReader) -> Result<RawReader, NoMemory> {
+        Ok(RawReader {
+            interpreter: Interpreter::new(alloc, first.symbols),
+        })
+    }
+}

@@ -1,0 +1,27 @@
+//! The commands of `heapsuite`: words and files in, reports, messages and a status out.
+//! What the real files and outputs are is the business of the program.
+#![tactic(auto)]
+
+mod batch;
+mod fault;
+mod flame_command;
+mod gen_command;
+mod gen_summary;
+mod interpret_command;
+mod interpret_reader;
+mod number_words;
+mod print_command;
+mod print_words;
+mod read_trace;
+mod run;
+mod run_words;
+mod summary_command;
+mod suppressed_trace;
+mod suppressions;
+mod texts;
+mod trace_reader;
+mod trace_run;
+mod trace_writer;
+mod words;
+
+pub use run::{heapsuite_main, heapsuite_run};

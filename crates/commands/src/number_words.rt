@@ -1,0 +1,34 @@
+//! Numbers as values of options.
+ghost use Rattle.std.specs.Prelude.{◌≡◌, ◌≤◌, option_map, IfSome};
+ghost use Rattle.commands.specs.NumberWords.{number_or, number_within};
+
+use hp_num::parse_dec;
+
+/// The number that decimal digits write, where it is within a range.
+fn number_within(least: u64, most: u64, text: &str) -> Option<u64>
+    ensures number { result ≡ number_within least most text.now }
+    ensures least { IfSome result (λ number. least ≤ number) }
+    ensures most { IfSome result (λ number. number ≤ most) }
+{
+    let number = parse_dec(text.as_bytes())?;
+    if least <= number && number <= most {
+        Some(number)
+    } else {
+        None
+    }
+}
+
+/// The number of an option's value: a default, which is within the range, where the option isn't given.
+#[tactic(auto, unfolding(crate::specs::NumberWords::number_or))]
+pub fn number_or(default: u64, least: u64, most: u64, value: Option<&str>) -> Option<u64>
+    requires least { least ≤ default }
+    requires most { default ≤ most }
+    ensures number { result ≡ number_or default least most (option_map (λ text. text.now) value.entry) }
+    ensures least { IfSome result (λ number. least ≤ number) }
+    ensures most { IfSome result (λ number. number ≤ most) }
+{
+    match value {
+        Some(text) => number_within(least, most, text),
+        None => Some(default),
+    }
+}

@@ -1,0 +1,87 @@
+//! The command `summary`: six figures of one trace.
+ghost use Rattle.std.specs.Prelude.{◌≡◌, ◌^◌, ◌<◌, Err, IfErr, IfOk, List, [], ◌∷◌, None, OnOk, Some, ℕ, map, string_bytes, ◌≢◌};
+ghost use Rattle.hp_outside.specs.Faults.{Rose};
+ghost use Rattle.command_frame.specs.Answer.{done};
+ghost use Rattle.command_frame.specs.FirstFault.{bounds_of};
+ghost use Rattle.command_frame.specs.Halts.{halt_answer, status_code};
+ghost use Rattle.command_frame.specs.Outcome.{moment};
+ghost use Rattle.command_frame.specs.Run.{RanTo};
+ghost use Rattle.command_frame.specs.Texts.{texts_of};
+ghost use Rattle.commands.specs.SummaryReport.{summary_plan};
+ghost use Rattle.commands.specs.SummaryWords.{summary_trace};
+
+use crate::trace_run::run_trace;
+use crate::trace_writer::TraceWriter;
+use command_frame::{Desk, Halt};
+use command_words::{WordTable, WordsFault, take_words};
+use hp_num::NoMemory;
+use hp_outside::{Sink, Store};
+use ht_print::put_summary;
+use ht_trace::Tables;
+use peak_costs::Peaks;
+use std::alloc::Global;
+
+/// One file, and no option.
+const WORDS: WordTable<'static> = WordTable {
+    options: &[],
+    flags: &[],
+    files: true,
+};
+
+/// What `summary` is to do.
+#[derive(Clone, Copy, Debug)]
+pub struct SummaryRequest<'a> {
+    /// The name of the trace.
+    pub trace: &'a str,
+}
+
+/// Writes the six lines.
+#[derive(Clone, Copy, Debug)]
+pub struct SummaryWriter;
+
+impl TraceWriter for SummaryWriter {
+    ghost use Rattle.commands.specs.SummaryReport.{summary_written};
+
+    ghost text = { λ _. summary_written };
+
+    fn put(&self, _tables: &Tables, peaks: &Peaks, out: &mut Vec<u8>) -> Result<(), NoMemory> {
+        put_summary(peaks, out)
+    }
+}
+
+impl<'a> SummaryRequest<'a> {
+    /// The request that the words behind `summary` make. `NotTaken` exactly where they aren't taken, unless memory is
+    /// wanting.
+    pub fn read(alloc: Global, words: &'a [String]) -> Result<SummaryRequest<'a>, WordsFault>
+        ensures taken { IfOk result (λ request. summary_trace (map string_bytes words.entry.now) ≡ Some request.trace.now) }
+        ensures refused { result ≡ Err WordsFault.NotTaken → summary_trace (map string_bytes words.entry.now) ≡ None }
+    {
+        let words = take_words(alloc, &WORDS, words)?;
+        match words.only_file() {
+            Some(trace) => Ok(SummaryRequest { trace }),
+            None => Err(WordsFault::NotTaken),
+        }
+    }
+
+    /// Reads the trace, and gives the text of its summary.
+    pub fn run<S: Store, O: Sink>(
+        &self,
+        desk: &Desk,
+        store: &mut S,
+        out: &mut O,
+    ) -> Result<Vec<u8>, Halt>
+        requires { S.opens store.old < 2 ^ 63 }
+        ensures all { IfOk result (λ rest. (last : List ℕ) → RanTo (texts_of desk.now.texts) (bounds_of desk.now.limits) (S.files store.old) last (self.now.trace.now ∷ []) (summary_plan self.now.trace.now)
+            (moment (S.opens store.old) (S.current store.old) (S.left store.old) (S.faults store.old)) (moment (S.opens store.new) (S.current store.new) (S.left store.new) (S.faults store.new))
+            (O.written out.old) (O.written out.new) (done rest.items)) }
+        ensures halted { IfErr result (λ halt. (last : List ℕ) → RanTo (texts_of desk.now.texts) (bounds_of desk.now.limits) (S.files store.old) last (self.now.trace.now ∷ []) (summary_plan self.now.trace.now)
+            (moment (S.opens store.old) (S.current store.old) (S.left store.old) (S.faults store.old)) (moment (S.opens store.new) (S.current store.new) (S.left store.new) (S.faults store.new))
+            (O.written out.old) (O.written out.new) (halt_answer (texts_of desk.now.texts) halt)) }
+        ensures files { S.files store.new ≡ S.files store.old }
+        ensures unwritten { IfErr result (λ halt. status_code halt.status ≡ 4 → Rose (O.faults out.old) (O.faults out.new)) }
+        ensures sound_writes { IfErr result (λ halt. status_code halt.status ≢ 4 → O.faults out.new ≡ O.faults out.old) }
+        ensures sound { OnOk result (O.faults out.new ≡ O.faults out.old) }
+    {
+        run_trace(desk, self.trace, SummaryWriter, store, out)
+    }
+}

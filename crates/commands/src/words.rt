@@ -1,0 +1,78 @@
+//! Which words are taken, and what they ask for. No file is opened here.
+ghost use Rattle.std.specs.Prelude.{◌≡◌, ◌≢◌, Err, IfOk, None, Some, false, map, string_bytes};
+ghost use Rattle.commands.specs.Asked.{asked, help_asked, knows_first};
+ghost use Rattle.commands.specs.Requests.{asked_of};
+
+use crate::flame_command::FlameRequest;
+use crate::gen_command::GenRequest;
+use crate::interpret_command::InterpretRequest;
+use crate::print_command::PrintRequest;
+use crate::summary_command::SummaryRequest;
+use command_words::WordsFault;
+use std::alloc::Global;
+
+/// What the words ask for: the list of the commands.
+#[derive(Clone, Copy, Debug)]
+pub enum Request<'a> {
+    /// How the program is called.
+    Help,
+    /// The figures of a trace.
+    Summary(SummaryRequest<'a>),
+    /// The report on a trace.
+    Print(PrintRequest<'a>),
+    /// The flame stacks of a trace.
+    Flame(FlameRequest<'a>),
+    /// The interpretation of a raw trace.
+    Interpret(InterpretRequest<'a>),
+    /// A generated trace, or its summary.
+    Gen(GenRequest),
+}
+
+/// What the words ask for. `NotTaken` exactly where they aren't taken, unless memory is wanting; none is taken for no
+/// words at all, or where the first is unknown.
+#[tactic(auto, unfolding(crate::specs::Asked::command_asked, crate::specs::Asked::knows_first))]
+pub fn read_words<'a>(alloc: Global, words: &'a [String]) -> Result<Request<'a>, WordsFault>
+    ensures taken { IfOk result (λ request. asked (map string_bytes words.entry.now) ≡ Some (asked_of request)) }
+    ensures refused { result ≡ Err WordsFault.NotTaken → asked (map string_bytes words.entry.now) ≡ None }
+    ensures no_memory { knows_first (map string_bytes words.entry.now) ≡ false → result ≢ Err WordsFault.NoMemory }
+{
+    let [command, words @ ..] = words else {
+        return Err(WordsFault::NotTaken);
+    };
+    if command.as_str() == "--help" {
+        return help(words);
+    }
+    if command.as_str() == "summary" {
+        let request = SummaryRequest::read(alloc, words)?;
+        return Ok(Request::Summary(request));
+    }
+    if command.as_str() == "print" {
+        let request = PrintRequest::read(alloc, words)?;
+        return Ok(Request::Print(request));
+    }
+    if command.as_str() == "flame" {
+        let request = FlameRequest::read(alloc, words)?;
+        return Ok(Request::Flame(request));
+    }
+    if command.as_str() == "interpret" {
+        let request = InterpretRequest::read(alloc, words)?;
+        return Ok(Request::Interpret(request));
+    }
+    if command.as_str() == "gen" {
+        let request = GenRequest::read(alloc, words)?;
+        return Ok(Request::Gen(request));
+    }
+    Err(WordsFault::NotTaken)
+}
+
+/// `--help` alone.
+fn help<'a>(words: &'a [String]) -> Result<Request<'a>, WordsFault>
+    ensures taken { IfOk result (λ request. help_asked (map string_bytes words.entry.now) ≡ Some (asked_of request)) }
+    ensures refused { result ≡ Err WordsFault.NotTaken → help_asked (map string_bytes words.entry.now) ≡ None }
+    ensures no_memory { result ≢ Err WordsFault.NoMemory }
+{
+    if words.is_empty() {
+        return Ok(Request::Help);
+    }
+    Err(WordsFault::NotTaken)
+}

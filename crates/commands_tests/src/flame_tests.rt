@@ -1,0 +1,24 @@
+//! `flame` over a worked trace of two nested calls, by each cost.
+
+use crate::transcript::{expect, sound};
+use std::test::Fail;
+
+const COSTS: &str = "$ flame e
+main (a.c:20) 1
+main (a.c:20);f (a.c:10) 1
+[0]
+$ flame --flamegraph-cost-type peak e
+main (a.c:20);f (a.c:10) 100
+[0]
+$ flame e --flamegraph-cost-type=leaked
+main (a.c:20) 100
+[0]
+$ flame --flamegraph-cost-type=temporary -- e
+main (a.c:20);f (a.c:10) 1
+[0]
+";
+
+#[test]
+fn draws_each_cost(rt: HostRuntime) -> Result<(), Fail> {
+    expect(&rt, rt.alloc(), &sound(""), COSTS)
+}

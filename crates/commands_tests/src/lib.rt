@@ -1,0 +1,20 @@
+//! Tests of the public calls of `commands`, over whole runs. They stand in a crate of their own, so that the commands are
+//! proved once.
+#![tactic(auto)]
+
+#[cfg(test)]
+mod failure_tests;
+#[cfg(test)]
+mod flame_tests;
+#[cfg(test)]
+mod gen_tests;
+#[cfg(test)]
+mod interpret_tests;
+#[cfg(test)]
+mod print_tests;
+#[cfg(test)]
+mod refusal_tests;
+#[cfg(test)]
+mod summary_tests;
+#[cfg(test)]
+mod transcript;

@@ -1,0 +1,214 @@
+//! Refusals: of words, of a line of a trace or behind one, of lengths, and of a stack too deep.
+
+use crate::transcript::{Setting, USAGE, WORKED, append_run, expect, sound};
+use hp_num::{put_bytes, put_hex};
+use std::test::Fail;
+
+const WORDS: &str = "
+summary
+summary t t
+summary -t
+summary -h
+summary --help
+summary --level=5 t
+--help t
+Summary t
+ t
+flame
+flame t u
+flame --flamegraph-cost-type=bytes t
+flame --flamegraph-cost-type=Peak t
+flame --flamegraph-cost-type t
+flame --flamegraph-cost-type=peak --flamegraph-cost-type=peak t
+interpret
+interpret --symbols=- -
+gen t
+gen --stacks=0
+gen --run=1
+print
+print t e
+print --peak-limit=1 --peak-limit=2 t
+print --peak-limit=1000001 t
+print --sub-peak-limit=-1 t
+print --sub-peak-limit= t
+print --print-leaks=2 t
+print --histogram t
+print --merge-backtraces=true t
+print --suppressions=- -";
+
+#[test]
+fn words_that_are_not_taken(rt: HostRuntime) -> Result<(), Fail> {
+    let alloc = rt.alloc();
+    let mut all = Vec::new(alloc);
+    let mut wanted = Vec::new(alloc);
+    for words in WORDS.split('\n') {
+        append_run(alloc, &sound(""), b"v 10500 2\n", words, &mut all)?;
+        put_bytes(&mut wanted, USAGE.as_bytes())?;
+        put_bytes(&mut wanted, b"[2]\n")?;
+    }
+    assert_eq!(rt; all.as_slice(), wanted.as_slice());
+    Ok(())
+}
+
+const TRACES: &str = "$ summary t
+heapsuite: t:1: no version line
+[1]
+> # a comment
+$ summary t
+heapsuite: t:2: no version line
+[1]
+> 
+$ summary t
+heapsuite: t:1: no version line
+[1]
+> s main
+$ summary t
+heapsuite: t:1: no version line
+[1]
+> v 10500 2
+> a 64 0
+> + 0
+> - 0
+> - 0
+> +
+$ summary t
+heapsuite: t:5: free of nothing
+[1]
+> v 10500 2
+> a 2000000000000000 0
+> a 1 0
+> + 0
+> + 0
+> + 1
+$ summary t
+heapsuite: t:6: too many bytes allocated
+[6]
+";
+
+#[test]
+fn refused_traces(rt: HostRuntime) -> Result<(), Fail> {
+    expect(&rt, rt.alloc(), &sound(""), TRACES)
+}
+
+// Each line stands by itself behind the 18 lines of the worked trace.
+const LINES: &str = "> z what
+$ summary t
+events: 3
+calls: 2
+temporary: 1
+allocated: 200
+peak: 100 at event 1
+leaked: 100 in 1 blocks
+[0]
+> v 10500 2
+$ summary t
+heapsuite: t:19: second version line
+[1]
+> v 10500 4
+$ summary t
+heapsuite: t:19: file version not 1 to 3
+[1]
+> i 1 4 4 5 1
+$ summary t
+heapsuite: t:19: unknown string
+[1]
+> i 1 1 2 3
+$ summary t
+heapsuite: t:19: missing field
+[1]
+> t 99 99
+$ summary t
+heapsuite: t:19: unknown instruction
+[1]
+> t 1 3
+$ summary t
+heapsuite: t:19: unknown parent
+[1]
+> a 1 3
+$ summary t
+heapsuite: t:19: unknown trace
+[1]
+> + 2
+$ summary t
+heapsuite: t:19: unknown allocation
+[1]
+> - 0
+$ summary t
+heapsuite: t:19: free of nothing
+[1]
+> + 40 1 1000
+$ summary t
+heapsuite: t:19: raw line
+[1]
+> +0
+$ summary t
+heapsuite: t:19: bad field
+[1]
+> R 1 2
+$ summary t
+heapsuite: t:19: extra field
+[1]
+";
+
+#[test]
+fn lines_behind_a_trace(rt: HostRuntime) -> Result<(), Fail> {
+    expect(&rt, rt.alloc(), &sound(WORKED), LINES)
+}
+
+// A chain of 4,097 nodes of one frame each, from line 3 on.
+#[test]
+fn stack_too_deep(rt: HostRuntime) -> Result<(), Fail> {
+    let alloc = rt.alloc();
+    let mut trace = Vec::new(alloc);
+    put_bytes(&mut trace, b"v 10500 2\ni 10 0\n")?;
+    for parent in 0..4097u64 {
+        put_bytes(&mut trace, b"t 1 ")?;
+        put_hex(&mut trace, parent)?;
+        put_bytes(&mut trace, b"\n")?;
+    }
+    let setting = Setting {
+        piece: 4096,
+        ..sound("")
+    };
+    let mut all = Vec::new(alloc);
+    append_run(alloc, &setting, &trace, "summary t", &mut all)?;
+    assert_eq!(rt;
+        all.as_slice(),
+        "heapsuite: t:4099: stack too deep\n[6]\n".as_bytes()
+    );
+    Ok(())
+}
+
+const LIMITED: &str = "> v 10500 2
+> # 2345678
+$ summary t
+events: 0
+calls: 0
+temporary: 0
+allocated: 0
+peak: 0 at event 0
+leaked: 0 in 0 blocks
+[0]
+> v 10500 2
+> # 23456789
+$ summary t
+heapsuite: t:2: line too long
+[6]
+> v 10500 2
+> # 234
+> # 23
+$ summary t
+heapsuite: t:3: input too long
+[6]
+";
+
+// A line may have 9 bytes, and a file 20.
+#[test]
+fn lengths(rt: HostRuntime) -> Result<(), Fail> {
+    let setting = Setting {
+        input: 20,
+        line: 9,
+        ..sound("")
+    };
+    expect(&rt, rt.alloc(), &setting, LIMITED)
+}

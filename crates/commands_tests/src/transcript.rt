@@ -1,0 +1,119 @@
+//! Transcripts: texts of runs and of what they write, as they would stand on a terminal. A test plays the runs of one and
+//! compares what they write with it.
+
+use commands::heapsuite_run;
+use hp_num::{put_bytes, put_dec};
+use hp_outside::{Limits, MemSink, MemStore};
+use std::alloc::Global;
+use std::process::Abort;
+use std::test::Fail;
+
+/// A trace with two sizes, of which the peak isn't the end.
+pub const TWO_SIZES: &str = "v 10500 2\na 64 0\na 20 0\n+ 0\n+ 1\n- 0\n+ 0\n";
+
+/// A trace with strings, instructions, nodes, a command, a clock value and resident memory.
+pub const WORKED: &str =
+    "v 10500 2\nX demo\nI 1000 3e80\ns app\ns main\ns f\ns a.c\ni 400 1 2 4 14\ni 500 1 3 4 a\nt 1 0\nt 2 1\na 64 2\na 64 1\n+ 0\nc 5\nR 100\n- 0\n+ 1\n";
+
+/// How the program is called.
+pub const USAGE: &str =
+    "usage: heapsuite COMMAND [OPTION]... [FILE]\ncommands: summary print flame interpret gen\n";
+
+/// How runs are made, and the front of the file `t` that they find. A call of number 0 never fails.
+#[derive(Clone, Copy)]
+pub struct Setting<'a> {
+    pub front: &'a str,
+    pub piece: usize,
+    pub input: u32,
+    pub line: u16,
+    pub failing_store_call: u64,
+    pub out_room: usize,
+    pub failing_out_call: u64,
+    pub err_room: usize,
+    pub failing_err_call: u64,
+}
+
+/// All calls are sound, and `t` begins with these bytes.
+pub const fn sound(front: &str) -> Setting<'_> {
+    Setting {
+        front,
+        piece: 16,
+        input: 100_000,
+        line: 1000,
+        failing_store_call: 0,
+        out_room: 4000,
+        failing_out_call: 0,
+        err_room: 1000,
+        failing_err_call: 0,
+    }
+}
+
+/// Runs the words, which stand between blanks, and appends what both outputs got and the status in brackets. The folder has
+/// the file `t`, a worked trace `e`, suppressions `q`, and symbols `s`.
+pub fn append_run(
+    alloc: Global,
+    setting: &Setting,
+    file: &[u8],
+    words: &str,
+    all: &mut Vec<u8>,
+) -> Result<(), Fail> {
+    let mut list = Vec::new(alloc);
+    if !words.is_empty() {
+        for word in words.split(' ') {
+            list.push(String::from_str(alloc, word)?)?;
+        }
+    }
+    let limits = Limits {
+        input: u64::from(setting.input),
+        line: u32::from(setting.line).max(1),
+        order: 1,
+    };
+    let mut store = MemStore::new(alloc, setting.piece.max(1));
+    store.add("t", file)?;
+    store.add("e", WORKED.as_bytes())?;
+    store.add("q", b"# a comment\nf (\n")?;
+    store.add("s", b"app\t400\t100\tmain\ta.c\t20\napp\t500\t10\tf\n")?;
+    store.fail_at(setting.failing_store_call)?;
+    let mut out = MemSink::new(alloc, setting.out_room)?;
+    out.fail_at(setting.failing_out_call)?;
+    let mut err = MemSink::new(alloc, setting.err_room)?;
+    err.fail_at(setting.failing_err_call)?;
+    let status = heapsuite_run(alloc, &list, &limits, &mut store, &mut out, &mut err);
+    put_bytes(all, out.bytes())?;
+    put_bytes(all, err.bytes())?;
+    put_bytes(all, b"[")?;
+    put_dec(all, u64::from(status))?;
+    put_bytes(all, b"]\n")?;
+    Ok(())
+}
+
+/// Plays the lines of a transcript and gives what then stands there. A line behind `> ` is one more of `t`, up to the next
+/// run; the words behind `$ ` are run; all other lines are what a run wrote.
+pub fn played(alloc: Global, setting: &Setting, text: &str) -> Result<Vec<u8>, Fail> {
+    let mut all = Vec::new(alloc);
+    let mut file = Vec::new(alloc);
+    put_bytes(&mut file, setting.front.as_bytes())?;
+    for line in text.split('\n') {
+        if let Some(more) = line.strip_prefix("> ") {
+            put_bytes(&mut all, line.as_bytes())?;
+            put_bytes(&mut all, b"\n")?;
+            put_bytes(&mut file, more.as_bytes())?;
+            put_bytes(&mut file, b"\n")?;
+        }
+        if let Some(words) = line.strip_prefix("$ ") {
+            put_bytes(&mut all, line.as_bytes())?;
+            put_bytes(&mut all, b"\n")?;
+            append_run(alloc, setting, &file, words, &mut all)?;
+            file.clear();
+            put_bytes(&mut file, setting.front.as_bytes())?;
+        }
+    }
+    Ok(all)
+}
+
+/// Plays a transcript and asserts that it is what was written.
+pub fn expect(rt: &impl Abort, alloc: Global, setting: &Setting, text: &str) -> Result<(), Fail> {
+    let all = played(alloc, setting, text)?;
+    assert_eq!(rt; all.as_slice(), text.as_bytes());
+    Ok(())
+}

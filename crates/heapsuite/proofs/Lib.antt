@@ -1,5 +1,0 @@
-pub mod ReadLemmas
-pub mod BatchLemmas
-pub mod AskedLemmas
-pub mod SilentLemmas
-pub mod GenLemmas
