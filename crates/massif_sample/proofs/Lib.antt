@@ -9,3 +9,5 @@ pub mod Trees
 pub mod GrossSizes
 pub mod Standing
 pub mod Judging
+pub mod Agreeing
+pub mod Growing
