@@ -1,24 +1,24 @@
 -- Two ways to ignore stacks that agree on the stacks of some events: all figures of the events are the same.
-use Rattle.std.proofs.Common.{◌≡◌, ℕ, zero, suc, ◌+◌, ◌-◌, List, [], ◌∷◌, ◌++◌, length, map, Bool, true, false, cond, Option, None, Some, refl, ap, sym, ◌∙◌, arith}
-use Rattle.std.specs.Prelude.{count_by, filter, not, slice_get, sum_by}
+use Rattle.std.proofs.Common.{◌≡◌, ℕ, zero, suc, ◌+◌, ◌-◌, List, [], ◌∷◌, ◌++◌, Bool, true, false, cond, refl, ap, ◌∙◌, arith}
+use Rattle.std.specs.Prelude.{not, slice_get, sum_by}
 use Rattle.std.specs.List.{AllByRecursion, flat_map, range_with_len}
 use Rattle.std.specs.Option.{option_map_or}
 use Rattle.std.proofs.lemmas.List.Sums.{sum_by-cons}
 use Rattle.live_ledger.specs.declared.event.Event.{Event}
 use Rattle.live_ledger.specs.declared.event.Event.TheVariants.{Alloc, Free, Tick}
 use Rattle.live_ledger.specs.ByInfo.{alloc_weight, free_weight}
-use Rattle.live_ledger.specs.Events.{counted, event_count, is_counted, is_free}
+use Rattle.live_ledger.specs.Events.{counted, event_count, is_free}
 use Rattle.massif_cull.specs.declared.snapshot.Offer.{Offer}
 use Rattle.massif_file.specs.declared.profile.TimeUnit.{TimeUnit}
 use Rattle.massif_file.specs.declared.profile.TimeUnit.TheVariants.{Instructions, Milliseconds, Bytes, Events}
 use Rattle.massif_sample.specs.declared.options.MassifOptions.{MassifOptions}
 use Rattle.massif_sample.specs.Counted.{counts}
 use Rattle.massif_sample.specs.Gross.{gross}
-use Rattle.massif_sample.specs.HeapTotals.{gross_total, gross_weight, heap_total, heap_weight}
+use Rattle.massif_sample.specs.HeapTotals.{gross_weight, heap_weight}
 use Rattle.massif_sample.specs.Offers.{offer_at, offers, offers_behind, offers_of_event, peak_before}
 use Rattle.massif_sample.specs.Places.{gross_at, heap_at, time_at, up_to}
 use Rattle.massif_sample.specs.Running.{AreFigures}
-use Rattle.massif_sample.specs.Times.{moved_bytes, time_in, time_of}
+use Rattle.massif_sample.specs.Times.{moved_bytes, time_in}
 use Rattle.massif_sample.specs.declared.running.Running.{Running}
 
 -- they agree on the stack of an event
@@ -126,7 +126,7 @@ event-offers : (options : MassifOptions) (f g : ℕ → Bool) (events : List Eve
 event-offers options f g events e k agree at =
     let made : (ℕ → Bool) → List Offer = λ h. peak_before options h events e k ++ offer_at options h events false (k + 1) ∷ [] in
     let peaks : peak_before options f events e k ≡ peak_before options g events e k =
-        ap (λ (o : Offer). cond (is_free e) (o ∷ []) []) (offer_at-same options f g events true k agree) in
+    ap (λ (o : Offer). cond (is_free e) (o ∷ []) []) (offer_at-same options f g events true k agree) in
     ap (λ (b : Bool). cond b (made f) []) (counts-same f g e at)
     ∙ ap (λ (os : List Offer). cond (counts g e) (os ++ offer_at options f events false (k + 1) ∷ []) []) peaks
     ∙ ap (λ (o : Offer). cond (counts g e) (peak_before options g events e k ++ o ∷ []) []) (offer_at-same options f g events false (k + 1) agree)
@@ -148,9 +148,9 @@ unfolding offers
 offers-same options f g events agree =
     ap (λ (o : Offer). o ∷ flat_map (offers_behind options f events) (range_with_len 0 (event_count events))) (offer_at-same options f g events false 0 agree)
     ∙ ap (λ (os : List Offer). offer_at options g events false 0 ∷ os)
-      (map-all (offers_behind options f events) (offers_behind options g events) (range_with_len 0 (event_count events))
-      (λ k. at-same f g (λ e. offers_of_event options f events e k) (λ e. offers_of_event options g events e k) [] (counted events) k
-      (λ e at. event-offers options f g events e k agree at) (agree-counted f g events agree)))
+    (map-all (offers_behind options f events) (offers_behind options g events) (range_with_len 0 (event_count events))
+    (λ k. at-same f g (λ e. offers_of_event options f events e k) (λ e. offers_of_event options g events e k) [] (counted events) k
+    (λ e at. event-offers options f g events e k agree at) (agree-counted f g events agree)))
 
 -- the figures that are kept up
 pub figures-same : (options : MassifOptions) (f g : ℕ → Bool) (events : List Event) (running : Running) → Agree f g events → AreFigures options f events running → AreFigures options g events running

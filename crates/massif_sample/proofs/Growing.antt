@@ -1,17 +1,16 @@
 -- A sampler whose tables grow: it stands for the same events, since what it keeps is of stacks that were there before.
-use Rattle.std.proofs.Common.{◌≡◌, ℕ, zero, suc, ◌+◌, ◌-◌, ◌<◌, ◌≤◌, ◌^◌, List, [], ◌∷◌, ◌++◌, length, map, drop, take, get_or, eqb, Bool, true, false, cond, Option, None, Some, refl, ap, sym, subst, ◌∙◌, arith, append-nil}
-use Rattle.std.specs.Prelude.{◌&&◌, All, IsTrue, filter, not, nat_lt, slice_get, sum, sum_by}
-use Rattle.std.specs.List.{AllByRecursion, list_any, position_or_len, prefix_len, range_with_len}
+use Rattle.std.proofs.Common.{◌≡◌, ℕ, zero, suc, ◌+◌, ◌-◌, ◌<◌, ◌≤◌, ◌^◌, List, [], ◌∷◌, ◌++◌, length, map, drop, get_or, eqb, Bool, true, false, cond, Option, Some, refl, ap, sym, subst, ◌∙◌, arith}
+use Rattle.std.specs.Prelude.{All, slice_get, sum, sum_by}
+use Rattle.std.specs.List.{AllByRecursion, list_any, prefix_len, range_with_len}
 use Rattle.std.specs.Option.{option_map_or}
 use Rattle.std.specs.Str.{bytes_eq}
 use Rattle.std.proofs.lemmas.List.Elements.{All-drop, All-head, All-tail}
-use Rattle.std.proofs.lemmas.List.FromFn.{length-map-range_with_len}
 use Rattle.std.proofs.lemmas.List.Sums.{sum-map, sum_by-append, sum_by-cons}
 use Rattle.std.proofs.lemmas.Bool.Decides.{nat_tests}
 use Rattle.ht_trace.specs.declared.frame.FrameAt.{FrameAt}
 use Rattle.ht_trace.specs.declared.frame.Style.TheVariants.{Addressed}
 use Rattle.ht_trace.specs.Continues.{Continues}
-use Rattle.ht_trace.specs.FrameText.{frame_text, function_at}
+use Rattle.ht_trace.specs.FrameText.{frame_text}
 use Rattle.ht_trace.specs.IsFrame.{IsFrame}
 use Rattle.ht_trace.specs.StackFrames.{stack_frames}
 use Rattle.ht_trace.specs.TableState.{TableState}
@@ -33,7 +32,6 @@ use Rattle.massif_file.specs.declared.profile.TreeLine.{TreeLine}
 use Rattle.massif_sample.specs.declared.load.Load.{Load}
 use Rattle.massif_sample.specs.declared.options.MassifOptions.{MassifOptions}
 use Rattle.massif_sample.specs.FunctionNames.{FunctionNames, ignores}
-use Rattle.massif_sample.specs.Offers.{offers}
 use Rattle.massif_sample.specs.Options.{tree_options}
 use Rattle.massif_sample.specs.Places.{gross_at, up_to}
 use Rattle.massif_sample.specs.SamplesState.{SamplesState}
@@ -88,14 +86,14 @@ unfolding is_ignored
 ignores-same old new names n more held =
     ap (λ (fs : List FrameAt). option_map_or (is_listed new names.ignore_fns) (slice_get fs 0) false) (trimmed-same old new names.alloc_fns n more held)
     ∙ first-same (is_listed new names.ignore_fns) (is_listed old names.ignore_fns) (trimmed old names.alloc_fns n)
-      (listed-same old new names.ignore_fns more (trimmed old names.alloc_fns n) (trimmed-held old names.alloc_fns n))
+    (listed-same old new names.ignore_fns more (trimmed old names.alloc_fns n) (trimmed-held old names.alloc_fns n))
 
 -- and has the same texts
 pub texts-same : (old new : TableState) (names : List (List ℕ)) (n : ℕ) → Continues old new → n ≤ length old.nodes → trimmed_texts new names n ≡ trimmed_texts old names n
 texts-same old new names n more held =
     ap (λ (fs : List FrameAt). map (frame_text Addressed new) fs) (trimmed-same old new names n more held)
     ∙ map-same-all (frame_text Addressed new) (frame_text Addressed old) (trimmed old names n)
-      (λ k d within. more.texts Addressed (get_or (trimmed old names n) k d) (trimmed-held old names n k d within))
+    (λ k d within. more.texts Addressed (get_or (trimmed old names n) k d) (trimmed-held old names n k d within))
 
 -- the stack of each event, by recursion
 of-stacks : (tables : TableState) (events : List Event) → AreOfStacks tables events → AllByRecursion (IsOfStack tables) events
@@ -198,11 +196,11 @@ tree-grown options names old new events k more held =
     ∙ ap (massif_tree asked total) (costed-parts texts cost (range_with_len 0 count) (range_with_len (0 + count) extra))
     ∙ tree-idle asked total first idle (costed-idle texts cost (0 + count) extra (λ stack low. cost-none old (ignores new names) events k stack (omega arith) held))
     ∙ ap (λ (lists : List (List (List ℕ))). massif_tree asked total (costed lists (map cost (range_with_len 0 count))))
-      (map-same texts (trimmed_texts old names.alloc_fns) 0 count (λ n low high. texts-same old new names.alloc_fns n more (omega arith)))
+    (map-same texts (trimmed_texts old names.alloc_fns) 0 count (λ n low high. texts-same old new names.alloc_fns n more (omega arith)))
     ∙ ap (λ (costs : List ℕ). massif_tree asked total (costed (map (trimmed_texts old names.alloc_fns) (range_with_len 0 count)) costs))
-      (map-same cost (cost_at (ignores old names) events k) 0 count (λ n low high. cost-same old new names events k n more (omega arith)))
+    (map-same cost (cost_at (ignores old names) events k) 0 count (λ n low high. cost-same old new names events k n more (omega arith)))
     ∙ ap (λ (t : ℕ). massif_tree asked t (costed (map (trimmed_texts old names.alloc_fns) (range_with_len 0 count)) (map (cost_at (ignores old names) events k) (range_with_len 0 count))))
-      (sym (gross_at-same options (ignores old names) (ignores new names) events k (agree-all old new names events more held)))
+    (sym (gross_at-same options (ignores old names) (ignores new names) events k (agree-all old new names events more held)))
 
 -- and so does what all stacks cost
 sum-grown : (names : FunctionNames) (old new : TableState) (events : List Event) (k : ℕ) → Continues old new → AllByRecursion (IsOfStack old) events
@@ -213,9 +211,9 @@ sum-grown names old new events k more held =
     let extra : ℕ = stacks_more old new in
     let cost : ℕ → ℕ = cost_at (ignores new names) events k in
     let parts : sum_by cost (range_with_len 0 (length new.nodes + 1)) ≡ sum_by cost (range_with_len 0 count) + sum_by cost (range_with_len (0 + count) extra) =
-        ap (λ (n : ℕ). sum_by cost (range_with_len 0 n)) (count-more old new more)
-        ∙ ap (sum_by cost) (range-parts 0 count extra)
-        ∙ sum_by-append cost (range_with_len 0 count) (range_with_len (0 + count) extra) in
+    ap (λ (n : ℕ). sum_by cost (range_with_len 0 n)) (count-more old new more)
+    ∙ ap (sum_by cost) (range-parts 0 count extra)
+    ∙ sum_by-append cost (range_with_len 0 count) (range_with_len (0 + count) extra) in
     let none = sum-zeros cost (0 + count) extra (λ stack low. cost-none old (ignores new names) events k stack (omega arith) held) in
     let whole = sum-map cost (range_with_len 0 (length new.nodes + 1)) in
     let first = sum-map cost (range_with_len 0 count) in

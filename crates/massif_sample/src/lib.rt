@@ -3,6 +3,7 @@
 #![tactic(auto)]
 
 mod fault;
+mod laws;
 mod load;
 mod options;
 mod profile;
@@ -12,5 +13,6 @@ mod samples;
 mod taking;
 
 pub use fault::SampleFault;
+pub use laws::sampling_goes_on;
 pub use options::MassifOptions;
 pub use sampler::Sampler;

@@ -1,8 +1,7 @@
 -- Stacks that cost nothing, behind others: they change no tree.
-use Rattle.std.proofs.Common.{◌≡◌, ◌≢◌, ℕ, zero, suc, ◌+◌, ◌<◌, ◌≤◌, List, [], ◌∷◌, ◌++◌, length, map, take, eqb, Bool, true, false, cond, Option, None, Some, refl, ap, sym, subst, ◌∙◌, inl, inr, arith, append-nil, length-append}
-use Rattle.std.specs.Prelude.{◌&&◌, filter, not, nat_lt, slice_get, sum_by}
-use Rattle.std.specs.List.{AllByRecursion, position_or_len, prefix_len, range_with_len}
-use Rattle.std.specs.Option.{option_map_or}
+use Rattle.std.proofs.Common.{◌≡◌, ℕ, zero, suc, ◌+◌, ◌<◌, ◌≤◌, List, [], ◌∷◌, ◌++◌, length, map, take, eqb, Bool, true, false, cond, refl, ap, sym, ◌∙◌, inl, inr, arith, append-nil, length-append}
+use Rattle.std.specs.Prelude.{◌&&◌, filter, not, nat_lt, sum_by}
+use Rattle.std.specs.List.{AllByRecursion, position_or_len, range_with_len}
 use Rattle.std.proofs.Math.Path.{fun_ext}
 use Rattle.std.proofs.lemmas.List.Elements.{filter-append}
 use Rattle.std.proofs.lemmas.List.Folds.{prefix_len-append}
@@ -11,7 +10,6 @@ use Rattle.std.proofs.lemmas.Bool.Decides.{eqb_tells, nat_tests}
 use Rattle.cost_tree.specs.Costed.{Costed}
 use Rattle.cost_tree.specs.Inclusive.{has_front, inclusive, least}
 use Rattle.cost_tree.specs.NextFronts.{longer_front, next_fronts, opens, texts_at}
-use Rattle.massif_file.specs.declared.profile.TreeLine.{TreeLine}
 use Rattle.massif_file.specs.Trees.{Trees, no_tree, a_tree, lines_of}
 use Rattle.massif_tree.specs.declared.options.TreeOptions.{TreeOptions}
 use Rattle.massif_tree.specs.declared.scale.Scale.{Scale}
@@ -74,7 +72,7 @@ place-stays : (l len extra n : ℕ) → l ≤ len → n < len → eqb (cond {A =
 place-stays l len extra n within below =
     elim (eqb_tells l len) [
       | inl same ↦ ap (λ (b : Bool). eqb (cond {A = ℕ} b (len + extra) l) n) same.0
-        ∙ (let last = same.1 in grind (arith, nat_tests))
+          ∙ (let last = same.1 in grind (arith, nat_tests))
       | inr other ↦ ap (λ (b : Bool). eqb (cond {A = ℕ} b (len + extra) l) n) other.0
     ]
 
@@ -99,7 +97,7 @@ opens-stays front stacks idle n none within =
     let longer : List (List ℕ) = longer_front front stacks n in
     ap (λ (texts : List (List ℕ)). has_front front texts && nat_lt (length front) (length texts) && eqb (least (take (length front + 1) texts) (stacks ++ idle)) n) (texts-stay stacks idle n within)
     ∙ ap (λ (b : Bool). has_front front (texts_at stacks n) && nat_lt (length front) (length (texts_at stacks n)) && b)
-      (ap (λ (l : ℕ). eqb l n) (least-idle longer stacks idle none) ∙ place-stays (least longer stacks) (length stacks) (length idle) n (least-within longer stacks) within)
+    (ap (λ (l : ℕ). eqb l n) (least-idle longer stacks idle none) ∙ place-stays (least longer stacks) (length stacks) (length idle) n (least-within longer stacks) within)
 
 no-third : (a b : Bool) → (a && b && false) ≡ false
 no-third true true = refl
@@ -111,7 +109,7 @@ opens-none front stacks idle n none above below =
     let whole : List Costed = stacks ++ idle in
     let longer : List (List ℕ) = longer_front front whole n in
     ap (λ (b : Bool). has_front front (texts_at whole n) && nat_lt (length front) (length (texts_at whole n)) && b)
-      (ap (λ (l : ℕ). eqb l n) (least-idle longer stacks idle none) ∙ place-before (least longer stacks) (length stacks) (length idle) n (least-within longer stacks) above below)
+    (ap (λ (l : ℕ). eqb l n) (least-idle longer stacks idle none) ∙ place-before (least longer stacks) (length stacks) (length idle) n (least-within longer stacks) above below)
     ∙ no-third (has_front front (texts_at whole n)) (nat_lt (length front) (length (texts_at whole n)))
 
 -- numbers in a row, of which the later ones are left out
@@ -153,11 +151,11 @@ next-idle front stacks idle none =
     ap (λ (n : ℕ). map (longer_front front whole) (filter (opens front whole) (range_with_len 0 n))) count
     ∙ ap (λ (ks : List ℕ). map (longer_front front whole) (filter (opens front whole) ks)) (range-parts 0 (length stacks) (length idle))
     ∙ ap (λ (ks : List ℕ). map (longer_front front whole) ks)
-      (filter-append (opens front whole) (range_with_len 0 (length stacks)) (range_with_len (0 + length stacks) (length idle))
-      ∙ ap (λ (ks : List ℕ). first ++ ks) (picked-none (opens front whole) (0 + length stacks) (length idle) (λ k low high. opens-none front stacks idle k none (omega arith) (omega arith)))
-      ∙ append-nil first)
+    (filter-append (opens front whole) (range_with_len 0 (length stacks)) (range_with_len (0 + length stacks) (length idle))
+    ∙ ap (λ (ks : List ℕ). first ++ ks) (picked-none (opens front whole) (0 + length stacks) (length idle) (λ k low high. opens-none front stacks idle k none (omega arith) (omega arith)))
+    ∙ append-nil first)
     ∙ picked-same (opens front whole) (opens front stacks) (longer_front front whole) (longer_front front stacks) 0 (length stacks)
-      (λ k low high. (opens-stays front stacks idle k none (omega arith), longer-stays front stacks idle k (omega arith)))
+    (λ k low high. (opens-stays front stacks idle k none (omega arith), longer-stays front stacks idle k (omega arith)))
 
 kept-idle : (scale : Scale) (stacks idle : List Costed) (front : List (List ℕ)) → AreIdle idle → kept_fronts scale (stacks ++ idle) front ≡ kept_fronts scale stacks front
 unfolding kept_fronts
@@ -185,7 +183,7 @@ front-idle (suc more) scale stacks idle none =
     let whole : List Costed = stacks ++ idle in
     fun_ext (λ front. fun_ext (λ others.
     let small : gathered_tree scale whole (small_fronts scale whole front) ≡ gathered_tree scale stacks (small_fronts scale stacks front) =
-        gathered-idle scale stacks idle (small_fronts scale whole front) none ∙ ap (gathered_tree scale stacks) (small-idle scale stacks idle front none) in
+    gathered-idle scale stacks idle (small_fronts scale whole front) none ∙ ap (gathered_tree scale stacks) (small-idle scale stacks idle front none) in
     ap (λ (cost : List (List ℕ) → ℕ). a_tree (cost front) (label_of front) (beside (front_tree more scale whole) (kept_fronts scale whole front) (gathered_tree scale whole (small_fronts scale whole front))) others) (costs-idle stacks idle none)
     ∙ ap (λ (tree : List (List ℕ) → Trees → Trees). a_tree (cost_of stacks front) (label_of front) (beside tree (kept_fronts scale whole front) (gathered_tree scale whole (small_fronts scale whole front))) others) (front-idle more scale stacks idle none)
     ∙ ap (λ (kept : List (List (List ℕ))). a_tree (cost_of stacks front) (label_of front) (beside (front_tree more scale stacks) kept (gathered_tree scale whole (small_fronts scale whole front))) others) (kept-idle scale stacks idle front none)
