@@ -11,7 +11,7 @@ use Rattle.live_ledger.specs.declared.event.Event.{Event}
 use Rattle.live_ledger.specs.declared.event.Event.TheVariants.{Alloc, Free, Tick}
 use Rattle.live_ledger.specs.declared.event.EventFault.{EventFault}
 use Rattle.live_ledger.specs.declared.event.EventFault.TheVariants.{CostTooLarge, FreeOfNothing}
-use Rattle.live_ledger.specs.ByInfo.{AreBalanced, alloc_weight, weighed}
+use Rattle.live_ledger.specs.ByInfo.{AreBalanced, alloc_weight, free_weight, weighed}
 use Rattle.live_ledger.specs.Faults.{fault_of}
 use Rattle.live_ledger.specs.InfoBlocks.{allocs_of, frees_of, is_alloc_of, is_free_of}
 use Rattle.live_ledger.specs.InStack.{alloc_size_in, allocated_in, calls_in, free_size_in, freed_in, frees_in, is_alloc_in, is_free_in}
@@ -80,12 +80,6 @@ by_number-list weight [] times = refl
 by_number-list weight (x ∷ xs) [] = sym (by_number-none weight (x ∷ xs))
 by_number-list weight (x ∷ xs) (t ∷ ts) =
     sum_by-cons (λ (pair : HeldInfo × ℕ). weight pair.0 * pair.1) (x, t) (zip xs ts) ∙ ap (λ (n : ℕ). weight x * t + n) (by_number-list weight xs ts)
-
--- the weight of a free by its info, and nothing for another event
-abbrev free_weight : (HeldInfo → ℕ) → Event → ℕ
-free_weight weight (Alloc info stack size) = 0
-free_weight weight (Free info stack size) = weight (record { stack = stack; size = size })
-free_weight weight (Tick ms) = 0
 
 -- one event's weight, by the infos
 alloc-by_number : (weight : HeldInfo → ℕ) (infos : List HeldInfo) (e : Event) → IsAmong infos e → by_number weight (λ i. cond {A = ℕ} (is_alloc_of i e) 1 0) infos ≡ alloc_weight weight e
@@ -192,6 +186,15 @@ sizes-within events ok (suc k) within =
 sum-same : (f g : Event → ℕ) (events : List Event) → ((e : Event) → f e ≡ g e) → sum_by f events ≡ sum_by g events
 sum-same f g [] same = refl
 sum-same f g (e ∷ es) same = sum_by-cons f e es ∙ ap (λ (n : ℕ). n + sum_by f es) (same e) ∙ ap (λ (n : ℕ). g e + n) (sum-same f g es same) ∙ sym (sum_by-cons g e es)
+
+-- in a list that a trace can have, frees weigh no more than allocations
+pub possible-weights : (events : List Event) (weight : HeldInfo → ℕ) → ArePossible events → sum_by (free_weight weight) events ≤ sum_by (alloc_weight weight) events
+possible-weights events weight possible =
+    let infos : List HeldInfo = possible.among.0 in
+    let all : AreAmong infos events = possible.among.1 in
+    let whole : take (length events) events ≡ events = take_all (length events) events (omega arith) in
+    let within : (i : ℕ) → frees_of i events ≤ allocs_of i events = λ i. subst (λ (es : List Event). frees_of i es ≤ allocs_of i es) whole (frees-within events i possible.no_fault (length events) (omega arith)) in
+    omega (arith, by_number-le weight (λ i. frees_of i events) (λ i. allocs_of i events) infos within, frees-by_number weight infos events all, allocs-by_number weight infos events all)
 
 -- the bytes, and the blocks, that a block of an info is of stack `n`
 abbrev bytes_weight : ℕ → HeldInfo → ℕ

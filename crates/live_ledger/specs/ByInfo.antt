@@ -13,6 +13,12 @@ alloc_weight weight (Alloc info stack size) = weight (record { stack = stack; si
 alloc_weight weight (Free info stack size) = 0
 alloc_weight weight (Tick ms) = 0
 
+-- the weight of a free by its info, and nothing for another event
+abbrev pub free_weight : (HeldInfo → ℕ) → Event → ℕ
+free_weight weight (Alloc info stack size) = 0
+free_weight weight (Free info stack size) = weight (record { stack = stack; size = size })
+free_weight weight (Tick ms) = 0
+
 -- the weights of the infos, each so many times
 abbrev pub weighed : (HeldInfo → ℕ) → List HeldInfo → List ℕ → ℕ
 weighed weight infos times = sum_by (λ pair. weight pair.0 * pair.1) (zip infos times)

@@ -1,7 +1,7 @@
 //! Laws of the definitions, for the crates above. Each function does nothing.
-ghost use Rattle.std.specs.Prelude.{◌≡◌, ℕ, List, sum_by};
+ghost use Rattle.std.specs.Prelude.{◌≡◌, ◌≤◌, ℕ, List, sum_by};
 ghost use Rattle.live_ledger.specs.declared.event.Event.{Event};
-ghost use Rattle.live_ledger.specs.ByInfo.{AreBalanced, alloc_weight, weighed};
+ghost use Rattle.live_ledger.specs.ByInfo.{AreBalanced, alloc_weight, free_weight, weighed};
 ghost use Rattle.live_ledger.specs.LedgerState.{HeldInfo, LedgerState};
 ghost use Rattle.live_ledger.specs.Possible.{ArePossible};
 ghost use Rattle.live_ledger.specs.StandsFor.{StandsFor};
@@ -16,4 +16,11 @@ pub fn sums_by_info()
 /// In a list of events that a trace can have, no stack has more freed than allocated. It does nothing.
 pub fn possible_events()
     ensures { (events : List Event) (stack : ℕ) → ArePossible events → AreBalanced stack events }
+{}
+
+/// In a list of events that a trace can have, no more is freed than allocated, by any weight that an info gives its
+/// blocks. It does nothing.
+pub fn possible_weights()
+    ensures { (events : List Event) (weight : HeldInfo → ℕ) → ArePossible events →
+        sum_by (free_weight weight) events ≤ sum_by (alloc_weight weight) events }
 {}

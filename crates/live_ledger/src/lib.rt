@@ -16,7 +16,7 @@ mod totals;
 pub use cells::Cells;
 pub use event::{Event, EventFault};
 pub use figures::Figures;
-pub use laws::{possible_events, sums_by_info};
+pub use laws::{possible_events, possible_weights, sums_by_info};
 pub use ledger::Ledger;
 pub use steps::Steps;
 pub use totals::Totals;

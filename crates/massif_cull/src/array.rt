@@ -2,6 +2,7 @@
 //! How entries are removed is in `removal`.
 ghost use Rattle.std.specs.Prelude.{◌≡◌, ◌+◌, ◌*◌, ◌/◌, ◌^◌, ◌<◌, ◌≤◌, List, [], ◌∷◌, ◌++◌, false, length, map, slice_get, Some, None, IfOk, IfSome};
 ghost use Rattle.massif_cull.specs.declared.snapshot.Offer.{Offer};
+ghost use Rattle.massif_cull.specs.declared.snapshot.Taken.TheVariants.{No};
 ghost use Rattle.massif_cull.specs.Among.{AreAmong};
 ghost use Rattle.massif_cull.specs.ArrayState.{AreSound, IsSound};
 ghost use Rattle.massif_cull.specs.Entries.{end_peak, is_peak, last_time};
@@ -88,6 +89,7 @@ impl<T: Drop> SnapArray<T> {
         requires first_is_normal { length self.now.kept.entries ≡ 0 → offer.now.peak ≡ false }
         ensures taken { result ≡ taken_as self.now.settings self.now.kept offer.now }
         ensures of_offers { (offers : List Offer) → StandsFor self.now offers → result ≡ taken_as self.now.settings (kept_of self.now.settings offers) offer.now }
+        ensures passed { result ≡ No → (offers : List Offer) → StandsFor self.now offers → StandsFor self.now (offers ++ offer.now ∷ []) }
         ensures sound { IsSound self.now }
     {
         if offer.peak {

@@ -10,3 +10,4 @@ pub mod Trees
 pub mod Trimming
 pub mod Walks
 pub mod Writable
+pub mod Idle

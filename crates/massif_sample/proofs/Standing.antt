@@ -1,0 +1,279 @@
+-- What a sampler stands for behind one more event, and the event's fault.
+use Rattle.std.proofs.Common.{◌≡◌, ℕ, suc, ◌+◌, ◌-◌, ◌<◌, ◌≤◌, ◌^◌, List, [], ◌∷◌, ◌++◌, length, Bool, true, false, cond, Option, None, Some, Result, Ok, Err, refl, ap, sym, subst, ◌∙◌, arith, append-nil, append_assoc, inl, inr}
+use Rattle.std.specs.Prelude.{nat_lt, ◌||◌, ◌&&◌, not, slice_index_or, sum_by, IfErr, IsOk}
+use Rattle.std.proofs.lemmas.Option.{get_or_from_slice_get}
+use Rattle.std.proofs.lemmas.List.Sums.{sum_by-cons, sum_by_push}
+use Rattle.std.proofs.lemmas.Bool.Decides.{leb_tells}
+use Rattle.std.proofs.lemmas.Bool.{false≢true}
+use Rattle.ht_trace.specs.TableState.{TableState}
+use Rattle.live_ledger.specs.declared.event.Event.{Event}
+use Rattle.live_ledger.specs.declared.event.Event.TheVariants.{Alloc, Free, Tick}
+use Rattle.live_ledger.specs.declared.event.EventFault.{EventFault}
+use Rattle.live_ledger.specs.declared.event.EventFault.TheVariants as ledger_fault
+use Rattle.live_ledger.specs.ByInfo.{alloc_weight, free_weight}
+use Rattle.live_ledger.specs.Events.{event_count, is_counted, is_free}
+use Rattle.live_ledger.specs.Faults.{fault_at, fault_of}
+use Rattle.live_ledger.specs.LedgerState.{HeldInfo, LedgerState}
+use Rattle.massif_cull.specs.declared.snapshot.Offer.{Offer}
+use Rattle.massif_cull.specs.declared.snapshot.Taken.TheVariants.{Detailed, Peak}
+use Rattle.massif_sample.specs.declared.fault.SampleFault.{SampleFault}
+use Rattle.massif_sample.specs.declared.fault.SampleFault.TheVariants.{FreeOfNothing, CostTooLarge, NoMemory}
+use Rattle.massif_sample.specs.declared.options.MassifOptions.{MassifOptions}
+use Rattle.massif_sample.specs.declared.running.Running.{Running}
+use Rattle.massif_sample.specs.Counted.{counts}
+use Rattle.massif_sample.specs.Due.{IsDue, IsTakenAs}
+use Rattle.massif_sample.specs.FunctionNames.{FunctionNames, ignores}
+use Rattle.massif_sample.specs.Gross.{gross}
+use Rattle.massif_sample.specs.HeapTotals.{gross_total, gross_weight, heap_weight}
+use Rattle.massif_sample.specs.Offers.{offer_at, offers, offers_of_event, peak_before}
+use Rattle.massif_sample.specs.Options.{AreInRange}
+use Rattle.massif_sample.specs.Running.{AreFigures, HasBlock, passed, passes_most, ticked}
+use Rattle.massif_sample.specs.SampleFault.{Tells, fault_or, is_too_large, sample_fault, size_fault}
+use Rattle.massif_sample.specs.SamplesState.{SamplesState}
+use Rattle.massif_sample.specs.StandsFor.{AreJudged, IsOfStack, IsSampling, StandsFor}
+use Rattle.massif_sample.specs.Times.{time_of}
+use Rattle.massif_sample.proofs.Figures.{figures-tick}
+use Rattle.massif_sample.proofs.GrossSizes.{gross-least, some-alignment}
+use Rattle.massif_sample.proofs.Offers.{offer-front, offers-event, offers-tick}
+use Rattle.massif_sample.proofs.Sampling.{sampling-moved}
+use Rattle.massif_sample.proofs.UpTo.{count-more, up_to-all}
+
+-- what was judged of a stack is whether it's ignored
+pub judged-is : (names : FunctionNames) (tables : TableState) (flags : List Bool) (stack : ℕ) (flag : Bool) → AreJudged names tables flags → stack < length flags → slice_index_or flags stack false ≡ flag → ignores tables names stack ≡ flag
+judged-is names tables flags stack flag judged held is = sym (get_or_from_slice_get flags stack (ignores tables names stack) false (judged stack held)) ∙ is
+
+-- the offers of an event that isn't counted, and of one that is
+offers-of : (options : MassifOptions) (ignored : ℕ → Bool) (events : List Event) (event : Event) (k : ℕ) (counted free : Bool) → counts ignored event ≡ counted → is_free event ≡ free
+    → offers_of_event options ignored events event k ≡ cond counted (cond free (offer_at options ignored events true k ∷ []) [] ++ offer_at options ignored events false (k + 1) ∷ []) []
+offers-of options ignored events event k counted free is_counted free_is =
+    ap (λ (b : Bool). cond b (peak_before options ignored events event k ++ offer_at options ignored events false (k + 1) ∷ []) []) is_counted
+    ∙ ap (λ (b : Bool). cond counted (cond b (offer_at options ignored events true k ∷ []) [] ++ offer_at options ignored events false (k + 1) ∷ []) []) free_is
+
+-- behind an event that isn't counted
+pub stands-passed :
+    (flags : List Bool) (samples : SamplesState) (names : FunctionNames) (tables : TableState) (events : List Event) (event : Event)
+    → is_counted event ≡ true
+    → counts (ignores tables names) event ≡ false
+    → IsOfStack tables event
+    → AreFigures samples.options (ignores tables names) (events ++ event ∷ []) (passed samples.options samples.running)
+    → StandsFor flags samples names tables events
+    → StandsFor flags (record samples { running = passed samples.options samples.running }) names tables (events ++ event ∷ [])
+stands-passed flags samples names tables events event is none of_stack figures stands =
+    let next : SamplesState = record samples { running = passed samples.options samples.running } in
+    let ignored : ℕ → Bool = ignores tables names in
+    let moved = sampling-moved samples names tables events (offers samples.options ignored events) event (passed samples.options samples.running) stands.sampling of_stack figures in
+    let same : offers samples.options ignored (events ++ event ∷ []) ≡ offers samples.options ignored events =
+    offers-event samples.options ignored events event is
+    ∙ ap (λ (os : List Offer). offers samples.options ignored events ++ os) (offers-of samples.options ignored (events ++ event ∷ []) event (event_count events) false (is_free event) none refl)
+    ∙ append-nil (offers samples.options ignored events) in
+    record {
+      judged = stands.judged;
+      held = stands.held;
+      sampling = subst (λ (os : List Offer). IsSampling next names tables (events ++ event ∷ []) os) (sym same) moved;
+      some = stands.some;
+    }
+
+-- behind a clock value
+pub stands-tick : (flags : List Bool) (samples : SamplesState) (names : FunctionNames) (tables : TableState) (events : List Event) (ms : ℕ)
+    → StandsFor flags samples names tables events → StandsFor flags (record samples { running = ticked samples.running ms }) names tables (events ++ Tick ms ∷ [])
+stands-tick flags samples names tables events ms stands =
+    let ignored : ℕ → Bool = ignores tables names in
+    record {
+      judged = stands.judged;
+      held = stands.held;
+      sampling = subst (λ (os : List Offer). IsSampling (record samples { running = ticked samples.running ms }) names tables (events ++ Tick ms ∷ []) os) (sym (offers-tick samples.options ignored events ms))
+          (sampling-moved samples names tables events (offers samples.options ignored events) (Tick ms) (ticked samples.running ms) stands.sampling tt (figures-tick samples.options ignored events samples.running ms stands.sampling.figures));
+      some = stands.some;
+    }
+
+-- behind an event that is counted, of which these offers were made
+stands-counted :
+    (flags : List Bool) (old new : SamplesState) (names : FunctionNames) (tables : TableState) (events : List Event) (event : Event) (made : List Offer)
+    → is_counted event ≡ true
+    → StandsFor flags old names tables events
+    → new.options ≡ old.options
+    → offers_of_event old.options (ignores tables names) (events ++ event ∷ []) event (event_count events) ≡ made
+    → IsSampling new names tables (events ++ event ∷ []) (offers old.options (ignores tables names) events ++ made)
+    → 0 < length new.array.kept.entries
+    → StandsFor flags new names tables (events ++ event ∷ [])
+stands-counted flags old new names tables events event made is stands options_is made_is sampling some =
+    let ignored : ℕ → Bool = ignores tables names in
+    let same : offers new.options ignored (events ++ event ∷ []) ≡ offers old.options ignored events ++ made =
+    ap (λ (o : MassifOptions). offers o ignored (events ++ event ∷ [])) options_is
+    ∙ offers-event old.options ignored events event is
+    ∙ ap (λ (os : List Offer). offers old.options ignored events ++ os) made_is in
+    record {
+      judged = stands.judged;
+      held = stands.held;
+      sampling = subst (λ (os : List Offer). IsSampling new names tables (events ++ event ∷ []) os) (sym same) sampling;
+      some = some;
+    }
+
+-- the normal offer behind the last event
+last-offer : (options : MassifOptions) (ignored : ℕ → Bool) (events : List Event) (event : Event) → is_counted event ≡ true
+    → offer_at options ignored (events ++ event ∷ []) false (event_count events + 1) ≡ offer_at options ignored (events ++ event ∷ []) false (event_count (events ++ event ∷ []))
+last-offer options ignored events event is = sym (ap (offer_at options ignored (events ++ event ∷ []) false) (count-more events event is))
+
+pub stands-alloc :
+    (flags : List Bool) (old new : SamplesState) (names : FunctionNames) (tables : TableState) (events : List Event) (info stack size : ℕ)
+    → ignores tables names stack ≡ false
+    → StandsFor flags old names tables events
+    → new.options ≡ old.options
+    → IsSampling new names tables (events ++ Alloc info stack size ∷ [])
+    (offers old.options (ignores tables names) events ++ offer_at old.options (ignores tables names) (events ++ Alloc info stack size ∷ []) false (event_count (events ++ Alloc info stack size ∷ [])) ∷ [])
+    → 0 < length new.array.kept.entries
+    → StandsFor flags new names tables (events ++ Alloc info stack size ∷ [])
+stands-alloc flags old new names tables events info stack size counted stands options_is sampling some =
+    let event : Event = Alloc info stack size in
+    stands-counted flags old new names tables events event _ refl stands options_is
+    (offers-of old.options (ignores tables names) (events ++ event ∷ []) event (event_count events) true false (ap not counted) refl
+    ∙ ap (λ (o : Offer). o ∷ []) (last-offer old.options (ignores tables names) events event refl))
+    sampling some
+
+pub stands-free :
+    (flags : List Bool) (old new : SamplesState) (names : FunctionNames) (tables : TableState) (events : List Event) (info stack size : ℕ)
+    → ignores tables names stack ≡ false
+    → StandsFor flags old names tables events
+    → new.options ≡ old.options
+    → IsSampling new names tables (events ++ Free info stack size ∷ [])
+    ((offers old.options (ignores tables names) events ++ offer_at old.options (ignores tables names) events true (event_count events) ∷ [])
+    ++ offer_at old.options (ignores tables names) (events ++ Free info stack size ∷ []) false (event_count (events ++ Free info stack size ∷ [])) ∷ [])
+    → 0 < length new.array.kept.entries
+    → StandsFor flags new names tables (events ++ Free info stack size ∷ [])
+stands-free flags old new names tables events info stack size counted stands options_is sampling some =
+    let event : Event = Free info stack size in
+    let peak : Offer = offer_at old.options (ignores tables names) events true (event_count events) in
+    let normal : Offer = offer_at old.options (ignores tables names) (events ++ event ∷ []) false (event_count (events ++ event ∷ [])) in
+    stands-counted flags old new names tables events event (peak ∷ normal ∷ []) refl stands options_is
+    (offers-of old.options (ignores tables names) (events ++ event ∷ []) event (event_count events) true true (ap not counted) refl
+    ∙ ap (λ (o : Offer). o ∷ offer_at old.options (ignores tables names) (events ++ event ∷ []) false (event_count events + 1) ∷ []) (offer-front old.options (ignores tables names) events (event ∷ []) true (event_count events) (omega arith))
+    ∙ ap (λ (o : Offer). peak ∷ o ∷ []) (last-offer old.options (ignores tables names) events event refl))
+    (subst (λ (os : List Offer). IsSampling new names tables (events ++ event ∷ []) os) (append_assoc (offers old.options (ignores tables names) events) (peak ∷ []) (normal ∷ [])) sampling)
+    some
+
+-- an event that the ledger takes
+fault-taken : (options : MassifOptions) (ignored : ℕ → Bool) (events : List Event) (event : Event) (counted : Bool) → fault_of events event ≡ None → counts ignored event ≡ counted
+    → sample_fault options ignored events event ≡ cond (counted && is_too_large options ignored (events ++ event ∷ [])) (Some CostTooLarge) None
+fault-taken options ignored events event counted none is =
+    ap (λ (f : Option EventFault). fault_or f (size_fault options ignored events event)) none
+    ∙ ap (λ (b : Bool). cond {A = Option SampleFault} (b && is_too_large options ignored (events ++ event ∷ [])) (Some CostTooLarge) None) is
+
+-- one that isn't counted has no other fault
+pub fault-passed : (options : MassifOptions) (ignored : ℕ → Bool) (events : List Event) (event : Event) → fault_of events event ≡ None → counts ignored event ≡ false → sample_fault options ignored events event ≡ None
+fault-passed options ignored events event none uncounted = fault-taken options ignored events event false none uncounted
+
+-- and one that is counted where the figures behind it pass their bound
+pub fault-counted : (options : MassifOptions) (ignored : ℕ → Bool) (events : List Event) (event : Event) (next : Running) (large : Bool)
+    → is_counted event ≡ true → fault_of events event ≡ None → counts ignored event ≡ true → AreFigures options ignored (events ++ event ∷ []) next → passes_most next ≡ large
+    → sample_fault options ignored events event ≡ cond large (Some CostTooLarge) None
+fault-counted options ignored events event next large is none counted figures passes =
+    let after : List Event = events ++ event ∷ [] in
+    let gross_is : gross_total options ignored after ≡ next.gross = let was = figures.gross in omega arith in
+    let time_is : time_of options ignored after ≡ next.time = sym (figures.time ∙ ap (time_of options ignored) (up_to-all events event is)) in
+    let same : is_too_large options ignored after ≡ large =
+    ap (λ (g : ℕ). nat_lt (2 ^ 62) g || nat_lt (2 ^ 62) (time_of options ignored after)) gross_is
+    ∙ ap (λ (t : ℕ). nat_lt (2 ^ 62) next.gross || nat_lt (2 ^ 62) t) time_is
+    ∙ passes in
+    fault-taken options ignored events event true none counted
+    ∙ ap (λ (b : Bool). cond {A = Option SampleFault} b (Some CostTooLarge) None) same
+
+-- answers without a fault
+pub tells-ok : (r : Result (Unit {0}) SampleFault) (found : Option SampleFault) → IsOk r → found ≡ None → Tells r found
+tells-ok (Ok answer) found ok none = none
+tells-ok (Err error) found ok none = absurd (false≢true ok)
+
+pub tells-none : (r : Result (Unit {0}) SampleFault) (found : Option SampleFault) → IfErr r (λ fault. fault ≡ NoMemory) → found ≡ None → Tells r found
+tells-none (Ok answer) found only none = none
+tells-none (Err FreeOfNothing) found only none = absurd (let same : FreeOfNothing ≡ NoMemory = only in cc)
+tells-none (Err CostTooLarge) found only none = absurd (let same : CostTooLarge ≡ NoMemory = only in cc)
+tells-none (Err NoMemory) found only none = none
+
+-- an event that is counted calls for a detailed snapshot
+pub due-alloc : (options : MassifOptions) (ignored : ℕ → Bool) (events : List Event) (info stack size : ℕ) → ignored stack ≡ false
+    → IsTakenAs options (offers options ignored events) (offer_at options ignored (events ++ Alloc info stack size ∷ []) false (event_count (events ++ Alloc info stack size ∷ []))) Detailed
+    → IsDue options ignored events (Alloc info stack size)
+due-alloc options ignored events info stack size counted taken =
+    inr (record {
+      counted = ap not counted;
+      taken =
+          subst (λ (o : Offer). IsTakenAs options (offers options ignored events ++ []) o Detailed) (sym (last-offer options ignored events (Alloc info stack size) refl))
+          (subst (λ (os : List Offer). IsTakenAs options os (offer_at options ignored (events ++ Alloc info stack size ∷ []) false (event_count (events ++ Alloc info stack size ∷ []))) Detailed) (sym (append-nil (offers options ignored events))) taken);
+    })
+
+pub due-free : (options : MassifOptions) (ignored : ℕ → Bool) (events : List Event) (info stack size : ℕ) → ignored stack ≡ false
+    → IsTakenAs options (offers options ignored events ++ offer_at options ignored events true (event_count events) ∷ []) (offer_at options ignored (events ++ Free info stack size ∷ []) false (event_count (events ++ Free info stack size ∷ []))) Detailed
+    → IsDue options ignored events (Free info stack size)
+due-free options ignored events info stack size counted taken =
+    inr (record {
+      counted = ap not counted;
+      taken = subst (λ (o : Offer). IsTakenAs options (offers options ignored events ++ offer_at options ignored events true (event_count events) ∷ []) o Detailed) (sym (last-offer options ignored events (Free info stack size) refl)) taken;
+    })
+
+pub due-peak : (options : MassifOptions) (ignored : ℕ → Bool) (events : List Event) (info stack size : ℕ) → ignored stack ≡ false
+    → IsTakenAs options (offers options ignored events) (offer_at options ignored events true (event_count events)) Peak
+    → IsDue options ignored events (Free info stack size)
+due-peak options ignored events info stack size counted taken = inl (record { counted = ap not counted; free = refl; taken = taken })
+
+-- sums of numbers that are sums
+sum-split : (f g h : Event → ℕ) (events : List Event) → ((e : Event) → f e ≡ g e + h e) → sum_by f events ≡ sum_by g events + sum_by h events
+sum-split f g h [] each = refl
+sum-split f g h (e ∷ es) each =
+    let here = each e in
+    let rest = sum-split f g h es each in
+    let whole = sum_by-cons f e es in
+    let one = sum_by-cons g e es in
+    let other = sum_by-cons h e es in
+    omega arith
+
+-- what the heap adds to a block of an info
+abbrev extra_weight : MassifOptions → (ℕ → Bool) → HeldInfo → ℕ
+extra_weight options ignored held = cond {A = ℕ} (ignored held.stack) 0 (gross options held.size - held.size)
+
+weight-split : (options : MassifOptions) (flag : Bool) (size : ℕ) → AreInRange options → cond {A = ℕ} flag 0 (gross options size) ≡ cond {A = ℕ} flag 0 size + cond {A = ℕ} flag 0 (gross options size - size)
+weight-split options true size range = refl
+weight-split options false size range = let least = gross-least options size (some-alignment options range) in omega arith
+
+alloc-split : (options : MassifOptions) (ignored : ℕ → Bool) (range : AreInRange options) (e : Event) → alloc_weight (gross_weight options ignored) e ≡ alloc_weight (heap_weight ignored) e + alloc_weight (extra_weight options ignored) e
+alloc-split options ignored range (Alloc i s z) = weight-split options (ignored s) z range
+alloc-split options ignored range (Free i s z) = refl
+alloc-split options ignored range (Tick ms) = refl
+
+free-split : (options : MassifOptions) (ignored : ℕ → Bool) (range : AreInRange options) (e : Event) → free_weight (gross_weight options ignored) e ≡ free_weight (heap_weight ignored) e + free_weight (extra_weight options ignored) e
+free-split options ignored range (Alloc i s z) = refl
+free-split options ignored range (Free i s z) = weight-split options (ignored s) z range
+free-split options ignored range (Tick ms) = refl
+
+-- a free that a trace can have is of a live block
+pub has-block :
+    (options : MassifOptions) (ignored : ℕ → Bool) (events : List Event) (running : Running) (info stack size : ℕ)
+    → AreInRange options
+    → ignored stack ≡ false
+    → AreFigures options ignored events running
+    → ((weight : HeldInfo → ℕ) → sum_by (free_weight weight) (events ++ Free info stack size ∷ []) ≤ sum_by (alloc_weight weight) (events ++ Free info stack size ∷ []))
+    → HasBlock options running size
+has-block options ignored events running info stack size range counted figures within =
+    let event : Event = Free info stack size in
+    let allocs = λ (weight : HeldInfo → ℕ). sum_by_push (alloc_weight weight) events event in
+    let frees = λ (weight : HeldInfo → ℕ). sum_by_push (free_weight weight) events event in
+    let of_heap : cond {A = ℕ} (ignored stack) 0 size ≡ size = ap (λ (b : Bool). cond {A = ℕ} b 0 size) counted in
+    let of_gross : cond {A = ℕ} (ignored stack) 0 (gross options size) ≡ gross options size = ap (λ (b : Bool). cond {A = ℕ} b 0 (gross options size)) counted in
+    let of_extra : cond {A = ℕ} (ignored stack) 0 (gross options size - size) ≡ gross options size - size = ap (λ (b : Bool). cond {A = ℕ} b 0 (gross options size - size)) counted in
+    let heap_was = figures.heap in
+    let gross_was = figures.gross in
+    record {
+      heap = omega (arith, within (heap_weight ignored), allocs (heap_weight ignored), frees (heap_weight ignored));
+      gross_within = omega (arith, within (gross_weight options ignored), allocs (gross_weight options ignored), frees (gross_weight options ignored));
+      extra =
+          let least = gross-least options size (some-alignment options range) in
+          let alloc_split = sum-split (alloc_weight (gross_weight options ignored)) (alloc_weight (heap_weight ignored)) (alloc_weight (extra_weight options ignored)) events (alloc-split options ignored range) in
+          let free_split = sum-split (free_weight (gross_weight options ignored)) (free_weight (heap_weight ignored)) (free_weight (extra_weight options ignored)) events (free-split options ignored range) in
+          omega (arith, within (extra_weight options ignored), allocs (extra_weight options ignored), frees (extra_weight options ignored));
+    }
+
+-- an allocation that has no fault isn't larger than all may be together
+pub size-fits : (ledger : LedgerState) (info stack size : ℕ) → fault_at ledger (Alloc info stack size) ≡ None → size ≤ 2 ^ 62
+size-fits ledger info stack size none =
+    elim (leb_tells (suc (2 ^ 62)) (ledger.totals.allocated + size)) [
+      | inl large ↦ absurd (let is : cond (nat_lt (2 ^ 62) (ledger.totals.allocated + size)) (Some ledger_fault.CostTooLarge) None ≡ Some ledger_fault.CostTooLarge = ap (λ (b : Bool). cond {A = Option EventFault} b (Some ledger_fault.CostTooLarge) None) large.0 in cc)
+      | inr fits ↦ (let below = fits.1 in omega arith)
+    ]

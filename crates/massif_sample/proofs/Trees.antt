@@ -1,0 +1,81 @@
+-- The tree of the present place, and when one is taken.
+use Rattle.std.proofs.Common.{◌≡◌, ◌≢◌, ℕ, ◌+◌, ◌≤◌, ◌^◌, List, length, Bool, true, false, cond, sum, refl, ap, subst, ◌∙◌}
+use Rattle.std.specs.Prelude.{◌==◌, ◌%◌, nat_le, nat_lt, Result, Ok, Err, OnErr, OnOk}
+use Rattle.cost_tree.specs.Costed.{costed}
+use Rattle.ht_trace.specs.TableState.{TableState}
+use Rattle.live_ledger.specs.declared.event.Event.{Event}
+use Rattle.live_ledger.specs.Events.{event_count}
+use Rattle.massif_cull.specs.declared.snapshot.Offer.{Offer}
+use Rattle.massif_cull.specs.declared.snapshot.Taken.{Taken}
+use Rattle.massif_cull.specs.declared.snapshot.Taken.TheVariants.{No, Normal, Detailed, Peak}
+use Rattle.massif_cull.specs.Kept.{Kept, Settings}
+use Rattle.massif_cull.specs.TakenAs.{next_time_after, peak_bound, taken_as}
+use Rattle.massif_file.specs.declared.profile.TreeLine.{TreeLine}
+use Rattle.massif_tree.specs.declared.options.TreeOptions.{TreeOptions}
+use Rattle.massif_tree.specs.FunctionLists.{trimmed_lists}
+use Rattle.massif_tree.specs.MassifTree.{massif_tree}
+use Rattle.massif_sample.specs.declared.options.MassifOptions.{MassifOptions}
+use Rattle.massif_sample.specs.declared.running.Running.{Running}
+use Rattle.massif_sample.specs.Due.{with_tree}
+use Rattle.massif_sample.specs.FunctionNames.{FunctionNames, ignores}
+use Rattle.massif_sample.specs.Options.{tree_options}
+use Rattle.massif_sample.specs.Places.{gross_at}
+use Rattle.massif_sample.specs.Running.{AreFigures}
+use Rattle.massif_sample.specs.Snapshots.{costs_at, tree_at}
+use Rattle.massif_sample.specs.StandsFor.{IsTreeAt}
+use Rattle.massif_sample.proofs.Figures.{gross-now}
+
+-- the tree of what the stacks cost now
+pub tree-here :
+    (options : MassifOptions) (names : FunctionNames) (tables : TableState) (events : List Event) (running : Running) (costs : List ℕ) (tree : List TreeLine) (asked : TreeOptions) (total : ℕ)
+    → AreFigures options (ignores tables names) events running
+    → asked ≡ tree_options options
+    → total ≡ running.gross
+    → tree ≡ massif_tree asked total (costed (trimmed_lists tables names.alloc_fns) costs)
+    → costs ≡ costs_at (length tables.nodes + 1) (ignores tables names) events (event_count events)
+    → sum costs ≤ 2 ^ 62
+    → IsTreeAt options names tables events (event_count events) tree
+unfolding tree_at
+tree-here options names tables events running costs tree asked total figures asked_is total_is is costs_are bound = record {
+  tree_is =
+      is
+      ∙ ap (λ (o : TreeOptions). massif_tree o total (costed (trimmed_lists tables names.alloc_fns) costs)) asked_is
+      ∙ ap (λ (t : ℕ). massif_tree (tree_options options) t (costed (trimmed_lists tables names.alloc_fns) costs)) (total_is ∙ gross-now options (ignores tables names) events running figures)
+      ∙ ap (λ (cs : List ℕ). massif_tree (tree_options options) (gross_at options (ignores tables names) events (event_count events)) (costed (trimmed_lists tables names.alloc_fns) cs)) costs_are;
+  costs = subst (λ (cs : List ℕ). sum cs ≤ 2 ^ 62) costs_are bound;
+}
+
+-- what is taken, and not as a normal snapshot, has a tree: a peak where it was offered as one, and else it is detailed
+pub taken-with_tree : (settings : Settings) (kept : Kept) (offer : Offer) (taken : Taken) → taken ≡ taken_as settings kept offer → taken ≢ No → taken ≢ Normal → taken_as settings kept offer ≡ with_tree offer.peak
+taken-with_tree settings kept offer taken is some no_normal =
+    by_tests offer.peak (nat_lt (peak_bound settings kept) offer.total) (nat_le (next_time_after kept.entries kept.interval) offer.time) ((kept.normals + 1) % settings.detailed_freq == 0)
+    (λ none. some (is ∙ none)) (λ normal. no_normal (is ∙ normal))
+  where
+    taken_by : Bool → Bool → Bool → Bool → Taken
+    taken_by peak above late freq = cond peak (cond above Peak No) (cond late (cond freq Detailed Normal) No)
+
+    by_tests : (peak above late freq : Bool) → (taken_by peak above late freq ≢ No) → (taken_by peak above late freq ≢ Normal) → taken_by peak above late freq ≡ cond peak Peak Detailed
+    by_tests true true late freq some no_normal = refl
+    by_tests true false late freq some no_normal = absurd (some refl)
+    by_tests false above true true some no_normal = refl
+    by_tests false above true false some no_normal = absurd (no_normal refl)
+    by_tests false above false freq some no_normal = absurd (some refl)
+
+-- what holds holds at an error too
+pub at_err : {T E : Type 0} (r : Result T E) {P : Type 0} → P → OnErr r P
+at_err (Ok answer) p = tt
+at_err (Err error) p = p
+
+-- and at an answer
+pub at_ok : {T E : Type 0} (r : Result T E) {P : Type 0} → P → OnOk r P
+at_ok (Ok answer) p = p
+at_ok (Err error) p = tt
+
+-- two facts at an answer
+pub both_ok : {T E : Type 0} (r : Result T E) {P Q R : Type 0} → (P → Q → R) → OnOk r P → OnOk r Q → OnOk r R
+both_ok (Ok answer) f p q = f p q
+both_ok (Err error) f p q = tt
+
+-- what holds at an error holds where there is one
+pub of_err : {T E : Type 0} (r : Result T E) (error : E) {P : Type 0} → r ≡ Err error → OnErr r P → P
+of_err {T} {E} r error {P} is p = subst (λ (x : Result T E). OnErr x P) is p

@@ -1,0 +1,12 @@
+use Rattle.std.proofs.Common.{◌∙◌}
+use Rattle.std.proofs.lemmas.Result.{IfOk-weaker}
+use Rattle.massif_sample.proofs.Making.{profile-is}
+use Rattle.massif_sample.proofs.sampler.Sampler.finish.Goals as goal
+
+pub returns : goal.returns
+returns g c = record {
+  profile =
+      IfOk-weaker c.into_profile.result _ _
+      (λ profile is names tables events stands. is ∙ profile-is _ _ names tables events c.args.cmd.now c.into_profile.ensures.sound c.into_profile.ensures.array stands)
+      c.into_profile.ensures.profile;
+}

@@ -1,0 +1,46 @@
+use Rattle.std.proofs.Common.{◌≡◌, ◌≢◌, ◌∙◌, ◌++◌, ◌∷◌, [], ap, sym, subst, inl, inr, rules}
+use Rattle.massif_cull.specs.declared.snapshot.Offer.{Offer}
+use Rattle.massif_cull.specs.declared.snapshot.Taken.TheVariants.{No, Normal}
+use Rattle.massif_cull.specs.KeptOf.{kept_of}
+use Rattle.massif_sample.specs.Due.{IsTakenAs, with_tree}
+use Rattle.massif_sample.specs.FunctionNames.{ignores}
+use Rattle.massif_sample.specs.Options.{settings_of}
+use Rattle.massif_sample.specs.StandsFor.{IsSampling}
+use Rattle.massif_sample.proofs.Offers.{offer-now}
+use Rattle.massif_sample.proofs.Trees.{at_err, taken-with_tree, tree-here}
+use Rattle.massif_sample.proofs.taking.sample.Goals as goal
+
+pub returns-then-eq-clause-sampling : goal.returns-then-eq-clause-sampling
+returns-then-eq-clause-sampling g c =
+    let none : c.judge-taken.result ≡ No = search rules in
+    λ names events costs made texts stated same was.
+    let offer_is = c.offer-offer.ensures ∙ offer-now c.args.samples.now.options (ignores c.args.tables.now names) events c.args.samples.now.running c.args.as_peak was.figures in
+    subst (λ (o : Offer). IsSampling c.args.samples.now names c.args.tables.now events (made ++ o ∷ [])) offer_is (c.judge-taken.ensures.passed none names c.args.tables.now events made was)
+
+pub returns-then-eq-2-clause-sampling : goal.returns-then-eq-2-clause-sampling
+returns-then-eq-2-clause-sampling g c =
+    let normal : c.judge-taken.result ≡ Normal = search rules in
+    λ names events costs made texts stated same was.
+    let offer_is = c.offer-offer.ensures ∙ offer-now c.args.samples.now.options (ignores c.args.tables.now names) events c.args.samples.now.running c.args.as_peak was.figures in
+    subst (λ (o : Offer). IsSampling c.take.new.self names c.args.tables.now events (made ++ o ∷ [])) offer_is
+    (c.take.ensures.sampling names c.args.tables.now events made (inl (sym c.judge-taken.ensures.taken ∙ normal)) was)
+
+pub returns-in_err-tree-clause-due : goal.returns-in_err-tree-clause-due
+returns-in_err-tree-clause-due g c =
+    let some : c.judge-taken.result ≢ No = search rules in
+    let no_normal : c.judge-taken.result ≢ Normal = search rules in
+    at_err c.from_residual.result
+    (λ names events made was.
+    let offer_is = c.offer-offer.ensures ∙ offer-now c.args.samples.now.options (ignores c.args.tables.now names) events c.args.samples.now.running c.args.as_peak was.figures in
+    let of_made = c.judge-taken.ensures.of_sampling names c.args.tables.now events made was in
+    let as_peak : with_tree c.offer-offer.result.peak ≡ with_tree c.args.as_peak = ap (λ (o : Offer). with_tree o.peak) c.offer-offer.ensures in
+    subst (λ (o : Offer). IsTakenAs c.args.samples.now.options made o (with_tree c.args.as_peak)) offer_is
+    (record { taken_is = taken-with_tree (settings_of c.args.samples.now.options) (kept_of (settings_of c.args.samples.now.options) made) c.offer-offer.result c.judge-taken.result of_made some no_normal ∙ as_peak }))
+
+pub returns-clause-sampling : goal.returns-clause-sampling
+returns-clause-sampling g c =
+    λ names events costs made texts stated same was.
+    let offer_is = c.offer-offer.ensures ∙ offer-now c.args.samples.now.options (ignores c.args.tables.now names) events c.args.samples.now.running c.args.as_peak was.figures in
+    subst (λ (o : Offer). IsSampling c.take-2.new.self names c.args.tables.now events (made ++ o ∷ [])) offer_is
+    (c.take-2.ensures.sampling names c.args.tables.now events made
+    (inr (tree-here c.args.samples.now.options names c.args.tables.now events c.args.samples.now.running costs _ _ _ was.figures c.tree_options-options.ensures (ap (λ (o : Offer). o.total) c.offer-offer.ensures) (c.in_ok-tree.ensures.lines names.alloc_fns costs texts stated) same stated.bound)) was)

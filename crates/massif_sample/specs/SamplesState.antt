@@ -1,0 +1,23 @@
+-- What contracts see of the snapshots of a trace, and what is true of them.
+use Rattle.std.specs.Prelude.{◌≡◌, ◌≤◌, Bool}
+use Rattle.massif_cull.specs.ArrayState.{ArrayState}
+use Rattle.massif_cull.specs.Entries.{last_time}
+use Rattle.massif_sample.specs.declared.load.Load.{Load}
+use Rattle.massif_sample.specs.declared.options.MassifOptions.{MassifOptions}
+use Rattle.massif_sample.specs.declared.running.Running.{Running}
+use Rattle.massif_sample.specs.Options.{AreInRange, settings_of}
+use Rattle.massif_sample.specs.Running as running
+
+-- the options, the figures so far, the snapshots that are kept, and whether memory was wanting for one
+pub record SamplesState : Type 0 where
+  pub options : MassifOptions
+  pub running : Running
+  pub array : ArrayState Load
+  pub failed : Bool
+
+-- the options are within their ranges and are the array's, the figures are sound, and no snapshot is later than they are
+pub record IsSound (samples : SamplesState) : Type 0 where
+  pub options : AreInRange samples.options
+  pub settings : samples.array.settings ≡ settings_of samples.options
+  pub running : running.AreSound samples.options samples.running
+  pub last : last_time samples.array.kept.entries ≤ samples.running.time

@@ -1,0 +1,74 @@
+-- Which lists of events a sampler stands for.
+use Rattle.std.specs.Prelude.{◌≡◌, ℕ, ◌+◌, ◌^◌, ◌<◌, ◌≤◌, Bool, false, List, length, Some, slice_get, sum}
+use Rattle.ht_trace.specs.TableState.{TableState}
+use Rattle.live_ledger.specs.declared.event.Event.{Event}
+use Rattle.live_ledger.specs.declared.event.Event.TheVariants.{Alloc, Free, Tick}
+use Rattle.live_ledger.specs.Events.{event_count}
+use Rattle.massif_cull.specs.declared.snapshot.Kind.{Kind}
+use Rattle.massif_cull.specs.declared.snapshot.Kind.TheVariants.{Normal, Detailed, Peak}
+use Rattle.massif_cull.specs.declared.snapshot.Offer.{Offer}
+use Rattle.massif_cull.specs.declared.snapshot.SnapEntry.{SnapEntry}
+use Rattle.massif_cull.specs.StandsFor as array
+use Rattle.massif_file.specs.declared.profile.TreeLine.{TreeLine}
+use Rattle.massif_sample.specs.declared.load.Load.{Load}
+use Rattle.massif_sample.specs.declared.options.MassifOptions.{MassifOptions}
+use Rattle.massif_sample.specs.FunctionNames.{FunctionNames, ignores}
+use Rattle.massif_sample.specs.Offers.{offers}
+use Rattle.massif_sample.specs.Places.{gross_at, heap_at, time_at}
+use Rattle.massif_sample.specs.Running.{AreFigures}
+use Rattle.massif_sample.specs.SamplesState.{SamplesState}
+use Rattle.massif_sample.specs.Snapshots.{costs_at, tree_at}
+
+-- it's true of a snapshot that has a tree
+abbrev pub WhereTree : Kind → Type 0 → Type 0
+WhereTree Normal P = Unit {0}
+WhereTree Detailed P = P
+WhereTree Peak P = P
+
+-- the tree is that of the place, whose costs have their bound
+pub record IsTreeAt (options : MassifOptions) (names : FunctionNames) (tables : TableState) (events : List Event) (place : ℕ) (tree : List TreeLine) : Type 0 where
+  pub tree_is : tree ≡ tree_at options names tables events place
+  pub costs : sum (costs_at (length tables.nodes + 1) (ignores tables names) events place) ≤ 2 ^ 62
+
+-- the entry and its load have the figures of the entry's place
+pub record IsSnapshot (options : MassifOptions) (names : FunctionNames) (tables : TableState) (events : List Event) (entry : SnapEntry) (load : Load) : Type 0 where
+  pub place : entry.place ≤ event_count events
+  pub time : entry.time ≡ time_at options (ignores tables names) events entry.place
+  pub total : entry.total ≡ gross_at options (ignores tables names) events entry.place
+  pub heap : load.heap ≡ heap_at (ignores tables names) events entry.place
+  pub extra : load.heap + load.extra ≡ entry.total
+  pub tree : WhereTree entry.kind (IsTreeAt options names tables events entry.place load.tree)
+
+-- each entry and the load beside it
+abbrev pub AreSnapshots : MassifOptions → FunctionNames → TableState → List Event → List SnapEntry → List Load → Type 0
+AreSnapshots options names tables events entries loads =
+    (k : ℕ) (entry : SnapEntry) (load : Load) → slice_get entries k ≡ Some entry → slice_get loads k ≡ Some load → IsSnapshot options names tables events entry load
+
+-- the event's stack is one of the tables
+abbrev pub IsOfStack : TableState → Event → Type 0
+IsOfStack tables (Alloc info stack size) = stack ≤ length tables.nodes
+IsOfStack tables (Free info stack size) = stack ≤ length tables.nodes
+IsOfStack tables (Tick ms) = Unit {0}
+
+-- the stack of each event
+abbrev pub AreOfStacks : TableState → List Event → Type 0
+AreOfStacks tables events = (k : ℕ) (event : Event) → slice_get events k ≡ Some event → IsOfStack tables event
+
+-- the figures are those of the events, and the snapshots those that are kept of these offers
+pub record IsSampling (samples : SamplesState) (names : FunctionNames) (tables : TableState) (events : List Event) (made : List Offer) : Type 0 where
+  pub stacks : AreOfStacks tables events
+  pub figures : AreFigures samples.options (ignores tables names) events samples.running
+  pub array : array.StandsFor samples.array made
+  pub snapshots : AreSnapshots samples.options names tables events samples.array.kept.entries samples.array.loads
+  pub going : samples.failed ≡ false
+
+-- of each stack that was taken account of it is known whether it is ignored
+abbrev pub AreJudged : FunctionNames → TableState → List Bool → Type 0
+AreJudged names tables judged = (stack : ℕ) → stack < length judged → slice_get judged stack ≡ Some (ignores tables names stack)
+
+-- the offers are those of the events
+pub record StandsFor (flags : List Bool) (samples : SamplesState) (names : FunctionNames) (tables : TableState) (events : List Event) : Type 0 where
+  pub judged : AreJudged names tables flags
+  pub held : length flags ≤ length tables.nodes + 1
+  pub sampling : IsSampling samples names tables events (offers samples.options (ignores tables names) events)
+  pub some : 0 < length samples.array.kept.entries

@@ -1,0 +1,15 @@
+-- How contracts see the fields of samples.
+use Rattle.std.specs.Prelude.{Bool}
+use Rattle.massif_cull.specs.declared.snapshot.Offer.{Offer}
+use Rattle.massif_cull.specs.ArrayState.{ArrayState}
+use Rattle.massif_sample.specs.declared.load.Load.{Load}
+use Rattle.massif_sample.specs.declared.options.MassifOptions.{MassifOptions}
+use Rattle.massif_sample.specs.declared.running.Running.{Running}
+use Rattle.massif_sample.specs.SamplesState.{SamplesState}
+
+abbrev pub state_of : MassifOptions → Running → ArrayState Load → Bool → SamplesState
+state_of options running array failed = record { options = options; running = running; array = array; failed = failed }
+
+-- the offer of a snapshot with these figures
+abbrev pub offer_of : Running → Bool → Offer
+offer_of running as_peak = record { place = running.place; time = running.time; total = running.gross; peak = as_peak }

@@ -1,0 +1,141 @@
+//! The figures of a trace that grow with each event, and what an event makes of them.
+//! Which snapshots are taken is no part of it.
+ghost use Rattle.std.specs.Prelude.{◌≡◌, ◌+◌, ◌-◌, ◌^◌, ◌<◌, ◌≤◌, true, false, IfNone, IfSome};
+ghost use Rattle.massif_sample.specs.Gross.{gross};
+ghost use Rattle.massif_sample.specs.Options.{AreInRange};
+ghost use Rattle.massif_sample.specs.Running.{TimeFits, no_figures, passed, passes_most, ticked, time_after, time_passed, with_alloc, with_free};
+
+use crate::options::MassifOptions;
+use massif_file::TimeUnit;
+
+/// The most bytes that are live, and the greatest time.
+const MOST: u64 = 0x4000_0000_0000_0000;
+
+/// The figures after some events, those of the counted ones.
+#[derive(Clone, Copy, Debug)]
+pub(crate) struct Running {
+    /// Allocations and frees, counted or not.
+    pub(crate) place: u64,
+    /// The time of this place, in the chosen unit.
+    pub(crate) time: u64,
+    /// The greatest clock value so far, in milliseconds.
+    pub(crate) clock: u64,
+    /// Live bytes.
+    pub(crate) heap: u64,
+    /// Live bytes with what the heap adds to each block.
+    pub(crate) gross: u64,
+}
+
+impl Running {
+    /// The figures before any event.
+    pub(crate) fn new() -> Running
+        ensures { result ≡ no_figures }
+    {
+        Running {
+            place: 0,
+            time: 0,
+            clock: 0,
+            heap: 0,
+            gross: 0,
+        }
+    }
+
+    /// The figures with a clock value.
+    pub(crate) fn ticked(self, ms: u64) -> Running
+        ensures { result ≡ ticked self ms }
+    {
+        Running {
+            clock: self.clock.max(ms),
+            ..self
+        }
+    }
+
+    /// The figures with an event that isn't counted.
+    pub(crate) fn passed(self, options: &MassifOptions) -> Running
+        requires place { self.place < 2 ^ 32 }
+        ensures { result ≡ passed options.now self }
+    {
+        Running {
+            place: self.place + 1,
+            time: self.time_passed(options.unit),
+            ..self
+        }
+    }
+
+    /// The figures with a block more.
+    pub(crate) fn allocated(self, options: &MassifOptions, size: u64) -> Running
+        requires options { AreInRange options.now }
+        requires place { self.place < 2 ^ 32 }
+        requires time { TimeFits options.now.unit self }
+        requires heap { self.heap ≤ 2 ^ 62 }
+        requires gross { self.gross ≤ 2 ^ 62 }
+        requires size { size ≤ 2 ^ 62 }
+        ensures { result ≡ with_alloc options.now self size }
+    {
+        let bytes = options.gross(size);
+        Running {
+            place: self.place + 1,
+            time: self.time_after(options.unit, bytes),
+            clock: self.clock,
+            heap: self.heap + size,
+            gross: self.gross + bytes,
+        }
+    }
+
+    /// The figures with a live block fewer.
+    pub(crate) fn freed(self, options: &MassifOptions, size: u64) -> Running
+        requires options { AreInRange options.now }
+        requires place { self.place < 2 ^ 32 }
+        requires time { TimeFits options.now.unit self }
+        requires size { size ≤ 2 ^ 62 }
+        requires heap { size ≤ self.heap }
+        requires gross { gross options.now size ≤ self.gross }
+        ensures { result ≡ with_free options.now self size }
+    {
+        let bytes = options.gross(size);
+        Running {
+            place: self.place + 1,
+            time: self.time_after(options.unit, bytes),
+            clock: self.clock,
+            heap: self.heap - size,
+            gross: self.gross - bytes,
+        }
+    }
+
+    /// These figures, or `None` where the live bytes or the time are more than they may be.
+    pub(crate) fn bounded(self) -> Option<Running>
+        ensures some { IfSome result (λ bounded. (bounded ≡ self) × (passes_most self ≡ false)) }
+        ensures none { IfNone result (passes_most self ≡ true) }
+    {
+        if self.gross > MOST || self.time > MOST {
+            return None;
+        }
+        Some(self)
+    }
+
+    /// The time behind a counted event of so many gross bytes.
+    fn time_after(&self, unit: TimeUnit, bytes: u64) -> u64
+        requires time { TimeFits unit self.now }
+        requires bytes { bytes ≤ 2 ^ 63 }
+        ensures { result ≡ time_after unit self.now bytes }
+    {
+        match unit {
+            TimeUnit::Bytes => self.time + bytes,
+            TimeUnit::Events => self.time + 1,
+            TimeUnit::Milliseconds => self.clock,
+            TimeUnit::Instructions => self.time,
+        }
+    }
+
+    /// The time behind an event that isn't counted.
+    fn time_passed(&self, unit: TimeUnit) -> u64
+        ensures { result ≡ time_passed unit self.now }
+    {
+        match unit {
+            TimeUnit::Milliseconds => self.clock,
+            TimeUnit::Bytes => self.time,
+            TimeUnit::Events => self.time,
+            TimeUnit::Instructions => self.time,
+        }
+    }
+}
