@@ -1,8 +1,8 @@
 #!/bin/sh
-# Runs `heapsuite summary`, `heapsuite print` and `heapsuite flame` on each trace of this folder, and `heapsuite interpret` on
-# each raw one, and compares what they print with the files beside the trace; and `heapsuite dhat_view` on the profiles of `dhat`. The summary of what `interpret` writes has to be
-# that of the trace which heaptrack interpreted. And a trace of two million events is generated, whose summary is
-# `generated.summary`. The program is the first argument, or bin/heapsuite at the top of the repository.
+# Runs `heapsuite summary`, `print`, `flame` and `dhat` on each trace of this folder, and `heapsuite interpret` on each raw
+# one, and compares what they print with the files beside the trace; and `heapsuite dhat_view` on the profiles of `dhat`. The
+# summary of what `interpret` writes has to be that of the trace which heaptrack interpreted. And a trace of two million events
+# is generated, whose summary is `generated.summary`. The program is the first argument, or bin/heapsuite at the top of the repository.
 cd "$(dirname "$0")" || exit 1
 heapsuite=${1:-../bin/heapsuite}
 work=$(mktemp -d) || exit 1
