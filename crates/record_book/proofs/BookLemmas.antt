@@ -6,9 +6,9 @@ use Rattle.std.proofs.lemmas.Bool.Decides.{nat_tests}
 use Rattle.std.proofs.lemmas.List.Sums.{sum_by-cons}
 use Rattle.std.proofs.lemmas.List.{get_or_read}
 use Rattle.std.proofs.lemmas.Option.{slice_get_within, unwrap_or-slice_get}
-use Rattle.recorder.specs.Events.{event_count, events_of, events_of_turn}
-use Rattle.recorder.specs.Job.{Job}
-use Rattle.recorder.specs.Turns.{Turn, script_at}
+use Rattle.record_scripts.specs.Events.{event_count, events_of, events_of_turn}
+use Rattle.record_scripts.specs.Job.{Job}
+use Rattle.record_scripts.specs.Turns.{Turn, script_at}
 use Rattle.record_book.specs.declared.trace.Trace.{Trace}
 use Rattle.record_book.specs.Actions.{Action, actions, times}
 use Rattle.record_book.specs.BookState.{IsBook, done_at, done_count, entries_of}

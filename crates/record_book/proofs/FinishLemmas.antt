@@ -3,8 +3,8 @@ use Rattle.std.proofs.Common.{◌≡◌, ◌≢◌, ℕ, zero, suc, ◌<◌, ◌
 use Rattle.std.specs.Prelude.{nat_lt, slice_get}
 use Rattle.std.proofs.lemmas.Bool.{cases_lt}
 use Rattle.std.proofs.lemmas.Bool.Decides.{nat_tests}
-use Rattle.recorder.specs.Events.{Event, allocation, free}
-use Rattle.recorder.specs.Turns.{Turn}
+use Rattle.record_scripts.specs.Events.{Event, allocation, free}
+use Rattle.record_scripts.specs.Turns.{Turn}
 use Rattle.record_book.specs.Actions.{events_at, times}
 use Rattle.record_book.specs.BookState.{stepped, turn_entries}
 use Rattle.record_book.specs.Orders.{IsInterleaving, IsUnder}

@@ -6,8 +6,8 @@ use Rattle.std.proofs.lemmas.List.{reverse-append, take-append-drop, take_all}
 use Rattle.std.proofs.lemmas.Grind.{flat_map-append}
 use Rattle.std.proofs.lemmas.Option.{get_or_from_slice_get, slice_get_past, slice_get_within}
 use Rattle.std.proofs.Math.Seq.{take-suc}
-use Rattle.recorder.specs.Events.{Event, allocation, events_of, events_of_turn}
-use Rattle.recorder.specs.Turns.{Turn, allocates, frees, reallocates, script_at}
+use Rattle.record_scripts.specs.Events.{Event, allocation, events_of, events_of_turn}
+use Rattle.record_scripts.specs.Turns.{Turn, allocates, frees, reallocates, script_at}
 use Rattle.record_book.specs.Actions.{Action, actions, actions_back, events_at, times, with_event}
 use Rattle.record_book.specs.BookState.{HasStepped, entries_of, stepped, turn_entries}
 use Rattle.record_book.specs.Orders.{ArePaired, awaited}

@@ -2,12 +2,12 @@
 use Rattle.std.proofs.Common.{◌≡◌, ℕ, zero, suc, ◌+◌, ◌^◌, ◌<◌, ◌≤◌, ◌⊎◌, inl, inr, List, [], ◌∷◌, length, Option, None, Some, refl, sym, ap, ap₂, ◌∙◌, subst, arith}
 use Rattle.std.specs.Prelude.{option_map, slice_get}
 use Rattle.std.proofs.lemmas.Bool.{cases_lt}
-use Rattle.recorder.specs.declared.script_line.ScriptLine.{ScriptLine}
-use Rattle.recorder.specs.ScriptTurns.{turn_said}
+use Rattle.record_scripts.specs.declared.script_line.ScriptLine.{ScriptLine}
+use Rattle.record_scripts.specs.ScriptTurns.{turn_said}
 use Rattle.std.proofs.lemmas.List.Sums.{sum_by-cons}
 use Rattle.std.proofs.lemmas.Option.{same_Some, slice_get_within}
-use Rattle.recorder.specs.Events.{event_count, events_of, events_of_turn}
-use Rattle.recorder.specs.Turns.{Turn, script_at}
+use Rattle.record_scripts.specs.Events.{event_count, events_of, events_of_turn}
+use Rattle.record_scripts.specs.Turns.{Turn, script_at}
 use Rattle.record_book.proofs.OrderLemmas.{some_events}
 use Rattle.std.proofs.Common.{length-append}
 

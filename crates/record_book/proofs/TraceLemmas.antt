@@ -6,8 +6,8 @@ use Rattle.ht_lines.specs.Content.{raw_allocation_line, raw_free_line}
 use Rattle.stack_table.specs.AreNodes.{AreNodes}
 use Rattle.stack_table.specs.Node.{Node}
 use Rattle.stack_table.specs.Stack.{frame_count, stack, stack_nodes}
-use Rattle.recorder.specs.Events.{allocation, free}
-use Rattle.recorder.specs.Turns.{Turn, allocates, frees, reallocates}
+use Rattle.record_scripts.specs.Events.{allocation, free}
+use Rattle.record_scripts.specs.Turns.{Turn, allocates, frees, reallocates}
 use Rattle.record_book.specs.declared.trace.Trace.{Trace}
 use Rattle.record_book.specs.Actions.{Action}
 use Rattle.record_book.specs.HeapPlaces.{Place, address_of, class_of, next_address, placed, places_after, released}

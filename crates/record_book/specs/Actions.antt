@@ -1,7 +1,7 @@
 -- What the entries of an order mean.
 use Rattle.std.specs.Prelude.{ℕ, ◌+◌, ◌==◌, if◌then◌else◌, List, [], ◌∷◌, reverse, slice_get, Option, None, Some}
-use Rattle.recorder.specs.Turns.{Turn, script_at}
-use Rattle.recorder.specs.Events.{Event, events_of}
+use Rattle.record_scripts.specs.Turns.{Turn, script_at}
+use Rattle.record_scripts.specs.Events.{Event, events_of}
 
 -- an event of a script, and the thread whose script it is
 pub record Action : Type 0 where

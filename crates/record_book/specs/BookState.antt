@@ -1,8 +1,8 @@
 -- What a book stands for, and what a turn of a thread adds to it.
 use Rattle.std.specs.Prelude.{◌≡◌, ℕ, zero, suc, ◌+◌, ◌*◌, ◌^◌, ◌<◌, ◌≤◌, true, false, List, [], ◌∷◌, ◌++◌, length, slice_get, take, unwrap_or, Option, None, Some}
-use Rattle.recorder.specs.Events.{Event, allocation, free, events_of}
-use Rattle.recorder.specs.Job.{Job}
-use Rattle.recorder.specs.Turns.{Turn, allocates, frees, reallocates, script_at}
+use Rattle.record_scripts.specs.Events.{Event, allocation, free, events_of}
+use Rattle.record_scripts.specs.Job.{Job}
+use Rattle.record_scripts.specs.Turns.{Turn, allocates, frees, reallocates, script_at}
 use Rattle.record_book.specs.declared.trace.Trace.{Trace}
 use Rattle.record_book.specs.Actions.{actions, events_at, times}
 use Rattle.record_book.specs.Orders.{ArePaired, awaited}

@@ -1,7 +1,7 @@
 -- Where blocks lie. Places are handed out one behind the other, and one whose block was freed may be handed out again.
 use Rattle.std.specs.Prelude.{ℕ, ◌+◌, ◌*◌, ◌/◌, ◌≤◌, Bool, ◌==◌, ◌&&◌, if◌then◌else◌, max, min, List, [], ◌∷◌}
 use Rattle.std.specs.List.{AllByRecursion}
-use Rattle.recorder.specs.Events.{Event, allocation, free}
+use Rattle.record_scripts.specs.Events.{Event, allocation, free}
 use Rattle.record_book.specs.Actions.{Action}
 
 -- a block: the thread that allocates it, its ID there, and its size in bytes

@@ -1,7 +1,7 @@
 -- The numbers of stacks in a recorded trace.
 use Rattle.std.specs.Prelude.{ℕ, ◌+◌, ◌==◌, if◌then◌else◌, List, [], ◌∷◌, length}
 use Rattle.std.specs.Str.{bytes_eq}
-use Rattle.recorder.specs.Events.{Event, allocation, free}
+use Rattle.record_scripts.specs.Events.{Event, allocation, free}
 use Rattle.record_book.specs.Actions.{Action}
 
 -- for different stacks listed from the last to the first: the number of a stack, from 1; 0 where it isn't there

@@ -1,7 +1,7 @@
 -- The orders in which threads may take the events of their scripts.
 use Rattle.std.specs.Prelude.{◌≡◌, ℕ, ◌≤◌, true, false, List, [], ◌∷◌, ◌++◌, length, Option, None, Some, IfSome}
-use Rattle.recorder.specs.Turns.{Turn}
-use Rattle.recorder.specs.Events.{Event, allocation, free}
+use Rattle.record_scripts.specs.Turns.{Turn}
+use Rattle.record_scripts.specs.Events.{Event, allocation, free}
 use Rattle.record_book.specs.Actions.{Action, actions, events_at, times}
 
 -- the thread that has freed a block and is to allocate another in its place, where the event is that free

@@ -3,8 +3,8 @@ use Rattle.std.specs.Prelude.{ℕ, ◌==◌, if◌then◌else◌, List, [], ◌�
 use Rattle.std.specs.Prelude.{decimal}
 use Rattle.ht_lines.specs.Content.{Content, node_line, raw_allocation_line, raw_free_line}
 use Rattle.ht_lines.specs.Written.{written}
-use Rattle.recorder.specs.Job.{Job}
-use Rattle.recorder.specs.Events.{Event, allocation, free}
+use Rattle.record_scripts.specs.Job.{Job}
+use Rattle.record_scripts.specs.Events.{Event, allocation, free}
 use Rattle.record_book.specs.Actions.{Action, actions}
 use Rattle.record_book.specs.HeapPlaces.{Place, address_of, class_of, next_address, places_after, released}
 use Rattle.record_book.specs.NodeNumbers.{number_in, stacks_after, with_suffixes}

@@ -1,7 +1,7 @@
 -- What the trace that is written stands for.
 use Rattle.std.specs.Prelude.{◌≡◌, ℕ, true, false, List, ◌∷◌, ◌++◌}
-use Rattle.recorder.specs.Events.{allocation, free}
-use Rattle.recorder.specs.Turns.{Turn, allocates, frees, reallocates}
+use Rattle.record_scripts.specs.Events.{allocation, free}
+use Rattle.record_scripts.specs.Turns.{Turn, allocates, frees, reallocates}
 use Rattle.record_book.specs.declared.trace.Trace.{Trace}
 use Rattle.record_book.specs.Actions.{Action}
 use Rattle.record_book.specs.HeapPlaces.{Place, places_after, places_with, released}

@@ -1,7 +1,7 @@
 //! The book: which thread took which turns of its script, and in what order. The text of the trace is made elsewhere.
 ghost use Rattle.std.specs.Prelude.{◌≡◌, ◌≢◌, ℕ, ◌+◌, ◌<◌, ◌≤◌, false, List, [], ◌++◌, length, vec_capacity, vec_len, IfOk, IsOk, OnOk, OnErr, nat_lt};
 ghost use Rattle.std.specs.Arc.{arc_value};
-ghost use Rattle.recorder.specs.ScriptTurns.{turn_said};
+ghost use Rattle.record_scripts.specs.ScriptTurns.{turn_said};
 ghost use Rattle.record_book.specs.Actions.{actions, events_at, times};
 ghost use Rattle.record_book.specs.BookState.{HasStepped, entries_of, stepped};
 ghost use Rattle.record_book.specs.HeapPlaces.{AreApart, live_blocks, places_after};
@@ -11,7 +11,7 @@ ghost use Rattle.record_book.specs.RecordedTrace.{recorded};
 use crate::same_scripts::is_same;
 use crate::trace::Trace;
 use hp_num::NoMemory;
-use recorder::{ScriptLine, Scripts};
+use record_scripts::{ScriptLine, Scripts};
 use std::alloc::Global;
 use std::marker::Model;
 use std::sync::Arc;

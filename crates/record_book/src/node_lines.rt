@@ -9,7 +9,7 @@ ghost use Rattle.record_book.specs.NodeState.{AreNumbered, ArePut, IsInterned, I
 
 use hp_num::NoMemory;
 use ht_lines::{Item, put_item};
-use recorder::FILE_VERSION;
+use record_scripts::FILE_VERSION;
 use stack_table::{NodeFault, Nodes};
 
 /// The node of a stack, given from its innermost ip outwards; the lines of new nodes are appended to `text`, the outermost

@@ -1,10 +1,10 @@
 //! Whether two jobs are the same, by the turns of their scripts.
 ghost use Rattle.std.specs.Prelude.{◌≡◌, ◌<◌, ◌↔◌, length, option_map, IfOk, IsTrue};
-ghost use Rattle.recorder.specs.ScriptTurns.{turn_said};
-ghost use Rattle.recorder.specs.Turns.{script_at};
+ghost use Rattle.record_scripts.specs.ScriptTurns.{turn_said};
+ghost use Rattle.record_scripts.specs.Turns.{script_at};
 
 use hp_num::NoMemory;
-use recorder::{ScriptLine, Scripts};
+use record_scripts::{ScriptLine, Scripts};
 use std::alloc::Global;
 
 /// Whether the scripts, the modules and the number of events that there may be are the same.

@@ -2,7 +2,7 @@
 
 use crate::book::Book;
 use hp_num::{NoMemory, put_bytes, put_dec};
-use recorder::{ScriptFault, Scripts};
+use record_scripts::{ScriptFault, Scripts};
 use std::alloc::Global;
 use std::process::Abort;
 

@@ -6,8 +6,8 @@ ghost use Rattle.std.specs.Prelude.{◌≡◌, ℕ, ◌+◌, ◌-◌, ◌^◌, �
 ghost use Rattle.ht_lines.specs.Content.{raw_free_line};
 ghost use Rattle.ht_lines.specs.Extends.{Extends};
 ghost use Rattle.stack_table.specs.Continues.{Continues};
-ghost use Rattle.recorder.specs.ScriptTurns.{turn_said};
-ghost use Rattle.recorder.specs.Turns.{IsBounded, allocates};
+ghost use Rattle.record_scripts.specs.ScriptTurns.{turn_said};
+ghost use Rattle.record_scripts.specs.Turns.{IsBounded, allocates};
 ghost use Rattle.record_book.specs.Actions.{Action};
 ghost use Rattle.record_book.specs.HeapPlaces.{Place, address_of};
 ghost use Rattle.record_book.specs.HeapState.{IsHeap};
@@ -19,7 +19,7 @@ use crate::heap::Heap;
 use crate::node_lines::put_nodes;
 use hp_num::{NoMemory, put_bytes, put_dec};
 use ht_lines::{Item, put_item};
-use recorder::{FILE_VERSION, ScriptLine};
+use record_scripts::{FILE_VERSION, ScriptLine};
 use stack_table::Nodes;
 use std::alloc::Global;
 

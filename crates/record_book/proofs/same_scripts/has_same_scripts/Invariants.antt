@@ -1,5 +1,5 @@
 use Rattle.std.proofs.Common.{◌≡◌, ℕ, ◌<◌}
-use Rattle.recorder.specs.Turns.{script_at}
+use Rattle.record_scripts.specs.Turns.{script_at}
 use Rattle.record_book.proofs.same_scripts.has_same_scripts.Given as goal
 
 -- the scripts so far are the same

@@ -1,8 +1,8 @@
 use Rattle.std.proofs.Common.{◌≡◌, Option, None, refl, sym, ap, ◌∙◌}
 use Rattle.std.specs.Prelude.{option_map, slice_get}
-use Rattle.recorder.specs.declared.script_line.ScriptLine.{ScriptLine}
-use Rattle.recorder.specs.ScriptTurns.{turn_said}
-use Rattle.recorder.specs.Turns.{script_at}
+use Rattle.record_scripts.specs.declared.script_line.ScriptLine.{ScriptLine}
+use Rattle.record_scripts.specs.ScriptTurns.{turn_said}
+use Rattle.record_scripts.specs.Turns.{script_at}
 use Rattle.record_book.proofs.SameLemmas.{place-few, same-more, same-turn, same-up-to}
 use Rattle.record_book.proofs.same_scripts.is_same_script.Goals as goal
 

@@ -1,6 +1,6 @@
 use Rattle.std.proofs.Common.{◌≡◌, ℕ, ◌^◌, ◌<◌, ◌≤◌}
 use Rattle.std.specs.Prelude.{slice_get}
-use Rattle.recorder.specs.Turns.{script_at}
+use Rattle.record_scripts.specs.Turns.{script_at}
 use Rattle.record_book.proofs.same_scripts.is_same_script.Given as goal
 
 -- the turns so far are the same, and there are few

@@ -1,6 +1,6 @@
 use Rattle.std.proofs.Common.{◌≡◌, ℕ, ◌<◌, List, ◌++◌, length, sym, ap, ◌∙◌, subst, arith, append_assoc}
 use Rattle.std.specs.Prelude.{slice_get}
-use Rattle.recorder.specs.Job.{Job}
+use Rattle.record_scripts.specs.Job.{Job}
 use Rattle.record_book.specs.Actions.{events_at, times}
 use Rattle.record_book.specs.BookState.{Recording, turn_entries}
 use Rattle.record_book.proofs.FinishLemmas.{stepped-other, stepped-own}

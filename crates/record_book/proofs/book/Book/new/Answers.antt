@@ -1,6 +1,6 @@
 use Rattle.std.proofs.Common.{ℕ, [], List, length, sym, ap, ◌∙◌, subst}
 use Rattle.std.specs.Arc.{arc_value}
-use Rattle.recorder.specs.Job.{Job}
+use Rattle.record_scripts.specs.Job.{Job}
 use Rattle.record_book.specs.BookState.{IsBook}
 use Rattle.record_book.specs.TraceState.{IsTrace}
 use Rattle.record_book.proofs.BookLemmas.{book-none}

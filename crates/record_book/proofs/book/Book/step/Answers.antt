@@ -1,10 +1,10 @@
 use Rattle.std.proofs.Common.{◌≡◌, ℕ, ◌+◌, ◌^◌, ◌<◌, false, true, List, ◌++◌, length, Option, sym, ap, ◌∙◌, subst, arith}
 use Rattle.std.specs.Prelude.{nat_lt, option_map, slice_set}
 use Rattle.std.specs.Arc.{arc_value}
-use Rattle.recorder.specs.declared.script_line.ScriptLine.{ScriptLine}
-use Rattle.recorder.specs.Events.{event_count}
-use Rattle.recorder.specs.Job.{Job}
-use Rattle.recorder.specs.ScriptTurns.{turn_said}
+use Rattle.record_scripts.specs.declared.script_line.ScriptLine.{ScriptLine}
+use Rattle.record_scripts.specs.Events.{event_count}
+use Rattle.record_scripts.specs.Job.{Job}
+use Rattle.record_scripts.specs.ScriptTurns.{turn_said}
 use Rattle.record_book.specs.Actions.{actions, events_at, times}
 use Rattle.record_book.specs.BookState.{IsBook, Recording, done_at, entries_of, stepped}
 use Rattle.record_book.specs.TraceState.{IsTrace, with_turn}

@@ -1,6 +1,6 @@
 use Rattle.std.proofs.Common.{sym, subst}
-use Rattle.recorder.specs.declared.script_line.ScriptLine.{ScriptLine}
-use Rattle.recorder.specs.ScriptTurns.{turn_said}
+use Rattle.record_scripts.specs.declared.script_line.ScriptLine.{ScriptLine}
+use Rattle.record_scripts.specs.ScriptTurns.{turn_said}
 use Rattle.record_book.specs.TraceState.{HasTurn}
 use Rattle.record_book.proofs.TraceLemmas.{on-ok, reallocation}
 use Rattle.record_book.proofs.trace.Trace.put_events.Goals as goal

@@ -1,4 +1,4 @@
-use Rattle.recorder.specs.ScriptTurns.{turn_said}
+use Rattle.record_scripts.specs.ScriptTurns.{turn_said}
 use Rattle.record_book.specs.HeapPlaces.{places_after}
 use Rattle.record_book.specs.NodeNumbers.{stacks_after}
 use Rattle.record_book.proofs.TraceLemmas.{turn-added}

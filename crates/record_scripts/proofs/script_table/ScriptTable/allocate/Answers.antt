@@ -1,0 +1,48 @@
+use Rattle.std.proofs.Common.{◌≡◌, ℕ, Bool, true, cond, List, length, refl, sym, ap, ◌∙◌, subst, arith}
+use Rattle.std.specs.Prelude.{nat_eq}
+use Rattle.std.specs.HashSet.{contains}
+use Rattle.std.specs.List.{list_any}
+use Rattle.stack_table.specs.Node.{Node}
+use Rattle.record_scripts.specs.declared.turn_entry.TurnEntry.TheVariants.{Allocation}
+use Rattle.record_scripts.specs.Turns.{allocates}
+use Rattle.record_scripts.specs.Job.{Job, in_last}
+use Rattle.record_scripts.specs.ScriptTurns.{AreScripts, scripts_kept}
+use Rattle.record_scripts.proofs.KeptLemmas.{held-grown}
+use Rattle.record_scripts.proofs.TurnLemmas.{kept-next, live-undone, scripts-next, scripts-same, view-next}
+use Rattle.record_scripts.proofs.script_table.ScriptTable.allocate.Goals as goal
+
+pub invariant_of-self : goal.invariant_of-self
+invariant_of-self c =
+    scripts-same c.self.inside.nodes c.self.inside.scripts.items c.reserve_turn.new.scripts.items (contains nat_eq c.self.inside.live) (contains nat_eq c.self.inside.live) c.self.inside.events c.self.inside.limit c.self.invariant
+    (c.reserve_turn.ensures.same c.self.inside.nodes) (c.reserve_turn.ensures.held _ c.self.invariant.held) c.reserve_turn.ensures.count (λ id. refl)
+
+pub invariant_of-self-in_err-insert : goal.invariant_of-self-in_err-insert
+invariant_of-self-in_err-insert c =
+    scripts-same c.self.inside.nodes c.self.inside.scripts.items c.reserve_turn.new.scripts.items (contains nat_eq c.self.inside.live) (contains nat_eq c.insert.new.self) c.self.inside.events c.self.inside.limit c.self.invariant
+    (c.reserve_turn.ensures.same c.self.inside.nodes) (c.reserve_turn.ensures.held _ c.self.invariant.held) c.reserve_turn.ensures.count (λ id. ap (λ (keys : List ℕ). list_any (nat_eq id) keys) c.in_err-insert.ensures.err)
+
+pub invariant_of-self-in_default : goal.invariant_of-self-in_default
+invariant_of-self-in_default c =
+    subst (λ (nodes : List Node). AreScripts nodes c.reserve_turn.new.scripts.items (contains nat_eq c.remove.new.self) c.self.inside.events c.self.inside.limit) (sym c.in_default.ensures.unchanged)
+    (scripts-same c.self.inside.nodes c.self.inside.scripts.items c.reserve_turn.new.scripts.items (contains nat_eq c.self.inside.live) (contains nat_eq c.remove.new.self) c.self.inside.events c.self.inside.limit c.self.invariant
+    (c.reserve_turn.ensures.same c.self.inside.nodes) (c.reserve_turn.ensures.held _ c.self.invariant.held) c.reserve_turn.ensures.count
+    (live-undone (contains nat_eq c.self.inside.live) (contains nat_eq c.insert.new.self) (contains nat_eq c.remove.new.self) c.args.id c.in_ok-insert.ensures.updates.0 c.remove.ensures.updates.0 (sym c.contains.ensures ∙ c.if-contains.false)))
+
+-- the scripts with the turn
+kept : (c : goal.After-self-1) → scripts_kept c.intern.new.nodes c.push_turn.new.scripts.items ≡ in_last (scripts_kept c.self.inside.nodes c.self.inside.scripts.items) (allocates c.args.id c.args.size c.args.ips.now)
+kept c =
+    kept-next c.self.inside.nodes c.intern.new.nodes c.self.inside.scripts.items c.reserve_turn.new.scripts.items c.push_turn.new.scripts.items
+    (Allocation (record { id = c.args.id; size = c.args.size; node = c.in-Ok.node })) (allocates c.args.id c.args.size c.args.ips.now) c.intern.ensures.continues c.self.invariant.held
+    (c.reserve_turn.ensures.same c.intern.new.nodes) (c.in_ok-push_turn.ensures.pushed c.intern.new.nodes) (ap (λ (ips : List ℕ). allocates c.args.id c.args.size ips) c.in-Ok.ensures.stack)
+
+pub invariant_of-self-2 : goal.invariant_of-self-2
+invariant_of-self-2 c =
+    scripts-next c.self.inside.nodes c.intern.new.nodes c.self.inside.scripts.items c.push_turn.new.scripts.items (contains nat_eq c.self.inside.live) (contains nat_eq c.insert.new.self) c.self.inside.events c.self.inside.limit
+    (allocates c.args.id c.args.size c.args.ips.now) c.self.invariant (omega (arith, ap (λ (job : Job). length job.scripts) c.self.view_is)) (c.push_turn.ensures.count ∙ c.reserve_turn.ensures.count)
+    (c.in_ok-push_turn.ensures.held _ c.in-Ok.ensures.within (c.reserve_turn.ensures.held _ (held-grown _ _ c.intern.ensures.continues.held c.self.inside.scripts.items c.self.invariant.held)))
+    c.intern.ensures.single c.intern.ensures.few_more (kept c) (omega arith)
+    (λ q. c.in_ok-insert.ensures.updates.0 q ∙ ap (λ (b : Bool). cond (nat_eq c.args.id q) true b) (c.self.invariant.live_blocks q)) (c.requires.few_bytes, c.requires.few_ips)
+
+pub returns-clause-added : goal.returns-clause-added
+returns-clause-added c =
+    view-next c.self.inside.limit c.self.inside.module_lines.items (scripts_kept c.self.inside.nodes c.self.inside.scripts.items) _ c.args.self.now (allocates c.args.id c.args.size c.args.ips.now) (kept c) c.self.view_is

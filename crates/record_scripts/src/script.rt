@@ -1,0 +1,55 @@
+//! The script of one thread, and its next turn. What its lines say is no part of it.
+ghost use Rattle.std.specs.Prelude.{◌≡◌, ℕ, ◌<◌, ◌≤◌, List, length, IfSome, IsOk, OnOk, OnErr, option_map, slice_get};
+ghost use Rattle.stack_table.specs.Node.{Node};
+ghost use Rattle.record_scripts.specs.Job.{in_last};
+ghost use Rattle.record_scripts.specs.Turns.{script_at};
+ghost use Rattle.record_scripts.specs.ScriptTurns.{AreHeld, HasRoom, IsHeld, scripts_kept, turn_kept};
+
+use crate::turn_entry::TurnEntry;
+use hp_num::NoMemory;
+
+/// The turns of one thread.
+#[derive(Debug, Drop)]
+pub struct Script {
+    pub turns: Vec<TurnEntry>,
+}
+
+/// Makes room for one turn more in the last script. On `NoMemory` the scripts are as before.
+pub fn reserve_turn(scripts: &mut Vec<Script>) -> Result<(), NoMemory>
+    requires { 0 < length scripts.old.items }
+    ensures same { (nodes : List Node) → scripts_kept nodes scripts.new.items ≡ scripts_kept nodes scripts.old.items }
+    ensures held { (count : ℕ) → AreHeld count scripts.old.items → AreHeld count scripts.new.items }
+    ensures count { length scripts.new.items ≡ length scripts.old.items }
+    ensures room { OnOk result (HasRoom scripts.new.items) }
+{
+    let last = scripts.len() - 1;
+    let script = &mut scripts[last];
+    script.turns.reserve(1)?;
+    Ok(())
+}
+
+/// Appends a turn to the last script. On `NoMemory` the scripts are as before. It can't fail where there is room.
+pub fn push_turn(scripts: &mut Vec<Script>, turn: TurnEntry) -> Result<(), NoMemory>
+    requires { 0 < length scripts.old.items }
+    ensures pushed { OnOk result ((nodes : List Node) → scripts_kept nodes scripts.new.items ≡ in_last (scripts_kept nodes scripts.old.items) (turn_kept nodes turn)) }
+    ensures held { OnOk result ((count : ℕ) → IsHeld count turn → AreHeld count scripts.old.items → AreHeld count scripts.new.items) }
+    ensures same { OnErr result ((nodes : List Node) → scripts_kept nodes scripts.new.items ≡ scripts_kept nodes scripts.old.items) }
+    ensures still_held { OnErr result ((count : ℕ) → AreHeld count scripts.old.items → AreHeld count scripts.new.items) }
+    ensures count { length scripts.new.items ≡ length scripts.old.items }
+    ensures room { HasRoom scripts.old.items → IsOk result }
+{
+    let last = scripts.len() - 1;
+    let script = &mut scripts[last];
+    script.turns.push(turn)?;
+    Ok(())
+}
+
+/// The turn of a thread with the number `place` from 0.
+pub fn turn_at(scripts: &[Script], thread: u32, place: u32) -> Option<TurnEntry>
+    requires { thread < length scripts.now }
+    ensures kept { (nodes : List Node) → slice_get (script_at (scripts_kept nodes scripts.now) thread) place ≡ option_map (turn_kept nodes) result }
+    ensures held { (count : ℕ) → AreHeld count scripts.now → IfSome result (λ turn. IsHeld count turn) }
+{
+    let script = &scripts[thread as usize];
+    script.turns.get(place as usize).copied()
+}

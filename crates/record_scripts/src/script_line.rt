@@ -1,0 +1,158 @@
+//! One line of a script, by itself. Which blocks are live, and how many events there are, is no part of it.
+ghost use Rattle.std.specs.Prelude.{◌≡◌, ◌≢◌, ◌^◌, ◌≤◌, true, false, [], length, None, Some, IfErr, IfOk, OnOk, option_map};
+ghost use Rattle.ht_lines.specs.Fields.{field_ends, fields, numbers};
+ghost use Rattle.record_scripts.specs.Skipped.{is_skipped};
+ghost use Rattle.record_scripts.specs.ScriptLine.{are_ips, block_of, free_of, sized_of, turn_in, turn_of};
+ghost use Rattle.record_scripts.specs.ScriptTurns.{turn_said};
+ghost use Rattle.record_scripts.specs.Turns.{IsBounded};
+
+use crate::fault::ScriptFault;
+use ht_lines::{field, next_number};
+
+/// The greatest size of a block in bytes.
+const MAX_SIZE: u64 = 1 << 32;
+
+/// The greatest number of ips of one line.
+const MAX_IPS: usize = 256;
+
+/// What a line of a script says, which is a turn of its thread, but for its ips.
+#[derive(Clone, Copy, Debug, PartialEq, Eq)]
+pub enum ScriptLine {
+    /// `a`: allocates a block of so many bytes.
+    Allocation { id: u64, size: u64 },
+    /// `f`: frees a block.
+    Free { id: u64 },
+    /// `r`: frees a block, and allocates one of so many bytes under its ID.
+    Reallocation { id: u64, size: u64 },
+}
+
+/// The ID and the size of a block.
+#[derive(Clone, Copy)]
+struct Block {
+    id: u64,
+    size: u64,
+}
+
+/// Whether a line says nothing: it is empty or a comment.
+pub fn is_skipped(line: &[u8]) -> bool
+    ensures { result ≡ is_skipped line.now }
+{
+    match line {
+        [] => true,
+        [first, ..] => *first == b'#',
+    }
+}
+
+/// What a line says that is neither empty nor a comment, with its ips in `ips` in the place of what that held.
+///
+/// - `BadScriptLine` exactly where it is no line of a script;
+/// - `NoMemory` only where memory for the ips is wanting.
+pub fn read_script_line(line: &[u8], ips: &mut Vec<u64>) -> Result<ScriptLine, ScriptFault>
+    ensures said { IfOk result (λ said. turn_in line.now ≡ Some (turn_said said ips.new.items)) }
+    ensures bounded { IfOk result (λ said. IsBounded (turn_said said ips.new.items)) }
+    ensures fault { IfErr result (λ fault. fault ≢ ScriptFault.NoMemory → (fault ≡ ScriptFault.BadScriptLine) × (turn_in line.now ≡ None)) }
+{
+    ips.clear();
+    let [kind, rest @ ..] = line else {
+        return Err(ScriptFault::BadScriptLine);
+    };
+    if !ends_kind(rest) {
+        return Err(ScriptFault::BadScriptLine);
+    }
+    read_turn(*kind, rest, ips)
+}
+
+// What a line of a kind says; its ips are appended to `ips`, which is empty.
+#[tactic(auto, unfolding(crate::specs::ScriptLine::turn_of))]
+fn read_turn(kind: u8, rest: &[u8], ips: &mut Vec<u64>) -> Result<ScriptLine, ScriptFault>
+    requires { ips.old.items ≡ [] }
+    ensures said { IfOk result (λ said. turn_of kind (fields rest.now) ≡ Some (turn_said said ips.new.items)) }
+    ensures bounded { IfOk result (λ said. IsBounded (turn_said said ips.new.items)) }
+    ensures fault { IfErr result (λ fault. fault ≢ ScriptFault.NoMemory → (fault ≡ ScriptFault.BadScriptLine) × (turn_of kind (fields rest.now) ≡ None)) }
+{
+    match kind {
+        b'a' => match read_block(rest, ips) {
+            Ok(Block { id, size }) => Ok(ScriptLine::Allocation { id, size }),
+            Err(fault) => Err(fault),
+        },
+        b'r' => match read_block(rest, ips) {
+            Ok(Block { id, size }) => Ok(ScriptLine::Reallocation { id, size }),
+            Err(fault) => Err(fault),
+        },
+        b'f' => match read_free(rest) {
+            Some(id) => Ok(ScriptLine::Free { id }),
+            None => Err(ScriptFault::BadScriptLine),
+        },
+        _ => Err(ScriptFault::BadScriptLine),
+    }
+}
+
+// Whether the kind of a line ends before this.
+fn ends_kind(rest: &[u8]) -> bool
+    ensures { result ≡ field_ends rest.now }
+{
+    match rest {
+        [] => true,
+        [byte, ..] => *byte == b' ',
+    }
+}
+
+// The block that a line frees.
+fn read_free(rest: &[u8]) -> Option<u64>
+    ensures { result ≡ free_of (fields rest.now) }
+{
+    let id = field(rest, 0)?;
+    let (_, after) = next_number(rest)?;
+    match next_number(after) {
+        Some(_) => None,
+        None => Some(id),
+    }
+}
+
+// The block that a line allocates; its ips are appended to `ips`, which is empty.
+fn read_block(rest: &[u8], ips: &mut Vec<u64>) -> Result<Block, ScriptFault>
+    requires { ips.old.items ≡ [] }
+    ensures said { IfOk result (λ block. block_of (fields rest.now) ≡ Some (block.id, block.size, ips.new.items)) }
+    ensures few_bytes { IfOk result (λ block. block.size ≤ 2 ^ 32) }
+    ensures few_ips { OnOk result (length ips.new.items ≤ 256) }
+    ensures fault { IfErr result (λ fault. fault ≢ ScriptFault.NoMemory → (fault ≡ ScriptFault.BadScriptLine) × (block_of (fields rest.now) ≡ None)) }
+{
+    let Some((block, stack)) = read_size(rest) else {
+        return Err(ScriptFault::BadScriptLine);
+    };
+    if block.size > MAX_SIZE {
+        return Err(ScriptFault::BadScriptLine);
+    }
+    read_ips(stack, ips)?;
+    Ok(block)
+}
+
+// The ID and the size of a block, and what follows them.
+fn read_size(rest: &[u8]) -> Option<(Block, &[u8])>
+    ensures { option_map (λ found. (found.0.id, found.0.size, numbers found.1.now)) result ≡ sized_of (fields rest.now) }
+{
+    let id = field(rest, 0)?;
+    let size = field(rest, 1)?;
+    let (_, after) = next_number(rest)?;
+    let (_, stack) = next_number(after)?;
+    Some((Block { id, size }, stack))
+}
+
+// Appends the ips of a stack to `ips`, which is empty.
+fn read_ips(stack: &[u8], ips: &mut Vec<u64>) -> Result<(), ScriptFault>
+    requires { ips.old.items ≡ [] }
+    ensures said { OnOk result (ips.new.items ≡ numbers stack.now) }
+    ensures few { OnOk result (length ips.new.items ≤ 256) }
+    ensures are_ips { OnOk result (are_ips (numbers stack.now) ≡ true) }
+    ensures fault { IfErr result (λ fault. fault ≢ ScriptFault.NoMemory → (fault ≡ ScriptFault.BadScriptLine) × (are_ips (numbers stack.now) ≡ false)) }
+{
+    let mut rest = stack;
+    'ips: while let Some((ip, after)) = next_number(rest) {
+        if ip == 0 || ips.len() == MAX_IPS {
+            return Err(ScriptFault::BadScriptLine);
+        }
+        ips.push(ip)?;
+        rest = after;
+    }
+    Ok(())
+}

@@ -1,0 +1,159 @@
+//! The scripts of all threads, and the modules, by the lines of their files. The order in which the threads take their
+//! turns is no part of it.
+ghost use Rattle.std.specs.Prelude.{◌≡◌, ℕ, ◌^◌, ◌<◌, ◌≤◌, List, [], ◌∷◌, ◌++◌, length, None, IfErr, IfOk, IfSome, OnOk, OnErr, option_map, slice_get};
+ghost use Rattle.std.specs.Arc.{arc_value};
+ghost use Rattle.record_scripts.specs.Events.{event_count};
+ghost use Rattle.record_scripts.specs.Job.{Job};
+ghost use Rattle.record_scripts.specs.ScriptFaults.{Tells, line_fault, module_fault, with_line, with_module_line};
+ghost use Rattle.record_scripts.specs.ScriptTurns.{turn_said};
+ghost use Rattle.record_scripts.specs.Turns.{IsBounded, script_at};
+
+use crate::fault::ScriptFault;
+use crate::script_line::{ScriptLine, is_skipped, read_script_line};
+use crate::script_table::ScriptTable;
+use hp_num::NoMemory;
+use std::alloc::Global;
+use std::marker::Model;
+use std::sync::Arc;
+
+/// The scripts of all threads, and the modules: they stand for the lines that were read so far.
+///
+/// Contracts see it as how many events there may be, the text of the modules, and the list of the scripts.
+#[derive(Debug, Drop)]
+pub struct Scripts {
+    table: ScriptTable,
+    ips: Vec<u64>,
+    alloc: Global,
+}
+
+impl Model for Scripts {
+    ghost use Rattle.record_scripts.specs.Job.{Job};
+
+    ghost Value = { Job };
+
+    ghost view = { λ scripts. scripts.table };
+}
+
+impl Scripts {
+    /// No scripts and no modules. All scripts together may have up to `order` events, a number below 2^24. It takes no
+    /// memory; that of the scripts to come is taken from `alloc`.
+    pub fn new(alloc: Global, order: u64) -> Scripts
+        requires { order < 2 ^ 24 }
+        ensures empty { result ≡ record { limit = order; modules = []; scripts = [] } }
+    {
+        Scripts {
+            table: ScriptTable::new(alloc, order),
+            ips: Vec::new(alloc),
+            alloc,
+        }
+    }
+
+    /// Reads the next line of a modules file, without its line feed, of fewer than 2^32 bytes. Empty lines and lines that
+    /// begin with `#` say nothing.
+    ///
+    /// - `BadScriptLine` exactly where it is neither the line of a module nor one that clears all modules, by the grammar
+    ///   of traces in file version 2;
+    /// - `NoMemory` only where memory is wanting.
+    ///
+    /// After a fault the scripts and the modules are as before.
+    pub fn module_line(&mut self, line: &[u8]) -> Result<(), ScriptFault>
+        requires { length line.now < 2 ^ 32 }
+        ensures taken { OnOk result (self.new ≡ with_module_line self.old line.now) }
+        ensures no_fault { OnOk result (module_fault line.now ≡ None) }
+        ensures fault { IfErr result (λ fault. Tells fault (module_fault line.now)) }
+        ensures unchanged { OnErr result (self.new ≡ self.old) }
+    {
+        if is_skipped(line) {
+            return Ok(());
+        }
+        self.table.add_module(line)
+    }
+
+    /// Opens the script of the next thread, of which there are fewer than 64 before, and answers the thread's number,
+    /// from 0. On `NoMemory` the scripts are as before.
+    pub fn begin(&mut self) -> Result<u32, NoMemory>
+        requires { length self.old.scripts < 64 }
+        ensures begun { OnOk result (self.new ≡ record self.old { scripts = self.old.scripts ++ [] ∷ [] }) }
+        ensures number { IfOk result (λ thread. thread ≡ length self.old.scripts) }
+        ensures unchanged { OnErr result (self.new ≡ self.old) }
+    {
+        self.table.begin(self.alloc)
+    }
+
+    /// Reads the next line of the script that was opened last, without its line feed. One has to be open. Empty lines and
+    /// lines that begin with `#` say nothing.
+    ///
+    /// - `BadScriptLine` exactly where the line is no turn: `a` or `r` with an ID, a size of at most 2^32 bytes and at
+    ///   most 256 ips other than 0, from the innermost outwards, or `f` with an ID, all in hexadecimal digits;
+    /// - then `BlockLive` exactly where `a` names an ID that is live in this script;
+    /// - then `BlockNotLive` exactly where `f` or `r` names one that isn't;
+    /// - then `TooManyEvents` exactly where with the events of the line, two for `r` and else one, all scripts together
+    ///   would have more than are allowed;
+    /// - `NoMemory` only where memory is wanting.
+    ///
+    /// After a fault the scripts are as before.
+    pub fn line(&mut self, line: &[u8]) -> Result<(), ScriptFault>
+        requires { 0 < length self.old.scripts }
+        ensures taken { OnOk result (self.new ≡ with_line self.old line.now) }
+        ensures no_fault { OnOk result (line_fault self.old line.now ≡ None) }
+        ensures fault { IfErr result (λ fault. Tells fault (line_fault self.old line.now)) }
+        ensures unchanged { OnErr result (self.new ≡ self.old) }
+    {
+        if is_skipped(line) {
+            return Ok(());
+        }
+        let said = read_script_line(line, &mut self.ips)?;
+        self.table.add(said, &self.ips)
+    }
+
+    /// The turn of a thread with the number `place`, counted from 0, or `None` exactly where the thread's script has no such
+    /// turn. The ips of an allocation or a reallocation are in `ips`, in the place of what that held.
+    ///
+    /// The thread's script has to be begun. On `NoMemory` nothing is said of `ips`.
+    pub fn turn_into(
+        &self,
+        thread: u32,
+        place: u32,
+        ips: &mut Vec<u64>,
+    ) -> Result<Option<ScriptLine>, NoMemory>
+        requires { thread < length self.now.scripts }
+        ensures turn { IfOk result (λ said. slice_get (script_at self.now.scripts thread) place ≡ option_map (λ turn. turn_said turn ips.new.items) said) }
+
+        // Its bounds, and that of all events.
+        ensures bounded { IfOk result (λ said. IfSome said (λ turn. IsBounded (turn_said turn ips.new.items))) }
+        ensures few_events { event_count self.now.scripts < 2 ^ 24 }
+    {
+        self.table.turn_into(thread, place, ips)
+    }
+
+    /// How many events all scripts together may have.
+    pub fn limit(&self) -> u64
+        ensures limit { result ≡ self.now.limit }
+    {
+        self.table.limit()
+    }
+
+    /// The lines of the modules in their written form, each with its line feed.
+    pub fn modules(&self) -> &[u8]
+        ensures lines { result.now ≡ self.now.modules }
+    {
+        self.table.modules()
+    }
+
+    /// How many scripts were begun, at most 64.
+    pub fn threads(&self) -> u32
+        ensures count { result ≡ length self.now.scripts }
+        ensures few { result ≤ 64 }
+    {
+        self.table.threads()
+    }
+
+    /// The same scripts, behind a pointer that threads can share.
+    pub fn share(self) -> Result<Arc<Scripts>, NoMemory>
+        ensures same { IfOk result (λ job. arc_value job ≡ self) }
+    {
+        let alloc = self.alloc;
+        let shared = Arc::new(alloc, self)?;
+        Ok(shared)
+    }
+}
