@@ -1,9 +1,10 @@
 //! A book behind a lock, and one hold of it.
-ghost use Rattle.std.specs.Prelude.{◌≡◌, ℕ, ◌<◌, ◌≤◌, true, false, length, IfOk, OnErr};
-ghost use Rattle.record_book.specs.Actions.{actions, events_at, times};
+ghost use Rattle.std.specs.Prelude.{◌≡◌, ℕ, ◌<◌, IfOk, OnErr};
+ghost use Rattle.record_book.specs.Actions.{actions};
 ghost use Rattle.record_book.specs.BookState.{HasStepped};
 ghost use Rattle.record_book.specs.HeapPlaces.{AreApart, live_blocks, places_after};
 ghost use Rattle.record_book.specs.Orders.{IsUnder};
+ghost use Rattle.recorder.specs.Holds.{IsHold};
 
 use hp_num::NoMemory;
 use record_book::Book;
@@ -47,10 +48,8 @@ impl Recorder {
 // script. It says whether 64 were taken, so that more may be left. On `NoMemory` those that were taken stay.
 fn take_turns(book: &mut Book, thread: u32) -> Result<bool, NoMemory>
     ensures job { book.new.job ≡ book.old.job }
-    ensures stepped { IfOk result (λ more. (count : ℕ) × (count ≤ 64) × HasStepped book.old.job.scripts thread count book.old.order book.new.order) }
+    ensures hold { IfOk result (λ more. IsHold book.old.job.scripts thread book.old.order book.new.order more) }
     ensures part { OnErr result ((count : ℕ) × (count < 64) × HasStepped book.old.job.scripts thread count book.old.order book.new.order) }
-    ensures full { IfOk result (λ more. more ≡ true → HasStepped book.old.job.scripts thread 64 book.old.order book.new.order) }
-    ensures done { IfOk result (λ more. more ≡ false → times thread book.new.order ≡ length (events_at book.new.job.scripts thread)) }
 {
     if thread >= book.threads() {
         return Ok(false);
