@@ -1,0 +1,201 @@
+//! What no clause says: that the workers take the turns, and beside each other.
+
+use crate::gate::Gate;
+use crate::locked_book::Recorder;
+use crate::recording::record_job;
+use crate::workers::run_workers;
+use hp_num::{NoMemory, put_bytes, put_hex};
+use record_book::Book;
+use record_scripts::{ScriptFault, Scripts};
+use std::alloc::Global;
+use std::process::Abort;
+use std::sync::atomic::{AtomicBool, Ordering};
+use std::sync::{Arc, Wait};
+use std::thread::Threads;
+
+// How often a gate looks before it lets go.
+const MOST_LOOKS: u64 = 1_000_000_000;
+
+/// A gate that does nothing.
+#[derive(Drop)]
+struct Open;
+
+impl Gate for Open {
+    fn before(&self, _worker: u32, _hold: u64) {}
+}
+
+/// A gate that keeps one worker from its second hold until another was at its own, or until it has looked often enough.
+#[derive(Drop)]
+struct Meeting {
+    waits: u32,
+    other_came: AtomicBool,
+    met: AtomicBool,
+}
+
+impl Meeting {
+    fn of(waits: u32) -> Meeting {
+        Meeting {
+            waits,
+            other_came: AtomicBool::new(false),
+            met: AtomicBool::new(false),
+        }
+    }
+
+    fn wait(&self) {
+        for _ in 0..MOST_LOOKS {
+            if self.other_came.load(Ordering::SeqCst) {
+                self.met.store(true, Ordering::SeqCst);
+                return;
+            }
+        }
+    }
+}
+
+impl Gate for Meeting {
+    fn before(&self, worker: u32, hold: u64) {
+        if hold != 1 {
+            return;
+        }
+        if worker == self.waits {
+            self.wait();
+        } else {
+            self.other_came.store(true, Ordering::SeqCst);
+        }
+    }
+}
+
+/// The scripts of a text, which are parted by `|`, and their lines by `;`.
+fn job_of(alloc: Global, text: &[u8]) -> Result<Arc<Scripts>, ScriptFault> {
+    let mut scripts = Scripts::new(alloc, 300);
+    for script in text.split(|byte| *byte == b'|') {
+        if scripts.threads() < 64 {
+            scripts.begin()?;
+        }
+        for line in script.split(|byte| *byte == b';') {
+            if scripts.threads() > 0 {
+                scripts.line(line)?;
+            }
+        }
+    }
+    Ok(scripts.share()?)
+}
+
+/// Appends a script of a hundred allocations.
+fn put_hundred(text: &mut Vec<u8>) -> Result<(), NoMemory> {
+    for id in 1..101 {
+        put_bytes(text, b"a ")?;
+        put_hex(text, id)?;
+        put_bytes(text, b" 8 400;")?;
+    }
+    Ok(())
+}
+
+/// Two scripts of a hundred allocations each.
+fn two_hundred(alloc: Global) -> Result<Arc<Scripts>, ScriptFault> {
+    let mut text = Vec::new(alloc);
+    put_hundred(&mut text)?;
+    put_bytes(&mut text, b"|")?;
+    put_hundred(&mut text)?;
+    job_of(alloc, text.as_slice())
+}
+
+/// Appends the trace of both without the lines that name threads, which is the same in whatever order they are recorded.
+fn put_two_hundred(text: &mut Vec<u8>) -> Result<(), NoMemory> {
+    put_bytes(text, b"v 10500 2\nX heaprec\nt 400 0\n")?;
+    for number in 0..200 {
+        put_bytes(text, b"+ 8 1 ")?;
+        put_hex(text, 0x10000 + number * 16)?;
+        put_bytes(text, b"\n")?;
+    }
+    Ok(())
+}
+
+/// Appends the lines of a trace without those that name threads.
+fn put_without_threads(text: &mut Vec<u8>, trace: &[u8]) -> Result<(), NoMemory> {
+    for line in trace.split_inclusive(|byte| *byte == b'\n') {
+        if !line.starts_with(b"# thread ") {
+            put_bytes(text, line)?;
+        }
+    }
+    Ok(())
+}
+
+/// How many entries of an order stand before that of a thread that has so many of the same thread before it, or how many
+/// there are, where there is none.
+fn entries_before(order: &[u32], thread: u32, mut count: u32) -> u32 {
+    let mut before = 0u32;
+    for entry in order {
+        if *entry == thread {
+            if count == 0 {
+                return before;
+            }
+            count -= 1;
+        }
+        before = before.saturating_add(1);
+    }
+    before
+}
+
+/// The book that the workers of a job leave.
+fn left_by_workers<R: Threads + Wait + Sync, G: Gate + Sync>(
+    rt: &R,
+    alloc: Global,
+    job: Arc<Scripts>,
+    gate: &G,
+) -> Result<Book, NoMemory> {
+    let threads = job.threads();
+    let recorder = Recorder::new(Book::new(alloc, job)?);
+    run_workers(rt, &recorder, threads, gate)?;
+    Ok(recorder.close())
+}
+
+/// That a book has all of two hundred turns.
+fn is_two_hundred(rt: &impl Abort, alloc: Global, book: &Book) -> Result<(), NoMemory> {
+    let mut want = Vec::new(alloc);
+    put_two_hundred(&mut want)?;
+    let mut text = Vec::new(alloc);
+    put_without_threads(&mut text, book.bytes())?;
+    assert_eq!(rt; text.as_slice(), want.as_slice());
+    assert_eq!(rt; book.order().len(), 200);
+    assert_eq!(rt; entries_before(book.order(), 0, 100), 200);
+    assert_eq!(rt; entries_before(book.order(), 1, 100), 200);
+    Ok(())
+}
+
+/// That two workers meet where this one waits for the other, and that the other has taken the turns of its first hold when
+/// the one begins its second.
+fn meet<R: Threads + Wait + Sync + Abort>(
+    rt: &R,
+    alloc: Global,
+    waits: u32,
+    other: u32,
+) -> Result<(), ScriptFault> {
+    let gate = Meeting::of(waits);
+    let book = left_by_workers(rt, alloc, two_hundred(alloc)?, &gate)?;
+    assert!(rt; gate.met.load(Ordering::SeqCst), "the workers never met");
+    let order = book.order();
+    assert!(rt; entries_before(order, other, 63) < entries_before(order, waits, 64));
+    is_two_hundred(rt, alloc, &book)?;
+    Ok(())
+}
+
+#[test]
+fn workers_meet(rt: HostRuntime) -> Result<(), ScriptFault> {
+    meet(&rt, rt.alloc(), 0, 1)?;
+    meet(&rt, rt.alloc(), 1, 0)
+}
+
+#[test]
+fn workers_leave_no_turn(rt: HostRuntime) -> Result<(), ScriptFault> {
+    let job = job_of(rt.alloc(), b"a 1 40 500 400;f 1|a 1 8 400")?;
+    let book = left_by_workers(&rt, rt.alloc(), job, &Open)?;
+    assert_eq!(rt; book.order().len(), 3);
+    Ok(())
+}
+
+#[test]
+fn records_jobs(rt: HostRuntime) -> Result<(), ScriptFault> {
+    let book = record_job(&rt, rt.alloc(), two_hundred(rt.alloc())?, &Open)?;
+    is_two_hundred(&rt, rt.alloc(), &book)?;
+    Ok(())
+}
