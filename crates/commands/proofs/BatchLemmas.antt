@@ -69,8 +69,7 @@ silent_more : (report : Report) (earlier lines : List (List ℕ)) (line : List �
 silent_more report earlier [] line silent none nothing =
     (ap (λ before. report.line_fault before line) (sym (append-nil earlier)) ∙ none, ap (λ before. report.gains before line) (sym (append-nil earlier)) ∙ nothing, tt)
 silent_more report earlier (first ∷ lines) line silent none nothing =
-    let same : (earlier ++ first ∷ []) ++ lines ≡ earlier ++ first ∷ lines = append_assoc earlier (first ∷ []) lines in
-    (
+    let same : (earlier ++ first ∷ []) ++ lines ≡ earlier ++ first ∷ lines = append_assoc earlier (first ∷ []) lines in (
       silent.0,
       silent.1,
       silent_more report (earlier ++ first ∷ []) lines line silent.2 (ap (λ before. report.line_fault before line) same ∙ none) (ap (λ before. report.gains before line) same ∙ nothing),

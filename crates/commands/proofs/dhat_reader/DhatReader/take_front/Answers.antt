@@ -44,6 +44,6 @@ returns-clause-taken c =
       no_gain = λ earlier. refl;
       taken = λ earlier has. record {
         read = one.read [] earlier has.read;
-        lives = subst (λ (es : List Event). life_spec.StandsFor c.apply.new.self.lifetimes es) (sym (one.events [] earlier has.read)) (c.apply.ensures.stands (events earlier) has.lives);
+        lives = subst (λ (es : List Event). life_spec.StandsFor c.apply.new.self es) (sym (one.events [] earlier has.read)) (c.apply.ensures.stands (events earlier) has.lives);
       };
     }
