@@ -7,15 +7,21 @@ use Rattle.std.specs.Option.{option_map, option_or}
 use Rattle.hp_outside.specs.WholeLines.{IsLineText, text_of_lines}
 use Rattle.live_ledger.specs.declared.event.Event.{Event}
 use Rattle.live_ledger.specs.Faults.{fault_of}
+use Rattle.live_ledger.specs.LedgerState.{HeldInfo}
 use Rattle.peak_costs.specs.Peak.{StandsFor}
-use Rattle.ht_trace.specs.PassesEvents.{PassesLine}
+use Rattle.ht_lines.specs.declared.event.EventKind.{EventKind}
+use Rattle.ht_lines.specs.declared.event.EventKind.TheVariants.{Allocation, Free as FreeKind}
+use Rattle.ht_trace.specs.HeldStack.{HasHeldEvent}
+use Rattle.ht_trace.specs.PassesEvents.{PassesLine, event_of_info}
 use Rattle.ht_trace.specs.StandsFor.{StandsAfter}
 use Rattle.ht_trace.specs.StepOf.{event_of, step_of}
+use Rattle.ht_trace.specs.TableState.{TableState}
 use Rattle.ht_trace.specs.TraceEvents.{events}
-use Rattle.command_frame.specs.Batch.{AreSilent, IsShortLine}
+use Rattle.command_frame.specs.Batch.{AreSilent, HasTakenFront, IsShortLine}
+use Rattle.command_frame.specs.Report.{Report}
 use Rattle.commands.specs.declared.fault.CommandFault.TheVariants.{Line, Event as event_fault}
 use Rattle.commands.specs.declared.read_trace.ReadTrace.{ReadTrace}
-use Rattle.commands.specs.Batch.{HasReadFront, HasReadLine}
+use Rattle.commands.specs.Batch.{HasReadLine, HasTakenLine}
 use Rattle.commands.specs.CommandFault.{told}
 use Rattle.commands.specs.ReadTrace.{HasRead}
 use Rattle.commands.specs.TraceReport.{content_fault, ledger_fault, trace_report}
@@ -46,23 +52,33 @@ event_is_read old new line event passes same stands patterns earlier has =
       peaks_of = subst (λ es. StandsFor new.peaks es) (sym after) (stands (events earlier) has.peaks_of);
     }
 
+-- the stack of the event of an info is the info's
+pub event_is_held : (tables : TableState) (kind : EventKind) (info : ℕ) (held : HeldInfo) → held.stack ≤ length tables.nodes → HasHeldEvent tables (event_of_info kind info held)
+event_is_held tables Allocation info held few = few
+event_is_held tables FreeKind info held few = few
+
 -- the bytes of one line more
 text_of_lines-push : (lines : List (List ℕ)) (line : List ℕ) → text_of_lines (lines ++ line ∷ []) ≡ text_of_lines lines ++ (line ++ (10 ∷ []))
 text_of_lines-push [] line = refl
 text_of_lines-push (first ∷ lines) line =
     ap (λ rest. first ++ (10 ∷ rest)) (text_of_lines-push lines line) ∙ sym (append_assoc first (10 ∷ text_of_lines lines) (line ++ (10 ∷ [])))
 
--- one line more without a fault; no line of a trace gives a byte before the end
-silent_more : (patterns : List (List ℕ)) (text : List (List ℕ) → List ℕ) (earlier lines : List (List ℕ)) (line : List ℕ) → AreSilent (trace_report patterns text) earlier lines
-    → content_fault patterns (earlier ++ lines) line ≡ None → AreSilent (trace_report patterns text) earlier (lines ++ line ∷ [])
-silent_more patterns text earlier [] line silent none = (ap (λ before. content_fault patterns before line) (sym (append-nil earlier)) ∙ none, refl, tt)
-silent_more patterns text earlier (first ∷ lines) line silent none =
-    (silent.0, silent.1, silent_more patterns text (earlier ++ first ∷ []) lines line silent.2 (ap (λ before. content_fault patterns before line) (append_assoc earlier (first ∷ []) lines) ∙ none))
+-- one line more, without a fault and with nothing to give
+silent_more : (report : Report) (earlier lines : List (List ℕ)) (line : List ℕ) → AreSilent report earlier lines
+    → report.line_fault (earlier ++ lines) line ≡ None → report.gains (earlier ++ lines) line ≡ [] → AreSilent report earlier (lines ++ line ∷ [])
+silent_more report earlier [] line silent none nothing =
+    (ap (λ before. report.line_fault before line) (sym (append-nil earlier)) ∙ none, ap (λ before. report.gains before line) (sym (append-nil earlier)) ∙ nothing, tt)
+silent_more report earlier (first ∷ lines) line silent none nothing =
+    let same : (earlier ++ first ∷ []) ++ lines ≡ earlier ++ first ∷ lines = append_assoc earlier (first ∷ []) lines in (
+      silent.0,
+      silent.1,
+      silent_more report (earlier ++ first ∷ []) lines line silent.2 (ap (λ before. report.line_fault before line) same ∙ none) (ap (λ before. report.gains before line) same ∙ nothing),
+    )
 
--- one line more was read
-pub line_more : (initial old new : ReadTrace) (patterns : List (List ℕ)) (written : List (List ℕ) → List ℕ) (ready : List ℕ) (bytes number more : ℕ)
-    → HasReadFront initial old patterns written ready bytes number → HasReadLine old new (drop bytes ready) more → HasReadFront initial new patterns written ready (bytes + more) (number + 1)
-line_more initial old new patterns written ready bytes number more front one =
+-- one line more was taken
+pub line_more : (report : Report) (initial old new : List (List ℕ) → Type 0) (ready : List ℕ) (bytes number more : ℕ)
+    → HasTakenFront report initial old ready bytes number → HasTakenLine report old new (drop bytes ready) more → HasTakenFront report initial new ready (bytes + more) (number + 1)
+line_more report initial old new ready bytes number more front one =
     let line_text : take more (drop bytes ready) ≡ one.line ++ (10 ∷ []) =
     ap (λ n. take n (drop bytes ready)) one.size ∙ (ap (take (length one.line + 1)) one.split ∙ take-append-add one.line (10 ∷ one.rest) 1) in
     record {
@@ -72,10 +88,25 @@ line_more initial old new patterns written ready bytes number more front one =
       text = take-add bytes more ready ∙ (ap (λ front. front ++ take more (drop bytes ready)) front.text
           ∙ (ap (λ last. text_of_lines front.lines ++ last) line_text ∙ sym (text_of_lines-push front.lines one.line)));
       count = length_push front.lines one.line ∙ ap (λ n. n + 1) front.count;
-      silent = λ earlier has. silent_more patterns written earlier front.lines one.line (front.silent earlier has) (one.no_fault patterns (earlier ++ front.lines) (front.taken earlier has));
-      taken = λ earlier has. subst (HasRead new patterns) (append_assoc earlier front.lines (one.line ∷ [])) (one.read patterns (earlier ++ front.lines) (front.taken earlier has));
+      silent = λ earlier has. silent_more report earlier front.lines one.line (front.silent earlier has) (one.no_fault (earlier ++ front.lines) (front.taken earlier has)) (one.no_gain (earlier ++ front.lines));
+      taken = λ earlier has. subst new (append_assoc earlier front.lines (one.line ∷ [])) (one.taken (earlier ++ front.lines) (front.taken earlier has));
     }
 
 -- a line stands within the bytes
-pub line_within : (old new : ReadTrace) (ready : List ℕ) (bytes : ℕ) → HasReadLine old new ready bytes → bytes ≤ length ready
-line_within old new ready bytes one = omega (arith, one.size, ap length one.split, length-append one.line (10 ∷ one.rest))
+pub line_within : (report : Report) (old new : List (List ℕ) → Type 0) (ready : List ℕ) (bytes : ℕ) → HasTakenLine report old new ready bytes → bytes ≤ length ready
+line_within report old new ready bytes one = omega (arith, one.size, ap length one.split, length-append one.line (10 ∷ one.rest))
+
+-- a line that was read is taken; no line of a trace gives a byte before the end
+pub read_is_taken : (old new : ReadTrace) (ready : List ℕ) (bytes : ℕ) (event : Event) → HasReadLine old new ready bytes event → (patterns : List (List ℕ)) (text : List (List ℕ) → List ℕ)
+    → HasTakenLine (trace_report patterns text) (HasRead old patterns) (HasRead new patterns) ready bytes
+read_is_taken old new ready bytes event one patterns text = record {
+  line = one.line;
+  one_line = one.one_line;
+  short = one.short;
+  rest = one.rest;
+  split = one.split;
+  size = one.size;
+  no_fault = one.no_fault patterns;
+  no_gain = λ earlier. refl;
+  taken = one.read patterns;
+}

@@ -5,9 +5,10 @@ use Rattle.dhat_metrics.specs.Changes.{IsOfHeld}
 use Rattle.dhat_metrics.specs.LifeState.{LifeState}
 use Rattle.ht_trace.specs.declared.step.Step.{Step}
 use Rattle.ht_trace.specs.declared.step.Step.TheVariants as step
-use Rattle.ht_trace.specs.HeldStack.{HasHeldStack}
-use Rattle.ht_trace.specs.LedgerFits.{CanTake, least_length, stacks_in}
+use Rattle.ht_trace.specs.HeldStack.{HasHeldEvent, HasHeldStack}
+use Rattle.ht_trace.specs.LedgerFits.{CanTake, least_length, least_length_of, stacks_in}
 use Rattle.ht_trace.specs.StepOf.{event_of}
+use Rattle.ht_trace.specs.TableState.{TableState}
 use Rattle.live_ledger.specs.declared.event.Event.{Event}
 use Rattle.live_ledger.specs.declared.event.Event.TheVariants.{Alloc, Free, Tick}
 use Rattle.peak_costs.specs.Peak.{StandsFor}
@@ -15,8 +16,14 @@ use Rattle.commands.specs.declared.dhat_reader.DhatReader.{DhatReader}
 use Rattle.commands.specs.declared.read_trace.ReadTrace.{ReadTrace}
 use Rattle.commands.specs.ReadLives.{CanFollow, IsSoundReader, MayFollow}
 
+-- an event of a stack of the tables is one of a stack that the lifetimes hold
+pub of_held : (reader : DhatReader) (tables : TableState) (event : Event) → IsSoundReader reader → length tables.nodes ≡ length reader.trace.tables.nodes → HasHeldEvent tables event → IsOfHeld reader.lifetimes event
+of_held reader tables (Alloc info stack bytes) sound grown held = omega (arith, held, grown, sound.stacks)
+of_held reader tables (Free info stack bytes) sound grown held = omega (arith, held, grown, sound.stacks)
+of_held reader tables (Tick ms) sound grown held = tt
+
 -- an event that the peaks took may be taken
-may_follow : (reader : DhatReader) (new : ReadTrace) (event : Event) (sound : IsSoundReader reader) → IsOfHeld reader.lifetimes event
+pub may_follow : (reader : DhatReader) (new : ReadTrace) (event : Event) (sound : IsSoundReader reader) → IsOfHeld reader.lifetimes event
     → reader.trace.peaks.ledger.totals.events < 2 ^ 32 → ((taken : List Event) → StandsFor reader.trace.peaks taken → StandsFor new.peaks (taken ++ event ∷ []))
     → MayFollow reader.lifetimes event
 may_follow reader new event sound held few takes = record {
@@ -30,6 +37,12 @@ may_follow reader new event sound held few takes = record {
   };
 }
 
+-- the line of an event has three bytes at least
+line_length : (event : Event) → 3 ≤ least_length_of event
+line_length (Alloc info stack bytes) = omega arith
+line_length (Free info stack bytes) = omega arith
+line_length (Tick ms) = omega arith
+
 -- what a line brings that the peaks took
 pub can_follow : (reader : DhatReader) (new : ReadTrace) (brought : Step) (size : ℕ) → IsSoundReader reader → CanTake reader.trace.peaks.ledger brought
     → HasHeldStack new.tables brought → length new.tables.nodes ≡ length reader.trace.tables.nodes + stacks_in brought
@@ -39,9 +52,5 @@ pub can_follow : (reader : DhatReader) (new : ReadTrace) (brought : Step) (size 
 can_follow reader new step.Nothing size sound can held grown least room takes = tt
 can_follow reader new step.Stack size sound can held grown least room takes = omega (arith, can, sound.stacks, sound.sound.stacks)
 can_follow reader new (step.Info stack bytes) size sound can held grown least room takes = tt
-can_follow reader new (step.Event (Alloc info stack bytes)) size sound can held grown least room takes =
-    may_follow reader new (Alloc info stack bytes) sound (omega (arith, held, grown, sound.stacks)) (omega (arith, least, room)) takes
-can_follow reader new (step.Event (Free info stack bytes)) size sound can held grown least room takes =
-    may_follow reader new (Free info stack bytes) sound (omega (arith, held, grown, sound.stacks)) (omega (arith, least, room)) takes
-can_follow reader new (step.Event (Tick ms)) size sound can held grown least room takes =
-    may_follow reader new (Tick ms) sound tt (omega (arith, least, room)) takes
+can_follow reader new (step.Event event) size sound can held grown least room takes =
+    may_follow reader new event sound (of_held reader new.tables event sound (omega (arith, grown)) held) (omega (arith, line_length event, least, room)) takes

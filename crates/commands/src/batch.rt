@@ -1,5 +1,6 @@
 //! Lines of events, taken many at a time where nothing about them is in doubt. Every other line is left to `read`.
 ghost use Rattle.std.specs.Prelude.{◌≡◌, ℕ, List, ◌+◌, ◌*◌, ◌^◌, ◌<◌, ◌≤◌, length, IfNone, IfSome};
+ghost use Rattle.ht_trace.specs.HeldStack.{HasHeldEvent};
 ghost use Rattle.ht_trace.specs.PassesEvents.{PassesEvents, event_of_info};
 ghost use Rattle.commands.specs.Batch.{HasReadFront, HasReadLine};
 ghost use Rattle.commands.specs.ReadTrace.{IsSound};
@@ -8,6 +9,14 @@ use crate::read_trace::{ReadTrace, take_event};
 use command_frame::Batch;
 use ht_lines::{EventKind, event_line};
 use live_ledger::Event;
+
+/// The line of an event that was read.
+#[derive(Clone, Copy, Debug)]
+pub(crate) struct ReadLine {
+    /// How many bytes it has, with its line feed.
+    pub bytes: usize,
+    pub event: Event,
+}
 
 impl ReadTrace {
     /// Reads lines at the front of the bytes, as `read` would, as long as each is that of an event in its usual form, its
@@ -25,26 +34,28 @@ impl ReadTrace {
         let mut bytes = 0;
         let mut lines = 0;
         'lines: loop {
-            let Some(taken) = self.take_front(&ready[bytes..]) else {
+            let Some(line) = self.take_front(&ready[bytes..]) else {
                 return Batch { bytes, lines };
             };
-            bytes += taken;
+            bytes += line.bytes;
             lines += 1;
         }
     }
 
-    /// Reads the line of an event at the front, and answers how many bytes it has with its line feed. Where it answers
-    /// `None`, nothing was read.
-    fn take_front(&mut self, ready: &[u8]) -> Option<usize>
+    /// Reads the line of an event at the front. Where it answers `None`, nothing was read.
+    // Each loop over it has the whole walk in its body.
+    #[inline(always)]
+    pub(crate) fn take_front(&mut self, ready: &[u8]) -> Option<ReadLine>
         requires sound { IsSound self.old }
         requires passes { PassesEvents self.old.tables }
         requires room { 4 * self.old.peaks.ledger.totals.events + length ready.now ≤ 2 ^ 34 }
         ensures tables { self.new.tables ≡ self.old.tables }
         ensures sound { IsSound self.new }
-        ensures taken { IfSome result (λ bytes. HasReadLine self.old self.new ready.now bytes) }
-        ensures some { IfSome result (λ bytes. 0 < bytes) }
-        ensures held { IfSome result (λ bytes. bytes ≤ length ready.now) }
-        ensures events { IfSome result (λ bytes. 4 * self.new.peaks.ledger.totals.events ≤ 4 * self.old.peaks.ledger.totals.events + bytes) }
+        ensures taken { IfSome result (λ read. HasReadLine self.old self.new ready.now read.bytes read.event) }
+        ensures some { IfSome result (λ read. 0 < read.bytes) }
+        ensures held { IfSome result (λ read. read.bytes ≤ length ready.now) }
+        ensures held_event { IfSome result (λ read. HasHeldEvent self.old.tables read.event) }
+        ensures events { IfSome result (λ read. 4 * self.new.peaks.ledger.totals.events ≤ 4 * self.old.peaks.ledger.totals.events + read.bytes) }
         ensures untaken { IfNone result (self.new ≡ self.old) }
     {
         let line = event_line(ready)?;
@@ -52,7 +63,10 @@ impl ReadTrace {
         let (size, stack) = self.peaks.ledger().info(info)?;
         let event = event_of_info(line.kind, info, stack, size);
         match take_event(&mut self.peaks, event) {
-            Ok(()) => Some(line.bytes),
+            Ok(()) => Some(ReadLine {
+                bytes: line.bytes,
+                event,
+            }),
             Err(_) => None,
         }
     }

@@ -1,17 +1,20 @@
 //! The reader of a trace for `dhat`: beside what every command reads of a trace it keeps the lifetimes of the blocks.
-ghost use Rattle.std.specs.Prelude.{◌≡◌, ℕ, ◌+◌, ◌*◌, ◌++◌, List, [], IfOk, OnOk, length};
+ghost use Rattle.std.specs.Prelude.{◌≡◌, ℕ, ◌+◌, ◌*◌, ◌^◌, ◌<◌, ◌≤◌, ◌++◌, List, [], IfNone, IfOk, IfSome, OnOk, length};
 ghost use Rattle.std.specs.Option.{option_to_list};
 ghost use Rattle.live_ledger.specs.declared.event.Event.{Event};
 ghost use Rattle.dhat_metrics.specs.StandsFor as life_spec;
 ghost use Rattle.ht_trace.specs.LedgerFits.{stacks_in};
+ghost use Rattle.ht_trace.specs.PassesEvents.{PassesEvents};
 ghost use Rattle.ht_trace.specs.StepOf.{event_of};
+ghost use Rattle.command_frame.specs.Batch.{HasTakenFront};
+ghost use Rattle.commands.specs.Batch.{HasTakenLine};
 ghost use Rattle.commands.specs.DhatReport.{dhat_written};
 ghost use Rattle.commands.specs.ReadLives as lives_spec;
 ghost use Rattle.commands.specs.TraceReport.{trace_report};
 
 use crate::fault::CommandFault;
 use crate::read_trace::ReadTrace;
-use command_frame::{LineRefusal, LineReport, LineTaker};
+use command_frame::{Batch, LineRefusal, LineReport, LineTaker};
 use dhat_json::profile_text;
 use dhat_metrics::Lifetimes;
 use dhat_trace::trace_profile;
@@ -36,6 +39,47 @@ impl DhatReader {
         let trace = ReadTrace::new(alloc, Tables::new(alloc))?;
         let lifetimes = Lifetimes::new(alloc)?;
         Ok(DhatReader { trace, lifetimes })
+    }
+
+    /// Takes lines of events at the front of the bytes, as long as the trace reads them so. A version line was read before.
+    fn take_events(&mut self, ready: &[u8]) -> Batch
+        requires sound { lives_spec.IsSoundReader self.old }
+        requires passes { PassesEvents self.old.trace.tables }
+        requires room { lives_spec.weight_of self.old + length ready.now ≤ 2 ^ 34 }
+        ensures sound { lives_spec.IsSoundReader self.new }
+        ensures taken { HasTakenFront (trace_report [] (dhat_written [])) (lives_spec.HasReadLives self.old) (lives_spec.HasReadLives self.new) ready.now result.bytes result.lines }
+        ensures held { result.bytes ≤ length ready.now }
+        ensures weight { lives_spec.weight_of self.new ≤ lives_spec.weight_of self.old + result.bytes }
+    {
+        let mut bytes = 0;
+        let mut lines = 0;
+        'lines: loop {
+            let Some(taken) = self.take_front(&ready[bytes..]) else {
+                return Batch { bytes, lines };
+            };
+            bytes += taken;
+            lines += 1;
+        }
+    }
+
+    /// Takes the line of an event at the front into the trace and the lifetimes, and answers how many bytes it has with its
+    /// line feed. Where it answers `None`, nothing was taken.
+    #[inline(always)]
+    fn take_front(&mut self, ready: &[u8]) -> Option<usize>
+        requires sound { lives_spec.IsSoundReader self.old }
+        requires passes { PassesEvents self.old.trace.tables }
+        requires room { lives_spec.weight_of self.old + length ready.now ≤ 2 ^ 34 }
+        ensures tables { self.new.trace.tables ≡ self.old.trace.tables }
+        ensures sound { lives_spec.IsSoundReader self.new }
+        ensures taken { IfSome result (λ bytes. HasTakenLine (trace_report [] (dhat_written [])) (lives_spec.HasReadLives self.old) (lives_spec.HasReadLives self.new) ready.now bytes) }
+        ensures some { IfSome result (λ bytes. 0 < bytes) }
+        ensures held { IfSome result (λ bytes. bytes ≤ length ready.now) }
+        ensures weight { IfSome result (λ bytes. lives_spec.weight_of self.new ≤ lives_spec.weight_of self.old + bytes) }
+        ensures untaken { IfNone result (self.new ≡ self.old) }
+    {
+        let line = self.trace.take_front(ready)?;
+        self.lifetimes.apply(line.event);
+        Some(line.bytes)
     }
 
     /// The profile of what was read, and a line feed. `NoMemory` where memory is wanting.
@@ -83,6 +127,13 @@ impl LineTaker for DhatReader {
 
     fn end(&self) -> Result<(), CommandFault> {
         self.trace.end()
+    }
+
+    fn batch(&mut self, ready: &[u8]) -> Batch {
+        match self.trace.end() {
+            Ok(()) => self.take_events(ready),
+            Err(_) => Batch { bytes: 0, lines: 0 },
+        }
     }
 }
 

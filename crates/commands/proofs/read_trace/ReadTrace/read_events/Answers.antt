@@ -1,11 +1,11 @@
-use Rattle.std.proofs.Common.{◌-◌, ℕ, List, length, drop, length-drop, refl, sym, subst, ◌∙◌, arith}
+use Rattle.std.proofs.Common.{◌-◌, ℕ, List, ◌∷◌, length, drop, length-append, length-drop, refl, ap, sym, subst, ◌∙◌, arith}
 use Rattle.std.proofs.lemmas.List.{take_all}
 use Rattle.ht_trace.specs.PassesEvents.{PassesEvents}
 use Rattle.command_frame.proofs.BatchLemmas.{nothing_taken}
 use Rattle.commands.specs.Batch.{HasReadLine}
 use Rattle.commands.specs.ReadTrace.{HasRead}
 use Rattle.commands.specs.TraceReport.{trace_report}
-use Rattle.commands.proofs.BatchLemmas.{line_more, line_within}
+use Rattle.commands.proofs.BatchLemmas.{line_more, read_is_taken}
 use Rattle.commands.proofs.read_trace.ReadTrace.read_events.Goals as goal
 
 pub lines-init : goal.lines-init
@@ -24,15 +24,17 @@ lines-preserved c =
     let held = c.lines.invariant in
     let more = c.in-Some.ensures in
     let rest : List ℕ = drop c.lines.bytes c.args.ready.now in
-    let one : HasReadLine c.lines.self c.take_front.new.self rest c.in-Some.taken =
-    subst (λ part. HasReadLine c.lines.self c.take_front.new.self part c.in-Some.taken)
+    let one : HasReadLine c.lines.self c.take_front.new.self rest c.in-Some.line.bytes c.in-Some.line.event =
+    subst (λ part. HasReadLine c.lines.self c.take_front.new.self part c.in-Some.line.bytes c.in-Some.line.event)
     (take_all (length c.args.ready.now - c.lines.bytes) rest (omega (arith, length-drop c.lines.bytes c.args.ready.now))) more.taken in
     record {
       sound = more.sound;
       passes = subst PassesEvents (sym more.tables) held.passes;
-      held = omega (arith, line_within c.lines.self c.take_front.new.self rest c.in-Some.taken one, held.held, length-drop c.lines.bytes c.args.ready.now);
+      held = omega (arith, one.size, ap length one.split, length-append one.line (10 ∷ one.rest), held.held, length-drop c.lines.bytes c.args.ready.now);
       few = omega (arith, more.some, held.few);
       events = omega (arith, more.events, held.events);
       tables = more.tables ∙ held.tables;
-      front = λ patterns text. line_more c.args.self.now c.lines.self c.take_front.new.self patterns text c.args.ready.now c.lines.bytes c.lines.lines c.in-Some.taken (held.front patterns text) one;
+      front = λ patterns text.
+          line_more (trace_report patterns text) (HasRead c.args.self.now patterns) (HasRead c.lines.self patterns) (HasRead c.take_front.new.self patterns) c.args.ready.now c.lines.bytes c.lines.lines
+          c.in-Some.line.bytes (held.front patterns text) (read_is_taken c.lines.self c.take_front.new.self rest c.in-Some.line.bytes c.in-Some.line.event one patterns text);
     }

@@ -1,0 +1,21 @@
+-- The lines so far were taken, and the tables go on to pass the lines of events of held infos.
+use Rattle.std.proofs.Common.{◌≡◌, [], ◌+◌, ◌-◌, ◌≤◌, length}
+use Rattle.ht_trace.specs.PassesEvents.{PassesEvents}
+use Rattle.command_frame.specs.Batch.{HasTakenFront}
+use Rattle.commands.specs.DhatReport.{dhat_written}
+use Rattle.commands.specs.ReadLives.{HasReadLives, IsSoundReader, weight_of}
+use Rattle.commands.specs.TraceReport.{trace_report}
+use Rattle.commands.proofs.dhat_reader.DhatReader.take_events.Given as goal
+
+abbrev pub invariant-lines : goal.invariant-lines
+invariant-lines l = record {
+  sound : IsSoundReader l.self;
+  passes : PassesEvents l.self.trace.tables;
+  held : l.bytes ≤ length l.ready;
+  few : l.lines ≤ l.bytes;
+  weight : weight_of l.self ≤ weight_of l.initial.self + l.bytes;
+  front : HasTakenFront (trace_report [] (dhat_written [])) (HasReadLives l.initial.self) (HasReadLives l.self) l.ready l.bytes l.lines;
+}
+
+abbrev pub decreases-lines : goal.decreases-lines
+decreases-lines l = length l.ready - l.bytes

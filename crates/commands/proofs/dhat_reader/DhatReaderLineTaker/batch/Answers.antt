@@ -1,0 +1,9 @@
+use Rattle.std.proofs.Common.{[]}
+use Rattle.command_frame.proofs.BatchLemmas.{nothing_taken}
+use Rattle.commands.specs.DhatReport.{dhat_written}
+use Rattle.commands.specs.ReadLives.{HasReadLives}
+use Rattle.commands.specs.TraceReport.{trace_report}
+use Rattle.commands.proofs.dhat_reader.DhatReaderLineTaker.batch.Goals as goal
+
+pub returns-in-Err-clause-taken : goal.returns-in-Err-clause-taken
+returns-in-Err-clause-taken c = nothing_taken (trace_report [] (dhat_written [])) (HasReadLives c.args.self.now) c.args.ready.now
