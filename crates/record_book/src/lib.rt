@@ -7,6 +7,8 @@ mod free_places;
 mod heap;
 mod node_lines;
 mod same_scripts;
+mod summary;
+mod tally;
 mod trace;
 
 pub use book::Book;
