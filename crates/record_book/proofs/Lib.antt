@@ -8,3 +8,5 @@ mod OrderLemmas
 mod BookLemmas
 mod FinishLemmas
 mod SameLemmas
+mod TallyLemmas
+mod TallyOrders

@@ -126,7 +126,7 @@ fn tally_order(alloc: Global, job: &Scripts, order: &[u32]) -> Result<Tally, NoM
     let mut done = vec![in alloc; 0; job.threads() as usize]?;
     let mut ips = Vec::new(alloc);
     let mut entry = 0;
-    while entry < order.len() {
+    'entries: while entry < order.len() {
         let thread = order[entry];
         let place = done[thread as usize];
         let Some(turn) = job.turn_into(thread, place, &mut ips)? else {

@@ -1,6 +1,6 @@
 //! The figures of turns that are taken one after another: what they allocate, what they leave live, and the greatest total.
 //! In which order scripts take their turns is no part of it.
-ghost use Rattle.std.specs.Prelude.{◌≡◌, ℕ, ◌+◌, ◌^◌, ◌≤◌, Bool, List, [], ◌∷◌, OnOk};
+ghost use Rattle.std.specs.Prelude.{◌≡◌, ℕ, ◌+◌, ◌^◌, ◌≤◌, Bool, if◌then◌else◌, List, [], ◌∷◌, OnOk, is_some};
 ghost use Rattle.record_scripts.specs.Events.{allocation, free};
 ghost use Rattle.record_scripts.specs.ScriptTurns.{turn_said};
 ghost use Rattle.record_scripts.specs.Turns.{IsBounded};
@@ -79,7 +79,7 @@ impl Tally {
     {
         let before = self.live.insert((thread, id), size)?;
         self.total -= before.unwrap_or(0);
-        self.blocks -= u64::from(before.is_some());
+        self.blocks -= count_of(before);
         self.calls += 1;
         self.allocated += size;
         self.total += size;
@@ -90,14 +90,24 @@ impl Tally {
 
     // Takes a free. It takes no memory.
     fn free(&mut self, thread: u32, id: u64)
-        requires tallied { (actions : List Action) × IsTally self.old actions }
+        requires { (actions : List Action) × IsTally self.old actions }
         ensures taken { (rejoined : Bool) (actions : List Action) → IsTally self.old actions → IsTally self.new (record { thread = thread; event = free id rejoined } ∷ actions) }
         ensures bytes { self.new.allocated ≡ self.old.allocated }
         ensures calls { self.new.calls ≡ self.old.calls }
     {
         let before = self.live.remove(&(thread, id));
         self.total -= before.unwrap_or(0);
-        self.blocks -= u64::from(before.is_some());
+        self.blocks -= count_of(before);
         self.peak = self.total.max(self.peak);
+    }
+}
+
+// 1 for a block, and 0 for none.
+fn count_of(size: Option<u64>) -> u64
+    ensures { result ≡ (if is_some size then 1 else 0) }
+{
+    match size {
+        Some(_) => 1,
+        None => 0,
     }
 }
