@@ -116,7 +116,7 @@ book-next job done order trace new thread turn book held at is nodes end =
     }
 
 -- the book of no turns
-zero-at : (n thread : ℕ) → done_at (replicate n 0) thread ≡ 0
+pub zero-at : (n thread : ℕ) → done_at (replicate n 0) thread ≡ 0
 zero-at zero thread = refl
 zero-at (suc n) zero = refl
 zero-at (suc n) (suc thread) = zero-at n thread
@@ -126,7 +126,7 @@ zero-count [] n = refl
 zero-count (script ∷ scripts) zero = refl
 zero-count (script ∷ scripts) (suc n) = omega (arith, zero-count scripts n)
 
-length-zeros : (n : ℕ) → length {A = ℕ} (replicate n 0) ≡ n
+pub length-zeros : (n : ℕ) → length {A = ℕ} (replicate n 0) ≡ n
 length-zeros zero = refl
 length-zeros (suc n) = ap (λ (k : ℕ). suc k) (length-zeros n)
 

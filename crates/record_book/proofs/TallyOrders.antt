@@ -1,9 +1,9 @@
 -- Walks over an order, turn by turn, and over one script.
 use Rattle.std.proofs.Common.{◌≡◌, ◌≢◌, ℕ, zero, suc, ◌+◌, ◌*◌, ◌^◌, ◌<◌, ◌≤◌, ◌==◌, ◌⊎◌, inl, inr, Bool, true, false, cond, List, [], ◌∷◌, ◌++◌, length, take, drop, reverse, Option, None, Some, refl, sym, ap, ◌∙◌, subst, arith, add-one, append_assoc, append-nil, length-append}
-use Rattle.std.specs.Prelude.{slice_get, slice_set, IfSome}
+use Rattle.std.specs.Prelude.{slice_get, slice_index_or, slice_set}
 use Rattle.std.proofs.lemmas.Bool.{cases_lt}
 use Rattle.std.proofs.lemmas.Bool.Decides.{nat_tests}
-use Rattle.std.proofs.lemmas.List.{take-append-drop, take_all}
+use Rattle.std.proofs.lemmas.List.{length-take, take-append-drop, take_all}
 use Rattle.std.proofs.lemmas.Option.{get_or_from_slice_get, slice_get_within}
 use Rattle.std.proofs.Math.Seq.{take-suc}
 use Rattle.record_scripts.specs.Events.{Event, allocation, free, events_of, events_of_turn}
@@ -15,7 +15,7 @@ use Rattle.record_book.specs.Orders.{ArePaired, IsUnder, awaited}
 use Rattle.record_book.specs.TraceState.{with_turn}
 use Rattle.record_book.proofs.BookLemmas.{done-here, done-other}
 use Rattle.record_book.proofs.FinishLemmas.{none-at}
-use Rattle.record_book.proofs.OrderLemmas.{actions-push, all-taken, done-length, event-at, events-more, times-append, times-other, times-own, times-reverse}
+use Rattle.record_book.proofs.OrderLemmas.{actions-push, actions-turn, all-taken, done-length, event-at, events-more, times-append, times-other, times-own, times-reverse}
 
 -- an order is that of so many turns of each thread
 abbrev pub AreTaken : List (List Turn) → List ℕ → List ℕ → Type 0
@@ -146,7 +146,7 @@ turn-entries scripts order entry thread k (reallocates id size ips) under at tur
         ∙ ap (λ (front : List ℕ). front ++ thread ∷ []) first ∙ append_assoc (take entry order) (thread ∷ []) (thread ∷ [])
 
 -- what a thread does alone, with a turn more
-with_events-append : (thread : ℕ) (xs ys : List Event) (before : List Action) → with_events thread (xs ++ ys) before ≡ with_events thread ys (with_events thread xs before)
+pub with_events-append : (thread : ℕ) (xs ys : List Event) (before : List Action) → with_events thread (xs ++ ys) before ≡ with_events thread ys (with_events thread xs before)
 with_events-append thread [] ys before = refl
 with_events-append thread (x ∷ xs) ys before = with_events-append thread xs ys (record { thread = thread; event = x } ∷ before)
 
@@ -163,3 +163,32 @@ alone-more script thread k turn at =
 
 pub alone-whole : (scripts : List (List Turn)) (thread k : ℕ) → slice_get (script_at scripts thread) k ≡ None → with_events thread (events_of (take k (script_at scripts thread))) [] ≡ alone scripts thread
 alone-whole scripts thread k none = ap (λ (turns : List Turn). with_events thread (events_of turns) []) (take_all k (script_at scripts thread) (done-length (script_at scripts thread) k none))
+
+-- an element by its place
+pub at-place : (order : List ℕ) (entry : ℕ) → entry < length order → slice_get order entry ≡ Some (slice_index_or order entry 0)
+at-place [] entry within = absurd (omega (arith, within))
+at-place (x ∷ order) zero within = refl
+at-place (x ∷ order) (suc entry) within = at-place order entry (omega (arith, within))
+
+-- a step of a walk over an order
+pub record IsStep (scripts : List (List Turn)) (order done : List ℕ) (entry count thread place : ℕ) (turn : Turn) : Type 0 where
+  pub within : entry + count ≤ length order
+  pub taken : AreTaken scripts (take (entry + count) order) (slice_set done thread (place + 1))
+  pub means : actions scripts (take (entry + count) order) ≡ with_turn thread turn (actions scripts (take entry order))
+
+pub walk-next : (scripts : List (List Turn)) (order done : List ℕ) (entry count thread place : ℕ) (turn : Turn) → IsUnder scripts order → AreTaken scripts (take entry order) done → entry < length order
+    → length done ≡ length scripts → slice_get order entry ≡ Some thread → done_at done thread ≡ place → slice_get (script_at scripts thread) place ≡ Some turn → count ≡ length (entries_of thread turn)
+    → IsStep scripts order done entry count thread place turn
+walk-next scripts order done entry count thread place turn under taken within threads at here said counted =
+    let k = done_at done thread in
+    let found : slice_get (script_at scripts thread) k ≡ Some turn = ap (λ (n : ℕ). slice_get (script_at scripts thread) n) here ∙ said in
+    let front : take (entry + count) order ≡ take entry order ++ entries_of thread turn =
+    ap (λ (n : ℕ). take (entry + n) order) counted ∙ turn-entries scripts order entry thread k turn under at found (taken thread) in
+    let there : thread < length done = omega (arith, entry-there scripts order entry thread under at, threads) in
+    let len = ap length front ∙ length-append (take entry order) (entries_of thread turn) in
+    record {
+      within = omega (arith, len, counted, within, length-take (entry + count) order, length-take entry order);
+      taken = subst (λ (left : List ℕ). AreTaken scripts left (slice_set done thread (place + 1))) (sym front)
+          (subst (λ (n : ℕ). AreTaken scripts (take entry order ++ entries_of thread turn) (slice_set done thread (n + 1))) here (taken-next scripts (take entry order) done thread turn taken there found));
+      means = ap (λ (left : List ℕ). actions scripts left) front ∙ actions-turn scripts (take entry order) thread k turn found (taken thread);
+    }

@@ -32,16 +32,18 @@ count_lines summary =
     (figure (codes "\n# calls: ") summary.calls ++
     figure (codes "\n# allocated: ") summary.allocated))
 
--- the last two lines
-unfoldable pub live_lines : Summary → List ℕ
-live_lines summary =
-    figure (codes "\n# leaked: ") summary.leaked ++
-    (figure (codes " in ") summary.blocks ++
-    (figure (codes " blocks\n# peak: ") summary.peak ++
+-- the line of what is live at the end, behind the end of the line before it
+unfoldable pub leaked_line : Summary → List ℕ
+leaked_line summary = figure (codes "\n# leaked: ") summary.leaked ++ (figure (codes " in ") summary.blocks ++ codes " blocks\n")
+
+-- the line of the greatest total
+unfoldable pub peak_line : Summary → List ℕ
+peak_line summary =
+    figure (codes "# peak: ") summary.peak ++
     (figure (codes " from ") summary.low ++
     (figure (codes " to ") summary.high ++
-    codes "\n"))))
+    codes "\n"))
 
 -- the six lines of scripts that are recorded in an order
 unfoldable pub rec_summary : List (List Turn) → List ℕ → List ℕ
-rec_summary scripts order = count_lines (summary_of scripts order) ++ live_lines (summary_of scripts order)
+rec_summary scripts order = count_lines (summary_of scripts order) ++ (leaked_line (summary_of scripts order) ++ peak_line (summary_of scripts order))

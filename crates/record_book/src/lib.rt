@@ -5,6 +5,7 @@
 mod book;
 mod free_places;
 mod heap;
+mod laws;
 mod node_lines;
 mod same_scripts;
 mod summary;
@@ -12,6 +13,7 @@ mod tally;
 mod trace;
 
 pub use book::Book;
+pub use laws::figures_of_scripts;
 
 #[cfg(test)]
 mod tests;

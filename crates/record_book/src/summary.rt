@@ -6,7 +6,7 @@ ghost use Rattle.record_book.specs.Actions.{actions};
 ghost use Rattle.record_book.specs.BookState.{entries_of};
 ghost use Rattle.record_book.specs.Figures.{own_peak};
 ghost use Rattle.record_book.specs.Orders.{IsUnder};
-ghost use Rattle.record_book.specs.SummaryText.{count_lines, figure, live_lines, rec_summary, summary_of};
+ghost use Rattle.record_book.specs.SummaryText.{count_lines, figure, leaked_line, peak_line, rec_summary, summary_of};
 ghost use Rattle.record_book.specs.TallyState.{IsTally};
 
 use crate::tally::Tally;
@@ -83,10 +83,11 @@ impl Summary {
     /// Appends the six lines.
     fn put(&self, out: &mut Vec<u8>) -> Result<(), NoMemory>
         ensures kept { take (vec_len out.old) out.new.items ≡ out.old.items }
-        ensures appended { OnOk result (out.new.items ≡ out.old.items ++ (count_lines self.now ++ live_lines self.now)) }
+        ensures appended { OnOk result (out.new.items ≡ out.old.items ++ (count_lines self.now ++ (leaked_line self.now ++ peak_line self.now))) }
     {
         self.put_counts(out)?;
-        self.put_live(out)
+        self.put_leaked(out)?;
+        self.put_peak(out)
     }
 
     /// Appends the lines of what was counted.
@@ -101,15 +102,24 @@ impl Summary {
         put_figure(out, b"\n# allocated: ", self.allocated)
     }
 
-    /// Appends the lines of what is live at the end and was live at the peak.
-    #[tactic(auto, unfolding(crate::specs::SummaryText::live_lines))]
-    fn put_live(&self, out: &mut Vec<u8>) -> Result<(), NoMemory>
+    /// Appends the line of what is live at the end.
+    #[tactic(auto, unfolding(crate::specs::SummaryText::leaked_line))]
+    fn put_leaked(&self, out: &mut Vec<u8>) -> Result<(), NoMemory>
         ensures kept { take (vec_len out.old) out.new.items ≡ out.old.items }
-        ensures appended { OnOk result (out.new.items ≡ out.old.items ++ live_lines self.now) }
+        ensures appended { OnOk result (out.new.items ≡ out.old.items ++ leaked_line self.now) }
     {
         put_figure(out, b"\n# leaked: ", self.leaked)?;
         put_figure(out, b" in ", self.blocks)?;
-        put_figure(out, b" blocks\n# peak: ", self.peak)?;
+        put_bytes(out, b" blocks\n")
+    }
+
+    /// Appends the line of the greatest total.
+    #[tactic(auto, unfolding(crate::specs::SummaryText::peak_line))]
+    fn put_peak(&self, out: &mut Vec<u8>) -> Result<(), NoMemory>
+        ensures kept { take (vec_len out.old) out.new.items ≡ out.old.items }
+        ensures appended { OnOk result (out.new.items ≡ out.old.items ++ peak_line self.now) }
+    {
+        put_figure(out, b"# peak: ", self.peak)?;
         put_figure(out, b" from ", self.low)?;
         put_figure(out, b" to ", self.high)?;
         put_bytes(out, b"\n")
@@ -158,7 +168,9 @@ fn peak_alone(alloc: Global, job: &Scripts, thread: u32) -> Result<u64, NoMemory
 
 /// How many entries a turn has in an order.
 fn entry_count(turn: ScriptLine) -> usize
-    ensures { (thread : ℕ) (ips : List ℕ) → result ≡ length (entries_of thread (turn_said turn ips)) }
+    ensures some { 1 ≤ result }
+    ensures few { result ≤ 2 }
+    ensures entries { (thread : ℕ) (ips : List ℕ) → result ≡ length (entries_of thread (turn_said turn ips)) }
 {
     match turn {
         ScriptLine::Reallocation { .. } => 2,
