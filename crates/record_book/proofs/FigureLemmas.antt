@@ -65,10 +65,14 @@ thread-back scripts thread (entry ∷ back) few = by (λ less. thread-back scrip
         → of_thread thread (with_event entry (slice_get (events_at scripts entry) (times entry back)) (actions_back scripts back)) ≡ with_events thread (take (cond b 1 0 + times thread back) (events_at scripts thread)) []
     by ih true p few =
         let same : thread ≡ entry = grind (arith, nat_tests, p) in
+        let up : suc (times thread back) ≡ 1 + times thread back = omega arith in
         subst (λ (t : ℕ). of_thread thread (with_event t (slice_get (events_at scripts t) (times t back)) (actions_back scripts back)) ≡ with_events thread (take (1 + times thread back) (events_at scripts thread)) []) same
         (alone-event scripts thread (times thread back) (actions_back scripts back) (slice_get (events_at scripts thread) (times thread back)) refl (omega (arith, few)) (ih (omega (arith, few)))
-        ∙ ap (λ (n : ℕ). with_events thread (take n (events_at scripts thread)) []) (omega arith))
-    by ih false p few = other-event scripts entry thread (actions_back scripts back) (slice_get (events_at scripts entry) (times entry back)) p ∙ ih (omega (arith, few))
+        ∙ ap (λ (n : ℕ). with_events thread (take n (events_at scripts thread)) []) up)
+    by ih false p few =
+        let same : times thread back ≡ 0 + times thread back = omega arith in
+        other-event scripts entry thread (actions_back scripts back) (slice_get (events_at scripts entry) (times entry back)) p ∙ ih (omega (arith, few))
+        ∙ ap (λ (n : ℕ). with_events thread (take n (events_at scripts thread)) []) same
 
 pub thread-alone : (scripts : List (List Turn)) (order : List ℕ) (thread : ℕ) → IsInterleaving scripts order → of_thread thread (actions scripts order) ≡ alone scripts thread
 unfolding actions
@@ -173,7 +177,7 @@ blocks-sum weight n (block ∷ older) all =
   where
     by : (thread : ℕ) (b : Bool) → weigh weight (cond b (block ∷ held_by thread older) (held_by thread older)) ≡ cond b (weight block) 0 + weigh weight (held_by thread older)
     by thread true = refl
-    by thread false = refl
+    by thread false = omega arith
 
 pub held-sum : (weight : Held → ℕ) (n : ℕ) (actions : List Action) → AreBelow n actions → weigh weight (held_after actions) ≡ sum_below (λ thread. weigh weight (held_after (of_thread thread actions))) n
 held-sum weight n actions all =
@@ -193,7 +197,7 @@ events-sum weight n (action ∷ before) all =
   where
     by : (thread : ℕ) (b : Bool) → weigh_events weight (cond b (action ∷ of_thread thread before) (of_thread thread before)) ≡ cond b (weight action.event) 0 + weigh_events weight (of_thread thread before)
     by thread true = refl
-    by thread false = refl
+    by thread false = omega arith
 
 -- the same of whole orders, over the threads alone
 pub held-scripts : (weight : Held → ℕ) (scripts : List (List Turn)) (order : List ℕ) → IsInterleaving scripts order
