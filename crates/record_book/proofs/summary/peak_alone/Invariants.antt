@@ -1,4 +1,4 @@
-use Rattle.std.proofs.Common.{ℕ, ◌*◌, ◌^◌, ◌≤◌, [], take}
+use Rattle.std.proofs.Common.{◌*◌, ◌^◌, ◌≤◌, [], take}
 use Rattle.record_scripts.specs.Events.{events_of}
 use Rattle.record_scripts.specs.Turns.{script_at}
 use Rattle.record_book.specs.Figures.{with_events}

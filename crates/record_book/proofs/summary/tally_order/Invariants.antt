@@ -1,4 +1,4 @@
-use Rattle.std.proofs.Common.{◌≡◌, ℕ, ◌*◌, ◌-◌, ◌^◌, ◌≤◌, length, take}
+use Rattle.std.proofs.Common.{◌≡◌, ◌*◌, ◌-◌, ◌^◌, ◌≤◌, length, take}
 use Rattle.record_book.specs.Actions.{actions}
 use Rattle.record_book.specs.TallyState.{IsTally}
 use Rattle.record_book.proofs.TallyOrders.{AreTaken}

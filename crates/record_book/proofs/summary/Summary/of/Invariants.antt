@@ -1,4 +1,4 @@
-use Rattle.std.proofs.Common.{◌≡◌, ℕ, ◌*◌, ◌^◌, ◌≤◌}
+use Rattle.std.proofs.Common.{◌≡◌, ◌*◌, ◌^◌, ◌≤◌}
 use Rattle.record_book.specs.Figures.{greatest_below, own_peak, sum_below}
 use Rattle.record_book.proofs.summary.Summary.of.Given as goal
 

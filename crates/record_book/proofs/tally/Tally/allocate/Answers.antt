@@ -1,5 +1,5 @@
 use Rattle.std.proofs.Common.{◌≡◌, ℕ, ◌+◌, ◌-◌, cond, refl, ap, arith}
-use Rattle.std.specs.Prelude.{is_some, unwrap_or}
+use Rattle.std.specs.Prelude.{is_some}
 use Rattle.record_book.specs.declared.tally.Tally.{Tally}
 use Rattle.record_book.proofs.TallyLemmas.{freed-within, tally-allocated, tally-within}
 use Rattle.record_book.proofs.tally.Tally.allocate.Goals as goal
@@ -25,7 +25,11 @@ returns-clause-taken c = λ ips actions is.
     let found = c.in_ok-before.before in
     let one : c.count_of.result ≡ cond {A = ℕ} (is_some found) 1 0 = c.count_of.ensures in
     let new : Tally = record {
-      live = c.insert.new.self; calls = old.calls + 1; allocated = old.allocated + c.args.size; total = old.total - c.unwrap_or.result + c.args.size; blocks = old.blocks - c.count_of.result + 1;
+      live = c.insert.new.self;
+      calls = old.calls + 1;
+      allocated = old.allocated + c.args.size;
+      total = old.total - c.unwrap_or.result + c.args.size;
+      blocks = old.blocks - c.count_of.result + 1;
       peak = c.max-self.result;
     } in
     tally-allocated old new actions c.args.thread c.args.id c.args.size ips found is c.in_ok-before.ensures.old (λ t i. c.in_ok-before.ensures.updates.0 (t, i))

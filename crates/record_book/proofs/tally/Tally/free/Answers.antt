@@ -1,5 +1,5 @@
 use Rattle.std.proofs.Common.{◌≡◌, ℕ, ◌-◌, cond, refl, ap, arith}
-use Rattle.std.specs.Prelude.{is_some, unwrap_or}
+use Rattle.std.specs.Prelude.{is_some}
 use Rattle.record_book.specs.declared.tally.Tally.{Tally}
 use Rattle.record_book.proofs.TallyLemmas.{freed-within, tally-freed}
 use Rattle.record_book.proofs.tally.Tally.free.Goals as goal

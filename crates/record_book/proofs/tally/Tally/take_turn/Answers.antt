@@ -1,8 +1,7 @@
-use Rattle.std.proofs.Common.{◌∷◌, List, true, false, sym, subst}
+use Rattle.std.proofs.Common.{◌∷◌, true, false, sym, subst}
 use Rattle.record_scripts.specs.declared.script_line.ScriptLine.{ScriptLine}
 use Rattle.record_scripts.specs.Events.{free}
 use Rattle.record_scripts.specs.ScriptTurns.{turn_said}
-use Rattle.record_book.specs.Actions.{Action}
 use Rattle.record_book.specs.TallyState.{IsTally}
 use Rattle.record_book.specs.TraceState.{with_turn}
 use Rattle.record_book.proofs.TallyLemmas.{if-ok}
