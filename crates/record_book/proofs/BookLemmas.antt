@@ -19,19 +19,19 @@ use Rattle.record_book.specs.TraceState.{IsTrace, with_turn}
 use Rattle.record_book.proofs.OrderLemmas.{actions-none, actions-turn, closed-turn, entries-length, events-more, events-within, paired-turn, some_events, times-append, times-other, times-own, times-within}
 
 -- numbers of turns
-done-here : (done : List ℕ) (thread count : ℕ) → thread < length done → done_at (slice_set done thread count) thread ≡ count
+pub done-here : (done : List ℕ) (thread count : ℕ) → thread < length done → done_at (slice_set done thread count) thread ≡ count
 done-here [] thread count within = absurd (omega (arith, within))
 done-here (n ∷ done) zero count within = refl
 done-here (n ∷ done) (suc thread) count within = done-here done thread count (omega (arith, within))
 
-done-other : (done : List ℕ) (thread other count : ℕ) → thread ≢ other → done_at (slice_set done thread count) other ≡ done_at done other
+pub done-other : (done : List ℕ) (thread other count : ℕ) → thread ≢ other → done_at (slice_set done thread count) other ≡ done_at done other
 done-other [] thread other count apart = refl
 done-other (n ∷ done) zero zero count apart = absurd (apart refl)
 done-other (n ∷ done) zero (suc other) count apart = refl
 done-other (n ∷ done) (suc thread) zero count apart = refl
 done-other (n ∷ done) (suc thread) (suc other) count apart = done-other done thread other count (λ same. apart (ap (λ (k : ℕ). suc k) same))
 
-length-slice_set : (done : List ℕ) (thread count : ℕ) → length (slice_set done thread count) ≡ length done
+pub length-slice_set : (done : List ℕ) (thread count : ℕ) → length (slice_set done thread count) ≡ length done
 length-slice_set [] thread count = refl
 length-slice_set (n ∷ done) zero count = refl
 length-slice_set (n ∷ done) (suc thread) count = ap (λ (k : ℕ). suc k) (length-slice_set done thread count)
@@ -48,7 +48,7 @@ count-set (script ∷ scripts) (n ∷ done) (suc thread) turn same at =
     let rest = count-set scripts done thread turn (omega (arith, same)) at in
     omega (arith, rest)
 
-count-within : (scripts : List (List Turn)) (done : List ℕ) → done_count scripts done ≤ event_count scripts
+pub count-within : (scripts : List (List Turn)) (done : List ℕ) → done_count scripts done ≤ event_count scripts
 count-within [] done = omega arith
 count-within (script ∷ scripts) [] = omega arith
 count-within (script ∷ scripts) (n ∷ done) =
@@ -116,7 +116,7 @@ book-next job done order trace new thread turn book held at is nodes end =
     }
 
 -- the book of no turns
-zero-at : (n thread : ℕ) → done_at (replicate n 0) thread ≡ 0
+pub zero-at : (n thread : ℕ) → done_at (replicate n 0) thread ≡ 0
 zero-at zero thread = refl
 zero-at (suc n) zero = refl
 zero-at (suc n) (suc thread) = zero-at n thread
@@ -126,7 +126,7 @@ zero-count [] n = refl
 zero-count (script ∷ scripts) zero = refl
 zero-count (script ∷ scripts) (suc n) = omega (arith, zero-count scripts n)
 
-length-zeros : (n : ℕ) → length {A = ℕ} (replicate n 0) ≡ n
+pub length-zeros : (n : ℕ) → length {A = ℕ} (replicate n 0) ≡ n
 length-zeros zero = refl
 length-zeros (suc n) = ap (λ (k : ℕ). suc k) (length-zeros n)
 

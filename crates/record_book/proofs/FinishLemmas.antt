@@ -53,7 +53,7 @@ stepped-other scripts thread other order apart =
     let found = slice_get (events_at scripts thread) (times thread order) in
     omega (arith, times-append other order (turn_entries thread found), entries-other thread other found apart)
 
-none-at : (scripts : List (List Turn)) (thread : ℕ) → length scripts ≤ thread → length (events_at scripts thread) ≡ 0
+pub none-at : (scripts : List (List Turn)) (thread : ℕ) → length scripts ≤ thread → length (events_at scripts thread) ≡ 0
 none-at [] thread past = refl
 none-at (script ∷ scripts) zero past = absurd (omega (arith, past))
 none-at (script ∷ scripts) (suc thread) past = none-at scripts thread (omega (arith, past))

@@ -8,3 +8,8 @@ mod OrderLemmas
 mod BookLemmas
 mod FinishLemmas
 mod SameLemmas
+mod TallyLemmas
+mod TallyOrders
+mod SummaryLemmas
+mod SumLemmas
+mod FigureLemmas

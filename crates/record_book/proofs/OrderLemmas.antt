@@ -85,13 +85,13 @@ get-behind (x ∷ xs) ys zero k is = absurd (omega (arith, is))
 get-behind (x ∷ xs) ys (suc n) k is = get-behind xs ys n k (omega (arith, is))
 
 -- the events of a turn stand behind those before it
-event-at : (script : List Turn) (k : ℕ) (turn : Turn) (n j : ℕ) → slice_get script k ≡ Some turn → n ≡ length (events_of (take k script)) + j
+pub event-at : (script : List Turn) (k : ℕ) (turn : Turn) (n j : ℕ) → slice_get script k ≡ Some turn → n ≡ length (events_of (take k script)) + j
     → slice_get (events_of script) n ≡ slice_get (events_of_turn turn ++ events_of (drop (k + 1) script)) j
 event-at script k turn n j at is =
     ap (λ (events : List Event). slice_get events n) (events-at-turn script k turn at)
     ∙ get-behind (events_of (take k script)) (events_of_turn turn ++ events_of (drop (k + 1) script)) n j is
 
-actions-push : (scripts : List (List Turn)) (order : List ℕ) (thread : ℕ)
+pub actions-push : (scripts : List (List Turn)) (order : List ℕ) (thread : ℕ)
     → actions scripts (order ++ thread ∷ []) ≡ with_event thread (slice_get (events_at scripts thread) (times thread (reverse order))) (actions scripts order)
 unfolding actions
 actions-push scripts order thread = ap (λ (back : List ℕ). actions_back scripts back) (reverse-append order (thread ∷ []))
@@ -148,7 +148,7 @@ more-turn scripts order thread k turn at taken =
     grind (arith, nat_tests, below)
 
 -- nothing is left of a script that is done
-done-length : (script : List Turn) (k : ℕ) → slice_get script k ≡ None → length script ≤ k
+pub done-length : (script : List Turn) (k : ℕ) → slice_get script k ≡ None → length script ≤ k
 done-length [] k none = omega arith
 done-length (turn ∷ script) zero none = absurd (grind (arith, none))
 done-length (turn ∷ script) (suc k) none = omega (arith, done-length script k none)

@@ -7,3 +7,6 @@ pub mod HeapState
 pub mod NodeState
 pub mod TraceState
 pub mod BookState
+pub mod Figures
+pub mod SummaryText
+pub mod TallyState

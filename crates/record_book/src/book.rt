@@ -7,8 +7,10 @@ ghost use Rattle.record_book.specs.BookState.{HasStepped, entries_of, stepped};
 ghost use Rattle.record_book.specs.HeapPlaces.{AreApart, live_blocks, places_after};
 ghost use Rattle.record_book.specs.Orders.{Continues, IsInterleaving, IsUnder};
 ghost use Rattle.record_book.specs.RecordedTrace.{recorded};
+ghost use Rattle.record_book.specs.SummaryText.{rec_summary};
 
 use crate::same_scripts::is_same;
+use crate::summary::put_summary;
 use crate::trace::Trace;
 use hp_num::NoMemory;
 use record_scripts::{ScriptLine, Scripts};
@@ -126,6 +128,17 @@ impl Book {
         ensures under { IsUnder self.now.job.scripts self.now.order }
     {
         self.job.threads()
+    }
+
+    /// Appends the six lines of the summary: threads, events, calls, allocated bytes, what is live at the end, and the peak
+    /// of this order between its bounds. All turns have to be taken, as in a book that `finish` gives. On `NoMemory`,
+    /// `out` holds what it held before.
+    pub fn put_summary(&self, out: &mut Vec<u8>) -> Result<(), NoMemory>
+        requires { IsInterleaving self.now.job.scripts self.now.order }
+        ensures appended { OnOk result (out.new.items ≡ out.old.items ++ rec_summary self.now.job.scripts self.now.order) }
+        ensures unchanged { OnErr result (out.new.items ≡ out.old.items) }
+    {
+        put_summary(self.alloc, &self.job, &self.order, out)
     }
 
     /// The book of these scripts with all turns taken. Where this is a book of the same scripts and modules for as many

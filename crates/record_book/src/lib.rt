@@ -5,11 +5,15 @@
 mod book;
 mod free_places;
 mod heap;
+mod laws;
 mod node_lines;
 mod same_scripts;
+mod summary;
+mod tally;
 mod trace;
 
 pub use book::Book;
+pub use laws::figures_of_scripts;
 
 #[cfg(test)]
 mod tests;

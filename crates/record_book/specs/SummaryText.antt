@@ -1,0 +1,49 @@
+-- The summary of a recording, and its text: six lines of figures.
+use Rattle.std.specs.Prelude.{ℕ, List, ◌++◌, codes, decimal, length}
+use Rattle.record_scripts.specs.Turns.{Turn}
+use Rattle.record_book.specs.Actions.{actions}
+use Rattle.record_book.specs.Figures.{allocated, calls, every, greatest_below, live_bytes, live_count, own_peak, peak, sum_below}
+use Rattle.record_book.specs.declared.summary.Summary.{Summary}
+
+-- the figures of scripts that are recorded in an order: the peak is that of the order, and it lies between the greatest peak of a
+-- script and the sum of their peaks
+unfoldable pub summary_of : List (List Turn) → List ℕ → Summary
+summary_of scripts order = record {
+  threads = length scripts;
+  events = length order;
+  calls = calls every (actions scripts order);
+  allocated = allocated every (actions scripts order);
+  leaked = live_bytes every (actions scripts order);
+  blocks = live_count every (actions scripts order);
+  peak = peak (actions scripts order);
+  low = greatest_below (own_peak scripts) (length scripts);
+  high = sum_below (own_peak scripts) (length scripts);
+}
+
+-- a label and a figure
+abbrev pub figure : List ℕ → ℕ → List ℕ
+figure label n = label ++ decimal n
+
+-- the first four lines, as far as the end of the fourth figure
+unfoldable pub count_lines : Summary → List ℕ
+count_lines summary =
+    figure (codes "# threads: ") summary.threads ++
+    (figure (codes "\n# events: ") summary.events ++
+    (figure (codes "\n# calls: ") summary.calls ++
+    figure (codes "\n# allocated: ") summary.allocated))
+
+-- the line of what is live at the end, behind the end of the line before it
+unfoldable pub leaked_line : Summary → List ℕ
+leaked_line summary = figure (codes "\n# leaked: ") summary.leaked ++ (figure (codes " in ") summary.blocks ++ codes " blocks\n")
+
+-- the line of the greatest total
+unfoldable pub peak_line : Summary → List ℕ
+peak_line summary =
+    figure (codes "# peak: ") summary.peak ++
+    (figure (codes " from ") summary.low ++
+    (figure (codes " to ") summary.high ++
+    codes "\n"))
+
+-- the six lines of scripts that are recorded in an order
+unfoldable pub rec_summary : List (List Turn) → List ℕ → List ℕ
+rec_summary scripts order = count_lines (summary_of scripts order) ++ (leaked_line (summary_of scripts order) ++ peak_line (summary_of scripts order))

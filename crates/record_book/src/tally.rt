@@ -1,0 +1,113 @@
+//! The figures of turns that are taken one after another: what they allocate, what they leave live, and the greatest total.
+//! In which order scripts take their turns is no part of it.
+ghost use Rattle.std.specs.Prelude.{◌≡◌, ℕ, ◌+◌, ◌^◌, ◌≤◌, Bool, if◌then◌else◌, List, [], ◌∷◌, OnOk, is_some};
+ghost use Rattle.record_scripts.specs.Events.{allocation, free};
+ghost use Rattle.record_scripts.specs.ScriptTurns.{turn_said};
+ghost use Rattle.record_scripts.specs.Turns.{IsBounded};
+ghost use Rattle.record_book.specs.Actions.{Action};
+ghost use Rattle.record_book.specs.TallyState.{IsTally};
+ghost use Rattle.record_book.specs.TraceState.{with_turn};
+
+use hp_num::NoMemory;
+use record_scripts::ScriptLine;
+use std::alloc::Global;
+use std::collections::HashMap;
+
+/// The sizes of live blocks by thread and ID, and figures in bytes, blocks and calls.
+#[derive(Debug, Drop)]
+pub struct Tally {
+    live: HashMap<(u32, u64), u64>,
+    pub calls: u64,
+    pub allocated: u64,
+    /// The bytes that are live.
+    pub total: u64,
+    /// The blocks that are live.
+    pub blocks: u64,
+    /// The greatest total so far.
+    pub peak: u64,
+}
+
+impl Tally {
+    /// The figures of no turns. It takes no memory.
+    pub fn new(alloc: Global) -> Self
+        ensures none { IsTally result [] }
+        ensures no_bytes { result.allocated ≡ 0 }
+        ensures no_calls { result.calls ≡ 0 }
+    {
+        Tally {
+            live: HashMap::new(alloc),
+            calls: 0,
+            allocated: 0,
+            total: 0,
+            blocks: 0,
+            peak: 0,
+        }
+    }
+
+    /// Takes a turn of a thread. On `NoMemory` nothing is said of the figures.
+    pub fn take_turn(&mut self, thread: u32, turn: ScriptLine) -> Result<(), NoMemory>
+        requires bounded { (ips : List ℕ) × IsBounded (turn_said turn ips) }
+        requires tallied { (actions : List Action) × IsTally self.old actions }
+        requires few_bytes { self.old.allocated ≤ 2 ^ 62 }
+        requires few_calls { self.old.calls ≤ 2 ^ 62 }
+        ensures taken { OnOk result ((ips : List ℕ) (actions : List Action) → IsTally self.old actions → IsTally self.new (with_turn thread (turn_said turn ips) actions)) }
+        ensures bytes { self.new.allocated ≤ self.old.allocated + 2 ^ 32 }
+        ensures calls { self.new.calls ≤ self.old.calls + 1 }
+    {
+        match turn {
+            ScriptLine::Allocation { id, size } => self.allocate(thread, id, size),
+            ScriptLine::Free { id } => {
+                self.free(thread, id);
+                Ok(())
+            }
+            ScriptLine::Reallocation { id, size } => {
+                self.free(thread, id);
+                self.allocate(thread, id, size)
+            }
+        }
+    }
+
+    // Takes an allocation.
+    fn allocate(&mut self, thread: u32, id: u64, size: u64) -> Result<(), NoMemory>
+        requires few_bytes { size ≤ 2 ^ 32 }
+        requires tallied { (actions : List Action) × IsTally self.old actions }
+        requires byte_room { self.old.allocated ≤ 2 ^ 62 }
+        requires call_room { self.old.calls ≤ 2 ^ 62 }
+        ensures taken { OnOk result ((ips : List ℕ) (actions : List Action) → IsTally self.old actions → IsTally self.new (record { thread = thread; event = allocation id size ips } ∷ actions)) }
+        ensures bytes { self.new.allocated ≤ self.old.allocated + 2 ^ 32 }
+        ensures calls { self.new.calls ≤ self.old.calls + 1 }
+    {
+        let before = self.live.insert((thread, id), size)?;
+        self.total -= before.unwrap_or(0);
+        self.blocks -= count_of(before);
+        self.calls += 1;
+        self.allocated += size;
+        self.total += size;
+        self.blocks += 1;
+        self.peak = self.total.max(self.peak);
+        Ok(())
+    }
+
+    // Takes a free. It takes no memory.
+    fn free(&mut self, thread: u32, id: u64)
+        requires { (actions : List Action) × IsTally self.old actions }
+        ensures taken { (rejoined : Bool) (actions : List Action) → IsTally self.old actions → IsTally self.new (record { thread = thread; event = free id rejoined } ∷ actions) }
+        ensures bytes { self.new.allocated ≡ self.old.allocated }
+        ensures calls { self.new.calls ≡ self.old.calls }
+    {
+        let before = self.live.remove(&(thread, id));
+        self.total -= before.unwrap_or(0);
+        self.blocks -= count_of(before);
+        self.peak = self.total.max(self.peak);
+    }
+}
+
+// 1 for a block, and 0 for none.
+fn count_of(size: Option<u64>) -> u64
+    ensures { result ≡ (if is_some size then 1 else 0) }
+{
+    match size {
+        Some(_) => 1,
+        None => 0,
+    }
+}

@@ -1,0 +1,3 @@
+mod LineTexts
+mod SpelledLemmas
+mod SummaryLines
