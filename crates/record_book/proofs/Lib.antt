@@ -10,6 +10,6 @@ mod FinishLemmas
 mod SameLemmas
 mod TallyLemmas
 mod TallyOrders
-mod SummaryLemmas
 mod SumLemmas
 mod FigureLemmas
+mod SummaryLemmas

@@ -1,12 +1,15 @@
 -- The figures of a summary, from those of a tally.
-use Rattle.std.proofs.Common.{◌≡◌, ℕ, List, length, ap, ◌∙◌}
+use Rattle.std.proofs.Common.{◌≡◌, ℕ, List, length, ap, sym, ◌∙◌}
+use Rattle.record_scripts.specs.Events.{Event}
 use Rattle.record_scripts.specs.Turns.{Turn}
 use Rattle.record_book.specs.declared.summary.Summary.{Summary}
 use Rattle.record_book.specs.declared.tally.Tally.{Tally}
 use Rattle.record_book.specs.Actions.{actions}
-use Rattle.record_book.specs.Figures.{allocated, calls, every, greatest_below, live_bytes, live_count, own_peak, peak, sum_below}
+use Rattle.record_book.specs.Figures.{Held, allocated, bytes_asked, bytes_held, calls, every, greatest_below, held_after, live_bytes, live_count, one_asked, one_held, own_peak, peak, sum_below, weigh, weigh_events}
+use Rattle.record_book.specs.Orders.{IsInterleaving}
 use Rattle.record_book.specs.SummaryText.{summary_of}
 use Rattle.record_book.specs.TallyState.{IsTally}
+use Rattle.record_book.proofs.FigureLemmas.{events-scripts, held-scripts, order-length}
 
 -- nine figures
 abbrev summary_with : ℕ → ℕ → ℕ → ℕ → ℕ → ℕ → ℕ → ℕ → ℕ → Summary
@@ -31,3 +34,21 @@ summary-is scripts order tally threads events low high is threads_is events_is l
     (live_count every (actions scripts order)) (peak (actions scripts order)) n high) low_is
     ∙ ap (λ (n : ℕ). summary_with (length scripts) (length order) (calls every (actions scripts order)) (allocated every (actions scripts order)) (live_bytes every (actions scripts order))
     (live_count every (actions scripts order)) (peak (actions scripts order)) (greatest_below (own_peak scripts) (length scripts)) n) high_is
+
+-- two orders of the same scripts differ in the peak alone
+pub same-but-peak : (scripts : List (List Turn)) (left right : List ℕ) (n : ℕ) → IsInterleaving scripts left → IsInterleaving scripts right
+    → record (summary_of scripts left) { peak = n } ≡ record (summary_of scripts right) { peak = n }
+unfolding summary_of
+same-but-peak scripts left right n is other =
+    let low = greatest_below (own_peak scripts) (length scripts) in
+    let high = sum_below (own_peak scripts) (length scripts) in
+    let events : length left ≡ length right = order-length scripts left is ∙ sym (order-length scripts right other) in
+    let asked : (weight : Event → ℕ) → weigh_events weight (actions scripts left) ≡ weigh_events weight (actions scripts right) =
+    λ weight. events-scripts weight scripts left is ∙ sym (events-scripts weight scripts right other) in
+    let held : (weight : Held → ℕ) → weigh weight (held_after (actions scripts left)) ≡ weigh weight (held_after (actions scripts right)) =
+    λ weight. held-scripts weight scripts left is ∙ sym (held-scripts weight scripts right other) in
+    ap (λ (k : ℕ). summary_with (length scripts) k (calls every (actions scripts left)) (allocated every (actions scripts left)) (live_bytes every (actions scripts left)) (live_count every (actions scripts left)) n low high) events
+    ∙ ap (λ (k : ℕ). summary_with (length scripts) (length right) k (allocated every (actions scripts left)) (live_bytes every (actions scripts left)) (live_count every (actions scripts left)) n low high) (asked (one_asked every))
+    ∙ ap (λ (k : ℕ). summary_with (length scripts) (length right) (calls every (actions scripts right)) k (live_bytes every (actions scripts left)) (live_count every (actions scripts left)) n low high) (asked (bytes_asked every))
+    ∙ ap (λ (k : ℕ). summary_with (length scripts) (length right) (calls every (actions scripts right)) (allocated every (actions scripts right)) k (live_count every (actions scripts left)) n low high) (held (bytes_held every))
+    ∙ ap (λ (k : ℕ). summary_with (length scripts) (length right) (calls every (actions scripts right)) (allocated every (actions scripts right)) (live_bytes every (actions scripts right)) k n low high) (held (one_held every))

@@ -5,6 +5,7 @@ ghost use Rattle.record_scripts.specs.Turns.{Turn};
 ghost use Rattle.record_book.specs.Actions.{actions};
 ghost use Rattle.record_book.specs.Figures.{allocated, alone, calls, greatest_below, live_bytes, live_count, own_peak, peak, sum_below};
 ghost use Rattle.record_book.specs.Orders.{IsInterleaving};
+ghost use Rattle.record_book.specs.SummaryText.{summary_of};
 
 /// The figures of every interleaving of scripts: calls, allocated bytes and what is live at the end, of all stacks and of any
 /// that are counted, are the sums of what the threads have alone; so are the events. The greatest total is no less than each
@@ -23,4 +24,8 @@ pub fn figures_of_scripts()
         greatest_below (own_peak scripts) (length scripts) ≤ peak (actions scripts order) }
     ensures greatest { (scripts : List (List Turn)) (order : List ℕ) → IsInterleaving scripts order →
         peak (actions scripts order) ≤ sum_below (own_peak scripts) (length scripts) }
+
+    // So the summaries of two orders differ in the peak alone.
+    ensures same { (scripts : List (List Turn)) (left right : List ℕ) (peak : ℕ) → IsInterleaving scripts left → IsInterleaving scripts right →
+        record (summary_of scripts left) { peak = peak } ≡ record (summary_of scripts right) { peak = peak } }
 {}

@@ -1,3 +1,4 @@
 mod LineTexts
 mod SpelledLemmas
 mod SummaryLines
+mod ModuleLines

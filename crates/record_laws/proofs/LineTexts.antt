@@ -42,7 +42,7 @@ both-text xs ys a b = All-append NoFeed xs ys a b
 pub none-text : IsLineText []
 none-text = All-nil NoFeed
 
-numbers-text : (ns : List ℕ) → IsLineText (spelled ns)
+pub numbers-text : (ns : List ℕ) → IsLineText (spelled ns)
 numbers-text [] = none-text
 numbers-text (n ∷ ns) = byte-text 32 (hexadecimal n ++ spelled ns) (λ e. omega (arith, e)) (both-text (hexadecimal n) (spelled ns) (digits-text 16 n) (numbers-text ns))
 

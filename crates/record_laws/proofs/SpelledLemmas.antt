@@ -73,7 +73,7 @@ spells-thread thread next reads = λ more.
     ∙ ap (λ (n : Option ℕ). spelled_by (unwrap_or n thread) (lines_of more)) (thread-named next reads)
 
 -- the lines of nodes, and of events
-unnamed : (kind : ℕ) (rest : List ℕ) → (35 == kind) ≡ false → named (kind ∷ rest) ≡ None
+pub unnamed : (kind : ℕ) (rest : List ℕ) → (35 == kind) ≡ false → named (kind ∷ rest) ≡ None
 unfolding named
 unnamed kind rest p = ap (λ (t : Bool). number_of (cond t (behind (codes " thread ") rest) None)) p
 

@@ -3,4 +3,4 @@
 
 mod laws;
 
-pub use laws::spelled_orders;
+pub use laws::{quiet_modules, spelled_orders};

@@ -1,5 +1,6 @@
 use Rattle.record_book.specs.Figures.{bytes_asked, bytes_held, one_asked, one_held}
 use Rattle.record_book.proofs.FigureLemmas.{events-scripts, greatest-peak, held-scripts, least-peak, order-length}
+use Rattle.record_book.proofs.SummaryLemmas.{same-but-peak}
 use Rattle.record_book.proofs.laws.figures_of_scripts.Goals as goal
 
 pub returns-clause-events : goal.returns-clause-events
@@ -22,3 +23,6 @@ returns-clause-least c = least-peak
 
 pub returns-clause-greatest : goal.returns-clause-greatest
 returns-clause-greatest c = greatest-peak
+
+pub returns-clause-same : goal.returns-clause-same
+returns-clause-same c = same-but-peak
