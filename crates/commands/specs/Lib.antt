@@ -30,3 +30,4 @@ pub mod DhatReport
 pub mod ReadLives
 pub mod PageWords
 pub mod PageReport
+pub mod MassifSettings
