@@ -31,3 +31,4 @@ pub mod ReadLives
 pub mod PageWords
 pub mod PageReport
 pub mod MassifSettings
+pub mod MassifReport
