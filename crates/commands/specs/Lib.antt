@@ -32,3 +32,4 @@ pub mod PageWords
 pub mod PageReport
 pub mod MassifSettings
 pub mod MassifReport
+pub mod Sampling

@@ -12,6 +12,7 @@ mod gen_command;
 mod gen_summary;
 mod interpret_command;
 mod interpret_reader;
+mod massif_reader;
 mod number_words;
 mod page_command;
 mod page_reader;
