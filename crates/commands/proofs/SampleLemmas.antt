@@ -1,5 +1,5 @@
 -- Lines of a trace whose snapshots are taken.
-use Rattle.std.proofs.Common.{◌≡◌, ℕ, List, [], ◌∷◌, ◌++◌, Option, None, Some, ap, sym, subst, ◌∙◌}
+use Rattle.std.proofs.Common.{◌≡◌, ℕ, List, [], ◌∷◌, ◌++◌, Option, None, Some, Err, ap, sym, subst, ◌∙◌}
 use Rattle.std.specs.Option.{option_and_then, option_map, option_or}
 use Rattle.live_ledger.specs.declared.event.Event.{Event}
 use Rattle.live_ledger.specs.declared.event.EventFault.{EventFault}
@@ -14,8 +14,9 @@ use Rattle.massif_file.specs.MassifText.{massif_text}
 use Rattle.massif_sample.specs.declared.fault.SampleFault.{SampleFault}
 use Rattle.massif_sample.specs.declared.options.MassifOptions.{MassifOptions}
 use Rattle.massif_sample.specs.FunctionNames.{ignores}
-use Rattle.massif_sample.specs.SampleFault.{sample_fault}
+use Rattle.massif_sample.specs.SampleFault.{Tells, sample_fault}
 use Rattle.massif_sample.specs.Sampled.{sampled}
+use Rattle.command_frame.specs.Report.{Writes}
 use Rattle.command_frame.specs.Told.{Told}
 use Rattle.commands.specs.declared.fault.CommandFault.TheVariants.{Line, Event as event}
 use Rattle.commands.specs.CommandFault.{told}
@@ -67,3 +68,11 @@ written_is settings lines tables options cmd profile of_lines same is given =
     ∙ (ap (λ (o : MassifOptions). sampled o settings.names tables (events lines) cmd) same
     ∙ (ap (λ (text : List ℕ). sampled settings.options settings.names tables (events lines) text) is
     ∙ ap (λ (t : TableState). sampled settings.options settings.names t (events lines) (command_in t)) of_lines)))
+
+-- a text behind nothing is the verdict
+pub verdict_is : (text before items : List ℕ) (profile : Profile) → items ≡ before ++ massif_text profile → before ≡ [] → massif_text profile ≡ text → Writes text ≡ Writes items
+verdict_is text before items profile appended none is = ap Writes (sym (appended ∙ (ap (λ (old : List ℕ). old ++ massif_text profile) none ∙ is)))
+
+-- a fault that is known is told as it is
+pub known_fault : (fault known : SampleFault) (found : Option SampleFault) → fault ≡ known → Tells {T = Unit {0}} (Err fault) found → Tells {T = Unit {0}} (Err known) found
+known_fault fault known found is tells = subst (λ (f : SampleFault). Tells {T = Unit {0}} (Err f) found) is tells

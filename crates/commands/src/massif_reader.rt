@@ -1,5 +1,5 @@
 //! The reader of a trace for `massif`: beside the tables it keeps a ledger, and a sampler that takes the snapshots.
-ghost use Rattle.std.specs.Prelude.{◌≡◌, ℕ, ◌+◌, ◌*◌, ◌^◌, ◌≤◌, List, [], ◌++◌, Bool, false, None, length, IfErr, IfOk, OnErr, OnOk};
+ghost use Rattle.std.specs.Prelude.{◌≡◌, ℕ, ◌+◌, ◌*◌, ◌^◌, ◌≤◌, List, [], ◌++◌, None, length, IfErr, IfOk, OnOk};
 ghost use Rattle.std.specs.Fn.{FnReturnsAt};
 ghost use Rattle.std.specs.Option.{option_map, option_to_list};
 ghost use Rattle.live_ledger.specs.declared.event.Event.{Event};
