@@ -31,3 +31,5 @@ pub mod ReadLives
 pub mod PageWords
 pub mod PageReport
 pub mod MassifSettings
+pub mod NameList
+pub mod MassifWords
