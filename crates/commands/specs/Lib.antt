@@ -33,3 +33,4 @@ pub mod PageReport
 pub mod MassifSettings
 pub mod NameList
 pub mod MassifWords
+pub mod MassifReport
