@@ -7,3 +7,4 @@ pub mod KeepLemmas
 pub mod ViewLemmas
 pub mod LifeLemmas
 pub mod WordLemmas
+pub mod NameLemmas
