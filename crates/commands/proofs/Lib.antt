@@ -8,3 +8,4 @@ pub mod ViewLemmas
 pub mod LifeLemmas
 pub mod WordLemmas
 pub mod NameLemmas
+pub mod MassifLemmas

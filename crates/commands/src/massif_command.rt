@@ -14,7 +14,7 @@ ghost use Rattle.commands.specs.MassifWords.{massif_asked, massif_given, names_o
 ghost use Rattle.commands.specs.NameList.{names_in};
 ghost use Rattle.commands.specs.Requests.{massif_asked_by};
 
-use crate::massif_reader::MassifReader;
+use crate::massif_reader::{MassifReader, Settled};
 use crate::massif_request::MassifRequest;
 use crate::massif_words::{ALLOC_FNS, IGNORE_FNS, WORDS, options_in};
 use crate::name_list::is_named;
@@ -65,7 +65,7 @@ impl<'a> MassifRequest<'a> {
         let alloc_test = FrameTest::new(move |name: &[u8]| is_named(alloc_fns.as_bytes(), name));
         let ignore_test = FrameTest::new(move |name: &[u8]| is_named(ignore_fns.as_bytes(), name));
         let mut reader =
-            match MassifReader::new(desk.alloc, self.options, alloc_test, ignore_test) {
+            match MassifReader::new(desk.alloc, self.options, alloc_test, ignore_test, *self) {
                 Ok(reader) => reader,
                 Err(NoMemory) => return Err(Halt::no_memory()),
             };
@@ -81,6 +81,10 @@ impl<'a> MassifRequest<'a> {
         let ignore_fns = String::from_str(alloc, self.ignore_fns)?;
         Ok((alloc_fns, ignore_fns))
     }
+}
+
+impl Settled for MassifRequest<'_> {
+    ghost settings = { λ request. (massif_asked_by request).settings };
 }
 
 /// What taken words ask for.
