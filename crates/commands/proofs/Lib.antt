@@ -9,3 +9,4 @@ pub mod LifeLemmas
 pub mod WordLemmas
 pub mod NameLemmas
 pub mod MassifLemmas
+pub mod SampleLemmas

@@ -34,3 +34,4 @@ pub mod MassifSettings
 pub mod NameList
 pub mod MassifWords
 pub mod MassifReport
+pub mod Sampling

@@ -13,6 +13,7 @@ mod gen_summary;
 mod interpret_command;
 mod interpret_reader;
 mod massif_command;
+mod massif_reader;
 mod massif_request;
 mod massif_words;
 mod name_list;
