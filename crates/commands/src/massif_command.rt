@@ -64,11 +64,16 @@ impl<'a> MassifRequest<'a> {
         };
         let alloc_test = FrameTest::new(move |name: &[u8]| is_named(alloc_fns.as_bytes(), name));
         let ignore_test = FrameTest::new(move |name: &[u8]| is_named(ignore_fns.as_bytes(), name));
-        let mut reader =
-            match MassifReader::new(desk.alloc, self.options, alloc_test, ignore_test, *self) {
-                Ok(reader) => reader,
-                Err(NoMemory) => return Err(Halt::no_memory()),
-            };
+        let mut reader = match MassifReader::new(
+            desk.alloc,
+            self.options,
+            alloc_test,
+            ignore_test,
+            *self,
+        ) {
+            Ok(reader) => reader,
+            Err(NoMemory) => return Err(Halt::no_memory()),
+        };
         run_lines(desk, self.trace, &mut reader, store, out)
     }
 
