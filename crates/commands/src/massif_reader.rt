@@ -101,7 +101,10 @@ impl<A: Fn(&[u8]) -> bool, I: Fn(&[u8]) -> bool, S: Settled> LineTaker for Massi
             Err(error) => return Err(LineRefusal::Fault(CommandFault::Line(error))),
         };
         match &mut self.sampler {
-            Some(sampler) => follow(sampler, &mut self.ledger, &self.tables, step),
+            Some(sampler) => match follow(sampler, &mut self.ledger, &self.tables, step) {
+                Ok(()) => Ok(()),
+                Err(refusal) => Err(refusal),
+            },
             None => Err(LineRefusal::NoMemory),
         }
     }

@@ -1,0 +1,18 @@
+use Rattle.std.proofs.Common.{◌≡◌, ℕ, List, ◌++◌, ap, sym, ◌∙◌}
+use Rattle.massif_file.specs.MassifText.{massif_text}
+use Rattle.command_frame.specs.Report.{Writes}
+use Rattle.ht_trace.specs.TraceEvents.{events}
+use Rattle.commands.proofs.SampleLemmas.{at_some, written_is}
+use Rattle.commands.proofs.massif_reader.MassifReaderLineReport.finish.Goals as goal
+
+pub returns-clause-output : goal.returns-clause-output
+returns-clause-output g c = λ lines has.
+    let settings = g.S.Settled.settings c.args.self.now.settings in
+    let is = sym c.take.ensures.value ∙ c.in-Some.is in
+    let at = at_some _ c.in-Some.sampler _ is has in
+    let sound = at_some _ c.in-Some.sampler _ is c.requires.sound in
+    ap Writes
+    (sym (c.in_ok-put_profile.ensures.appended
+    ∙ (ap (λ (items : List ℕ). items ++ massif_text c.in_ok-profile.profile) c.new-output.ensures.items
+    ∙ written_is settings lines c.args.self.now.tables c.in-Some.sampler.samples.options c.command.result.now c.in_ok-profile.profile at.tables_of.tables_is sound.2.options c.command.ensures
+    (c.in_ok-profile.ensures.profile settings.names c.args.self.now.tables (events lines) at.sampling))))
