@@ -31,5 +31,7 @@ pub mod ReadLives
 pub mod PageWords
 pub mod PageReport
 pub mod MassifSettings
+pub mod NameList
+pub mod MassifWords
 pub mod MassifReport
 pub mod Sampling
