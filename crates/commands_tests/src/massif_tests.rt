@@ -449,7 +449,8 @@ fn units(rt: HostRuntime) -> Result<(), Fail> {
 }
 
 // Each option at the least value of its range, and then at the greatest.
-const RANGES: &str = "$ massif --threshold=0 --peak-inaccuracy=0 --detailed-freq=1 --max-snapshots=10 --depth=1 --heap-admin=0 --alignment=1 --time-unit=B e
+const RANGES: &str =
+    "$ massif --threshold=0 --peak-inaccuracy=0 --detailed-freq=1 --max-snapshots=10 --depth=1 --heap-admin=0 --alignment=1 --time-unit=B e
 desc: heapsuite massif
 cmd: demo
 time_unit: B
