@@ -158,16 +158,18 @@ unknown_asks_nothing (command ∷ words) is =
     let print : Bool = bytes_eq command (codes "print") in
     let flame : Bool = bytes_eq command (codes "flame") in
     let interpret : Bool = bytes_eq command (codes "interpret") in
+    let massif : Bool = bytes_eq command (codes "massif") in
     let page : Bool = bytes_eq command (codes "ms_print") in
     let dhat : Bool = bytes_eq command (codes "dhat") in
     let gen : Bool = bytes_eq command (codes "gen") in
     let dhat_view : Bool = bytes_eq command (codes "dhat_view") in
-    let first = or_parts help (summary || (print || (flame || (interpret || (page || (dhat || (gen || dhat_view))))))) is in
-    let second = or_parts summary (print || (flame || (interpret || (page || (dhat || (gen || dhat_view)))))) first.1 in
-    let third = or_parts print (flame || (interpret || (page || (dhat || (gen || dhat_view))))) second.1 in
-    let fourth = or_parts flame (interpret || (page || (dhat || (gen || dhat_view)))) third.1 in
-    let fifth = or_parts interpret (page || (dhat || (gen || dhat_view))) fourth.1 in
-    let sixth = or_parts page (dhat || (gen || dhat_view)) fifth.1 in
-    let seventh = or_parts dhat (gen || dhat_view) sixth.1 in
-    let eighth = or_parts gen dhat_view seventh.1 in
-    rw (first.0, second.0, third.0, fourth.0, fifth.0, sixth.0, seventh.0, eighth.0, eighth.1) refl
+    let first = or_parts help (summary || (print || (flame || (interpret || (massif || (page || (dhat || (gen || dhat_view)))))))) is in
+    let second = or_parts summary (print || (flame || (interpret || (massif || (page || (dhat || (gen || dhat_view))))))) first.1 in
+    let third = or_parts print (flame || (interpret || (massif || (page || (dhat || (gen || dhat_view)))))) second.1 in
+    let fourth = or_parts flame (interpret || (massif || (page || (dhat || (gen || dhat_view))))) third.1 in
+    let fifth = or_parts interpret (massif || (page || (dhat || (gen || dhat_view)))) fourth.1 in
+    let sixth = or_parts massif (page || (dhat || (gen || dhat_view))) fifth.1 in
+    let seventh = or_parts page (dhat || (gen || dhat_view)) sixth.1 in
+    let eighth = or_parts dhat (gen || dhat_view) seventh.1 in
+    let ninth = or_parts gen dhat_view eighth.1 in
+    rw (first.0, second.0, third.0, fourth.0, fifth.0, sixth.0, seventh.0, eighth.0, ninth.0, ninth.1) refl

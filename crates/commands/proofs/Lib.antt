@@ -7,3 +7,6 @@ pub mod KeepLemmas
 pub mod ViewLemmas
 pub mod LifeLemmas
 pub mod WordLemmas
+pub mod NameLemmas
+pub mod MassifLemmas
+pub mod SampleLemmas

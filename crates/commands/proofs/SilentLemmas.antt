@@ -2,8 +2,9 @@
 use Rattle.std.proofs.Common.{ℕ, List, Option, Some, None, true, refl}
 use Rattle.command_frame.specs.Silent.{IsSilent}
 use Rattle.trace_gen.specs.Sizes.{Sizes}
-use Rattle.commands.specs.Asked.{Dhat, DhatView, Flame, Gen, Help, Page, Print, Summary}
+use Rattle.commands.specs.Asked.{Dhat, DhatView, Flame, Gen, Help, Massif, Page, Print, Summary}
 use Rattle.commands.specs.FlameWords.{FlameAsked}
+use Rattle.commands.specs.MassifWords.{MassifAsked}
 use Rattle.commands.specs.PageWords.{PageAsked}
 use Rattle.commands.specs.PrintReport.{report_written}
 use Rattle.commands.specs.PrintWords.{PrintAsked}
@@ -39,3 +40,6 @@ view_is_silent view = λ bytes. tt
 
 pub page_is_silent : (page : PageAsked) → IsSilentFor (Some (Page page))
 page_is_silent page = (λ earlier line. refl, λ lines. tt)
+
+pub massif_is_silent : (massif : MassifAsked) → IsSilentFor (Some (Massif massif))
+massif_is_silent massif = (λ earlier line. refl, λ lines. tt)

@@ -12,6 +12,8 @@ use Rattle.commands.specs.GenReport.{gen_plan}
 use Rattle.commands.specs.GenWords.{GenAsked, gen_asked}
 use Rattle.commands.specs.InterpretReport.{interpret_files, interpret_plan}
 use Rattle.commands.specs.InterpretWords.{InterpretAsked, interpret_asked}
+use Rattle.commands.specs.MassifReport.{massif_plan}
+use Rattle.commands.specs.MassifWords.{MassifAsked, massif_asked}
 use Rattle.commands.specs.PageReport.{page_plan}
 use Rattle.commands.specs.PageWords.{PageAsked, page_asked}
 use Rattle.commands.specs.PrintReport.{print_plan}
@@ -34,6 +36,8 @@ pub data Asked : Type 0 where
   Flame : FlameAsked → Asked
   -- the interpretation of a named raw trace
   Interpret : InterpretAsked → Asked
+  -- Massif's snapshots of a named trace
+  Massif : MassifAsked → Asked
   -- the page of a named Massif file
   Page : PageAsked → Asked
   -- the DHAT profile of a named trace
@@ -56,6 +60,7 @@ command_asked command words =
     else if bytes_eq command (codes "print") then option_map Print (print_asked words)
     else if bytes_eq command (codes "flame") then option_map Flame (flame_asked words)
     else if bytes_eq command (codes "interpret") then option_map Interpret (interpret_asked words)
+    else if bytes_eq command (codes "massif") then option_map Massif (massif_asked words)
     else if bytes_eq command (codes "ms_print") then option_map Page (page_asked words)
     else if bytes_eq command (codes "dhat") then option_map Dhat (dhat_trace words)
     else if bytes_eq command (codes "gen") then option_map Gen (gen_asked words)
@@ -76,10 +81,11 @@ knows_first (command ∷ words) =
     (bytes_eq command (codes "print") ||
     (bytes_eq command (codes "flame") ||
     (bytes_eq command (codes "interpret") ||
+    (bytes_eq command (codes "massif") ||
     (bytes_eq command (codes "ms_print") ||
     (bytes_eq command (codes "dhat") ||
     (bytes_eq command (codes "gen") ||
-    bytes_eq command (codes "dhat_view"))))))))
+    bytes_eq command (codes "dhat_view")))))))))
 
 -- the files that are read for it, in order
 abbrev pub names_of : Asked → List (List ℕ)
@@ -88,6 +94,7 @@ names_of (Summary trace) = trace ∷ []
 names_of (Print print) = names_behind print.suppressions print.trace
 names_of (Flame flame) = flame.trace ∷ []
 names_of (Interpret interpret) = interpret_files interpret
+names_of (Massif massif) = massif.trace ∷ []
 names_of (Page page) = page.file ∷ []
 names_of (Dhat trace) = trace ∷ []
 names_of (Gen gen) = []
@@ -100,6 +107,7 @@ plan_of (Summary trace) = summary_plan trace
 plan_of (Print print) = print_plan print
 plan_of (Flame flame) = flame_plan flame
 plan_of (Interpret interpret) = interpret_plan interpret
+plan_of (Massif massif) = massif_plan massif.settings massif.trace
 plan_of (Page page) = page_plan page
 plan_of (Dhat trace) = dhat_plan trace
 plan_of (Gen gen) = gen_plan gen

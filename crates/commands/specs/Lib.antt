@@ -30,3 +30,8 @@ pub mod DhatReport
 pub mod ReadLives
 pub mod PageWords
 pub mod PageReport
+pub mod MassifSettings
+pub mod NameList
+pub mod MassifWords
+pub mod MassifReport
+pub mod Sampling

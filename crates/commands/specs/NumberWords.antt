@@ -2,6 +2,7 @@
 use Rattle.std.specs.Prelude.{ℕ, ◌&&◌, nat_le, List, Option, Some, None, if◌then◌else◌}
 use Rattle.std.specs.Option.{option_and_then}
 use Rattle.hp_num.specs.ParsedDec.{parsed_dec}
+use Rattle.hp_num.specs.ParsedPercent.{parsed_percent}
 
 -- the number that decimal digits write, where it is within a range
 abbrev pub number_within : ℕ → ℕ → List ℕ → Option ℕ
@@ -11,3 +12,8 @@ number_within least most text = option_and_then (λ number. if nat_le least numb
 unfoldable pub number_or : ℕ → ℕ → ℕ → Option (List ℕ) → Option ℕ
 number_or default least most None = Some default
 number_or default least most (Some text) = number_within least most text
+
+-- the percentage of an option, in hundredths: 1 percent where it isn't given
+unfoldable pub percent_or : Option (List ℕ) → Option ℕ
+percent_or None = Some 100
+percent_or (Some text) = parsed_percent text

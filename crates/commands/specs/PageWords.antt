@@ -1,11 +1,10 @@
 -- The words of `ms_print`.
-use Rattle.std.specs.Prelude.{ℕ, List, [], ◌∷◌, codes, true, nat_eq, if◌then◌else◌, Option, Some, None}
+use Rattle.std.specs.Prelude.{ℕ, List, [], ◌∷◌, codes, true, nat_eq, if◌then◌else◌, Option}
 use Rattle.std.specs.List.{join_by}
 use Rattle.std.specs.Option.{option_and_then, option_map}
 use Rattle.command_words.specs.TableApp.{Table}
 use Rattle.command_words.specs.WordsTaken.{only_file_in, value_in, words_taken}
-use Rattle.hp_num.specs.ParsedPercent.{parsed_percent}
-use Rattle.commands.specs.NumberWords.{number_or}
+use Rattle.commands.specs.NumberWords.{number_or, percent_or}
 
 -- which Massif file, how its page is made, and the words that ask for it
 pub record PageAsked : Type 0 where
@@ -18,11 +17,6 @@ pub record PageAsked : Type 0 where
 -- three options, and one file
 abbrev pub page_table : Table
 page_table = record { options = codes "threshold" ∷ codes "x" ∷ codes "y" ∷ []; flags = []; files = true }
-
--- the least share that is shown by itself: 1 percent where it isn't given
-unfoldable pub threshold_or : Option (List ℕ) → Option ℕ
-threshold_or None = Some 100
-threshold_or (Some text) = parsed_percent text
 
 -- the columns and the rows of the graph
 abbrev pub columns_or : Option (List ℕ) → Option ℕ
@@ -39,7 +33,7 @@ page_of words file threshold x y =
 -- what the words ask for
 abbrev pub page_asked : List (List ℕ) → Option PageAsked
 page_asked words =
-    option_and_then (λ rows. page_of words (only_file_in rows) (threshold_or (value_in rows (codes "threshold"))) (columns_or (value_in rows (codes "x"))) (rows_or (value_in rows (codes "y"))))
+    option_and_then (λ rows. page_of words (only_file_in rows) (percent_or (value_in rows (codes "threshold"))) (columns_or (value_in rows (codes "x"))) (rows_or (value_in rows (codes "y"))))
     (words_taken page_table words)
 
 -- a blank stands before each word but the first

@@ -6,8 +6,7 @@ use Rattle.command_words.specs.TableApp.{Table}
 use Rattle.command_words.specs.WordsTaken.{only_file_in, value_in, words_taken}
 use Rattle.dhat_json.specs.declared.figure.FigureKey.{FigureKey}
 use Rattle.dhat_json.specs.declared.figure.FigureKey.TheVariants.{Tb, Tbk, Tl, Gb, Gbk, Eb, Ebk, Rb, Wb}
-use Rattle.hp_num.specs.ParsedPercent.{parsed_percent}
-use Rattle.commands.specs.NumberWords.{number_or}
+use Rattle.commands.specs.NumberWords.{number_or, percent_or}
 
 -- which profile, which figure of a point is its cost, the least share that is shown by itself, and how many frames deep
 pub record ViewAsked : Type 0 where
@@ -38,11 +37,6 @@ key_named name =
 abbrev pub key_or : Option (List ℕ) → Option FigureKey
 key_or None = Some Tb
 key_or (Some name) = key_named name
-
--- the percentage of an option's value: one percent where it isn't given
-abbrev pub percent_or : Option (List ℕ) → Option ℕ
-percent_or None = Some 100
-percent_or (Some text) = parsed_percent text
 
 -- the number of frames
 abbrev pub depth_or : Option (List ℕ) → Option ℕ

@@ -1,8 +1,11 @@
 //! Numbers as values of options.
 ghost use Rattle.std.specs.Prelude.{◌≡◌, ◌≤◌, option_map, IfSome};
-ghost use Rattle.commands.specs.NumberWords.{number_or, number_within};
+ghost use Rattle.commands.specs.NumberWords.{number_or, number_within, percent_or};
 
-use hp_num::parse_dec;
+use hp_num::{parse_dec, parse_percent};
+
+/// The percentage where none is given, in hundredths.
+const ONE_PERCENT: u64 = 100;
 
 /// The number that decimal digits write, where it is within a range.
 fn number_within(least: u64, most: u64, text: &str) -> Option<u64>
@@ -30,5 +33,17 @@ pub fn number_or(default: u64, least: u64, most: u64, value: Option<&str>) -> Op
     match value {
         Some(text) => number_within(least, most, text),
         None => Some(default),
+    }
+}
+
+/// The percentage of an option's value, in hundredths: 1 percent where the option isn't given.
+#[tactic(auto, unfolding(crate::specs::NumberWords::percent_or))]
+pub fn percent_or(value: Option<&str>) -> Option<u64>
+    ensures percent { result ≡ percent_or (option_map (λ text. text.now) value.entry) }
+    ensures most { IfSome result (λ percent. percent ≤ 10000) }
+{
+    match value {
+        Some(text) => parse_percent(text.as_bytes()),
+        None => Some(ONE_PERCENT),
     }
 }

@@ -1,5 +1,5 @@
 //! The command `ms_print`: the page of a Massif file.
-ghost use Rattle.std.specs.Prelude.{codes, option_map, ◌≡◌, ◌^◌, ◌<◌, ◌≤◌, Err, IfErr, IfOk, IfSome, List, [], ◌∷◌, None, OnOk, Some, ℕ, map, string_bytes, ◌≢◌};
+ghost use Rattle.std.specs.Prelude.{codes, option_map, ◌≡◌, ◌^◌, ◌<◌, Err, IfErr, IfOk, List, [], ◌∷◌, None, OnOk, Some, ℕ, map, string_bytes, ◌≢◌};
 ghost use Rattle.hp_outside.specs.Faults.{Rose};
 ghost use Rattle.command_frame.specs.Answer.{done};
 ghost use Rattle.command_frame.specs.FirstFault.{bounds_of};
@@ -8,15 +8,15 @@ ghost use Rattle.command_frame.specs.Outcome.{moment};
 ghost use Rattle.command_frame.specs.Run.{RanTo};
 ghost use Rattle.command_frame.specs.Texts.{texts_of};
 ghost use Rattle.command_words.specs.WordsTaken.{only_file_in, rows_in, value_in};
+ghost use Rattle.commands.specs.NumberWords.{percent_or};
 ghost use Rattle.commands.specs.PageReport.{page_plan};
-ghost use Rattle.commands.specs.PageWords.{columns_or, page_asked, page_of, rows_or, threshold_or};
+ghost use Rattle.commands.specs.PageWords.{columns_or, page_asked, page_of, rows_or};
 
-use crate::number_words::number_or;
+use crate::number_words::{number_or, percent_or};
 use crate::page_reader::PageReader;
 use crate::page_size::PageSize;
 use command_frame::{Desk, Halt, run_lines};
 use command_words::{TakenWords, WordTable, WordsFault, take_words};
-use hp_num::parse_percent;
 use hp_outside::{Sink, Store};
 use massif_file::ProfileReader;
 use std::alloc::Global;
@@ -28,9 +28,6 @@ const THRESHOLD: &str = "threshold";
 const COLUMNS: &str = "x";
 
 const ROWS: &str = "y";
-
-/// The share where none is given, in hundredths of a percent.
-const ONE_PERCENT: u64 = 100;
 
 /// Three options, and one file.
 const WORDS: WordTable<'static> = WordTable {
@@ -95,10 +92,10 @@ impl<'a> PageRequest<'a> {
 /// What taken words ask for.
 fn request_in<'a>(words: &'a [String], taken: &TakenWords<'a>) -> Option<PageRequest<'a>>
     ensures { option_map (λ request. record { file = request.file.now; threshold = request.size.threshold; x = request.size.x; y = request.size.y; words = map string_bytes request.words.now }) result
-        ≡ page_of (map string_bytes words.entry.now) (only_file_in (rows_in taken.now)) (threshold_or (value_in (rows_in taken.now) (codes "threshold"))) (columns_or (value_in (rows_in taken.now) (codes "x"))) (rows_or (value_in (rows_in taken.now) (codes "y"))) }
+        ≡ page_of (map string_bytes words.entry.now) (only_file_in (rows_in taken.now)) (percent_or (value_in (rows_in taken.now) (codes "threshold"))) (columns_or (value_in (rows_in taken.now) (codes "x"))) (rows_or (value_in (rows_in taken.now) (codes "y"))) }
 {
     let file = taken.only_file()?;
-    let threshold = threshold_or(taken.value(THRESHOLD))?;
+    let threshold = percent_or(taken.value(THRESHOLD))?;
     let x = number_or(72, 4, 1000, taken.value(COLUMNS))?;
     let y = number_or(20, 4, 1000, taken.value(ROWS))?;
     let size = PageSize {
@@ -107,16 +104,4 @@ fn request_in<'a>(words: &'a [String], taken: &TakenWords<'a>) -> Option<PageReq
         y: y as u32,
     };
     Some(PageRequest { file, size, words })
-}
-
-/// The percentage of the option's value, in hundredths: 1 percent where it isn't given.
-#[tactic(auto, unfolding(crate::specs::PageWords::threshold_or))]
-fn threshold_or(value: Option<&str>) -> Option<u64>
-    ensures threshold { result ≡ threshold_or (option_map (λ text. text.now) value.entry) }
-    ensures most { IfSome result (λ threshold. threshold ≤ 10000) }
-{
-    match value {
-        Some(text) => parse_percent(text.as_bytes()),
-        None => Some(ONE_PERCENT),
-    }
 }

@@ -74,6 +74,7 @@ fn run_request<S: Store, O: Sink>(
         Request::Print(request) => request.run(desk, store, out),
         Request::Flame(request) => request.run(desk, store, out),
         Request::Interpret(request) => request.run(desk, store, out),
+        Request::Massif(request) => request.run(desk, store, out),
         Request::Page(request) => request.run(desk, store, out),
         Request::Dhat(request) => request.run(desk, store, out),
         Request::Gen(request) => request.run(desk, out),

@@ -1,15 +1,15 @@
 //! What the words of `dhat_view` say of a view. Which profile is shown so, and how, is no part of it.
-ghost use Rattle.std.specs.Prelude.{codes, option_map, ◌≡◌, ◌≤◌, IfSome};
+ghost use Rattle.std.specs.Prelude.{codes, option_map, ◌≡◌};
 ghost use Rattle.command_words.specs.WordsTaken.{only_file_in, rows_in, value_in};
+ghost use Rattle.commands.specs.NumberWords.{percent_or};
 ghost use Rattle.commands.specs.Requests.{view_asked_by};
-ghost use Rattle.commands.specs.ViewWords.{depth_or, key_named, key_or, percent_or, view_of};
+ghost use Rattle.commands.specs.ViewWords.{depth_or, key_named, key_or, view_of};
 
 use crate::dhat_view_command::DhatViewRequest;
-use crate::number_words::number_or;
+use crate::number_words::{number_or, percent_or};
 use command_words::{TakenWords, WordTable};
 use dhat_json::FigureKey;
 use dhat_view::ViewOptions;
-use hp_num::parse_percent;
 
 /// The option that names the figure.
 const SORT: &str = "sort";
@@ -33,7 +33,7 @@ pub fn request_in<'a>(words: &TakenWords<'a>) -> Option<DhatViewRequest<'a>>
 {
     let profile = words.only_file()?;
     let key = key_in(words)?;
-    let threshold = threshold_in(words)?;
+    let threshold = percent_or(words.value(THRESHOLD))?;
     let depth = depth_in(words)?;
     let options = ViewOptions {
         key,
@@ -69,17 +69,6 @@ fn key_named(name: &str) -> Option<FigureKey>
         "rb" => Some(FigureKey::Rb),
         "wb" => Some(FigureKey::Wb),
         _ => None,
-    }
-}
-
-/// The least share that is shown by itself, in hundredths of a percent: one percent where the words give none.
-fn threshold_in(words: &TakenWords) -> Option<u64>
-    ensures percent { result ≡ percent_or (value_in (rows_in words.now) (codes "threshold")) }
-    ensures within { IfSome result (λ threshold. threshold ≤ 10000) }
-{
-    match words.value(THRESHOLD) {
-        Some(text) => parse_percent(text.as_bytes()),
-        None => Some(100),
     }
 }
 

@@ -8,6 +8,7 @@ use crate::dhat_view_command::DhatViewRequest;
 use crate::flame_command::FlameRequest;
 use crate::gen_command::GenRequest;
 use crate::interpret_command::InterpretRequest;
+use crate::massif_request::MassifRequest;
 use crate::page_command::PageRequest;
 use crate::print_command::PrintRequest;
 use crate::summary_command::SummaryRequest;
@@ -27,6 +28,8 @@ pub enum Request<'a> {
     Flame(FlameRequest<'a>),
     /// The interpretation of a raw trace.
     Interpret(InterpretRequest<'a>),
+    /// Massif's snapshots of a trace.
+    Massif(MassifRequest<'a>),
     /// The page of a Massif file.
     Page(PageRequest<'a>),
     /// The DHAT profile of a trace.
@@ -66,6 +69,10 @@ pub fn read_words<'a>(alloc: Global, words: &'a [String]) -> Result<Request<'a>,
     if command.as_str() == "interpret" {
         let request = InterpretRequest::read(alloc, words)?;
         return Ok(Request::Interpret(request));
+    }
+    if command.as_str() == "massif" {
+        let request = MassifRequest::read(alloc, words)?;
+        return Ok(Request::Massif(request));
     }
     if command.as_str() == "ms_print" {
         let request = PageRequest::read(alloc, words)?;

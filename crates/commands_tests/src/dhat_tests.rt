@@ -30,7 +30,7 @@ heapsuite: t:3: free of nothing
 [1]
 $ dhat --sort=tb e
 usage: heapsuite COMMAND [OPTION]... [FILE]
-commands: summary print flame interpret ms_print dhat gen dhat_view
+commands: summary print flame interpret massif ms_print dhat gen dhat_view
 [2]
 ";
 

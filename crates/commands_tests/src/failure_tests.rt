@@ -136,7 +136,7 @@ fn failing_flush(rt: HostRuntime) -> Result<(), Fail> {
     append_run(alloc, &setting, b"", "", &mut all)?;
     assert_eq!(rt;
         all.as_slice(),
-        "usage: heapsuite COMMAND [OPTION]... [FILE]\ncommands: summary print flame interpret ms_print dhat gen dhat_view\n[4]\n".as_bytes()
+        "usage: heapsuite COMMAND [OPTION]... [FILE]\ncommands: summary print flame interpret massif ms_print dhat gen dhat_view\n[4]\n".as_bytes()
     );
     Ok(())
 }

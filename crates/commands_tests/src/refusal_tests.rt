@@ -27,6 +27,24 @@ gen --stacks=0
 gen --run=1
 dhat
 dhat t e
+massif
+massif t e
+massif --threshold=1.000 t
+massif --threshold=100.01 t
+massif --peak-inaccuracy=101 t
+massif --detailed-freq=0 t
+massif --detailed-freq=1000001 t
+massif --max-snapshots=9 t
+massif --max-snapshots=1001 t
+massif --depth=0 t
+massif --depth=201 t
+massif --heap-admin=1025 t
+massif --alignment=0 t
+massif --alignment=24 t
+massif --alignment=8192 t
+massif --time-unit=i t
+massif --time-unit= t
+massif --alloc-fns t
 ms_print
 ms_print t e
 ms_print --x=3 t

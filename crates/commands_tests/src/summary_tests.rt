@@ -76,7 +76,7 @@ fn figures_of_traces(rt: HostRuntime) -> Result<(), Fail> {
 
 const WORDS: &str = "$ --help
 usage: heapsuite COMMAND [OPTION]... [FILE]
-commands: summary print flame interpret ms_print dhat gen dhat_view
+commands: summary print flame interpret massif ms_print dhat gen dhat_view
 [0]
 $ summary -- t
 events: 4

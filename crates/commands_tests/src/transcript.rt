@@ -17,7 +17,7 @@ pub const WORKED: &str =
 
 /// How the program is called.
 pub const USAGE: &str =
-    "usage: heapsuite COMMAND [OPTION]... [FILE]\ncommands: summary print flame interpret ms_print dhat gen dhat_view\n";
+    "usage: heapsuite COMMAND [OPTION]... [FILE]\ncommands: summary print flame interpret massif ms_print dhat gen dhat_view\n";
 
 /// How runs are made, and the front of the file `t` that they find. A call of number 0 never fails.
 #[derive(Clone, Copy)]

@@ -7,7 +7,7 @@ use Rattle.command_frame.specs.Outcome.{moment}
 use Rattle.command_frame.specs.Run.{RanTo}
 use Rattle.command_frame.specs.Texts.{Texts}
 use Rattle.commands.specs.declared.words.Request.{Request}
-use Rattle.commands.specs.declared.words.Request.TheVariants.{Dhat, DhatView, Flame, Gen, Interpret, Page, Print, Summary}
+use Rattle.commands.specs.declared.words.Request.TheVariants.{Dhat, DhatView, Flame, Gen, Interpret, Massif, Page, Print, Summary}
 use Rattle.commands.specs.Asked.{names_of, plan_of}
 use Rattle.commands.specs.Requests.{asked_of}
 use Rattle.commands.specs.Texts.{heapsuite_texts}
@@ -34,6 +34,28 @@ returns-in-Summary-clause-halted g c =
     (g.O.Sink.written c.args.out.now) (g.O.Sink.written c.run.new.out) answer in
     IfErr-weaker c.run.result _ _ (λ halt ran. subst (λ request. ran_as heapsuite_texts request (halt_answer heapsuite_texts halt)) (sym c.in-Summary.is)
     (subst (λ texts. ran_as texts (Summary c.in-Summary.request) (halt_answer texts halt)) c.requires.texts (ran []))) c.run.ensures.halted
+
+pub returns-in-Massif-clause-all : goal.returns-in-Massif-clause-all
+returns-in-Massif-clause-all g c =
+    let store = g.S.Store in
+    let ran_as : Texts → Request → Answer → Type 0 = λ texts request answer.
+    RanTo texts (bounds_of c.args.desk.now.limits) (store.files c.args.store.now) [] (names_of (asked_of request)) (plan_of (asked_of request))
+    (moment (store.opens c.args.store.now) (store.current c.args.store.now) (store.left c.args.store.now) (store.faults c.args.store.now))
+    (moment (store.opens c.run-in-Massif.new.store) (store.current c.run-in-Massif.new.store) (store.left c.run-in-Massif.new.store) (store.faults c.run-in-Massif.new.store))
+    (g.O.Sink.written c.args.out.now) (g.O.Sink.written c.run-in-Massif.new.out) answer in
+    IfOk-weaker c.run-in-Massif.result _ _ (λ rest ran. subst (λ request. ran_as heapsuite_texts request (done rest.items)) (sym c.in-Massif.is)
+    (subst (λ texts. ran_as texts (Massif c.in-Massif.request) (done rest.items)) c.requires.texts (ran []))) c.run-in-Massif.ensures.all
+
+pub returns-in-Massif-clause-halted : goal.returns-in-Massif-clause-halted
+returns-in-Massif-clause-halted g c =
+    let store = g.S.Store in
+    let ran_as : Texts → Request → Answer → Type 0 = λ texts request answer.
+    RanTo texts (bounds_of c.args.desk.now.limits) (store.files c.args.store.now) [] (names_of (asked_of request)) (plan_of (asked_of request))
+    (moment (store.opens c.args.store.now) (store.current c.args.store.now) (store.left c.args.store.now) (store.faults c.args.store.now))
+    (moment (store.opens c.run-in-Massif.new.store) (store.current c.run-in-Massif.new.store) (store.left c.run-in-Massif.new.store) (store.faults c.run-in-Massif.new.store))
+    (g.O.Sink.written c.args.out.now) (g.O.Sink.written c.run-in-Massif.new.out) answer in
+    IfErr-weaker c.run-in-Massif.result _ _ (λ halt ran. subst (λ request. ran_as heapsuite_texts request (halt_answer heapsuite_texts halt)) (sym c.in-Massif.is)
+    (subst (λ texts. ran_as texts (Massif c.in-Massif.request) (halt_answer texts halt)) c.requires.texts (ran []))) c.run-in-Massif.ensures.halted
 
 pub returns-in-Page-clause-all : goal.returns-in-Page-clause-all
 returns-in-Page-clause-all g c =

@@ -1,0 +1,104 @@
+-- The words of `massif`.
+use Rattle.std.specs.Prelude.{◌≡◌, ◌≢◌, ◌≤◌, ℕ, List, [], ◌∷◌, codes, true, Option, Some, None, if◌then◌else◌, unwrap_or}
+use Rattle.std.specs.Int.{is_power_of_two}
+use Rattle.std.specs.Option.{option_and_then, option_map}
+use Rattle.std.specs.Str.{bytes_eq}
+use Rattle.command_words.specs.TableApp.{Table}
+use Rattle.command_words.specs.WordsTaken.{only_file_in, value_in, words_taken}
+use Rattle.massif_file.specs.declared.profile.TimeUnit.{TimeUnit}
+use Rattle.massif_file.specs.declared.profile.TimeUnit.TheVariants.{Instructions, Milliseconds, Bytes, Events}
+use Rattle.massif_sample.specs.declared.options.MassifOptions.{MassifOptions}
+use Rattle.commands.specs.MassifSettings.{MassifSettings}
+use Rattle.commands.specs.NameList.{names_in}
+use Rattle.commands.specs.NumberWords.{number_or, percent_or}
+use Rattle.commands.specs.PrintWords.{by_setting}
+
+-- which trace, and what is settled of its profile
+pub record MassifAsked : Type 0 where
+  pub trace : List ℕ
+  pub settings : MassifSettings
+
+-- ten options, and one file
+abbrev pub massif_table : Table
+massif_table = record {
+  options = codes "threshold" ∷ codes "peak-inaccuracy" ∷ codes "detailed-freq" ∷ codes "max-snapshots" ∷ codes "depth"
+      ∷ codes "heap-admin" ∷ codes "alignment" ∷ codes "time-unit" ∷ codes "alloc-fns" ∷ codes "ignore-fns" ∷ [];
+  flags = [];
+  files = true;
+}
+
+-- what sizes are rounded up to a multiple of: a power of two
+abbrev pub alignment_within : ℕ → Option ℕ
+alignment_within alignment = if is_power_of_two alignment then Some alignment else None
+
+abbrev pub alignment_or : Option (List ℕ) → Option ℕ
+alignment_or value = option_and_then alignment_within (number_or 16 1 4096 value)
+
+-- what times count, by its name; instructions aren't known of a trace
+abbrev pub unit_named : List ℕ → Option TimeUnit
+unit_named name =
+    if bytes_eq name (codes "B") then Some Bytes
+    else if bytes_eq name (codes "ms") then Some Milliseconds
+    else if bytes_eq name (codes "e") then Some Events
+    else None
+
+-- bytes where no unit is given
+abbrev pub unit_or : Option (List ℕ) → Option TimeUnit
+unit_or None = Some Bytes
+unit_or (Some name) = unit_named name
+
+-- how snapshots are taken, by the values of the options that are given
+abbrev pub options_given : (List ℕ → Option (List ℕ)) → Option MassifOptions
+options_given value =
+    by_setting (percent_or (value (codes "threshold"))) (λ threshold.
+    by_setting (percent_or (value (codes "peak-inaccuracy"))) (λ inaccuracy.
+    by_setting (number_or 10 1 1000000 (value (codes "detailed-freq"))) (λ detailed_freq.
+    by_setting (number_or 100 10 1000 (value (codes "max-snapshots"))) (λ max_snapshots.
+    by_setting (number_or 30 1 200 (value (codes "depth"))) (λ depth.
+    by_setting (number_or 8 0 1024 (value (codes "heap-admin"))) (λ admin.
+    by_setting (alignment_or (value (codes "alignment"))) (λ alignment.
+    by_setting (unit_or (value (codes "time-unit"))) (λ unit.
+    Some (record {
+      threshold = threshold;
+      inaccuracy = inaccuracy;
+      detailed_freq = detailed_freq;
+      max_snapshots = max_snapshots;
+      depth = depth;
+      admin = admin;
+      alignment = alignment;
+      unit = unit;
+    })))))))))
+
+-- the numbers are within the ranges of their options
+pub record AreWithin (options : MassifOptions) : Type 0 where
+  pub threshold : options.threshold ≤ 10000
+  pub inaccuracy : options.inaccuracy ≤ 10000
+  pub detailed_freq_least : 1 ≤ options.detailed_freq
+  pub detailed_freq_most : options.detailed_freq ≤ 1000000
+  pub max_least : 10 ≤ options.max_snapshots
+  pub max_most : options.max_snapshots ≤ 1000
+  pub depth_least : 1 ≤ options.depth
+  pub depth_most : options.depth ≤ 200
+  pub admin : options.admin ≤ 1024
+  pub alignment : is_power_of_two options.alignment ≡ true
+  pub alignment_most : options.alignment ≤ 4096
+  pub unit : options.unit ≢ Instructions
+
+-- the names that an option gives: none where it isn't given
+abbrev pub names_or : Option (List ℕ) → List (List ℕ)
+names_or list = names_in (unwrap_or list [])
+
+-- what options and two lists of names settle
+abbrev pub settings_of : MassifOptions → List (List ℕ) → List (List ℕ) → MassifSettings
+settings_of options alloc_fns ignore_fns = record { options = options; names = record { alloc_fns = alloc_fns; ignore_fns = ignore_fns } }
+
+-- what a file and the values of the options ask for
+abbrev pub massif_given : Option (List ℕ) → (List ℕ → Option (List ℕ)) → Option MassifAsked
+massif_given file value =
+    option_and_then (λ trace. option_map
+    (λ options. record { trace = trace; settings = settings_of options (names_or (value (codes "alloc-fns"))) (names_or (value (codes "ignore-fns"))) })
+    (options_given value)) file
+
+-- what the words ask for
+unfoldable pub massif_asked : List (List ℕ) → Option MassifAsked
+massif_asked words = option_and_then (λ rows. massif_given (only_file_in rows) (value_in rows)) (words_taken massif_table words)

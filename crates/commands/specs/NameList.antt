@@ -1,0 +1,11 @@
+-- Names as the value of an option.
+use Rattle.std.specs.Prelude.{ℕ, Bool, ◌==◌, List, length, nat_lt, filter}
+use Rattle.std.specs.List.{slice_split}
+
+-- a semicolon is the byte 0x3B
+abbrev pub is_semicolon : ℕ → Bool
+is_semicolon b = b == 59
+
+-- the names that a list has: its pieces between semicolons, of which empty ones don't count
+unfoldable pub names_in : List ℕ → List (List ℕ)
+names_in list = filter (λ piece. nat_lt 0 (length piece)) (slice_split is_semicolon list)

@@ -1,0 +1,116 @@
+//! The command `massif`: Massif's snapshots of a trace, as a Massif file. What the words say of them is read in
+//! `massif_words`.
+ghost use Rattle.std.specs.Prelude.{codes, option_map, ◌≡◌, ◌^◌, ◌<◌, Err, IfErr, IfOk, List, [], ◌∷◌, None, OnOk, Some, ℕ, map, string_bytes, ◌≢◌};
+ghost use Rattle.hp_outside.specs.Faults.{Rose};
+ghost use Rattle.command_frame.specs.Answer.{done};
+ghost use Rattle.command_frame.specs.FirstFault.{bounds_of};
+ghost use Rattle.command_frame.specs.Halts.{halt_answer, status_code};
+ghost use Rattle.command_frame.specs.Outcome.{moment};
+ghost use Rattle.command_frame.specs.Run.{RanTo};
+ghost use Rattle.command_frame.specs.Texts.{texts_of};
+ghost use Rattle.command_words.specs.WordsTaken.{only_file_in, rows_in, value_in};
+ghost use Rattle.commands.specs.MassifReport.{massif_plan};
+ghost use Rattle.commands.specs.MassifWords.{massif_asked, massif_given, names_or};
+ghost use Rattle.commands.specs.NameList.{names_in};
+ghost use Rattle.commands.specs.Requests.{massif_asked_by};
+
+use crate::massif_reader::{MassifReader, Settled};
+use crate::massif_request::MassifRequest;
+use crate::massif_words::{ALLOC_FNS, IGNORE_FNS, WORDS, options_in};
+use crate::name_list::is_named;
+use command_frame::{Desk, Halt, run_lines};
+use command_words::{TakenWords, WordsFault, take_words};
+use cost_tree::FrameTest;
+use hp_num::NoMemory;
+use hp_outside::{Sink, Store};
+use std::alloc::Global;
+
+impl<'a> MassifRequest<'a> {
+    /// The request that the words behind `massif` make. `NotTaken` exactly where they aren't taken, unless memory is
+    /// wanting.
+    pub fn read(alloc: Global, words: &'a [String]) -> Result<MassifRequest<'a>, WordsFault>
+        ensures taken { IfOk result (λ request. massif_asked (map string_bytes words.entry.now) ≡ Some (massif_asked_by request)) }
+        ensures refused { result ≡ Err WordsFault.NotTaken → massif_asked (map string_bytes words.entry.now) ≡ None }
+    {
+        let words = take_words(alloc, &WORDS, words)?;
+        match request_in(&words) {
+            Some(request) => Ok(request),
+            None => Err(WordsFault::NotTaken),
+        }
+    }
+
+    /// Reads the trace, and gives its profile as a Massif file.
+    pub fn run<S: Store, O: Sink>(
+        &self,
+        desk: &Desk,
+        store: &mut S,
+        out: &mut O,
+    ) -> Result<Vec<u8>, Halt>
+        requires { S.opens store.old < 2 ^ 63 }
+        ensures all { IfOk result (λ rest. (last : List ℕ) → RanTo (texts_of desk.now.texts) (bounds_of desk.now.limits) (S.files store.old) last (self.now.trace.now ∷ []) (massif_plan (massif_asked_by self.now).settings self.now.trace.now)
+            (moment (S.opens store.old) (S.current store.old) (S.left store.old) (S.faults store.old)) (moment (S.opens store.new) (S.current store.new) (S.left store.new) (S.faults store.new))
+            (O.written out.old) (O.written out.new) (done rest.items)) }
+        ensures halted { IfErr result (λ halt. (last : List ℕ) → RanTo (texts_of desk.now.texts) (bounds_of desk.now.limits) (S.files store.old) last (self.now.trace.now ∷ []) (massif_plan (massif_asked_by self.now).settings self.now.trace.now)
+            (moment (S.opens store.old) (S.current store.old) (S.left store.old) (S.faults store.old)) (moment (S.opens store.new) (S.current store.new) (S.left store.new) (S.faults store.new))
+            (O.written out.old) (O.written out.new) (halt_answer (texts_of desk.now.texts) halt)) }
+        ensures files { S.files store.new ≡ S.files store.old }
+        ensures unwritten { IfErr result (λ halt. status_code halt.status ≡ 4 → Rose (O.faults out.old) (O.faults out.new)) }
+        ensures sound_writes { IfErr result (λ halt. status_code halt.status ≢ 4 → O.faults out.new ≡ O.faults out.old) }
+        ensures sound { OnOk result (O.faults out.new ≡ O.faults out.old) }
+    {
+        let (alloc_fns, ignore_fns) = match self.lists(desk.alloc) {
+            Ok(lists) => lists,
+            Err(NoMemory) => return Err(Halt::no_memory()),
+        };
+        let alloc_test = FrameTest::new(move |name: &[u8]| is_named(alloc_fns.as_bytes(), name));
+        let ignore_test = FrameTest::new(move |name: &[u8]| is_named(ignore_fns.as_bytes(), name));
+        let mut reader = match MassifReader::new(
+            desk.alloc,
+            self.options,
+            alloc_test,
+            ignore_test,
+            *self,
+        ) {
+            Ok(reader) => reader,
+            Err(NoMemory) => return Err(Halt::no_memory()),
+        };
+        run_lines(desk, self.trace, &mut reader, store, out)
+    }
+
+    /// Both lists of functions, which the tests of names keep. `NoMemory` where memory is wanting.
+    fn lists(&self, alloc: Global) -> Result<(String, String), NoMemory>
+        ensures alloc_fns { IfOk result (λ lists. string_bytes lists.0 ≡ self.now.alloc_fns.now) }
+        ensures ignore_fns { IfOk result (λ lists. string_bytes lists.1 ≡ self.now.ignore_fns.now) }
+    {
+        let alloc_fns = String::from_str(alloc, self.alloc_fns)?;
+        let ignore_fns = String::from_str(alloc, self.ignore_fns)?;
+        Ok((alloc_fns, ignore_fns))
+    }
+}
+
+impl Settled for MassifRequest<'_> {
+    ghost settings = { λ request. (massif_asked_by request).settings };
+}
+
+/// What taken words ask for.
+fn request_in<'a>(words: &TakenWords<'a>) -> Option<MassifRequest<'a>>
+    ensures { option_map massif_asked_by result ≡ massif_given (only_file_in (rows_in words.now)) (value_in (rows_in words.now)) }
+{
+    let trace = words.only_file()?;
+    let options = options_in(words)?;
+    let alloc_fns = list_in(words, ALLOC_FNS);
+    let ignore_fns = list_in(words, IGNORE_FNS);
+    Some(MassifRequest {
+        trace,
+        options,
+        alloc_fns,
+        ignore_fns,
+    })
+}
+
+/// The list of names that an option gives: the empty one where it isn't given.
+fn list_in<'a>(words: &TakenWords<'a>, option: &str) -> &'a str
+    ensures { names_in result.now ≡ names_or (value_in (rows_in words.now) option.now) }
+{
+    words.value(option).unwrap_or("")
+}

@@ -1,0 +1,631 @@
+//! `massif` over the worked trace and over one that offers peaks, by lists of functions, in each unit and at both ends of the
+//! options' ranges, and its refusals.
+
+use crate::transcript::{Setting, WORKED, append_run, expect, sound};
+use std::test::Fail;
+
+const PROFILES: &str = "$ massif e
+desc: heapsuite massif
+cmd: demo
+time_unit: B
+#-----------
+snapshot=0
+#-----------
+time=0
+mem_heap_B=0
+mem_heap_extra_B=0
+mem_stacks_B=0
+heap_tree=empty
+#-----------
+snapshot=1
+#-----------
+time=120
+mem_heap_B=100
+mem_heap_extra_B=20
+mem_stacks_B=0
+heap_tree=empty
+#-----------
+snapshot=2
+#-----------
+time=120
+mem_heap_B=100
+mem_heap_extra_B=20
+mem_stacks_B=0
+heap_tree=peak
+n1: 100 (heap allocation functions) malloc/new/new[], --alloc-fns, etc.
+ n1: 100 0x500: f (a.c:10)
+  n0: 100 0x400: main (a.c:20)
+#-----------
+snapshot=3
+#-----------
+time=240
+mem_heap_B=0
+mem_heap_extra_B=0
+mem_stacks_B=0
+heap_tree=empty
+#-----------
+snapshot=4
+#-----------
+time=360
+mem_heap_B=100
+mem_heap_extra_B=20
+mem_stacks_B=0
+heap_tree=empty
+[0]
+> v 10500 2
+> a 64 0
+> a 20 0
+> + 0
+> + 1
+$ massif t
+desc: heapsuite massif
+cmd: (none)
+time_unit: B
+#-----------
+snapshot=0
+#-----------
+time=0
+mem_heap_B=0
+mem_heap_extra_B=0
+mem_stacks_B=0
+heap_tree=empty
+#-----------
+snapshot=1
+#-----------
+time=120
+mem_heap_B=100
+mem_heap_extra_B=20
+mem_stacks_B=0
+heap_tree=empty
+#-----------
+snapshot=2
+#-----------
+time=160
+mem_heap_B=132
+mem_heap_extra_B=28
+mem_stacks_B=0
+heap_tree=empty
+[0]
+";
+
+#[test]
+fn profiles(rt: HostRuntime) -> Result<(), Fail> {
+    expect(&rt, rt.alloc(), &sound(""), PROFILES)
+}
+
+// A peak must pass the last one by one percent: 1010 doesn't pass 1000, and 1011 does.
+const PEAK_OFFERS: &str = "> v 10500 2
+> a 3e8 0
+> a a 0
+> a 1 0
+> + 0
+> - 0
+> + 0
+> + 1
+> - 1
+> + 1
+> + 2
+> - 2
+$ massif --heap-admin=0 --alignment=1 t
+desc: heapsuite massif
+cmd: (none)
+time_unit: B
+#-----------
+snapshot=0
+#-----------
+time=0
+mem_heap_B=0
+mem_heap_extra_B=0
+mem_stacks_B=0
+heap_tree=empty
+#-----------
+snapshot=1
+#-----------
+time=1000
+mem_heap_B=1000
+mem_heap_extra_B=0
+mem_stacks_B=0
+heap_tree=empty
+#-----------
+snapshot=2
+#-----------
+time=1000
+mem_heap_B=1000
+mem_heap_extra_B=0
+mem_stacks_B=0
+heap_tree=empty
+#-----------
+snapshot=3
+#-----------
+time=2000
+mem_heap_B=0
+mem_heap_extra_B=0
+mem_stacks_B=0
+heap_tree=empty
+#-----------
+snapshot=4
+#-----------
+time=3000
+mem_heap_B=1000
+mem_heap_extra_B=0
+mem_stacks_B=0
+heap_tree=empty
+#-----------
+snapshot=5
+#-----------
+time=3010
+mem_heap_B=1010
+mem_heap_extra_B=0
+mem_stacks_B=0
+heap_tree=empty
+#-----------
+snapshot=6
+#-----------
+time=3020
+mem_heap_B=1000
+mem_heap_extra_B=0
+mem_stacks_B=0
+heap_tree=empty
+#-----------
+snapshot=7
+#-----------
+time=3030
+mem_heap_B=1010
+mem_heap_extra_B=0
+mem_stacks_B=0
+heap_tree=empty
+#-----------
+snapshot=8
+#-----------
+time=3031
+mem_heap_B=1011
+mem_heap_extra_B=0
+mem_stacks_B=0
+heap_tree=empty
+#-----------
+snapshot=9
+#-----------
+time=3031
+mem_heap_B=1011
+mem_heap_extra_B=0
+mem_stacks_B=0
+heap_tree=peak
+n1: 1011 (heap allocation functions) malloc/new/new[], --alloc-fns, etc.
+ n0: 1011 (no stack)
+#-----------
+snapshot=10
+#-----------
+time=3032
+mem_heap_B=1010
+mem_heap_extra_B=0
+mem_stacks_B=0
+heap_tree=empty
+[0]
+";
+
+#[test]
+fn peak_offers(rt: HostRuntime) -> Result<(), Fail> {
+    expect(&rt, rt.alloc(), &sound(""), PEAK_OFFERS)
+}
+
+// Empty pieces of a list are no names, and a part of a name is none.
+const FUNCTIONS: &str = "$ massif --alloc-fns=f e
+desc: heapsuite massif
+cmd: demo
+time_unit: B
+#-----------
+snapshot=0
+#-----------
+time=0
+mem_heap_B=0
+mem_heap_extra_B=0
+mem_stacks_B=0
+heap_tree=empty
+#-----------
+snapshot=1
+#-----------
+time=120
+mem_heap_B=100
+mem_heap_extra_B=20
+mem_stacks_B=0
+heap_tree=empty
+#-----------
+snapshot=2
+#-----------
+time=120
+mem_heap_B=100
+mem_heap_extra_B=20
+mem_stacks_B=0
+heap_tree=peak
+n1: 100 (heap allocation functions) malloc/new/new[], --alloc-fns, etc.
+ n0: 100 0x400: main (a.c:20)
+#-----------
+snapshot=3
+#-----------
+time=240
+mem_heap_B=0
+mem_heap_extra_B=0
+mem_stacks_B=0
+heap_tree=empty
+#-----------
+snapshot=4
+#-----------
+time=360
+mem_heap_B=100
+mem_heap_extra_B=20
+mem_stacks_B=0
+heap_tree=empty
+[0]
+$ massif --ignore-fns=;f; e
+desc: heapsuite massif
+cmd: demo
+time_unit: B
+#-----------
+snapshot=0
+#-----------
+time=0
+mem_heap_B=0
+mem_heap_extra_B=0
+mem_stacks_B=0
+heap_tree=empty
+#-----------
+snapshot=1
+#-----------
+time=120
+mem_heap_B=100
+mem_heap_extra_B=20
+mem_stacks_B=0
+heap_tree=empty
+[0]
+$ massif --alloc-fns=f --ignore-fns=main e
+desc: heapsuite massif
+cmd: demo
+time_unit: B
+#-----------
+snapshot=0
+#-----------
+time=0
+mem_heap_B=0
+mem_heap_extra_B=0
+mem_stacks_B=0
+heap_tree=empty
+[0]
+$ massif --alloc-fns=ff;;;m --ignore-fns=;; e
+desc: heapsuite massif
+cmd: demo
+time_unit: B
+#-----------
+snapshot=0
+#-----------
+time=0
+mem_heap_B=0
+mem_heap_extra_B=0
+mem_stacks_B=0
+heap_tree=empty
+#-----------
+snapshot=1
+#-----------
+time=120
+mem_heap_B=100
+mem_heap_extra_B=20
+mem_stacks_B=0
+heap_tree=empty
+#-----------
+snapshot=2
+#-----------
+time=120
+mem_heap_B=100
+mem_heap_extra_B=20
+mem_stacks_B=0
+heap_tree=peak
+n1: 100 (heap allocation functions) malloc/new/new[], --alloc-fns, etc.
+ n1: 100 0x500: f (a.c:10)
+  n0: 100 0x400: main (a.c:20)
+#-----------
+snapshot=3
+#-----------
+time=240
+mem_heap_B=0
+mem_heap_extra_B=0
+mem_stacks_B=0
+heap_tree=empty
+#-----------
+snapshot=4
+#-----------
+time=360
+mem_heap_B=100
+mem_heap_extra_B=20
+mem_stacks_B=0
+heap_tree=empty
+[0]
+";
+
+#[test]
+fn functions(rt: HostRuntime) -> Result<(), Fail> {
+    expect(&rt, rt.alloc(), &sound(""), FUNCTIONS)
+}
+
+const UNITS: &str = "$ massif --time-unit=e e
+desc: heapsuite massif
+cmd: demo
+time_unit: e
+#-----------
+snapshot=0
+#-----------
+time=0
+mem_heap_B=0
+mem_heap_extra_B=0
+mem_stacks_B=0
+heap_tree=empty
+#-----------
+snapshot=1
+#-----------
+time=1
+mem_heap_B=100
+mem_heap_extra_B=20
+mem_stacks_B=0
+heap_tree=empty
+#-----------
+snapshot=2
+#-----------
+time=1
+mem_heap_B=100
+mem_heap_extra_B=20
+mem_stacks_B=0
+heap_tree=peak
+n1: 100 (heap allocation functions) malloc/new/new[], --alloc-fns, etc.
+ n1: 100 0x500: f (a.c:10)
+  n0: 100 0x400: main (a.c:20)
+#-----------
+snapshot=3
+#-----------
+time=2
+mem_heap_B=0
+mem_heap_extra_B=0
+mem_stacks_B=0
+heap_tree=empty
+#-----------
+snapshot=4
+#-----------
+time=3
+mem_heap_B=100
+mem_heap_extra_B=20
+mem_stacks_B=0
+heap_tree=empty
+[0]
+$ massif --time-unit ms e
+desc: heapsuite massif
+cmd: demo
+time_unit: ms
+#-----------
+snapshot=0
+#-----------
+time=0
+mem_heap_B=0
+mem_heap_extra_B=0
+mem_stacks_B=0
+heap_tree=empty
+#-----------
+snapshot=1
+#-----------
+time=0
+mem_heap_B=100
+mem_heap_extra_B=20
+mem_stacks_B=0
+heap_tree=empty
+#-----------
+snapshot=2
+#-----------
+time=0
+mem_heap_B=100
+mem_heap_extra_B=20
+mem_stacks_B=0
+heap_tree=peak
+n1: 100 (heap allocation functions) malloc/new/new[], --alloc-fns, etc.
+ n1: 100 0x500: f (a.c:10)
+  n0: 100 0x400: main (a.c:20)
+#-----------
+snapshot=3
+#-----------
+time=5
+mem_heap_B=0
+mem_heap_extra_B=0
+mem_stacks_B=0
+heap_tree=empty
+#-----------
+snapshot=4
+#-----------
+time=5
+mem_heap_B=100
+mem_heap_extra_B=20
+mem_stacks_B=0
+heap_tree=empty
+[0]
+";
+
+#[test]
+fn units(rt: HostRuntime) -> Result<(), Fail> {
+    expect(&rt, rt.alloc(), &sound(""), UNITS)
+}
+
+// Each option at the least value of its range, and then at the greatest.
+const RANGES: &str =
+    "$ massif --threshold=0 --peak-inaccuracy=0 --detailed-freq=1 --max-snapshots=10 --depth=1 --heap-admin=0 --alignment=1 --time-unit=B e
+desc: heapsuite massif
+cmd: demo
+time_unit: B
+#-----------
+snapshot=0
+#-----------
+time=0
+mem_heap_B=0
+mem_heap_extra_B=0
+mem_stacks_B=0
+heap_tree=detailed
+n0: 0 (heap allocation functions) malloc/new/new[], --alloc-fns, etc.
+#-----------
+snapshot=1
+#-----------
+time=100
+mem_heap_B=100
+mem_heap_extra_B=0
+mem_stacks_B=0
+heap_tree=detailed
+n1: 100 (heap allocation functions) malloc/new/new[], --alloc-fns, etc.
+ n0: 100 0x500: f (a.c:10)
+#-----------
+snapshot=2
+#-----------
+time=100
+mem_heap_B=100
+mem_heap_extra_B=0
+mem_stacks_B=0
+heap_tree=peak
+n1: 100 (heap allocation functions) malloc/new/new[], --alloc-fns, etc.
+ n0: 100 0x500: f (a.c:10)
+#-----------
+snapshot=3
+#-----------
+time=200
+mem_heap_B=0
+mem_heap_extra_B=0
+mem_stacks_B=0
+heap_tree=detailed
+n0: 0 (heap allocation functions) malloc/new/new[], --alloc-fns, etc.
+#-----------
+snapshot=4
+#-----------
+time=300
+mem_heap_B=100
+mem_heap_extra_B=0
+mem_stacks_B=0
+heap_tree=detailed
+n1: 100 (heap allocation functions) malloc/new/new[], --alloc-fns, etc.
+ n0: 100 0x400: main (a.c:20)
+[0]
+$ massif --threshold=100 --peak-inaccuracy=100.00 --detailed-freq=1000000 --max-snapshots=1000 --depth=200 --heap-admin=1024 --alignment=4096 e
+desc: heapsuite massif
+cmd: demo
+time_unit: B
+#-----------
+snapshot=0
+#-----------
+time=0
+mem_heap_B=0
+mem_heap_extra_B=0
+mem_stacks_B=0
+heap_tree=empty
+#-----------
+snapshot=1
+#-----------
+time=5120
+mem_heap_B=100
+mem_heap_extra_B=5020
+mem_stacks_B=0
+heap_tree=empty
+#-----------
+snapshot=2
+#-----------
+time=5120
+mem_heap_B=100
+mem_heap_extra_B=5020
+mem_stacks_B=0
+heap_tree=peak
+n1: 100 (heap allocation functions) malloc/new/new[], --alloc-fns, etc.
+ n0: 100 in 1 place, below massif's threshold (100.00%)
+#-----------
+snapshot=3
+#-----------
+time=10240
+mem_heap_B=0
+mem_heap_extra_B=0
+mem_stacks_B=0
+heap_tree=empty
+#-----------
+snapshot=4
+#-----------
+time=15360
+mem_heap_B=100
+mem_heap_extra_B=5020
+mem_stacks_B=0
+heap_tree=empty
+[0]
+";
+
+#[test]
+fn ranges(rt: HostRuntime) -> Result<(), Fail> {
+    expect(&rt, rt.alloc(), &sound(""), RANGES)
+}
+
+// A block that is too large with what the heap adds to it is refused here alone.
+const REFUSALS: &str = "> v 10500 2
+> a 64 0
+> - 0
+$ massif t
+heapsuite: t:3: free of nothing
+[1]
+> v 10500 2
+> a 64
+$ massif t
+heapsuite: t:2: missing field
+[1]
+$ massif t
+heapsuite: t:1: no version line
+[1]
+> v 10500 2
+> a 3ffffffffffffff6 0
+> + 0
+$ massif t
+heapsuite: t:3: too many bytes allocated
+[6]
+> v 10500 2
+> i 400 0
+> s f
+> i 400 0 1
+$ massif t
+desc: heapsuite massif
+cmd: (none)
+time_unit: B
+#-----------
+snapshot=0
+#-----------
+time=0
+mem_heap_B=0
+mem_heap_extra_B=0
+mem_stacks_B=0
+heap_tree=empty
+[0]
+$ massif absent
+heapsuite: absent: no such file
+[3]
+";
+
+#[test]
+fn refusals(rt: HostRuntime) -> Result<(), Fail> {
+    expect(&rt, rt.alloc(), &sound(""), REFUSALS)
+}
+
+// The three calls open the file, read all of it, and find its end.
+const FAILED: &str = "heapsuite: t: cannot open
+[3]
+heapsuite: t: cannot read
+[3]
+heapsuite: t: cannot read
+[3]
+";
+
+#[test]
+fn failing_calls(rt: HostRuntime) -> Result<(), Fail> {
+    let alloc = rt.alloc();
+    let mut all = Vec::new(alloc);
+    for failing_store_call in 1..4 {
+        let setting = Setting {
+            piece: 1000,
+            failing_store_call,
+            ..sound("")
+        };
+        append_run(alloc, &setting, WORKED.as_bytes(), "massif t", &mut all)?;
+    }
+    assert_eq!(rt; all.as_slice(), FAILED.as_bytes());
+    Ok(())
+}
