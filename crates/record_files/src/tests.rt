@@ -15,21 +15,21 @@ const TEXTS: ProgramTexts = ProgramTexts {
     write_failed: b"",
 };
 
-/// A folder of a modules file and two scripts, the second of which may have a line more.
-fn folder(alloc: Global, more: &[u8]) -> Result<MemStore, Fail> {
+/// The second script, which may have a line more.
+fn second_script(alloc: Global, more: &[u8]) -> Result<Vec<u8>, Fail> {
     let mut second = Vec::new(alloc);
     put_bytes(&mut second, b"# none\na 1 8 400")?;
     put_bytes(&mut second, more)?;
+    Ok(second)
+}
+
+/// What reading a modules file and two scripts comes to: the modules and the number of threads, or the message.
+fn told(alloc: Global, more: &[u8]) -> Result<Vec<u8>, Fail> {
+    let second = second_script(alloc, more)?;
     let mut store = MemStore::new(alloc, 7);
     store.add("m", b"m app 1000 0 1000\n")?;
     store.add("s0", b"a 1 40 500 400\nf 1\n")?;
     store.add("s1", &second)?;
-    Ok(store)
-}
-
-/// What reading them comes to: the number of threads, or the message.
-fn told(alloc: Global, more: &[u8]) -> Result<Vec<u8>, Fail> {
-    let mut store = folder(alloc, more)?;
     let mut out = MemSink::new(alloc, 9)?;
     let limits = Limits::standard();
     let desk = Desk {
