@@ -1,0 +1,4 @@
+pub mod FaultTold
+pub mod FileLines
+pub mod FilesPlan
+pub mod LeadsTo
