@@ -1,8 +1,9 @@
 #!/bin/sh
-# Runs `heapsuite summary`, `print`, `flame` and `dhat` on each trace of this folder, and `heapsuite interpret` on each raw
-# one, and compares what they print with the files beside the trace; and `heapsuite dhat_view` on the profiles of `dhat`. The
-# summary of what `interpret` writes has to be that of the trace which heaptrack interpreted. And a trace of two million events
-# is generated, whose summary is `generated.summary`. The program is the first argument, or bin/heapsuite at the top of the repository.
+# Runs `heapsuite summary`, `print`, `flame`, `massif` and `dhat` on each trace of this folder, `heapsuite interpret` on each raw
+# one, `heapsuite ms_print` on the files of `massif` and `heapsuite dhat_view` on the profiles of `dhat`, and compares what they
+# print with the files beside them. The summary of what `interpret` writes has to be that of the trace which heaptrack
+# interpreted. And a trace of two million events is generated, whose summary is `generated.summary`. The program is the first
+# argument, or bin/heapsuite at the top of the repository.
 cd "$(dirname "$0")" || exit 1
 heapsuite=${1:-../bin/heapsuite}
 work=$(mktemp -d) || exit 1
@@ -27,6 +28,7 @@ for trace in *.trace; do
     compare "$trace" print print
     compare "$trace" flame flame
     compare "$trace" peak-flame flame --flamegraph-cost-type=peak
+    compare "$trace" massif massif
     compare "$trace" dhat dhat
 done
 for raw in *.raw; do
@@ -42,6 +44,15 @@ for raw in *.raw; do
             exit 1
         fi || failed=1
     done
+done
+
+for profile in massif/*.out; do
+    if "$heapsuite" ms_print "$profile" | cmp -s - "${profile%.out}.page"; then
+        echo "$profile, page: as expected"
+    else
+        echo "$profile, page: differs"
+        failed=1
+    fi
 done
 
 # Compares the view of a profile with the file of an ending.
