@@ -32,7 +32,7 @@ pub struct ScriptFiles<'a> {
 }
 
 /// Reads the modules file, if there is one, and then the scripts in their order, at most 64. All together may have as many
-/// events as the limits of the run say. Nothing is written.
+/// events as the limits of the run say. Nothing is written. The text of the modules is whole lines about modules.
 pub fn read_files<S: Store, O: Sink>(
     desk: &Desk,
     files: &ScriptFiles,

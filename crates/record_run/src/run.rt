@@ -57,8 +57,9 @@ pub fn heaprec_run<R: Threads + Wait + Sync, S: Store, O: Sink, E: Sink, G: Gate
 ) -> u8
     requires { S.opens store.old < 2 ^ 63 }
 
-    // The recording, at status 0: what was written is the trace of the scripts in an order that is an interleaving of them,
-    // and behind it the summary where the words ask for it. Where the store tells its files, the scripts are what they say.
+    // The recording, at status 0: the order that the bytes written spell is an interleaving of the scripts, and the bytes are
+    // the trace of the scripts in this order, and behind it the summary where the words ask for it. Where the store tells
+    // its files, the scripts are what they say.
     ensures recorded { result ≡ 0 → (output : List ℕ) × ((O.written out.new ≡ append_known (O.written out.old) output)
         × IsRecording IsRecorded limits.now.order (S.files store.old) (record_asked (map string_bytes words.now)) output) }
 
