@@ -38,12 +38,12 @@ fn book_text(alloc: Global, book: Book, summary: bool) -> Result<Vec<u8>, NoMemo
     spelled_orders();
     quiet_modules();
     let _threads = book.threads();
-    if !summary {
-        return Ok(book.into_bytes());
+    if summary {
+        let mut lines = Vec::new(alloc);
+        book.put_summary(&mut lines)?;
+        let mut text = book.into_bytes();
+        put_bytes(&mut text, &lines)?;
+        return Ok(text);
     }
-    let mut lines = Vec::new(alloc);
-    book.put_summary(&mut lines)?;
-    let mut text = book.into_bytes();
-    put_bytes(&mut text, &lines)?;
-    Ok(text)
+    Ok(book.into_bytes())
 }
