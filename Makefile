@@ -7,14 +7,16 @@ PREFIX ?= /usr/local
 demo: build
 	bin/heapsuite summary examples/two-sizes.trace
 
-# Proves and builds bin/heapsuite.
+# Proves and builds bin/heapsuite and bin/heaprec.
 build:
 	cd crates/heapsuite && rt run -- summary ../../examples/two-sizes.trace > /dev/null
+	cd crates/heaprec && rt run -- data/s > /dev/null
 	mkdir -p bin
-	cp crates/heapsuite/out/heapsuite bin/heapsuite
+	cp crates/heapsuite/out/heapsuite crates/heaprec/out/heaprec bin/
 
 test:
 	rt ci
 
 install: build
 	install -D bin/heapsuite $(DESTDIR)$(PREFIX)/bin/heapsuite
+	install -D bin/heaprec $(DESTDIR)$(PREFIX)/bin/heaprec

@@ -110,6 +110,14 @@ impl Book {
         self.trace.text.as_slice()
     }
 
+    /// The trace so far, which is all that stays of the book.
+    pub fn into_bytes(self) -> Vec<u8>
+        ensures trace { result.items ≡ recorded self.job self.order }
+    {
+        let trace = self.trace;
+        trace.text
+    }
+
     /// The thread of each event so far.
     pub fn order(&self) -> &[u32]
         ensures order { result.now ≡ self.now.order }

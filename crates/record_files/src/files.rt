@@ -9,6 +9,7 @@ ghost use Rattle.command_frame.specs.Outcome.{moment};
 ghost use Rattle.command_frame.specs.Run.{Ran};
 ghost use Rattle.command_frame.specs.Texts.{texts_of};
 ghost use Rattle.record_scripts.specs.Job.{Job};
+ghost use Rattle.record_scripts.specs.ModuleLines.{AreModuleLines};
 ghost use Rattle.record_files.specs.FileLines.{no_job};
 ghost use Rattle.record_files.specs.FilesPlan.{files_named, files_plan, job_in, modules_in, scripts_in, scripts_plan};
 ghost use Rattle.record_files.specs.LeadsTo.{LeadsTo};
@@ -31,7 +32,7 @@ pub struct ScriptFiles<'a> {
 }
 
 /// Reads the modules file, if there is one, and then the scripts in their order, at most 64. All together may have as many
-/// events as the limits of the run say. Nothing is written.
+/// events as the limits of the run say. Nothing is written. The text of the modules is whole lines about modules.
 pub fn read_files<S: Store, O: Sink>(
     desk: &Desk,
     files: &ScriptFiles,
@@ -53,6 +54,7 @@ pub fn read_files<S: Store, O: Sink>(
         (moment (S.opens store.old) (S.current store.old) (S.left store.old) (S.faults store.old)) (moment (S.opens store.new) (S.current store.new) (S.left store.new) (S.faults store.new)) (halt_answer (texts_of desk.now.texts) halt)) }
     ensures job { IfOk result (λ job. WhereTold (S.files store.old) (λ folder. job ≡ job_in folder (option_copied files.now.modules) (map (λ name. name.now) files.now.scripts.now) desk.now.limits.order)) }
     ensures count { IfOk result (λ job. length job.scripts ≡ length files.now.scripts.now) }
+    ensures modules { IfOk result (λ job. AreModuleLines job.modules) }
     ensures silent { O.written out.new ≡ O.written out.old }
     ensures files { S.files store.new ≡ S.files store.old }
     ensures unwritten { IfErr result (λ halt. status_code halt.status ≡ 4 → Rose (O.faults out.old) (O.faults out.new)) }
@@ -83,6 +85,7 @@ fn read_modules<S: Store, O: Sink>(
     requires opens { S.opens store.old < 2 ^ 63 }
     requires input { lines.old.input ≡ desk.now.limits.input }
     requires line { lines.old.line_limit ≡ desk.now.limits.line }
+    requires modules { AreModuleLines scripts.modules }
     ensures read { IfOk result (λ job. (last : List ℕ) (names : List (List ℕ)) (text : Job → List ℕ) → (here : List ℕ) × LeadsTo (texts_of desk.now.texts) (bounds_of desk.now.limits) (S.files store.old)
         (record {
           last = last;
@@ -96,6 +99,7 @@ fn read_modules<S: Store, O: Sink>(
         (moment (S.opens store.old) (S.current store.old) (S.left store.old) (S.faults store.old)) (moment (S.opens store.new) (S.current store.new) (S.left store.new) (S.faults store.new)) (halt_answer (texts_of desk.now.texts) halt)) }
     ensures job { IfOk result (λ job. WhereTold (S.files store.old) (λ folder. job ≡ modules_in folder (option_copied modules.entry) scripts)) }
     ensures count { IfOk result (λ job. length job.scripts ≡ length scripts.scripts) }
+    ensures modules { IfOk result (λ job. AreModuleLines job.modules) }
     ensures opens { IfOk result (λ job. S.opens store.new ≤ S.opens store.old + 1) }
     ensures input { lines.new.input ≡ lines.old.input }
     ensures line { lines.new.line_limit ≡ lines.old.line_limit }
@@ -130,6 +134,7 @@ fn read_scripts<S: Store, O: Sink>(
     requires few { length scripts.scripts + length names.now ≤ 64 }
     requires input { lines.old.input ≡ desk.now.limits.input }
     requires line { lines.old.line_limit ≡ desk.now.limits.line }
+    requires modules { AreModuleLines scripts.modules }
     ensures read { IfOk result (λ job. (last : List ℕ) (text : Job → List ℕ) → (here : List ℕ) × LeadsTo (texts_of desk.now.texts) (bounds_of desk.now.limits) (S.files store.old)
         (record {
           last = last;
@@ -143,6 +148,7 @@ fn read_scripts<S: Store, O: Sink>(
         (moment (S.opens store.old) (S.current store.old) (S.left store.old) (S.faults store.old)) (moment (S.opens store.new) (S.current store.new) (S.left store.new) (S.faults store.new)) (halt_answer (texts_of desk.now.texts) halt)) }
     ensures job { IfOk result (λ job. WhereTold (S.files store.old) (λ folder. job ≡ scripts_in folder (map (λ name. name.now) names.now) scripts)) }
     ensures count { IfOk result (λ job. length job.scripts ≡ length scripts.scripts + length names.now) }
+    ensures modules { IfOk result (λ job. AreModuleLines job.modules) }
     ensures silent { O.written out.new ≡ O.written out.old }
     ensures files { S.files store.new ≡ S.files store.old }
     ensures unwritten { IfErr result (λ halt. status_code halt.status ≡ 4 → Rose (O.faults out.old) (O.faults out.new)) }
@@ -172,6 +178,7 @@ fn read_script<S: Store, O: Sink>(
     requires few { length scripts.scripts < 64 }
     requires input { lines.old.input ≡ desk.now.limits.input }
     requires line { lines.old.line_limit ≡ desk.now.limits.line }
+    requires modules { AreModuleLines scripts.modules }
     ensures read { IfOk result (λ job. (last : List ℕ) (names : List (List ℕ)) (text : Job → List ℕ) → LeadsTo (texts_of desk.now.texts) (bounds_of desk.now.limits) (S.files store.old)
         (record {
           last = last;
@@ -185,6 +192,7 @@ fn read_script<S: Store, O: Sink>(
         (moment (S.opens store.old) (S.current store.old) (S.left store.old) (S.faults store.old)) (moment (S.opens store.new) (S.current store.new) (S.left store.new) (S.faults store.new)) (halt_answer (texts_of desk.now.texts) halt)) }
     ensures job { IfOk result (λ job. WhereTold (S.files store.old) (λ folder. (names : List (List ℕ)) → scripts_in folder names job ≡ scripts_in folder (name.now ∷ names) scripts)) }
     ensures count { IfOk result (λ job. length job.scripts ≡ length scripts.scripts + 1) }
+    ensures modules { IfOk result (λ job. AreModuleLines job.modules) }
     ensures opens { IfOk result (λ job. S.opens store.new ≡ S.opens store.old + 1) }
     ensures input { lines.new.input ≡ lines.old.input }
     ensures line { lines.new.line_limit ≡ lines.old.line_limit }

@@ -9,6 +9,7 @@ ghost use Rattle.command_frame.specs.Plan.{Plan};
 ghost use Rattle.command_frame.specs.Run.{Ran};
 ghost use Rattle.command_frame.specs.Texts.{texts_of};
 ghost use Rattle.record_scripts.specs.Job.{Job};
+ghost use Rattle.record_scripts.specs.ModuleLines.{AreModuleLines};
 ghost use Rattle.record_files.specs.declared.reader.FileKind.TheVariants.{Script};
 ghost use Rattle.record_files.specs.FileLines.{with_lines};
 ghost use Rattle.record_files.specs.FilesPlan.{file_plan, lines_in};
@@ -38,6 +39,7 @@ pub fn read_file<S: Store, O: Sink>(
 ) -> Result<Scripts, Halt>
     requires opens { S.opens store.old < 2 ^ 64 - 1 }
     requires open { file.now.kind ≡ Script → 0 < length scripts.scripts }
+    requires modules { AreModuleLines scripts.modules }
     requires input { lines.old.input ≡ desk.now.limits.input }
     requires line { lines.old.line_limit ≡ desk.now.limits.line }
     ensures read { IfOk result (λ job. (last : List ℕ) (names : List (List ℕ)) (next : Job → Plan) → LeadsTo (texts_of desk.now.texts) (bounds_of desk.now.limits) (S.files store.old)
@@ -57,6 +59,7 @@ pub fn read_file<S: Store, O: Sink>(
         (file.now.name.now ∷ names) (file_plan file.now.kind file.now.name.now scripts next)
         (moment (S.opens store.old) (S.current store.old) (S.left store.old) (S.faults store.old)) (moment (S.opens store.new) (S.current store.new) (S.left store.new) (S.faults store.new)) (halt_answer (texts_of desk.now.texts) halt)) }
     ensures lines { IfOk result (λ job. (taken : List (List ℕ)) × ((job ≡ with_lines file.now.kind scripts taken) × WhereTold (S.files store.old) (λ folder. taken ≡ lines_in folder file.now.name.now))) }
+    ensures modules { IfOk result (λ job. AreModuleLines job.modules) }
     ensures opens { IfOk result (λ job. S.opens store.new ≡ S.opens store.old + 1) }
     ensures input { lines.new.input ≡ lines.old.input }
     ensures line { lines.new.line_limit ≡ lines.old.line_limit }
@@ -80,6 +83,7 @@ fn read_behind<B: Start, S: Store, O: Sink>(
 ) -> Result<Scripts, Halt>
     requires opens { S.opens store.old < 2 ^ 64 - 1 }
     requires open { file.now.kind ≡ Script → 0 < length scripts.scripts }
+    requires modules { AreModuleLines scripts.modules }
     requires input { lines.old.input ≡ desk.now.limits.input }
     requires line { lines.old.line_limit ≡ desk.now.limits.line }
     requires kind { file.now.kind ≡ B.kind }
@@ -101,6 +105,7 @@ fn read_behind<B: Start, S: Store, O: Sink>(
         (file.now.name.now ∷ names) (file_plan B.kind file.now.name.now B.job next)
         (moment (S.opens store.old) (S.current store.old) (S.left store.old) (S.faults store.old)) (moment (S.opens store.new) (S.current store.new) (S.left store.new) (S.faults store.new)) (halt_answer (texts_of desk.now.texts) halt)) }
     ensures lines { IfOk result (λ job. (taken : List (List ℕ)) × ((job ≡ with_lines B.kind B.job taken) × WhereTold (S.files store.old) (λ folder. taken ≡ lines_in folder file.now.name.now))) }
+    ensures modules { IfOk result (λ job. AreModuleLines job.modules) }
     ensures opens { IfOk result (λ job. S.opens store.new ≡ S.opens store.old + 1) }
     ensures input { lines.new.input ≡ lines.old.input }
     ensures line { lines.new.line_limit ≡ lines.old.line_limit }

@@ -47,6 +47,7 @@ pub struct FileReader<B: Start> {
 
 impl<B: Start> LineTaker for FileReader<B> {
     ghost use Rattle.record_files.specs.declared.reader.FileKind.TheVariants.{Script};
+    ghost use Rattle.record_scripts.specs.ModuleLines.{AreModuleLines};
     ghost use Rattle.record_files.specs.FileLines.{file_report, with_lines};
 
     type Fault = LineFault;
@@ -55,7 +56,7 @@ impl<B: Start> LineTaker for FileReader<B> {
 
     ghost has_taken = { λ reader lines. reader.scripts ≡ with_lines B.kind B.job lines };
 
-    ghost is_sound = { λ reader. (reader.kind ≡ B.kind) × (B.kind ≡ Script → 0 < length reader.scripts.scripts) };
+    ghost is_sound = { λ reader. (reader.kind ≡ B.kind) × (B.kind ≡ Script → 0 < length reader.scripts.scripts) × AreModuleLines reader.scripts.modules };
 
     ghost weight = { λ _. 0 };
 

@@ -1,12 +1,12 @@
 -- The lines of modules, which spell nothing.
-use Rattle.std.proofs.Common.{◌≡◌, ℕ, true, List, [], ◌∷◌, ◌++◌, refl, sym, ap, ◌∙◌, arith, true≢false, append_assoc}
+use Rattle.std.proofs.Common.{◌≡◌, ℕ, true, List, [], ◌∷◌, ◌++◌, refl, sym, ap, subst, ◌∙◌, arith, true≢false, append_assoc}
 use Rattle.std.specs.Prelude.{codes}
 use Rattle.std.specs.List.{AllByRecursion}
-use Rattle.hp_outside.specs.WholeLines.{text_of_lines}
 use Rattle.ht_lines.specs.Content.{Content, version_line, executable_line, command_line, system_line, string_line, clear_line, module_line, instruction_line, node_line, info_line, allocation_line, free_line, raw_allocation_line, raw_free_line, clock_line, resident_line, attached_line, suppression_line, comment_line, other_line}
 use Rattle.ht_lines.specs.OneLine.{HasOneLineTexts}
 use Rattle.ht_lines.specs.Written.{spelled, written}
 use Rattle.record_scripts.specs.ModuleLine.{is_module}
+use Rattle.record_scripts.specs.ModuleLines.{AreModuleLines, IsModuleSaid, module_lines}
 use Rattle.record_laws.specs.Spelled.{AreQuiet, IsQuiet}
 use Rattle.record_laws.proofs.LineTexts.{both-text, byte-text, literal-text, numbers-text}
 use Rattle.record_laws.proofs.SpelledLemmas.{unnamed}
@@ -38,18 +38,14 @@ quiet-written (suppression_line bytes) is texts = absurd (true≢false (sym is))
 quiet-written (comment_line bytes) is texts = absurd (true≢false (sym is))
 quiet-written (other_line bytes) is texts = absurd (true≢false (sym is))
 
-all-push : (lines : List (List ℕ)) (line : List ℕ) → AllByRecursion IsQuiet lines → IsQuiet line → AllByRecursion IsQuiet (lines ++ line ∷ [])
-all-push [] line all quiet = (quiet, tt)
-all-push (first ∷ lines) line all quiet = (all.0, all-push lines line all.1 quiet)
+-- one quiet line in front of quiet bytes
+quiet-front : (line : List ℕ) (rest : List ℕ) → IsQuiet line → AreQuiet rest → AreQuiet ((line ++ 10 ∷ []) ++ rest)
+quiet-front line rest quiet are =
+    (line ∷ are.0, (quiet, are.1), append_assoc line (10 ∷ []) rest ∙ ap (λ (behind : List ℕ). line ++ (10 ∷ behind)) are.2)
 
-text-push : (lines : List (List ℕ)) (line : List ℕ) → text_of_lines lines ++ (line ++ 10 ∷ []) ≡ text_of_lines (lines ++ line ∷ [])
-text-push [] line = refl
-text-push (first ∷ lines) line = append_assoc first (10 ∷ text_of_lines lines) (line ++ 10 ∷ []) ∙ ap (λ (rest : List ℕ). first ++ (10 ∷ rest)) (text-push lines line)
+quiet-said : (said : List Content) → AllByRecursion IsModuleSaid said → AreQuiet (module_lines said)
+quiet-said [] all = ([], tt, refl)
+quiet-said (first ∷ more) all = quiet-front (written 2 first) (module_lines more) (quiet-written first all.0.about all.0.texts) (quiet-said more all.1)
 
-pub quiet-more : (modules : List ℕ) (said : Content) → AreQuiet modules → is_module said ≡ true → HasOneLineTexts said → AreQuiet (modules ++ (written 2 said ++ 10 ∷ []))
-quiet-more modules said are is texts =
-    let line = written 2 said in
-    (are.0 ++ line ∷ [], all-push are.0 line are.1 (quiet-written said is texts), ap (λ (front : List ℕ). front ++ (line ++ 10 ∷ [])) are.2 ∙ text-push are.0 line)
-
-pub quiet-none : AreQuiet []
-quiet-none = ([], tt, refl)
+pub quiet-modules : (modules : List ℕ) → AreModuleLines modules → AreQuiet modules
+quiet-modules modules are = subst AreQuiet (sym are.2) (quiet-said are.0 are.1)

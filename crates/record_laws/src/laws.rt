@@ -1,10 +1,7 @@
 //! The laws, over any scripts and orders, for crates whose contracts speak of bytes that they don't record themselves.
-ghost use Rattle.std.specs.Prelude.{◌≡◌, ℕ, ◌≤◌, ◌++◌, true, List, [], ◌∷◌, length};
-ghost use Rattle.ht_lines.specs.Content.{Content};
-ghost use Rattle.ht_lines.specs.OneLine.{HasOneLineTexts};
-ghost use Rattle.ht_lines.specs.Written.{written};
+ghost use Rattle.std.specs.Prelude.{◌≡◌, ℕ, ◌≤◌, ◌++◌, List, length};
 ghost use Rattle.record_scripts.specs.Job.{Job};
-ghost use Rattle.record_scripts.specs.ModuleLine.{is_module};
+ghost use Rattle.record_scripts.specs.ModuleLines.{AreModuleLines};
 ghost use Rattle.record_book.specs.Orders.{IsUnder};
 ghost use Rattle.record_book.specs.RecordedTrace.{recorded};
 ghost use Rattle.record_book.specs.SummaryText.{rec_summary};
@@ -23,10 +20,7 @@ pub fn spelled_orders()
     decimal_texts();
 }
 
-/// The lines of modules, as scripts keep them, spell nothing: no lines do, and one line more, whose texts have no line feed,
-/// changes nothing. It does nothing.
+/// The text of modules, as scripts keep it, spells nothing where it is whole lines about modules. It does nothing.
 pub fn quiet_modules()
-    ensures none { AreQuiet [] }
-    ensures more { (modules : List ℕ) (said : Content) → AreQuiet modules → is_module said ≡ true → HasOneLineTexts said →
-        AreQuiet (modules ++ (written 2 said ++ 10 ∷ [])) }
+    ensures { (modules : List ℕ) → AreModuleLines modules → AreQuiet modules }
 {}

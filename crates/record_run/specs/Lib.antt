@@ -1,3 +1,4 @@
 pub mod Texts
 pub mod Answer
+pub mod Recorded
 pub mod Run

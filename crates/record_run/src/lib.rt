@@ -1,11 +1,10 @@
-//! The command of the recorder: words and files in, a recording, messages and a status out. How threads take their turns is no
-//! part of it.
+//! The command of the recorder: words and files in, a recording by threads, messages and a status out.
 #![tactic(auto)]
 
-mod recording;
+mod open_gate;
+mod record_text;
 mod run;
 mod run_words;
 mod texts;
 
-pub use recording::Recording;
-pub use run::{record_run, record_wanting};
+pub use run::{heaprec_main, heaprec_run};

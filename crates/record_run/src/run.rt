@@ -1,5 +1,5 @@
-//! The public call of the program: words and files in, output, message and status out.
-ghost use Rattle.std.specs.Prelude.{◌≡◌, ◌≢◌, ◌+◌, ◌^◌, ◌<◌, ◌≤◌, ℕ, List, [], None, Some, length, map, string_bytes, true};
+//! The public call of the program: words and files in, the trace of threads, messages and a status out.
+ghost use Rattle.std.specs.Prelude.{◌≡◌, ◌≢◌, ◌+◌, ◌^◌, ◌<◌, ◌≤◌, ℕ, List, [], None, Some, length, map, string_bytes, true, IfErr, IfOk};
 ghost use Rattle.std.specs.Io.KnownBytes.{append_known};
 ghost use Rattle.hp_outside.specs.Faults.{Rose};
 ghost use Rattle.hp_outside.specs.Folder.{Folder};
@@ -13,21 +13,27 @@ ghost use Rattle.record_words.specs.RecordWords.{record_asked};
 ghost use Rattle.record_run.specs.Answer.{names_asked, rec_answer};
 ghost use Rattle.record_run.specs.Run.{IsRecording, WordsRan};
 ghost use Rattle.record_run.specs.Texts.{heaprec_texts as the_texts};
+ghost use Rattle.record_run.specs.Recorded.{IsRecorded};
 
-use crate::recording::Recording;
+use crate::open_gate::OpenGate;
 use crate::run_words::run_words;
 use crate::texts::heaprec_texts;
 use command_frame::{Desk, Halt, Outcome, deliver};
+use hp_num::NoMemory;
 use hp_outside::{Limits, Sink, Store};
+use recorder::Gate;
 use std::alloc::Global;
+use std::sync::Wait;
+use std::thread::Threads;
 
 /// Runs `heaprec` with these words, which leave out the program's name: a modules file, whether a summary is written, and
 /// 1 to 64 scripts. A file named `-` is standard input.
 ///
-/// Each script is a thread's, from thread 0 on. Standard output gets the text of a recording of all of them. The answer is
-/// the status with which the program ends:
+/// Each script is a thread's, from thread 0 on. Standard output gets the trace of all of them, in an order that is an
+/// interleaving of the scripts; which one, is up to the threads and the gate. The answer is the status with which the
+/// program ends:
 ///
-/// - 0: the text was written, and each file was read to its end.
+/// - 0: the trace was written, and each file was read to its end.
 /// - 1: a script or the modules file has a fault, the first of which the message names.
 /// - 2: the words aren't taken; the message is the usage text.
 /// - 3: a file is absent, or a call on the store failed. A fault of a line that was taken whole before the failed call
@@ -39,29 +45,31 @@ use std::alloc::Global;
 /// `limits` bounds the bytes of each file, those of each of its lines without its line feed, and the events of all scripts.
 ///
 /// The store must have counted fewer than 2^63 calls of `open`.
-pub fn record_run<P: Recording, S: Store, O: Sink, E: Sink>(
+pub fn heaprec_run<R: Threads + Wait + Sync, S: Store, O: Sink, E: Sink, G: Gate + Sync>(
+    rt: &R,
     alloc: Global,
     words: &[String],
     limits: &Limits,
     store: &mut S,
     out: &mut O,
     err: &mut E,
-    recording: &P,
+    gate: &G,
 ) -> u8
     requires { S.opens store.old < 2 ^ 63 }
 
-    // The recording, at status 0: what was written may be written of the scripts, with a summary where the words ask for it.
-    // Where the store tells its files, the scripts are what they say.
+    // The recording, at status 0: the order that the bytes written spell is an interleaving of the scripts, and the bytes are
+    // the trace of the scripts in this order, and behind it the summary where the words ask for it. Where the store tells
+    // its files, the scripts are what they say.
     ensures recorded { result ≡ 0 → (output : List ℕ) × ((O.written out.new ≡ append_known (O.written out.old) output)
-        × IsRecording P.may_write limits.now.order (S.files store.old) (record_asked (map string_bytes words.now)) output) }
+        × IsRecording IsRecorded limits.now.order (S.files store.old) (record_asked (map string_bytes words.now)) output) }
 
     // The headline: over a store that tells its files, with no failed call and memory not wanting, output, message and status
-    // are the defined ones, with a text that at status 0 may be written of the scripts.
+    // are the defined ones, with a text that at status 0 is that of such an order.
     ensures defined { (folder : Folder) → S.files store.old ≡ Some folder
         → ¬ Rose (S.faults store.old) (S.faults store.new) → ¬ Rose (O.faults out.old) (O.faults out.new) → ¬ Rose (E.faults err.old) (E.faults err.new)
         → result ≢ 5
         → (text : List ℕ) × (Delivered (rec_answer (map string_bytes words.now) (bounds_of limits.now) limits.now.order folder text) result (O.written out.old) (O.written out.new) (E.written err.old) (E.written err.new)
-        × (result ≡ 0 → IsRecording P.may_write limits.now.order (S.files store.old) (record_asked (map string_bytes words.now)) (rec_answer (map string_bytes words.now) (bounds_of limits.now) limits.now.order folder text).output)) }
+        × (result ≡ 0 → IsRecording IsRecorded limits.now.order (S.files store.old) (record_asked (map string_bytes words.now)) (rec_answer (map string_bytes words.now) (bounds_of limits.now) limits.now.order folder text).output)) }
 
     // Completeness: where no file has a fault, the status is 0.
     ensures complete { (folder : Folder) → S.files store.old ≡ Some folder
@@ -122,15 +130,41 @@ pub fn record_run<P: Recording, S: Store, O: Sink, E: Sink>(
         limits: *limits,
         texts: heaprec_texts(),
     };
-    let outcome = run_words(&desk, words, store, out, recording);
+    let outcome = run_words(rt, &desk, words, store, out, gate);
     deliver(&outcome, &desk.texts, out, err)
 }
 
-/// Tells that the words couldn't be had for want of memory. It takes none, and opens no file.
-pub fn record_wanting<O: Sink, E: Sink>(alloc: Global, out: &mut O, err: &mut E) -> u8
-    ensures told { result ≢ 4 → Delivered (memory_answer the_texts) result (O.written out.old) (O.written out.new) (E.written err.old) (E.written err.new) }
+/// Runs `heaprec` with the limits of the program and a gate that does nothing. Where the words couldn't be had for want of
+/// memory, that is told.
+pub fn heaprec_main<R: Threads + Wait + Sync, S: Store, O: Sink, E: Sink>(
+    rt: &R,
+    alloc: Global,
+    words: &Result<Vec<String>, NoMemory>,
+    store: &mut S,
+    out: &mut O,
+    err: &mut E,
+) -> u8
+    requires { S.opens store.old < 2 ^ 63 }
+    ensures recorded { IfOk words.now (λ words. result ≡ 0 → (output : List ℕ) × ((O.written out.new ≡ append_known (O.written out.old) output)
+        × IsRecording IsRecorded 10000000 (S.files store.old) (record_asked (map string_bytes words.items)) output)) }
+    ensures wanting { IfErr words.now (λ fault. result ≢ 4 → Delivered (memory_answer the_texts) result (O.written out.old) (O.written out.new) (E.written err.old) (E.written err.new)) }
+    ensures unread { IfErr words.now (λ fault. S.opens store.new ≡ S.opens store.old) }
     ensures statuses { result ≤ 6 }
 {
-    let outcome = Outcome::new(alloc, Err(Halt::no_memory()));
-    deliver(&outcome, &heaprec_texts(), out, err)
+    match words {
+        Ok(words) => heaprec_run(
+            rt,
+            alloc,
+            words,
+            &Limits::standard(),
+            store,
+            out,
+            err,
+            &OpenGate,
+        ),
+        Err(NoMemory) => {
+            let outcome = Outcome::new(alloc, Err(Halt::no_memory()));
+            deliver(&outcome, &heaprec_texts(), out, err)
+        }
+    }
 }

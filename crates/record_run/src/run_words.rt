@@ -9,25 +9,30 @@ ghost use Rattle.command_frame.specs.OutcomeAnswer.{outcome_answer};
 ghost use Rattle.command_frame.specs.Texts.{texts_of};
 ghost use Rattle.record_words.specs.RecordWords.{record_asked};
 ghost use Rattle.record_words.specs.Requests.{asked_by};
+ghost use Rattle.record_run.specs.Recorded.{IsRecorded};
 ghost use Rattle.record_run.specs.Run.{AskedRan, IsRecording, WordsRan};
 ghost use Rattle.record_run.specs.Texts.{heaprec_texts};
 
-use crate::recording::Recording;
+use crate::record_text::record_text;
 use command_frame::{Desk, Halt, Outcome};
 use command_words::WordsFault;
 use hp_num::NoMemory;
 use hp_outside::{Sink, Store};
 use record_files::{ScriptFiles, read_files};
 use record_words::RecordRequest;
+use recorder::Gate;
 use std::alloc::Global;
+use std::sync::Wait;
+use std::thread::Threads;
 
 /// Runs what the words ask for. Nothing is written.
-pub fn run_words<P: Recording, S: Store, O: Sink>(
+pub fn run_words<R: Threads + Wait + Sync, S: Store, O: Sink, G: Gate + Sync>(
+    rt: &R,
     desk: &Desk,
     words: &[String],
     store: &mut S,
     out: &mut O,
-    recording: &P,
+    gate: &G,
 ) -> Outcome
     requires opens { S.opens store.old < 2 ^ 63 }
     requires texts { texts_of desk.now.texts ≡ heaprec_texts }
@@ -35,7 +40,7 @@ pub fn run_words<P: Recording, S: Store, O: Sink>(
         × (WordsRan (bounds_of desk.now.limits) desk.now.limits.order (S.files store.old) text (record_asked (map string_bytes words.now))
         (moment (S.opens store.old) (S.current store.old) (S.left store.old) (S.faults store.old)) (moment (S.opens store.new) (S.current store.new) (S.left store.new) (S.faults store.new))
         (outcome_answer heaprec_texts result)
-        × ((outcome_answer heaprec_texts result).status ≡ 0 → IsRecording P.may_write desk.now.limits.order (S.files store.old) (record_asked (map string_bytes words.now)) (outcome_answer heaprec_texts result).output)) }
+        × ((outcome_answer heaprec_texts result).status ≡ 0 → IsRecording IsRecorded desk.now.limits.order (S.files store.old) (record_asked (map string_bytes words.now)) (outcome_answer heaprec_texts result).output)) }
     ensures silent { O.written out.new ≡ O.written out.old }
     ensures files { S.files store.new ≡ S.files store.old }
     ensures unwritten { (outcome_answer heaprec_texts result).status ≡ 4 → Rose (O.faults out.old) (O.faults out.new) }
@@ -44,7 +49,7 @@ pub fn run_words<P: Recording, S: Store, O: Sink>(
     match RecordRequest::read(desk.alloc, words) {
         Ok(request) => Outcome::new(
             desk.alloc,
-            run_request(desk, &request, store, out, recording),
+            run_request(rt, desk, &request, store, out, gate),
         ),
         Err(WordsFault::NotTaken) => Outcome::new(desk.alloc, Err(Halt::usage())),
         Err(WordsFault::NoMemory) => Outcome::new(desk.alloc, Err(Halt::no_memory())),
@@ -52,19 +57,20 @@ pub fn run_words<P: Recording, S: Store, O: Sink>(
 }
 
 /// Runs a request: reads its files, and records what they say.
-fn run_request<P: Recording, S: Store, O: Sink>(
+fn run_request<R: Threads + Wait + Sync, S: Store, O: Sink, G: Gate + Sync>(
+    rt: &R,
     desk: &Desk,
     request: &RecordRequest,
     store: &mut S,
     out: &mut O,
-    recording: &P,
+    gate: &G,
 ) -> Result<Vec<u8>, Halt>
     requires opens { S.opens store.old < 2 ^ 63 }
     requires texts { texts_of desk.now.texts ≡ heaprec_texts }
     requires few { length request.now.scripts.items ≤ 64 }
     ensures all { IfOk result (λ text. (AskedRan (bounds_of desk.now.limits) desk.now.limits.order (S.files store.old) text.items (Some (asked_by request.now))
         (moment (S.opens store.old) (S.current store.old) (S.left store.old) (S.faults store.old)) (moment (S.opens store.new) (S.current store.new) (S.left store.new) (S.faults store.new)) (done text.items)
-        × IsRecording P.may_write desk.now.limits.order (S.files store.old) (Some (asked_by request.now)) text.items)) }
+        × IsRecording IsRecorded desk.now.limits.order (S.files store.old) (Some (asked_by request.now)) text.items)) }
     ensures halted { IfErr result (λ halt. (text : List ℕ) → AskedRan (bounds_of desk.now.limits) desk.now.limits.order (S.files store.old) text (Some (asked_by request.now))
         (moment (S.opens store.old) (S.current store.old) (S.left store.old) (S.faults store.old)) (moment (S.opens store.new) (S.current store.new) (S.left store.new) (S.faults store.new)) (halt_answer heaprec_texts halt)) }
     ensures not_done { IfErr result (λ halt. status_code halt.status ≢ 0) }
@@ -82,7 +88,7 @@ fn run_request<P: Recording, S: Store, O: Sink>(
         Ok(scripts) => scripts,
         Err(halt) => return Err(halt),
     };
-    match recording.record(desk.alloc, scripts, request.summary) {
+    match record_text(rt, desk.alloc, scripts, request.summary, gate) {
         Ok(text) => Ok(text),
         Err(NoMemory) => Err(Halt::no_memory()),
     }

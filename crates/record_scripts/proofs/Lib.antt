@@ -1,4 +1,5 @@
 mod KeptLemmas
+mod ModuleLemmas
 mod NodeLemmas
 mod TableLemmas
 mod TurnLemmas

@@ -2,6 +2,7 @@ pub mod Skipped
 pub mod Turns
 pub mod ScriptLine
 pub mod ModuleLine
+pub mod ModuleLines
 pub mod Events
 pub mod Job
 pub mod ScriptFaults

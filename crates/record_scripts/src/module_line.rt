@@ -1,7 +1,9 @@
 //! One line of a modules file.
 ghost use Rattle.std.specs.Prelude.{◌≡◌, ◌≢◌, ◌^◌, ◌<◌, [], ◌++◌, length, None, IsSome, IfErr, OnOk, OnErr, unwrap_or};
 ghost use Rattle.ht_lines.specs.ItemContent.{content};
+ghost use Rattle.ht_lines.specs.OneLine.{IsOneLine};
 ghost use Rattle.record_scripts.specs.ModuleLine.{is_module, module_in};
+ghost use Rattle.record_scripts.specs.ModuleLines.{AreModuleLines};
 
 use crate::fault::ScriptFault;
 use ht_lines::{Form, Item, put_item, read_item};
@@ -21,6 +23,7 @@ pub fn put_module_line(line: &[u8], out: &mut Vec<u8>) -> Result<(), ScriptFault
     ensures module { OnOk result (IsSome (module_in line.now)) }
     ensures fault { IfErr result (λ fault. fault ≢ ScriptFault.NoMemory → (fault ≡ ScriptFault.BadScriptLine) × (module_in line.now ≡ None)) }
     ensures unchanged { OnErr result (out.new.items ≡ out.old.items) }
+    ensures lines { IsOneLine line.now → AreModuleLines out.old.items → AreModuleLines out.new.items }
 {
     let Ok(item) = read_item(Form::Raw, FILE_VERSION, line) else {
         return Err(ScriptFault::BadScriptLine);

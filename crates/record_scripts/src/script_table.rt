@@ -1,11 +1,13 @@
 //! The scripts and the modules as they are kept: each turn with the node of its stack, and each distinct stack once.
 //! The lines that say the turns are no part of it.
 ghost use Rattle.std.specs.Prelude.{◌≡◌, ◌≢◌, ℕ, ◌+◌, ◌-◌, ◌^◌, ◌<◌, ◌≤◌, List, [], ◌∷◌, ◌++◌, length, reverse, IsSome, None, Some, IfErr, IfOk, IfSome, OnOk, OnErr, option_map, slice_get, unwrap_or};
+ghost use Rattle.ht_lines.specs.OneLine.{IsOneLine};
 ghost use Rattle.stack_table.specs.Continues.{Continues};
 ghost use Rattle.stack_table.specs.Stack.{stack};
 ghost use Rattle.record_scripts.specs.Events.{event_count};
 ghost use Rattle.record_scripts.specs.Job.{Job};
 ghost use Rattle.record_scripts.specs.ModuleLine.{module_in};
+ghost use Rattle.record_scripts.specs.ModuleLines.{AreModuleLines};
 ghost use Rattle.record_scripts.specs.Turns.{IsBounded, allocates, frees, reallocates, script_at};
 ghost use Rattle.record_scripts.specs.ScriptFaults.{Tells, turn_fault, with_turn};
 ghost use Rattle.record_scripts.specs.ScriptTurns.{AreSingle, IsHeld, turn_kept, turn_said};
@@ -71,6 +73,7 @@ impl ScriptTable {
         ensures said { OnOk result (IsSome (module_in line.now)) }
         ensures fault { IfErr result (λ fault. fault ≢ ScriptFault.NoMemory → (fault ≡ ScriptFault.BadScriptLine) × (module_in line.now ≡ None)) }
         ensures unchanged { OnErr result (self.new ≡ self.old) }
+        ensures lines { IsOneLine line.now → AreModuleLines self.old.modules → AreModuleLines self.new.modules }
     {
         put_module_line(line, &mut self.module_lines)
     }

@@ -2,8 +2,10 @@
 //! turns is no part of it.
 ghost use Rattle.std.specs.Prelude.{◌≡◌, ℕ, ◌^◌, ◌<◌, ◌≤◌, List, [], ◌∷◌, ◌++◌, length, None, IfErr, IfOk, IfSome, OnOk, OnErr, option_map, slice_get};
 ghost use Rattle.std.specs.Arc.{arc_value};
+ghost use Rattle.ht_lines.specs.OneLine.{IsOneLine};
 ghost use Rattle.record_scripts.specs.Events.{event_count};
 ghost use Rattle.record_scripts.specs.Job.{Job};
+ghost use Rattle.record_scripts.specs.ModuleLines.{AreModuleLines};
 ghost use Rattle.record_scripts.specs.ScriptFaults.{Tells, line_fault, module_fault, with_line, with_module_line};
 ghost use Rattle.record_scripts.specs.ScriptTurns.{turn_said};
 ghost use Rattle.record_scripts.specs.Turns.{IsBounded, script_at};
@@ -40,6 +42,7 @@ impl Scripts {
     pub fn new(alloc: Global, order: u64) -> Scripts
         requires { order < 2 ^ 24 }
         ensures empty { result ≡ record { limit = order; modules = []; scripts = [] } }
+        ensures no_lines { AreModuleLines result.modules }
     {
         Scripts {
             table: ScriptTable::new(alloc, order),
@@ -62,6 +65,9 @@ impl Scripts {
         ensures no_fault { OnOk result (module_fault line.now ≡ None) }
         ensures fault { IfErr result (λ fault. Tells fault (module_fault line.now)) }
         ensures unchanged { OnErr result (self.new ≡ self.old) }
+
+        // Lines without a line feed keep the modules whole lines about modules.
+        ensures lines { IsOneLine line.now → AreModuleLines self.old.modules → AreModuleLines self.new.modules }
     {
         if is_skipped(line) {
             return Ok(());
@@ -98,6 +104,7 @@ impl Scripts {
         ensures no_fault { OnOk result (line_fault self.old line.now ≡ None) }
         ensures fault { IfErr result (λ fault. Tells fault (line_fault self.old line.now)) }
         ensures unchanged { OnErr result (self.new ≡ self.old) }
+        ensures modules { self.new.modules ≡ self.old.modules }
     {
         if is_skipped(line) {
             return Ok(());

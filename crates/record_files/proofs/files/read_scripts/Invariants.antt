@@ -5,6 +5,7 @@ use Rattle.command_frame.specs.FirstFault.{bounds_of}
 use Rattle.command_frame.specs.Outcome.{moment}
 use Rattle.command_frame.specs.Texts.{texts_of}
 use Rattle.record_scripts.specs.Job.{Job}
+use Rattle.record_scripts.specs.ModuleLines.{AreModuleLines}
 use Rattle.record_files.specs.FilesPlan.{scripts_in, scripts_plan}
 use Rattle.record_files.specs.LeadsTo.{LeadsTo}
 use Rattle.record_files.proofs.files.read_scripts.Given as goal
@@ -26,6 +27,7 @@ invariant-each_name g l = record {
       });
   job : WhereTold (g.S.Store.files l.initial.store) (λ folder. scripts_in folder (map (λ name. name.now) (drop l.name-index l.names)) l.scripts ≡ scripts_in folder (map (λ name. name.now) l.names) l.initial.scripts);
   count : length l.scripts.scripts ≡ length l.initial.scripts.scripts + l.name-index;
+  modules : AreModuleLines l.scripts.modules;
   opens : g.S.Store.opens l.store ≡ g.S.Store.opens l.initial.store + l.name-index;
   input : l.lines.input ≡ l.desk.limits.input;
   line_limit : l.lines.line_limit ≡ l.desk.limits.line;

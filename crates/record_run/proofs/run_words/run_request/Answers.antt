@@ -27,11 +27,11 @@ returns-in-Err-clause-halted g c = λ text.
 pub returns-in-Err-clause-not_done : goal.returns-in-Err-clause-not_done
 returns-in-Err-clause-not_done g c = code_isnt_zero c.in-Err.halt.status
 
-pub returns-in-Ok-record-clause-all : goal.returns-in-Ok-record-clause-all
-returns-in-Ok-record-clause-all g c =
+pub returns-in-Ok-record_text-clause-all : goal.returns-in-Ok-record_text-clause-all
+returns-in-Ok-record_text-clause-all g c =
     let store = g.S.Store in
     let modules = option_copied c.args.request.now.modules in
-    let text = c.in-Ok-record.text.items in
+    let text = c.in-Ok-record_text.text.items in
     let limit = c.args.desk.now.limits.order in
     let before = moment (store.opens c.args.store.now) (store.current c.args.store.now) (store.left c.args.store.now) (store.faults c.args.store.now) in
     let now = moment (store.opens c.read_files.new.store) (store.current c.read_files.new.store) (store.left c.read_files.new.store) (store.faults c.read_files.new.store) in
@@ -41,14 +41,14 @@ returns-in-Ok-record-clause-all g c =
       subst (λ names. ran_as heaprec_texts names) c.deref.ensures.value (subst (λ texts. ran_as texts c.deref.result.now) c.requires.texts (leads.1 now (done text) (refl, inl refl))),
       record {
         job = c.in-Ok.scripts;
-        may = c.in-Ok-record.ensures;
+        may = c.in-Ok-record_text.ensures;
         count = c.in-Ok.ensures.count ∙ ap (λ (names : List (Bor (List ℕ))). length names) c.deref.ensures.value ∙ sym (length-map c.args.request.now.scripts.items (λ name. name.now));
         told = subst (λ (names : List (Bor (List ℕ))). WhereTold (store.files c.args.store.now) (λ folder. c.in-Ok.scripts ≡ job_in folder modules (map (λ name. name.now) names) limit)) c.deref.ensures.value c.in-Ok.ensures.job;
       },
     )
 
-pub returns-in-Err-record-clause-halted : goal.returns-in-Err-record-clause-halted
-returns-in-Err-record-clause-halted g c = λ text.
+pub returns-in-Err-record_text-clause-halted : goal.returns-in-Err-record_text-clause-halted
+returns-in-Err-record_text-clause-halted g c = λ text.
     let store = g.S.Store in
     let modules = option_copied c.args.request.now.modules in
     let before = moment (store.opens c.args.store.now) (store.current c.args.store.now) (store.left c.args.store.now) (store.faults c.args.store.now) in

@@ -6,6 +6,7 @@ use Rattle.command_frame.specs.Outcome.{moment}
 use Rattle.command_frame.specs.OutcomeAnswer.{outcome_answer}
 use Rattle.record_words.specs.RecordWords.{RecordAsked, record_asked}
 use Rattle.record_words.specs.Requests.{asked_by}
+use Rattle.record_run.specs.Recorded.{IsRecorded}
 use Rattle.record_run.specs.Run.{IsRecording, WordsRan}
 use Rattle.record_run.specs.Texts.{heaprec_texts}
 use Rattle.record_run.proofs.HaltLemmas.{code_isnt_zero, either}
@@ -19,7 +20,7 @@ returns-in-Ok-clause-ran g c =
     let asking : Option RecordAsked = record_asked (map string_bytes c.args.words.now) in
     let before = moment (store.opens c.args.store.now) (store.current c.args.store.now) (store.left c.args.store.now) (store.faults c.args.store.now) in
     let now = moment (store.opens c.run_request.new.store) (store.current c.run_request.new.store) (store.left c.run_request.new.store) (store.faults c.run_request.new.store) in
-    let told : Option RecordAsked → List ℕ → Answer → Type 0 = λ asked text given. WordsRan (bounds_of c.args.desk.now.limits) limit files text asked before now given × (given.status ≡ 0 → IsRecording g.P.Recording.may_write limit files asked given.output) in
+    let told : Option RecordAsked → List ℕ → Answer → Type 0 = λ asked text given. WordsRan (bounds_of c.args.desk.now.limits) limit files text asked before now given × (given.status ≡ 0 → IsRecording IsRecorded limit files asked given.output) in
     either c.run_request.result _ _ c.run_request.ensures.all c.run_request.ensures.halted
     (λ rest is ran.
     let given : outcome_answer heaprec_texts c.new.result ≡ done rest.items = subst (λ r. IfOk r (λ rest. (texts : _) → outcome_answer texts c.new.result ≡ done rest.items)) is c.new.ensures.all heaprec_texts in (

@@ -9,11 +9,12 @@ use Rattle.command_frame.specs.OutcomeAnswer.{outcome_answer}
 use Rattle.command_frame.specs.Texts.{texts_of}
 use Rattle.command_frame.proofs.OutputLemmas.{append_nothing}
 use Rattle.record_words.specs.RecordWords.{record_asked}
+use Rattle.record_run.specs.Recorded.{IsRecorded}
 use Rattle.record_run.specs.Run.{IsRecording}
 use Rattle.record_run.specs.Texts.{heaprec_texts}
 use Rattle.record_run.proofs.RunLemmas.{Ended, delivered_as, ended_run}
-use Rattle.record_run.proofs.run.record_run.Given.{Over}
-use Rattle.record_run.proofs.run.record_run.Goals as goal
+use Rattle.record_run.proofs.run.heaprec_run.Given.{Over}
+use Rattle.record_run.proofs.run.heaprec_run.Goals as goal
 
 -- faults of standard output that rose in the delivery have risen in the run
 out_later : (g : Over) (c : goal.Joined-outcome g) → Rose (g.O.Sink.faults c.run_words-outcome.new.out) (g.O.Sink.faults c.deliver.new.out) → Rose (g.O.Sink.faults c.args.out.now) (g.O.Sink.faults c.deliver.new.out)
@@ -24,13 +25,13 @@ out_later g c rose =
     ]
 
 -- what the run came to, and what was delivered
-ended : (g : Over) (c : goal.Joined-outcome g) → Ended g.P.Recording.may_write (bounds_of c.args.limits.now) c.args.limits.now.order (g.S.Store.files c.args.store.now) c.run_words-outcome.ensures.ran.0 (record_asked (map string_bytes c.args.words.now))
+ended : (g : Over) (c : goal.Joined-outcome g) → Ended IsRecorded (bounds_of c.args.limits.now) c.args.limits.now.order (g.S.Store.files c.args.store.now) c.run_words-outcome.ensures.ran.0 (record_asked (map string_bytes c.args.words.now))
     (moment (g.S.Store.opens c.args.store.now) (g.S.Store.current c.args.store.now) (g.S.Store.left c.args.store.now) (g.S.Store.faults c.args.store.now))
     (moment (g.S.Store.opens c.run_words-outcome.new.store) (g.S.Store.current c.run_words-outcome.new.store) (g.S.Store.left c.run_words-outcome.new.store) (g.S.Store.faults c.run_words-outcome.new.store))
     c.deliver.result (Rose (g.O.Sink.faults c.args.out.now) (g.O.Sink.faults c.deliver.new.out)) (Rose (g.E.Sink.faults c.args.err.now) (g.E.Sink.faults c.deliver.new.err))
     (g.O.Sink.written c.args.out.now) (g.O.Sink.written c.deliver.new.out) (g.E.Sink.written c.args.err.now) (g.E.Sink.written c.deliver.new.err)
     (outcome_answer heaprec_texts c.run_words-outcome.result)
-ended g c = ended_run g.P.Recording.may_write (bounds_of c.args.limits.now) c.args.limits.now.order (g.S.Store.files c.args.store.now) c.run_words-outcome.ensures.ran.0 (record_asked (map string_bytes c.args.words.now))
+ended g c = ended_run IsRecorded (bounds_of c.args.limits.now) c.args.limits.now.order (g.S.Store.files c.args.store.now) c.run_words-outcome.ensures.ran.0 (record_asked (map string_bytes c.args.words.now))
     (moment (g.S.Store.opens c.args.store.now) (g.S.Store.current c.args.store.now) (g.S.Store.left c.args.store.now) (g.S.Store.faults c.args.store.now))
     (moment (g.S.Store.opens c.run_words-outcome.new.store) (g.S.Store.current c.run_words-outcome.new.store) (g.S.Store.left c.run_words-outcome.new.store) (g.S.Store.faults c.run_words-outcome.new.store))
     c.deliver.result (Rose (g.O.Sink.faults c.run_words-outcome.new.out) (g.O.Sink.faults c.deliver.new.out)) (Rose (g.O.Sink.faults c.args.out.now) (g.O.Sink.faults c.deliver.new.out))
@@ -52,7 +53,7 @@ wrote g c out_quiet err_quiet = λ four.
 
 -- the recording that was delivered at status 0
 recording_of : (g : Over) (c : goal.Joined-outcome g) → c.deliver.result ≡ 0
-    → IsRecording g.P.Recording.may_write c.args.limits.now.order (g.S.Store.files c.args.store.now) (record_asked (map string_bytes c.args.words.now)) (outcome_answer heaprec_texts c.run_words-outcome.result).output
+    → IsRecording IsRecorded c.args.limits.now.order (g.S.Store.files c.args.store.now) (record_asked (map string_bytes c.args.words.now)) (outcome_answer heaprec_texts c.run_words-outcome.result).output
 recording_of g c zero = let e = ended g c in e.recorded (sym (e.delivered (λ four. omega (arith, zero, four))).status_is ∙ zero)
 
 pub returns-clause-recorded : goal.returns-clause-recorded
@@ -68,7 +69,7 @@ returns-clause-defined g c = λ folder told quiet out_quiet err_quiet memory.
       c.run_words-outcome.ensures.ran.0,
       (
         delivered_as same delivered,
-        λ zero. subst (λ (a : Answer). IsRecording g.P.Recording.may_write c.args.limits.now.order (g.S.Store.files c.args.store.now) (record_asked (map string_bytes c.args.words.now)) a.output) same (recording_of g c zero),
+        λ zero. subst (λ (a : Answer). IsRecording IsRecorded c.args.limits.now.order (g.S.Store.files c.args.store.now) (record_asked (map string_bytes c.args.words.now)) a.output) same (recording_of g c zero),
       ),
     )
 

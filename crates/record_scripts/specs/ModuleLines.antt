@@ -1,0 +1,21 @@
+-- The text of modules, as scripts keep it: whole lines about modules.
+use Rattle.std.specs.Prelude.{◌≡◌, ℕ, true, List, [], ◌∷◌, ◌++◌}
+use Rattle.std.specs.List.{AllByRecursion}
+use Rattle.ht_lines.specs.Content.{Content}
+use Rattle.ht_lines.specs.OneLine.{HasOneLineTexts}
+use Rattle.ht_lines.specs.Written.{written}
+use Rattle.record_scripts.specs.ModuleLine.{is_module}
+
+-- what one line about modules says: a name in it has no line feed
+pub record IsModuleSaid (said : Content) : Type 0 where
+  pub about : is_module said ≡ true
+  pub texts : HasOneLineTexts said
+
+-- the written forms of what is said, each with its line feed
+abbrev pub module_lines : List Content → List ℕ
+module_lines [] = []
+module_lines (said ∷ more) = (written 2 said ++ 10 ∷ []) ++ module_lines more
+
+-- the text is a sequence of such lines
+abbrev pub AreModuleLines : List ℕ → Type 0
+AreModuleLines text = (said : List Content) × AllByRecursion IsModuleSaid said × (text ≡ module_lines said)
