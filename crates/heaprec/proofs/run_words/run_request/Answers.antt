@@ -10,9 +10,9 @@ use Rattle.command_frame.specs.Texts.{Texts, texts_of}
 use Rattle.command_frame.specs.Run.{Ran}
 use Rattle.record_files.specs.FileLines.{no_job}
 use Rattle.record_files.specs.FilesPlan.{files_named, files_plan, job_in}
-use Rattle.record_run.specs.Texts.{heaprec_texts}
-use Rattle.record_run.proofs.HaltLemmas.{code_isnt_zero}
-use Rattle.record_run.proofs.run_words.run_request.Goals as goal
+use Rattle.heaprec.specs.Texts.{heaprec_texts}
+use Rattle.heaprec.proofs.HaltLemmas.{code_isnt_zero}
+use Rattle.heaprec.proofs.run_words.run_request.Goals as goal
 
 pub returns-in-Err-clause-halted : goal.returns-in-Err-clause-halted
 returns-in-Err-clause-halted g c = λ text.

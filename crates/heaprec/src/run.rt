@@ -10,10 +10,10 @@ ghost use Rattle.command_frame.specs.FirstFault.{bounds_of};
 ghost use Rattle.command_frame.specs.Outcome.{moment};
 ghost use Rattle.command_frame.specs.RunFacts.{NotRead};
 ghost use Rattle.record_words.specs.RecordWords.{record_asked};
-ghost use Rattle.record_run.specs.Answer.{names_asked, rec_answer};
-ghost use Rattle.record_run.specs.Run.{IsRecording, WordsRan};
-ghost use Rattle.record_run.specs.Texts.{heaprec_texts as the_texts};
-ghost use Rattle.record_run.specs.Recorded.{IsRecorded};
+ghost use Rattle.heaprec.specs.Answer.{names_asked, rec_answer};
+ghost use Rattle.heaprec.specs.Run.{IsRecording, WordsRan};
+ghost use Rattle.heaprec.specs.Texts.{heaprec_texts as the_texts};
+ghost use Rattle.heaprec.specs.Recorded.{IsRecorded};
 
 use crate::open_gate::OpenGate;
 use crate::run_words::run_words;

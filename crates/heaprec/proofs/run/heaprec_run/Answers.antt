@@ -9,12 +9,12 @@ use Rattle.command_frame.specs.OutcomeAnswer.{outcome_answer}
 use Rattle.command_frame.specs.Texts.{texts_of}
 use Rattle.command_frame.proofs.OutputLemmas.{append_nothing}
 use Rattle.record_words.specs.RecordWords.{record_asked}
-use Rattle.record_run.specs.Recorded.{IsRecorded}
-use Rattle.record_run.specs.Run.{IsRecording}
-use Rattle.record_run.specs.Texts.{heaprec_texts}
-use Rattle.record_run.proofs.RunLemmas.{Ended, delivered_as, ended_run}
-use Rattle.record_run.proofs.run.heaprec_run.Given.{Over}
-use Rattle.record_run.proofs.run.heaprec_run.Goals as goal
+use Rattle.heaprec.specs.Recorded.{IsRecorded}
+use Rattle.heaprec.specs.Run.{IsRecording}
+use Rattle.heaprec.specs.Texts.{heaprec_texts}
+use Rattle.heaprec.proofs.RunLemmas.{Ended, delivered_as, ended_run}
+use Rattle.heaprec.proofs.run.heaprec_run.Given.{Over}
+use Rattle.heaprec.proofs.run.heaprec_run.Goals as goal
 
 -- faults of standard output that rose in the delivery have risen in the run
 out_later : (g : Over) (c : goal.Joined-outcome g) → Rose (g.O.Sink.faults c.run_words-outcome.new.out) (g.O.Sink.faults c.deliver.new.out) → Rose (g.O.Sink.faults c.args.out.now) (g.O.Sink.faults c.deliver.new.out)

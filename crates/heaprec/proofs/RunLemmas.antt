@@ -19,9 +19,9 @@ use Rattle.record_files.specs.FileLines.{no_job}
 use Rattle.record_files.specs.FilesPlan.{files_named}
 use Rattle.record_files.proofs.SilentLemmas.{files_silent}
 use Rattle.record_words.specs.RecordWords.{RecordAsked}
-use Rattle.record_run.specs.Answer.{asked_answer, names_asked, record_plan}
-use Rattle.record_run.specs.Run.{IsRecording, WordsRan}
-use Rattle.record_run.specs.Texts.{heaprec_texts}
+use Rattle.heaprec.specs.Answer.{asked_answer, names_asked, record_plan}
+use Rattle.heaprec.specs.Run.{IsRecording, WordsRan}
+use Rattle.heaprec.specs.Texts.{heaprec_texts}
 
 -- what follows for the answer of a run
 pub record AskedFacts (bounds : Bounds) (limit : ℕ) (files : Option Folder) (text : List ℕ) (asking : Option RecordAsked) (before now : Moment) (given : Answer) : Type 0 where

@@ -2,7 +2,7 @@
 ghost use Rattle.std.specs.Prelude.{IfOk};
 ghost use Rattle.record_scripts.specs.ModuleLines.{AreModuleLines};
 ghost use Rattle.record_book.specs.Orders.{IsInterleaving};
-ghost use Rattle.record_run.specs.Recorded.{IsRecorded};
+ghost use Rattle.heaprec.specs.Recorded.{IsRecorded};
 
 use hp_num::{NoMemory, put_bytes};
 use record_book::Book;

@@ -9,8 +9,8 @@ use Rattle.command_frame.specs.Run.{Ran}
 use Rattle.record_files.specs.FilesPlan.{files_named}
 use Rattle.record_scripts.specs.Job.{Job}
 use Rattle.record_words.specs.RecordWords.{RecordAsked}
-use Rattle.record_run.specs.Answer.{count_asked, job_asked, record_plan, summary_asked}
-use Rattle.record_run.specs.Texts.{heaprec_texts}
+use Rattle.heaprec.specs.Answer.{count_asked, job_asked, record_plan, summary_asked}
+use Rattle.heaprec.specs.Texts.{heaprec_texts}
 
 -- a run of what was asked, or of words that aren't taken
 abbrev pub AskedRan : Bounds → ℕ → Option Folder → List ℕ → Option RecordAsked → Moment → Moment → Answer → Type 0

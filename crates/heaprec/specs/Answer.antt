@@ -8,7 +8,7 @@ use Rattle.record_scripts.specs.Job.{Job}
 use Rattle.record_files.specs.FileLines.{no_job}
 use Rattle.record_files.specs.FilesPlan.{files_named, files_plan, job_in}
 use Rattle.record_words.specs.RecordWords.{RecordAsked, record_asked}
-use Rattle.record_run.specs.Texts.{heaprec_texts}
+use Rattle.heaprec.specs.Texts.{heaprec_texts}
 
 -- what is done with the files: the text is written behind them, and says nothing of their faults
 abbrev pub record_plan : ℕ → List ℕ → RecordAsked → Plan

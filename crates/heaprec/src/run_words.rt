@@ -9,9 +9,9 @@ ghost use Rattle.command_frame.specs.OutcomeAnswer.{outcome_answer};
 ghost use Rattle.command_frame.specs.Texts.{texts_of};
 ghost use Rattle.record_words.specs.RecordWords.{record_asked};
 ghost use Rattle.record_words.specs.Requests.{asked_by};
-ghost use Rattle.record_run.specs.Recorded.{IsRecorded};
-ghost use Rattle.record_run.specs.Run.{AskedRan, IsRecording, WordsRan};
-ghost use Rattle.record_run.specs.Texts.{heaprec_texts};
+ghost use Rattle.heaprec.specs.Recorded.{IsRecorded};
+ghost use Rattle.heaprec.specs.Run.{AskedRan, IsRecording, WordsRan};
+ghost use Rattle.heaprec.specs.Texts.{heaprec_texts};
 
 use crate::record_text::record_text;
 use command_frame::{Desk, Halt, Outcome};

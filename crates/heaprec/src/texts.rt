@@ -1,7 +1,7 @@
 //! The texts of the program.
 ghost use Rattle.std.specs.Prelude.{◌≡◌};
 ghost use Rattle.command_frame.specs.Texts.{texts_of};
-ghost use Rattle.record_run.specs.Texts.{heaprec_texts as texts_of_heaprec};
+ghost use Rattle.heaprec.specs.Texts.{heaprec_texts as texts_of_heaprec};
 
 use command_frame::ProgramTexts;
 

@@ -6,11 +6,11 @@ use Rattle.command_frame.specs.Outcome.{moment}
 use Rattle.command_frame.specs.OutcomeAnswer.{outcome_answer}
 use Rattle.record_words.specs.RecordWords.{RecordAsked, record_asked}
 use Rattle.record_words.specs.Requests.{asked_by}
-use Rattle.record_run.specs.Recorded.{IsRecorded}
-use Rattle.record_run.specs.Run.{IsRecording, WordsRan}
-use Rattle.record_run.specs.Texts.{heaprec_texts}
-use Rattle.record_run.proofs.HaltLemmas.{code_isnt_zero, either}
-use Rattle.record_run.proofs.run_words.run_words.Goals as goal
+use Rattle.heaprec.specs.Recorded.{IsRecorded}
+use Rattle.heaprec.specs.Run.{IsRecording, WordsRan}
+use Rattle.heaprec.specs.Texts.{heaprec_texts}
+use Rattle.heaprec.proofs.HaltLemmas.{code_isnt_zero, either}
+use Rattle.heaprec.proofs.run_words.run_words.Goals as goal
 
 pub returns-in-Ok-clause-ran : goal.returns-in-Ok-clause-ran
 returns-in-Ok-clause-ran g c =

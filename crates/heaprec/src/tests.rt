@@ -1,0 +1,6 @@
+//! Whole runs over a folder in memory.
+
+mod gates;
+mod one_script;
+mod runs;
+mod two_scripts;

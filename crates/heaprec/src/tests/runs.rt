@@ -1,0 +1,59 @@
+//! Runs over a folder in memory.
+
+use crate::run::heaprec_run;
+use hp_num::{put_bytes, put_dec};
+use hp_outside::{Limits, MemSink, MemStore};
+use recorder::Gate;
+use std::alloc::Global;
+use std::sync::Wait;
+use std::test::Fail;
+use std::thread::Threads;
+
+/// A modules file.
+const MODULES: &str = "# modules\nm app  01000 0 1F00\nm -\n";
+
+/// The words, which stand between blanks.
+fn listed(alloc: Global, words: &str) -> Result<Vec<String>, Fail> {
+    let mut list = Vec::new(alloc);
+    if !words.is_empty() {
+        for word in words.split(' ') {
+            list.push(String::from_str(alloc, word)?)?;
+        }
+    }
+    Ok(list)
+}
+
+/// Runs the words and appends what both outputs got and the status in brackets. The folder has the script `s`, the scripts `s0` and
+/// `s1`, and the modules file `m`; all scripts may have so many events.
+pub fn append_run<R: Threads + Wait + Sync, G: Gate + Sync>(
+    rt: &R,
+    alloc: Global,
+    script: &[u8],
+    most_events: u16,
+    words: &str,
+    gate: &G,
+    all: &mut Vec<u8>,
+) -> Result<(), Fail> {
+    let list = listed(alloc, words)?;
+    let limits = Limits {
+        input: 100_000,
+        line: 1000,
+        order: u64::from(most_events),
+    };
+    let mut store = MemStore::new(alloc, 16);
+    store.add("s", script)?;
+    store.add("s0", b"a 1 40 500 400\nf 1\n")?;
+    store.add("s1", b"a 1 8 400\n")?;
+    store.add("m", MODULES.as_bytes())?;
+    let mut out = MemSink::new(alloc, 10_000)?;
+    let mut err = MemSink::new(alloc, 1000)?;
+    let status = heaprec_run(
+        rt, alloc, &list, &limits, &mut store, &mut out, &mut err, gate,
+    );
+    put_bytes(all, out.bytes())?;
+    put_bytes(all, err.bytes())?;
+    put_bytes(all, b"[")?;
+    put_dec(all, u64::from(status))?;
+    put_bytes(all, b"]\n")?;
+    Ok(())
+}
