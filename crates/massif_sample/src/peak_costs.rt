@@ -53,16 +53,6 @@ impl PeakCosts {
         Ok(PeakCosts { costs })
     }
 
-    /// What the stack cost.
-    pub(crate) fn at(&self, stack: u32) -> u64
-        ensures { result ≡ slice_index_or self.now stack 0 }
-    {
-        match self.costs.get(stack as usize) {
-            Some(cost) => *cost,
-            None => 0,
-        }
-    }
-
     /// The lines of the peak's tree, which has this total, over the stacks' lists, or `NoMemory`.
     pub(crate) fn tree(
         &self,
@@ -74,8 +64,19 @@ impl PeakCosts {
         ensures lines { IfOk result (λ lines. (tables : TableState) (names : List (List ℕ)) → fronts.now ≡ first_lists tables names (options.now.depth + 1) (length fronts.now) →
             lines ≡ massif_tree options.now total (costed (trimmed_before tables names (length fronts.now)) (padded (length fronts.now) self.now))) }
     {
-        let costing = Costing::new(fronts.len(), |stack: u32| self.at(stack));
+        let costs: &[u64] = &self.costs;
+        let costing = Costing::new(fronts.len(), |stack: u32| cost_at(costs, stack));
         snapshot_tree(alloc, fronts, &costing, options, total)
+    }
+}
+
+/// What the stack costs, and 0 where it has no cost.
+fn cost_at(costs: &[u64], stack: u32) -> u64
+    ensures { result ≡ slice_index_or costs.now stack 0 }
+{
+    match costs.get(stack as usize) {
+        Some(cost) => *cost,
+        None => 0,
     }
 }
 
