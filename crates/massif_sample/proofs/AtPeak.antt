@@ -1,11 +1,11 @@
 -- What stacks cost at the peak, and the tree that is built of it at the end, when there may be more stacks.
-use Rattle.std.proofs.Common.{◌≡◌, ℕ, zero, suc, ◌+◌, ◌-◌, ◌<◌, ◌≤◌, ◌^◌, List, [], ◌∷◌, length, map, get_or, sum, refl, ap, sym, subst, ◌∙◌, ◌⊎◌, inl, inr, arith}
+use Rattle.std.proofs.Common.{◌≡◌, ℕ, zero, suc, ◌+◌, ◌-◌, ◌<◌, ◌≤◌, List, [], ◌∷◌, length, map, sum, refl, ap, sym, ◌∙◌, ◌⊎◌, inl, inr, arith}
 use Rattle.std.proofs.lemmas.Bool.{cases_lt}
 use Rattle.std.specs.Prelude.{slice_get, slice_index_or, Some, sum_by}
-use Rattle.std.specs.List.{AllByRecursion, range_with_len}
+use Rattle.std.specs.List.{range_with_len}
 use Rattle.std.proofs.lemmas.List.{get_or_past}
 use Rattle.std.proofs.lemmas.List.FromFn.{get_or-map-range_with_len, length-map-range_with_len}
-use Rattle.std.proofs.lemmas.List.Sums.{sum-map, sum_by-append, sum_by-cons}
+use Rattle.std.proofs.lemmas.List.Sums.{sum-map, sum_by-cons}
 use Rattle.std.proofs.lemmas.Option.{slice_get-get_or}
 use Rattle.cost_tree.specs.Costed.{Costed, costed}
 use Rattle.ht_trace.specs.TableState.{TableState}
@@ -20,7 +20,7 @@ use Rattle.massif_sample.specs.Options.{tree_options}
 use Rattle.massif_sample.specs.Padded.{padded}
 use Rattle.massif_sample.specs.Places.{gross_at}
 use Rattle.massif_sample.specs.Snapshots.{cost_at, costs_at, tree_at}
-use Rattle.massif_sample.specs.StandsFor.{AreCostsAt, AreOfStacks, IsOfStack}
+use Rattle.massif_sample.specs.StandsFor.{AreCostsAt, AreOfStacks}
 use Rattle.massif_sample.proofs.Costs.{map-same}
 use Rattle.massif_sample.proofs.Growing.{cost-none, costed-idle, costed-parts, of-stacks}
 

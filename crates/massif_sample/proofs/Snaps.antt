@@ -15,7 +15,7 @@ use Rattle.massif_cull.specs.declared.snapshot.Kind.TheVariants as kind
 use Rattle.massif_cull.specs.declared.snapshot.Offer.{Offer}
 use Rattle.massif_cull.specs.declared.snapshot.SnapEntry.{SnapEntry}
 use Rattle.massif_cull.specs.declared.snapshot.Taken.{Taken}
-use Rattle.massif_cull.specs.declared.snapshot.Taken.TheVariants.{No, Normal}
+use Rattle.massif_cull.specs.declared.snapshot.Taken.TheVariants.{No}
 use Rattle.massif_cull.specs.Entries.{end_peak}
 use Rattle.massif_cull.specs.Origins.{ComeFrom, IsOffered, WasHeld, kind_of}
 use Rattle.massif_cull.specs.Step.{entry_of}

@@ -81,10 +81,7 @@ fn cost_at(costs: &[u64], stack: u32) -> u64
 }
 
 /// The costs of all stacks, in their order, or `NoMemory`.
-fn list_costs<F: Fn(u32) -> u64>(
-    alloc: Global,
-    costing: &Costing<F>,
-) -> Result<Vec<u64>, NoMemory>
+fn list_costs<F: Fn(u32) -> u64>(alloc: Global, costing: &Costing<F>) -> Result<Vec<u64>, NoMemory>
     requires stated { (costs : List ℕ) × AreCosts (F.pre costing.now.cost) (F.post costing.now.cost) costing.now.stacks costs }
     ensures costs { IfOk result (λ list. (costs : List ℕ) → AreCosts (F.pre costing.now.cost) (F.post costing.now.cost) costing.now.stacks costs → list.items ≡ costs) }
 {

@@ -1,15 +1,13 @@
 -- Lemmas on the trimmed lists of stacks, and on what a tree needs of them.
-use Rattle.std.proofs.Common.{◌≡◌, ℕ, ◌+◌, ◌-◌, ◌<◌, ◌≤◌, eqb, false, List, [], ◌∷◌, ◌++◌, length, map, min, take, drop, get_or, Some, sym, ap, ◌∙◌, subst, arith}
-use Rattle.std.specs.Prelude.{slice_get, slice_index, sum, sum_by}
+use Rattle.std.proofs.Common.{◌≡◌, ℕ, ◌+◌, ◌-◌, ◌≤◌, List, [], ◌∷◌, ◌++◌, length, map, min, take, drop, sym, ap, ◌∙◌, arith}
+use Rattle.std.specs.Prelude.{sum, sum_by}
 use Rattle.std.specs.List.{prefix_len, range_with_len}
-use Rattle.std.proofs.lemmas.Bool.{cond-false}
-use Rattle.std.proofs.lemmas.Bool.Decides.{nat_tests, same_from_decides}
+use Rattle.std.proofs.lemmas.Bool.Decides.{same_from_decides}
 use Rattle.std.proofs.lemmas.List.{length-drop, length-take, take-map, take_all, take_min}
-use Rattle.std.proofs.lemmas.List.FromFn.{get_or-range_with_len, length-map-range_with_len, length-range_with_len}
+use Rattle.std.proofs.lemmas.List.FromFn.{length-map-range_with_len}
 use Rattle.std.proofs.lemmas.List.Sums.{sum_by-cons}
-use Rattle.std.proofs.lemmas.Option.{get_or_from_slice_get, slice_get_within}
 use Rattle.cost_tree.specs.Costed.{Costed, costed}
-use Rattle.cost_tree.specs.Inclusive.{has_front, is_front}
+use Rattle.cost_tree.specs.Inclusive.{is_front}
 use Rattle.cost_tree.specs.IsTreeOf.{IsTreeOf}
 use Rattle.cost_tree.specs.TreeState.{TreeState}
 use Rattle.cost_tree.proofs.Alike.{AreAlike, IsSameTo-map, IsTreeOf-same}

@@ -91,6 +91,9 @@ returns-clause-sampling g c =
     let detailed = taken ∙ sym c.judge-taken.ensures.taken ∙ taken-detailed c.judge-taken.result some no_normal no_peak in
     subst (λ (o : Offer). IsSampling c.take-2.new.self names c.args.tables.now events (made ++ o ∷ [])) offer_is
     (c.take-2.ensures.sampling names c.args.tables.now events made
-    (inr (detailed, tree-here samples.options names c.args.tables.now events samples.running costs _ (length samples.fronts) samples.running.gross known.figures refl c.in_ok-add_fronts.ensures.count
-    (c.in_ok-tree.ensures.lines c.args.tables.now names.alloc_fns costs known.fronts.are stated) same stated.bound))
+    (inr (
+      detailed,
+      tree-here samples.options names c.args.tables.now events samples.running costs _ (length samples.fronts) samples.running.gross known.figures refl c.in_ok-add_fronts.ensures.count
+          (c.in_ok-tree.ensures.lines c.args.tables.now names.alloc_fns costs known.fronts.are stated) same stated.bound,
+    ))
     known)

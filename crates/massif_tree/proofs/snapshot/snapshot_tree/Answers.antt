@@ -1,4 +1,4 @@
-use Rattle.std.proofs.Common.{ℕ, ◌+◌, List, length, ap, ◌∙◌, subst, arith}
+use Rattle.std.proofs.Common.{ℕ, List, length, subst, arith}
 use Rattle.std.proofs.lemmas.Result.{IfOk-weaker}
 use Rattle.cost_tree.specs.Costed.{costed}
 use Rattle.cost_tree.specs.IsTreeOf.{IsTreeOf}

@@ -1,4 +1,4 @@
-use Rattle.std.proofs.Common.{◌≡◌, ℕ, ◌+◌, List, [], ◌∷◌, ◌++◌, length, sym, ap, ◌∙◌, arith}
+use Rattle.std.proofs.Common.{◌≡◌, ℕ, ◌+◌, [], ◌∷◌, ◌++◌, length, sym, ap, ◌∙◌, arith}
 use Rattle.massif_tree.specs.FirstLists.{first_lists, first_texts}
 use Rattle.massif_tree.proofs.Trimming.{first-more}
 use Rattle.massif_tree.proofs.trimmed_fronts.add_trimmed.Goals as goal
