@@ -1,5 +1,6 @@
 -- A sampler whose tables grow: it stands for the same events, since what it keeps is of stacks that were there before.
-use Rattle.std.proofs.Common.{◌≡◌, ℕ, zero, suc, ◌+◌, ◌-◌, ◌<◌, ◌≤◌, ◌^◌, List, [], ◌∷◌, ◌++◌, length, map, drop, get_or, eqb, Bool, true, false, cond, Option, Some, refl, ap, sym, subst, ◌∙◌, arith}
+use Rattle.std.proofs.Common.{◌≡◌, ℕ, zero, suc, ◌+◌, ◌-◌, ◌<◌, ◌≤◌, ◌^◌, List, [], ◌∷◌, ◌++◌, length, map, drop, get_or, eqb, take, ◌⊎◌, inl, inr, Bool, true, false, cond, Option, Some, refl, ap, sym, subst, ◌∙◌, arith}
+use Rattle.std.proofs.lemmas.Bool.{cases_lt}
 use Rattle.std.specs.Prelude.{All, slice_get, sum, sum_by}
 use Rattle.std.specs.List.{AllByRecursion, list_any, prefix_len, range_with_len}
 use Rattle.std.specs.Option.{option_map_or}
@@ -17,6 +18,7 @@ use Rattle.ht_trace.specs.TableState.{TableState}
 use Rattle.ht_trace.proofs.SoundLemmas.{stack-places}
 use Rattle.massif_tree.specs.FunctionLists.{is_ignored, is_listed, trimmed, trimmed_texts, without_listed}
 use Rattle.massif_tree.specs.FunctionLists.{trimmed_lists}
+use Rattle.massif_tree.specs.FirstLists.{first_lists, first_texts}
 use Rattle.massif_tree.specs.MassifTree.{massif_tree}
 use Rattle.massif_tree.proofs.Idle.{AreIdle, range-parts, tree-idle}
 use Rattle.cost_tree.specs.Costed.{Costed, costed}
@@ -36,7 +38,7 @@ use Rattle.massif_sample.specs.Options.{tree_options}
 use Rattle.massif_sample.specs.Places.{gross_at, up_to}
 use Rattle.massif_sample.specs.SamplesState.{SamplesState}
 use Rattle.massif_sample.specs.Snapshots.{cost_at, costs_at, tree_at}
-use Rattle.massif_sample.specs.StandsFor.{AreOfStacks, IsOfStack, IsSnapshot, IsTreeAt, StandsFor, WhereTree}
+use Rattle.massif_sample.specs.StandsFor.{AreCostsAt, AreFronts, AreOfStacks, IsOfStack, IsSnapshot, IsTreeAt, StandsFor, WhereTree}
 use Rattle.massif_sample.proofs.Agreeing.{Agree, AgreeAt, figures-same, gross_at-same, heap_at-same, offers-same, time_at-same}
 use Rattle.massif_sample.proofs.Costs.{map-same}
 
@@ -96,7 +98,7 @@ texts-same old new names n more held =
     (λ k d within. more.texts Addressed (get_or (trimmed old names n) k d) (trimmed-held old names n k d within))
 
 -- the stack of each event, by recursion
-of-stacks : (tables : TableState) (events : List Event) → AreOfStacks tables events → AllByRecursion (IsOfStack tables) events
+pub of-stacks : (tables : TableState) (events : List Event) → AreOfStacks tables events → AllByRecursion (IsOfStack tables) events
 of-stacks tables [] held = tt
 of-stacks tables (e ∷ es) held = (held 0 e refl, of-stacks tables es (λ k event is. held (suc k) event is))
 
@@ -137,7 +139,7 @@ free-none tables stack above (Alloc i s z) held = refl
 free-none tables stack above (Free i s z) held = ap (λ (b : Bool). cond {A = ℕ} b z 0) (let apart : eqb s stack ≡ false = grind (arith, nat_tests, above, held) in apart)
 free-none tables stack above (Tick ms) held = refl
 
-cost-none : (tables : TableState) (ignored : ℕ → Bool) (events : List Event) (k stack : ℕ) → length tables.nodes < stack → AllByRecursion (IsOfStack tables) events → cost_at ignored events k stack ≡ 0
+pub cost-none : (tables : TableState) (ignored : ℕ → Bool) (events : List Event) (k stack : ℕ) → length tables.nodes < stack → AllByRecursion (IsOfStack tables) events → cost_at ignored events k stack ≡ 0
 cost-none tables ignored events k stack above held =
     let upto = all-up_to (IsOfStack tables) k events held in
     let allocated = sum-none (alloc_size_in stack) tables (up_to k events) (alloc-none tables stack above) upto in
@@ -160,12 +162,12 @@ count-more : (old new : TableState) → Continues old new → length new.nodes +
 count-more old new more = let held = more.held in omega arith
 
 -- stacks side by side with their costs, in two parts
-costed-parts : (texts : ℕ → List (List ℕ)) (cost : ℕ → ℕ) (ks ls : List ℕ) → costed (map texts (ks ++ ls)) (map cost (ks ++ ls)) ≡ costed (map texts ks) (map cost ks) ++ costed (map texts ls) (map cost ls)
+pub costed-parts : (texts : ℕ → List (List ℕ)) (cost : ℕ → ℕ) (ks ls : List ℕ) → costed (map texts (ks ++ ls)) (map cost (ks ++ ls)) ≡ costed (map texts ks) (map cost ks) ++ costed (map texts ls) (map cost ls)
 unfolding costed
 costed-parts texts cost [] ls = refl
 costed-parts texts cost (k ∷ ks) ls = ap (λ (stacks : List Costed). record { texts = texts k; cost = cost k } ∷ stacks) (costed-parts texts cost ks ls)
 
-costed-idle : (texts : ℕ → List (List ℕ)) (cost : ℕ → ℕ) (a n : ℕ) → ((k : ℕ) → a ≤ k → cost k ≡ 0) → AreIdle (costed (map texts (range_with_len a n)) (map cost (range_with_len a n)))
+pub costed-idle : (texts : ℕ → List (List ℕ)) (cost : ℕ → ℕ) (a n : ℕ) → ((k : ℕ) → a ≤ k → cost k ≡ 0) → AreIdle (costed (map texts (range_with_len a n)) (map cost (range_with_len a n)))
 unfolding costed
 costed-idle texts cost a zero none = tt
 costed-idle texts cost a (suc n) none = (none a (omega arith), costed-idle texts cost (a + 1) n (λ k low. none k (omega arith)))
@@ -220,9 +222,28 @@ sum-grown names old new events k more held =
     let same = ap sum (map-same cost (cost_at (ignores old names) events k) 0 count (λ n low high. cost-same old new names events k n more (omega arith))) in
     omega arith
 
-tree_at-grown : (options : MassifOptions) (names : FunctionNames) (old new : TableState) (events : List Event) (place : ℕ) (kind : Kind) (tree : List TreeLine) → Continues old new → AllByRecursion (IsOfStack old) events
-    → WhereTree kind (IsTreeAt options names old events place tree) → WhereTree kind (IsTreeAt options names new events place tree)
-tree_at-grown options names old new events place kind tree more held is = by_kind kind is
+-- the costs of the peak stay those of its place
+costs_at-grown : (names : FunctionNames) (old new : TableState) (events : List Event) (place : ℕ) (peak : List ℕ) → Continues old new → AllByRecursion (IsOfStack old) events
+    → AreCostsAt names old events place peak → AreCostsAt names new events place peak
+costs_at-grown names old new events place peak more held was = record { each = λ stack. same stack (cases_lt (length old.nodes) stack) ∙ was.each stack } where
+  same : (stack : ℕ) → (length old.nodes < stack) ⊎ (stack ≤ length old.nodes) → cost_at (ignores new names) events place stack ≡ cost_at (ignores old names) events place stack
+  same stack (inl above) = cost-none old (ignores new names) events place stack above held ∙ sym (cost-none old (ignores old names) events place stack above held)
+  same stack (inr below) = cost-same old new names events place stack more below
+
+-- and the lists are still the stacks' texts
+fronts-grown : (options : MassifOptions) (names : FunctionNames) (old new : TableState) (fronts : List (List (List ℕ))) → Continues old new → AreFronts options names old fronts → AreFronts options names new fronts
+unfolding first_lists
+fronts-grown options names old new fronts more was = record {
+  held = let within = was.held in let grown = more.held in omega arith;
+  are =
+      was.are
+      ∙ map-same (first_texts old names.alloc_fns (options.depth + 1)) (first_texts new names.alloc_fns (options.depth + 1)) 0 (length fronts)
+      (λ n low high. ap (λ (texts : List (List ℕ)). take (options.depth + 1) texts) (sym (texts-same old new names.alloc_fns n more (let within = was.held in omega arith))));
+}
+
+tree_at-grown : (options : MassifOptions) (names : FunctionNames) (old new : TableState) (events : List Event) (place : ℕ) (peak : List ℕ) (kind : Kind) (tree : List TreeLine) → Continues old new → AllByRecursion (IsOfStack old) events
+    → WhereTree kind (IsTreeAt options names old events place tree) (AreCostsAt names old events place peak) → WhereTree kind (IsTreeAt options names new events place tree) (AreCostsAt names new events place peak)
+tree_at-grown options names old new events place peak kind tree more held is = by_kind kind is
   where
     is_tree : IsTreeAt options names old events place tree → IsTreeAt options names new events place tree
     is_tree was = record {
@@ -230,14 +251,14 @@ tree_at-grown options names old new events place kind tree more held is = by_kin
       costs = subst (λ (n : ℕ). n ≤ 2 ^ 62) (sym (sum-grown names old new events place more held)) was.costs;
     }
 
-    by_kind : (kind : Kind) → WhereTree kind (IsTreeAt options names old events place tree) → WhereTree kind (IsTreeAt options names new events place tree)
+    by_kind : (kind : Kind) → WhereTree kind (IsTreeAt options names old events place tree) (AreCostsAt names old events place peak) → WhereTree kind (IsTreeAt options names new events place tree) (AreCostsAt names new events place peak)
     by_kind Normal was = tt
     by_kind Detailed was = is_tree was
-    by_kind Peak was = is_tree was
+    by_kind Peak was = costs_at-grown names old new events place peak more held was
 
-snapshot-grown : (options : MassifOptions) (names : FunctionNames) (old new : TableState) (events : List Event) (entry : SnapEntry) (load : Load) → Continues old new → AllByRecursion (IsOfStack old) events
-    → IsSnapshot options names old events entry load → IsSnapshot options names new events entry load
-snapshot-grown options names old new events entry load more held was =
+snapshot-grown : (options : MassifOptions) (names : FunctionNames) (old new : TableState) (events : List Event) (peak : List ℕ) (entry : SnapEntry) (load : Load) → Continues old new → AllByRecursion (IsOfStack old) events
+    → IsSnapshot options names old events peak entry load → IsSnapshot options names new events peak entry load
+snapshot-grown options names old new events peak entry load more held was =
     let agree = agree-all old new names events more held in
     record {
       place = was.place;
@@ -245,7 +266,7 @@ snapshot-grown options names old new events entry load more held was =
       total = was.total ∙ gross_at-same options (ignores old names) (ignores new names) events entry.place agree;
       heap = was.heap ∙ heap_at-same (ignores old names) (ignores new names) events entry.place agree;
       extra = was.extra;
-      tree = tree_at-grown options names old new events entry.place entry.kind load.tree more held was.tree;
+      tree = tree_at-grown options names old new events entry.place peak entry.kind load.tree more held was.tree;
     }
 
 stack-grown : (old new : TableState) (e : Event) → Continues old new → IsOfStack old e → IsOfStack new e
@@ -265,8 +286,10 @@ stands-grown flags samples names old new events more stands =
         stacks = λ k event is. stack-grown old new event more (stands.sampling.stacks k event is);
         figures = figures-same samples.options (ignores old names) (ignores new names) events samples.running agree stands.sampling.figures;
         array = subst (λ (os : List Offer). array.StandsFor samples.array os) (offers-same samples.options (ignores old names) (ignores new names) events agree) stands.sampling.array;
-        snapshots = λ k entry load is_entry is_load. snapshot-grown samples.options names old new events entry load more held (stands.sampling.snapshots k entry load is_entry is_load);
+        snapshots = λ k entry load is_entry is_load. snapshot-grown samples.options names old new events samples.peak entry load more held (stands.sampling.snapshots k entry load is_entry is_load);
         going = stands.sampling.going;
+        fronts = fronts-grown samples.options names old new samples.fronts more stands.sampling.fronts;
+        peak_within = stands.sampling.peak_within;
       };
       some = stands.some;
     }

@@ -11,3 +11,5 @@ pub mod Standing
 pub mod Judging
 pub mod Agreeing
 pub mod Growing
+pub mod Peaks
+pub mod AtPeak

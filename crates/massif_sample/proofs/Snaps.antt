@@ -15,7 +15,7 @@ use Rattle.massif_cull.specs.declared.snapshot.Kind.TheVariants as kind
 use Rattle.massif_cull.specs.declared.snapshot.Offer.{Offer}
 use Rattle.massif_cull.specs.declared.snapshot.SnapEntry.{SnapEntry}
 use Rattle.massif_cull.specs.declared.snapshot.Taken.{Taken}
-use Rattle.massif_cull.specs.declared.snapshot.Taken.TheVariants.{No, Normal}
+use Rattle.massif_cull.specs.declared.snapshot.Taken.TheVariants.{No}
 use Rattle.massif_cull.specs.Entries.{end_peak}
 use Rattle.massif_cull.specs.Origins.{ComeFrom, IsOffered, WasHeld, kind_of}
 use Rattle.massif_cull.specs.Step.{entry_of}
@@ -26,7 +26,7 @@ use Rattle.massif_sample.specs.FunctionNames.{FunctionNames, ignores}
 use Rattle.massif_sample.specs.Places.{gross_at, heap_at, time_at}
 use Rattle.massif_sample.specs.Running.{AreFigures}
 use Rattle.massif_sample.specs.Snapshots.{costs_at, tree_at}
-use Rattle.massif_sample.specs.StandsFor.{AreSnapshots, IsSnapshot, IsTreeAt, WhereTree}
+use Rattle.massif_sample.specs.StandsFor.{AreCostsAt, AreSnapshots, IsSnapshot, IsTreeAt, WhereTree}
 use Rattle.massif_sample.specs.HeapTotals.{gross_total, heap_total}
 use Rattle.massif_sample.specs.Options.{tree_options}
 use Rattle.massif_sample.specs.Times.{time_of}
@@ -36,27 +36,27 @@ use Rattle.massif_sample.proofs.Figures.{gross-now, heap-now}
 use Rattle.massif_sample.proofs.UpTo.{up_to-front}
 
 -- a peak that became normal has the figures that it had
-pub ended : (options : MassifOptions) (names : FunctionNames) (tables : TableState) (events : List Event) (entry : SnapEntry) (load : Load)
-    → IsSnapshot options names tables events entry load → IsSnapshot options names tables events (end_peak entry) load
-ended options names tables events entry load is =
+pub ended : (options : MassifOptions) (names : FunctionNames) (tables : TableState) (events : List Event) (peak : List ℕ) (entry : SnapEntry) (load : Load)
+    → IsSnapshot options names tables events peak entry load → IsSnapshot options names tables events peak (end_peak entry) load
+ended options names tables events peak entry load is =
     record { place = is.place; time = is.time; total = is.total; heap = is.heap; extra = is.extra; tree = by_kind entry.kind is.tree }
   where
-    by_kind : (k : Kind) → WhereTree k (IsTreeAt options names tables events entry.place load.tree) → WhereTree (end_peak (record entry { kind = k })).kind (IsTreeAt options names tables events entry.place load.tree)
+    by_kind : (k : Kind) → WhereTree k (IsTreeAt options names tables events entry.place load.tree) (AreCostsAt names tables events entry.place peak) → WhereTree (end_peak (record entry { kind = k })).kind (IsTreeAt options names tables events entry.place load.tree) (AreCostsAt names tables events entry.place peak)
     by_kind kind.Normal tree = tree
     by_kind kind.Detailed tree = tree
     by_kind kind.Peak tree = tt
 
 -- the snapshot of the present place
-pub here : (options : MassifOptions) (names : FunctionNames) (tables : TableState) (events : List Event) (running : Running) (offer : Offer) (taken : Taken) (load : Load)
+pub here : (options : MassifOptions) (names : FunctionNames) (tables : TableState) (events : List Event) (running : Running) (offer : Offer) (taken : Taken) (peak : List ℕ) (load : Load)
     → AreFigures options (ignores tables names) events running
     → offer.place ≡ running.place
     → offer.time ≡ running.time
     → offer.total ≡ running.gross
     → load.heap ≡ running.heap
     → load.heap + load.extra ≡ running.gross
-    → (taken ≡ Normal) ⊎ IsTreeAt options names tables events (event_count events) load.tree
-    → IsSnapshot options names tables events (entry_of offer (kind_of taken)) load
-here options names tables events running offer taken load figures place time total heap extra tree =
+    → WhereTree (kind_of taken) (IsTreeAt options names tables events (event_count events) load.tree) (AreCostsAt names tables events (event_count events) peak)
+    → IsSnapshot options names tables events peak (entry_of offer (kind_of taken)) load
+here options names tables events running offer taken peak load figures place time total heap extra tree =
     let at : offer.place ≡ event_count events = place ∙ figures.place in
     record {
       place = omega arith;
@@ -64,46 +64,53 @@ here options names tables events running offer taken load figures place time tot
       total = total ∙ gross-now options (ignores tables names) events running figures ∙ ap (gross_at options (ignores tables names) events) (sym at);
       heap = heap ∙ heap-now options (ignores tables names) events running figures ∙ ap (heap_at (ignores tables names) events) (sym at);
       extra = extra ∙ sym total;
-      tree = by_kind taken tree at;
+      tree = subst (λ (k : ℕ). WhereTree (kind_of taken) (IsTreeAt options names tables events k load.tree) (AreCostsAt names tables events k peak)) (sym at) tree;
     }
-  where
-    any_kind : (k : Kind) {P : Type 0} → P → WhereTree k P
-    any_kind kind.Normal p = tt
-    any_kind kind.Detailed p = p
-    any_kind kind.Peak p = p
 
-    by_kind : (t : Taken) → (t ≡ Normal) ⊎ IsTreeAt options names tables events (event_count events) load.tree → offer.place ≡ event_count events → WhereTree (kind_of t) (IsTreeAt options names tables events offer.place load.tree)
-    by_kind t (inl normal) at = subst (λ (x : Taken). WhereTree (kind_of x) (IsTreeAt options names tables events offer.place load.tree)) (sym normal) tt
-    by_kind t (inr is) at = any_kind (kind_of t) (subst (λ (k : ℕ). IsTreeAt options names tables events k load.tree) (sym at) is)
+-- a snapshot stays one where another peak is known, whose costs serve it too
+repeaked : (options : MassifOptions) (names : FunctionNames) (tables : TableState) (events : List Event) (old new : List ℕ) (entry : SnapEntry) (load : Load)
+    → (entry.kind ≡ kind.Peak → AreCostsAt names tables events entry.place old → AreCostsAt names tables events entry.place new)
+    → IsSnapshot options names tables events old entry load
+    → IsSnapshot options names tables events new entry load
+repeaked options names tables events old new entry load serves is =
+    record { place = is.place; time = is.time; total = is.total; heap = is.heap; extra = is.extra; tree = by_kind entry.kind refl is.tree }
+  where
+    by_kind : (k : Kind) → entry.kind ≡ k → WhereTree k (IsTreeAt options names tables events entry.place load.tree) (AreCostsAt names tables events entry.place old)
+        → WhereTree k (IsTreeAt options names tables events entry.place load.tree) (AreCostsAt names tables events entry.place new)
+    by_kind kind.Normal same tree = tt
+    by_kind kind.Detailed same tree = tree
+    by_kind kind.Peak same costs = serves same costs
 
 -- the snapshots after an offer
 pub snapshots-offered :
-    (options : MassifOptions) (names : FunctionNames) (tables : TableState) (events : List Event) (earlier : List SnapEntry) (earlier_loads : List Load) (offer : Offer) (load : Load) (taken : Taken) (entries : List SnapEntry) (loads : List Load)
-    → AreSnapshots options names tables events earlier earlier_loads
-    → (taken ≢ No → IsSnapshot options names tables events (entry_of offer (kind_of taken)) load)
+    (options : MassifOptions) (names : FunctionNames) (tables : TableState) (events : List Event) (old_peak new_peak : List ℕ) (earlier : List SnapEntry) (earlier_loads : List Load) (offer : Offer) (load : Load) (taken : Taken) (entries : List SnapEntry) (loads : List Load)
+    → AreSnapshots options names tables events old_peak earlier earlier_loads
+    → (taken ≢ No → IsSnapshot options names tables events new_peak (entry_of offer (kind_of taken)) load)
+    → ((k : ℕ) (entry : SnapEntry) → slice_get entries k ≡ Some entry → entry.kind ≡ kind.Peak → AreCostsAt names tables events entry.place old_peak → AreCostsAt names tables events entry.place new_peak)
     → ComeFrom earlier earlier_loads offer load taken entries loads
-    → AreSnapshots options names tables events entries loads
-snapshots-offered options names tables events earlier earlier_loads offer load taken entries loads was is from =
+    → AreSnapshots options names tables events new_peak entries loads
+snapshots-offered options names tables events old_peak new_peak earlier earlier_loads offer load taken entries loads was is serves from =
     λ k entry held at beside. by_origin k entry held at beside (from.each k (slice_get_within entries k entry at))
   where
-    of_peak : (found : Option SnapEntry) (j : ℕ) (entry : SnapEntry) (held : Load) → slice_get earlier j ≡ found → option_map end_peak found ≡ Some entry → slice_get earlier_loads j ≡ Some held → IsSnapshot options names tables events entry held
+    of_peak : (found : Option SnapEntry) (j : ℕ) (entry : SnapEntry) (held : Load) → slice_get earlier j ≡ found → option_map end_peak found ≡ Some entry → slice_get earlier_loads j ≡ Some held → IsSnapshot options names tables events old_peak entry held
     of_peak None j entry held at ends beside = absurd (cc)
     of_peak (Some old) j entry held at ends beside =
-        subst (λ (e : SnapEntry). IsSnapshot options names tables events e held) (same_Some (end_peak old) entry ends) (ended options names tables events old held (was j old held at beside))
+        subst (λ (e : SnapEntry). IsSnapshot options names tables events old_peak e held) (same_Some (end_peak old) entry ends) (ended options names tables events old_peak old held (was j old held at beside))
 
     by_origin : (k : ℕ) (entry : SnapEntry) (held : Load) → slice_get entries k ≡ Some entry → slice_get loads k ≡ Some held
-        → WasHeld earlier earlier_loads entries loads k ⊎ IsOffered offer load taken entries loads k → IsSnapshot options names tables events entry held
+        → WasHeld earlier earlier_loads entries loads k ⊎ IsOffered offer load taken entries loads k → IsSnapshot options names tables events new_peak entry held
     by_origin k entry held at beside (inl (j, inside, origin)) =
         let load_was : slice_get earlier_loads j ≡ Some held = sym origin.1 ∙ beside in
-        elim origin.0 [
+        repeaked options names tables events old_peak new_peak entry held (serves k entry at)
+        (elim origin.0 [
           | inl same ↦ was j entry held (sym same ∙ at) load_was
           | inr peak ↦ of_peak (slice_get earlier j) j entry held refl (sym peak ∙ at) load_was
-        ]
+        ])
     by_origin k entry held at beside (inr (some, new, new_load)) =
         let entry_is : entry_of offer (kind_of taken) ≡ entry = same_Some (entry_of offer (kind_of taken)) entry (sym new ∙ at) in
         let load_is : load ≡ held = same_Some load held (sym new_load ∙ beside) in
-        subst (λ (l : Load). IsSnapshot options names tables events entry l) load_is
-        (subst (λ (e : SnapEntry). IsSnapshot options names tables events e load) entry_is (is some))
+        subst (λ (l : Load). IsSnapshot options names tables events new_peak entry l) load_is
+        (subst (λ (e : SnapEntry). IsSnapshot options names tables events new_peak e load) entry_is (is some))
 
 -- a place that was passed stays one
 pub count-front : (events more : List Event) → event_count events ≤ event_count (events ++ more)
@@ -124,9 +131,9 @@ tree-front options names tables events more k within =
     (costs-front (length tables.nodes + 1) (ignores tables names) events more k within)
 
 -- a snapshot stays one when more events come
-pub snapshot-front : (options : MassifOptions) (names : FunctionNames) (tables : TableState) (events more : List Event) (entry : SnapEntry) (load : Load)
-    → IsSnapshot options names tables events entry load → IsSnapshot options names tables (events ++ more) entry load
-snapshot-front options names tables events more entry load is =
+pub snapshot-front : (options : MassifOptions) (names : FunctionNames) (tables : TableState) (events more : List Event) (peak : List ℕ) (entry : SnapEntry) (load : Load)
+    → IsSnapshot options names tables events peak entry load → IsSnapshot options names tables (events ++ more) peak entry load
+snapshot-front options names tables events more peak entry load is =
     let same = up_to-front entry.place events more is.place in
     record {
       place = let count = count-front events more in let within = is.place in omega arith;
@@ -143,7 +150,13 @@ snapshot-front options names tables events more entry load is =
       costs = subst (λ (cs : List ℕ). sum cs ≤ 2 ^ 62) (sym (costs-front (length tables.nodes + 1) (ignores tables names) events more entry.place is.place)) at.costs;
     }
 
-    by_kind : (k : Kind) → WhereTree k (IsTreeAt options names tables events entry.place load.tree) → WhereTree k (IsTreeAt options names tables (events ++ more) entry.place load.tree)
+    same_costs : AreCostsAt names tables events entry.place peak → AreCostsAt names tables (events ++ more) entry.place peak
+    same_costs at = record {
+      each = λ stack. ap (λ (es : List Event). cond {A = ℕ} (ignores tables names stack) 0 (live_in stack es)) (up_to-front entry.place events more is.place) ∙ at.each stack;
+    }
+
+    by_kind : (k : Kind) → WhereTree k (IsTreeAt options names tables events entry.place load.tree) (AreCostsAt names tables events entry.place peak)
+        → WhereTree k (IsTreeAt options names tables (events ++ more) entry.place load.tree) (AreCostsAt names tables (events ++ more) entry.place peak)
     by_kind kind.Normal tree = tt
     by_kind kind.Detailed tree = there tree
-    by_kind kind.Peak tree = there tree
+    by_kind kind.Peak costs = same_costs costs

@@ -11,8 +11,7 @@ use Rattle.massif_cull.specs.declared.snapshot.Taken.TheVariants.{No, Normal, De
 use Rattle.massif_cull.specs.Kept.{Kept, Settings}
 use Rattle.massif_cull.specs.TakenAs.{next_time_after, peak_bound, taken_as}
 use Rattle.massif_file.specs.declared.profile.TreeLine.{TreeLine}
-use Rattle.massif_tree.specs.declared.options.TreeOptions.{TreeOptions}
-use Rattle.massif_tree.specs.FunctionLists.{trimmed_lists}
+use Rattle.massif_tree.specs.FunctionLists.{trimmed_before, trimmed_lists}
 use Rattle.massif_tree.specs.MassifTree.{massif_tree}
 use Rattle.massif_sample.specs.declared.options.MassifOptions.{MassifOptions}
 use Rattle.massif_sample.specs.declared.running.Running.{Running}
@@ -25,21 +24,21 @@ use Rattle.massif_sample.specs.Snapshots.{costs_at, tree_at}
 use Rattle.massif_sample.specs.StandsFor.{IsTreeAt}
 use Rattle.massif_sample.proofs.Figures.{gross-now}
 
--- the tree of what the stacks cost now
+-- the tree of what the stacks cost now, of the texts of all of them
 pub tree-here :
-    (options : MassifOptions) (names : FunctionNames) (tables : TableState) (events : List Event) (running : Running) (costs : List ℕ) (tree : List TreeLine) (asked : TreeOptions) (total : ℕ)
+    (options : MassifOptions) (names : FunctionNames) (tables : TableState) (events : List Event) (running : Running) (costs : List ℕ) (tree : List TreeLine) (count total : ℕ)
     → AreFigures options (ignores tables names) events running
-    → asked ≡ tree_options options
     → total ≡ running.gross
-    → tree ≡ massif_tree asked total (costed (trimmed_lists tables names.alloc_fns) costs)
+    → count ≡ length tables.nodes + 1
+    → tree ≡ massif_tree (tree_options options) total (costed (trimmed_before tables names.alloc_fns count) costs)
     → costs ≡ costs_at (length tables.nodes + 1) (ignores tables names) events (event_count events)
     → sum costs ≤ 2 ^ 62
     → IsTreeAt options names tables events (event_count events) tree
-unfolding tree_at
-tree-here options names tables events running costs tree asked total figures asked_is total_is is costs_are bound = record {
+unfolding tree_at trimmed_before trimmed_lists
+tree-here options names tables events running costs tree count total figures total_is count_is is costs_are bound = record {
   tree_is =
       is
-      ∙ ap (λ (o : TreeOptions). massif_tree o total (costed (trimmed_lists tables names.alloc_fns) costs)) asked_is
+      ∙ ap (λ (n : ℕ). massif_tree (tree_options options) total (costed (trimmed_before tables names.alloc_fns n) costs)) count_is
       ∙ ap (λ (t : ℕ). massif_tree (tree_options options) t (costed (trimmed_lists tables names.alloc_fns) costs)) (total_is ∙ gross-now options (ignores tables names) events running figures)
       ∙ ap (λ (cs : List ℕ). massif_tree (tree_options options) (gross_at options (ignores tables names) events (event_count events)) (costed (trimmed_lists tables names.alloc_fns) cs)) costs_are;
   costs = subst (λ (cs : List ℕ). sum cs ≤ 2 ^ 62) costs_are bound;
@@ -60,6 +59,13 @@ taken-with_tree settings kept offer taken is some no_normal =
     by_tests false above true true some no_normal = refl
     by_tests false above true false some no_normal = absurd (no_normal refl)
     by_tests false above false freq some no_normal = absurd (some refl)
+
+-- one that isn't a peak either is detailed
+pub taken-detailed : (taken : Taken) → taken ≢ No → taken ≢ Normal → taken ≢ Peak → taken ≡ Detailed
+taken-detailed No some no_normal no_peak = absurd (some refl)
+taken-detailed Normal some no_normal no_peak = absurd (no_normal refl)
+taken-detailed Detailed some no_normal no_peak = refl
+taken-detailed Peak some no_normal no_peak = absurd (no_peak refl)
 
 -- what holds holds at an error too
 pub at_err : {T E : Type 0} (r : Result T E) {P : Type 0} → P → OnErr r P

@@ -15,5 +15,6 @@ pub mod SamplesState
 pub mod StandsFor
 pub mod View
 pub mod LiveCosts
+pub mod Padded
 pub mod Made
 pub mod HasApplied

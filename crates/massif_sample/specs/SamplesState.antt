@@ -1,5 +1,5 @@
 -- What contracts see of the snapshots of a trace, and what is true of them.
-use Rattle.std.specs.Prelude.{◌≡◌, ◌≤◌, Bool}
+use Rattle.std.specs.Prelude.{◌≡◌, ℕ, ◌≤◌, Bool, List}
 use Rattle.massif_cull.specs.ArrayState.{ArrayState}
 use Rattle.massif_cull.specs.Entries.{last_time}
 use Rattle.massif_sample.specs.declared.load.Load.{Load}
@@ -8,12 +8,15 @@ use Rattle.massif_sample.specs.declared.running.Running.{Running}
 use Rattle.massif_sample.specs.Options.{AreInRange, settings_of}
 use Rattle.massif_sample.specs.Running as running
 
--- the options, the figures so far, the snapshots that are kept, and whether memory was wanting for one
+-- the options, the figures so far, the snapshots that are kept, whether memory was wanting for one, the texts of the stacks
+-- so far that trees are built of, and what each stack cost at the last peak
 pub record SamplesState : Type 0 where
   pub options : MassifOptions
   pub running : Running
   pub array : ArrayState Load
   pub failed : Bool
+  pub fronts : List (List (List ℕ))
+  pub peak : List ℕ
 
 -- the options are within their ranges and are the array's, the figures are sound, and no snapshot is later than they are
 pub record IsSound (samples : SamplesState) : Type 0 where

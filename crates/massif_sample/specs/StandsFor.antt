@@ -1,5 +1,5 @@
 -- Which lists of events a sampler stands for.
-use Rattle.std.specs.Prelude.{◌≡◌, ℕ, ◌+◌, ◌^◌, ◌<◌, ◌≤◌, Bool, false, List, length, Some, slice_get, sum}
+use Rattle.std.specs.Prelude.{◌≡◌, ℕ, ◌+◌, ◌^◌, ◌<◌, ◌≤◌, Bool, false, List, length, Some, slice_get, slice_index_or, sum}
 use Rattle.ht_trace.specs.TableState.{TableState}
 use Rattle.live_ledger.specs.declared.event.Event.{Event}
 use Rattle.live_ledger.specs.declared.event.Event.TheVariants.{Alloc, Free, Tick}
@@ -10,6 +10,7 @@ use Rattle.massif_cull.specs.declared.snapshot.Offer.{Offer}
 use Rattle.massif_cull.specs.declared.snapshot.SnapEntry.{SnapEntry}
 use Rattle.massif_cull.specs.StandsFor as array
 use Rattle.massif_file.specs.declared.profile.TreeLine.{TreeLine}
+use Rattle.massif_tree.specs.FirstLists.{first_lists}
 use Rattle.massif_sample.specs.declared.load.Load.{Load}
 use Rattle.massif_sample.specs.declared.options.MassifOptions.{MassifOptions}
 use Rattle.massif_sample.specs.FunctionNames.{FunctionNames, ignores}
@@ -17,32 +18,41 @@ use Rattle.massif_sample.specs.Offers.{offers}
 use Rattle.massif_sample.specs.Places.{gross_at, heap_at, time_at}
 use Rattle.massif_sample.specs.Running.{AreFigures}
 use Rattle.massif_sample.specs.SamplesState.{SamplesState}
-use Rattle.massif_sample.specs.Snapshots.{costs_at, tree_at}
+use Rattle.massif_sample.specs.Snapshots.{cost_at, costs_at, tree_at}
 
--- it's true of a snapshot that has a tree
-abbrev pub WhereTree : Kind → Type 0 → Type 0
-WhereTree Normal P = Unit {0}
-WhereTree Detailed P = P
-WhereTree Peak P = P
+-- a detailed snapshot has the one, and the peak the other
+abbrev pub WhereTree : Kind → Type 0 → Type 0 → Type 0
+WhereTree Normal P Q = Unit {0}
+WhereTree Detailed P Q = P
+WhereTree Peak P Q = Q
 
 -- the tree is that of the place, whose costs have their bound
 pub record IsTreeAt (options : MassifOptions) (names : FunctionNames) (tables : TableState) (events : List Event) (place : ℕ) (tree : List TreeLine) : Type 0 where
   pub tree_is : tree ≡ tree_at options names tables events place
   pub costs : sum (costs_at (length tables.nodes + 1) (ignores tables names) events place) ≤ 2 ^ 62
 
--- the entry and its load have the figures of the entry's place
-pub record IsSnapshot (options : MassifOptions) (names : FunctionNames) (tables : TableState) (events : List Event) (entry : SnapEntry) (load : Load) : Type 0 where
+-- the costs are those of the place: of each stack, and 0 of those that have none
+pub record AreCostsAt (names : FunctionNames) (tables : TableState) (events : List Event) (place : ℕ) (costs : List ℕ) : Type 0 where
+  pub each : (stack : ℕ) → cost_at (ignores tables names) events place stack ≡ slice_index_or costs stack 0
+
+-- the lists are the first texts of as many stacks of the tables
+pub record AreFronts (options : MassifOptions) (names : FunctionNames) (tables : TableState) (fronts : List (List (List ℕ))) : Type 0 where
+  pub held : length fronts ≤ length tables.nodes + 1
+  pub are : fronts ≡ first_lists tables names.alloc_fns (options.depth + 1) (length fronts)
+
+-- the entry and its load have the figures of the entry's place, and so have the costs of the peak
+pub record IsSnapshot (options : MassifOptions) (names : FunctionNames) (tables : TableState) (events : List Event) (peak : List ℕ) (entry : SnapEntry) (load : Load) : Type 0 where
   pub place : entry.place ≤ event_count events
   pub time : entry.time ≡ time_at options (ignores tables names) events entry.place
   pub total : entry.total ≡ gross_at options (ignores tables names) events entry.place
   pub heap : load.heap ≡ heap_at (ignores tables names) events entry.place
   pub extra : load.heap + load.extra ≡ entry.total
-  pub tree : WhereTree entry.kind (IsTreeAt options names tables events entry.place load.tree)
+  pub tree : WhereTree entry.kind (IsTreeAt options names tables events entry.place load.tree) (AreCostsAt names tables events entry.place peak)
 
 -- each entry and the load beside it
-abbrev pub AreSnapshots : MassifOptions → FunctionNames → TableState → List Event → List SnapEntry → List Load → Type 0
-AreSnapshots options names tables events entries loads =
-    (k : ℕ) (entry : SnapEntry) (load : Load) → slice_get entries k ≡ Some entry → slice_get loads k ≡ Some load → IsSnapshot options names tables events entry load
+abbrev pub AreSnapshots : MassifOptions → FunctionNames → TableState → List Event → List ℕ → List SnapEntry → List Load → Type 0
+AreSnapshots options names tables events peak entries loads =
+    (k : ℕ) (entry : SnapEntry) (load : Load) → slice_get entries k ≡ Some entry → slice_get loads k ≡ Some load → IsSnapshot options names tables events peak entry load
 
 -- the event's stack is one of the tables
 abbrev pub IsOfStack : TableState → Event → Type 0
@@ -54,13 +64,16 @@ IsOfStack tables (Tick ms) = Unit {0}
 abbrev pub AreOfStacks : TableState → List Event → Type 0
 AreOfStacks tables events = (k : ℕ) (event : Event) → slice_get events k ≡ Some event → IsOfStack tables event
 
--- the figures are those of the events, and the snapshots those that are kept of these offers
+-- the figures are those of the events, and the snapshots those that are kept of these offers; each stack that the peak knows
+-- has its texts
 pub record IsSampling (samples : SamplesState) (names : FunctionNames) (tables : TableState) (events : List Event) (made : List Offer) : Type 0 where
   pub stacks : AreOfStacks tables events
   pub figures : AreFigures samples.options (ignores tables names) events samples.running
   pub array : array.StandsFor samples.array made
-  pub snapshots : AreSnapshots samples.options names tables events samples.array.kept.entries samples.array.loads
+  pub snapshots : AreSnapshots samples.options names tables events samples.peak samples.array.kept.entries samples.array.loads
   pub going : samples.failed ≡ false
+  pub fronts : AreFronts samples.options names tables samples.fronts
+  pub peak_within : length samples.peak ≤ length samples.fronts
 
 -- of each stack that was taken account of it is known whether it is ignored
 abbrev pub AreJudged : FunctionNames → TableState → List Bool → Type 0

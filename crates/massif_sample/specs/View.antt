@@ -1,5 +1,5 @@
 -- How contracts see the fields of samples.
-use Rattle.std.specs.Prelude.{Bool}
+use Rattle.std.specs.Prelude.{ℕ, Bool, List}
 use Rattle.massif_cull.specs.declared.snapshot.Offer.{Offer}
 use Rattle.massif_cull.specs.ArrayState.{ArrayState}
 use Rattle.massif_sample.specs.declared.load.Load.{Load}
@@ -7,8 +7,15 @@ use Rattle.massif_sample.specs.declared.options.MassifOptions.{MassifOptions}
 use Rattle.massif_sample.specs.declared.running.Running.{Running}
 use Rattle.massif_sample.specs.SamplesState.{SamplesState}
 
-abbrev pub state_of : MassifOptions → Running → ArrayState Load → Bool → SamplesState
-state_of options running array failed = record { options = options; running = running; array = array; failed = failed }
+abbrev pub state_of : MassifOptions → Running → ArrayState Load → Bool → List (List (List ℕ)) → List ℕ → SamplesState
+state_of options running array failed fronts peak = record {
+  options = options;
+  running = running;
+  array = array;
+  failed = failed;
+  fronts = fronts;
+  peak = peak;
+}
 
 -- the offer of a snapshot with these figures
 abbrev pub offer_of : Running → Bool → Offer

@@ -6,6 +6,7 @@ mod fault;
 mod laws;
 mod load;
 mod options;
+mod peak_costs;
 mod profile;
 mod running;
 mod sampler;

@@ -2,7 +2,7 @@
 
 use massif_file::Tree;
 
-/// The parts of a snapshot's total in bytes, and its tree, which is empty where it was taken as a normal one.
+/// The parts of a snapshot's total in bytes, and its tree, which is empty where it wasn't taken as a detailed one.
 #[derive(Debug, Drop)]
 pub(crate) struct Load {
     /// What was asked for.

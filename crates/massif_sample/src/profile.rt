@@ -1,40 +1,62 @@
 //! The profile that the kept snapshots make.
-ghost use Rattle.std.specs.Prelude.{◌≡◌, ◌++◌, length, IfOk};
+ghost use Rattle.std.specs.Prelude.{◌≡◌, ℕ, ◌+◌, ◌++◌, List, length, IfOk};
+ghost use Rattle.ht_trace.specs.TableState.{TableState};
 ghost use Rattle.massif_file.specs.Blanks.{without_blanks};
-ghost use Rattle.massif_sample.specs.Made.{all_made, made};
+ghost use Rattle.massif_tree.specs.FirstLists.{first_lists};
+ghost use Rattle.massif_sample.specs.Made.{all_made, made, made_tree, peak_stacks};
 ghost use Rattle.massif_sample.specs.Sampled.{description, shown_command};
-ghost use Rattle.massif_sample.specs.Snapshots.{mark_of, tree_of};
+ghost use Rattle.massif_sample.specs.Snapshots.{mark_of};
 
 use crate::load::Load;
+use crate::peak_costs::PeakCosts;
+use cost_tree::Fronts;
 use hp_num::{NoMemory, Text};
 use massif_cull::{Kind, SnapArray, SnapEntry};
 use massif_file::{HeapTree, Snap, Snaps, Tree};
+use massif_tree::TreeOptions;
 use std::alloc::Global;
 
-/// The snapshots of an array, which it hands out, or `NoMemory`.
-pub(crate) fn take_snaps(alloc: Global, array: &mut SnapArray<Load>) -> Result<Snaps, NoMemory>
-    ensures { IfOk result (λ snaps. snaps ≡ all_made array.old.kept.entries array.old.loads) }
+/// The snapshots of an array, which it hands out, with the peak's tree over the stacks' lists, or `NoMemory`.
+pub(crate) fn take_snaps(
+    alloc: Global,
+    array: &mut SnapArray<Load>,
+    fronts: &Fronts,
+    peak: &PeakCosts,
+    options: &TreeOptions,
+) -> Result<Snaps, NoMemory>
+    ensures { IfOk result (λ snaps. (tables : TableState) (names : List (List ℕ)) → fronts.now ≡ first_lists tables names (options.now.depth + 1) (length fronts.now) →
+        snaps ≡ all_made (peak_stacks options.now tables names (length fronts.now) peak.now) array.old.kept.entries array.old.loads) }
 {
     let mut snaps = Snaps::new(alloc);
     'each_snapshot: while let Some((entry, load)) = array.take_first() {
-        snaps.push(snapshot(alloc, &entry, load))?;
+        let snap = snapshot(alloc, &entry, load, fronts, peak, options)?;
+        snaps.push(snap)?;
     }
     Ok(snaps)
 }
 
-/// The snapshot of an entry and its load. A peak that became a normal snapshot loses its tree.
-fn snapshot(alloc: Global, entry: &SnapEntry, load: Load) -> Snap
-    ensures { result ≡ made entry.now load }
+/// The snapshot of an entry and its load, or `NoMemory`. A peak that became a normal snapshot has no tree.
+fn snapshot(
+    alloc: Global,
+    entry: &SnapEntry,
+    load: Load,
+    fronts: &Fronts,
+    peak: &PeakCosts,
+    options: &TreeOptions,
+) -> Result<Snap, NoMemory>
+    ensures { IfOk result (λ snap. (tables : TableState) (names : List (List ℕ)) → fronts.now ≡ first_lists tables names (options.now.depth + 1) (length fronts.now) →
+        snap ≡ made (peak_stacks options.now tables names (length fronts.now) peak.now) entry.now load) }
 {
     let Load { heap, extra, tree } = load;
-    Snap {
+    let shown = shown_tree(alloc, entry, tree, fronts, peak, options)?;
+    Ok(Snap {
         time: entry.time,
         heap,
         extra,
         stacks: 0,
         mark: mark_of(entry.kind),
-        tree: tree_of(alloc, entry.kind, tree),
-    }
+        tree: shown,
+    })
 }
 
 /// Which tree a snapshot has.
@@ -48,14 +70,23 @@ fn mark_of(kind: Kind) -> HeapTree
     }
 }
 
-/// The tree, or an empty one where the snapshot has none.
-fn tree_of(alloc: Global, kind: Kind, tree: Tree) -> Tree
-    ensures { result ≡ tree_of kind tree }
+/// The tree of an entry that was taken with this one, or `NoMemory`: that of the peak is built now, and a normal snapshot
+/// has none.
+fn shown_tree(
+    alloc: Global,
+    entry: &SnapEntry,
+    tree: Tree,
+    fronts: &Fronts,
+    peak: &PeakCosts,
+    options: &TreeOptions,
+) -> Result<Tree, NoMemory>
+    ensures { IfOk result (λ shown. (tables : TableState) (names : List (List ℕ)) → fronts.now ≡ first_lists tables names (options.now.depth + 1) (length fronts.now) →
+        shown ≡ made_tree (peak_stacks options.now tables names (length fronts.now) peak.now) entry.now.kind entry.now.total tree) }
 {
-    match kind {
-        Kind::Normal => Tree::new(alloc),
-        Kind::Detailed => tree,
-        Kind::Peak => tree,
+    match entry.kind {
+        Kind::Normal => Ok(Tree::new(alloc)),
+        Kind::Detailed => Ok(tree),
+        Kind::Peak => peak.tree(alloc, fronts, options, entry.total),
     }
 }
 

@@ -1,40 +1,54 @@
 //! The snapshots that are kept of a trace, with the figures that the next one would have.
 //! What a tree says, and which stacks are ignored, are no part of it.
-ghost use Rattle.std.specs.Prelude.{◌≡◌, ◌⊎◌, ℕ, ◌+◌, ◌-◌, ◌^◌, ◌<◌, ◌≤◌, List, [], ◌∷◌, ◌++◌, true, false, length, IfNone, IfOk, IfSome};
+ghost use Rattle.std.specs.Prelude.{◌≡◌, ◌⊎◌, ℕ, ◌+◌, ◌-◌, ◌^◌, ◌<◌, ◌≤◌, List, [], ◌∷◌, ◌++◌, true, false, length, IfNone, IfOk, IfSome, OnOk};
+ghost use Rattle.std.specs.Fn.{FnReturnsAt};
+ghost use Rattle.cost_tree.specs.Costed.{costed};
+ghost use Rattle.cost_tree.specs.Costs.{AreCosts};
+ghost use Rattle.cost_tree.specs.FrameTexts.{AreTexts};
 ghost use Rattle.ht_trace.specs.TableState.{TableState};
 ghost use Rattle.live_ledger.specs.declared.event.Event.{Event};
 ghost use Rattle.live_ledger.specs.Events.{event_count};
 ghost use Rattle.massif_cull.specs.declared.snapshot.Offer.{Offer};
-ghost use Rattle.massif_cull.specs.declared.snapshot.Taken.TheVariants.{No, Normal};
+ghost use Rattle.massif_cull.specs.declared.snapshot.Taken.TheVariants.{Detailed, No, Normal, Peak};
 ghost use Rattle.massif_cull.specs.ArrayState as array;
 ghost use Rattle.massif_cull.specs.KeptOf.{kept_of};
 ghost use Rattle.massif_cull.specs.TakenAs.{taken_as};
+ghost use Rattle.massif_tree.specs.FirstLists.{first_lists};
+ghost use Rattle.massif_tree.specs.FunctionLists.{trimmed_before};
+ghost use Rattle.massif_tree.specs.MassifTree.{massif_tree};
 ghost use Rattle.massif_sample.specs.FunctionNames.{FunctionNames};
 ghost use Rattle.massif_sample.specs.Made.{profile_made};
 ghost use Rattle.massif_sample.specs.Options.{AreInRange, settings_of, tree_options};
 ghost use Rattle.massif_sample.specs.Running.{Follows, HasBlock, no_figures, passed, passes_most, ticked, with_alloc, with_free};
 ghost use Rattle.massif_sample.specs.SamplesState.{IsSound};
-ghost use Rattle.massif_sample.specs.StandsFor.{IsSampling, IsTreeAt};
+ghost use Rattle.massif_sample.specs.StandsFor.{AreCostsAt, IsSampling, IsTreeAt};
 ghost use Rattle.massif_sample.specs.View.{offer_of};
 
 use crate::load::Load;
 use crate::options::MassifOptions;
+use crate::peak_costs::PeakCosts;
 use crate::profile::{description, shown_command, take_snaps};
 use crate::running::Running;
+use cost_tree::{Costing, FrameTest, Fronts};
 use hp_num::NoMemory;
+use ht_trace::Tables;
 use massif_cull::{Offer, SnapArray, Taken};
 use massif_file::{Profile, Tree};
-use massif_tree::TreeOptions;
+use massif_tree::{TreeOptions, add_trimmed, snapshot_tree};
 use std::alloc::Global;
 use std::marker::Model;
 
-/// The snapshots of a trace so far, and the figures of the place behind its last event.
+/// The snapshots of a trace so far, the figures of the place behind its last event, and what the next tree is built of.
 #[derive(Drop)]
 pub(crate) struct Samples {
     options: MassifOptions,
     running: Running,
     array: SnapArray<Load>,
     failed: bool,
+    /// The first texts of the stacks, as they are trimmed: of all that there were when the last tree was due.
+    fronts: Fronts,
+    /// What each stack cost at the last peak.
+    peak: PeakCosts,
     alloc: Global,
 }
 
@@ -44,9 +58,9 @@ impl Model for Samples {
 
     ghost Value = { SamplesState };
 
-    ghost view = { λ samples. state_of samples.options samples.running samples.array samples.failed };
+    ghost view = { λ samples. state_of samples.options samples.running samples.array samples.failed samples.fronts samples.peak };
 
-    ghost invariant = { λ samples. IsSound (state_of samples.options samples.running samples.array samples.failed) };
+    ghost invariant = { λ samples. IsSound (state_of samples.options samples.running samples.array samples.failed samples.fronts samples.peak) };
 }
 
 impl Samples {
@@ -55,6 +69,7 @@ impl Samples {
         requires options { AreInRange options }
         ensures options { IfOk result (λ samples. samples.options ≡ options) }
         ensures running { IfOk result (λ samples. samples.running ≡ no_figures) }
+        ensures fronts { IfOk result (λ samples. samples.fronts ≡ []) }
         ensures sampling { IfOk result (λ samples. (names : FunctionNames) (tables : TableState) → IsSampling samples names tables [] []) }
     {
         let array = SnapArray::new(
@@ -68,6 +83,8 @@ impl Samples {
             running: Running::new(),
             array,
             failed: false,
+            fronts: Fronts::new(alloc),
+            peak: PeakCosts::none(alloc),
             alloc,
         })
     }
@@ -130,7 +147,46 @@ impl Samples {
         self.array.judge(offer)
     }
 
-    /// Takes the offer of the present place, with the tree of this place where it isn't taken as a normal snapshot.
+    /// Makes the texts of the stacks that came since the last tree was due. After `NoMemory` no tree may be built.
+    pub(crate) fn add_fronts<A: Fn(&[u8]) -> bool>(
+        &mut self,
+        tables: &Tables,
+        alloc_fns: &FrameTest<A>,
+    ) -> Result<(), NoMemory>
+        requires held { length self.old.fronts ≤ length tables.now.nodes + 1 }
+        requires callable { A.IsAlwaysCallable alloc_fns.now.test }
+        ensures samples { self.new ≡ record self.old { fronts = self.new.fronts } }
+        ensures count { OnOk result (length self.new.fronts ≡ length tables.now.nodes + 1) }
+        ensures sampling { OnOk result ((names : FunctionNames) (events : List Event) (made : List Offer) → AreTexts (FnReturnsAt A.Fn alloc_fns.now.test) names.alloc_fns →
+            IsSampling self.old names tables.now events made → IsSampling self.new names tables.now events made) }
+    {
+        let options = self.tree_options();
+        add_trimmed(self.alloc, tables, alloc_fns, &options, &mut self.fronts)
+    }
+
+    /// The tree of the present place, where stacks cost this, or `NoMemory`.
+    pub(crate) fn tree_here<F: Fn(u32) -> u64>(
+        &self,
+        costing: &Costing<F>,
+    ) -> Result<Tree, NoMemory>
+        requires as_many { costing.now.stacks ≡ length self.now.fronts }
+        requires stated { (costs : List ℕ) × AreCosts (F.pre costing.now.cost) (F.post costing.now.cost) costing.now.stacks costs }
+        ensures lines { IfOk result (λ lines. (tables : TableState) (names : List (List ℕ)) (costs : List ℕ) →
+            self.now.fronts ≡ first_lists tables names (self.now.options.depth + 1) (length self.now.fronts) → AreCosts (F.pre costing.now.cost) (F.post costing.now.cost) costing.now.stacks costs →
+            lines ≡ massif_tree (tree_options self.now.options) self.now.running.gross (costed (trimmed_before tables names (length self.now.fronts)) costs)) }
+    {
+        let options = self.tree_options();
+        snapshot_tree(
+            self.alloc,
+            &self.fronts,
+            costing,
+            &options,
+            self.running.gross,
+        )
+    }
+
+    /// Takes the offer of the present place, which isn't taken as the peak, with the tree of this place where it is taken as
+    /// a detailed snapshot.
     pub(crate) fn take(&mut self, offer: Offer, tree: Tree)
         requires place { offer.place ≡ self.old.running.place }
         requires time { offer.time ≡ self.old.running.time }
@@ -140,9 +196,11 @@ impl Samples {
         ensures options { self.new.options ≡ self.old.options }
         ensures running { self.new.running ≡ self.old.running }
         ensures failed { self.new.failed ≡ self.old.failed }
+        ensures fronts { self.new.fronts ≡ self.old.fronts }
         ensures some { 0 < length self.new.array.kept.entries }
         ensures sampling { (names : FunctionNames) (tables : TableState) (events : List Event) (made : List Offer) →
-            (taken_as (settings_of self.old.options) self.old.array.kept offer ≡ Normal) ⊎ IsTreeAt self.old.options names tables events (event_count events) tree →
+            (taken_as (settings_of self.old.options) self.old.array.kept offer ≡ Normal)
+            ⊎ ((taken_as (settings_of self.old.options) self.old.array.kept offer ≡ Detailed) × IsTreeAt self.old.options names tables events (event_count events) tree) →
             IsSampling self.old names tables events made → IsSampling self.new names tables events (made ++ offer ∷ []) }
     {
         let load = Load {
@@ -151,6 +209,32 @@ impl Samples {
             tree,
         };
         self.array.offer(offer, load);
+    }
+
+    /// Takes the offer of the present place, which is taken as the peak, with what stacks cost here. Those of the peak
+    /// before are dropped.
+    pub(crate) fn take_peak(&mut self, offer: Offer, costs: PeakCosts)
+        requires place { offer.place ≡ self.old.running.place }
+        requires time { offer.time ≡ self.old.running.time }
+        requires total { offer.total ≡ self.old.running.gross }
+        requires within { self.old.running.time ≤ 2 ^ 62 }
+        requires first { offer.peak ≡ true → 0 < length self.old.array.kept.entries }
+        ensures options { self.new.options ≡ self.old.options }
+        ensures running { self.new.running ≡ self.old.running }
+        ensures failed { self.new.failed ≡ self.old.failed }
+        ensures fronts { self.new.fronts ≡ self.old.fronts }
+        ensures some { 0 < length self.new.array.kept.entries }
+        ensures sampling { (names : FunctionNames) (tables : TableState) (events : List Event) (made : List Offer) →
+            taken_as (settings_of self.old.options) self.old.array.kept offer ≡ Peak → AreCostsAt names tables events (event_count events) costs → length costs ≤ length self.old.fronts →
+            IsSampling self.old names tables events made → IsSampling self.new names tables events (made ++ offer ∷ []) }
+    {
+        let load = Load {
+            heap: self.running.heap,
+            extra: self.running.gross - self.running.heap,
+            tree: Tree::new(self.alloc),
+        };
+        self.array.offer(offer, load);
+        self.peak = costs;
     }
 
     /// The figures behind an allocation that is counted, or `None` where one of them passes 2^62.
@@ -202,13 +286,17 @@ impl Samples {
 
     /// The profile of the snapshots, with the command that was profiled.
     pub(crate) fn into_profile(self, cmd: &[u8]) -> Result<Profile, NoMemory>
-        ensures profile { IfOk result (λ profile. profile ≡ profile_made self cmd.now) }
+        ensures profile { IfOk result (λ profile. (tables : TableState) (names : List (List ℕ)) → self.fronts ≡ first_lists tables names (self.options.depth + 1) (length self.fronts) →
+            profile ≡ profile_made self tables names cmd.now) }
         ensures sound { IsSound self }
         ensures array { array.IsSound self.array }
     {
+        let asked = self.tree_options();
         let Samples {
             options,
             mut array,
+            fronts,
+            peak,
             alloc,
             ..
         } = self;
@@ -216,7 +304,7 @@ impl Samples {
         let _count = array.len();
         let desc = description(alloc)?;
         let cmd = shown_command(alloc, cmd)?;
-        let snaps = take_snaps(alloc, &mut array)?;
+        let snaps = take_snaps(alloc, &mut array, &fronts, &peak, &asked)?;
         Ok(Profile {
             desc,
             cmd,

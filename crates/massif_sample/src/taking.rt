@@ -26,6 +26,7 @@ ghost use Rattle.massif_sample.specs.Snapshots.{costs_at};
 ghost use Rattle.massif_sample.specs.StandsFor.{AreJudged, IsOfStack, IsSampling, StandsFor};
 
 use crate::fault::SampleFault;
+use crate::peak_costs::PeakCosts;
 use crate::running::Running;
 use crate::samples::Samples;
 use cost_tree::{Costing, FrameTest};
@@ -34,10 +35,9 @@ use ht_trace::Tables;
 use live_ledger::{Event, Ledger, possible_weights};
 use massif_cull::Taken;
 use massif_file::Tree;
-use massif_tree::snapshot_tree;
 
-/// Offers a snapshot of the present place, as a peak or not, and builds its tree only where it has one. `NoMemory`, where
-/// memory is wanting for a tree, leaves the samples as they were.
+/// Offers a snapshot of the present place, as a peak or not. The tree of a detailed one is built now, and of a peak it is kept
+/// what its tree will be built of. `NoMemory`, where memory is wanting for that, leaves the samples unfit for more.
 pub(crate) fn sample<A: Fn(&[u8]) -> bool, F: Fn(u32) -> u64>(
     samples: &mut Samples,
     as_peak: bool,
@@ -49,6 +49,7 @@ pub(crate) fn sample<A: Fn(&[u8]) -> bool, F: Fn(u32) -> u64>(
     requires first { as_peak ≡ true → 0 < length samples.old.array.kept.entries }
     requires as_many { costing.now.stacks ≡ length tables.now.nodes + 1 }
     requires stated { (costs : List ℕ) × AreCosts (F.pre costing.now.cost) (F.post costing.now.cost) costing.now.stacks costs }
+    requires fronts { length samples.old.fronts ≤ length tables.now.nodes + 1 }
     requires callable { A.IsAlwaysCallable alloc_fns.now.test }
     ensures sampling { OnOk result ((names : FunctionNames) (events : List Event) (costs : List ℕ) (made : List Offer) →
         AreTexts (FnReturnsAt A.Fn alloc_fns.now.test) names.alloc_fns →
@@ -61,6 +62,7 @@ pub(crate) fn sample<A: Fn(&[u8]) -> bool, F: Fn(u32) -> u64>(
     ensures options { samples.new.options ≡ samples.old.options }
     ensures running { samples.new.running ≡ samples.old.running }
     ensures failed { samples.new.failed ≡ samples.old.failed }
+    ensures fronts { OnOk result (length samples.new.fronts ≤ length tables.now.nodes + 1) }
     ensures some { OnOk result (0 < length samples.new.array.kept.entries) }
 {
     let offer = samples.offer(as_peak);
@@ -68,13 +70,18 @@ pub(crate) fn sample<A: Fn(&[u8]) -> bool, F: Fn(u32) -> u64>(
     if taken == Taken::No {
         return Ok(());
     }
-    let alloc = samples.allocator();
     if taken == Taken::Normal {
-        samples.take(offer, Tree::new(alloc));
+        let none = Tree::new(samples.allocator());
+        samples.take(offer, none);
         return Ok(());
     }
-    let options = samples.tree_options();
-    let tree = snapshot_tree(alloc, tables, alloc_fns, costing, &options, offer.total)?;
+    samples.add_fronts(tables, alloc_fns)?;
+    if taken == Taken::Peak {
+        let costs = PeakCosts::of(samples.allocator(), costing)?;
+        samples.take_peak(offer, costs);
+        return Ok(());
+    }
+    let tree = samples.tree_here(costing)?;
     samples.take(offer, tree);
     Ok(())
 }
@@ -104,6 +111,7 @@ fn sample_ledger<A: Fn(&[u8]) -> bool>(
     requires first { as_peak ≡ true → 0 < length samples.old.array.kept.entries }
     requires stacks { ledger.now.stacks ≡ length tables.now.nodes + 1 }
     requires judged { length judged.now ≡ length tables.now.nodes + 1 }
+    requires fronts { length samples.old.fronts ≤ length tables.now.nodes + 1 }
     requires callable { A.IsAlwaysCallable alloc_fns.now.test }
     ensures sampling { OnOk result ((names : FunctionNames) (events : List Event) (made : List Offer) →
         AreTexts (FnReturnsAt A.Fn alloc_fns.now.test) names.alloc_fns →
@@ -115,6 +123,7 @@ fn sample_ledger<A: Fn(&[u8]) -> bool>(
     ensures options { samples.new.options ≡ samples.old.options }
     ensures running { samples.new.running ≡ samples.old.running }
     ensures failed { samples.new.failed ≡ samples.old.failed }
+    ensures fronts { OnOk result (length samples.new.fronts ≤ length tables.now.nodes + 1) }
     ensures some { OnOk result (0 < length samples.new.array.kept.entries) }
 {
     let costing = Costing::new(
@@ -139,6 +148,7 @@ fn advance<A: Fn(&[u8]) -> bool>(
     requires no_fault { fault_at ledger.old event ≡ None }
     requires stacks { ledger.old.stacks ≡ length tables.now.nodes + 1 }
     requires judged { length judged.now ≡ length tables.now.nodes + 1 }
+    requires fronts { length samples.old.fronts ≤ length tables.now.nodes + 1 }
     requires callable { A.IsAlwaysCallable alloc_fns.now.test }
     requires follows { Follows samples.old.options samples.old.running next }
     ensures sampling { OnOk result ((names : FunctionNames) (events : List Event) (made : List Offer) →

@@ -3,7 +3,7 @@ use Rattle.std.proofs.Common.{◌≡◌, ℕ, zero, suc, ◌+◌, ◌≤◌, Lis
 use Rattle.std.specs.List.{flat_map}
 use Rattle.cost_tree.specs.Costed.{Costed}
 use Rattle.massif_file.specs.declared.profile.TreeLine.{TreeLine}
-use Rattle.massif_file.specs.Trees.{Trees, no_tree, a_tree, count_of, levels_of, lines_of}
+use Rattle.massif_file.specs.Trees.{Trees, no_tree, count_of, levels_of, lines_of}
 use Rattle.massif_tree.specs.declared.scale.Scale.{Scale}
 use Rattle.massif_tree.specs.MassifTree.{beside, cost_of, front_tree, gathered_tree, kept_fronts, label_of, small_fronts}
 

@@ -1,5 +1,5 @@
 -- Texts of one line, as labels are.
-use Rattle.std.proofs.Common.{◌≡◌, ◌≢◌, ℕ, zero, suc, ◌+◌, ◌-◌, ◌/◌, ◌%◌, ◌<◌, ◌==◌, eqb, inl, inr, Bool, true, false, cond, not, List, [], ◌∷◌, ◌++◌, length, map, get_or, Option, None, Some, refl, sym, ap, ◌∙◌, subst, arith}
+use Rattle.std.proofs.Common.{◌≡◌, ◌≢◌, ℕ, zero, suc, ◌+◌, ◌-◌, ◌/◌, ◌%◌, ◌==◌, eqb, Bool, true, false, cond, List, [], ◌∷◌, ◌++◌, Option, None, Some, refl, arith}
 use Rattle.std.specs.Prelude.{All, codes, decimal, nat_lt, slice_get, unwrap_or}
 use Rattle.std.specs.Fmt.{digit_glyph, digits, digits_onto}
 use Rattle.std.proofs.lemmas.Bool.{cond_both, eqb-false, false≢true}
@@ -10,7 +10,7 @@ use Rattle.hp_num.specs.Percent.{two_digits}
 use Rattle.ht_trace.specs.declared.frame.FrameAt.{FrameAt}
 use Rattle.ht_trace.specs.declared.frame.FrameFound.{FrameFound}
 use Rattle.ht_trace.specs.declared.frame.Style.TheVariants.{Addressed}
-use Rattle.ht_trace.specs.FrameText.{address_text, frame_at, frame_text, found_text, in_module, name_text, no_name, place_text, string_at, text_at, text_of}
+use Rattle.ht_trace.specs.FrameText.{frame_at, frame_text, in_module, name_text, no_name, place_text, text_at, text_of}
 use Rattle.ht_trace.specs.TableState.{TableState}
 use Rattle.massif_file.specs.IsWritable.{IsLine, IsText}
 use Rattle.massif_tree.specs.Labels.{gathered_label, places_label, root_label, threshold_text}

@@ -1,27 +1,25 @@
 -- Lemmas on the trimmed lists of stacks, and on what a tree needs of them.
-use Rattle.std.proofs.Common.{◌≡◌, ℕ, ◌+◌, ◌-◌, ◌<◌, ◌≤◌, eqb, false, List, [], ◌∷◌, length, map, min, take, drop, get_or, Some, sym, ap, ◌∙◌, subst, arith}
-use Rattle.std.specs.Prelude.{slice_get, slice_index, sum, sum_by}
+use Rattle.std.proofs.Common.{◌≡◌, ℕ, ◌+◌, ◌-◌, ◌≤◌, List, [], ◌∷◌, ◌++◌, length, map, min, take, drop, sym, ap, ◌∙◌, arith}
+use Rattle.std.specs.Prelude.{sum, sum_by}
 use Rattle.std.specs.List.{prefix_len, range_with_len}
-use Rattle.std.proofs.lemmas.Bool.{cond-false}
-use Rattle.std.proofs.lemmas.Bool.Decides.{nat_tests, same_from_decides}
+use Rattle.std.proofs.lemmas.Bool.Decides.{same_from_decides}
 use Rattle.std.proofs.lemmas.List.{length-drop, length-take, take-map, take_all, take_min}
-use Rattle.std.proofs.lemmas.List.FromFn.{get_or-range_with_len, length-map-range_with_len, length-range_with_len}
+use Rattle.std.proofs.lemmas.List.FromFn.{length-map-range_with_len}
 use Rattle.std.proofs.lemmas.List.Sums.{sum_by-cons}
-use Rattle.std.proofs.lemmas.Option.{get_or_from_slice_get, slice_get_within}
 use Rattle.cost_tree.specs.Costed.{Costed, costed}
-use Rattle.cost_tree.specs.Inclusive.{has_front, is_front}
+use Rattle.cost_tree.specs.Inclusive.{is_front}
 use Rattle.cost_tree.specs.IsTreeOf.{IsTreeOf}
-use Rattle.cost_tree.specs.Needed.{needed}
 use Rattle.cost_tree.specs.TreeState.{TreeState}
 use Rattle.cost_tree.proofs.Alike.{AreAlike, IsSameTo-map, IsTreeOf-same}
+use Rattle.cost_tree.proofs.Needing.{listed-more}
 use Rattle.cost_tree.proofs.Prefixes.{has_front-take, is_front-Decides}
 use Rattle.ht_trace.specs.declared.frame.FrameAt.{FrameAt}
 use Rattle.ht_trace.specs.declared.frame.Style.TheVariants.{Addressed}
 use Rattle.ht_trace.specs.FrameText.{frame_text}
 use Rattle.ht_trace.specs.StackFrames.{stack_frames}
 use Rattle.ht_trace.specs.TableState.{TableState}
-use Rattle.massif_tree.specs.FunctionLists.{is_listed, trimmed_lists, trimmed_texts, without_listed}
-use Rattle.massif_tree.specs.Needed.{needed_texts, needed_trimmed}
+use Rattle.massif_tree.specs.FirstLists.{first_lists, first_texts}
+use Rattle.massif_tree.specs.FunctionLists.{is_listed, trimmed_before, trimmed_texts, without_listed}
 
 -- the texts of the first frames that are left are the first of the trimmed texts
 pub pushed-texts : (tables : TableState) (names : List (List ℕ)) (stack most n k : ℕ) (frames : List FrameAt)
@@ -40,18 +38,13 @@ pushed-texts tables names stack most n k frames are front count =
     ∙ ap (λ (j : ℕ). take most (map text (drop j frames))) front
     ∙ ap (λ (xs : List FrameAt). take most (map text (drop (prefix_len (is_listed tables names) xs) xs))) are
 
--- what a tree needs of a list is alike for it
-needed-alike : (depth cost : ℕ) (texts : List (List ℕ)) → AreAlike depth cost (needed (depth + 1) cost texts) texts
-needed-alike depth cost texts = record {
-  begins = λ front short some. ap (λ xs. has_front front xs) (is some) ∙ has_front-take front texts (depth + 1) (omega arith);
-  is = λ front short some. ap (λ xs. is_front front xs) (is some) ∙ is_front-take front texts depth short;
+-- the first texts of a list are alike for a tree
+first-alike : (depth cost : ℕ) (texts : List (List ℕ)) → AreAlike depth cost (take (depth + 1) texts) texts
+first-alike depth cost texts = record {
+  begins = λ front short some. has_front-take front texts (depth + 1) (omega arith);
+  is = λ front short some. is_front-take front texts depth short;
 }
   where
-    is : 0 < cost → needed (depth + 1) cost texts ≡ take (depth + 1) texts
-    is some =
-        let above : eqb cost 0 ≡ false = grind (arith, nat_tests) in
-        cond-false (eqb cost 0) [] (take (depth + 1) texts) above
-
     is_front-take : (front texts : List (List ℕ)) (n : ℕ) → length front ≤ n → is_front front (take (n + 1) texts) ≡ is_front front texts
     is_front-take front texts n within =
         let cut = length-take (n + 1) texts in
@@ -65,33 +58,24 @@ needed-alike depth cost texts = record {
               (is_front-Decides front texts).1 (same ∙ take_all (n + 1) texts (omega arith))),
         )
 
--- a tree of the needed lists is one of the trimmed lists
-pub IsTreeOf-trimmed : (tree : TreeState) (tables : TableState) (names : List (List ℕ)) (depth : ℕ) (costs : List ℕ)
-    → IsTreeOf tree (costed (needed_trimmed tables names (depth + 1) costs) costs) depth → IsTreeOf tree (costed (trimmed_lists tables names) costs) depth
-unfolding trimmed_lists
-IsTreeOf-trimmed tree tables names depth costs is =
-    let list : ℕ → List (List ℕ) = trimmed_texts tables names in
-    let count = length tables.nodes + 1 in
+-- a tree of the first texts is one of the trimmed lists
+pub IsTreeOf-trimmed : (tree : TreeState) (tables : TableState) (names : List (List ℕ)) (depth count : ℕ) (costs : List ℕ)
+    → IsTreeOf tree (costed (first_lists tables names (depth + 1) count) costs) depth → IsTreeOf tree (costed (trimmed_before tables names count) costs) depth
+unfolding first_lists trimmed_before
+IsTreeOf-trimmed tree tables names depth count costs is =
     IsTreeOf-same tree _ _ depth
-    (IsSameTo-map depth (λ n. needed (depth + 1) (slice_index costs n) (list n)) list (range_with_len 0 count) costs (λ k n cost at held. alike k n cost at held))
+    (IsSameTo-map depth (first_texts tables names (depth + 1)) (trimmed_texts tables names) (range_with_len 0 count) costs (λ k n cost at held. first-alike depth cost (trimmed_texts tables names n)))
     is
-  where
-    alike : (k n cost : ℕ) → slice_get (range_with_len 0 (length tables.nodes + 1)) k ≡ Some n → slice_get costs k ≡ Some cost
-        → AreAlike depth cost (needed (depth + 1) (slice_index costs n) (trimmed_texts tables names n)) (trimmed_texts tables names n)
-    alike k n cost at held =
-        let texts : List (List ℕ) = trimmed_texts tables names n in
-        let within = slice_get_within (range_with_len 0 (length tables.nodes + 1)) k n at in
-        let long = length-range_with_len 0 (length tables.nodes + 1) in
-        let counted = get_or-range_with_len 0 (length tables.nodes + 1) k 0 (omega arith) in
-        let found = get_or_from_slice_get (range_with_len 0 (length tables.nodes + 1)) k n 0 at in
-        let place : k ≡ n = omega arith in
-        let is_cost : cost ≡ slice_index costs n = sym (get_or_from_slice_get costs k cost 0 held) ∙ ap (λ (i : ℕ). get_or costs i 0) place in
-        let P : ℕ → Type 0 = λ c. AreAlike depth cost (needed (depth + 1) c texts) texts in
-        subst P is_cost (needed-alike depth cost texts)
 
-pub trimmed-count : (tables : TableState) (names : List (List ℕ)) → length (trimmed_lists tables names) ≡ length tables.nodes + 1
-unfolding trimmed_lists
-trimmed-count tables names = length-map-range_with_len (trimmed_texts tables names) 0 (length tables.nodes + 1)
+pub trimmed-count : (tables : TableState) (names : List (List ℕ)) (count : ℕ) → length (trimmed_before tables names count) ≡ count
+unfolding trimmed_before
+trimmed-count tables names count = length-map-range_with_len (trimmed_texts tables names) 0 count
+
+-- one stack more
+pub first-more : (tables : TableState) (names : List (List ℕ)) (most count : ℕ) (lists next : List (List (List ℕ)))
+    → lists ≡ first_lists tables names most count → next ≡ lists ++ first_texts tables names most count ∷ [] → next ≡ first_lists tables names most (count + 1)
+unfolding first_lists
+first-more tables names most count lists next are is = listed-more (first_texts tables names most) count lists next are is
 
 -- stacks are as many as their costs, and cost together what these sum to
 pub costed-count : (lists : List (List (List ℕ))) (costs : List ℕ) → length costs ≡ length lists → length (costed lists costs) ≡ length lists

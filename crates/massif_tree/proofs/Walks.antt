@@ -20,15 +20,14 @@ use Rattle.cost_tree.specs.IsTreeOf.{IsTreeOf}
 use Rattle.cost_tree.specs.NextFronts.{longer_front, next_fronts, opens}
 use Rattle.cost_tree.specs.TreeState.{TreeState}
 use Rattle.massif_file.specs.declared.profile.TreeLine.{TreeLine}
-use Rattle.massif_file.specs.Trees.{Trees, no_tree, a_tree, count_of, lines_of}
+use Rattle.massif_file.specs.Trees.{Trees, no_tree, count_of, lines_of}
 use Rattle.massif_tree.specs.declared.scale.Scale.{Scale}
 use Rattle.massif_tree.specs.declared.lines.Pending.{Pending}
 use Rattle.massif_tree.specs.declared.lines.Pending.TheVariants.{Node, Gathered}
 use Rattle.massif_tree.specs.Children.{cost_at, gathered_in, is_kept_at, is_small_at}
 use Rattle.massif_tree.specs.IsShown.{IsShown}
-use Rattle.massif_tree.specs.Labels.{gathered_label}
 use Rattle.massif_tree.specs.MassifTree.{beside, cost_of, front_tree, gathered_tree, kept_fronts, label_of, massif_tree, scale_of, small_fronts}
-use Rattle.massif_tree.specs.Pendings.{IsPending, children_below, front_at, gathered_line, kept_children, node_line, pending_below, pending_children, pending_gathered, pending_line, pending_lines, small_children}
+use Rattle.massif_tree.specs.Pendings.{IsPending, children_below, front_at, gathered_line, kept_children, pending_below, pending_children, pending_gathered, pending_line, pending_lines, small_children}
 use Rattle.massif_tree.proofs.Forests.{count-beside, front-count, front-lines, lines-beside}
 use Rattle.massif_tree.proofs.Orders.{by_cost-permutation}
 use Rattle.massif_tree.proofs.Trees.{IsChildOf, children-are, children-within, cost-is, kept-are, small-are, sum-mapped, sum-same}

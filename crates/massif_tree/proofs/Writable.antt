@@ -1,9 +1,8 @@
 -- Lemmas on the lines of a tree that may be written.
-use Rattle.std.proofs.Common.{◌≡◌, ◌≢◌, ℕ, zero, suc, ◌+◌, ◌^◌, ◌<◌, ◌≤◌, not, Bool, List, [], ◌∷◌, ◌++◌, length, map, filter, get_or, take, Option, None, Some, refl, sym, ap, ◌∙◌, subst, arith}
+use Rattle.std.proofs.Common.{◌≡◌, ℕ, zero, suc, ◌+◌, ◌^◌, ◌<◌, ◌≤◌, not, Bool, List, [], ◌∷◌, ◌++◌, length, filter, get_or, Some, refl, ap, ◌∙◌, arith}
 use Rattle.std.specs.Prelude.{All, slice_get, sum_by}
 use Rattle.std.specs.List.{range_with_len}
-use Rattle.std.specs.Option.{option_map, option_map_or}
-use Rattle.std.proofs.lemmas.List.{length-map}
+use Rattle.std.specs.Option.{option_map}
 use Rattle.std.proofs.lemmas.List.Elements.{All-append, All-cons, All-filter, All-head, All-map, All-nil, All-tail, All-take}
 use Rattle.std.proofs.lemmas.List.Filters.{length-filter_both, sum_by-filter_both}
 use Rattle.std.proofs.lemmas.List.Sorted.{All-permutation, length_permutation}
@@ -16,7 +15,7 @@ use Rattle.ht_trace.specs.FrameText.{frame_text}
 use Rattle.ht_trace.specs.TableState.{TableState}
 use Rattle.massif_file.specs.declared.profile.TreeLine.{TreeLine}
 use Rattle.massif_file.specs.IsWritable.{IsLine, IsText, IsWritableLine}
-use Rattle.massif_file.specs.Trees.{IsTree, Trees, no_tree, a_tree, count_of, lines_of}
+use Rattle.massif_file.specs.Trees.{IsTree, Trees, no_tree, count_of, lines_of}
 use Rattle.massif_tree.specs.declared.options.TreeOptions.{TreeOptions}
 use Rattle.massif_tree.specs.declared.scale.Scale.{Scale}
 use Rattle.massif_tree.specs.FunctionLists.{trimmed, trimmed_lists, trimmed_texts}

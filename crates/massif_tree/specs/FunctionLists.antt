@@ -32,3 +32,7 @@ trimmed_texts tables alloc_fns n = map (frame_text Addressed tables) (trimmed ta
 -- those of each stack, by the stacks' numbers
 unfoldable pub trimmed_lists : TableState → List (List ℕ) → List (List (List ℕ))
 trimmed_lists tables alloc_fns = map (trimmed_texts tables alloc_fns) (range_with_len 0 (length tables.nodes + 1))
+
+-- those of so many stacks, from stack 0 on
+unfoldable pub trimmed_before : TableState → List (List ℕ) → ℕ → List (List (List ℕ))
+trimmed_before tables alloc_fns count = map (trimmed_texts tables alloc_fns) (range_with_len 0 count)

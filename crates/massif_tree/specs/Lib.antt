@@ -1,5 +1,5 @@
 pub mod FunctionLists
-pub mod Needed
+pub mod FirstLists
 pub mod Labels
 pub mod Order
 pub mod MassifTree

@@ -17,3 +17,4 @@ pub use laws::massif_trees;
 pub use lines::tree_lines;
 pub use options::TreeOptions;
 pub use snapshot::snapshot_tree;
+pub use trimmed_fronts::add_trimmed;

@@ -1,18 +1,18 @@
-//! The trimmed lists of a trace's stacks, as far as a tree needs them.
-//! What the tree says of them is no part of it.
+//! The trimmed lists of a trace's stacks, as far as a tree needs them: they are made once, and each tree is built of them.
+//! What a stack costs, and what a tree says, are no part of it.
 ghost use Rattle.std.specs.Prelude.{◌≡◌, ℕ, ◌+◌, ◌-◌, ◌^◌, ◌<◌, ◌≤◌, List, All, [], ◌∷◌, ◌++◌, length, map, take, IfOk, OnOk};
 ghost use Rattle.std.specs.Fn.{FnReturnsAt};
-ghost use Rattle.cost_tree.specs.Costs.{AreCosts};
 ghost use Rattle.cost_tree.specs.FrameTexts.{AreTexts};
-ghost use Rattle.cost_tree.specs.Needed.{LastGains, needed};
+ghost use Rattle.cost_tree.specs.Needed.{LastGains};
 ghost use Rattle.ht_trace.specs.declared.frame.Style.TheVariants.{Addressed};
 ghost use Rattle.ht_trace.specs.FrameText.{frame_text};
 ghost use Rattle.ht_trace.specs.IsFrame.{IsFrame};
+ghost use Rattle.massif_tree.specs.FirstLists.{first_lists, first_texts};
 ghost use Rattle.massif_tree.specs.FunctionLists.{trimmed_texts};
-ghost use Rattle.massif_tree.specs.Needed.{needed_trimmed};
 
 use crate::function_lists::listed_front;
-use cost_tree::{Costing, FrameTest, Fronts};
+use crate::options::TreeOptions;
+use cost_tree::{FrameTest, Fronts};
 use hp_num::NoMemory;
 use ht_trace::{FrameAt, Style, Tables};
 use std::alloc::Global;
@@ -24,49 +24,37 @@ struct Buffers {
     text: Vec<u8>,
 }
 
-/// The lists of the stacks with these costs, of at most so many texts each, or `NoMemory`. That of a stack which costs
-/// nothing is empty, and no text of it is made.
-pub(crate) fn trimmed_fronts<A: Fn(&[u8]) -> bool, F: Fn(u32) -> u64>(
+/// Appends the lists of the stacks of the tables that have none yet: the first texts of each as it is trimmed, one more
+/// than a tree with these options is deep, which says that a stack goes on. After `NoMemory` the lists are unfit for use.
+pub fn add_trimmed<A: Fn(&[u8]) -> bool>(
     alloc: Global,
     tables: &Tables,
     alloc_fns: &FrameTest<A>,
-    costing: &Costing<F>,
-    most: usize,
-) -> Result<Fronts, NoMemory>
-    requires as_many { costing.now.stacks ≡ length tables.now.nodes + 1 }
-    requires stated { (costs : List ℕ) × AreCosts (F.pre costing.now.cost) (F.post costing.now.cost) costing.now.stacks costs }
+    options: &TreeOptions,
+    fronts: &mut Fronts,
+) -> Result<(), NoMemory>
+    requires held { length fronts.old ≤ length tables.now.nodes + 1 }
     requires callable { A.IsAlwaysCallable alloc_fns.now.test }
-    ensures lists { IfOk result (λ fronts. (names : List (List ℕ)) (costs : List ℕ) →
-        AreTexts (FnReturnsAt A.Fn alloc_fns.now.test) names → AreCosts (F.pre costing.now.cost) (F.post costing.now.cost) costing.now.stacks costs →
-        fronts ≡ needed_trimmed tables.now names most costs) }
-    ensures count { IfOk result (λ fronts. length fronts ≡ length tables.now.nodes + 1) }
-    ensures few { IfOk result (λ fronts. length fronts < 2 ^ 32) }
+    ensures lists { OnOk result ((names : List (List ℕ)) → AreTexts (FnReturnsAt A.Fn alloc_fns.now.test) names →
+        fronts.old ≡ first_lists tables.now names (options.now.depth + 1) (length fronts.old) →
+        fronts.new ≡ first_lists tables.now names (options.now.depth + 1) (length fronts.new)) }
+    ensures count { OnOk result (length fronts.new ≡ length tables.now.nodes + 1) }
 {
-    let mut fronts = Fronts::new(alloc);
+    let most = options.depth as usize + 1;
     let mut buffers = Buffers {
         frames: Vec::new(alloc),
         text: Vec::new(alloc),
     };
-    'each_stack: for stack in 0..tables.stacks() {
-        let cost = costing.of(stack);
-        add_stack(
-            tables,
-            stack,
-            cost,
-            alloc_fns,
-            most,
-            &mut fronts,
-            &mut buffers,
-        )?;
+    'each_stack: for stack in fronts.len()..tables.stacks() {
+        add_stack(tables, stack, alloc_fns, most, fronts, &mut buffers)?;
     }
-    Ok(fronts)
+    Ok(())
 }
 
-/// Appends the list of the stack, which costs this much.
+/// Appends the list of the stack.
 fn add_stack<A: Fn(&[u8]) -> bool>(
     tables: &Tables,
     stack: u32,
-    cost: u64,
     alloc_fns: &FrameTest<A>,
     most: usize,
     fronts: &mut Fronts,
@@ -75,13 +63,10 @@ fn add_stack<A: Fn(&[u8]) -> bool>(
     requires held { stack ≤ length tables.now.nodes }
     requires few { length fronts.old < 2 ^ 32 - 1 }
     requires callable { A.IsAlwaysCallable alloc_fns.now.test }
-    ensures added { OnOk result ((names : List (List ℕ)) → AreTexts (FnReturnsAt A.Fn alloc_fns.now.test) names → fronts.new ≡ fronts.old ++ needed most cost (trimmed_texts tables.now names stack) ∷ []) }
+    ensures added { OnOk result ((names : List (List ℕ)) → AreTexts (FnReturnsAt A.Fn alloc_fns.now.test) names → fronts.new ≡ fronts.old ++ first_texts tables.now names most stack ∷ []) }
     ensures count { OnOk result (length fronts.new ≡ length fronts.old + 1) }
 {
     fronts.begin()?;
-    if cost == 0 {
-        return Ok(());
-    }
     push_stack(tables, stack, alloc_fns, most, fronts, buffers)
 }
 

@@ -1,11 +1,11 @@
 //! Worked trees, and each call once with ample memory.
 ghost use Rattle.std.specs.Prelude.{◌^◌, ◌≤◌, sum};
 
-use cost_tree::{Costing, FrameTest};
+use cost_tree::{Costing, FrameTest, Fronts};
 use hp_num::{NoMemory, put_bytes, put_dec};
 use ht_trace::{LineError, Tables};
 use massif_file::Tree;
-use massif_tree::{TreeOptions, is_ignored, snapshot_tree};
+use massif_tree::{TreeOptions, add_trimmed, is_ignored, snapshot_tree};
 use std::alloc::Global;
 use std::process::Abort;
 
@@ -55,7 +55,9 @@ fn tree_without(
     assert_eq!(rt; tables.stacks() as usize, costs.len());
     let costing = Costing::new(tables.stacks(), |stack: u32| costs[stack as usize]);
     let alloc_fns = FrameTest::new(|function: &[u8]| function == name);
-    let tree = snapshot_tree(alloc, tables, &alloc_fns, &costing, &ONE_PERCENT, 120)?;
+    let mut fronts = Fronts::new(alloc);
+    add_trimmed(alloc, tables, &alloc_fns, &ONE_PERCENT, &mut fronts)?;
+    let tree = snapshot_tree(alloc, &fronts, &costing, &ONE_PERCENT, 120)?;
     shown(rt, alloc, &tree)
 }
 

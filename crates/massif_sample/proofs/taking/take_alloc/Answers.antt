@@ -89,3 +89,6 @@ returns-clause-due g c =
     (figures-alloc c.args.samples.now.options ignored events c.args.samples.now.running c.args.info c.args.stack c.args.size counted stands.sampling.figures) in
     due-alloc c.args.samples.now.options ignored events c.args.info c.args.stack c.args.size counted
     (of_err c.advance.result _ err c.advance.ensures.due names events (offers c.args.samples.now.options ignored events) stands.sampling (omega arith) figures)
+
+pub advance-requires-clause-fronts : goal.advance-requires-clause-fronts
+advance-requires-clause-fronts g c = c.requires.stands.2.sampling.fronts.held

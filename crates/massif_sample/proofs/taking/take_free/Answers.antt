@@ -145,3 +145,6 @@ freed-requires-clause-block g c =
     let counted = judged-is names c.args.tables.now c.args.judged.now c.args.stack false stands.judged (omega arith) flag in
     has-block c.args.samples.now.options (ignores c.args.tables.now names) events c.args.samples.now.running c.args.info c.args.stack c.args.size c.requires.range counted stands.sampling.figures
     (λ weight. c.possible_weights.ensures (events ++ Free c.args.info c.args.stack c.args.size ∷ []) weight (c.in_ok-check.ensures.possible events ledger))
+
+pub sample_ledger-requires-clause-fronts : goal.sample_ledger-requires-clause-fronts
+sample_ledger-requires-clause-fronts g c = c.requires.stands.2.sampling.fronts.held

@@ -1,4 +1,4 @@
-use Rattle.std.proofs.Common.{ℕ, ◌≤◌, ◌^◌, List, arith}
+use Rattle.std.proofs.Common.{arith}
 use Rattle.massif_tree.proofs.Writable.{right, root-bytes, texts-writable, writable}
 use Rattle.massif_tree.proofs.laws.massif_trees.Goals as goal
 

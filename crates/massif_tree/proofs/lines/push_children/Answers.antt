@@ -1,4 +1,4 @@
-use Rattle.std.proofs.Common.{ℕ, List, ◌++◌, length, ap, ◌∙◌, arith}
+use Rattle.std.proofs.Common.{List, length, ap, arith}
 use Rattle.std.proofs.lemmas.List.{length-append}
 use Rattle.massif_tree.specs.declared.lines.Pending.{Pending}
 use Rattle.massif_tree.specs.Pendings.{pending_children}

@@ -1,4 +1,4 @@
-use Rattle.std.proofs.Common.{◌-◌, ℕ, List, drop, length, map, sym, ap, ◌∙◌, subst, take}
+use Rattle.std.proofs.Common.{ℕ, List, sym, ap, ◌∙◌, subst}
 use Rattle.std.specs.List.{prefix_len}
 use Rattle.std.proofs.lemmas.Result.{on_ok_weaker}
 use Rattle.cost_tree.specs.Needed.{LastGains}

@@ -7,6 +7,7 @@ pub returns : goal.returns
 returns g c = record {
   profile =
       IfOk-weaker c.into_profile.result _ _
-      (λ profile is names tables events stands. is ∙ profile-is _ _ names tables events c.args.cmd.now c.into_profile.ensures.sound c.into_profile.ensures.array stands)
+      (λ profile is names tables events stands.
+      is tables names.alloc_fns stands.sampling.fronts.are ∙ profile-is _ _ names tables events c.args.cmd.now c.into_profile.ensures.sound c.into_profile.ensures.array stands)
       c.into_profile.ensures.profile;
 }

@@ -14,7 +14,8 @@ returns-clause-sampling c =
     let inside = c.self.inside in
     rw (← c.self.view_is)
     (λ names tables events made tree was.
-    sampling-offered (state_of inside.options inside.running inside.array inside.failed) (state_of inside.options inside.running c.offer.new.self inside.failed)
+    sampling-offered
+    (state_of inside.options inside.running inside.array inside.failed inside.fronts inside.peak) (state_of inside.options inside.running c.offer.new.self inside.failed inside.fronts inside.peak)
     names tables events made c.args.offer
     (record { heap = inside.running.heap; extra = inside.running.gross - inside.running.heap; tree = c.args.tree }) c.offer.result
     (record {
@@ -26,11 +27,13 @@ returns-clause-sampling c =
       options = refl;
       running = refl;
       failed = refl;
+      fronts = refl;
       stands = c.offer.ensures.stands;
       origins = c.offer.ensures.origins;
     })
+    refl
     (elim tree [
       | inl normal ↦ inl (c.offer.ensures.taken ∙ ap (λ (s : Settings). taken_as s inside.array.kept c.args.offer) c.self.invariant.settings ∙ normal)
-      | inr at ↦ inr at
+      | inr at ↦ inr (c.offer.ensures.taken ∙ ap (λ (s : Settings). taken_as s inside.array.kept c.args.offer) c.self.invariant.settings ∙ at.0, at.1)
     ])
     was)

@@ -1,0 +1,7 @@
+-- Costs of more stacks than are known.
+use Rattle.std.specs.Prelude.{ℕ, List, map, slice_index_or}
+use Rattle.std.specs.List.{range_with_len}
+
+-- the costs of so many stacks, 0 for those that have none
+unfoldable pub padded : ℕ → List ℕ → List ℕ
+padded count costs = map (λ stack. slice_index_or costs stack 0) (range_with_len 0 count)

@@ -1,0 +1,19 @@
+use Rattle.std.proofs.Common.{◌≡◌, ℕ, ◌+◌, [], ◌∷◌, ◌++◌, length, sym, ap, ◌∙◌, arith}
+use Rattle.massif_tree.specs.FirstLists.{first_lists, first_texts}
+use Rattle.massif_tree.proofs.Trimming.{first-more}
+use Rattle.massif_tree.proofs.trimmed_fronts.add_trimmed.Goals as goal
+
+pub each_stack-preserved : goal.each_stack-preserved
+each_stack-preserved g c =
+    let before = c.each_stack.invariant.count in
+    let one = c.in_ok-add_stack.ensures.count in
+    record {
+      count = omega arith;
+      within = omega arith;
+      lists = λ names are was.
+          let tables = c.args.tables.now in
+          let place : c.each_stack.stack ≡ length c.each_stack.fronts = sym before in
+          first-more tables names (c.args.options.now.depth + 1) (length c.each_stack.fronts) c.each_stack.fronts c.add_stack.new.fronts (c.each_stack.invariant.lists names are was)
+          (c.in_ok-add_stack.ensures.added names are ∙ ap (λ (n : ℕ). c.each_stack.fronts ++ first_texts tables names (c.args.options.now.depth + 1) n ∷ []) place)
+          ∙ ap (first_lists tables names (c.args.options.now.depth + 1)) (sym one);
+    }
