@@ -1,5 +1,5 @@
 -- What a reader of a trace has read when it took lines of events at once.
-use Rattle.std.proofs.Common.{◌≡◌, ℕ, ◌+◌, ◌≤◌, List, [], ◌∷◌, ◌++◌, length, take, drop, None, Some, refl, ap, sym, subst, ◌∙◌, append-nil, append_assoc, length-append, arith}
+use Rattle.std.proofs.Common.{◌≡◌, ℕ, ◌+◌, ◌≤◌, List, [], ◌∷◌, ◌++◌, length, take, drop, slice_get, None, Some, refl, ap, sym, subst, ◌∙◌, append-nil, append_assoc, length-append, arith}
 use Rattle.std.proofs.lemmas.List.{length_push}
 use Rattle.std.proofs.lemmas.List.Elements.{All-append, All-nil, All-cons}
 use Rattle.std.proofs.Math.Seq.{take-add, take-append-add}
@@ -7,11 +7,12 @@ use Rattle.std.specs.Option.{option_map, option_or}
 use Rattle.hp_outside.specs.WholeLines.{IsLineText, text_of_lines}
 use Rattle.live_ledger.specs.declared.event.Event.{Event}
 use Rattle.live_ledger.specs.Faults.{fault_of}
-use Rattle.live_ledger.specs.LedgerState.{HeldInfo}
+use Rattle.live_ledger.specs.LedgerState.{HeldInfo, IsHeld, LedgerState}
 use Rattle.peak_costs.specs.Peak.{StandsFor}
 use Rattle.ht_lines.specs.declared.event.EventKind.{EventKind}
 use Rattle.ht_lines.specs.declared.event.EventKind.TheVariants.{Allocation, Free as FreeKind}
 use Rattle.ht_trace.specs.HeldStack.{HasHeldEvent}
+use Rattle.ht_trace.specs.LedgerFits.{least_length_of}
 use Rattle.ht_trace.specs.PassesEvents.{PassesLine, event_of_info}
 use Rattle.ht_trace.specs.StandsFor.{StandsAfter}
 use Rattle.ht_trace.specs.StepOf.{event_of, step_of}
@@ -56,6 +57,35 @@ event_is_read old new line event passes same stands patterns earlier has =
 pub event_is_held : (tables : TableState) (kind : EventKind) (info : ℕ) (held : HeldInfo) → held.stack ≤ length tables.nodes → HasHeldEvent tables (event_of_info kind info held)
 event_is_held tables Allocation info held few = few
 event_is_held tables FreeKind info held few = few
+
+-- the info is then the event's
+pub event_is_among : (ledger : LedgerState) (kind : EventKind) (info : ℕ) (held : HeldInfo) → slice_get ledger.infos info ≡ Some held → IsHeld ledger (event_of_info kind info held)
+event_is_among ledger Allocation info held found = found
+event_is_among ledger FreeKind info held found = found
+
+-- its line has at least three bytes
+pub least_of_event : (kind : EventKind) (info : ℕ) (held : HeldInfo) → least_length_of (event_of_info kind info held) ≡ 3
+least_of_event Allocation info held = refl
+least_of_event FreeKind info held = refl
+
+-- a line that was taken, by another name of the report and of the bytes
+pub same_line : (report same : Report) (old new : List (List ℕ) → Type 0) (ready part : List ℕ) (bytes : ℕ) → report ≡ same → part ≡ ready
+    → HasTakenLine report old new part bytes → HasTakenLine same old new ready bytes
+same_line report same old new ready part bytes renamed whole one =
+    subst (λ text. HasTakenLine same old new text bytes) whole (subst (λ made. HasTakenLine made old new part bytes) renamed one)
+
+-- where nothing more was taken, but what keeps it has changed
+pub front_kept : (report : Report) (initial old new : List (List ℕ) → Type 0) (ready : List ℕ) (bytes number : ℕ) → HasTakenFront report initial old ready bytes number
+    → ((lines : List (List ℕ)) → old lines → new lines) → HasTakenFront report initial new ready bytes number
+front_kept report initial old new ready bytes number front kept = record {
+  lines = front.lines;
+  texts = front.texts;
+  short = front.short;
+  text = front.text;
+  count = front.count;
+  silent = front.silent;
+  taken = λ earlier has. kept (earlier ++ front.lines) (front.taken earlier has);
+}
 
 -- the bytes of one line more
 text_of_lines-push : (lines : List (List ℕ)) (line : List ℕ) → text_of_lines (lines ++ line ∷ []) ≡ text_of_lines lines ++ (line ++ (10 ∷ []))

@@ -1,8 +1,7 @@
 -- That the lifetimes may take what a line brings.
-use Rattle.std.proofs.Common.{◌≡◌, ℕ, ◌+◌, ◌*◌, ◌-◌, ◌^◌, ◌<◌, ◌≤◌, List, [], ◌∷◌, ◌++◌, length, sym, ◌∙◌, arith}
+use Rattle.std.proofs.Common.{◌≡◌, ℕ, ◌+◌, ◌*◌, ◌^◌, ◌<◌, ◌≤◌, List, [], ◌∷◌, ◌++◌, length, arith}
 use Rattle.std.specs.Option.{option_to_list}
 use Rattle.dhat_metrics.specs.Changes.{IsOfHeld}
-use Rattle.dhat_metrics.specs.LifeState.{LifeState}
 use Rattle.ht_trace.specs.declared.step.Step.{Step}
 use Rattle.ht_trace.specs.declared.step.Step.TheVariants as step
 use Rattle.ht_trace.specs.HeldStack.{HasHeldEvent, HasHeldStack}

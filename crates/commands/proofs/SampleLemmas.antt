@@ -1,11 +1,14 @@
 -- Lines of a trace whose snapshots are taken.
-use Rattle.std.proofs.Common.{◌≡◌, ℕ, List, [], ◌∷◌, ◌++◌, Option, None, Some, Err, ap, sym, subst, ◌∙◌}
+use Rattle.std.proofs.Common.{◌≡◌, ℕ, List, [], ◌∷◌, ◌++◌, Option, None, Some, Err, IfSome, ap, sym, subst, ◌∙◌}
 use Rattle.std.specs.Option.{option_and_then, option_map, option_or}
 use Rattle.live_ledger.specs.declared.event.Event.{Event}
 use Rattle.live_ledger.specs.declared.event.EventFault.{EventFault}
 use Rattle.ht_trace.specs.declared.error.LineError.{LineError}
 use Rattle.ht_trace.specs.declared.step.Step.{Step}
 use Rattle.ht_trace.specs.LineFault.{line_fault}
+use Rattle.ht_trace.specs.declared.step.Step.TheVariants as step
+use Rattle.ht_trace.specs.PassesEvents.{PassesLine}
+use Rattle.ht_trace.specs.StandsFor.{StandsFor}
 use Rattle.ht_trace.specs.StepOf.{event_of, step_of}
 use Rattle.ht_trace.specs.TableState.{TableState, tables_of}
 use Rattle.ht_trace.specs.TraceEvents.{events}
@@ -22,7 +25,6 @@ use Rattle.commands.specs.declared.fault.CommandFault.TheVariants.{Line, Event a
 use Rattle.commands.specs.CommandFault.{told}
 use Rattle.commands.specs.MassifReport.{command_in, fault_named, massif_fault, massif_written, sampler_fault}
 use Rattle.commands.specs.MassifSettings.{MassifSettings}
-use Rattle.commands.specs.Sampling.{IsSomeWith}
 
 -- what is told of an event's fault
 abbrev pub event_told : Option EventFault → Option Told
@@ -44,19 +46,21 @@ taken_line settings lines line tables brought none same is =
     ∙ (ap (λ (t : TableState). event_told (sampler_fault settings t (events lines) (event_of (step_of lines line)))) (sym same)
     ∙ ap (λ (s : Step). event_told (sampler_fault settings tables (events lines) (event_of s))) (sym is))
 
+-- and so of the line of an event that the tables pass
+pub passed_line : (settings : MassifSettings) (lines : List (List ℕ)) (line : List ℕ) (tables : TableState) (brought : Event) → PassesLine tables line brought → StandsFor tables lines
+    → massif_fault settings lines line ≡ event_told (sampler_fault settings tables (events lines) (Some brought))
+passed_line settings lines line tables brought passes stands =
+    taken_line settings lines line tables (step.Event brought) (passes.no_fault [] lines stands) (passes.stands [] lines stands).tables_is (sym (passes.brings [] lines stands))
+
 -- the sampler's fault by its own options
 pub fault_by_options : (options : MassifOptions) (settings : MassifSettings) (tables : TableState) (earlier : List Event) (taken : Event) (found : Option SampleFault) → options ≡ settings.options
     → sample_fault options (ignores tables settings.names) earlier taken ≡ found → sampler_fault settings tables earlier (Some taken) ≡ option_and_then fault_named found
 fault_by_options options settings tables earlier taken found same is =
     ap (λ (o : MassifOptions). option_and_then fault_named (sample_fault o (ignores tables settings.names) earlier taken)) (sym same) ∙ ap (option_and_then fault_named) is
 
--- what follows of the one that there is
-pub of_some : {X Q : Type 0} (o : Option X) (P : X → Type 0) → IsSomeWith o P → ((x : X) → P x → Q) → Q
-of_some None P none f = absurd none
-of_some (Some x) P is f = f x is
-
-pub at_some : {X : Type 0} (o : Option X) (x : X) (P : X → Type 0) → o ≡ Some x → IsSomeWith o P → P x
-at_some o x P is has = subst (λ q. IsSomeWith q P) is has
+-- what is true of the one that there is, if there is one
+pub at_some : {X : Type 0} (o : Option X) (x : X) (P : X → Type 0) → o ≡ Some x → IfSome o P → P x
+at_some o x P is has = subst (λ q. IfSome q P) is has
 
 -- the text of the profile that a sampler gives is what is written
 pub written_is : (settings : MassifSettings) (lines : List (List ℕ)) (tables : TableState) (options : MassifOptions) (cmd : List ℕ) (profile : Profile) → tables ≡ tables_of lines

@@ -3,6 +3,8 @@ use Rattle.std.specs.Prelude.{◌≡◌, ℕ, ◌+◌, List, [], ◌∷◌, ◌+
 use Rattle.hp_outside.specs.WholeLines.{IsLineText}
 use Rattle.live_ledger.specs.declared.event.Event.{Event}
 use Rattle.peak_costs.specs.Peak.{StandsFor}
+use Rattle.ht_trace.specs.PassesEvents.{PassesLine}
+use Rattle.ht_trace.specs.TableState.{TableState}
 use Rattle.ht_trace.specs.TraceEvents.{events}
 use Rattle.command_frame.specs.Batch.{HasTakenFront, IsShortLine}
 use Rattle.command_frame.specs.Report.{Report}
@@ -28,6 +30,16 @@ pub record HasTakenLine (report : Report) (old new : List (List ℕ) → Type 0)
   pub no_fault : (earlier : List (List ℕ)) → old earlier → report.line_fault earlier line ≡ None
   pub no_gain : (earlier : List (List ℕ)) → report.gains earlier line ≡ []
   pub taken : (earlier : List (List ℕ)) → old earlier → new (earlier ++ line ∷ [])
+
+-- the first line of these bytes has so many bytes with its line feed. The tables pass it, and it brings the event
+pub record PassesFront (tables : TableState) (ready : List ℕ) (bytes : ℕ) (event : Event) : Type 0 where
+  pub line : List ℕ
+  pub one_line : IsLineText line
+  pub short : IsShortLine line
+  pub rest : List ℕ
+  pub split : ready ≡ line ++ (10 ∷ rest)
+  pub size : bytes ≡ length line + 1
+  pub passes : PassesLine tables line event
 
 -- the first line of these bytes has so many bytes with its line feed, and was read without a fault. It brings the event, which
 -- the peaks took

@@ -1,7 +1,6 @@
 -- Which lines were read of a trace whose snapshots are taken.
-use Rattle.std.specs.Prelude.{◌≡◌, ℕ, ◌+◌, Bool, List, length, Option, None, Some}
+use Rattle.std.specs.Prelude.{◌≡◌, ℕ, ◌+◌, Bool, List, length}
 use Rattle.ht_trace.specs.LedgerFits.{IsBeside}
-use Rattle.ht_trace.specs.StandsFor as trace_spec
 use Rattle.ht_trace.specs.TableState.{TableState}
 use Rattle.ht_trace.specs.TraceEvents.{events}
 use Rattle.live_ledger.specs.declared.event.Event.{Event}
@@ -11,11 +10,6 @@ use Rattle.massif_sample.specs.FunctionNames.{AreStated, FunctionNames}
 use Rattle.massif_sample.specs.SamplesState.{SamplesState}
 use Rattle.massif_sample.specs.StandsFor as sample_spec
 use Rattle.commands.specs.MassifSettings.{MassifSettings}
-
--- there is one, and this is true of it
-abbrev pub IsSomeWith : {X : Type 0} → Option X → (X → Type 0) → Type 0
-IsSomeWith None P = ⊥
-IsSomeWith (Some x) P = P x
 
 -- some events are those of the sampler and of the ledger
 pub record AreOfEvents (flags : List Bool) (samples : SamplesState) (names : FunctionNames) (tables : TableState) (ledger : LedgerState) : Type 0 where
@@ -32,8 +26,7 @@ pub record IsSoundSampling (alloc_answers ignore_answers : List ℕ → Bool →
   pub beside : IsBeside tables ledger
   pub of_events : AreOfEvents flags samples settings.names tables ledger
 
--- the tables stand for these lines, and the ledger and the sampler for their events
+-- the ledger and the sampler stand for the events of these lines, for which the tables stand
 pub record HasSampled (settings : MassifSettings) (tables : TableState) (ledger : LedgerState) (flags : List Bool) (samples : SamplesState) (lines : List (List ℕ)) : Type 0 where
-  pub tables_of : trace_spec.StandsFor tables lines
   pub ledger_of : ledger_spec.StandsFor ledger (events lines)
   pub sampling : sample_spec.StandsFor flags samples settings.names tables (events lines)

@@ -1,14 +1,17 @@
 //! Lines of events, taken many at a time where nothing about them is in doubt. Every other line is left to `read`.
 ghost use Rattle.std.specs.Prelude.{◌≡◌, ℕ, List, ◌+◌, ◌*◌, ◌^◌, ◌<◌, ◌≤◌, length, IfNone, IfSome};
+ghost use Rattle.live_ledger.specs.LedgerState.{IsHeld};
 ghost use Rattle.ht_trace.specs.HeldStack.{HasHeldEvent};
+ghost use Rattle.ht_trace.specs.LedgerFits.{IsBeside, least_length_of};
 ghost use Rattle.ht_trace.specs.PassesEvents.{PassesEvents, event_of_info};
-ghost use Rattle.commands.specs.Batch.{HasReadFront, HasReadLine};
+ghost use Rattle.ht_trace.specs.TableState.{TableState};
+ghost use Rattle.commands.specs.Batch.{HasReadFront, HasReadLine, PassesFront};
 ghost use Rattle.commands.specs.ReadTrace.{IsSound};
 
 use crate::read_trace::{ReadTrace, take_event};
 use command_frame::Batch;
 use ht_lines::{EventKind, event_line};
-use live_ledger::Event;
+use live_ledger::{Event, Ledger};
 
 /// The line of an event that was read.
 #[derive(Clone, Copy, Debug)]
@@ -58,18 +61,33 @@ impl ReadTrace {
         ensures events { IfSome result (λ read. 4 * self.new.peaks.ledger.totals.events ≤ 4 * self.old.peaks.ledger.totals.events + read.bytes) }
         ensures untaken { IfNone result (self.new ≡ self.old) }
     {
-        let line = event_line(ready)?;
-        let info = line.info as u32;
-        let (size, stack) = self.peaks.ledger().info(info)?;
-        let event = event_of_info(line.kind, info, stack, size);
-        match take_event(&mut self.peaks, event) {
-            Ok(()) => Some(ReadLine {
-                bytes: line.bytes,
-                event,
-            }),
+        let line = line_at_front(self.peaks.ledger(), ready)?;
+        match take_event(&mut self.peaks, line.event) {
+            Ok(()) => Some(line),
             Err(_) => None,
         }
     }
+}
+
+/// The line of an event at the front, where it stands there in its usual form and the ledger holds its info. The tables beside
+/// the ledger pass it.
+#[inline(always)]
+pub(crate) fn line_at_front(ledger: &Ledger, ready: &[u8]) -> Option<ReadLine>
+    ensures front { IfSome result (λ read. (tables : TableState) → PassesEvents tables → IsBeside tables ledger.now → PassesFront tables ready.now read.bytes read.event) }
+    ensures held_event { IfSome result (λ read. IsHeld ledger.now read.event) }
+    ensures held_stack { IfSome result (λ read. (tables : TableState) → IsBeside tables ledger.now → HasHeldEvent tables read.event) }
+    ensures least { IfSome result (λ read. 3 < read.bytes) }
+    ensures least_length { IfSome result (λ read. least_length_of read.event ≡ 3) }
+    ensures held { IfSome result (λ read. read.bytes ≤ length ready.now) }
+{
+    let line = event_line(ready)?;
+    let info = line.info as u32;
+    let (size, stack) = ledger.info(info)?;
+    let event = event_of_info(line.kind, info, stack, size);
+    Some(ReadLine {
+        bytes: line.bytes,
+        event,
+    })
 }
 
 /// The event of an info with this stack and size.

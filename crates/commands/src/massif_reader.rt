@@ -1,22 +1,27 @@
 //! The reader of a trace for `massif`: beside the tables it keeps a ledger, and a sampler that takes the snapshots.
-ghost use Rattle.std.specs.Prelude.{◌≡◌, ℕ, ◌+◌, ◌*◌, ◌^◌, ◌≤◌, List, [], ◌++◌, None, length, IfErr, IfOk, OnOk};
+ghost use Rattle.std.specs.Prelude.{◌≡◌, ℕ, ◌+◌, ◌*◌, ◌^◌, ◌≤◌, ◌<◌, List, [], ◌++◌, None, length, IfErr, IfNone, IfOk, IfSome, IsSome, OnOk};
 ghost use Rattle.std.specs.Fn.{FnReturnsAt};
 ghost use Rattle.std.specs.Option.{option_map, option_to_list};
 ghost use Rattle.live_ledger.specs.declared.event.Event.{Event};
 ghost use Rattle.live_ledger.specs.StandsFor as ledger_spec;
 ghost use Rattle.ht_trace.specs.LedgerFits.{CanTake, infos_in, least_length, stacks_in};
+ghost use Rattle.ht_trace.specs.PassesEvents.{PassesEvents};
+ghost use Rattle.ht_trace.specs.StandsFor as trace_spec;
 ghost use Rattle.ht_trace.specs.StepOf.{event_of};
 ghost use Rattle.massif_sample.specs.FunctionNames.{AreStated, FunctionNames};
 ghost use Rattle.massif_sample.specs.Options.{AreInRange};
 ghost use Rattle.massif_sample.specs.StandsFor as sample_spec;
+ghost use Rattle.command_frame.specs.Batch.{HasTakenFront};
 ghost use Rattle.command_frame.specs.Taker.{Tells};
+ghost use Rattle.commands.specs.Batch.{HasTakenLine};
 ghost use Rattle.commands.specs.CommandFault.{told};
 ghost use Rattle.commands.specs.MassifReport.{command_in, massif_report, sampler_fault};
 ghost use Rattle.commands.specs.MassifSettings.{MassifSettings};
-ghost use Rattle.commands.specs.Sampling.{AreOfEvents, HasSampled, IsSomeWith, IsSoundSampling};
+ghost use Rattle.commands.specs.Sampling.{AreOfEvents, HasSampled, IsSoundSampling};
 
+use crate::batch::line_at_front;
 use crate::fault::CommandFault;
-use command_frame::{LineRefusal, LineReport, LineTaker};
+use command_frame::{Batch, LineRefusal, LineReport, LineTaker};
 use cost_tree::FrameTest;
 use hp_num::NoMemory;
 use ht_trace::{LineError, Step, Tables};
@@ -37,7 +42,7 @@ pub trait Settled {
 pub struct MassifReader<A: Fn(&[u8]) -> bool, I: Fn(&[u8]) -> bool, S> {
     tables: Tables,
     ledger: Ledger,
-    /// It is given away for the profile.
+    /// It is given away for the profile, and let go where memory was wanting for a snapshot.
     sampler: Option<Sampler<A, I>>,
     settings: S,
 }
@@ -56,9 +61,10 @@ impl<A: Fn(&[u8]) -> bool, I: Fn(&[u8]) -> bool, S: Settled + Drop> MassifReader
         requires alloc_callable { A.IsAlwaysCallable alloc_fns.test }
         requires ignore_callable { I.IsAlwaysCallable ignore_fns.test }
         requires stated { AreStated (FnReturnsAt A.Fn alloc_fns.test) (FnReturnsAt I.Fn ignore_fns.test) (S.settings settings).names }
-        ensures sound { IfOk result (λ reader. IsSomeWith reader.sampler (λ sampler. A.IsAlwaysCallable sampler.alloc_fns.test × I.IsAlwaysCallable sampler.ignore_fns.test
+        ensures sampler { IfOk result (λ reader. IsSome reader.sampler) }
+        ensures sound { IfOk result (λ reader. IfSome reader.sampler (λ sampler. A.IsAlwaysCallable sampler.alloc_fns.test × I.IsAlwaysCallable sampler.ignore_fns.test
             × IsSoundSampling (FnReturnsAt A.Fn sampler.alloc_fns.test) (FnReturnsAt I.Fn sampler.ignore_fns.test) (S.settings reader.settings) reader.tables reader.ledger sampler.judged.items sampler.samples)) }
-        ensures read { IfOk result (λ reader. IsSomeWith reader.sampler (λ sampler.
+        ensures read { IfOk result (λ reader. trace_spec.StandsFor reader.tables [] × IfSome reader.sampler (λ sampler.
             HasSampled (S.settings reader.settings) reader.tables reader.ledger sampler.judged.items sampler.samples [])) }
         ensures events { IfOk result (λ reader. reader.ledger.totals.events ≡ 0) }
         ensures settings { IfOk result (λ reader. reader.settings ≡ settings) }
@@ -75,15 +81,83 @@ impl<A: Fn(&[u8]) -> bool, I: Fn(&[u8]) -> bool, S: Settled + Drop> MassifReader
     }
 }
 
+impl<A: Fn(&[u8]) -> bool, I: Fn(&[u8]) -> bool, S: Settled> MassifReader<A, I, S> {
+    /// Takes lines of events at the front of the bytes, as long as no memory is wanting and `take_front` takes them. A version
+    /// line was read before.
+    fn take_events(&mut self, ready: &[u8]) -> Batch
+        requires sound { IfSome self.old.sampler (λ sampler. A.IsAlwaysCallable sampler.alloc_fns.test × I.IsAlwaysCallable sampler.ignore_fns.test
+            × IsSoundSampling (FnReturnsAt A.Fn sampler.alloc_fns.test) (FnReturnsAt I.Fn sampler.ignore_fns.test) (S.settings self.old.settings) self.old.tables self.old.ledger sampler.judged.items sampler.samples) }
+        requires passes { PassesEvents self.old.tables }
+        requires room { 4 * self.old.ledger.totals.events + length ready.now ≤ 2 ^ 34 }
+        ensures sound { IfSome self.new.sampler (λ sampler. A.IsAlwaysCallable sampler.alloc_fns.test × I.IsAlwaysCallable sampler.ignore_fns.test
+            × IsSoundSampling (FnReturnsAt A.Fn sampler.alloc_fns.test) (FnReturnsAt I.Fn sampler.ignore_fns.test) (S.settings self.new.settings) self.new.tables self.new.ledger sampler.judged.items sampler.samples) }
+        ensures taken { HasTakenFront (massif_report (S.settings self.old.settings)) (λ lines. trace_spec.StandsFor self.old.tables lines × IfSome self.old.sampler (λ sampler.
+            HasSampled (S.settings self.old.settings) self.old.tables self.old.ledger sampler.judged.items sampler.samples lines)) (λ lines. trace_spec.StandsFor self.new.tables lines × IfSome self.new.sampler (λ sampler.
+            HasSampled (S.settings self.new.settings) self.new.tables self.new.ledger sampler.judged.items sampler.samples lines)) ready.now result.bytes result.lines }
+        ensures held { result.bytes ≤ length ready.now }
+        ensures weight { 4 * self.new.ledger.totals.events ≤ 4 * self.old.ledger.totals.events + result.bytes }
+        ensures settings { self.new.settings ≡ self.old.settings }
+    {
+        let mut bytes = 0;
+        let mut lines = 0;
+        'lines: loop {
+            let Some(taken) = self.take_front(&ready[bytes..]) else {
+                return Batch { bytes, lines };
+            };
+            bytes += taken;
+            lines += 1;
+        }
+    }
+
+    /// Takes the line of an event at the front, and answers how many bytes it has with its line feed. Where it answers `None`,
+    /// no line was taken. Where memory is wanting for a snapshot, the line has no fault: it is taken, and the sampler let go,
+    /// so that nothing more is taken and no profile is given.
+    #[inline(always)]
+    fn take_front(&mut self, ready: &[u8]) -> Option<usize>
+        requires sound { IfSome self.old.sampler (λ sampler. A.IsAlwaysCallable sampler.alloc_fns.test × I.IsAlwaysCallable sampler.ignore_fns.test
+            × IsSoundSampling (FnReturnsAt A.Fn sampler.alloc_fns.test) (FnReturnsAt I.Fn sampler.ignore_fns.test) (S.settings self.old.settings) self.old.tables self.old.ledger sampler.judged.items sampler.samples) }
+        requires passes { PassesEvents self.old.tables }
+        requires room { 4 * self.old.ledger.totals.events + length ready.now ≤ 2 ^ 34 }
+        ensures tables { self.new.tables ≡ self.old.tables }
+        ensures settings { self.new.settings ≡ self.old.settings }
+        ensures sound { IfSome self.new.sampler (λ sampler. A.IsAlwaysCallable sampler.alloc_fns.test × I.IsAlwaysCallable sampler.ignore_fns.test
+            × IsSoundSampling (FnReturnsAt A.Fn sampler.alloc_fns.test) (FnReturnsAt I.Fn sampler.ignore_fns.test) (S.settings self.new.settings) self.new.tables self.new.ledger sampler.judged.items sampler.samples) }
+        ensures taken { IfSome result (λ bytes. HasTakenLine (massif_report (S.settings self.old.settings)) (λ lines. trace_spec.StandsFor self.old.tables lines × IfSome self.old.sampler (λ sampler.
+            HasSampled (S.settings self.old.settings) self.old.tables self.old.ledger sampler.judged.items sampler.samples lines)) (λ lines. trace_spec.StandsFor self.new.tables lines × IfSome self.new.sampler (λ sampler.
+            HasSampled (S.settings self.new.settings) self.new.tables self.new.ledger sampler.judged.items sampler.samples lines)) ready.now bytes) }
+        ensures some { IfSome result (λ bytes. 0 < bytes) }
+        ensures held { IfSome result (λ bytes. bytes ≤ length ready.now) }
+        ensures weight { IfSome result (λ bytes. 4 * self.new.ledger.totals.events ≤ 4 * self.old.ledger.totals.events + bytes) }
+        ensures untaken { IfNone result ((lines : List (List ℕ)) → trace_spec.StandsFor self.old.tables lines × IfSome self.old.sampler (λ sampler.
+            HasSampled (S.settings self.old.settings) self.old.tables self.old.ledger sampler.judged.items sampler.samples lines) → trace_spec.StandsFor self.new.tables lines × IfSome self.new.sampler (λ sampler.
+            HasSampled (S.settings self.new.settings) self.new.tables self.new.ledger sampler.judged.items sampler.samples lines)) }
+        ensures unmoved { IfNone result (self.new.ledger ≡ self.old.ledger) }
+    {
+        let Some(sampler) = &mut self.sampler else {
+            return None;
+        };
+        let line = line_at_front(&self.ledger, ready)?;
+        match sampler.event(line.event, &mut self.ledger, &self.tables) {
+            Ok(()) => Some(line.bytes),
+            Err(SampleFault::FreeOfNothing) => None,
+            Err(SampleFault::CostTooLarge) => None,
+            Err(SampleFault::NoMemory) => {
+                self.sampler = None;
+                Some(line.bytes)
+            }
+        }
+    }
+}
+
 impl<A: Fn(&[u8]) -> bool, I: Fn(&[u8]) -> bool, S: Settled> LineTaker for MassifReader<A, I, S> {
     type Fault = CommandFault;
 
     ghost report = { λ reader. massif_report (S.settings reader.settings) };
 
-    ghost has_taken = { λ reader lines. IsSomeWith reader.sampler (λ sampler.
+    ghost has_taken = { λ reader lines. trace_spec.StandsFor reader.tables lines × IfSome reader.sampler (λ sampler.
         HasSampled (S.settings reader.settings) reader.tables reader.ledger sampler.judged.items sampler.samples lines) };
 
-    ghost is_sound = { λ reader. IsSomeWith reader.sampler (λ sampler. A.IsAlwaysCallable sampler.alloc_fns.test × I.IsAlwaysCallable sampler.ignore_fns.test
+    ghost is_sound = { λ reader. IfSome reader.sampler (λ sampler. A.IsAlwaysCallable sampler.alloc_fns.test × I.IsAlwaysCallable sampler.ignore_fns.test
         × IsSoundSampling (FnReturnsAt A.Fn sampler.alloc_fns.test) (FnReturnsAt I.Fn sampler.ignore_fns.test) (S.settings reader.settings) reader.tables reader.ledger sampler.judged.items sampler.samples) };
 
     ghost weight = { λ reader. 4 * reader.ledger.totals.events };
@@ -113,6 +187,13 @@ impl<A: Fn(&[u8]) -> bool, I: Fn(&[u8]) -> bool, S: Settled> LineTaker for Massi
         match self.tables.end() {
             Ok(()) => Ok(()),
             Err(error) => Err(CommandFault::Line(error)),
+        }
+    }
+
+    fn batch(&mut self, ready: &[u8]) -> Batch {
+        match self.tables.end() {
+            Ok(()) => self.take_events(ready),
+            Err(_) => Batch { bytes: 0, lines: 0 },
         }
     }
 }

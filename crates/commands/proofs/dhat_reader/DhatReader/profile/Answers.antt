@@ -1,9 +1,7 @@
-use Rattle.std.proofs.Common.{◌≡◌, ℕ, List, [], ◌∷◌, ◌++◌, codes, ap, ◌∙◌, sym}
-use Rattle.dhat_json.specs.declared.profile.Dhat.{Dhat}
+use Rattle.std.proofs.Common.{◌≡◌, ℕ, List, [], ◌++◌, codes, ap, ◌∙◌, sym}
 use Rattle.dhat_json.specs.DhatValue.{dhat_text}
 use Rattle.dhat_trace.specs.DhatOf.{dhat_of}
-use Rattle.ht_trace.specs.Pattern.{patterns_of}
-use Rattle.ht_trace.specs.TableState.{TableState, tables_of}
+use Rattle.ht_trace.specs.TableState.{tables_of}
 use Rattle.ht_trace.specs.TraceEvents.{events}
 use Rattle.ht_trace.specs.TraceLists as lists
 use Rattle.ht_trace.specs.Contents.{contents}

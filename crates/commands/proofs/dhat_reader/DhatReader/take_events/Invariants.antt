@@ -1,5 +1,5 @@
 -- The lines so far were taken, and the tables go on to pass the lines of events of held infos.
-use Rattle.std.proofs.Common.{◌≡◌, [], ◌+◌, ◌-◌, ◌≤◌, length}
+use Rattle.std.proofs.Common.{[], ◌+◌, ◌-◌, ◌≤◌, length}
 use Rattle.ht_trace.specs.PassesEvents.{PassesEvents}
 use Rattle.command_frame.specs.Batch.{HasTakenFront}
 use Rattle.commands.specs.DhatReport.{dhat_written}

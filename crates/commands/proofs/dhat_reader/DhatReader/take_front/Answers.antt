@@ -1,4 +1,4 @@
-use Rattle.std.proofs.Common.{◌≡◌, ◌+◌, ◌*◌, ◌≤◌, List, [], ◌∷◌, ◌++◌, ap, length, refl, subst, sym, arith}
+use Rattle.std.proofs.Common.{List, [], ◌∷◌, ◌++◌, ap, length, refl, subst, sym, arith}
 use Rattle.dhat_metrics.specs.StandsFor as life_spec
 use Rattle.ht_trace.specs.TableState.{TableState}
 use Rattle.ht_trace.specs.TraceEvents.{events}

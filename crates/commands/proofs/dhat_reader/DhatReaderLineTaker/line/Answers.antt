@@ -1,4 +1,4 @@
-use Rattle.std.proofs.Common.{◌≡◌, ◌+◌, ◌*◌, ◌≤◌, ◌^◌, List, [], ◌++◌, length, subst, sym, arith}
+use Rattle.std.proofs.Common.{List, [], ◌++◌, subst, sym, arith}
 use Rattle.std.specs.Option.{option_to_list}
 use Rattle.dhat_metrics.specs.StandsFor as life_spec
 use Rattle.ht_trace.specs.StepOf.{event_of}

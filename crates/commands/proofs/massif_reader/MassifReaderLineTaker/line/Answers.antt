@@ -10,12 +10,12 @@ use Rattle.massif_sample.specs.StandsFor as sample_spec
 use Rattle.command_frame.specs.Taker.{Tells}
 use Rattle.command_frame.specs.Told.{Told}
 use Rattle.commands.specs.CommandFault.{told}
-use Rattle.commands.proofs.SampleLemmas.{at_some, event_told, of_some, refused_line, taken_line}
+use Rattle.commands.proofs.SampleLemmas.{at_some, event_told, refused_line, taken_line}
 use Rattle.commands.proofs.massif_reader.MassifReaderLineTaker.line.Goals as goal
 
 pub returns-in-Err-clause-fault : goal.returns-in-Err-clause-fault
 returns-in-Err-clause-fault g c = λ lines has.
-    of_some c.args.self.now.sampler _ has (λ sampler at. refused_line (g.S.Settled.settings c.args.self.now.settings) lines c.args.line.now c.in-Err.error (c.in-Err.ensures.fault [] lines at.tables_of (search rules)))
+    refused_line (g.S.Settled.settings c.args.self.now.settings) lines c.args.line.now c.in-Err.error (c.in-Err.ensures.fault [] lines has.0 (search rules))
 
 pub follow-requires-clause-can : goal.follow-requires-clause-can
 follow-requires-clause-can g c =
@@ -62,31 +62,32 @@ returns-in-Ok-follow-clause-sound g c =
 pub returns-in-Ok-follow-clause-taken : goal.returns-in-Ok-follow-clause-taken
 returns-in-Ok-follow-clause-taken g c = λ lines has.
     let settings = g.S.Settled.settings c.args.self.now.settings in
-    let at = at_some _ c.in-Some.sampler _ c.in-Some.is has in
+    let at = at_some _ c.in-Some.sampler _ c.in-Some.is has.1 in
     let sound = at_some _ c.in-Some.sampler _ c.in-Some.is c.requires.sound in
     let after = c.in-Ok-follow.ensures in
-    let more = c.in-Ok.ensures.events [] lines at.tables_of in
-    record {
-      tables_of = c.in-Ok.ensures.stands [] lines at.tables_of;
-      ledger_of = subst (λ (es : List Event). ledger_spec.StandsFor c.follow.new.ledger es) (sym more) (after.figures (events lines) at.ledger_of);
-      sampling =
-          subst (λ (es : List Event). sample_spec.StandsFor c.follow.new.sampler.judged.items c.follow.new.sampler.samples settings.names c.line.new.self es) (sym more)
-          (after.sampling settings.names (events lines) sound.2.stated (c.sampling_goes_on.ensures _ _ _ _ _ _ at.sampling c.in-Ok.ensures.continues) at.ledger_of);
-    }
+    let more = c.in-Ok.ensures.events [] lines has.0 in (
+      c.in-Ok.ensures.stands [] lines has.0,
+      record {
+        ledger_of = subst (λ (es : List Event). ledger_spec.StandsFor c.follow.new.ledger es) (sym more) (after.figures (events lines) at.ledger_of);
+        sampling =
+            subst (λ (es : List Event). sample_spec.StandsFor c.follow.new.sampler.judged.items c.follow.new.sampler.samples settings.names c.line.new.self es) (sym more)
+            (after.sampling settings.names (events lines) sound.2.stated (c.sampling_goes_on.ensures _ _ _ _ _ _ at.sampling c.in-Ok.ensures.continues) at.ledger_of);
+      },
+    )
 
 pub returns-in-Ok-follow-clause-no_fault : goal.returns-in-Ok-follow-clause-no_fault
 returns-in-Ok-follow-clause-no_fault g c = λ lines has.
     let settings = g.S.Settled.settings c.args.self.now.settings in
-    let at = at_some _ c.in-Some.sampler _ c.in-Some.is has in
+    let at = at_some _ c.in-Some.sampler _ c.in-Some.is has.1 in
     let sound = at_some _ c.in-Some.sampler _ c.in-Some.is c.requires.sound in
-    taken_line settings lines c.args.line.now c.line.new.self c.in-Ok.step (c.in-Ok.ensures.no_fault [] lines at.tables_of) (c.in-Ok.ensures.stands [] lines at.tables_of).tables_is (c.in-Ok.ensures.step [] lines at.tables_of)
+    taken_line settings lines c.args.line.now c.line.new.self c.in-Ok.step (c.in-Ok.ensures.no_fault [] lines has.0) (c.in-Ok.ensures.stands [] lines has.0).tables_is (c.in-Ok.ensures.step [] lines has.0)
     ∙ ap event_told (c.in-Ok-follow.ensures.no_fault settings (events lines) sound.2.options (c.sampling_goes_on.ensures _ _ _ _ _ _ at.sampling c.in-Ok.ensures.continues) at.ledger_of)
 
 pub returns-in-Err-follow-clause-fault : goal.returns-in-Err-follow-clause-fault
 returns-in-Err-follow-clause-fault g c = λ lines has.
     let settings = g.S.Settled.settings c.args.self.now.settings in
-    let at = at_some _ c.in-Some.sampler _ c.in-Some.is has in
+    let at = at_some _ c.in-Some.sampler _ c.in-Some.is has.1 in
     let sound = at_some _ c.in-Some.sampler _ c.in-Some.is c.requires.sound in
     subst (λ (o : Option Told). Tells told c.in-Err-follow.refusal o)
-    (sym (taken_line settings lines c.args.line.now c.line.new.self c.in-Ok.step (c.in-Ok.ensures.no_fault [] lines at.tables_of) (c.in-Ok.ensures.stands [] lines at.tables_of).tables_is (c.in-Ok.ensures.step [] lines at.tables_of)))
+    (sym (taken_line settings lines c.args.line.now c.line.new.self c.in-Ok.step (c.in-Ok.ensures.no_fault [] lines has.0) (c.in-Ok.ensures.stands [] lines has.0).tables_is (c.in-Ok.ensures.step [] lines has.0)))
     (c.in-Err-follow.ensures.fault settings (events lines) sound.2.options (c.sampling_goes_on.ensures _ _ _ _ _ _ at.sampling c.in-Ok.ensures.continues) at.ledger_of)

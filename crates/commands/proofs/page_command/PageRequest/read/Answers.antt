@@ -1,4 +1,4 @@
-use Rattle.std.proofs.Common.{◌≡◌, ◌∙◌, List, ℕ, codes, ap, sym, Err, map}
+use Rattle.std.proofs.Common.{◌≡◌, ◌∙◌, codes, ap, sym, Err, map}
 use Rattle.std.specs.Prelude.{string_bytes}
 use Rattle.std.proofs.lemmas.Result.{err_from_is_err_and}
 use Rattle.std.specs.Option.{option_and_then, option_map}
