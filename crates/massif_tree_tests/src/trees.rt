@@ -1,5 +1,5 @@
 //! Worked trees, and each call once with ample memory.
-ghost use Rattle.std.specs.Prelude.{◌^◌, ◌≤◌, sum};
+ghost use Rattle.std.specs.Prelude.{◌≡◌, ◌+◌, ◌^◌, ◌≤◌, IfOk, length, sum};
 
 use cost_tree::{Costing, FrameTest, Fronts};
 use hp_num::{NoMemory, put_bytes, put_dec};
@@ -42,29 +42,38 @@ const ONE_PERCENT: TreeOptions = TreeOptions {
     depth: 30,
 };
 
-/// The tree of the stacks with these costs, without the front of functions with this name.
-fn tree_without(
-    rt: &impl Abort,
-    alloc: Global,
-    tables: &Tables,
-    name: &[u8],
-    costs: &[u64],
-) -> Result<Vec<u8>, NoMemory>
-    requires { sum costs.now ≤ 2 ^ 62 }
+/// The first texts of the stacks, without the front of functions with this name.
+fn texts_without(alloc: Global, tables: &Tables, name: &[u8]) -> Result<Fronts, NoMemory>
+    ensures count { IfOk result (λ fronts. length fronts ≡ length tables.now.nodes + 1) }
 {
-    assert_eq!(rt; tables.stacks() as usize, costs.len());
-    let costing = Costing::new(tables.stacks(), |stack: u32| costs[stack as usize]);
     let alloc_fns = FrameTest::new(|function: &[u8]| function == name);
     let mut fronts = Fronts::new(alloc);
     add_trimmed(alloc, tables, &alloc_fns, &ONE_PERCENT, &mut fronts)?;
-    let tree = snapshot_tree(alloc, &fronts, &costing, &ONE_PERCENT, 120)?;
+    Ok(fronts)
+}
+
+/// The tree of the stacks with these texts and costs.
+fn tree_of(
+    rt: &impl Abort,
+    alloc: Global,
+    tables: &Tables,
+    fronts: &Fronts,
+    costs: &[u64],
+) -> Result<Vec<u8>, NoMemory>
+    requires count { length fronts.now ≡ length tables.now.nodes + 1 }
+    requires bound { sum costs.now ≤ 2 ^ 62 }
+{
+    assert_eq!(rt; tables.stacks() as usize, costs.len());
+    let costing = Costing::new(tables.stacks(), |stack: u32| costs[stack as usize]);
+    let tree = snapshot_tree(alloc, fronts, &costing, &ONE_PERCENT, 120)?;
     shown(rt, alloc, &tree)
 }
 
 /// The tree at the peak of the worked trace, without the front of functions with this name.
 fn peak_without(rt: &impl Abort, alloc: Global, name: &[u8]) -> Result<Vec<u8>, LineError> {
     let tables = worked_tables(rt, alloc)?;
-    Ok(tree_without(rt, alloc, &tables, name, &[0, 0, 100])?)
+    let fronts = texts_without(alloc, &tables, name)?;
+    Ok(tree_of(rt, alloc, &tables, &fronts, &[0, 0, 100])?)
 }
 
 #[test]
