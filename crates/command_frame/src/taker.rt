@@ -73,7 +73,7 @@ pub trait LineTaker {
         ensures fault { IfErr result (λ fault. (lines : List (List ℕ)) → has_taken self.now lines → (report self.now).end_fault lines ≡ Some (Self.Fault.told fault)) };
 
     /// Takes whole lines at the front of the bytes, as `line` would, as long as each has fewer than 16 bytes, no fault,
-    /// and nothing to give to standard output. It may stop before any line, and takes no memory.
+    /// and nothing to give to standard output. It may stop before any line. Where memory is wanting, a later call tells it.
     fn batch(&mut self, ready: &[u8]) -> Batch
         requires sound { is_sound self.old }
         requires room { weight self.old + length ready.now ≤ 2 ^ 34 }
