@@ -13,6 +13,8 @@ mod gen_tests;
 #[cfg(test)]
 mod interpret_tests;
 #[cfg(test)]
+mod massif_option_tests;
+#[cfg(test)]
 mod massif_tests;
 #[cfg(test)]
 mod page_tests;
