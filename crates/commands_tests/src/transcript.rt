@@ -1,8 +1,10 @@
 //! Transcripts: texts of runs and of what they write, as they would stand on a terminal. A test plays the runs of one and
 //! compares what they write with it.
 
+ghost use Rattle.std.specs.Prelude.{◌≡◌, IfOk};
+
 use commands::heapsuite_run;
-use hp_num::{put_bytes, put_dec};
+use hp_num::{NoMemory, put_bytes, put_dec};
 use hp_outside::{Limits, MemSink, MemStore};
 use std::alloc::Global;
 use std::process::Abort;
@@ -48,37 +50,64 @@ pub const fn sound(front: &str) -> Setting<'_> {
     }
 }
 
-/// Runs the words, which stand between blanks, and appends what both outputs got and the status in brackets. The folder has
-/// the file `t`, a worked trace `e`, suppressions `q`, and symbols `s`.
-pub fn append_run(
-    alloc: Global,
-    setting: &Setting,
-    file: &[u8],
-    words: &str,
-    all: &mut Vec<u8>,
-) -> Result<(), Fail> {
+/// The words that stand between blanks.
+fn words_of(alloc: Global, text: &str) -> Result<Vec<String>, NoMemory> {
     let mut list = Vec::new(alloc);
-    if !words.is_empty() {
-        for word in words.split(' ') {
+    if !text.is_empty() {
+        for word in text.split(' ') {
             list.push(String::from_str(alloc, word)?)?;
         }
     }
-    let limits = Limits {
-        input: u64::from(setting.input),
-        line: u32::from(setting.line).max(1),
-        order: 1,
-    };
+    Ok(list)
+}
+
+/// The folder that runs find: the file `t`, a worked trace `e`, suppressions `q`, and symbols `s`.
+fn folder(alloc: Global, setting: &Setting, file: &[u8]) -> Result<MemStore, NoMemory>
+    ensures unopened { IfOk result (λ store. store.store.opens ≡ 0) }
+{
     let mut store = MemStore::new(alloc, setting.piece.max(1));
     store.add("t", file)?;
     store.add("e", WORKED.as_bytes())?;
     store.add("q", b"# a comment\nf (\n")?;
     store.add("s", b"app\t400\t100\tmain\ta.c\t20\napp\t500\t10\tf\n")?;
     store.fail_at(setting.failing_store_call)?;
+    Ok(store)
+}
+
+/// Runs the words over the folder, and gives the status.
+fn status_of(
+    alloc: Global,
+    setting: &Setting,
+    words: &[String],
+    store: &mut MemStore,
+    out: &mut MemSink,
+    err: &mut MemSink,
+) -> u8
+    requires unopened { store.old.store.opens ≡ 0 }
+{
+    let limits = Limits {
+        input: u64::from(setting.input),
+        line: u32::from(setting.line).max(1),
+        order: 1,
+    };
+    heapsuite_run(alloc, words, &limits, store, out, err)
+}
+
+/// Runs the words, which stand between blanks, and appends what both outputs got and the status in brackets.
+pub fn append_run(
+    alloc: Global,
+    setting: &Setting,
+    file: &[u8],
+    words: &str,
+    all: &mut Vec<u8>,
+) -> Result<(), NoMemory> {
+    let words = words_of(alloc, words)?;
+    let mut store = folder(alloc, setting, file)?;
     let mut out = MemSink::new(alloc, setting.out_room)?;
     out.fail_at(setting.failing_out_call)?;
     let mut err = MemSink::new(alloc, setting.err_room)?;
     err.fail_at(setting.failing_err_call)?;
-    let status = heapsuite_run(alloc, &list, &limits, &mut store, &mut out, &mut err);
+    let status = status_of(alloc, setting, &words, &mut store, &mut out, &mut err);
     put_bytes(all, out.bytes())?;
     put_bytes(all, err.bytes())?;
     put_bytes(all, b"[")?;
