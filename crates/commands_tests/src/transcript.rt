@@ -74,14 +74,35 @@ fn folder(alloc: Global, setting: &Setting, file: &[u8]) -> Result<MemStore, NoM
     Ok(store)
 }
 
+/// Both outputs of a run.
+#[derive(Drop)]
+struct Outputs {
+    out: MemSink,
+    err: MemSink,
+}
+
+/// Outputs that have got nothing.
+fn empty_outputs(alloc: Global, setting: &Setting) -> Result<Outputs, NoMemory> {
+    Ok(Outputs {
+        out: sink(alloc, setting.out_room, setting.failing_out_call)?,
+        err: sink(alloc, setting.err_room, setting.failing_err_call)?,
+    })
+}
+
+/// An output with this room, of whose calls one is to fail.
+fn sink(alloc: Global, room: usize, failing_call: u64) -> Result<MemSink, NoMemory> {
+    let mut sink = MemSink::new(alloc, room)?;
+    sink.fail_at(failing_call)?;
+    Ok(sink)
+}
+
 /// Runs the words over the folder, and gives the status.
 fn status_of(
     alloc: Global,
     setting: &Setting,
     words: &[String],
     store: &mut MemStore,
-    out: &mut MemSink,
-    err: &mut MemSink,
+    outputs: &mut Outputs,
 ) -> u8
     requires unopened { store.old.store.opens ≡ 0 }
 {
@@ -90,7 +111,23 @@ fn status_of(
         line: u32::from(setting.line).max(1),
         order: 1,
     };
-    heapsuite_run(alloc, words, &limits, store, out, err)
+    heapsuite_run(
+        alloc,
+        words,
+        &limits,
+        store,
+        &mut outputs.out,
+        &mut outputs.err,
+    )
+}
+
+/// Appends what both outputs got and the status in brackets.
+fn put_answer(outputs: &Outputs, status: u8, all: &mut Vec<u8>) -> Result<(), NoMemory> {
+    put_bytes(all, outputs.out.bytes())?;
+    put_bytes(all, outputs.err.bytes())?;
+    put_bytes(all, b"[")?;
+    put_dec(all, u64::from(status))?;
+    put_bytes(all, b"]\n")
 }
 
 /// Runs the words, which stand between blanks, and appends what both outputs got and the status in brackets.
@@ -103,17 +140,9 @@ pub fn append_run(
 ) -> Result<(), NoMemory> {
     let words = words_of(alloc, words)?;
     let mut store = folder(alloc, setting, file)?;
-    let mut out = MemSink::new(alloc, setting.out_room)?;
-    out.fail_at(setting.failing_out_call)?;
-    let mut err = MemSink::new(alloc, setting.err_room)?;
-    err.fail_at(setting.failing_err_call)?;
-    let status = status_of(alloc, setting, &words, &mut store, &mut out, &mut err);
-    put_bytes(all, out.bytes())?;
-    put_bytes(all, err.bytes())?;
-    put_bytes(all, b"[")?;
-    put_dec(all, u64::from(status))?;
-    put_bytes(all, b"]\n")?;
-    Ok(())
+    let mut outputs = empty_outputs(alloc, setting)?;
+    let status = status_of(alloc, setting, &words, &mut store, &mut outputs);
+    put_answer(&outputs, status, all)
 }
 
 /// Plays the lines of a transcript and gives what then stands there. A line behind `> ` is one more of `t`, up to the next
