@@ -72,7 +72,7 @@ fn symbols_of(rt: &impl Abort, alloc: Global, table: &[u8], out: &mut Vec<u8>) -
 }
 
 /// Reads a raw trace with these symbols.
-fn interpret(rt: &impl Abort, alloc: Global, symbols: Symbols, trace: &[u8], out: &mut Vec<u8>) {
+fn run_trace(rt: &impl Abort, alloc: Global, symbols: Symbols, trace: &[u8], out: &mut Vec<u8>) {
     let mut interpreter = Interpreter::new(alloc, symbols);
     assert_eq!(rt; read_trace(rt, &mut interpreter, trace, out), Ok(()));
 }
@@ -81,6 +81,6 @@ fn interpret(rt: &impl Abort, alloc: Global, symbols: Symbols, trace: &[u8], out
 pub fn played(rt: &impl Abort, alloc: Global, table: &[u8], trace: &[u8]) -> Vec<u8> {
     let mut out = Vec::new(alloc);
     let symbols = symbols_of(rt, alloc, table, &mut out);
-    interpret(rt, alloc, symbols, trace, &mut out);
+    run_trace(rt, alloc, symbols, trace, &mut out);
     out
 }
