@@ -25,6 +25,3 @@ pub use profile::{Access, Dhat, Life, Point};
 pub use reader::read_profile;
 pub use shown::put_shown;
 pub use writer::profile_text;
-
-#[cfg(test)]
-mod tests;

@@ -5,8 +5,6 @@
 mod figures;
 mod life;
 mod lifetimes;
-#[cfg(test)]
-mod tests;
 
 pub use figures::LifeFigures;
 pub use lifetimes::Lifetimes;

@@ -8,6 +8,3 @@ mod profile;
 mod texts;
 
 pub use profile::trace_profile;
-
-#[cfg(test)]
-mod tests;

@@ -16,6 +16,3 @@ pub use fault::ViewFault;
 pub use fronts::fronts_of;
 pub use options::ViewOptions;
 pub use view::put_view;
-
-#[cfg(test)]
-mod tests;

@@ -23,8 +23,3 @@ pub use fault::SymbolFault;
 pub use interpreter::Interpreter;
 pub use laws::interpreted_traces;
 pub use symbols::Symbols;
-
-#[cfg(test)]
-mod interpreter_tests;
-#[cfg(test)]
-mod symbol_tests;

@@ -2,9 +2,9 @@
 ghost use Rattle.std.specs.Prelude.{IfOk};
 ghost use Rattle.dhat_json.specs.IsSound.{IsWritable};
 
-use crate::trace_profile;
 use dhat_json::{Dhat, profile_text};
 use dhat_metrics::Lifetimes;
+use dhat_trace::trace_profile;
 use hp_num::NoMemory;
 use ht_trace::Tables;
 use peak_costs::Peaks;
@@ -18,9 +18,9 @@ const EMPTY: &str =
 fn empty_profile(alloc: Global) -> Result<Dhat, NoMemory>
     ensures { IfOk result IsWritable }
 {
-    let tables = Tables::new(alloc);
     let peaks = Peaks::new(alloc)?;
     let lifetimes = Lifetimes::new(alloc)?;
+    let tables = Tables::new(alloc);
     trace_profile(alloc, &tables, &peaks, &lifetimes)
 }
 

@@ -6,8 +6,7 @@ ghost use Rattle.live_ledger.specs.StandsFor as ledger_spec;
 ghost use Rattle.dhat_metrics.specs.Changes.{IsOfHeld};
 ghost use Rattle.dhat_metrics.specs.StandsFor as life_spec;
 
-use crate::figures::LifeFigures;
-use crate::lifetimes::Lifetimes;
+use dhat_metrics::{LifeFigures, Lifetimes};
 use live_ledger::{Event, Ledger};
 use std::alloc::Global;
 use std::process::Abort;

@@ -1,4 +1,4 @@
-use Rattle.dhat_metrics.proofs.tests.start_ledger.Goals as goal
+use Rattle.dhat_tests.proofs.lifetimes.start_ledger.Goals as goal
 
 pub returns : goal.returns
 returns g c =

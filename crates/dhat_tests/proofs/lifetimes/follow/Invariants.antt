@@ -2,7 +2,7 @@ use Rattle.std.specs.Prelude.{◌≡◌, List, length}
 use Rattle.live_ledger.specs.declared.event.Event.{Event}
 use Rattle.live_ledger.specs.StandsFor as ledger_spec
 use Rattle.dhat_metrics.specs.StandsFor as life_spec
-use Rattle.dhat_metrics.proofs.tests.follow.Given as goal
+use Rattle.dhat_tests.proofs.lifetimes.follow.Given as goal
 
 -- both hold the same three stacks, and stand for the same events
 abbrev pub invariant-each_step : goal.invariant-each_step

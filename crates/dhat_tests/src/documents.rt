@@ -1,7 +1,8 @@
 //! Worked documents, read and written, and documents that are refused. Expected values are worked out by hand.
-use crate::{
-    DhatFault, FigureKey, FrameList, Key, Life, Point, Points, Texts, dhat_documents,
-    dhat_round_trip, profile_text, put_shown, read_profile, shown_texts,
+
+use dhat_json::{
+    DhatFault, FigureKey, FrameList, Life, Point, Points, Texts, dhat_documents, dhat_round_trip,
+    profile_text, put_shown, read_profile, shown_texts,
 };
 use hp_num::{NoMemory, Text};
 use std::alloc::Global;
@@ -32,23 +33,61 @@ const AD_HOC: &str =
 const AD_HOC_WRITTEN: &str =
     r#"{"Mtu":"s","bkacc":false,"bklt":false,"bksu":"events","bsu":"units","bu":"unit","cmd":"a\n\"b\"","dhatFileVersion":2,"ftbl":[],"mode":"ad-hoc","pid":18446744073709551615,"pps":[{"fs":[],"tb":0,"tbk":1}],"te":1,"tu":"µs","verb":"Allocated"}"#;
 
+/// Faults of the worked document: in each line a part of it, what stands in the part's place, and the fault. The first ones
+/// are of the document, then of the profile, of its points, and of several the first.
+const FAULTS: &str = r#"{ | [ | Some(NotJson)
+./a | \ud800 | Some(NotJson)
+"dhatFileVersion":2 | "dhatFileVersion":1 | Some(WrongFileVersion)
+"dhatFileVersion":2 | "dhatFileVersion":2.0 | Some(WrongFileVersion)
+"dhatFileVersion":2 | "dhatFileVersion":"2" | Some(WrongFileVersion)
+"dhatFileVersion":2 | "version":2 | Some(MissingKey { point: None, key: DhatFileVersion })
+"te":100, |  | Some(MissingKey { point: None, key: Te })
+"tuth":500, |  | None
+"tuth":500, | "tuth":null, | Some(WrongKind { point: None, key: Tuth })
+"heap" | 5,"bu":5 | Some(WrongKind { point: None, key: Mode })
+"heap" | "heap","bu":5 | Some(WrongKind { point: None, key: Bu })
+"bklt":true | "bklt":1 | Some(WrongKind { point: None, key: Bklt })
+"pid":7 | "pid":"7","pid":7 | None
+"pid":7 | "pid":18446744073709551616 | Some(WrongKind { point: None, key: Pid })
+"tg":50 | "tg":-1 | Some(WrongKind { point: None, key: Tg })
+"[root]", | "[root]",{}, | Some(WrongKind { point: None, key: Ftbl })
+[{ | [[],{ | Some(WrongKind { point: Some(0), key: Pps })
+"tb":10, | "tb":1e1, | Some(WrongKind { point: Some(0), key: Tb })
+"ebk":0, |  | Some(MissingKey { point: Some(0), key: Ebk })
+"bklt":true | "bklt":false | None
+"wb":10, |  | Some(MissingKey { point: Some(0), key: Wb })
+[-10,1] | {} | Some(WrongKind { point: Some(0), key: Acc })
+"fs":[1] | "fs":[1,2] | Some(FrameOutOfTable { point: 0, frame: 2 })
+"fs":[1] | "fs":[0.0,2] | Some(WrongKind { point: Some(0), key: Fs })
+"te":100,"tg":50,"pps":[{"tb" | "tg":50,"pps":[{"x" | Some(MissingKey { point: None, key: Te })
+"acc":[-10,1],"fs":[1]} | "fs":[2]},{"tb":1} | Some(FrameOutOfTable { point: 0, frame: 2 })
+"acc":[-10,1],"fs":[1]} | "fs":[1]},{"tb":1},5 | Some(MissingKey { point: Some(1), key: Tbk })"#;
+
+#[test]
+fn laws() {
+    dhat_documents();
+    dhat_round_trip();
+    shown_texts();
+}
+
 /// Reads the document, writes the profile and compares.
-fn writes_again(rt: &impl Abort, alloc: Global, document: &str, written: &str) -> Result<(), Fail> {
-    let dhat = read_profile(alloc, document.as_bytes())?;
-    let text = profile_text(alloc, &dhat)?;
+fn writes_again(rt: &impl Abort, alloc: Global, document: &str, written: &str) {
+    let dhat = read_profile(alloc, document.as_bytes()).expect(rt, "a profile");
+    let text = profile_text(alloc, &dhat).expect(rt, "memory");
     assert!(rt; text.as_str() == written);
-    Ok(())
 }
 
 #[test]
-fn writes_what_it_read(rt: HostRuntime) -> Result<(), Fail> {
-    dhat_documents();
-    dhat_round_trip();
-    writes_again(&rt, rt.alloc(), EMPTY, EMPTY)?;
-    writes_again(&rt, rt.alloc(), DEMO, DEMO)?;
-    writes_again(&rt, rt.alloc(), DOCUMENT, WRITTEN)?;
-    writes_again(&rt, rt.alloc(), AD_HOC, AD_HOC_WRITTEN)?;
-    Ok(())
+fn writes_what_it_read(rt: HostRuntime) {
+    writes_again(&rt, rt.alloc(), EMPTY, EMPTY);
+    writes_again(&rt, rt.alloc(), DEMO, DEMO);
+    writes_again(&rt, rt.alloc(), DOCUMENT, WRITTEN);
+    writes_again(&rt, rt.alloc(), AD_HOC, AD_HOC_WRITTEN);
+}
+
+/// Why the document is no profile.
+fn fault_of(alloc: Global, document: &[u8]) -> Option<DhatFault> {
+    read_profile(alloc, document).err()
 }
 
 /// The fault of the worked document where `other` stands for `part`, or `None` where it is read.
@@ -62,87 +101,23 @@ fn fault_with(
         .split_once(part)
         .expect(rt, "a part of the document");
     let document = format!(in alloc; "{before}{other}{after}")?;
-    Ok(read_profile(alloc, document.as_bytes()).err())
+    Ok(fault_of(alloc, document.as_bytes()))
 }
 
-fn missing(key: Key) -> Option<DhatFault> {
-    Some(DhatFault::MissingKey { point: None, key })
-}
-
-fn wrong(key: Key) -> Option<DhatFault> {
-    Some(DhatFault::WrongKind { point: None, key })
-}
-
-fn missing_at(point: u32, key: Key) -> Option<DhatFault> {
-    let point = Some(point);
-    Some(DhatFault::MissingKey { point, key })
-}
-
-fn wrong_at(point: u32, key: Key) -> Option<DhatFault> {
-    let point = Some(point);
-    Some(DhatFault::WrongKind { point, key })
-}
-
-fn out_of_table(point: u32, frame: u64) -> Option<DhatFault> {
-    Some(DhatFault::FrameOutOfTable { point, frame })
+/// The worked document has the fault that the line says.
+fn has_fault(rt: &impl Abort, alloc: Global, line: &str) -> Result<(), Fail> {
+    let (part, rest) = line.split_once(" | ").expect(rt, "a part");
+    let (other, want) = rest.split_once(" | ").expect(rt, "a fault");
+    let fault = fault_with(rt, alloc, part, other)?;
+    let found = format!(in alloc; "{fault:?}")?;
+    assert_eq!(rt; found.as_str(), want, "at {line}");
+    Ok(())
 }
 
 #[test]
 fn faults(rt: HostRuntime) -> Result<(), Fail> {
-    let version = "\"dhatFileVersion\":2";
-    let last = "\"acc\":[-10,1],\"fs\":[1]}";
-    let cases = [
-        // The document.
-        ("{", "[", Some(DhatFault::NotJson)),
-        ("./a", "\\ud800", Some(DhatFault::NotJson)),
-        (
-            version,
-            "\"dhatFileVersion\":1",
-            Some(DhatFault::WrongFileVersion),
-        ),
-        (
-            version,
-            "\"dhatFileVersion\":2.0",
-            Some(DhatFault::WrongFileVersion),
-        ),
-        (
-            version,
-            "\"dhatFileVersion\":\"2\"",
-            Some(DhatFault::WrongFileVersion),
-        ),
-        (version, "\"version\":2", missing(Key::DhatFileVersion)),
-        // The profile.
-        ("\"te\":100,", "", missing(Key::Te)),
-        ("\"tuth\":500,", "", None),
-        ("\"tuth\":500,", "\"tuth\":null,", wrong(Key::Tuth)),
-        ("\"heap\"", "5,\"bu\":5", wrong(Key::Mode)),
-        ("\"heap\"", "\"heap\",\"bu\":5", wrong(Key::Bu)),
-        ("\"bklt\":true", "\"bklt\":1", wrong(Key::Bklt)),
-        ("\"pid\":7", "\"pid\":\"7\",\"pid\":7", None),
-        ("\"pid\":7", "\"pid\":18446744073709551616", wrong(Key::Pid)),
-        ("\"tg\":50", "\"tg\":-1", wrong(Key::Tg)),
-        ("\"[root]\",", "\"[root]\",{},", wrong(Key::Ftbl)),
-        // The points.
-        ("[{", "[[],{", wrong_at(0, Key::Pps)),
-        ("\"tb\":10,", "\"tb\":1e1,", wrong_at(0, Key::Tb)),
-        ("\"ebk\":0,", "", missing_at(0, Key::Ebk)),
-        ("\"bklt\":true", "\"bklt\":false", None),
-        ("\"wb\":10,", "", missing_at(0, Key::Wb)),
-        ("[-10,1]", "{}", wrong_at(0, Key::Acc)),
-        ("\"fs\":[1]", "\"fs\":[1,2]", out_of_table(0, 2)),
-        ("\"fs\":[1]", "\"fs\":[0.0,2]", wrong_at(0, Key::Fs)),
-        // The first of several.
-        (
-            "\"te\":100,\"tg\":50,\"pps\":[{\"tb\"",
-            "\"tg\":50,\"pps\":[{\"x\"",
-            missing(Key::Te),
-        ),
-        (last, "\"fs\":[2]},{\"tb\":1}", out_of_table(0, 2)),
-        (last, "\"fs\":[1]},{\"tb\":1},5", missing_at(1, Key::Tbk)),
-    ];
-    for (part, other, fault) in cases.iter() {
-        let found = fault_with(&rt, rt.alloc(), part, other)?;
-        assert_eq!(rt; found, *fault, "{other} for {part}");
+    for line in FAULTS.split('\n') {
+        has_fault(&rt, rt.alloc(), line)?;
     }
     Ok(())
 }
@@ -151,16 +126,16 @@ fn faults(rt: HostRuntime) -> Result<(), Fail> {
 fn cut_documents(rt: HostRuntime) {
     let bytes = DOCUMENT.as_bytes();
     for (end, _) in bytes.iter().enumerate() {
-        let fault = read_profile(rt.alloc(), &bytes[..end]).err();
+        let fault = fault_of(rt.alloc(), &bytes[..end]);
         assert_eq!(rt; fault, Some(DhatFault::NotJson), "cut at {end}");
     }
-    let no_text = read_profile(rt.alloc(), b"{\"\xff\":1}").err();
+    let no_text = fault_of(rt.alloc(), b"{\"\xff\":1}");
     assert_eq!(rt; no_text, Some(DhatFault::NotJson));
 }
 
-#[test]
-fn figures(rt: HostRuntime) -> Result<(), NoMemory> {
-    let mut fs = FrameList::new(rt.alloc());
+/// A point of one frame, without accesses.
+fn worked_point(rt: &impl Abort, alloc: Global) -> Result<Point, NoMemory> {
+    let mut fs = FrameList::new(alloc);
     fs.push(1)?;
     assert_eq!(rt; (fs.len(), *fs.at(0)), (1, 1));
     let life = Life {
@@ -172,20 +147,35 @@ fn figures(rt: HostRuntime) -> Result<(), NoMemory> {
         eb: 8,
         ebk: 9,
     };
-    let point = Point {
+    Ok(Point {
         tb: 1,
         tbk: 2,
         life: Some(life),
         access: None,
         fs,
-    };
-    assert_eq!(rt; point.figure(FigureKey::Tb), Some(1));
-    assert_eq!(rt; point.figure(FigureKey::Gb), Some(6));
-    assert_eq!(rt; point.figure(FigureKey::Ebk), Some(9));
-    assert_eq!(rt; point.figure(FigureKey::Rb), None);
+    })
+}
+
+/// The point has this figure.
+fn has_figure(rt: &impl Abort, point: &Point, key: FigureKey, want: Option<u64>) {
+    assert_eq!(rt; point.figure(key), want);
+}
+
+#[test]
+fn figures(rt: HostRuntime) -> Result<(), NoMemory> {
+    let point = worked_point(&rt, rt.alloc())?;
+    has_figure(&rt, &point, FigureKey::Tb, Some(1));
+    has_figure(&rt, &point, FigureKey::Gb, Some(6));
+    has_figure(&rt, &point, FigureKey::Ebk, Some(9));
+    has_figure(&rt, &point, FigureKey::Rb, None);
     assert_eq!(rt; FigureKey::Gbk.key().name(), "gbk");
+    Ok(())
+}
+
+#[test]
+fn lists(rt: HostRuntime) -> Result<(), NoMemory> {
     let mut points = Points::new(rt.alloc());
-    points.push(point)?;
+    points.push(worked_point(&rt, rt.alloc())?)?;
     assert_eq!(rt; (points.len(), points.at(0).tbk), (1, 2));
     let mut texts = Texts::new(rt.alloc());
     texts.push(Text::new(rt.alloc(), b"[root]")?)?;
@@ -197,11 +187,10 @@ fn figures(rt: HostRuntime) -> Result<(), NoMemory> {
 }
 
 #[test]
-fn told_figures(rt: HostRuntime) -> Result<(), Fail> {
-    let dhat = read_profile(rt.alloc(), DEMO.as_bytes())?;
+fn told_figures(rt: HostRuntime) {
+    let dhat = read_profile(rt.alloc(), DEMO.as_bytes()).expect(&rt, "a profile");
     assert!(rt; dhat.has_figures(FigureKey::Eb));
     assert!(rt; !dhat.has_figures(FigureKey::Wb));
-    Ok(())
 }
 
 /// The shown form of the text.
@@ -214,7 +203,6 @@ fn is_shown(rt: &impl Abort, alloc: Global, text: &[u8], shown: &[u8]) -> Result
 
 #[test]
 fn shown_forms(rt: HostRuntime) -> Result<(), NoMemory> {
-    shown_texts();
     is_shown(&rt, rt.alloc(), b"", b"?")?;
     is_shown(&rt, rt.alloc(), b" a b ", b"?a b ")?;
     is_shown(&rt, rt.alloc(), b"a\nb\x1f\x7f\xff", b"a?b?\x7f\xff")?;
