@@ -1,7 +1,7 @@
 //! Recordings of small scripts, as texts.
 
-use crate::book::Book;
 use hp_num::{NoMemory, put_bytes, put_dec};
+use record_book::Book;
 use record_scripts::{ScriptFault, Scripts};
 use std::alloc::Global;
 use std::process::Abort;
