@@ -1,26 +1,11 @@
 //! Recordings of small scripts, as texts.
 
+use crate::script_text::scripts_of;
 use hp_num::{NoMemory, put_bytes, put_dec};
 use record_book::Book;
-use record_scripts::{ScriptFault, Scripts};
+use record_scripts::ScriptFault;
 use std::alloc::Global;
 use std::process::Abort;
-
-/// The scripts of a text, which are parted by `|`, and their lines by `;`.
-fn scripts_of(alloc: Global, text: &[u8]) -> Result<Scripts, ScriptFault> {
-    let mut scripts = Scripts::new(alloc, 100);
-    for script in text.split(|byte| *byte == b'|') {
-        if scripts.threads() < 64 {
-            scripts.begin()?;
-        }
-        for line in script.split(|byte| *byte == b';') {
-            if scripts.threads() > 0 {
-                scripts.line(line)?;
-            }
-        }
-    }
-    Ok(scripts)
-}
 
 /// Takes turns of these threads, given by digits, and then those that are left of thread 0, up to 64.
 fn take_turns(book: &mut Book, threads: &[u8]) -> Result<(), NoMemory> {

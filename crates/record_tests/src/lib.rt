@@ -1,5 +1,5 @@
-//! Tests of the public calls of `record_scripts`, `record_book`, `record_words` and `record_files`, in a crate of their own: a
-//! crate that has tests is proved twice.
+//! Tests of the public calls of `record_scripts`, `record_book`, `recorder`, `record_words` and `record_files`, in a crate of
+//! their own: a crate that has tests is proved twice.
 #![tactic(auto)]
 
 #[cfg(test)]
@@ -9,4 +9,8 @@ mod file_tests;
 #[cfg(test)]
 mod script_tests;
 #[cfg(test)]
+mod script_text;
+#[cfg(test)]
 mod word_tests;
+#[cfg(test)]
+mod worker_tests;
