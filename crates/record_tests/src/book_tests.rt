@@ -1,4 +1,6 @@
 //! Recordings of small scripts, as texts.
+ghost use Rattle.std.specs.Prelude.{IfOk};
+ghost use Rattle.record_book.specs.Orders.{IsInterleaving};
 
 use crate::script_text::scripts_of;
 use hp_num::{NoMemory, put_bytes, put_dec};
@@ -30,6 +32,17 @@ fn put_book(book: &Book, out: &mut Vec<u8>) -> Result<(), NoMemory> {
     put_bytes(out, b"\n")
 }
 
+/// The book of scripts, of which these threads take turns before all are finished.
+fn finished(alloc: Global, text: &[u8], threads: &[u8]) -> Result<Book, ScriptFault>
+    ensures all { IfOk result (λ book. IsInterleaving book.job.scripts book.order) }
+{
+    let job = scripts_of(alloc, text)?.share()?;
+    let mut book = Book::new(alloc, job)?;
+    take_turns(&mut book, threads)?;
+    let same = scripts_of(alloc, text)?.share()?;
+    Ok(book.finish(same)?)
+}
+
 /// Appends the trace and the order of scripts, of which these threads take turns before all are finished.
 fn put_recording(
     alloc: Global,
@@ -37,11 +50,7 @@ fn put_recording(
     threads: &[u8],
     out: &mut Vec<u8>,
 ) -> Result<(), ScriptFault> {
-    let job = scripts_of(alloc, text)?.share()?;
-    let mut book = Book::new(alloc, job)?;
-    take_turns(&mut book, threads)?;
-    let same = scripts_of(alloc, text)?.share()?;
-    put_book(&book.finish(same)?, out)?;
+    put_book(&finished(alloc, text, threads)?, out)?;
     Ok(())
 }
 
@@ -52,11 +61,7 @@ fn put_summary_of(
     threads: &[u8],
     out: &mut Vec<u8>,
 ) -> Result<(), ScriptFault> {
-    let job = scripts_of(alloc, text)?.share()?;
-    let mut book = Book::new(alloc, job)?;
-    take_turns(&mut book, threads)?;
-    let same = scripts_of(alloc, text)?.share()?;
-    book.finish(same)?.put_summary(out)?;
+    finished(alloc, text, threads)?.put_summary(out)?;
     Ok(())
 }
 
