@@ -16,10 +16,11 @@ const MODULES: &str = "# modules\nm app  01000 0 1F00\nm -\n";
 /// The words, which stand between blanks.
 fn listed(alloc: Global, words: &str) -> Result<Vec<String>, Fail> {
     let mut list = Vec::new(alloc);
-    if !words.is_empty() {
-        for word in words.split(' ') {
-            list.push(String::from_str(alloc, word)?)?;
-        }
+    if words.is_empty() {
+        return Ok(list);
+    }
+    for word in words.split(' ') {
+        list.push(String::from_str(alloc, word)?)?;
     }
     Ok(list)
 }
