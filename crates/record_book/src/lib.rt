@@ -14,6 +14,3 @@ mod trace;
 
 pub use book::Book;
 pub use laws::figures_of_scripts;
-
-#[cfg(test)]
-mod tests;

@@ -9,6 +9,3 @@ mod refusal;
 mod take_line;
 
 pub use files::{ScriptFiles, read_files};
-
-#[cfg(test)]
-mod tests;

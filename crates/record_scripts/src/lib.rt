@@ -14,6 +14,3 @@ pub use fault::ScriptFault;
 pub use module_line::FILE_VERSION;
 pub use script_line::ScriptLine;
 pub use scripts::Scripts;
-
-#[cfg(test)]
-mod script_tests;

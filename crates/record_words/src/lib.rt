@@ -5,6 +5,3 @@ mod inputs;
 mod request;
 
 pub use request::RecordRequest;
-
-#[cfg(test)]
-mod tests;

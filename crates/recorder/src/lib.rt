@@ -11,6 +11,3 @@ pub use gate::Gate;
 pub use locked_book::Recorder;
 pub use recording::record_job;
 pub use workers::run_workers;
-
-#[cfg(test)]
-mod tests;

@@ -1,26 +1,13 @@
 //! Recordings of small scripts, as texts.
+ghost use Rattle.std.specs.Prelude.{IfOk};
+ghost use Rattle.record_book.specs.Orders.{IsInterleaving};
 
-use crate::book::Book;
+use crate::script_text::scripts_of;
 use hp_num::{NoMemory, put_bytes, put_dec};
-use record_scripts::{ScriptFault, Scripts};
+use record_book::Book;
+use record_scripts::ScriptFault;
 use std::alloc::Global;
 use std::process::Abort;
-
-/// The scripts of a text, which are parted by `|`, and their lines by `;`.
-fn scripts_of(alloc: Global, text: &[u8]) -> Result<Scripts, ScriptFault> {
-    let mut scripts = Scripts::new(alloc, 100);
-    for script in text.split(|byte| *byte == b'|') {
-        if scripts.threads() < 64 {
-            scripts.begin()?;
-        }
-        for line in script.split(|byte| *byte == b';') {
-            if scripts.threads() > 0 {
-                scripts.line(line)?;
-            }
-        }
-    }
-    Ok(scripts)
-}
 
 /// Takes turns of these threads, given by digits, and then those that are left of thread 0, up to 64.
 fn take_turns(book: &mut Book, threads: &[u8]) -> Result<(), NoMemory> {
@@ -45,6 +32,17 @@ fn put_book(book: &Book, out: &mut Vec<u8>) -> Result<(), NoMemory> {
     put_bytes(out, b"\n")
 }
 
+/// The book of scripts, of which these threads take turns before all are finished.
+fn finished(alloc: Global, text: &[u8], threads: &[u8]) -> Result<Book, ScriptFault>
+    ensures all { IfOk result (λ book. IsInterleaving book.job.scripts book.order) }
+{
+    let job = scripts_of(alloc, text)?.share()?;
+    let mut book = Book::new(alloc, job)?;
+    take_turns(&mut book, threads)?;
+    let same = scripts_of(alloc, text)?.share()?;
+    Ok(book.finish(same)?)
+}
+
 /// Appends the trace and the order of scripts, of which these threads take turns before all are finished.
 fn put_recording(
     alloc: Global,
@@ -52,11 +50,7 @@ fn put_recording(
     threads: &[u8],
     out: &mut Vec<u8>,
 ) -> Result<(), ScriptFault> {
-    let job = scripts_of(alloc, text)?.share()?;
-    let mut book = Book::new(alloc, job)?;
-    take_turns(&mut book, threads)?;
-    let same = scripts_of(alloc, text)?.share()?;
-    put_book(&book.finish(same)?, out)?;
+    put_book(&finished(alloc, text, threads)?, out)?;
     Ok(())
 }
 
@@ -67,11 +61,7 @@ fn put_summary_of(
     threads: &[u8],
     out: &mut Vec<u8>,
 ) -> Result<(), ScriptFault> {
-    let job = scripts_of(alloc, text)?.share()?;
-    let mut book = Book::new(alloc, job)?;
-    take_turns(&mut book, threads)?;
-    let same = scripts_of(alloc, text)?.share()?;
-    book.finish(same)?.put_summary(out)?;
+    finished(alloc, text, threads)?.put_summary(out)?;
     Ok(())
 }
 

@@ -1,7 +1,7 @@
 //! Words of the recorder, and what they ask for.
 
-use crate::RecordRequest;
 use command_words::WordsFault;
+use record_words::RecordRequest;
 use std::alloc::Global;
 use std::process::Abort;
 use std::test::Fail;

@@ -1,8 +1,7 @@
 //! Lines of scripts and of modules files.
 
-use crate::fault::ScriptFault;
-use crate::scripts::Scripts;
 use hp_num::NoMemory;
+use record_scripts::{ScriptFault, Scripts};
 use std::alloc::Global;
 use std::process::Abort;
 

@@ -1,12 +1,10 @@
 //! What no clause says: that the workers take the turns, and beside each other.
 
-use crate::gate::Gate;
-use crate::locked_book::Recorder;
-use crate::recording::record_job;
-use crate::workers::run_workers;
+use crate::script_text::scripts_of;
 use hp_num::{NoMemory, put_bytes, put_hex};
 use record_book::Book;
 use record_scripts::{ScriptFault, Scripts};
+use recorder::{Gate, Recorder, record_job, run_workers};
 use std::alloc::Global;
 use std::process::Abort;
 use std::sync::atomic::{AtomicBool, Ordering};
@@ -64,20 +62,9 @@ impl Gate for Meeting {
     }
 }
 
-/// The scripts of a text, which are parted by `|`, and their lines by `;`.
+/// The scripts of a text, for threads to share.
 fn job_of(alloc: Global, text: &[u8]) -> Result<Arc<Scripts>, ScriptFault> {
-    let mut scripts = Scripts::new(alloc, 300);
-    for script in text.split(|byte| *byte == b'|') {
-        if scripts.threads() < 64 {
-            scripts.begin()?;
-        }
-        for line in script.split(|byte| *byte == b';') {
-            if scripts.threads() > 0 {
-                scripts.line(line)?;
-            }
-        }
-    }
-    Ok(scripts.share()?)
+    Ok(scripts_of(alloc, text)?.share()?)
 }
 
 /// Appends a script of a hundred allocations.
