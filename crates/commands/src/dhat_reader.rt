@@ -36,8 +36,8 @@ impl DhatReader {
         ensures read { IfOk result (λ reader. lives_spec.HasReadLives reader []) }
         ensures weight { IfOk result (λ reader. lives_spec.weight_of reader ≡ 0) }
     {
-        let trace = ReadTrace::new(alloc, Tables::new(alloc))?;
         let lifetimes = Lifetimes::new(alloc)?;
+        let trace = ReadTrace::new(alloc, Tables::new(alloc))?;
         Ok(DhatReader { trace, lifetimes })
     }
 

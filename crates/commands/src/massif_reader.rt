@@ -69,8 +69,8 @@ impl<A: Fn(&[u8]) -> bool, I: Fn(&[u8]) -> bool, S: Settled + Drop> MassifReader
         ensures events { IfOk result (λ reader. reader.ledger.totals.events ≡ 0) }
         ensures settings { IfOk result (λ reader. reader.settings ≡ settings) }
     {
-        let tables = Tables::new(alloc);
         let ledger = Ledger::new(alloc)?;
+        let tables = Tables::new(alloc);
         let sampler = Sampler::new(alloc, options, alloc_fns, ignore_fns, &tables)?;
         Ok(MassifReader {
             tables,
