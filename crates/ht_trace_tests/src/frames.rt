@@ -54,19 +54,33 @@ fn put_stack(
     put_bytes(out, b"\n")
 }
 
-/// Reads a trace, and appends the lines of its stacks.
+/// Appends the lines of all stacks.
 fn put_stacks(
+    rt: &impl Abort,
+    alloc: Global,
+    tables: &Tables,
+    shown: Shown,
+    out: &mut Vec<u8>,
+) -> Result<(), NoMemory> {
+    for stack in 0..tables.stacks() {
+        put_stack(rt, alloc, tables, stack, shown, out)?;
+    }
+    Ok(())
+}
+
+/// Reads a trace, whose stacks show this text.
+fn shows_with(
     rt: &impl Abort,
     alloc: Global,
     tables: &mut Tables,
     trace: &[u8],
     shown: Shown,
-    out: &mut Vec<u8>,
+    want: &[u8],
 ) -> Result<(), Fail> {
     read_lines(rt, tables, trace)?;
-    for stack in 0..tables.stacks() {
-        put_stack(rt, alloc, tables, stack, shown, out)?;
-    }
+    let mut out = Vec::new(alloc);
+    put_stacks(rt, alloc, tables, shown, &mut out)?;
+    assert_eq!(rt; out.as_slice(), want, "{shown:?}");
     Ok(())
 }
 
@@ -79,10 +93,7 @@ fn shows(
     want: &[u8],
 ) -> Result<(), Fail> {
     let mut tables = Tables::new(alloc);
-    let mut out = Vec::new(alloc);
-    put_stacks(rt, alloc, &mut tables, trace, shown, &mut out)?;
-    assert_eq!(rt; out.as_slice(), want, "{shown:?}");
-    Ok(())
+    shows_with(rt, alloc, &mut tables, trace, shown, want)
 }
 
 #[test]

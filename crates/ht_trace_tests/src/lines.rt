@@ -69,24 +69,25 @@ fn put_tables(tables: &Tables, out: &mut Vec<u8>) -> io::Result<()> {
     writeln!(out)
 }
 
-/// Appends the answers to the lines of a text, and the tables behind them.
-fn put_trace(
+/// The lines of a text have these answers, and the tables are the last line.
+fn answers_with(
     rt: &impl Abort,
+    alloc: Global,
     tables: &mut Tables,
     text: &[u8],
-    out: &mut Vec<u8>,
-) -> io::Result<()> {
-    put_answers(rt, tables, text, out)?;
-    put_tables(tables, out)
-}
-
-/// The lines of a text have these answers, and the tables are the last line.
-fn answers(rt: &impl Abort, alloc: Global, text: &[u8], want: &[u8]) -> Result<(), Fail> {
-    let mut tables = Tables::new(alloc);
+    want: &[u8],
+) -> Result<(), Fail> {
     let mut out = Vec::new(alloc);
-    put_trace(rt, &mut tables, text, &mut out)?;
+    put_answers(rt, tables, text, &mut out)?;
+    put_tables(tables, &mut out)?;
     assert_eq!(rt; out.as_slice(), want);
     Ok(())
+}
+
+/// The lines of a trace have these answers, and its tables are the last line.
+fn answers(rt: &impl Abort, alloc: Global, text: &[u8], want: &[u8]) -> Result<(), Fail> {
+    let mut tables = Tables::new(alloc);
+    answers_with(rt, alloc, &mut tables, text, want)
 }
 
 /// Adds a chain of nodes of instruction 1 to tables without nodes.
@@ -108,19 +109,18 @@ struct Front {
     nodes: u32,
 }
 
-/// Reads a front, and appends what follows from the lines of a text behind it.
-fn put_behind(
+/// Reads a front, behind which the lines of a text have these answers.
+fn answers_behind_with(
     rt: &impl Abort,
     alloc: Global,
     tables: &mut Tables,
     front: Front,
     text: &[u8],
-    out: &mut Vec<u8>,
+    want: &[u8],
 ) -> Result<(), Fail> {
     read_lines(rt, tables, front.lines)?;
     add_chain(rt, alloc, tables, front.nodes)?;
-    put_trace(rt, tables, text, out)?;
-    Ok(())
+    answers_with(rt, alloc, tables, text, want)
 }
 
 /// Behind a front the lines of a text have these answers, and the tables are the last line.
@@ -132,10 +132,7 @@ fn answers_behind(
     want: &[u8],
 ) -> Result<(), Fail> {
     let mut tables = Tables::new(alloc);
-    let mut out = Vec::new(alloc);
-    put_behind(rt, alloc, &mut tables, front, text, &mut out)?;
-    assert_eq!(rt; out.as_slice(), want);
-    Ok(())
+    answers_behind_with(rt, alloc, &mut tables, front, text, want)
 }
 
 #[test]
