@@ -2,9 +2,9 @@
 //! each, so that a test is a few calls.
 ghost use Rattle.ht_trace.specs.IsFrame.{IsFrame};
 
-use crate::lines::{read_lines, worked_trace};
+use crate::lines::{WORKED, read_lines};
 use hp_num::{NoMemory, put_bytes, put_dec};
-use ht_trace::{FrameAt, Style, Tables};
+use ht_trace::{FrameAt, LineError, Style, Tables};
 use std::alloc::Global;
 use std::process::Abort;
 use std::test::Fail;
@@ -17,23 +17,25 @@ enum Shown {
     Function,
 }
 
-/// Appends what is shown of a frame, and a blank.
+/// Appends the place of a frame.
+fn put_place(at: &FrameAt, out: &mut Vec<u8>) -> Result<(), NoMemory> {
+    put_dec(out, u64::from(at.instruction))?;
+    put_bytes(out, b".")?;
+    put_dec(out, u64::from(at.index))
+}
+
+/// Appends what is shown of a frame.
 fn put_shown(tables: &Tables, at: &FrameAt, shown: Shown, out: &mut Vec<u8>) -> Result<(), NoMemory>
     requires { IsFrame tables.now at.now }
 {
     match shown {
-        Shown::Place => {
-            put_dec(out, u64::from(at.instruction))?;
-            put_bytes(out, b".")?;
-            put_dec(out, u64::from(at.index))?;
-        }
-        Shown::Text(style) => tables.put_frame(at, style, out)?,
-        Shown::Function => put_bytes(out, tables.frame_function(at).unwrap_or(b"-"))?,
+        Shown::Place => put_place(at, out),
+        Shown::Text(style) => tables.put_frame(at, style, out),
+        Shown::Function => put_bytes(out, tables.frame_function(at).unwrap_or(b"-")),
     }
-    put_bytes(out, b" ")
 }
 
-/// Appends the line of a stack.
+/// Appends the line of a stack, with a blank behind each frame.
 fn put_stack(
     rt: &impl Abort,
     alloc: Global,
@@ -47,97 +49,160 @@ fn put_stack(
     tables.frames_into(stack, &mut frames)?;
     for at in frames.iter() {
         put_shown(tables, at, shown, out)?;
+        put_bytes(out, b" ")?;
     }
     put_bytes(out, b"\n")
 }
 
-/// The stacks show this text.
-fn shows(
+/// Appends the lines of all stacks.
+fn put_stacks(
     rt: &impl Abort,
     alloc: Global,
     tables: &Tables,
     shown: Shown,
+    out: &mut Vec<u8>,
+) -> Result<(), NoMemory> {
+    for stack in 0..tables.stacks() {
+        put_stack(rt, alloc, tables, stack, shown, out)?;
+    }
+    Ok(())
+}
+
+/// Reads a trace, whose stacks show this text.
+fn shows_with(
+    rt: &impl Abort,
+    alloc: Global,
+    tables: &mut Tables,
+    trace: &[u8],
+    shown: Shown,
     want: &[u8],
 ) -> Result<(), Fail> {
+    read_lines(rt, tables, trace)?;
     let mut out = Vec::new(alloc);
-    for stack in 0..tables.stacks() {
-        put_stack(rt, alloc, tables, stack, shown, &mut out)?;
-    }
+    put_stacks(rt, alloc, tables, shown, &mut out)?;
     assert_eq!(rt; out.as_slice(), want, "{shown:?}");
     Ok(())
 }
 
-#[test]
-fn gives_frames(rt: HostRuntime) -> Result<(), Fail> {
-    let tables = worked_trace(&rt, rt.alloc())?;
-    let all = [
-        (Shown::Place, b"0.1 \n1.0 \n2.0 1.0 \n".as_slice()),
-        (
-            Shown::Text(Style::Plain),
-            b"(no stack) \nmain (a.c:20) \nf (a.c:10) main (a.c:20) \n",
-        ),
-        (
-            Shown::Text(Style::Addressed),
-            b"(no stack) \n0x400: main (a.c:20) \n0x500: f (a.c:10) 0x400: main (a.c:20) \n",
-        ),
-        (Shown::Function, b"- \nmain \nf main \n"),
-    ];
-    for (shown, want) in all {
-        shows(&rt, rt.alloc(), &tables, shown, want)?;
-    }
-    Ok(())
+/// The stacks of a trace show this text.
+fn shows(
+    rt: &impl Abort,
+    alloc: Global,
+    trace: &[u8],
+    shown: Shown,
+    want: &[u8],
+) -> Result<(), Fail> {
+    let mut tables = Tables::new(alloc);
+    shows_with(rt, alloc, &mut tables, trace, shown, want)
 }
 
 #[test]
-fn gives_inlined_frames(rt: HostRuntime) -> Result<(), Fail> {
-    let lines =
-        b"v 10500 2\ns app\ns main\ns a.c\ni 10 1\ni 20 1 2\ni 30 1 2 3 5\ni 40 1 2 2 3 6\ni 50 1 2 3 7 2 3 8 2 3 9\nt 1 0\nt 2 1\nt 3 0\nt 4 2\nt 0 4\nt 5 5";
-    let mut tables = Tables::new(rt.alloc());
-    read_lines(&rt, &mut tables, lines)?;
+fn gives_frames(rt: HostRuntime) -> Result<(), Fail> {
     shows(
         &rt,
         rt.alloc(),
-        &tables,
+        WORKED,
+        Shown::Place,
+        b"0.1 \n1.0 \n2.0 1.0 \n",
+    )?;
+    shows(
+        &rt,
+        rt.alloc(),
+        WORKED,
+        Shown::Text(Style::Plain),
+        b"(no stack) \nmain (a.c:20) \nf (a.c:10) main (a.c:20) \n",
+    )?;
+    shows(
+        &rt,
+        rt.alloc(),
+        WORKED,
+        Shown::Text(Style::Addressed),
+        b"(no stack) \n0x400: main (a.c:20) \n0x500: f (a.c:10) 0x400: main (a.c:20) \n",
+    )?;
+    shows(
+        &rt,
+        rt.alloc(),
+        WORKED,
+        Shown::Function,
+        b"- \nmain \nf main \n",
+    )
+}
+
+/// A trace with inlined frames.
+const INLINED: &[u8] = b"v 10500 2
+s app
+s main
+s a.c
+i 10 1
+i 20 1 2
+i 30 1 2 3 5
+i 40 1 2 2 3 6
+i 50 1 2 3 7 2 3 8 2 3 9
+t 1 0
+t 2 1
+t 3 0
+t 4 2
+t 0 4
+t 5 5";
+
+#[test]
+fn gives_inlined_frames(rt: HostRuntime) -> Result<(), Fail> {
+    shows(
+        &rt,
+        rt.alloc(),
+        INLINED,
         Shown::Place,
         b"0.1 \n1.0 \n2.0 1.0 \n3.0 \n4.0 4.1 2.0 1.0 \n0.0 4.0 4.1 2.0 1.0 \n5.0 5.1 5.2 0.0 4.0 4.1 2.0 1.0 \n",
     )?;
     shows(
         &rt,
         rt.alloc(),
-        &tables,
+        INLINED,
         Shown::Text(Style::Plain),
         b"(no stack) \n0x10 in app \nmain in app 0x10 in app \nmain (a.c:5) \nmain in app main (a.c:6) main in app 0x10 in app \n?? main in app main (a.c:6) main in app 0x10 in app \nmain (a.c:7) main (a.c:8) main (a.c:9) ?? main in app main (a.c:6) main in app 0x10 in app \n",
     )?;
     shows(
         &rt,
         rt.alloc(),
-        &tables,
+        INLINED,
         Shown::Function,
         b"- \n- \nmain - \nmain \nmain main main - \n- main main main - \nmain main main - main main main - \n",
     )
 }
 
-// Frames without a function, with a file and without.
+/// A trace with frames without a function, with a file and without.
+const NO_FUNCTIONS: &[u8] = b"v 10500 2
+s a.c
+i 1f 0
+i 2a 0 0 1 6
+i 3b 1
+t 1 0
+t 2 1
+t 3 0";
+
 #[test]
 fn gives_frames_without_functions(rt: HostRuntime) -> Result<(), Fail> {
-    let lines = b"v 10500 2\ns a.c\ni 1f 0\ni 2a 0 0 1 6\ni 3b 1\nt 1 0\nt 2 1\nt 3 0";
-    let mut tables = Tables::new(rt.alloc());
-    read_lines(&rt, &mut tables, lines)?;
-    let all = [
-        (
-            Shown::Text(Style::Plain),
-            b"(no stack) \n0x1f \n0x2a (a.c:6) 0x1f \n0x3b in a.c \n".as_slice(),
-        ),
-        (
-            Shown::Text(Style::Addressed),
-            b"(no stack) \n0x1f: ??? \n0x2a: ??? (a.c:6) 0x1f: ??? \n0x3b: ??? (in a.c) \n",
-        ),
-        (Shown::Function, b"- \n- \n- - \n- \n"),
-    ];
-    for (shown, want) in all {
-        shows(&rt, rt.alloc(), &tables, shown, want)?;
-    }
-    Ok(())
+    shows(
+        &rt,
+        rt.alloc(),
+        NO_FUNCTIONS,
+        Shown::Text(Style::Plain),
+        b"(no stack) \n0x1f \n0x2a (a.c:6) 0x1f \n0x3b in a.c \n",
+    )?;
+    shows(
+        &rt,
+        rt.alloc(),
+        NO_FUNCTIONS,
+        Shown::Text(Style::Addressed),
+        b"(no stack) \n0x1f: ??? \n0x2a: ??? (a.c:6) 0x1f: ??? \n0x3b: ??? (in a.c) \n",
+    )?;
+    shows(
+        &rt,
+        rt.alloc(),
+        NO_FUNCTIONS,
+        Shown::Function,
+        b"- \n- \n- - \n- \n",
+    )
 }
 
 /// Takes the lines of a text as suppressions.
@@ -147,13 +212,37 @@ fn suppresses(rt: &impl Abort, tables: &mut Tables, text: &[u8]) {
     }
 }
 
-/// The patterns by their numbers, each with a line feed, are this text, and there are no others.
-fn has_patterns(rt: &impl Abort, alloc: Global, tables: &Tables, want: &[u8]) -> Result<(), Fail> {
-    let mut out = Vec::new(alloc);
+/// Appends the patterns by their numbers, each with a line feed.
+fn put_patterns(tables: &Tables, out: &mut Vec<u8>) -> Result<(), NoMemory> {
     for n in 0..tables.suppressions() {
-        put_bytes(&mut out, tables.suppression(n + 1).unwrap_or(b"none"))?;
-        put_bytes(&mut out, b"\n")?;
+        put_bytes(out, tables.suppression(n + 1).unwrap_or(b"none"))?;
+        put_bytes(out, b"\n")?;
     }
+    Ok(())
+}
+
+/// Adds patterns by texts, by the lines of a trace, and by a text again.
+fn add_patterns(rt: &impl Abort, tables: &mut Tables) -> Result<(), LineError> {
+    suppresses(
+        rt,
+        tables,
+        b"leak:main (\n\n# leak:f\nleak:\nleak:#x\nleak\n leak:f",
+    );
+    read_lines(rt, tables, b"v 10500 3\nS leak:f (\nS 4 main\nS\nS # f")?;
+    suppresses(rt, tables, b"g");
+    Ok(())
+}
+
+/// The patterns that are added are this text, and there are no others.
+fn keeps_patterns(
+    rt: &impl Abort,
+    alloc: Global,
+    tables: &mut Tables,
+    want: &[u8],
+) -> Result<(), Fail> {
+    add_patterns(rt, tables)?;
+    let mut out = Vec::new(alloc);
+    put_patterns(tables, &mut out)?;
     assert_eq!(rt; out.as_slice(), want);
     assert_eq!(rt; tables.suppression(0), None);
     Ok(())
@@ -163,21 +252,10 @@ fn has_patterns(rt: &impl Abort, alloc: Global, tables: &Tables, want: &[u8]) ->
 #[test]
 fn keeps_suppressions(rt: HostRuntime) -> Result<(), Fail> {
     let mut tables = Tables::new(rt.alloc());
-    suppresses(
-        &rt,
-        &mut tables,
-        b"leak:main (\n\n# leak:f\nleak:\nleak:#x\nleak\n leak:f",
-    );
-    read_lines(
-        &rt,
-        &mut tables,
-        b"v 10500 3\nS leak:f (\nS 4 main\nS\nS # f",
-    )?;
-    suppresses(&rt, &mut tables, b"g");
-    has_patterns(
+    keeps_patterns(
         &rt,
         rt.alloc(),
-        &tables,
+        &mut tables,
         b"main (\n#x\nleak\n leak:f\nf (\nmain\ng\n",
     )
 }
