@@ -20,6 +20,3 @@ pub use fronts::Fronts;
 pub use laws::{children_fronts, front_sums, next_sums};
 pub use node::CostNode;
 pub use tree::CostTree;
-
-#[cfg(test)]
-mod tests;

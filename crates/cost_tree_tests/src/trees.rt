@@ -1,7 +1,7 @@
 //! Worked trees, and each call once with ample memory.
 ghost use Rattle.std.specs.Prelude.{◌^◌, ◌≤◌, sum};
 
-use crate::{CostTree, Costing, Direction, FrameTest, Fronts};
+use cost_tree::{CostTree, Costing, Direction, FrameTest, Fronts};
 use hp_num::{NoMemory, put_bytes, put_dec};
 use ht_trace::{LineError, Style, Tables};
 use std::alloc::Global;
@@ -27,20 +27,6 @@ fn push_list(rt: &impl Abort, fronts: &mut Fronts, list: &[u8]) -> Result<(), No
         fronts.push(text)?;
     }
     Ok(())
-}
-
-fn tree_of(
-    rt: &impl Abort,
-    alloc: Global,
-    fronts: &Fronts,
-    costs: &[u64],
-    depth: u32,
-) -> Result<CostTree, NoMemory>
-    requires { sum costs.now ≤ 2 ^ 62 }
-{
-    assert_eq!(rt; fronts.len() as usize, costs.len());
-    let costing = Costing::new(fronts.len(), |stack: u32| costs[stack as usize]);
-    CostTree::of_fronts(alloc, fronts, &costing, depth)
 }
 
 /// For each node a line: parent, cost, own cost, first stack, text, and after a colon each child with a comma.
@@ -92,6 +78,22 @@ fn show_children(
     put_bytes(out, b"\n")
 }
 
+/// What the tree of lists with these costs shows.
+fn shown_of_fronts(
+    rt: &impl Abort,
+    alloc: Global,
+    fronts: &Fronts,
+    costs: &[u64],
+    depth: u32,
+) -> Result<Vec<u8>, NoMemory>
+    requires { sum costs.now ≤ 2 ^ 62 }
+{
+    assert_eq!(rt; fronts.len() as usize, costs.len());
+    let costing = Costing::new(fronts.len(), |stack: u32| costs[stack as usize]);
+    let tree = CostTree::of_fronts(alloc, fronts, &costing, depth)?;
+    shown(rt, alloc, &tree)
+}
+
 fn check_tree(
     rt: &impl Abort,
     alloc: Global,
@@ -103,8 +105,7 @@ fn check_tree(
     requires { sum costs.now ≤ 2 ^ 62 }
 {
     let fronts = fronts_of(rt, alloc, lists)?;
-    let tree = tree_of(rt, alloc, &fronts, costs, depth)?;
-    let text = shown(rt, alloc, &tree)?;
+    let text = shown_of_fronts(rt, alloc, &fronts, costs, depth)?;
     assert_eq!(rt; text.as_slice(), nodes);
     Ok(())
 }
@@ -175,56 +176,54 @@ fn worked_tables(rt: &impl Abort, alloc: Global) -> Result<Tables, LineError> {
     Ok(tables)
 }
 
-fn tree_of_trace(
+/// What the tree of a trace's stacks with these costs shows.
+fn shown_of_stacks(
     rt: &impl Abort,
     alloc: Global,
     tables: &Tables,
     costs: &[u64],
     direction: Direction,
     style: Style,
-) -> Result<CostTree, NoMemory>
+) -> Result<Vec<u8>, NoMemory>
     requires { sum costs.now ≤ 2 ^ 62 }
 {
     assert_eq!(rt; tables.stacks() as usize, costs.len());
     let costing = Costing::new(tables.stacks(), |stack: u32| costs[stack as usize]);
-    CostTree::build(alloc, tables, &costing, direction, style, 4096)
+    let tree = CostTree::build(alloc, tables, &costing, direction, style, 4096)?;
+    shown(rt, alloc, &tree)
 }
 
-fn check_stacks(
+/// What the tree of the worked trace's stacks shows, where both functions cost 100.
+fn shown_of_trace(
     rt: &impl Abort,
     alloc: Global,
     direction: Direction,
     style: Style,
-    nodes: &[u8],
-) -> Result<(), LineError> {
+) -> Result<Vec<u8>, LineError> {
     let tables = worked_tables(rt, alloc)?;
-    let tree = tree_of_trace(rt, alloc, &tables, &[0, 100, 100], direction, style)?;
-    let text = shown(rt, alloc, &tree)?;
-    assert_eq!(rt; text.as_slice(), nodes);
-    Ok(())
+    Ok(shown_of_stacks(rt, alloc, &tables, &[0, 100, 100], direction, style)?)
 }
 
 // The stacks of the worked trace, whose texts are those of its frames.
 #[test]
 fn stacks_of_a_trace(rt: HostRuntime) -> Result<(), LineError> {
-    let root = b"0 200 0 1 :1,\n0 200 100 1 main (a.c:20):2,\n1 100 100 2 f (a.c:10):\n";
-    check_stacks(&rt, rt.alloc(), Direction::FromRoot, Style::Plain, root)?;
-    let allocation =
-        b"0 200 0 1 :1,2,\n0 100 100 1 0x400: main (a.c:20):\n0 100 0 2 0x500: f (a.c:10):3,\n2 100 100 2 0x400: main (a.c:20):\n";
-    check_stacks(
-        &rt,
-        rt.alloc(),
-        Direction::FromAllocation,
-        Style::Addressed,
-        allocation,
-    )
+    let root = shown_of_trace(&rt, rt.alloc(), Direction::FromRoot, Style::Plain)?;
+    assert_eq!(rt;
+        root.as_slice(),
+        b"0 200 0 1 :1,\n0 200 100 1 main (a.c:20):2,\n1 100 100 2 f (a.c:10):\n".as_slice()
+    );
+    let allocation = shown_of_trace(&rt, rt.alloc(), Direction::FromAllocation, Style::Addressed)?;
+    assert_eq!(rt;
+        allocation.as_slice(),
+        b"0 200 0 1 :1,2,\n0 100 100 1 0x400: main (a.c:20):\n0 100 0 2 0x500: f (a.c:10):3,\n2 100 100 2 0x400: main (a.c:20):\n".as_slice()
+    );
+    Ok(())
 }
 
 #[test]
 fn no_stacks(rt: HostRuntime) -> Result<(), NoMemory> {
     let fronts = Fronts::new(rt.alloc());
-    let tree = tree_of(&rt, rt.alloc(), &fronts, &[], 4096)?;
-    let text = shown(&rt, rt.alloc(), &tree)?;
+    let text = shown_of_fronts(&rt, rt.alloc(), &fronts, &[], 4096)?;
     assert_eq!(rt; text.as_slice(), b"0 0 0 0 :\n".as_slice());
     Ok(())
 }

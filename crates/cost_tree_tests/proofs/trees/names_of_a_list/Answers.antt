@@ -2,7 +2,7 @@ use Rattle.std.proofs.Common.{rules, ◌≡◌, ℕ, zero, suc, ◌<◌, ◌↔�
 use Rattle.std.specs.Prelude.{Contains, IsTrue, codes}
 use Rattle.std.specs.Str.{bytes_eq}
 use Rattle.std.proofs.lemmas.Slice.Eq.{bytes_eq-Decides}
-use Rattle.cost_tree.proofs.tests.names_of_a_list.Goals as goal
+use Rattle.cost_tree_tests.proofs.trees.names_of_a_list.Goals as goal
 
 -- a name is the one of the list where it has the same bytes
 listed : (only name : List ℕ) (answer : Bool) → answer ≡ bytes_eq name only → (IsTrue answer ↔ Contains (only ∷ []) name)
