@@ -8,8 +8,6 @@ mod links;
 mod peak;
 mod removal;
 mod snapshot;
-#[cfg(test)]
-mod tests;
 
 pub use array::SnapArray;
 pub use links::Links;

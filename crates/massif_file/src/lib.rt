@@ -18,8 +18,3 @@ pub use lists::{Snaps, Tree};
 pub use profile::{HeapTree, Profile, Snap, TimeUnit, TreeLine};
 pub use reader::ProfileReader;
 pub use writer::put_profile;
-
-#[cfg(test)]
-mod tests;
-#[cfg(test)]
-mod valgrind_tests;

@@ -19,6 +19,3 @@ mod tree;
 pub use cells::cell;
 pub use options::PageOptions;
 pub use page::put_page;
-
-#[cfg(test)]
-mod tests;

@@ -1,6 +1,6 @@
 use Rattle.std.proofs.Common.{rules, [], ◌∷◌}
-use Rattle.massif_tree_tests.proofs.Listed.{only-listed}
-use Rattle.massif_tree_tests.proofs.trees.texts_without.Goals as goal
+use Rattle.massif_tests.proofs.Listed.{only-listed}
+use Rattle.massif_tests.proofs.trees.texts_without.Goals as goal
 
 pub new-alloc_fns-requires-clause-stated : goal.new-alloc_fns-requires-clause-stated
 new-alloc_fns-requires-clause-stated c = (

@@ -1,7 +1,7 @@
 -- The places that are linked, push by push.
 use Rattle.std.proofs.Common.{◌≡◌, ℕ, List, [], ◌∷◌, ◌++◌, length, refl, sym, ap, subst, ◌∙◌, arith}
 use Rattle.std.specs.Prelude.{Contains, Some, remove, slice_get}
-use Rattle.massif_cull.proofs.tests.links_places.Goals as goal
+use Rattle.massif_tests.proofs.culling.links_places.Goals as goal
 
 -- three places, without the second
 two_left :

@@ -1,7 +1,7 @@
 use Rattle.std.proofs.Common.{[], ◌∷◌, ◌++◌}
 use Rattle.std.proofs.lemmas.List.Elements.{All-append, All-cons, All-nil}
 use Rattle.massif_file.specs.IsWritable.{IsLine}
-use Rattle.ms_print.proofs.tests.profile_of.Goals as goal
+use Rattle.massif_tests.proofs.worked.profile_of.Goals as goal
 
 pub each_line-preserved : goal.each_line-preserved
 each_line-preserved c =

@@ -1,86 +1,13 @@
 //! Worked files, read and written, and files that are refused. Expected values are worked out by hand.
-use crate::{
+use crate::worked::{DEMO, DETAILED};
+use hp_num::{NoMemory, Text, parse_dec};
+use massif_file::{
     HeapTree, Profile, ProfileFault, ProfileReader, Snap, Snaps, TimeUnit, Tree, TreeLine,
     massif_profiles, massif_round_trip, put_profile,
 };
-use hp_num::{NoMemory, Text};
 use std::alloc::Global;
 use std::process::Abort;
 use std::test::Fail;
-
-/// The profile of a trace of three events.
-const DEMO: &[u8] = b"desc: heapsuite massif
-cmd: demo
-time_unit: B
-#-----------
-snapshot=0
-#-----------
-time=0
-mem_heap_B=0
-mem_heap_extra_B=0
-mem_stacks_B=0
-heap_tree=empty
-#-----------
-snapshot=1
-#-----------
-time=120
-mem_heap_B=100
-mem_heap_extra_B=20
-mem_stacks_B=0
-heap_tree=empty
-#-----------
-snapshot=2
-#-----------
-time=120
-mem_heap_B=100
-mem_heap_extra_B=20
-mem_stacks_B=0
-heap_tree=peak
-n1: 100 (heap allocation functions) malloc/new/new[], --alloc-fns, etc.
- n1: 100 0x500: f (a.c:10)
-  n0: 100 0x400: main (a.c:20)
-#-----------
-snapshot=3
-#-----------
-time=240
-mem_heap_B=0
-mem_heap_extra_B=0
-mem_stacks_B=0
-heap_tree=empty
-#-----------
-snapshot=4
-#-----------
-time=360
-mem_heap_B=100
-mem_heap_extra_B=20
-mem_stacks_B=0
-heap_tree=empty
-";
-
-/// A profile in instructions with a detailed tree, of 22 lines.
-const DETAILED: &[u8] = b"desc: (none)
-cmd: ./a.out
-time_unit: i
-#-----------
-snapshot=0
-#-----------
-time=0
-mem_heap_B=0
-mem_heap_extra_B=0
-mem_stacks_B=0
-heap_tree=empty
-#-----------
-snapshot=1
-#-----------
-time=157300
-mem_heap_B=9000
-mem_heap_extra_B=72
-mem_stacks_B=0
-heap_tree=detailed
-n2: 9000 (heap allocation functions) malloc/new/new[], --alloc-fns, etc.
- n0: 8960 0x4005BB: main (a.c:10)
- n0: 40 in 3 places, all below massif's threshold (1.00%)
-";
 
 /// The profile of the first `count` lines, or the number of the faulty line and its fault.
 /// Line `number`, counted from 1, is `other` in place of the text's.
@@ -117,16 +44,11 @@ fn read(alloc: Global, text: &[u8]) -> Result<Profile, (usize, ProfileFault)> {
     read_with(alloc, text, usize::MAX, 0, b"")
 }
 
-/// The number of snapshots in the first `count` lines of the worked profile, with `other` as line `number`.
-fn outcome(
-    alloc: Global,
-    count: usize,
-    number: usize,
-    other: &[u8],
-) -> Result<usize, (usize, ProfileFault)> {
+/// How the first `count` lines of the worked file end, with `other` as line `number`: in snapshots, or in a fault.
+fn end_with(alloc: Global, count: usize, number: usize, other: &[u8]) -> Result<String, Fail> {
     match read_with(alloc, DETAILED, count, number, other) {
-        Ok(profile) => Ok(profile.snaps.len()),
-        Err(fault) => Err(fault),
+        Ok(profile) => Ok(format!(in alloc; "{} snapshots", profile.snaps.len())?),
+        Err((at, fault)) => Ok(format!(in alloc; "{fault} in line {at}")?),
     }
 }
 
@@ -200,89 +122,88 @@ fn writes_a_profile(rt: HostRuntime) -> Result<(), Fail> {
     Ok(())
 }
 
-#[test]
-fn refuses_faulty_lines(rt: HostRuntime) {
-    // The place of the line, the line, and where which fault is found.
-    let rows: [(usize, &[u8], usize, ProfileFault); 28] = [
-        // The header.
-        (1, b"time_unit: i", 1, ProfileFault::BadHeader),
-        (1, b" desc: (none)", 1, ProfileFault::BadHeader),
-        (2, b"snapshot=0", 2, ProfileFault::BadHeader),
-        (2, b"desc: second", 3, ProfileFault::BadHeader),
-        (3, b"desc: late", 3, ProfileFault::BadHeader),
-        (3, b"time_unit: q", 3, ProfileFault::BadHeader),
-        (3, b"time_unit: i ", 3, ProfileFault::BadHeader),
-        // The six lines of a snapshot.
-        (5, b"time=0", 5, ProfileFault::BadSnapshot),
-        (7, b" time=0", 7, ProfileFault::BadSnapshot),
-        (8, b"mem_heap_extra_B=0", 8, ProfileFault::BadSnapshot),
-        (10, b"heap_tree=empty", 10, ProfileFault::BadSnapshot),
-        (11, b"heap_tree=empty ", 11, ProfileFault::BadSnapshot),
-        (5, b"snapshot=", 5, ProfileFault::BadNumber),
-        (8, b"mem_heap_B= 0", 8, ProfileFault::BadNumber),
-        (
-            9,
-            b"mem_heap_extra_B=4611686018427387905",
-            9,
-            ProfileFault::BadNumber,
-        ),
-        (15, b"time=-1", 15, ProfileFault::BadNumber),
-        (5, b"snapshot=1", 5, ProfileFault::WrongOrder),
-        (13, b"snapshot=2", 13, ProfileFault::WrongOrder),
-        (7, b"time=157301", 15, ProfileFault::WrongOrder),
-        // A tree.
-        (20, b"2: 9000 x", 20, ProfileFault::BadTree),
-        (20, b"n2:9000 x", 20, ProfileFault::BadTree),
-        (20, b"n2:  9000 x", 20, ProfileFault::BadTree),
-        (20, b"n4294967296: 9000 x", 20, ProfileFault::BadTree),
-        (21, b" n0: 4611686018427387905 x", 21, ProfileFault::BadTree),
-        (21, b" n0: 8960x main", 21, ProfileFault::BadTree),
-        // One line fewer than the root counts, a skipped line in a tree, and one line more.
-        (20, b"n3: 9000 x", 23, ProfileFault::Truncated),
-        (21, b"#n0: 8960 main", 23, ProfileFault::Truncated),
-        (20, b"n1: 9000 x", 22, ProfileFault::BadSnapshot),
-    ];
-    for (number, other, at, fault) in rows {
-        let found = outcome(rt.alloc(), usize::MAX, number, other);
-        assert_eq!(rt; found, Err((at, fault)), "line {number}");
+/// Lines that are refused where they stand in the place of a line of the worked file: its number and the line, and behind
+/// `=>` what is found where. They are lines of the header, of snapshots and of trees; of the last three one has one line
+/// fewer than the root counts, one a skipped line in a tree, and one has one line more.
+const FAULTY_LINES: &str = "1 time_unit: i => bad header in line 1
+1  desc: (none) => bad header in line 1
+2 snapshot=0 => bad header in line 2
+2 desc: second => bad header in line 3
+3 desc: late => bad header in line 3
+3 time_unit: q => bad header in line 3
+3 time_unit: i  => bad header in line 3
+5 time=0 => bad snapshot in line 5
+7  time=0 => bad snapshot in line 7
+8 mem_heap_extra_B=0 => bad snapshot in line 8
+10 heap_tree=empty => bad snapshot in line 10
+11 heap_tree=empty  => bad snapshot in line 11
+5 snapshot= => bad number in line 5
+8 mem_heap_B= 0 => bad number in line 8
+9 mem_heap_extra_B=4611686018427387905 => bad number in line 9
+15 time=-1 => bad number in line 15
+5 snapshot=1 => wrong order in line 5
+13 snapshot=2 => wrong order in line 13
+7 time=157301 => wrong order in line 15
+20 2: 9000 x => bad tree in line 20
+20 n2:9000 x => bad tree in line 20
+20 n2:  9000 x => bad tree in line 20
+20 n4294967296: 9000 x => bad tree in line 20
+21  n0: 4611686018427387905 x => bad tree in line 21
+21  n0: 8960x main => bad tree in line 21
+20 n3: 9000 x => truncated in line 23
+21 #n0: 8960 main => truncated in line 23
+20 n1: 9000 x => bad snapshot in line 22";
+
+/// Unusual lines that are taken.
+const UNUSUAL_LINES: &str = "1 desc: => 2 snapshots
+1  => 2 snapshots
+2 cmd: => 2 snapshots
+3 time_unit:   ms => 2 snapshots
+4     => 2 snapshots
+13 snapshot=00001 => 2 snapshots
+15 time=4611686018427387904 => 2 snapshots
+20    n2: 9000 => 2 snapshots
+22 n000: 0040  => 2 snapshots";
+
+/// Reads the worked file with each of the lines.
+fn ends_so(rt: &impl Abort, alloc: Global, rows: &str) -> Result<(), Fail> {
+    for row in rows.split('\n') {
+        let (edit, end) = row.split_once(" => ").expect(rt, "an end");
+        let (number, line) = edit.split_once(' ').expect(rt, "a line");
+        let number = parse_dec(number.as_bytes()).expect(rt, "a number");
+        let found = end_with(alloc, usize::MAX, number as usize, line.as_bytes())?;
+        assert_eq!(rt; found.as_str(), end, "{edit}");
     }
+    Ok(())
+}
+
+#[test]
+fn refuses_faulty_lines(rt: HostRuntime) -> Result<(), Fail> {
+    ends_so(&rt, rt.alloc(), FAULTY_LINES)
+}
+
+#[test]
+fn takes_unusual_lines(rt: HostRuntime) -> Result<(), Fail> {
+    ends_so(&rt, rt.alloc(), UNUSUAL_LINES)
+}
+
+#[test]
+fn is_truncated_at_each_place_but_after_a_snapshot(rt: HostRuntime) -> Result<(), Fail> {
+    for count in 0..22 {
+        let found = end_with(rt.alloc(), count, 0, b"")?;
+        let want = match count {
+            11 | 12 => format!(in rt.alloc(); "1 snapshots")?,
+            _ => format!(in rt.alloc(); "truncated in line {}", count + 1)?,
+        };
+        assert_eq!(rt; found.as_str(), want.as_str());
+    }
+    Ok(())
 }
 
 #[test]
 fn refuses_an_unknown_unit_after_the_command(rt: HostRuntime) {
     let found = read(rt.alloc(), b"cmd: a\ntime_unit: q\n");
     assert_eq!(rt; found.err(), Some((2, ProfileFault::BadHeader)));
-}
-
-#[test]
-fn takes_unusual_lines(rt: HostRuntime) {
-    let rows: [(usize, &[u8]); 9] = [
-        (1, b"desc:"),
-        (1, b""),
-        (2, b"cmd:"),
-        (3, b"time_unit:   ms"),
-        (4, b"   "),
-        (13, b"snapshot=00001"),
-        (15, b"time=4611686018427387904"),
-        (20, b"   n2: 9000"),
-        (22, b"n000: 0040 "),
-    ];
-    for (number, other) in rows {
-        let found = outcome(rt.alloc(), usize::MAX, number, other);
-        assert_eq!(rt; found, Ok(2), "line {number}");
-    }
-}
-
-#[test]
-fn is_truncated_at_each_place_but_after_a_snapshot(rt: HostRuntime) {
-    for count in 0..22 {
-        let want = if count == 11 || count == 12 {
-            Ok(1)
-        } else {
-            Err((count + 1, ProfileFault::Truncated))
-        };
-        assert_eq!(rt; outcome(rt.alloc(), count, 0, b""), want, "{count} lines");
-    }
 }
 
 #[test]

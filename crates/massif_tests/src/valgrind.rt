@@ -1,6 +1,6 @@
 //! Two files that Valgrind's Massif wrote of a small program, in instructions and in bytes: they are read, and
 //! written again to the byte. The program and the files stand among the repository's examples.
-use crate::{HeapTree, Profile, ProfileFault, ProfileReader, TimeUnit, put_profile};
+use massif_file::{HeapTree, Profile, ProfileFault, ProfileReader, TimeUnit, put_profile};
 use std::alloc::Global;
 use std::test::Fail;
 
