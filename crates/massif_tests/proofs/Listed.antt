@@ -1,8 +1,12 @@
--- A list of one name.
-use Rattle.std.proofs.Common.{◌≡◌, ℕ, zero, suc, ◌<◌, ◌↔◌, Bool, List, [], ◌∷◌, length, get_or, sym, ◌∙◌, arith}
+-- Lists of no name and of one.
+use Rattle.std.proofs.Common.{rules, ◌≡◌, ℕ, zero, suc, ◌<◌, ◌↔◌, Bool, false, List, [], ◌∷◌, length, get_or, sym, ◌∙◌, arith}
 use Rattle.std.specs.Prelude.{Contains, IsTrue}
 use Rattle.std.specs.Str.{bytes_eq}
 use Rattle.std.proofs.lemmas.Slice.Eq.{bytes_eq-Decides}
+
+-- no name is on the empty list
+pub none-listed : (name : List ℕ) (answer : Bool) → answer ≡ false → (IsTrue answer ↔ Contains [] name)
+none-listed name answer is = search rules
 
 -- the names of a list of one name are those with its bytes
 pub only-listed : (only name : List ℕ) (answer : Bool) → answer ≡ bytes_eq name only → (IsTrue answer ↔ Contains (only ∷ []) name)

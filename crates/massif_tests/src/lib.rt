@@ -1,11 +1,13 @@
-//! Tests of the public calls of `massif_cull`, `massif_file`, `massif_tree` and `ms_print`, in a crate of their own: a crate
-//! that has tests is proved twice.
+//! Tests of the public calls of `massif_cull`, `massif_file`, `ms_print`, `massif_tree` and `massif_sample`, in a crate of their
+//! own: a crate that has tests is proved twice.
 #![tactic(auto)]
 
 #[cfg(test)]
 mod culling;
 #[cfg(test)]
 mod pages;
+#[cfg(test)]
+mod peaks;
 #[cfg(test)]
 mod profiles;
 #[cfg(test)]

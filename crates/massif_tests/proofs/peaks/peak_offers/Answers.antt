@@ -1,6 +1,6 @@
 use Rattle.std.proofs.Common.{rules, []}
-use Rattle.massif_sample_tests.proofs.None.{none-listed}
-use Rattle.massif_sample_tests.proofs.peaks.peak_offers.Goals as goal
+use Rattle.massif_tests.proofs.Listed.{none-listed}
+use Rattle.massif_tests.proofs.peaks.peak_offers.Goals as goal
 
 pub snapshots-requires-clause-stated : goal.snapshots-requires-clause-stated
 snapshots-requires-clause-stated g c = (

@@ -1,5 +1,5 @@
 use Rattle.std.proofs.Common.{[], ◌∷◌, ◌++◌, length, ap, ◌∙◌}
-use Rattle.massif_sample_tests.proofs.peaks.take.Goals as goal
+use Rattle.massif_tests.proofs.peaks.take.Goals as goal
 
 pub returns-clause-following : goal.returns-clause-following
 returns-clause-following g c =

@@ -3,7 +3,7 @@ ghost use Rattle.std.specs.Prelude.{◌≡◌, [], IfOk, OnOk};
 ghost use Rattle.std.specs.Fn.{FnReturnsAt};
 ghost use Rattle.live_ledger.specs.StandsFor.{StandsFor};
 ghost use Rattle.massif_sample.specs.FunctionNames.{AreStated, FunctionNames};
-ghost use Rattle.massif_sample_tests.specs.Following.{AreFollowing};
+ghost use Rattle.massif_tests.specs.Following.{AreFollowing};
 
 use cost_tree::FrameTest;
 use hp_num::{NoMemory, put_bytes, put_dec};
