@@ -51,46 +51,19 @@ pub fn read_words<'a>(alloc: Global, words: &'a [String]) -> Result<Request<'a>,
     let [command, words @ ..] = words else {
         return Err(WordsFault::NotTaken);
     };
-    if command.as_str() == "--help" {
-        return help(words);
+    match command.as_str() {
+        "--help" => help(words),
+        "summary" => Ok(Request::Summary(SummaryRequest::read(alloc, words)?)),
+        "print" => Ok(Request::Print(PrintRequest::read(alloc, words)?)),
+        "flame" => Ok(Request::Flame(FlameRequest::read(alloc, words)?)),
+        "interpret" => Ok(Request::Interpret(InterpretRequest::read(alloc, words)?)),
+        "massif" => Ok(Request::Massif(MassifRequest::read(alloc, words)?)),
+        "ms_print" => Ok(Request::Page(PageRequest::read(alloc, words)?)),
+        "dhat" => Ok(Request::Dhat(DhatRequest::read(alloc, words)?)),
+        "gen" => Ok(Request::Gen(GenRequest::read(alloc, words)?)),
+        "dhat_view" => Ok(Request::DhatView(DhatViewRequest::read(alloc, words)?)),
+        _ => Err(WordsFault::NotTaken),
     }
-    if command.as_str() == "summary" {
-        let request = SummaryRequest::read(alloc, words)?;
-        return Ok(Request::Summary(request));
-    }
-    if command.as_str() == "print" {
-        let request = PrintRequest::read(alloc, words)?;
-        return Ok(Request::Print(request));
-    }
-    if command.as_str() == "flame" {
-        let request = FlameRequest::read(alloc, words)?;
-        return Ok(Request::Flame(request));
-    }
-    if command.as_str() == "interpret" {
-        let request = InterpretRequest::read(alloc, words)?;
-        return Ok(Request::Interpret(request));
-    }
-    if command.as_str() == "massif" {
-        let request = MassifRequest::read(alloc, words)?;
-        return Ok(Request::Massif(request));
-    }
-    if command.as_str() == "ms_print" {
-        let request = PageRequest::read(alloc, words)?;
-        return Ok(Request::Page(request));
-    }
-    if command.as_str() == "dhat" {
-        let request = DhatRequest::read(alloc, words)?;
-        return Ok(Request::Dhat(request));
-    }
-    if command.as_str() == "gen" {
-        let request = GenRequest::read(alloc, words)?;
-        return Ok(Request::Gen(request));
-    }
-    if command.as_str() == "dhat_view" {
-        let request = DhatViewRequest::read(alloc, words)?;
-        return Ok(Request::DhatView(request));
-    }
-    Err(WordsFault::NotTaken)
 }
 
 /// `--help` alone.
