@@ -1,6 +1,9 @@
 //! Reports on worked traces: each trace and each report is one text.
 
-use crate::trace::read;
+ghost use Rattle.ht_trace.specs.LedgerFits.{IsBeside};
+
+use crate::trace::{Trace, empty, read};
+use hp_num::NoMemory;
 use ht_print::{PrintOptions, Suppressed, put_report};
 use std::alloc::Global;
 use std::process::Abort;
@@ -70,19 +73,50 @@ fn reports(
     trace: &[u8],
     want: &[u8],
 ) -> Result<(), Fail> {
-    let trace = read(alloc, trace)?;
+    let report = report_of(alloc, options, trace)?;
+    assert_eq!(rt; report.as_slice(), want);
+    Ok(())
+}
+
+/// The report on the trace of a text.
+fn report_of(alloc: Global, options: &PrintOptions, text: &[u8]) -> Result<Vec<u8>, Fail> {
+    let mut trace = empty(alloc)?;
+    report_by(alloc, options, &mut trace, text)
+}
+
+/// The report on a trace into which a text is read.
+fn report_by(
+    alloc: Global,
+    options: &PrintOptions,
+    trace: &mut Trace,
+    text: &[u8],
+) -> Result<Vec<u8>, Fail>
+    requires { IsBeside trace.old.tables trace.old.peaks.ledger }
+{
+    read(trace, text)?;
+    let mut report = Vec::new(alloc);
+    append_report(alloc, options, trace, &mut report)?;
+    Ok(report)
+}
+
+/// Appends the report on a trace that was read.
+fn append_report(
+    alloc: Global,
+    options: &PrintOptions,
+    trace: &Trace,
+    report: &mut Vec<u8>,
+) -> Result<(), NoMemory>
+    requires { IsBeside trace.now.tables trace.now.peaks.ledger }
+{
     let suppressed = Suppressed::build(alloc, &trace.tables)?;
-    let mut out = Vec::new(alloc);
     put_report(
         alloc,
         options,
         &trace.tables,
         &trace.peaks,
         &suppressed,
-        &mut out,
-    )?;
-    assert_eq!(rt; out.as_slice(), want);
-    Ok(())
+        report,
+    )
 }
 
 #[test]

@@ -3,6 +3,7 @@ ghost use Rattle.std.specs.Prelude.{◌≡◌, ◌+◌, ◌++◌, ◌^◌, ◌<�
 ghost use Rattle.live_ledger.specs.LedgerState.{IsHeld};
 ghost use Rattle.ht_trace.specs.LedgerFits.{CanTake, IsBeside, infos_in, stacks_in};
 
+use hp_num::NoMemory;
 use ht_trace::{Step, Tables};
 use live_ledger::{Event, EventFault, Steps};
 use peak_costs::Peaks;
@@ -28,18 +29,26 @@ pub struct Trace {
     pub peaks: Peaks,
 }
 
-/// Reads the lines of a text, none of which is refused.
-pub fn read(alloc: Global, text: &[u8]) -> Result<Trace, Fail>
+/// A trace of no line.
+pub fn empty(alloc: Global) -> Result<Trace, NoMemory>
     ensures { IfOk result (λ trace. IsBeside trace.tables trace.peaks.ledger) }
 {
-    let mut trace = Trace {
+    let peaks = Peaks::new(alloc)?;
+    Ok(Trace {
         tables: Tables::new(alloc),
-        peaks: Peaks::new(alloc)?,
-    };
+        peaks,
+    })
+}
+
+/// Reads the lines of a text, none of which is refused.
+pub fn read(trace: &mut Trace, text: &[u8]) -> Result<(), Fail>
+    requires { IsBeside trace.old.tables trace.old.peaks.ledger }
+    ensures { OnOk result (IsBeside trace.new.tables trace.new.peaks.ledger) }
+{
     'each_line: for line in text.split(|byte| *byte == b'\n') {
-        read_line(&mut trace, line)?;
+        read_line(trace, line)?;
     }
-    Ok(trace)
+    Ok(())
 }
 
 /// Reads a short line.
