@@ -9,7 +9,7 @@ use cost_tree::FrameTest;
 use hp_num::{NoMemory, put_bytes, put_dec};
 use ht_trace::Tables;
 use live_ledger::{Event, Ledger};
-use massif_file::{HeapTree, Snaps, TimeUnit};
+use massif_file::{HeapTree, Profile, Snaps, TimeUnit};
 use massif_sample::{MassifOptions, SampleFault, Sampler};
 use std::alloc::Global;
 use std::process::Abort;
@@ -58,8 +58,8 @@ fn begin<A: Fn(&[u8]) -> bool, I: Fn(&[u8]) -> bool>(
     ensures ignore_callable { IfOk result (λ run. I.IsAlwaysCallable run.sampler.ignore_fns.test) }
     ensures following { IfOk result (λ run. AreFollowing (FnReturnsAt A.Fn run.sampler.alloc_fns.test) (FnReturnsAt I.Fn run.sampler.ignore_fns.test) run.sampler.judged.items run.sampler.samples run.tables run.ledger) }
 {
-    let tables = Tables::new(alloc);
     let ledger = held_sizes(alloc)?;
+    let tables = Tables::new(alloc);
     let sampler = Sampler::new(alloc, ONE_PERCENT, alloc_fns, ignore_fns, &tables)?;
     Ok(Run {
         tables,
@@ -132,14 +132,11 @@ fn shown(rt: &impl Abort, alloc: Global, snaps: &Snaps) -> Result<Vec<u8>, NoMem
     Ok(out)
 }
 
-/// The snapshots of a run.
-fn finish<A: Fn(&[u8]) -> bool, I: Fn(&[u8]) -> bool>(
-    rt: &impl Abort,
-    alloc: Global,
+/// The profile of a run.
+fn profile_of<A: Fn(&[u8]) -> bool, I: Fn(&[u8]) -> bool>(
     run: Run<A, I>,
-) -> Result<Vec<u8>, NoMemory> {
-    let profile = run.sampler.finish(b"")?;
-    shown(rt, alloc, &profile.snaps)
+) -> Result<Profile, NoMemory> {
+    run.sampler.finish(b"")
 }
 
 /// The snapshots of the case, with these names.
@@ -148,18 +145,19 @@ fn snapshots<A: Fn(&[u8]) -> bool, I: Fn(&[u8]) -> bool>(
     alloc: Global,
     alloc_fns: FrameTest<A>,
     ignore_fns: FrameTest<I>,
-) -> Result<Vec<u8>, SampleFault>
+) -> Result<Vec<u8>, NoMemory>
     requires alloc_callable { A.IsAlwaysCallable alloc_fns.test }
     requires ignore_callable { I.IsAlwaysCallable ignore_fns.test }
     requires stated { (names : FunctionNames) × AreStated (FnReturnsAt A.Fn alloc_fns.test) (FnReturnsAt I.Fn ignore_fns.test) names }
 {
     let mut run = begin(alloc, alloc_fns, ignore_fns)?;
-    take_all(rt, &mut run)?;
-    Ok(finish(rt, alloc, run)?)
+    assert_eq!(rt; take_all(rt, &mut run), Ok(()));
+    let profile = profile_of(run)?;
+    shown(rt, alloc, &profile.snaps)
 }
 
 #[test]
-fn peak_offers(rt: HostRuntime) -> Result<(), SampleFault> {
+fn peak_offers(rt: HostRuntime) -> Result<(), NoMemory> {
     let alloc_fns = FrameTest::new(|_name: &[u8]| false);
     let ignore_fns = FrameTest::new(|_name: &[u8]| false);
     let shown = snapshots(&rt, rt.alloc(), alloc_fns, ignore_fns)?;

@@ -91,35 +91,37 @@ fn reads_the_worked_profile(rt: HostRuntime) {
 }
 
 #[test]
-fn writes_a_profile(rt: HostRuntime) -> Result<(), Fail> {
+fn writes_a_profile(rt: HostRuntime) {
     let alloc = rt.alloc();
     let mut tree = Tree::new(alloc);
-    tree.push(TreeLine {
+    let label = Text::new(alloc, b"main").expect(&rt, "memory");
+    let line = TreeLine {
         children: 0,
         bytes: 5,
-        label: Text::new(alloc, b"main")?,
-    })?;
+        label,
+    };
+    assert_eq!(rt; tree.push(line), Ok(()));
     let mut snaps = Snaps::new(alloc);
-    snaps.push(Snap {
+    let snap = Snap {
         time: 1,
         heap: 2,
         extra: 3,
         stacks: 4,
         mark: HeapTree::Peak,
         tree,
-    })?;
+    };
+    assert_eq!(rt; snaps.push(snap), Ok(()));
     let profile = Profile {
-        desc: Text::new(alloc, b"d")?,
-        cmd: Text::new(alloc, b"c")?,
+        desc: Text::new(alloc, b"d").expect(&rt, "memory"),
+        cmd: Text::new(alloc, b"c").expect(&rt, "memory"),
         unit: TimeUnit::Milliseconds,
         snaps,
     };
     let mut out = Vec::new(alloc);
-    put_profile(&profile, &mut out)?;
+    assert_eq!(rt; put_profile(&profile, &mut out), Ok(()));
     let want =
         b"desc: d\ncmd: c\ntime_unit: ms\n#-----------\nsnapshot=0\n#-----------\ntime=1\nmem_heap_B=2\nmem_heap_extra_B=3\nmem_stacks_B=4\nheap_tree=peak\nn0: 5 main\n";
     assert_eq!(rt; out.as_slice(), want.as_slice());
-    Ok(())
 }
 
 /// Lines that are refused where they stand in the place of a line of the worked file: its number and the line, and behind
@@ -231,14 +233,19 @@ fn at_level(alloc: Global, level: usize) -> Result<ProfileReader, ProfileFault> 
 }
 
 #[test]
-fn refuses_a_level_above_256(rt: HostRuntime) -> Result<(), Fail> {
+fn takes_level_256(rt: HostRuntime) -> Result<(), Fail> {
     let mut reader = at_level(rt.alloc(), 256)?;
-    reader.line(b"n0: 1 level 256")?;
-    assert_eq!(rt; reader.profile()?.snaps.len(), 1);
-    let profile = reader.finish()?;
+    assert_eq!(rt; reader.line(b"n0: 1 level 256"), Ok(()));
+    let lent = reader.profile().expect(&rt, "a profile");
+    assert_eq!(rt; lent.snaps.len(), 1);
+    let profile = reader.finish().expect(&rt, "a profile");
     assert_eq!(rt; profile.snaps.len(), 1);
     assert_eq!(rt; profile.snaps.at(0).tree.len(), 257);
+    Ok(())
+}
 
+#[test]
+fn refuses_a_level_above_256(rt: HostRuntime) -> Result<(), Fail> {
     let mut reader = at_level(rt.alloc(), 257)?;
     assert_eq!(rt; reader.line(b"n0: 1 level 257"), Err(ProfileFault::BadTree));
     assert_eq!(rt; reader.line(b"# skipped"), Err(ProfileFault::BadTree));
