@@ -1,9 +1,12 @@
 //! Runs over two files, of which the first says what is made of the second.
+ghost use Rattle.std.specs.Prelude.{◌≡◌, IfOk};
+
 use crate::refusing::Refusing;
+use crate::runs::{Answer, Outputs, TEXTS, assert_answer, sound_outputs};
 use crate::signs::Signs;
-use crate::tests::TEXTS;
 use command_frame::{Desk, Outcome, PairNames, deliver, run_pair};
-use hp_outside::{Limits, MemSink, MemStore};
+use hp_num::NoMemory;
+use hp_outside::{Limits, MemStore};
 use std::alloc::Global;
 use std::process::Abort;
 use std::test::Fail;
@@ -33,30 +36,54 @@ const BOTH: Case = Case {
     message: "",
 };
 
-fn expect(rt: &impl Abort, alloc: Global, case: &Case) -> Result<(), Fail> {
+/// A folder with both files of a case.
+fn two_files(alloc: Global, case: &Case) -> Result<MemStore, NoMemory>
+    ensures unopened { IfOk result (λ store. store.store.opens ≡ 0) }
+{
+    let mut store = MemStore::new(alloc, 3);
+    store.add("a", case.first.as_bytes())?;
+    store.add("b", case.second.as_bytes())?;
+    store.fail_at(case.failing_store_call)?;
+    Ok(store)
+}
+
+/// Runs a case over a folder, and gives the status.
+fn status_of(alloc: Global, case: &Case, store: &mut MemStore, outputs: &mut Outputs) -> u8
+    requires unopened { store.old.store.opens ≡ 0 }
+{
     let desk = Desk {
         alloc,
         limits: Limits::standard(),
         texts: TEXTS,
     };
-    let mut store = MemStore::new(alloc, 3);
-    store.add("a", case.first.as_bytes())?;
-    store.add("b", case.second.as_bytes())?;
-    store.fail_at(case.failing_store_call)?;
-    let mut out = MemSink::new(alloc, 99)?;
-    let mut err = MemSink::new(alloc, 99)?;
     let signs = Signs {
         at_once: false,
         taken: 0,
         called: 0,
     };
-    let ran = run_pair(&desk, &case.names, &Refusing, signs, &mut store, &mut out);
+    let ran = run_pair(
+        &desk,
+        &case.names,
+        &Refusing,
+        signs,
+        store,
+        &mut outputs.out,
+    );
     let outcome = Outcome::new(alloc, ran);
-    let status = deliver(&outcome, &TEXTS, &mut out, &mut err);
-    assert_eq!(rt; out.bytes(), case.output.as_bytes(), "standard output");
-    assert_eq!(rt; err.bytes(), case.message.as_bytes(), "standard error");
-    assert_eq!(rt; status, case.status, "status");
-    Ok(())
+    deliver(&outcome, &TEXTS, &mut outputs.out, &mut outputs.err)
+}
+
+/// Runs a case, and asserts the status and what both outputs hold.
+fn expect(rt: &impl Abort, alloc: Global, case: &Case) -> Result<(), Fail> {
+    let mut store = two_files(alloc, case)?;
+    let mut outputs = sound_outputs(alloc)?;
+    let status = status_of(alloc, case, &mut store, &mut outputs);
+    let answer = Answer {
+        status: case.status,
+        output: case.output,
+        message: case.message,
+    };
+    assert_answer(rt, &outputs, status, &answer)
 }
 
 #[test]

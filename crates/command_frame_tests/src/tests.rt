@@ -1,19 +1,14 @@
 //! Runs of a taker that writes while it reads: refused lines, failed calls and outputs that are full.
+ghost use Rattle.std.specs.Prelude.{◌≡◌};
 
 use crate::echo::Echo;
-use command_frame::{Desk, Outcome, ProgramTexts, deliver, read_lines, run_lines};
-use hp_num::put_bytes;
+use crate::runs::{Answer, Outputs, TEXTS, assert_answer, folder, sink};
+use command_frame::{Desk, Outcome, deliver, read_lines, run_lines};
+use hp_num::{NoMemory, put_bytes};
 use hp_outside::{Limits, LineReader, MemSink, MemStore};
 use std::alloc::Global;
 use std::process::Abort;
 use std::test::Fail;
-
-pub(crate) const TEXTS: ProgramTexts = ProgramTexts {
-    name: "echo",
-    usage: b"usage\n",
-    out_of_memory: b"echo: out of memory\n",
-    write_failed: b"echo: write failed\n",
-};
 
 /// A run over the file `t`, and what is expected of it. A call of number 0 never fails.
 #[derive(Clone, Copy)]
@@ -51,26 +46,37 @@ fn desk(alloc: Global) -> Desk {
     }
 }
 
-/// Runs a case over these bytes, and asserts the status and what both outputs hold.
-fn expect(rt: &impl Abort, alloc: Global, bytes: &[u8], case: &Case) -> Result<(), Fail> {
-    let mut store = MemStore::new(alloc, case.piece.max(1));
-    store.add("t", bytes)?;
-    store.fail_at(case.failing_store_call)?;
-    let mut out = MemSink::new(alloc, case.out_room)?;
-    out.fail_at(case.failing_out_call)?;
-    let mut err = MemSink::new(alloc, 99)?;
-    err.fail_at(case.failing_err_call)?;
+/// Outputs that fail as the case says.
+fn outputs(alloc: Global, case: &Case) -> Result<Outputs, NoMemory> {
+    Ok(Outputs {
+        out: sink(alloc, case.out_room, case.failing_out_call)?,
+        err: sink(alloc, 99, case.failing_err_call)?,
+    })
+}
+
+/// Runs a case over a folder, and gives the status.
+fn status_of(alloc: Global, case: &Case, store: &mut MemStore, outputs: &mut Outputs) -> u8
+    requires unopened { store.old.store.opens ≡ 0 }
+{
     let mut echo = Echo {
         refuses: case.refuses,
     };
-    let desk = desk(alloc);
-    let ran = run_lines(&desk, case.file, &mut echo, &mut store, &mut out);
+    let ran = run_lines(&desk(alloc), case.file, &mut echo, store, &mut outputs.out);
     let outcome = Outcome::new(alloc, ran);
-    let status = deliver(&outcome, &TEXTS, &mut out, &mut err);
-    assert_eq!(rt; out.bytes(), case.output.as_bytes(), "standard output");
-    assert_eq!(rt; err.bytes(), case.message.as_bytes(), "standard error");
-    assert_eq!(rt; status, case.status, "status");
-    Ok(())
+    deliver(&outcome, &TEXTS, &mut outputs.out, &mut outputs.err)
+}
+
+/// Runs a case over these bytes, and asserts the status and what both outputs hold.
+fn expect(rt: &impl Abort, alloc: Global, bytes: &[u8], case: &Case) -> Result<(), Fail> {
+    let mut store = folder(alloc, case.piece, bytes, case.failing_store_call)?;
+    let mut outputs = outputs(alloc, case)?;
+    let status = status_of(alloc, case, &mut store, &mut outputs);
+    let answer = Answer {
+        status: case.status,
+        output: case.output,
+        message: case.message,
+    };
+    assert_answer(rt, &outputs, status, &answer)
 }
 
 #[test]
@@ -165,10 +171,8 @@ fn output_in_pieces(rt: HostRuntime) -> Result<(), Fail> {
     for _ in 0..7_000 {
         put_bytes(&mut lines, b"123456789\n")?;
     }
-    let mut store = MemStore::new(alloc, 1_000);
-    store.add("t", &lines)?;
-    let mut out = MemSink::new(alloc, 80_000)?;
-    out.fail_at(2)?;
+    let mut store = folder(alloc, 1_000, &lines, 0)?;
+    let mut out = sink(alloc, 80_000, 2)?;
     let mut echo = Echo { refuses: false };
     let desk = desk(alloc);
     let ran = run_lines(&desk, "t", &mut echo, &mut store, &mut out);

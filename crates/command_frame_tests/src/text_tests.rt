@@ -1,8 +1,8 @@
 //! Texts that are written while they are made.
 use crate::countdown::Countdown;
-use crate::tests::TEXTS;
+use crate::runs::{TEXTS, sink};
 use command_frame::{Desk, run_text};
-use hp_outside::{Limits, MemSink};
+use hp_outside::Limits;
 use std::test::Fail;
 
 // 7,000 lines of ten bytes: a piece of 65,540 bytes is written, and 4,460 are the rest. The second write isn't reached.
@@ -14,8 +14,7 @@ fn text_in_pieces(rt: HostRuntime) -> Result<(), Fail> {
         limits: Limits::standard(),
         texts: TEXTS,
     };
-    let mut out = MemSink::new(alloc, 80_000)?;
-    out.fail_at(2)?;
+    let mut out = sink(alloc, 80_000, 2)?;
     let mut countdown = Countdown { left: 7_000 };
     match run_text(&desk, &mut countdown, &mut out) {
         Ok(rest) => assert_eq!(rt; rest.len(), 4_460),
