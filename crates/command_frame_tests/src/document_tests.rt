@@ -75,55 +75,60 @@ fn expect(rt: &impl Abort, alloc: Global, case: &Case) -> Result<(), Fail> {
     assert_answer(rt, &outputs, status, &answer)
 }
 
+/// A file that can't be read to its end.
+const CANNOT_READ: Case = Case {
+    status: 3,
+    message: "echo: t: cannot read\n",
+    ..BAD
+};
+
+/// A file of one byte too many.
+const TOO_LONG: Case = Case {
+    most: 2,
+    status: 6,
+    message: "echo: t: input too long\n",
+    ..BAD
+};
+
+static CASES: [Case; 8] = [
+    WHOLE,
+    BAD,
+    Case {
+        file: "u",
+        status: 3,
+        message: "echo: u: no such file\n",
+        ..BAD
+    },
+    Case {
+        failing_store_call: 1,
+        status: 3,
+        message: "echo: t: cannot open\n",
+        ..BAD
+    },
+    // The first read takes all bytes, and the one that would find the end fails.
+    Case {
+        failing_store_call: 3,
+        ..CANNOT_READ
+    },
+    // One byte too many is told before any other fault, and with no look for the end.
+    TOO_LONG,
+    Case {
+        failing_store_call: 3,
+        ..TOO_LONG
+    },
+    // A read fails before that byte.
+    Case {
+        most: 2,
+        piece: 1,
+        failing_store_call: 3,
+        ..CANNOT_READ
+    },
+];
+
 #[test]
 fn documents(rt: HostRuntime) -> Result<(), Fail> {
-    let cannot_read = Case {
-        status: 3,
-        message: "echo: t: cannot read\n",
-        ..BAD
-    };
-    let too_long = Case {
-        most: 2,
-        status: 6,
-        message: "echo: t: input too long\n",
-        ..BAD
-    };
-    let table = [
-        WHOLE,
-        BAD,
-        Case {
-            file: "u",
-            status: 3,
-            message: "echo: u: no such file\n",
-            ..BAD
-        },
-        Case {
-            failing_store_call: 1,
-            status: 3,
-            message: "echo: t: cannot open\n",
-            ..BAD
-        },
-        // The first read takes all bytes, and the one that would find the end fails.
-        Case {
-            failing_store_call: 3,
-            ..cannot_read
-        },
-        // One byte too many is told before any other fault, and with no look for the end.
-        too_long,
-        Case {
-            failing_store_call: 3,
-            ..too_long
-        },
-        // A read fails before that byte.
-        Case {
-            most: 2,
-            piece: 1,
-            failing_store_call: 3,
-            ..cannot_read
-        },
-    ];
-    for case in table {
-        expect(&rt, rt.alloc(), &case)?;
+    for case in &CASES {
+        expect(&rt, rt.alloc(), case)?;
     }
     Ok(())
 }

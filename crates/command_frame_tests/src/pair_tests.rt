@@ -1,11 +1,10 @@
 //! Runs over two files, of which the first says what is made of the second.
-ghost use Rattle.std.specs.Prelude.{◌≡◌, IfOk};
+ghost use Rattle.std.specs.Prelude.{◌≡◌};
 
 use crate::refusing::Refusing;
-use crate::runs::{Answer, Outputs, TEXTS, assert_answer, sound_outputs};
+use crate::runs::{Answer, Outputs, TEXTS, assert_answer, sound_outputs, two_files};
 use crate::signs::Signs;
 use command_frame::{Desk, Outcome, PairNames, deliver, run_pair};
-use hp_num::NoMemory;
 use hp_outside::{Limits, MemStore};
 use std::alloc::Global;
 use std::process::Abort;
@@ -36,17 +35,6 @@ const BOTH: Case = Case {
     message: "",
 };
 
-/// A folder with both files of a case.
-fn two_files(alloc: Global, case: &Case) -> Result<MemStore, NoMemory>
-    ensures unopened { IfOk result (λ store. store.store.opens ≡ 0) }
-{
-    let mut store = MemStore::new(alloc, 3);
-    store.add("a", case.first.as_bytes())?;
-    store.add("b", case.second.as_bytes())?;
-    store.fail_at(case.failing_store_call)?;
-    Ok(store)
-}
-
 /// Runs a case over a folder, and gives the status.
 fn status_of(alloc: Global, case: &Case, store: &mut MemStore, outputs: &mut Outputs) -> u8
     requires unopened { store.old.store.opens ≡ 0 }
@@ -75,7 +63,7 @@ fn status_of(alloc: Global, case: &Case, store: &mut MemStore, outputs: &mut Out
 
 /// Runs a case, and asserts the status and what both outputs hold.
 fn expect(rt: &impl Abort, alloc: Global, case: &Case) -> Result<(), Fail> {
-    let mut store = two_files(alloc, case)?;
+    let mut store = two_files(alloc, case.first, case.second, case.failing_store_call)?;
     let mut outputs = sound_outputs(alloc)?;
     let status = status_of(alloc, case, &mut store, &mut outputs);
     let answer = Answer {

@@ -30,6 +30,22 @@ pub fn folder(
     Ok(store)
 }
 
+/// A folder with the files `a` and `b`, read in pieces of three bytes, of whose calls one is to fail.
+pub fn two_files(
+    alloc: Global,
+    first: &str,
+    second: &str,
+    failing_call: u64,
+) -> Result<MemStore, NoMemory>
+    ensures unopened { IfOk result (λ store. store.store.opens ≡ 0) }
+{
+    let mut store = MemStore::new(alloc, 3);
+    store.add("a", first.as_bytes())?;
+    store.add("b", second.as_bytes())?;
+    store.fail_at(failing_call)?;
+    Ok(store)
+}
+
 /// An output with this room, of whose calls one is to fail.
 pub fn sink(alloc: Global, room: usize, failing_call: u64) -> Result<MemSink, NoMemory> {
     let mut sink = MemSink::new(alloc, room)?;

@@ -2,7 +2,7 @@
 ghost use Rattle.std.specs.Prelude.{◌≡◌};
 
 use crate::echo::Echo;
-use crate::runs::{Answer, Outputs, TEXTS, assert_answer, folder, sink};
+use crate::runs::{Answer, Outputs, TEXTS, assert_answer, folder, sink, two_files};
 use command_frame::{Desk, Outcome, deliver, read_lines, run_lines};
 use hp_num::{NoMemory, put_bytes};
 use hp_outside::{Limits, LineReader, MemSink, MemStore};
@@ -181,18 +181,25 @@ fn output_in_pieces(rt: HostRuntime) -> Result<(), Fail> {
     Ok(())
 }
 
-#[test]
-fn files_in_order(rt: HostRuntime) -> Result<(), Fail> {
-    let alloc = rt.alloc();
-    let mut store = MemStore::new(alloc, 3);
-    store.add("a", b"first")?;
-    store.add("b", b"second\n")?;
-    let mut out = MemSink::new(alloc, 99)?;
+/// Reads the files `a` and `b`, and says whether both were read to their ends.
+fn are_read(alloc: Global, store: &mut MemStore, out: &mut MemSink) -> Result<bool, NoMemory>
+    requires unopened { store.old.store.opens ≡ 0 }
+{
     let mut echo = Echo { refuses: false };
     let desk = desk(alloc);
     let mut lines = LineReader::new(alloc, &desk.limits)?;
-    assert!(rt; read_lines(&desk, &mut lines, "a", &mut echo, &mut store, &mut out).is_ok());
-    assert!(rt; read_lines(&desk, &mut lines, "b", &mut echo, &mut store, &mut out).is_ok());
+    if read_lines(&desk, &mut lines, "a", &mut echo, store, out).is_err() {
+        return Ok(false);
+    }
+    Ok(read_lines(&desk, &mut lines, "b", &mut echo, store, out).is_ok())
+}
+
+#[test]
+fn files_in_order(rt: HostRuntime) -> Result<(), Fail> {
+    let alloc = rt.alloc();
+    let mut store = two_files(alloc, "first", "second\n", 0)?;
+    let mut out = sink(alloc, 99, 0)?;
+    assert!(rt; are_read(alloc, &mut store, &mut out)?);
     assert_eq!(rt; out.bytes(), b"first\nsecond\n".as_slice());
     Ok(())
 }
