@@ -31,9 +31,21 @@ fn is_read(
     Ok(read_lines(&desk, &mut lines, "t", signs, store, out).is_ok())
 }
 
-/// Asserts what a file of two lines around three signs gives, and how many lines were taken one by one.
-fn assert_given(rt: &impl Abort, output: &[u8], signs: &Signs, called: u64) -> Result<(), Fail> {
-    assert_eq!(rt; output, b"abcd".as_slice());
+/// Reads the file `t`, and asserts what its lines give and how many of them were taken one by one.
+fn assert_given(
+    rt: &impl Abort,
+    alloc: Global,
+    signs: &mut Signs,
+    store: &mut MemStore,
+    out: &mut MemSink,
+    called: u64,
+) -> Result<(), Fail>
+    requires unopened { store.old.store.opens ≡ 0 }
+    requires none_taken { signs.old.taken ≡ 0 }
+    requires none_called { signs.old.called ≡ 0 }
+{
+    assert!(rt; is_read(alloc, signs, store, out)?);
+    assert_eq!(rt; out.bytes(), b"abcd".as_slice());
     assert_eq!(rt; signs.taken, 5);
     assert_eq!(rt; signs.called, called);
     Ok(())
@@ -55,8 +67,7 @@ fn signs_give(
         taken: 0,
         called: 0,
     };
-    assert!(rt; is_read(alloc, &mut signs, &mut store, &mut out)?);
-    assert_given(rt, out.bytes(), &signs, called)
+    assert_given(rt, alloc, &mut signs, &mut store, &mut out, called)
 }
 
 #[test]

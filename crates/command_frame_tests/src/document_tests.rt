@@ -90,6 +90,7 @@ const TOO_LONG: Case = Case {
     ..BAD
 };
 
+/// The faults of a document, and their order.
 static CASES: [Case; 8] = [
     WHOLE,
     BAD,

@@ -74,53 +74,55 @@ fn expect(rt: &impl Abort, alloc: Global, case: &Case) -> Result<(), Fail> {
     assert_answer(rt, &outputs, status, &answer)
 }
 
+/// Faults and failed calls in either file.
+static CASES: [Case; 6] = [
+    BOTH,
+    // The first file has no line.
+    Case {
+        first: "",
+        status: 1,
+        output: "a\nbc\n",
+        message: "echo: b: bad\n",
+        ..BOTH
+    },
+    Case {
+        second: "a\nbad\n",
+        status: 1,
+        output: "xya\n",
+        message: "echo: b:2: bad\n",
+        ..BOTH
+    },
+    Case {
+        names: PairNames {
+            first: "a",
+            second: "c",
+        },
+        status: 3,
+        output: "xy",
+        message: "echo: c: no such file\n",
+        ..BOTH
+    },
+    // The first file takes an open and three reads; the second read of the other fails behind its first line.
+    Case {
+        failing_store_call: 3,
+        status: 3,
+        output: "xy",
+        message: "echo: a: cannot read\n",
+        ..BOTH
+    },
+    Case {
+        failing_store_call: 7,
+        status: 3,
+        output: "xya\n",
+        message: "echo: b: cannot read\n",
+        ..BOTH
+    },
+];
+
 #[test]
 fn second_file_behind_the_first(rt: HostRuntime) -> Result<(), Fail> {
-    let table = [
-        BOTH,
-        // The first file has no line.
-        Case {
-            first: "",
-            status: 1,
-            output: "a\nbc\n",
-            message: "echo: b: bad\n",
-            ..BOTH
-        },
-        Case {
-            second: "a\nbad\n",
-            status: 1,
-            output: "xya\n",
-            message: "echo: b:2: bad\n",
-            ..BOTH
-        },
-        Case {
-            names: PairNames {
-                first: "a",
-                second: "c",
-            },
-            status: 3,
-            output: "xy",
-            message: "echo: c: no such file\n",
-            ..BOTH
-        },
-        // The first file takes an open and three reads; the second read of the other fails behind its first line.
-        Case {
-            failing_store_call: 3,
-            status: 3,
-            output: "xy",
-            message: "echo: a: cannot read\n",
-            ..BOTH
-        },
-        Case {
-            failing_store_call: 7,
-            status: 3,
-            output: "xya\n",
-            message: "echo: b: cannot read\n",
-            ..BOTH
-        },
-    ];
-    for case in table {
-        expect(&rt, rt.alloc(), &case)?;
+    for case in &CASES {
+        expect(&rt, rt.alloc(), case)?;
     }
     Ok(())
 }

@@ -79,75 +79,77 @@ fn expect(rt: &impl Abort, alloc: Global, bytes: &[u8], case: &Case) -> Result<(
     assert_answer(rt, &outputs, status, &answer)
 }
 
+/// Faults of the file, failed calls and an output that gets full.
+static CASES: [Case; 10] = [
+    SOUND,
+    Case {
+        refuses: true,
+        status: 1,
+        output: "a\nbc\n",
+        message: "echo: t: bad\n",
+        ..SOUND
+    },
+    Case {
+        file: "u",
+        status: 3,
+        output: "",
+        message: "echo: u: no such file\n",
+        ..SOUND
+    },
+    Case {
+        failing_store_call: 1,
+        status: 3,
+        output: "",
+        message: "echo: t: cannot open\n",
+        ..SOUND
+    },
+    // The first read takes the first line and the first byte of the second.
+    Case {
+        failing_store_call: 3,
+        status: 3,
+        output: "a\n",
+        message: "echo: t: cannot read\n",
+        ..SOUND
+    },
+    // The lines are written at the file's end, and the rest behind them.
+    Case {
+        failing_out_call: 1,
+        status: 4,
+        output: "",
+        message: "echo: write failed\n",
+        ..SOUND
+    },
+    Case {
+        out_room: 4,
+        status: 4,
+        output: "a\nbc",
+        message: "echo: write failed\n",
+        ..SOUND
+    },
+    Case {
+        failing_out_call: 2,
+        status: 4,
+        output: "a\nbc\n",
+        message: "echo: write failed\n",
+        ..SOUND
+    },
+    // A flush of either output fails.
+    Case {
+        failing_out_call: 3,
+        status: 4,
+        ..SOUND
+    },
+    Case {
+        failing_err_call: 1,
+        status: 4,
+        ..SOUND
+    },
+];
+
 #[test]
 fn output_while_reading(rt: HostRuntime) -> Result<(), Fail> {
-    let table = [
-        SOUND,
-        Case {
-            refuses: true,
-            status: 1,
-            output: "a\nbc\n",
-            message: "echo: t: bad\n",
-            ..SOUND
-        },
-        Case {
-            file: "u",
-            status: 3,
-            output: "",
-            message: "echo: u: no such file\n",
-            ..SOUND
-        },
-        Case {
-            failing_store_call: 1,
-            status: 3,
-            output: "",
-            message: "echo: t: cannot open\n",
-            ..SOUND
-        },
-        // The first read takes the first line and the first byte of the second.
-        Case {
-            failing_store_call: 3,
-            status: 3,
-            output: "a\n",
-            message: "echo: t: cannot read\n",
-            ..SOUND
-        },
-        // The lines are written at the file's end, and the rest behind them.
-        Case {
-            failing_out_call: 1,
-            status: 4,
-            output: "",
-            message: "echo: write failed\n",
-            ..SOUND
-        },
-        Case {
-            out_room: 4,
-            status: 4,
-            output: "a\nbc",
-            message: "echo: write failed\n",
-            ..SOUND
-        },
-        Case {
-            failing_out_call: 2,
-            status: 4,
-            output: "a\nbc\n",
-            message: "echo: write failed\n",
-            ..SOUND
-        },
-        // A flush of either output fails.
-        Case {
-            failing_out_call: 3,
-            status: 4,
-            ..SOUND
-        },
-        Case {
-            failing_err_call: 1,
-            status: 4,
-            ..SOUND
-        },
-    ];
-    for case in table {
-        expect(&rt, rt.alloc(), b"a\nbc", &case)?;
+    for case in &CASES {
+        expect(&rt, rt.alloc(), b"a\nbc", case)?;
     }
     Ok(())
 }
@@ -194,12 +196,24 @@ fn are_read(alloc: Global, store: &mut MemStore, out: &mut MemSink) -> Result<bo
     Ok(read_lines(&desk, &mut lines, "b", &mut echo, store, out).is_ok())
 }
 
+/// Asserts that both files are read, and that their lines are written in order.
+fn assert_in_order(
+    rt: &impl Abort,
+    alloc: Global,
+    store: &mut MemStore,
+    out: &mut MemSink,
+) -> Result<(), Fail>
+    requires unopened { store.old.store.opens ≡ 0 }
+{
+    assert!(rt; are_read(alloc, store, out)?);
+    assert_eq!(rt; out.bytes(), b"first\nsecond\n".as_slice());
+    Ok(())
+}
+
 #[test]
 fn files_in_order(rt: HostRuntime) -> Result<(), Fail> {
     let alloc = rt.alloc();
     let mut store = two_files(alloc, "first", "second\n", 0)?;
     let mut out = sink(alloc, 99, 0)?;
-    assert!(rt; are_read(alloc, &mut store, &mut out)?);
-    assert_eq!(rt; out.bytes(), b"first\nsecond\n".as_slice());
-    Ok(())
+    assert_in_order(&rt, alloc, &mut store, &mut out)
 }
