@@ -165,22 +165,39 @@ fn output_before_a_refused_line(rt: HostRuntime) -> Result<(), Fail> {
     expect(&rt, rt.alloc(), b"a\nbad\nbc\n", &case)
 }
 
-// Output of 70,000 bytes is written in two pieces, and in a third the rest.
-#[test]
-fn output_in_pieces(rt: HostRuntime) -> Result<(), Fail> {
-    let alloc = rt.alloc();
+/// 7,000 lines of ten bytes.
+fn many_lines(alloc: Global) -> Result<Vec<u8>, NoMemory> {
     let mut lines = Vec::new(alloc);
     for _ in 0..7_000 {
         put_bytes(&mut lines, b"123456789\n")?;
     }
-    let mut store = folder(alloc, 1_000, &lines, 0)?;
-    let mut out = sink(alloc, 80_000, 2)?;
+    Ok(lines)
+}
+
+/// Asserts that one piece is written of the file `t`, and that then a write fails.
+fn assert_one_piece(
+    rt: &impl Abort,
+    alloc: Global,
+    store: &mut MemStore,
+    out: &mut MemSink,
+) -> Result<(), Fail>
+    requires unopened { store.old.store.opens ≡ 0 }
+{
     let mut echo = Echo { refuses: false };
-    let desk = desk(alloc);
-    let ran = run_lines(&desk, "t", &mut echo, &mut store, &mut out);
+    let ran = run_lines(&desk(alloc), "t", &mut echo, store, out);
     assert!(rt; ran.is_err());
     assert_eq!(rt; out.bytes().len(), 65_540);
     Ok(())
+}
+
+// Output of 70,000 bytes is written in two pieces, and in a third the rest.
+#[test]
+fn output_in_pieces(rt: HostRuntime) -> Result<(), Fail> {
+    let alloc = rt.alloc();
+    let lines = many_lines(alloc)?;
+    let mut store = folder(alloc, 1_000, &lines, 0)?;
+    let mut out = sink(alloc, 80_000, 2)?;
+    assert_one_piece(&rt, alloc, &mut store, &mut out)
 }
 
 /// Reads the files `a` and `b`, and says whether both were read to their ends.
