@@ -1,18 +1,55 @@
 //! Lines that are taken at once give what they give one by one, however the file is cut into reads.
+ghost use Rattle.std.specs.Prelude.{◌≡◌};
+
+use crate::runs::{TEXTS, folder, sink};
 use crate::signs::Signs;
-use command_frame::{Desk, ProgramTexts, read_lines};
+use command_frame::{Desk, read_lines};
+use hp_num::NoMemory;
 use hp_outside::{Limits, LineReader, MemSink, MemStore};
 use std::alloc::Global;
 use std::process::Abort;
 use std::test::Fail;
 
-/// A program of no name.
-const TEXTS: ProgramTexts = ProgramTexts {
-    name: "p",
-    usage: b"",
-    out_of_memory: b"",
-    write_failed: b"",
-};
+/// Reads the file `t`, and says whether it was read to its end.
+fn is_read(
+    alloc: Global,
+    signs: &mut Signs,
+    store: &mut MemStore,
+    out: &mut MemSink,
+) -> Result<bool, NoMemory>
+    requires unopened { store.old.store.opens ≡ 0 }
+    requires none_taken { signs.old.taken ≡ 0 }
+    requires none_called { signs.old.called ≡ 0 }
+{
+    let limits = Limits::standard();
+    let desk = Desk {
+        alloc,
+        limits,
+        texts: TEXTS,
+    };
+    let mut lines = LineReader::new(alloc, &limits)?;
+    Ok(read_lines(&desk, &mut lines, "t", signs, store, out).is_ok())
+}
+
+/// Reads the file `t`, and asserts what its lines give and how many of them were taken one by one.
+fn assert_given(
+    rt: &impl Abort,
+    alloc: Global,
+    signs: &mut Signs,
+    store: &mut MemStore,
+    out: &mut MemSink,
+    called: u64,
+) -> Result<(), Fail>
+    requires unopened { store.old.store.opens ≡ 0 }
+    requires none_taken { signs.old.taken ≡ 0 }
+    requires none_called { signs.old.called ≡ 0 }
+{
+    assert!(rt; is_read(alloc, signs, store, out)?);
+    assert_eq!(rt; out.bytes(), b"abcd".as_slice());
+    assert_eq!(rt; signs.taken, 5);
+    assert_eq!(rt; signs.called, called);
+    Ok(())
+}
 
 /// Reads a file of two lines around three signs, in reads of so many bytes, and compares what it gives and how many lines
 /// were taken one by one.
@@ -23,28 +60,14 @@ fn signs_give(
     at_once: bool,
     called: u64,
 ) -> Result<(), Fail> {
-    assert!(rt; 0 < piece);
-    let limits = Limits::standard();
-    let desk = Desk {
-        alloc,
-        limits,
-        texts: TEXTS,
-    };
-    let mut store = MemStore::new(alloc, piece);
-    store.add("f", b"ab\n+\n+\n+\ncd\n")?;
-    let mut out = MemSink::new(alloc, 99)?;
-    let mut lines = LineReader::new(alloc, &limits)?;
+    let mut store = folder(alloc, piece, b"ab\n+\n+\n+\ncd\n", 0)?;
+    let mut out = sink(alloc, 99, 0)?;
     let mut signs = Signs {
         at_once,
         taken: 0,
         called: 0,
     };
-    let read = read_lines(&desk, &mut lines, "f", &mut signs, &mut store, &mut out);
-    assert!(rt; read.is_ok());
-    assert_eq!(rt; out.bytes(), b"abcd".as_slice());
-    assert_eq!(rt; signs.taken, 5);
-    assert_eq!(rt; signs.called, called);
-    Ok(())
+    assert_given(rt, alloc, &mut signs, &mut store, &mut out, called)
 }
 
 #[test]

@@ -1,8 +1,10 @@
 //! Runs over a file that is read whole: its faults, their order, and failed calls.
+ghost use Rattle.std.specs.Prelude.{◌≡◌};
+
 use crate::echo::Echo;
-use crate::tests::TEXTS;
+use crate::runs::{Answer, Outputs, TEXTS, assert_answer, folder, sound_outputs};
 use command_frame::{Desk, Outcome, deliver, run_document};
-use hp_outside::{Limits, MemSink, MemStore};
+use hp_outside::{Limits, MemStore};
 use std::alloc::Global;
 use std::process::Abort;
 use std::test::Fail;
@@ -40,82 +42,94 @@ const BAD: Case = Case {
     ..WHOLE
 };
 
-fn expect(rt: &impl Abort, alloc: Global, case: &Case) -> Result<(), Fail> {
-    let most = case.most;
-    assert!(rt; most <= 99);
+/// Runs a case over a folder, and gives the status.
+fn status_of(alloc: Global, case: &Case, store: &mut MemStore, outputs: &mut Outputs) -> u8
+    requires unopened { store.old.store.opens ≡ 0 }
+{
     let desk = Desk {
         alloc,
         limits: Limits {
-            input: most,
+            input: case.most.min(99),
             line: 1,
             order: 1,
         },
         texts: TEXTS,
     };
-    let mut store = MemStore::new(alloc, case.piece.max(1));
-    store.add("t", case.bytes.as_bytes())?;
-    store.fail_at(case.failing_store_call)?;
-    let mut out = MemSink::new(alloc, 99)?;
-    let mut err = MemSink::new(alloc, 99)?;
     let echo = Echo { refuses: false };
-    let ran = run_document(&desk, case.file, &echo, &mut store);
+    let ran = run_document(&desk, case.file, &echo, store);
     let outcome = Outcome::new(alloc, ran);
-    let status = deliver(&outcome, &TEXTS, &mut out, &mut err);
-    assert_eq!(rt; out.bytes(), case.output.as_bytes(), "standard output");
-    assert_eq!(rt; err.bytes(), case.message.as_bytes(), "standard error");
-    assert_eq!(rt; status, case.status, "status");
-    Ok(())
+    deliver(&outcome, &TEXTS, &mut outputs.out, &mut outputs.err)
 }
+
+/// Runs a case, and asserts the status and what both outputs hold.
+fn expect(rt: &impl Abort, alloc: Global, case: &Case) -> Result<(), Fail> {
+    let bytes = case.bytes.as_bytes();
+    let mut store = folder(alloc, case.piece, bytes, case.failing_store_call)?;
+    let mut outputs = sound_outputs(alloc)?;
+    let status = status_of(alloc, case, &mut store, &mut outputs);
+    let answer = Answer {
+        status: case.status,
+        output: case.output,
+        message: case.message,
+    };
+    assert_answer(rt, &outputs, status, &answer)
+}
+
+/// A file that can't be read to its end.
+const CANNOT_READ: Case = Case {
+    status: 3,
+    message: "echo: t: cannot read\n",
+    ..BAD
+};
+
+/// A file of one byte too many.
+const TOO_LONG: Case = Case {
+    most: 2,
+    status: 6,
+    message: "echo: t: input too long\n",
+    ..BAD
+};
+
+/// The faults of a document, and their order.
+static CASES: [Case; 8] = [
+    WHOLE,
+    BAD,
+    Case {
+        file: "u",
+        status: 3,
+        message: "echo: u: no such file\n",
+        ..BAD
+    },
+    Case {
+        failing_store_call: 1,
+        status: 3,
+        message: "echo: t: cannot open\n",
+        ..BAD
+    },
+    // The first read takes all bytes, and the one that would find the end fails.
+    Case {
+        failing_store_call: 3,
+        ..CANNOT_READ
+    },
+    // One byte too many is told before any other fault, and with no look for the end.
+    TOO_LONG,
+    Case {
+        failing_store_call: 3,
+        ..TOO_LONG
+    },
+    // A read fails before that byte.
+    Case {
+        most: 2,
+        piece: 1,
+        failing_store_call: 3,
+        ..CANNOT_READ
+    },
+];
 
 #[test]
 fn documents(rt: HostRuntime) -> Result<(), Fail> {
-    let cannot_read = Case {
-        status: 3,
-        message: "echo: t: cannot read\n",
-        ..BAD
-    };
-    let too_long = Case {
-        most: 2,
-        status: 6,
-        message: "echo: t: input too long\n",
-        ..BAD
-    };
-    let table = [
-        WHOLE,
-        BAD,
-        Case {
-            file: "u",
-            status: 3,
-            message: "echo: u: no such file\n",
-            ..BAD
-        },
-        Case {
-            failing_store_call: 1,
-            status: 3,
-            message: "echo: t: cannot open\n",
-            ..BAD
-        },
-        // The first read takes all bytes, and the one that would find the end fails.
-        Case {
-            failing_store_call: 3,
-            ..cannot_read
-        },
-        // One byte too many is told before any other fault, and with no look for the end.
-        too_long,
-        Case {
-            failing_store_call: 3,
-            ..too_long
-        },
-        // A read fails before that byte.
-        Case {
-            most: 2,
-            piece: 1,
-            failing_store_call: 3,
-            ..cannot_read
-        },
-    ];
-    for case in table {
-        expect(&rt, rt.alloc(), &case)?;
+    for case in &CASES {
+        expect(&rt, rt.alloc(), case)?;
     }
     Ok(())
 }

@@ -11,6 +11,8 @@ mod echo;
 #[cfg(test)]
 mod pair_tests;
 mod refusing;
+#[cfg(test)]
+mod runs;
 mod signs;
 #[cfg(test)]
 mod tests;

@@ -1,19 +1,14 @@
 //! Runs of a taker that writes while it reads: refused lines, failed calls and outputs that are full.
+ghost use Rattle.std.specs.Prelude.{◌≡◌};
 
 use crate::echo::Echo;
-use command_frame::{Desk, Outcome, ProgramTexts, deliver, read_lines, run_lines};
-use hp_num::put_bytes;
+use crate::runs::{Answer, Outputs, TEXTS, assert_answer, folder, sink, two_files};
+use command_frame::{Desk, Outcome, deliver, read_lines, run_lines};
+use hp_num::{NoMemory, put_bytes};
 use hp_outside::{Limits, LineReader, MemSink, MemStore};
 use std::alloc::Global;
 use std::process::Abort;
 use std::test::Fail;
-
-pub(crate) const TEXTS: ProgramTexts = ProgramTexts {
-    name: "echo",
-    usage: b"usage\n",
-    out_of_memory: b"echo: out of memory\n",
-    write_failed: b"echo: write failed\n",
-};
 
 /// A run over the file `t`, and what is expected of it. A call of number 0 never fails.
 #[derive(Clone, Copy)]
@@ -51,97 +46,110 @@ fn desk(alloc: Global) -> Desk {
     }
 }
 
-/// Runs a case over these bytes, and asserts the status and what both outputs hold.
-fn expect(rt: &impl Abort, alloc: Global, bytes: &[u8], case: &Case) -> Result<(), Fail> {
-    let mut store = MemStore::new(alloc, case.piece.max(1));
-    store.add("t", bytes)?;
-    store.fail_at(case.failing_store_call)?;
-    let mut out = MemSink::new(alloc, case.out_room)?;
-    out.fail_at(case.failing_out_call)?;
-    let mut err = MemSink::new(alloc, 99)?;
-    err.fail_at(case.failing_err_call)?;
+/// Outputs that fail as the case says.
+fn outputs(alloc: Global, case: &Case) -> Result<Outputs, NoMemory> {
+    Ok(Outputs {
+        out: sink(alloc, case.out_room, case.failing_out_call)?,
+        err: sink(alloc, 99, case.failing_err_call)?,
+    })
+}
+
+/// Runs a case over a folder, and gives the status.
+fn status_of(alloc: Global, case: &Case, store: &mut MemStore, outputs: &mut Outputs) -> u8
+    requires unopened { store.old.store.opens ≡ 0 }
+{
     let mut echo = Echo {
         refuses: case.refuses,
     };
-    let desk = desk(alloc);
-    let ran = run_lines(&desk, case.file, &mut echo, &mut store, &mut out);
+    let ran = run_lines(&desk(alloc), case.file, &mut echo, store, &mut outputs.out);
     let outcome = Outcome::new(alloc, ran);
-    let status = deliver(&outcome, &TEXTS, &mut out, &mut err);
-    assert_eq!(rt; out.bytes(), case.output.as_bytes(), "standard output");
-    assert_eq!(rt; err.bytes(), case.message.as_bytes(), "standard error");
-    assert_eq!(rt; status, case.status, "status");
-    Ok(())
+    deliver(&outcome, &TEXTS, &mut outputs.out, &mut outputs.err)
 }
+
+/// Runs a case over these bytes, and asserts the status and what both outputs hold.
+fn expect(rt: &impl Abort, alloc: Global, bytes: &[u8], case: &Case) -> Result<(), Fail> {
+    let mut store = folder(alloc, case.piece, bytes, case.failing_store_call)?;
+    let mut outputs = outputs(alloc, case)?;
+    let status = status_of(alloc, case, &mut store, &mut outputs);
+    let answer = Answer {
+        status: case.status,
+        output: case.output,
+        message: case.message,
+    };
+    assert_answer(rt, &outputs, status, &answer)
+}
+
+/// Faults of the file, failed calls and an output that gets full.
+static CASES: [Case; 10] = [
+    SOUND,
+    Case {
+        refuses: true,
+        status: 1,
+        output: "a\nbc\n",
+        message: "echo: t: bad\n",
+        ..SOUND
+    },
+    Case {
+        file: "u",
+        status: 3,
+        output: "",
+        message: "echo: u: no such file\n",
+        ..SOUND
+    },
+    Case {
+        failing_store_call: 1,
+        status: 3,
+        output: "",
+        message: "echo: t: cannot open\n",
+        ..SOUND
+    },
+    // The first read takes the first line and the first byte of the second.
+    Case {
+        failing_store_call: 3,
+        status: 3,
+        output: "a\n",
+        message: "echo: t: cannot read\n",
+        ..SOUND
+    },
+    // The lines are written at the file's end, and the rest behind them.
+    Case {
+        failing_out_call: 1,
+        status: 4,
+        output: "",
+        message: "echo: write failed\n",
+        ..SOUND
+    },
+    Case {
+        out_room: 4,
+        status: 4,
+        output: "a\nbc",
+        message: "echo: write failed\n",
+        ..SOUND
+    },
+    Case {
+        failing_out_call: 2,
+        status: 4,
+        output: "a\nbc\n",
+        message: "echo: write failed\n",
+        ..SOUND
+    },
+    // A flush of either output fails.
+    Case {
+        failing_out_call: 3,
+        status: 4,
+        ..SOUND
+    },
+    Case {
+        failing_err_call: 1,
+        status: 4,
+        ..SOUND
+    },
+];
 
 #[test]
 fn output_while_reading(rt: HostRuntime) -> Result<(), Fail> {
-    let table = [
-        SOUND,
-        Case {
-            refuses: true,
-            status: 1,
-            output: "a\nbc\n",
-            message: "echo: t: bad\n",
-            ..SOUND
-        },
-        Case {
-            file: "u",
-            status: 3,
-            output: "",
-            message: "echo: u: no such file\n",
-            ..SOUND
-        },
-        Case {
-            failing_store_call: 1,
-            status: 3,
-            output: "",
-            message: "echo: t: cannot open\n",
-            ..SOUND
-        },
-        // The first read takes the first line and the first byte of the second.
-        Case {
-            failing_store_call: 3,
-            status: 3,
-            output: "a\n",
-            message: "echo: t: cannot read\n",
-            ..SOUND
-        },
-        // The lines are written at the file's end, and the rest behind them.
-        Case {
-            failing_out_call: 1,
-            status: 4,
-            output: "",
-            message: "echo: write failed\n",
-            ..SOUND
-        },
-        Case {
-            out_room: 4,
-            status: 4,
-            output: "a\nbc",
-            message: "echo: write failed\n",
-            ..SOUND
-        },
-        Case {
-            failing_out_call: 2,
-            status: 4,
-            output: "a\nbc\n",
-            message: "echo: write failed\n",
-            ..SOUND
-        },
-        // A flush of either output fails.
-        Case {
-            failing_out_call: 3,
-            status: 4,
-            ..SOUND
-        },
-        Case {
-            failing_err_call: 1,
-            status: 4,
-            ..SOUND
-        },
-    ];
-    for case in table {
-        expect(&rt, rt.alloc(), b"a\nbc", &case)?;
+    for case in &CASES {
+        expect(&rt, rt.alloc(), b"a\nbc", case)?;
     }
     Ok(())
 }
@@ -157,38 +165,72 @@ fn output_before_a_refused_line(rt: HostRuntime) -> Result<(), Fail> {
     expect(&rt, rt.alloc(), b"a\nbad\nbc\n", &case)
 }
 
-// Output of 70,000 bytes is written in two pieces, and in a third the rest.
-#[test]
-fn output_in_pieces(rt: HostRuntime) -> Result<(), Fail> {
-    let alloc = rt.alloc();
+/// 7,000 lines of ten bytes.
+fn many_lines(alloc: Global) -> Result<Vec<u8>, NoMemory> {
     let mut lines = Vec::new(alloc);
     for _ in 0..7_000 {
         put_bytes(&mut lines, b"123456789\n")?;
     }
-    let mut store = MemStore::new(alloc, 1_000);
-    store.add("t", &lines)?;
-    let mut out = MemSink::new(alloc, 80_000)?;
-    out.fail_at(2)?;
+    Ok(lines)
+}
+
+/// Asserts that one piece is written of the file `t`, and that then a write fails.
+fn assert_one_piece(
+    rt: &impl Abort,
+    alloc: Global,
+    store: &mut MemStore,
+    out: &mut MemSink,
+) -> Result<(), Fail>
+    requires unopened { store.old.store.opens ≡ 0 }
+{
     let mut echo = Echo { refuses: false };
-    let desk = desk(alloc);
-    let ran = run_lines(&desk, "t", &mut echo, &mut store, &mut out);
+    let ran = run_lines(&desk(alloc), "t", &mut echo, store, out);
     assert!(rt; ran.is_err());
     assert_eq!(rt; out.bytes().len(), 65_540);
+    Ok(())
+}
+
+// Output of 70,000 bytes is written in two pieces, and in a third the rest.
+#[test]
+fn output_in_pieces(rt: HostRuntime) -> Result<(), Fail> {
+    let alloc = rt.alloc();
+    let lines = many_lines(alloc)?;
+    let mut store = folder(alloc, 1_000, &lines, 0)?;
+    let mut out = sink(alloc, 80_000, 2)?;
+    assert_one_piece(&rt, alloc, &mut store, &mut out)
+}
+
+/// Reads the files `a` and `b`, and says whether both were read to their ends.
+fn are_read(alloc: Global, store: &mut MemStore, out: &mut MemSink) -> Result<bool, NoMemory>
+    requires unopened { store.old.store.opens ≡ 0 }
+{
+    let mut echo = Echo { refuses: false };
+    let desk = desk(alloc);
+    let mut lines = LineReader::new(alloc, &desk.limits)?;
+    if read_lines(&desk, &mut lines, "a", &mut echo, store, out).is_err() {
+        return Ok(false);
+    }
+    Ok(read_lines(&desk, &mut lines, "b", &mut echo, store, out).is_ok())
+}
+
+/// Asserts that both files are read, and that their lines are written in order.
+fn assert_in_order(
+    rt: &impl Abort,
+    alloc: Global,
+    store: &mut MemStore,
+    out: &mut MemSink,
+) -> Result<(), Fail>
+    requires unopened { store.old.store.opens ≡ 0 }
+{
+    assert!(rt; are_read(alloc, store, out)?);
+    assert_eq!(rt; out.bytes(), b"first\nsecond\n".as_slice());
     Ok(())
 }
 
 #[test]
 fn files_in_order(rt: HostRuntime) -> Result<(), Fail> {
     let alloc = rt.alloc();
-    let mut store = MemStore::new(alloc, 3);
-    store.add("a", b"first")?;
-    store.add("b", b"second\n")?;
-    let mut out = MemSink::new(alloc, 99)?;
-    let mut echo = Echo { refuses: false };
-    let desk = desk(alloc);
-    let mut lines = LineReader::new(alloc, &desk.limits)?;
-    assert!(rt; read_lines(&desk, &mut lines, "a", &mut echo, &mut store, &mut out).is_ok());
-    assert!(rt; read_lines(&desk, &mut lines, "b", &mut echo, &mut store, &mut out).is_ok());
-    assert_eq!(rt; out.bytes(), b"first\nsecond\n".as_slice());
-    Ok(())
+    let mut store = two_files(alloc, "first", "second\n", 0)?;
+    let mut out = sink(alloc, 99, 0)?;
+    assert_in_order(&rt, alloc, &mut store, &mut out)
 }
