@@ -1,7 +1,7 @@
 -- Lemmas on appends in a row, which may fail halfway.
 use Rattle.std.proofs.Common.{◌≡◌, ℕ, List, ◌++◌, ap, ◌∙◌, append_assoc}
-use Rattle.ht_lines.specs.Extends.{Extends}
-use Rattle.ht_lines.proofs.ExtendLemmas as extend
+use Rattle.hp_num.specs.Extends.{Extends}
+use Rattle.hp_num.proofs.Laws as extend
 
 pub extends_same : (old new : List ℕ) → new ≡ old → Extends old new
 extends_same = extend.extends_same

@@ -2,7 +2,7 @@
 #![tactic(auto, using(crate::proofs::Appends::extends_same, crate::proofs::Appends::extends_more, crate::proofs::Appends::extends_trans))]
 
 ghost use Rattle.std.specs.Prelude.{◌≡◌, ◌≤◌, ◌<◌, ◌^◌, ◌++◌, OnOk};
-ghost use Rattle.ht_lines.specs.Extends.{Extends};
+ghost use Rattle.hp_num.specs.Extends.{Extends};
 ghost use Rattle.dhat_view.specs.Lines.{gathered_line, places_text, share_text, view_line};
 
 use crate::children::Gathered;

@@ -5,7 +5,7 @@
 ghost use Rattle.std.specs.Prelude.{◌≡◌, ◌<◌, ◌≤◌, ◌^◌, ◌++◌, List, [], length, map, OnOk, reverse, sum_by};
 ghost use Rattle.cost_tree.specs.Children.{children_of};
 ghost use Rattle.cost_tree.specs.Costed.{Costed};
-ghost use Rattle.ht_lines.specs.Extends.{Extends};
+ghost use Rattle.hp_num.specs.Extends.{Extends};
 ghost use Rattle.dhat_view.specs.Children.{cost_at};
 ghost use Rattle.dhat_view.specs.Pendings.{IsPending, IsViewed, children_below, pending_below, pending_child, pending_children, pending_gathered, pending_line};
 ghost use Rattle.dhat_view.specs.TreeText.{tree_text};

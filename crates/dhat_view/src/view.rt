@@ -5,7 +5,7 @@ ghost use Rattle.std.specs.Prelude.{◌≡◌, ◌≢◌, ◌<◌, ◌≤◌, �
 ghost use Rattle.cost_tree.specs.Costed.{costed};
 ghost use Rattle.cost_tree.specs.IsTreeOf.{IsTreeOf};
 ghost use Rattle.dhat_json.specs.IsSound.{IsSound};
-ghost use Rattle.ht_lines.specs.Extends.{Extends};
+ghost use Rattle.hp_num.specs.Extends.{Extends};
 ghost use Rattle.dhat_view.specs.PointCosts.{point_costs};
 ghost use Rattle.dhat_view.specs.PointFronts.{point_fronts};
 ghost use Rattle.dhat_view.specs.ViewFault.{view_fault};

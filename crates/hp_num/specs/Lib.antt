@@ -1,6 +1,7 @@
 pub mod Commas
 pub mod DecText
 pub mod Digits
+pub mod Extends
 pub mod HexText
 pub mod Hexadecimal
 pub mod Hundredths

@@ -7,7 +7,6 @@ pub mod TextLemmas
 pub mod NameLemmas
 pub mod ModuleLines
 pub mod LineSides
-pub mod ExtendLemmas
 pub mod WordLemmas
 pub mod WrittenLemmas
 pub mod LengthLemmas

@@ -9,6 +9,5 @@ pub mod Refuses
 pub mod Reading
 pub mod ItemContent
 pub mod Written
-pub mod Extends
 pub mod EventLine
 pub mod OneLine

@@ -1,13 +1,13 @@
 //! From an item to its line, in the one written form.
 //!
 //! It knows no table: the numbers of an item are written as they are.
-#![tactic(auto, using(crate::proofs::ExtendLemmas::extends_same, crate::proofs::ExtendLemmas::extends_more, crate::proofs::ExtendLemmas::extends_trans))]
+#![tactic(auto, using(hp_num::proofs::Laws::extends_same, hp_num::proofs::Laws::extends_more, hp_num::proofs::Laws::extends_trans))]
 
 ghost use Rattle.std.specs.Prelude.{◌≡◌, ℕ, ◌^◌, ◌<◌, ◌≤◌, List, [], ◌∷◌, ◌++◌, length, Ok, Err, OnOk, OnErr};
 ghost use Rattle.hp_num.specs.Hexadecimal.{hexadecimal};
 ghost use Rattle.ht_lines.specs.declared.item.Form.{Form};
 ghost use Rattle.ht_lines.specs.Content.{Content, module_line};
-ghost use Rattle.ht_lines.specs.Extends.{Extends};
+ghost use Rattle.hp_num.specs.Extends.{Extends};
 ghost use Rattle.ht_lines.specs.Fields.{numbers};
 ghost use Rattle.ht_lines.specs.ItemContent.{content};
 ghost use Rattle.ht_lines.specs.OneLine.{HasOneLineTexts, IsOneLine};

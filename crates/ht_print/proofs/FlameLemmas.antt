@@ -6,8 +6,8 @@ use Rattle.std.specs.List.{flat_map}
 use Rattle.std.proofs.lemmas.List.{map_push, take_more}
 use Rattle.std.proofs.lemmas.Grind.{flat_map-append}
 use Rattle.ht_print.specs.FlameText.{flame_byte, flame_line, flame_name, flame_path, flame_rest}
-use Rattle.ht_lines.specs.Extends.{Extends}
-use Rattle.ht_lines.proofs.ExtendLemmas as extend
+use Rattle.hp_num.specs.Extends.{Extends}
+use Rattle.hp_num.proofs.Laws as extend
 
 pub extends_same : (old new : List ℕ) → new ≡ old → Extends old new
 extends_same = extend.extends_same

@@ -3,7 +3,7 @@ ghost use Rattle.std.specs.Prelude.{◌≡◌, ◌≤◌, ◌<◌, ◌*◌, List
 ghost use Rattle.live_ledger.specs.declared.event.Event.{Event};
 ghost use Rattle.live_ledger.specs.LedgerState.{HeldInfo};
 ghost use Rattle.live_ledger.specs.StandsFor.{StandsFor};
-ghost use Rattle.ht_lines.specs.Extends.{Extends};
+ghost use Rattle.hp_num.specs.Extends.{Extends};
 ghost use Rattle.ht_trace.specs.LedgerFits.{IsBeside};
 ghost use Rattle.ht_print.specs.Histogram.{allocations_at, histogram_lines, histogram_text, is_in, large_ranges, range_line, small_ranges, weight};
 

@@ -4,7 +4,7 @@
 
 ghost use Rattle.std.specs.Prelude.{◌≡◌, ℕ, ◌+◌, ◌^◌, ◌<◌, ◌≤◌, List, [], ◌++◌, codes, if◌then◌else◌, length, sum, IfOk, OnErr, OnOk};
 ghost use Rattle.live_ledger.specs.declared.event.Event.{Event};
-ghost use Rattle.ht_lines.specs.Extends.{Extends};
+ghost use Rattle.hp_num.specs.Extends.{Extends};
 ghost use Rattle.ht_trace.specs.LedgerFits.{IsBeside};
 ghost use Rattle.peak_costs.specs.Peak.{StandsFor};
 ghost use Rattle.peak_costs.specs.PeakState.{IsSound};

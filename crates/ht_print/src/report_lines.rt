@@ -4,7 +4,7 @@
 
 ghost use Rattle.std.specs.Prelude.{◌≡◌, ℕ, ◌++◌, ◌-◌, ◌<◌, All, length, map, take, OnOk};
 ghost use Rattle.cost_tree.specs.StackTexts.{stack_texts};
-ghost use Rattle.ht_lines.specs.Extends.{Extends};
+ghost use Rattle.hp_num.specs.Extends.{Extends};
 ghost use Rattle.ht_trace.specs.FrameText.{frame_text};
 ghost use Rattle.ht_trace.specs.IsFrame.{IsFrame};
 ghost use Rattle.ht_trace.specs.declared.frame.Style.TheVariants.{Plain};

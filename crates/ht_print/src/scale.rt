@@ -2,7 +2,7 @@
 #![tactic(auto, using(crate::proofs::FlameLemmas::extends_same, crate::proofs::FlameLemmas::extends_more, crate::proofs::FlameLemmas::extends_trans))]
 
 ghost use Rattle.std.specs.Prelude.{◌≡◌, ◌++◌, ◌≤◌, OnOk};
-ghost use Rattle.ht_lines.specs.Extends.{Extends};
+ghost use Rattle.hp_num.specs.Extends.{Extends};
 ghost use Rattle.ht_print.specs.ReportLines.{figure_text, unit_text};
 
 use hp_num::{NoMemory, hundredths, put_bytes, put_dec, put_percent};

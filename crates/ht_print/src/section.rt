@@ -2,7 +2,7 @@
 #![tactic(auto, using(crate::proofs::FlameLemmas::extends_same, crate::proofs::FlameLemmas::extends_more, crate::proofs::FlameLemmas::extends_trans))]
 
 ghost use Rattle.std.specs.Prelude.{◌≡◌, ℕ, ◌++◌, ◌-◌, ◌+◌, ◌^◌, ◌<◌, ◌≤◌, All, if◌then◌else◌, IfOk, OnOk, length, sum, sum_by};
-ghost use Rattle.ht_lines.specs.Extends.{Extends};
+ghost use Rattle.hp_num.specs.Extends.{Extends};
 ghost use Rattle.ht_print.specs.IsEntry.{IsEntry};
 ghost use Rattle.ht_print.specs.IsGroup.{IsWritable, groups_lines};
 ghost use Rattle.ht_print.specs.ReportLines.{merged_lines};

@@ -2,7 +2,7 @@
 #![tactic(auto, using(crate::proofs::TextLemmas::extends_same, crate::proofs::TextLemmas::extends_more, crate::proofs::TextLemmas::extends_trans))]
 
 ghost use Rattle.std.specs.Prelude.{◌≡◌, ℕ, List, [], ◌++◌, length, OnOk, OnErr};
-ghost use Rattle.ht_lines.specs.Extends.{Extends};
+ghost use Rattle.hp_num.specs.Extends.{Extends};
 ghost use Rattle.ht_trace.specs.FrameText.{address_text, found_text, frame_at, name_text, place_text, text_at, text_of};
 
 use crate::frame::{FrameAt, FrameFound, Style};

@@ -1,6 +1,5 @@
 mod AddingLemmas
 mod EntryLemmas
-mod ExtendLemmas
 mod FieldLemmas
 mod GrowthLemmas
 mod IpLemmas

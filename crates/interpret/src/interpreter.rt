@@ -1,9 +1,9 @@
 //! From the lines of a raw trace to those of the interpreted one, line by line. Files and outputs are no part of it.
-#![tactic(auto, using(crate::proofs::ExtendLemmas::extends_same, crate::proofs::ExtendLemmas::extends_more, crate::proofs::ExtendLemmas::extends_trans))]
+#![tactic(auto, using(hp_num::proofs::Laws::extends_same, hp_num::proofs::Laws::extends_more, hp_num::proofs::Laws::extends_trans))]
 
 ghost use Rattle.std.specs.Prelude.{◌≡◌, ◌≢◌, ℕ, ◌^◌, ◌<◌, ◌≤◌, ◌↔◌, List, [], ◌∷◌, ◌++◌, length, None, Some, Err, IsNone, IfErr, IfOk, IfSome, OnOk, OnErr, unwrap_or};
 ghost use Rattle.ht_lines.specs.Content.{clear_line, module_line, node_line, raw_allocation_line, raw_free_line, version_line};
-ghost use Rattle.ht_lines.specs.Extends.{Extends};
+ghost use Rattle.hp_num.specs.Extends.{Extends};
 ghost use Rattle.ht_lines.specs.Fields.{numbers};
 ghost use Rattle.ht_lines.specs.ItemContent.{content};
 ghost use Rattle.ht_lines.specs.Reads.{RangesFit};

@@ -1,8 +1,8 @@
 //! The lines of a tree's entries, one at a time. Which of them stand, and in which order, is the tree's part.
-#![tactic(auto, using(ht_lines::proofs::ExtendLemmas::extends_same, ht_lines::proofs::ExtendLemmas::extends_more, ht_lines::proofs::ExtendLemmas::extends_trans))]
+#![tactic(auto, using(hp_num::proofs::Laws::extends_same, hp_num::proofs::Laws::extends_more, hp_num::proofs::Laws::extends_trans))]
 
 ghost use Rattle.std.specs.Prelude.{◌≡◌, ◌≤◌, ◌++◌, OnOk};
-ghost use Rattle.ht_lines.specs.Extends.{Extends};
+ghost use Rattle.hp_num.specs.Extends.{Extends};
 ghost use Rattle.ms_print.specs.Entries.{entry_text, gathered_label, is_small, places_text, share_text};
 
 use hp_num::{NoMemory, hundredths, put_bytes, put_commas, put_dec, put_percent};

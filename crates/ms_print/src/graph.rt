@@ -1,8 +1,8 @@
 //! The graph of a page: its rows from the top, and the line below them.
-#![tactic(auto, using(ht_lines::proofs::ExtendLemmas::extends_same, ht_lines::proofs::ExtendLemmas::extends_more, ht_lines::proofs::ExtendLemmas::extends_trans))]
+#![tactic(auto, using(hp_num::proofs::Laws::extends_same, hp_num::proofs::Laws::extends_more, hp_num::proofs::Laws::extends_trans))]
 
 ghost use Rattle.std.specs.Prelude.{◌≡◌, ◌<◌, ◌++◌, All, OnOk, replicate};
-ghost use Rattle.ht_lines.specs.Extends.{Extends};
+ghost use Rattle.hp_num.specs.Extends.{Extends};
 ghost use Rattle.ms_print.specs.BarSteps.{AreBars, IsPlotted};
 ghost use Rattle.ms_print.specs.GraphText.{axis_text, edge_text, graph_text, row_cells, row_text, rows_text};
 ghost use Rattle.massif_file.specs.declared.profile.TimeUnit.TheVariants.{Bytes};

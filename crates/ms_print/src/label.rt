@@ -1,5 +1,5 @@
 //! Numbers as a graph labels them: in the greatest unit that isn't above them.
-#![tactic(auto, using(ht_lines::proofs::ExtendLemmas::extends_same, ht_lines::proofs::ExtendLemmas::extends_more, ht_lines::proofs::ExtendLemmas::extends_trans))]
+#![tactic(auto, using(hp_num::proofs::Laws::extends_same, hp_num::proofs::Laws::extends_more, hp_num::proofs::Laws::extends_trans))]
 
 ghost use Rattle.std.specs.Prelude.{◌≡◌, ◌+◌, ◌-◌, ◌<◌, ◌≤◌, ◌^◌, ◌++◌, [], length, OnOk, IfOk, slice_index_or};
 ghost use Rattle.ms_print.specs.Labels.{factor_of, label_text, power_of, power_up_to, scaled_text, three_digits, unit_label, unit_names, without_point};

@@ -1,8 +1,8 @@
 //! The page of a profile, from its title to its last tree.
-#![tactic(auto, using(ht_lines::proofs::ExtendLemmas::extends_same, ht_lines::proofs::ExtendLemmas::extends_more, ht_lines::proofs::ExtendLemmas::extends_trans))]
+#![tactic(auto, using(hp_num::proofs::Laws::extends_same, hp_num::proofs::Laws::extends_more, hp_num::proofs::Laws::extends_trans))]
 
 ghost use Rattle.std.specs.Prelude.{◌≡◌, ◌++◌, OnErr, OnOk};
-ghost use Rattle.ht_lines.specs.Extends.{Extends};
+ghost use Rattle.hp_num.specs.Extends.{Extends};
 ghost use Rattle.massif_file.specs.IsWritable.{IsWritable};
 ghost use Rattle.ms_print.specs.PageText.{asked_text, named_line, page_text, title_text};
 

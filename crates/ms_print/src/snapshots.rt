@@ -1,8 +1,8 @@
 //! How many snapshots a page has, and which of them have a tree.
-#![tactic(auto, using(ht_lines::proofs::ExtendLemmas::extends_same, ht_lines::proofs::ExtendLemmas::extends_more, ht_lines::proofs::ExtendLemmas::extends_trans))]
+#![tactic(auto, using(hp_num::proofs::Laws::extends_same, hp_num::proofs::Laws::extends_more, hp_num::proofs::Laws::extends_trans))]
 
 ghost use Rattle.std.specs.Prelude.{◌≡◌, ◌++◌, codes, [], if◌then◌else◌, OnOk};
-ghost use Rattle.ht_lines.specs.Extends.{Extends};
+ghost use Rattle.hp_num.specs.Extends.{Extends};
 ghost use Rattle.ms_print.specs.SnapshotsText.{has_tree, marked_number, numbers_text, snapshots_text};
 
 use hp_num::{NoMemory, put_bytes, put_dec};

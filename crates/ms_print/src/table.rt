@@ -1,8 +1,8 @@
 //! The table of a page: a row for each snapshot, and its tree.
-#![tactic(auto, using(ht_lines::proofs::ExtendLemmas::extends_same, ht_lines::proofs::ExtendLemmas::extends_more, ht_lines::proofs::ExtendLemmas::extends_trans))]
+#![tactic(auto, using(hp_num::proofs::Laws::extends_same, hp_num::proofs::Laws::extends_more, hp_num::proofs::Laws::extends_trans))]
 
 ghost use Rattle.std.specs.Prelude.{◌≡◌, ◌≤◌, ◌++◌, All, OnOk};
-ghost use Rattle.ht_lines.specs.Extends.{Extends};
+ghost use Rattle.hp_num.specs.Extends.{Extends};
 ghost use Rattle.massif_file.specs.IsRight.{IsTreeOf};
 ghost use Rattle.massif_file.specs.IsWritable.{IsWritableSnap};
 ghost use Rattle.massif_file.specs.Trees.{IsTree};

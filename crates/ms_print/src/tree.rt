@@ -1,8 +1,8 @@
 //! The tree of a snapshot, written without recursion: what is still to be written is a list, the next entry last.
-#![tactic(auto, using(ht_lines::proofs::ExtendLemmas::extends_same, ht_lines::proofs::ExtendLemmas::extends_more, ht_lines::proofs::ExtendLemmas::extends_trans))]
+#![tactic(auto, using(hp_num::proofs::Laws::extends_same, hp_num::proofs::Laws::extends_more, hp_num::proofs::Laws::extends_trans))]
 
 ghost use Rattle.std.specs.Prelude.{◌≡◌, ◌≤◌, ◌<◌, ◌++◌, [], length, OnOk, reverse};
-ghost use Rattle.ht_lines.specs.Extends.{Extends};
+ghost use Rattle.hp_num.specs.Extends.{Extends};
 ghost use Rattle.massif_file.specs.Trees.{IsTree};
 ghost use Rattle.ms_print.specs.Ends.{AreEnds, AreWhole, children_at};
 ghost use Rattle.ms_print.specs.Pendings.{AreRoots, IsHeld, bar_before, blank_below, entry_bytes, entry_children, entry_label};

@@ -1,7 +1,6 @@
 mod PlaceKeys
 mod HeapLemmas
 mod NextLemmas
-mod ExtendLemmas
 mod NodeLemmas
 mod TraceLemmas
 mod OrderLemmas

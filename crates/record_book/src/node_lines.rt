@@ -1,8 +1,8 @@
 //! The nodes of a recorded trace, and the lines of new ones.
-#![tactic(auto, using(crate::proofs::ExtendLemmas::extends_same, crate::proofs::ExtendLemmas::extends_more, crate::proofs::ExtendLemmas::extends_trans))]
+#![tactic(auto, using(hp_num::proofs::Laws::extends_same, hp_num::proofs::Laws::extends_more, hp_num::proofs::Laws::extends_trans))]
 
 ghost use Rattle.std.specs.Prelude.{◌≡◌, ℕ, ◌+◌, ◌-◌, ◌^◌, ◌<◌, ◌≤◌, List, length, IfOk, OnErr};
-ghost use Rattle.ht_lines.specs.Extends.{Extends};
+ghost use Rattle.hp_num.specs.Extends.{Extends};
 ghost use Rattle.stack_table.specs.Continues.{Continues};
 ghost use Rattle.stack_table.specs.Stack.{stack};
 ghost use Rattle.record_book.specs.NodeState.{AreNumbered, ArePut, IsInterned, IsNext};

@@ -2,7 +2,7 @@ use Rattle.std.proofs.Common.{◌≡◌, ◌++◌, List, [], reverse}
 use Rattle.std.specs.Prelude.{All, sum_by}
 use Rattle.std.specs.List.{flat_map}
 use Rattle.cost_tree.specs.Costed.{Costed}
-use Rattle.ht_lines.specs.Extends.{Extends}
+use Rattle.hp_num.specs.Extends.{Extends}
 use Rattle.dhat_view.specs.Pendings.{IsPending, IsViewed, pending_text}
 use Rattle.dhat_view.specs.TreeText.{tree_text}
 use Rattle.dhat_view.proofs.Walks.{weight}

@@ -1,5 +1,5 @@
 use Rattle.std.proofs.Common.{◌≡◌, ◌++◌, length}
-use Rattle.ht_lines.specs.Extends.{Extends}
+use Rattle.hp_num.specs.Extends.{Extends}
 use Rattle.ht_lines.specs.Fields.{numbers}
 use Rattle.ht_lines.specs.Written.{spelled}
 use Rattle.ht_lines.proofs.write.put_numbers.Given as goal

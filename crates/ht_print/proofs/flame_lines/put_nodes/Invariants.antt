@@ -3,7 +3,7 @@ use Rattle.std.specs.Prelude.{All, sum_by}
 use Rattle.std.specs.List.{flat_map}
 use Rattle.cost_tree.specs.Costed.{Costed}
 use Rattle.cost_tree.specs.IsTreeOf.{IsTreeOf}
-use Rattle.ht_lines.specs.Extends.{Extends}
+use Rattle.hp_num.specs.Extends.{Extends}
 use Rattle.ht_print.specs.FlameText.{most_frames}
 use Rattle.ht_print.specs.FlameWalk.{flame_at}
 use Rattle.ht_print.proofs.FlameWalks.{size_at}

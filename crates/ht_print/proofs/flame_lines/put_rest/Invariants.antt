@@ -1,5 +1,5 @@
 use Rattle.std.proofs.Common.{◌≡◌, ◌++◌, map, take}
-use Rattle.ht_lines.specs.Extends.{Extends}
+use Rattle.hp_num.specs.Extends.{Extends}
 use Rattle.ht_print.specs.FlameText.{flame_rest}
 use Rattle.ht_print.specs.FlameWalk.{last_text}
 use Rattle.ht_print.proofs.flame_lines.put_rest.Given as goal

@@ -1,5 +1,5 @@
 use Rattle.std.proofs.Common.{◌≡◌, ◌++◌, map, take}
-use Rattle.ht_lines.specs.Extends.{Extends}
+use Rattle.hp_num.specs.Extends.{Extends}
 use Rattle.ht_trace.specs.FrameText.{frame_text}
 use Rattle.ht_trace.specs.declared.frame.Style.TheVariants.{Plain}
 use Rattle.ht_print.specs.ReportLines.{frame_lines}

@@ -3,7 +3,7 @@ use Rattle.std.specs.List.{flat_map}
 use Rattle.cost_tree.specs.StackTexts.{stack_texts}
 use Rattle.ht_trace.specs.declared.frame.Style.TheVariants.{Plain}
 use Rattle.ht_print.specs.ReportLines.{member_lines}
-use Rattle.ht_lines.specs.Extends.{Extends}
+use Rattle.hp_num.specs.Extends.{Extends}
 use Rattle.ht_print.proofs.report_lines.put_members.Given as goal
 
 -- the lines so far

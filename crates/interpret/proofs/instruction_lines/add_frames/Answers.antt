@@ -1,4 +1,4 @@
-use Rattle.interpret.proofs.ExtendLemmas.{extends_trans}
+use Rattle.hp_num.proofs.Laws.{extends_trans}
 use Rattle.std.proofs.lemmas.Result.{err_from_is_err_and}
 use Rattle.interpret.specs.FrameKept.{frame_kept}
 use Rattle.interpret.specs.Resolved.{frame_names}

@@ -1,7 +1,7 @@
 use Rattle.std.proofs.Common.{◌≤◌, length}
 use Rattle.std.specs.List.{flat_map}
 use Rattle.std.specs.Option.{option_copied}
-use Rattle.ht_lines.specs.Extends.{Extends}
+use Rattle.hp_num.specs.Extends.{Extends}
 use Rattle.ht_trace.specs.LineFault.{most_entries}
 use Rattle.interpret.specs.Resolved.{frame_names, frames_of}
 use Rattle.interpret.specs.SymbolEntries.{bytes_left, following}

@@ -1,7 +1,7 @@
 use Rattle.std.proofs.Common.{◌≡◌, ◌++◌}
 use Rattle.std.specs.List.{flat_map}
 use Rattle.std.specs.Option.{option_copied}
-use Rattle.ht_lines.specs.Extends.{Extends}
+use Rattle.hp_num.specs.Extends.{Extends}
 use Rattle.ht_lines.specs.Written.{spelled}
 use Rattle.interpret.specs.Resolved.{frame_numbers, frames_of}
 use Rattle.interpret.specs.SymbolEntries.{bytes_left, following}

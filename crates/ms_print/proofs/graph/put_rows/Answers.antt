@@ -1,5 +1,5 @@
 use Rattle.std.proofs.Common.{◌+◌, ◌-◌, arith}
-use Rattle.ht_lines.proofs.ExtendLemmas.{extends_trans}
+use Rattle.hp_num.proofs.Laws.{extends_trans}
 use Rattle.ms_print.specs.GraphText.{row_text, rows_text}
 use Rattle.ms_print.proofs.Appends.{left-appended}
 use Rattle.ms_print.proofs.RowLemmas.{rows-top}

@@ -1,5 +1,5 @@
 use Rattle.std.proofs.Common.{◌≡◌, ◌++◌}
-use Rattle.ht_lines.specs.Extends.{Extends}
+use Rattle.hp_num.specs.Extends.{Extends}
 use Rattle.ms_print.specs.GraphText.{rows_text}
 use Rattle.ms_print.proofs.graph.put_rows.Given as goal
 

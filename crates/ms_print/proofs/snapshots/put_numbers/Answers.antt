@@ -1,7 +1,7 @@
 use Rattle.std.proofs.Common.{◌++◌, Vec, Global, List, ℕ, take, sym, ap, ◌∙◌}
 use Rattle.std.specs.Prelude.{codes}
 use Rattle.std.specs.List.{join_by}
-use Rattle.ht_lines.proofs.ExtendLemmas.{extends_more, extends_trans}
+use Rattle.hp_num.proofs.Laws.{extends_more, extends_trans}
 use Rattle.ms_print.specs.SnapshotsText.{marked_number, number_texts}
 use Rattle.ms_print.proofs.NumberLemmas.{is_none, joined-more, none-push, numbers-more, numbers-same}
 use Rattle.ms_print.proofs.snapshots.put_numbers.Goals as goal

@@ -2,7 +2,7 @@ use Rattle.std.proofs.Common.{◌++◌, ℕ, List, ap, ◌∙◌}
 use Rattle.std.specs.Prelude.{codes}
 use Rattle.std.proofs.lemmas.Result.{on_ok_weaker}
 use Rattle.hp_num.specs.Right.{right_aligned}
-use Rattle.ht_lines.proofs.ExtendLemmas.{extends_more, extends_trans}
+use Rattle.hp_num.proofs.Laws.{extends_more, extends_trans}
 use Rattle.ms_print.specs.TableText.{head_text, rule_line, time_head}
 use Rattle.ms_print.proofs.Appends.{five-appended, four-appended}
 use Rattle.ms_print.proofs.table.put_head.Goals as goal

@@ -1,5 +1,5 @@
 use Rattle.std.proofs.Common.{◌++◌, ◌+◌, ◌-◌, ℕ, length, drop, ap, ◌∙◌}
-use Rattle.ht_lines.proofs.ExtendLemmas.{extends_trans}
+use Rattle.hp_num.proofs.Laws.{extends_trans}
 use Rattle.ms_print.specs.TableText.{below_row, snap_row, snap_rows}
 use Rattle.ms_print.proofs.Appends.{left-appended, two-appended}
 use Rattle.ms_print.proofs.RowLemmas.{rows-next}

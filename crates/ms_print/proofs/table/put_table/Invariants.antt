@@ -1,5 +1,5 @@
 use Rattle.std.proofs.Common.{◌≡◌, ◌++◌, drop}
-use Rattle.ht_lines.specs.Extends.{Extends}
+use Rattle.hp_num.specs.Extends.{Extends}
 use Rattle.ms_print.specs.TableText.{snap_rows, table_text}
 use Rattle.ms_print.proofs.table.put_table.Given as goal
 

@@ -1,5 +1,5 @@
 use Rattle.std.proofs.Common.{◌≡◌, ◌<◌, ◌++◌, ◌∷◌, ℕ, [], List, length, reverse, take, refl, sym, ap, ◌∙◌, subst}
-use Rattle.ht_lines.proofs.ExtendLemmas.{extends_same, extends_trans}
+use Rattle.hp_num.proofs.Laws.{extends_same, extends_trans}
 use Rattle.ms_print.specs.declared.children.Pending.{Pending}
 use Rattle.ms_print.specs.Ends.{children_at}
 use Rattle.ms_print.specs.Pendings.{AreRoots, IsHeld, bar_before, blank_below, entry_bytes, entry_children, entry_label}

@@ -1,5 +1,5 @@
 use Rattle.std.proofs.Common.{◌++◌, [], reverse}
-use Rattle.ht_lines.specs.Extends.{Extends}
+use Rattle.hp_num.specs.Extends.{Extends}
 use Rattle.ms_print.specs.Ends.{children_at}
 use Rattle.ms_print.specs.Shown.{shown}
 use Rattle.ms_print.specs.TreeText.{entries_text}

@@ -1,6 +1,6 @@
 use Rattle.std.proofs.Common.{◌≡◌, ℕ, List, [], ◌∷◌, ◌++◌, ap, ◌∙◌, arith, append_assoc}
 use Rattle.record_book.specs.NodeNumbers.{with_suffixes}
-use Rattle.record_book.proofs.ExtendLemmas.{extends_trans}
+use Rattle.hp_num.proofs.Laws.{extends_trans}
 use Rattle.record_book.proofs.NodeLemmas.{continues-trans, put-more}
 use Rattle.record_book.proofs.node_lines.put_nodes.Goals as goal
 

@@ -1,5 +1,5 @@
 use Rattle.std.proofs.Common.{◌≡◌, ℕ, ◌+◌, ◌≤◌, List, ◌++◌, length}
-use Rattle.ht_lines.specs.Extends.{Extends}
+use Rattle.hp_num.specs.Extends.{Extends}
 use Rattle.stack_table.specs.Continues.{Continues}
 use Rattle.record_book.specs.NodeState.{AreNumbered, ArePut}
 use Rattle.record_book.proofs.node_lines.put_nodes.Given as goal
