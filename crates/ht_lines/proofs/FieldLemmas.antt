@@ -6,6 +6,7 @@ use Rattle.std.proofs.lemmas.List.{length-map}
 use Rattle.hp_num.specs.ParsedHex.{parsed_hex}
 use Rattle.std.specs.List.{slice_split, onto_first, position, position_or_len}
 use borrow.Author.Tests.{eqb-true, lt-ltb, ltb-false}
+use Rattle.hp_num.proofs.Laws.{and-true}
 use Rattle.ht_lines.specs.Fields.{is_blank, fields, after_blanks, before_blank, from_blank, first_field, after_field, field_ends, all_numbers, number, numbers}
 
 one-add : (n : ℕ) → 1 + n ≡ suc n
@@ -189,10 +190,6 @@ unfolding fields
 length-fields text = length-kept text
 
 -- fields that are all numbers
-
-pub and-true : (a b : Bool) → (a && b) ≡ true → (a ≡ true) × (b ≡ true)
-and-true true b e = (refl, e)
-and-true false b e = absurd (cc)
 
 pub some-number : (o : Option ℕ) → IsTrue (is_some o) → o ≡ Some (unwrap_or o 0)
 some-number (Some n) e = refl

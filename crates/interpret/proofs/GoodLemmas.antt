@@ -39,7 +39,7 @@ use Rattle.interpret.proofs.FirstLemmas.{place-within}
 use Rattle.interpret.proofs.GrowthLemmas.{infos-push, known-push, nodes-push}
 use Rattle.interpret.proofs.KeepLemmas.{Holds}
 use Rattle.interpret.proofs.LedgerLemmas.{held_of, infos-append, infos-of}
-use Rattle.interpret.proofs.ListLemmas.{and-true}
+use Rattle.hp_num.proofs.Laws.{and-true}
 use Rattle.interpret.proofs.PointerLemmas.{info-held}
 use Rattle.interpret.proofs.ReadAgainLemmas.{AreFew, IsGoodNode, below, good-allocation, good-node}
 use Rattle.interpret.proofs.TakeLemmas.{new-call}

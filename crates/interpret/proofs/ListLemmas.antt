@@ -5,10 +5,6 @@ use Rattle.std.specs.Option.{option_map}
 use Rattle.std.specs.List.{list_any}
 use Rattle.std.proofs.lemmas.Option.{same_Some}
 
-pub and-true : (a b : Bool) → (a && b) ≡ true → (a ≡ true) × (b ≡ true)
-and-true true b both = (refl, both)
-and-true false b both = absurd (true≢false (sym both))
-
 pub any-none : {X : Type 0} (p : X → Bool) (xs : List X) → ((k : ℕ) (x : X) → slice_get xs k ≡ Some x → p x ≡ false) → list_any p xs ≡ false
 any-none p [] none = refl
 any-none p (x ∷ xs) none = rw (none 0 x refl) (any-none p xs (λ k y at. none (suc k) y at))

@@ -15,15 +15,14 @@ use Rattle.ht_lines.specs.Reading.{reading}
 use Rattle.ht_lines.specs.Reads.{Reads}
 use Rattle.ht_lines.specs.Refuses.{Refuses}
 use Rattle.ht_lines.specs.Written.{IsWritable, written}
-use Rattle.ht_lines.proofs.LineSides.{reading-item, reading-sides}
-use Rattle.ht_lines.proofs.WrittenLemmas.{Reads-IsWritable, reading-written}
+use Rattle.ht_lines.proofs.Laws.{Reads-IsWritable, reading-item, reading-sides, reading-written}
 use Rattle.ht_trace.specs.declared.error.LineError.{LineError}
 use Rattle.ht_trace.specs.declared.error.LineError.TheVariants.{NoVersion, SecondVersion, TooDeep, TooMany, UnknownParent, UnknownTrace}
 use Rattle.ht_trace.specs.Contents as trace
 use Rattle.ht_trace.specs.Gathered.{gathered}
 use Rattle.ht_trace.specs.LineFault.{may_stand_first, most_entries, most_nodes}
 use Rattle.ht_trace.specs.TraceEvents.{events}
-use Rattle.ht_trace.proofs.LineLemmas as told
+use Rattle.ht_trace.proofs.Laws as told
 use Rattle.stack_table.specs.Node.{Node}
 use Rattle.interpret.specs.FirstAppearances.{over_fault}
 use Rattle.interpret.specs.Interpreted.{interpreted_lines, lines_after, lines_read}

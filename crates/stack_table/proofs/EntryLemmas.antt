@@ -5,6 +5,7 @@ use Rattle.std.proofs.lemmas.Bool.{cases_lt}
 use Rattle.std.proofs.lemmas.Bool.Decides.{nat_tests}
 use Rattle.std.proofs.lemmas.List.{length-map, map-append, take-append-drop, take-map}
 use Rattle.std.proofs.lemmas.Option.{same_Some, slice_get-map, slice_get-get_or, slice_get_read, slice_get_within}
+use Rattle.hp_num.proofs.Laws.{slice_get-end, slice_get-front}
 use Rattle.stack_table.specs.declared.node_entry.NodeEntry.{NodeEntry}
 use Rattle.stack_table.specs.Node.{Node, node_at}
 use Rattle.stack_table.specs.Stack.{stack, frame_count}
@@ -13,7 +14,7 @@ use Rattle.stack_table.specs.LowerParents.{HasLowerParents}
 use Rattle.stack_table.specs.Entries.{IsTable, node_of, nodes_of}
 use Rattle.stack_table.specs.Continues.{Continues}
 use Rattle.stack_table.proofs.Continuing.{Continues-append}
-use Rattle.stack_table.proofs.Stacks.{node_at-within, slice_get-front, slice_get-end, frame_count-zero, frame_count-older, frame_count-newest, frame_count-unfold, HasLowerParents-push, stack-zero, stack-unfold}
+use Rattle.stack_table.proofs.Stacks.{node_at-within, frame_count-zero, frame_count-older, frame_count-newest, frame_count-unfold, HasLowerParents-push, stack-zero, stack-unfold}
 
 -- as many nodes as entries
 pub length-nodes_of : (entries : List NodeEntry) → length (nodes_of entries) ≡ length entries
