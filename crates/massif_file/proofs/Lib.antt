@@ -1,5 +1,6 @@
 mod Complete
 mod Lent
+mod LevelTexts
 mod LineLemmas
 mod NoTruncation
 mod Profiles
