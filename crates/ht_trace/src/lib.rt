@@ -3,7 +3,6 @@
 #![tactic(auto)]
 
 mod error;
-mod first_lines;
 mod frame;
 mod frame_text;
 mod infos;
@@ -14,8 +13,10 @@ mod stack_frames;
 mod step;
 mod strings;
 mod tables;
+mod version_lines;
 
 pub use error::LineError;
 pub use frame::{FrameAt, Style};
 pub use step::Step;
 pub use tables::Tables;
+pub use version_lines::may_stand_first;

@@ -24,7 +24,6 @@ ghost use Rattle.ht_trace.specs.TableState.{TableState};
 ghost use Rattle.ht_trace.specs.TraceEvents.{events};
 
 use crate::error::LineError;
-use crate::first_lines::may_stand_first;
 use crate::frame::{FrameAt, Style};
 use crate::frame_text::put_text;
 use crate::infos::{InfoEntry, InfoTable};
@@ -33,6 +32,7 @@ use crate::patterns::PatternTable;
 use crate::stack_frames::replace_by_stack;
 use crate::step::Step;
 use crate::strings::StringTable;
+use crate::version_lines::may_stand_first;
 use hp_num::{NoMemory, Text};
 use ht_lines::{Form, Item, read_item};
 use live_ledger::Event;

@@ -17,7 +17,8 @@ use Rattle.ht_trace.specs.declared.error.LineError.TheVariants.{NoVersion}
 use Rattle.ht_trace.specs.Contents as trace
 use Rattle.ht_trace.specs.Gathered.{gathered}
 use Rattle.ht_trace.specs.LineFault as of_trace
-use Rattle.ht_trace.specs.LineFault.{end_fault, line_fault, may_stand_first, most_entries}
+use Rattle.ht_trace.specs.LineFault.{end_fault, line_fault, most_entries}
+use Rattle.ht_trace.specs.VersionLines.{may_stand_first}
 use Rattle.ht_trace.specs.TableState.{TableState, tables_after}
 use Rattle.ht_trace.specs.TraceLists as lists
 use Rattle.ht_trace.proofs.Laws as told

@@ -20,7 +20,8 @@ use Rattle.ht_trace.specs.declared.error.LineError.{LineError}
 use Rattle.ht_trace.specs.declared.error.LineError.TheVariants.{NoVersion, SecondVersion, TooDeep, TooMany, UnknownParent, UnknownTrace}
 use Rattle.ht_trace.specs.Contents as trace
 use Rattle.ht_trace.specs.Gathered.{gathered}
-use Rattle.ht_trace.specs.LineFault.{may_stand_first, most_entries, most_nodes}
+use Rattle.ht_trace.specs.LineFault.{most_entries, most_nodes}
+use Rattle.ht_trace.specs.VersionLines.{may_stand_first}
 use Rattle.ht_trace.specs.TraceEvents.{events}
 use Rattle.ht_trace.proofs.Laws as told
 use Rattle.stack_table.specs.Node.{Node}

@@ -9,7 +9,8 @@ use Rattle.ht_lines.specs.declared.item.Form.TheVariants.{Interpreted}
 use Rattle.ht_lines.specs.Reading.{reading}
 use Rattle.ht_lines.specs.Written.{IsWritable, written}
 use Rattle.ht_lines.proofs.Laws.{reading-written}
-use Rattle.ht_trace.specs.LineFault.{content_fault, fault_in, may_stand_first}
+use Rattle.ht_trace.specs.LineFault.{content_fault, fault_in}
+use Rattle.ht_trace.specs.VersionLines.{may_stand_first}
 use Rattle.ht_trace.specs.StandsFor.{StandsFor}
 use Rattle.ht_trace.specs.StateAfter.{Takes, state_after}
 use Rattle.ht_trace.specs.StepOf.{event_of, reading_step, step_in}

@@ -1,6 +1,6 @@
 //! Which lines may stand before the version line. What a line says is the grammar's part.
 ghost use Rattle.std.specs.Prelude.{◌≡◌};
-ghost use Rattle.ht_trace.specs.LineFault.{may_stand_first};
+ghost use Rattle.ht_trace.specs.VersionLines.{may_stand_first};
 
 /// Whether a line may stand before the version line: a comment, or a line of the version line's kind.
 pub fn may_stand_first(line: &[u8]) -> bool
