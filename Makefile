@@ -1,8 +1,8 @@
 # Thin: `rt` proves, builds and tests. See README.md.
 PREFIX ?= /usr/local
 
-# How many crates are proved at a time: one on each processor, each with 3 GB of the memory that is free.
-JOBS ?= $(shell awk -v processors="$$(nproc)" '/^MemAvailable/ { fit = int($$2 / 3000000); \
+# How many crates are proved at a time: one on each processor, each with 2 GB of the memory that is free.
+JOBS ?= $(shell awk -v processors="$$(nproc)" '/^MemAvailable/ { fit = int($$2 / 2000000); \
 	print fit < 1 ? 1 : fit < processors ? fit : processors }' /proc/meminfo)
 
 PROGRAMS = heapsuite heaprec
@@ -16,8 +16,10 @@ SHARE = $(DESTDIR)$(PREFIX)/share
 demo: build
 	bin/heapsuite summary examples/two-sizes.trace
 
-# Proves all crates side by side, and builds bin/heapsuite and bin/heaprec over what was proved.
+# Proves all crates side by side, and builds bin/heapsuite and bin/heaprec over what was proved. All but two crates wait for
+# hp_num, so that it is proved first, by all processors.
 build:
+	cd crates/hp_num && rt lib --jobs $(JOBS)
 	rt all check --jobs $(JOBS)
 	cd crates/heapsuite && rt run -- summary ../../examples/two-sizes.trace > /dev/null
 	cd crates/heaprec && rt run -- data/s > /dev/null
