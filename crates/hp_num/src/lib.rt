@@ -12,15 +12,17 @@
 //!   bounded length. `decimal_texts`, `hexadecimal_texts`, `comma_texts`, `percent_texts` say so of the texts of all
 //!   numbers.
 //! - `Text`: bytes that are owned, seen as their list.
-//! - The definition `Extends`, what stands after an append that may have failed halfway, with its laws, for whoever
-//!   appends.
+//! - `Items`: a list of any items that is owned, seen as their list. The lists of profiles are such lists.
+//! - The definition `Extends`: what stands after an append that may have failed halfway.
+//!
+//! The crates above may cite its `proofs/Laws`: on `Extends`, on hexadecimal digits, and on elements of a list that grows.
 //!
 //! | File | Does |
 //! |---|---|
 //! | `bytes.rt` | appends bytes: the step under every call that appends a text |
 //! | `decimal.rt`, `hexadecimal.rt`, `hex_digit.rt` | whole numbers in decimal and in hexadecimal digits |
 //! | `commas.rt`, `percent.rt`, `right.rt` | numbers with commas; hundredths of a percent; bytes to the right |
-//! | `text.rt` | bytes that are owned |
+//! | `text.rt`, `items.rt` | bytes that are owned; a list of items that is owned |
 //! | `memory.rt` | `NoMemory`, the error for want of memory |
 //! | `tests.rt` | worked cases, and each call that allocates once with ample memory |
 #![tactic(auto)]

@@ -16,7 +16,8 @@
 //!   the front is a line and its line feed, which says this event in every version). It may pass over any line, which
 //!   `read_item` then judges.
 //!
-//! The tests of these calls are the crate `ht_lines_tests`, so that the grammar is proved once.
+//! The crates above may cite its `proofs/Laws`: what is written is read again, a line has one reading, and texts of one
+//! line stay so. The tests of these calls are the crate `ht_lines_tests`, so that the grammar is proved once.
 //!
 //! | File | Does |
 //! |---|---|

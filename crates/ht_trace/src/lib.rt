@@ -20,13 +20,15 @@
 //!   (`frame_text`), and `frame_function` gives the name of its function, `None` exactly where it has none.
 //! - `suppress` and `S` lines append the pattern of a text, where it has one (`pattern_of`); `suppression` gives a
 //!   pattern by its number, and `suppressions` their count.
+//! - `may_stand_first` says whether a line may stand before the version line; it holds of raw traces as well.
 //!
-//! The tests of these calls are in the crate `ht_trace_tests`.
+//! The crates above may cite its `proofs/Laws`: what one more line says and its fault, and what stays as tables grow. The
+//! tests of these calls are in the crate `ht_trace_tests`.
 //!
 //! | File | Does |
 //! |---|---|
 //! | `tables.rt` | the tables, and what each line adds to them or why it is refused |
-//! | `first_lines.rt` | which lines may stand before the version line |
+//! | `version_lines.rt` | which lines may stand before the version line, of both forms of trace |
 //! | `strings.rt`, `instructions.rt`, `infos.rt`, `patterns.rt` | one table each; the nodes are `stack_table`'s |
 //! | `push_frames.rt` | the frames of an instruction line |
 //! | `frame.rt`, `stack_frames.rt`, `frame_text.rt` | how frames are named; those of a stack; their texts |

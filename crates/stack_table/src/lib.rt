@@ -12,8 +12,9 @@
 //! - `cut` keeps the first nodes. But for that the list only grows: `Continues` says that each old node, its stack, its
 //!   frames and the least number of its instruction and parent stay.
 //!
-//! The index that `intern` looks into is brought up to date there, so `add` pays nothing for it. The tests of these
-//! calls are in the crate `ht_trace_tests`.
+//! The index that `intern` looks into is brought up to date there, so `add` pays nothing for it. The crates above may cite
+//! its `proofs/Laws`: on lists of nodes that grow, and on the stacks of the newest node and of older ones. The tests of
+//! these calls are in the crate `ht_trace_tests`.
 #![tactic(auto)]
 
 mod fault;
