@@ -8,7 +8,8 @@ ghost use Rattle.cost_tree.specs.Children.{children_of};
 ghost use Rattle.cost_tree.specs.Costed.{Costed};
 ghost use Rattle.cost_tree.specs.IsTreeOf.{IsTreeOf};
 ghost use Rattle.hp_num.specs.Extends.{Extends};
-ghost use Rattle.ht_print.specs.FlameText.{flame_byte, flame_line, flame_name, flame_of, flame_path, flame_rest, most_frames};
+ghost use Rattle.ht_print.specs.FlameText.{flame_byte, flame_line, flame_name, flame_of, flame_path, flame_rest};
+ghost use Rattle.stack_table.specs.Stack.{most_frames};
 ghost use Rattle.ht_print.specs.FlameWalk.{IsBelowRoot, IsRooted, front_at, last_text};
 
 use cost_tree::{CostTree, children_fronts};

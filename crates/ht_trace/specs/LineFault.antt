@@ -7,7 +7,7 @@ use Rattle.ht_lines.specs.Content.{Content, version_line, string_line, instructi
 use Rattle.ht_lines.specs.declared.item.Form.TheVariants.{Interpreted}
 use Rattle.ht_lines.specs.Reading.{reading}
 use Rattle.stack_table.specs.Node.{Node}
-use Rattle.stack_table.specs.Stack.{frame_count}
+use Rattle.stack_table.specs.Stack.{frame_count, most_frames}
 use Rattle.ht_trace.specs.declared.frame.Frame.{Frame}
 use Rattle.ht_trace.specs.declared.error.LineError.{LineError}
 use Rattle.ht_trace.specs.declared.error.LineError.TheVariants.{NoVersion, UnknownString, UnknownInstruction, UnknownParent, UnknownTrace, UnknownAllocation, TooDeep, TooMany, NoMemory}
@@ -52,7 +52,7 @@ abbrev pub node_fault : List Node → Option ℕ → ℕ → Option LineError
 node_fault nodes None parent = Some UnknownInstruction
 node_fault nodes (Some frames) parent =
     if nat_lt (length nodes) parent then Some UnknownParent
-    else if nat_lt 4096 (frame_count nodes parent + frames) then Some TooDeep
+    else if nat_lt most_frames (frame_count nodes parent + frames) then Some TooDeep
     else growth_fault (length nodes) most_nodes
 
 -- an info's trace is a node or 0

@@ -80,13 +80,13 @@ few-full tables none = by (nat_lt most_entries (length tables.names) || (nat_lt 
 -- a node without a fault
 pub record IsGoodNode (nodes : List Node) (frames parent : ℕ) (full : Option LineError) : Type 0 where
   pub parent_held : nat_lt (length nodes) parent ≡ false
-  pub shallow : nat_lt 4096 (stacks.frame_count nodes parent + frames) ≡ false
+  pub shallow : nat_lt stacks.most_frames (stacks.frame_count nodes parent + frames) ≡ false
   pub has_room : full ≡ None
 
 pub good-node : (nodes : List Node) (frames parent : ℕ) (full : Option LineError) → node_fault nodes frames parent full ≡ None → IsGoodNode nodes frames parent full
-good-node nodes frames parent full none = by (nat_lt (length nodes) parent) (nat_lt 4096 (stacks.frame_count nodes parent + frames)) refl refl none
+good-node nodes frames parent full none = by (nat_lt (length nodes) parent) (nat_lt stacks.most_frames (stacks.frame_count nodes parent + frames)) refl refl none
   where
-    by : (a b : Bool) → nat_lt (length nodes) parent ≡ a → nat_lt 4096 (stacks.frame_count nodes parent + frames) ≡ b → cond {A = Option LineError} a (Some UnknownParent) (cond {A = Option LineError} b (Some TooDeep) full) ≡ None → IsGoodNode nodes frames parent full
+    by : (a b : Bool) → nat_lt (length nodes) parent ≡ a → nat_lt stacks.most_frames (stacks.frame_count nodes parent + frames) ≡ b → cond {A = Option LineError} a (Some UnknownParent) (cond {A = Option LineError} b (Some TooDeep) full) ≡ None → IsGoodNode nodes frames parent full
     by true b is it none = absurd (cc)
     by false true is it none = absurd (cc)
     by false false is it none = record { parent_held = is; shallow = it; has_room = none }

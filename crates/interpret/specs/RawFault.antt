@@ -11,7 +11,7 @@ use Rattle.ht_trace.specs.ErrorOf.{of_malformed}
 use Rattle.ht_trace.specs.LineFault.{most_entries, most_nodes}
 use Rattle.ht_trace.specs.VersionLines.{may_stand_first, missing_fault, second_fault}
 use Rattle.stack_table.specs.Node.{Node}
-use Rattle.stack_table.specs.Stack.{frame_count}
+use Rattle.stack_table.specs.Stack.{frame_count, most_frames}
 use Rattle.interpret.specs.FirstAppearances.{over_fault}
 use Rattle.interpret.specs.RawContents.{contents, version_of}
 use Rattle.interpret.specs.RawTables.{KnownIp, RawTables, ip_frames, known_with, new_call, tables_after, tables_of}
@@ -31,7 +31,7 @@ full_fault tables = option_or (lists_fault tables.names tables.known tables.node
 abbrev pub node_fault : List Node → ℕ → ℕ → Option LineError → Option LineError
 node_fault nodes frames parent full =
     if nat_lt (length nodes) parent then Some UnknownParent
-    else if nat_lt 4096 (frame_count nodes parent + frames) then Some TooDeep
+    else if nat_lt most_frames (frame_count nodes parent + frames) then Some TooDeep
     else full
 
 -- an allocation's node is one that is held or 0

@@ -23,4 +23,4 @@ mod node_index;
 mod nodes;
 
 pub use fault::NodeFault;
-pub use nodes::Nodes;
+pub use nodes::{MOST_FRAMES, Nodes};

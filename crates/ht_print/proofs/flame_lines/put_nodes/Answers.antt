@@ -3,7 +3,8 @@ use Rattle.std.proofs.lemmas.List.Elements.{All-pop}
 use Rattle.std.proofs.lemmas.Option.{slice_get-get_or}
 use Rattle.cost_tree.specs.declared.node.CostNode.{CostNode}
 use Rattle.cost_tree.specs.Children.{children_of}
-use Rattle.ht_print.specs.FlameText.{flame_line, most_frames}
+use Rattle.stack_table.specs.Stack.{most_frames}
+use Rattle.ht_print.specs.FlameText.{flame_line}
 use Rattle.ht_print.specs.FlameWalk.{flame_at, front_at}
 use Rattle.ht_print.proofs.FlameLemmas.{extends_trans}
 use Rattle.ht_print.proofs.FlameTrees.{IsRooted-of}
