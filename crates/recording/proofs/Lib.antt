@@ -1,0 +1,6 @@
+mod NameLemmas
+mod LineLemmas
+mod RunLemmas
+mod SilentLemmas
+mod HaltLemmas
+mod EndLemmas

@@ -1,0 +1,10 @@
+pub mod RecordWords
+pub mod Requests
+pub mod FaultTold
+pub mod FileLines
+pub mod FilesPlan
+pub mod LeadsTo
+pub mod Texts
+pub mod Answer
+pub mod Recorded
+pub mod Run
