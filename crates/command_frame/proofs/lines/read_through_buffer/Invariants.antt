@@ -3,7 +3,7 @@
 use Rattle.std.proofs.Common.{◌≡◌, ◌+◌, ◌-◌, ◌≤◌, [], None, true}
 use Rattle.hp_outside.specs.Taken.{WhereTold}
 use Rattle.command_frame.proofs.LinesLoop.{Reading, bounds_at}
-use Rattle.command_frame.proofs.lines.take_lines.Given as goal
+use Rattle.command_frame.proofs.lines.read_through_buffer.Given as goal
 
 abbrev pub invariant-lines : goal.invariant-lines
 invariant-lines g l = record {

@@ -7,7 +7,7 @@ use Rattle.command_frame.specs.Taker.{Tells}
 use Rattle.command_frame.proofs.OutputLemmas.{append_nothing, front_of_all, kept_as}
 use Rattle.command_frame.proofs.BatchLemmas.{read_batch}
 use Rattle.command_frame.proofs.LinesLoop.{bounds_at, read_end, read_end_fault, read_fault, read_front, read_input_too_long, read_line_too_long, read_more, read_stopped, reading_new}
-use Rattle.command_frame.proofs.lines.take_lines.Goals as goal
+use Rattle.command_frame.proofs.lines.read_through_buffer.Goals as goal
 
 pub lines-init : goal.lines-init
 lines-init g c = record {
