@@ -1,6 +1,5 @@
-mod NameLemmas
 mod LineLemmas
-mod RunLemmas
+mod FrontLemmas
 mod SilentLemmas
 mod HaltLemmas
 mod EndLemmas

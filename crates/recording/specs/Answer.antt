@@ -3,7 +3,8 @@ use Rattle.std.specs.Prelude.{ℕ, List, [], Bool, false, Option, None, Some, le
 use Rattle.hp_outside.specs.Folder.{Folder}
 use Rattle.command_frame.specs.Answer.{Answer, plan_answer, usage_answer}
 use Rattle.command_frame.specs.FirstFault.{Bounds}
-use Rattle.command_frame.specs.Plan.{Plan}
+use Rattle.command_frame.specs.Plan.{Ends, Plan}
+use Rattle.command_frame.specs.Report.{Writes}
 use Rattle.record_scripts.specs.Job.{Job}
 use Rattle.recording.specs.FileLines.{no_job}
 use Rattle.recording.specs.FilesPlan.{files_named, files_plan, job_in}
@@ -12,7 +13,7 @@ use Rattle.recording.specs.Texts.{heaprec_texts}
 
 -- what is done with the files: the text is written behind them, and says nothing of their faults
 abbrev pub record_plan : ℕ → List ℕ → RecordAsked → Plan
-record_plan limit text asked = files_plan (λ job. text) asked.modules asked.scripts (no_job limit)
+record_plan limit text asked = files_plan asked.modules asked.scripts (no_job limit) (λ job. Ends (Writes text))
 
 -- the answer to what was asked, or to words that aren't taken
 abbrev pub asked_answer : Bounds → ℕ → Folder → List ℕ → Option RecordAsked → Answer

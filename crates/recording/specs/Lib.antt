@@ -2,9 +2,10 @@ pub mod RecordWords
 pub mod Requests
 pub mod FaultTold
 pub mod FileLines
+pub mod FrontRead
 pub mod FilesPlan
-pub mod LeadsTo
 pub mod Texts
 pub mod Answer
 pub mod Recorded
 pub mod Run
+pub mod HeaprecRan

@@ -1,11 +1,13 @@
 -- What a run may come to, whatever the store and the threads do.
-use Rattle.std.specs.Prelude.{◌≡◌, ◌⊎◌, ℕ, Bool, List, [], length, Option, None, Some}
+use Rattle.std.specs.Prelude.{◌≡◌, ◌≢◌, ◌⊎◌, ℕ, Bool, List, [], length, Option, None, Some}
+use Rattle.hp_outside.specs.Faults.{Rose}
 use Rattle.hp_outside.specs.Folder.{Folder}
 use Rattle.hp_outside.specs.Taken.{WhereTold}
 use Rattle.command_frame.specs.Answer.{Answer, memory_answer, usage_answer}
 use Rattle.command_frame.specs.FirstFault.{Bounds}
 use Rattle.command_frame.specs.Moment.{Moment}
 use Rattle.command_frame.specs.Run.{Ran}
+use Rattle.command_frame.specs.RunsTo.{Shown, Taken}
 use Rattle.recording.specs.FilesPlan.{files_named}
 use Rattle.record_scripts.specs.Job.{Job}
 use Rattle.recording.specs.RecordWords.{RecordAsked}
@@ -29,3 +31,14 @@ pub record IsRecording (may_write : Bool → Job → List ℕ → Type 0) (limit
   pub may : may_write (summary_asked asking) job output
   pub count : length job.scripts ≡ count_asked asking
   pub told : WhereTold files (λ folder. job ≡ job_asked limit folder asking)
+
+-- the same, of what the store and the output show, with nothing written: where it is done, what is yet to be delivered is a
+-- recording
+pub record WordsRunTo (may_write : Bool → Job → List ℕ → Type 0) (bounds : Bounds) (limit : ℕ) (asking : Option RecordAsked) (before now : Shown) (old new : Taken) (given : Answer) : Type 0 where
+  pub text : List ℕ
+  pub ran : WordsRan bounds limit before.files text asking before.moment now.moment given
+  pub recording : given.status ≡ 0 → IsRecording may_write limit before.files asking given.output
+  pub silent : new.written ≡ old.written
+  pub files : now.files ≡ before.files
+  pub unwritten : given.status ≡ 4 → Rose old.faults new.faults
+  pub sound : given.status ≢ 4 → new.faults ≡ old.faults

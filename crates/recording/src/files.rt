@@ -1,18 +1,12 @@
 //! Reading the named files of a recording in their order. What their lines say is the business of the reader.
-ghost use Rattle.std.specs.Prelude.{◌≡◌, ◌≢◌, ℕ, ◌+◌, ◌-◌, ◌^◌, ◌<◌, ◌≤◌, List, [], ◌∷◌, length, map, IfErr, IfOk, OnOk};
+ghost use Rattle.std.specs.Prelude.{◌≡◌, ℕ, ◌+◌, ◌-◌, ◌^◌, ◌<◌, ◌≤◌, List, [], ◌∷◌, length, map, IfOk};
 ghost use Rattle.std.specs.Option.{option_copied};
-ghost use Rattle.hp_outside.specs.Faults.{Rose};
 ghost use Rattle.hp_outside.specs.Taken.{WhereTold};
-ghost use Rattle.command_frame.specs.FirstFault.{bounds_of};
-ghost use Rattle.command_frame.specs.Halts.{halt_answer, status_code};
-ghost use Rattle.command_frame.specs.Outcome.{moment};
-ghost use Rattle.command_frame.specs.Run.{Ran};
-ghost use Rattle.command_frame.specs.Texts.{texts_of};
-ghost use Rattle.record_scripts.specs.Job.{Job};
 ghost use Rattle.record_scripts.specs.ModuleLines.{AreModuleLines};
-ghost use Rattle.recording.specs.FileLines.{no_job};
-ghost use Rattle.recording.specs.FilesPlan.{files_named, files_plan, job_in, modules_in, scripts_in, scripts_plan};
-ghost use Rattle.recording.specs.LeadsTo.{LeadsTo};
+ghost use Rattle.recording.specs.declared.reader.FileKind.TheVariants.{Script as ScriptFile};
+ghost use Rattle.recording.specs.FileLines.{begun, no_job};
+ghost use Rattle.recording.specs.FilesPlan.{file_front, files_front, job_in, modules_front, modules_in, scripts_front, scripts_in};
+ghost use Rattle.recording.specs.FrontRead.{ReadsFront};
 
 use crate::one_file::{NamedFile, read_file};
 use crate::reader::FileKind;
@@ -31,7 +25,7 @@ pub struct ScriptFiles<'a> {
     pub scripts: &'a [&'a str],
 }
 
-/// Reads the modules file, if there is one, and then the scripts in their order, at most 64. All together may have as many
+/// Reads the modules file, if there is one, and then the scripts in their order, 1 to 64 of them. All together may have as many
 /// events as the limits of the run say. Nothing is written. The text of the modules is whole lines about modules.
 pub fn read_files<S: Store, O: Sink>(
     desk: &Desk,
@@ -40,26 +34,15 @@ pub fn read_files<S: Store, O: Sink>(
     out: &mut O,
 ) -> Result<Scripts, Halt>
     requires opens { S.opens store.old < 2 ^ 63 }
+    requires some { 1 ≤ length files.now.scripts.now }
     requires few { length files.now.scripts.now ≤ 64 }
-    ensures read { IfOk result (λ job. (last : List ℕ) (text : Job → List ℕ) → (here : List ℕ) × LeadsTo (texts_of desk.now.texts) (bounds_of desk.now.limits) (S.files store.old)
-        (record {
-          last = last;
-          names = files_named (option_copied files.now.modules) (map (λ name. name.now) files.now.scripts.now);
-          plan = files_plan text (option_copied files.now.modules) (map (λ name. name.now) files.now.scripts.now) (no_job desk.now.limits.order);
-          moment = moment (S.opens store.old) (S.current store.old) (S.left store.old) (S.faults store.old);
-        })
-        (record { last = here; names = []; plan = scripts_plan text [] job; moment = moment (S.opens store.new) (S.current store.new) (S.left store.new) (S.faults store.new) })) }
-    ensures halted { IfErr result (λ halt. (last : List ℕ) (text : Job → List ℕ) → Ran (texts_of desk.now.texts) (bounds_of desk.now.limits) (S.files store.old) last
-        (files_named (option_copied files.now.modules) (map (λ name. name.now) files.now.scripts.now)) (files_plan text (option_copied files.now.modules) (map (λ name. name.now) files.now.scripts.now) (no_job desk.now.limits.order))
-        (moment (S.opens store.old) (S.current store.old) (S.left store.old) (S.faults store.old)) (moment (S.opens store.new) (S.current store.new) (S.left store.new) (S.faults store.new)) (halt_answer (texts_of desk.now.texts) halt)) }
-    ensures job { IfOk result (λ job. WhereTold (S.files store.old) (λ folder. job ≡ job_in folder (option_copied files.now.modules) (map (λ name. name.now) files.now.scripts.now) desk.now.limits.order)) }
+    ensures read { ReadsFront S.Store O.Sink desk.now
+        (files_front (option_copied files.now.modules) (map (λ name. name.now) files.now.scripts.now) (no_job desk.now.limits.order))
+        store.old store.new out.old out.new result }
+    ensures job { IfOk result (λ job. WhereTold (S.files store.old) (λ folder. job
+        ≡ job_in folder (option_copied files.now.modules) (map (λ name. name.now) files.now.scripts.now) desk.now.limits.order)) }
     ensures count { IfOk result (λ job. length job.scripts ≡ length files.now.scripts.now) }
     ensures modules { IfOk result (λ job. AreModuleLines job.modules) }
-    ensures silent { O.written out.new ≡ O.written out.old }
-    ensures files { S.files store.new ≡ S.files store.old }
-    ensures unwritten { IfErr result (λ halt. status_code halt.status ≡ 4 → Rose (O.faults out.old) (O.faults out.new)) }
-    ensures sound_writes { IfErr result (λ halt. status_code halt.status ≢ 4 → O.faults out.new ≡ O.faults out.old) }
-    ensures sound { OnOk result (O.faults out.new ≡ O.faults out.old) }
 {
     let mut lines = match LineReader::new(desk.alloc, &desk.limits) {
         Ok(lines) => lines,
@@ -86,28 +69,15 @@ fn read_modules<S: Store, O: Sink>(
     requires input { lines.old.input ≡ desk.now.limits.input }
     requires line { lines.old.line_limit ≡ desk.now.limits.line }
     requires modules { AreModuleLines scripts.modules }
-    ensures read { IfOk result (λ job. (last : List ℕ) (names : List (List ℕ)) (text : Job → List ℕ) → (here : List ℕ) × LeadsTo (texts_of desk.now.texts) (bounds_of desk.now.limits) (S.files store.old)
-        (record {
-          last = last;
-          names = files_named (option_copied modules.entry) names;
-          plan = files_plan text (option_copied modules.entry) names scripts;
-          moment = moment (S.opens store.old) (S.current store.old) (S.left store.old) (S.faults store.old);
-        })
-        (record { last = here; names = names; plan = scripts_plan text names job; moment = moment (S.opens store.new) (S.current store.new) (S.left store.new) (S.faults store.new) })) }
-    ensures halted { IfErr result (λ halt. (last : List ℕ) (names : List (List ℕ)) (text : Job → List ℕ) → Ran (texts_of desk.now.texts) (bounds_of desk.now.limits) (S.files store.old) last
-        (files_named (option_copied modules.entry) names) (files_plan text (option_copied modules.entry) names scripts)
-        (moment (S.opens store.old) (S.current store.old) (S.left store.old) (S.faults store.old)) (moment (S.opens store.new) (S.current store.new) (S.left store.new) (S.faults store.new)) (halt_answer (texts_of desk.now.texts) halt)) }
-    ensures job { IfOk result (λ job. WhereTold (S.files store.old) (λ folder. job ≡ modules_in folder (option_copied modules.entry) scripts)) }
+    ensures read { ReadsFront S.Store O.Sink desk.now (modules_front (option_copied modules.entry) scripts)
+        store.old store.new out.old out.new result }
+    ensures job { IfOk result (λ job.
+        WhereTold (S.files store.old) (λ folder. job ≡ modules_in folder (option_copied modules.entry) scripts)) }
     ensures count { IfOk result (λ job. length job.scripts ≡ length scripts.scripts) }
     ensures modules { IfOk result (λ job. AreModuleLines job.modules) }
     ensures opens { IfOk result (λ job. S.opens store.new ≤ S.opens store.old + 1) }
     ensures input { lines.new.input ≡ lines.old.input }
     ensures line { lines.new.line_limit ≡ lines.old.line_limit }
-    ensures silent { O.written out.new ≡ O.written out.old }
-    ensures files { S.files store.new ≡ S.files store.old }
-    ensures unwritten { IfErr result (λ halt. status_code halt.status ≡ 4 → Rose (O.faults out.old) (O.faults out.new)) }
-    ensures sound_writes { IfErr result (λ halt. status_code halt.status ≢ 4 → O.faults out.new ≡ O.faults out.old) }
-    ensures sound { OnOk result (O.faults out.new ≡ O.faults out.old) }
 {
     match modules {
         None => Ok(scripts),
@@ -135,25 +105,12 @@ fn read_scripts<S: Store, O: Sink>(
     requires input { lines.old.input ≡ desk.now.limits.input }
     requires line { lines.old.line_limit ≡ desk.now.limits.line }
     requires modules { AreModuleLines scripts.modules }
-    ensures read { IfOk result (λ job. (last : List ℕ) (text : Job → List ℕ) → (here : List ℕ) × LeadsTo (texts_of desk.now.texts) (bounds_of desk.now.limits) (S.files store.old)
-        (record {
-          last = last;
-          names = map (λ name. name.now) names.now;
-          plan = scripts_plan text (map (λ name. name.now) names.now) scripts;
-          moment = moment (S.opens store.old) (S.current store.old) (S.left store.old) (S.faults store.old);
-        })
-        (record { last = here; names = []; plan = scripts_plan text [] job; moment = moment (S.opens store.new) (S.current store.new) (S.left store.new) (S.faults store.new) })) }
-    ensures halted { IfErr result (λ halt. (last : List ℕ) (text : Job → List ℕ) → Ran (texts_of desk.now.texts) (bounds_of desk.now.limits) (S.files store.old) last
-        (map (λ name. name.now) names.now) (scripts_plan text (map (λ name. name.now) names.now) scripts)
-        (moment (S.opens store.old) (S.current store.old) (S.left store.old) (S.faults store.old)) (moment (S.opens store.new) (S.current store.new) (S.left store.new) (S.faults store.new)) (halt_answer (texts_of desk.now.texts) halt)) }
-    ensures job { IfOk result (λ job. WhereTold (S.files store.old) (λ folder. job ≡ scripts_in folder (map (λ name. name.now) names.now) scripts)) }
+    ensures read { ReadsFront S.Store O.Sink desk.now (scripts_front (map (λ name. name.now) names.now) scripts)
+        store.old store.new out.old out.new result }
+    ensures job { IfOk result (λ job.
+        WhereTold (S.files store.old) (λ folder. job ≡ scripts_in folder (map (λ name. name.now) names.now) scripts)) }
     ensures count { IfOk result (λ job. length job.scripts ≡ length scripts.scripts + length names.now) }
     ensures modules { IfOk result (λ job. AreModuleLines job.modules) }
-    ensures silent { O.written out.new ≡ O.written out.old }
-    ensures files { S.files store.new ≡ S.files store.old }
-    ensures unwritten { IfErr result (λ halt. status_code halt.status ≡ 4 → Rose (O.faults out.old) (O.faults out.new)) }
-    ensures sound_writes { IfErr result (λ halt. status_code halt.status ≢ 4 → O.faults out.new ≡ O.faults out.old) }
-    ensures sound { OnOk result (O.faults out.new ≡ O.faults out.old) }
 {
     let mut scripts = scripts;
     'each_name: for name in names {
@@ -179,28 +136,15 @@ fn read_script<S: Store, O: Sink>(
     requires input { lines.old.input ≡ desk.now.limits.input }
     requires line { lines.old.line_limit ≡ desk.now.limits.line }
     requires modules { AreModuleLines scripts.modules }
-    ensures read { IfOk result (λ job. (last : List ℕ) (names : List (List ℕ)) (text : Job → List ℕ) → LeadsTo (texts_of desk.now.texts) (bounds_of desk.now.limits) (S.files store.old)
-        (record {
-          last = last;
-          names = name.now ∷ names;
-          plan = scripts_plan text (name.now ∷ names) scripts;
-          moment = moment (S.opens store.old) (S.current store.old) (S.left store.old) (S.faults store.old);
-        })
-        (record { last = name.now; names = names; plan = scripts_plan text names job; moment = moment (S.opens store.new) (S.current store.new) (S.left store.new) (S.faults store.new) })) }
-    ensures halted { IfErr result (λ halt. (last : List ℕ) (names : List (List ℕ)) (text : Job → List ℕ) → Ran (texts_of desk.now.texts) (bounds_of desk.now.limits) (S.files store.old) last
-        (name.now ∷ names) (scripts_plan text (name.now ∷ names) scripts)
-        (moment (S.opens store.old) (S.current store.old) (S.left store.old) (S.faults store.old)) (moment (S.opens store.new) (S.current store.new) (S.left store.new) (S.faults store.new)) (halt_answer (texts_of desk.now.texts) halt)) }
-    ensures job { IfOk result (λ job. WhereTold (S.files store.old) (λ folder. (names : List (List ℕ)) → scripts_in folder names job ≡ scripts_in folder (name.now ∷ names) scripts)) }
+    ensures read { ReadsFront S.Store O.Sink desk.now (file_front ScriptFile name.now (begun scripts))
+        store.old store.new out.old out.new result }
+    ensures job { IfOk result (λ job. WhereTold (S.files store.old) (λ folder.
+        (names : List (List ℕ)) → scripts_in folder names job ≡ scripts_in folder (name.now ∷ names) scripts)) }
     ensures count { IfOk result (λ job. length job.scripts ≡ length scripts.scripts + 1) }
     ensures modules { IfOk result (λ job. AreModuleLines job.modules) }
     ensures opens { IfOk result (λ job. S.opens store.new ≡ S.opens store.old + 1) }
     ensures input { lines.new.input ≡ lines.old.input }
     ensures line { lines.new.line_limit ≡ lines.old.line_limit }
-    ensures silent { O.written out.new ≡ O.written out.old }
-    ensures files { S.files store.new ≡ S.files store.old }
-    ensures unwritten { IfErr result (λ halt. status_code halt.status ≡ 4 → Rose (O.faults out.old) (O.faults out.new)) }
-    ensures sound_writes { IfErr result (λ halt. status_code halt.status ≢ 4 → O.faults out.new ≡ O.faults out.old) }
-    ensures sound { OnOk result (O.faults out.new ≡ O.faults out.old) }
 {
     let mut scripts = scripts;
     match scripts.begin() {

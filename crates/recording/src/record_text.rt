@@ -2,6 +2,7 @@
 ghost use Rattle.std.specs.Prelude.{IfOk};
 ghost use Rattle.record_scripts.specs.ModuleLines.{AreModuleLines};
 ghost use Rattle.record_book.specs.Orders.{IsInterleaving};
+ghost use Rattle.record_book.specs.ScriptFigures.{HasScriptFigures};
 ghost use Rattle.recording.specs.Recorded.{IsRecorded};
 
 use hp_num::{NoMemory, put_bytes};
@@ -31,6 +32,7 @@ pub fn record_text<R: Threads + Wait + Sync, G: Gate + Sync>(
 /// The trace of a book with all turns taken, and behind it the summary where that is asked for.
 fn book_text(alloc: Global, book: Book, summary: bool) -> Result<Vec<u8>, NoMemory>
     requires all { IsInterleaving book.job.scripts book.order }
+    requires figures { HasScriptFigures book.job.scripts book.order }
     requires modules { AreModuleLines book.job.modules }
     ensures { IfOk result (λ text. IsRecorded summary book.job text.items) }
 {

@@ -41,6 +41,7 @@ impl<'a> RecordRequest<'a> {
     pub fn read(alloc: Global, words: &'a [String]) -> Result<RecordRequest<'a>, WordsFault>
         ensures taken { IfOk result (λ request. record_asked (map string_bytes words.entry.now) ≡ Some (asked_by request)) }
         ensures refused { result ≡ Err WordsFault.NotTaken → record_asked (map string_bytes words.entry.now) ≡ None }
+        ensures some { IfOk result (λ request. 1 ≤ length request.scripts.items) }
         ensures few { IfOk result (λ request. length request.scripts.items ≤ 64) }
     {
         let words = take_words(alloc, &WORDS, words)?;
@@ -52,6 +53,7 @@ impl<'a> RecordRequest<'a> {
 fn request_in<'a>(alloc: Global, words: &TakenWords<'a>) -> Result<RecordRequest<'a>, WordsFault>
     ensures taken { IfOk result (λ request. record_given (value_in (rows_in words.now) (codes "modules")) (flag_in (rows_in words.now) (codes "summary")) (files_in (rows_in words.now)) ≡ Some (asked_by request)) }
     ensures refused { result ≡ Err WordsFault.NotTaken → record_given (value_in (rows_in words.now) (codes "modules")) (flag_in (rows_in words.now) (codes "summary")) (files_in (rows_in words.now)) ≡ None }
+    ensures some { IfOk result (λ request. 1 ≤ length request.scripts.items) }
     ensures few { IfOk result (λ request. length request.scripts.items ≤ 64) }
 {
     let Some(names) = words.files() else {

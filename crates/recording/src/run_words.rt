@@ -1,16 +1,13 @@
 //! From the words and the files to what is to be delivered. How that is written is the business of the frame.
-ghost use Rattle.std.specs.Prelude.{◌≡◌, ◌≢◌, ◌^◌, ◌<◌, ◌≤◌, ℕ, List, [], length, map, string_bytes, Some, IfErr, IfOk, OnOk};
-ghost use Rattle.hp_outside.specs.Faults.{Rose};
-ghost use Rattle.command_frame.specs.Answer.{done};
+ghost use Rattle.std.specs.Prelude.{◌≡◌, ◌^◌, ◌<◌, ◌≤◌, length, map, string_bytes, Some};
 ghost use Rattle.command_frame.specs.FirstFault.{bounds_of};
-ghost use Rattle.command_frame.specs.Halts.{halt_answer, status_code};
-ghost use Rattle.command_frame.specs.Outcome.{moment};
 ghost use Rattle.command_frame.specs.OutcomeAnswer.{outcome_answer};
+ghost use Rattle.command_frame.specs.RunsTo.{rest_of, shown, taken};
 ghost use Rattle.command_frame.specs.Texts.{texts_of};
+ghost use Rattle.recording.specs.Recorded.{IsRecorded};
 ghost use Rattle.recording.specs.RecordWords.{record_asked};
 ghost use Rattle.recording.specs.Requests.{asked_by};
-ghost use Rattle.recording.specs.Recorded.{IsRecorded};
-ghost use Rattle.recording.specs.Run.{AskedRan, IsRecording, WordsRan};
+ghost use Rattle.recording.specs.Run.{WordsRunTo};
 ghost use Rattle.recording.specs.Texts.{heaprec_texts};
 
 use crate::files::{ScriptFiles, read_files};
@@ -36,15 +33,9 @@ pub fn run_words<R: Threads + Wait + Sync, S: Store, O: Sink, G: Gate + Sync>(
 ) -> Outcome
     requires opens { S.opens store.old < 2 ^ 63 }
     requires texts { texts_of desk.now.texts ≡ heaprec_texts }
-    ensures ran { (text : List ℕ)
-        × (WordsRan (bounds_of desk.now.limits) desk.now.limits.order (S.files store.old) text (record_asked (map string_bytes words.now))
-        (moment (S.opens store.old) (S.current store.old) (S.left store.old) (S.faults store.old)) (moment (S.opens store.new) (S.current store.new) (S.left store.new) (S.faults store.new))
-        (outcome_answer heaprec_texts result)
-        × ((outcome_answer heaprec_texts result).status ≡ 0 → IsRecording IsRecorded desk.now.limits.order (S.files store.old) (record_asked (map string_bytes words.now)) (outcome_answer heaprec_texts result).output)) }
-    ensures silent { O.written out.new ≡ O.written out.old }
-    ensures files { S.files store.new ≡ S.files store.old }
-    ensures unwritten { (outcome_answer heaprec_texts result).status ≡ 4 → Rose (O.faults out.old) (O.faults out.new) }
-    ensures sound { (outcome_answer heaprec_texts result).status ≢ 4 → O.faults out.new ≡ O.faults out.old }
+    ensures { WordsRunTo IsRecorded (bounds_of desk.now.limits) desk.now.limits.order
+        (record_asked (map string_bytes words.now)) (shown S.Store store.old) (shown S.Store store.new)
+        (taken O.Sink out.old) (taken O.Sink out.new) (outcome_answer heaprec_texts result) }
 {
     match RecordRequest::read(desk.alloc, words) {
         Ok(request) => Outcome::new(
@@ -67,18 +58,11 @@ fn run_request<R: Threads + Wait + Sync, S: Store, O: Sink, G: Gate + Sync>(
 ) -> Result<Vec<u8>, Halt>
     requires opens { S.opens store.old < 2 ^ 63 }
     requires texts { texts_of desk.now.texts ≡ heaprec_texts }
+    requires some { 1 ≤ length request.now.scripts.items }
     requires few { length request.now.scripts.items ≤ 64 }
-    ensures all { IfOk result (λ text. (AskedRan (bounds_of desk.now.limits) desk.now.limits.order (S.files store.old) text.items (Some (asked_by request.now))
-        (moment (S.opens store.old) (S.current store.old) (S.left store.old) (S.faults store.old)) (moment (S.opens store.new) (S.current store.new) (S.left store.new) (S.faults store.new)) (done text.items)
-        × IsRecording IsRecorded desk.now.limits.order (S.files store.old) (Some (asked_by request.now)) text.items)) }
-    ensures halted { IfErr result (λ halt. (text : List ℕ) → AskedRan (bounds_of desk.now.limits) desk.now.limits.order (S.files store.old) text (Some (asked_by request.now))
-        (moment (S.opens store.old) (S.current store.old) (S.left store.old) (S.faults store.old)) (moment (S.opens store.new) (S.current store.new) (S.left store.new) (S.faults store.new)) (halt_answer heaprec_texts halt)) }
-    ensures not_done { IfErr result (λ halt. status_code halt.status ≢ 0) }
-    ensures silent { O.written out.new ≡ O.written out.old }
-    ensures files { S.files store.new ≡ S.files store.old }
-    ensures unwritten { IfErr result (λ halt. status_code halt.status ≡ 4 → Rose (O.faults out.old) (O.faults out.new)) }
-    ensures sound_writes { IfErr result (λ halt. status_code halt.status ≢ 4 → O.faults out.new ≡ O.faults out.old) }
-    ensures sound { OnOk result (O.faults out.new ≡ O.faults out.old) }
+    ensures { WordsRunTo IsRecorded (bounds_of desk.now.limits) desk.now.limits.order (Some (asked_by request.now))
+        (shown S.Store store.old) (shown S.Store store.new) (taken O.Sink out.old) (taken O.Sink out.new)
+        (rest_of heaprec_texts result) }
 {
     let files = ScriptFiles {
         modules: request.modules,

@@ -1,47 +1,23 @@
 use Rattle.std.proofs.Common.{◌≡◌, ◌+◌, [], ◌∷◌, length, ap, ap₂, subst, ◌∙◌, length-append, arith}
-use Rattle.std.proofs.lemmas.Result.{IfErr-weaker, IfOk-weaker}
-use Rattle.command_frame.specs.FirstFault.{bounds_of}
-use Rattle.command_frame.specs.Halts.{halt_answer}
-use Rattle.command_frame.specs.Outcome.{moment}
-use Rattle.command_frame.specs.Run.{Ran}
-use Rattle.command_frame.specs.Texts.{texts_of}
+use Rattle.std.proofs.lemmas.Result.{IfOk-weaker}
+use Rattle.command_frame.specs.RunsTo.{shown, taken}
 use Rattle.record_scripts.specs.Job.{Job}
 use Rattle.recording.specs.declared.reader.FileKind.TheVariants.{Script}
 use Rattle.recording.specs.FileLines.{begun, with_lines}
-use Rattle.recording.specs.FilesPlan.{file_plan, scripts_in, scripts_plan}
-use Rattle.recording.specs.LeadsTo.{LeadsTo}
+use Rattle.recording.specs.FilesPlan.{file_front, scripts_in}
+use Rattle.recording.specs.FrontRead.{FrontRead}
+use Rattle.recording.proofs.FrontLemmas.{wanting_file}
 use Rattle.recording.proofs.LineLemmas.{count-lines}
-use Rattle.recording.proofs.RunLemmas.{wanting_file}
 use Rattle.recording.proofs.files.read_script.Goals as goal
 
-pub returns-in-Err-clause-halted : goal.returns-in-Err-clause-halted
-returns-in-Err-clause-halted g c = λ last names text.
-    let store = g.S.Store in
-    let texts = texts_of c.args.desk.now.texts in
-    wanting_file texts (bounds_of c.args.desk.now.limits) (store.files c.args.store.now) Script last c.args.name.now names (begun c.args.scripts) (scripts_plan text names)
-    (moment (store.opens c.args.store.now) (store.current c.args.store.now) (store.left c.args.store.now) (store.faults c.args.store.now)) (halt_answer texts c.no_memory.result)
-    (ap (halt_answer texts) c.no_memory.ensures)
+pub returns-in-Err-clause-read : goal.returns-in-Err-clause-read
+returns-in-Err-clause-read g c =
+    wanting_file c.args.desk.now Script c.args.name.now (begun c.args.scripts) (shown g.S.Store c.args.store.now) (taken g.O.Sink c.args.out.now) c.no_memory.result c.no_memory.ensures
 
 pub returns-clause-read : goal.returns-clause-read
 returns-clause-read g c =
-    let store = g.S.Store in
-    let before = moment (store.opens c.args.store.now) (store.current c.args.store.now) (store.left c.args.store.now) (store.faults c.args.store.now) in
-    let after = moment (store.opens c.read_file.new.store) (store.current c.read_file.new.store) (store.left c.read_file.new.store) (store.faults c.read_file.new.store) in
-    IfOk-weaker c.read_file.result _ _ (λ job leads. λ last names text.
-    subst (λ (start : Job). LeadsTo (texts_of c.args.desk.now.texts) (bounds_of c.args.desk.now.limits) (store.files c.args.store.now)
-    (record { last = last; names = c.args.name.now ∷ names; plan = file_plan Script c.args.name.now start (scripts_plan text names); moment = before })
-    (record { last = c.args.name.now; names = names; plan = scripts_plan text names job; moment = after }))
-    c.in-Ok.ensures.begun (leads last names (scripts_plan text names))) c.read_file.ensures.read
-
-pub returns-clause-halted : goal.returns-clause-halted
-returns-clause-halted g c =
-    let store = g.S.Store in
-    let before = moment (store.opens c.args.store.now) (store.current c.args.store.now) (store.left c.args.store.now) (store.faults c.args.store.now) in
-    let after = moment (store.opens c.read_file.new.store) (store.current c.read_file.new.store) (store.left c.read_file.new.store) (store.faults c.read_file.new.store) in
-    IfErr-weaker c.read_file.result _ _ (λ halt ran. λ last names text.
-    subst (λ (start : Job). Ran (texts_of c.args.desk.now.texts) (bounds_of c.args.desk.now.limits) (store.files c.args.store.now) last (c.args.name.now ∷ names)
-    (file_plan Script c.args.name.now start (scripts_plan text names)) before after (halt_answer (texts_of c.args.desk.now.texts) halt))
-    c.in-Ok.ensures.begun (ran last names (scripts_plan text names))) c.read_file.ensures.halted
+    subst (λ (start : Job). FrontRead c.args.desk.now (file_front Script c.args.name.now start) (shown g.S.Store c.args.store.now) (shown g.S.Store c.read_file.new.store)
+    (taken g.O.Sink c.args.out.now) (taken g.O.Sink c.read_file.new.out) c.read_file.result) c.in-Ok.ensures.begun c.read_file.ensures.read
 
 pub returns-clause-job : goal.returns-clause-job
 returns-clause-job g c =

@@ -1,16 +1,15 @@
-use Rattle.std.proofs.Common.{◌+◌, ◌<◌, ◌≤◌, ℕ, List, length, drop, refl, ap, sym, subst, ◌∙◌, arith}
+use Rattle.std.proofs.Common.{◌≡◌, ◌+◌, ◌<◌, ◌≤◌, ℕ, List, [], Err, length, drop, refl, ap, sym, subst, ◌∙◌, arith}
 use Rattle.command_frame.specs.FirstFault.{bounds_of}
-use Rattle.command_frame.specs.Halts.{halt_answer}
-use Rattle.command_frame.specs.Outcome.{moment}
+use Rattle.command_frame.specs.RunsTo.{shown, taken}
 use Rattle.command_frame.specs.Texts.{texts_of}
-use Rattle.recording.specs.FilesPlan.{scripts_in, scripts_plan}
-use Rattle.recording.specs.LeadsTo.{LeadsTo}
-use Rattle.recording.proofs.NameLemmas.{bytes_of, leads_more, next_name, no_name, ran_more}
+use Rattle.recording.specs.FilesPlan.{scripts_front, scripts_in}
+use Rattle.recording.specs.FrontRead.{FrontRead, LeadsTo}
+use Rattle.recording.proofs.FrontLemmas.{bytes_of, front_behind, leads_by, next_name, no_name, none_read, script_ends, script_then}
 use Rattle.recording.proofs.files.read_scripts.Goals as goal
 
 pub each_name-init : goal.each_name-init
 each_name-init g c = record {
-  leads = λ last text. (last, λ later answer ran. ran);
+  leads = λ last more next. (last, λ later answer ran. ran);
   job = λ folder known. refl;
   count = omega arith;
   modules = c.requires.modules;
@@ -24,69 +23,59 @@ each_name-init g c = record {
 
 pub each_name-preserved : goal.each_name-preserved
 each_name-preserved g c =
-    let store = g.S.Store in
     let held = c.each_name.invariant in
     let read = c.in-Ok.ensures in
+    let rest = bytes_of (drop (c.each_name.name-index + 1) c.args.names.now) in
     let within : c.each_name.name-index < length c.args.names.now = omega arith in
     let step = next_name c.args.names.now c.each_name.name-index _ within in
+    let before = shown g.S.Store c.each_name.store in
+    let now = shown g.S.Store c.read_script.new.store in
     record {
-      leads = λ last text.
-          let before = held.leads last text in (
-            _,
-            leads_more (texts_of c.args.desk.now.texts) (bounds_of c.args.desk.now.limits) (store.files c.args.store.now) (store.files c.each_name.store) held.files text _ before.0 _
-                (bytes_of (drop c.each_name.name-index c.args.names.now)) (bytes_of (drop (c.each_name.name-index + 1) c.args.names.now)) c.each_name.scripts c.in-Ok.scripts
-                (moment (store.opens c.each_name.store) (store.current c.each_name.store) (store.left c.each_name.store) (store.faults c.each_name.store))
-                (moment (store.opens c.read_script.new.store) (store.current c.read_script.new.store) (store.left c.read_script.new.store) (store.faults c.read_script.new.store))
-                step before.1 (read.read before.0 (bytes_of (drop (c.each_name.name-index + 1) c.args.names.now)) text),
-          );
+      leads = leads_by (texts_of c.args.desk.now.texts) (bounds_of c.args.desk.now.limits) (g.S.Store.files c.args.store.now) _ _ _ (shown g.S.Store c.args.store.now).moment before.moment now.moment
+          (subst (λ (names : List (List ℕ)). LeadsTo (texts_of c.args.desk.now.texts) (bounds_of c.args.desk.now.limits) (g.S.Store.files c.args.store.now)
+          (scripts_front (bytes_of c.args.names.now) c.args.scripts) (shown g.S.Store c.args.store.now).moment (scripts_front names c.each_name.scripts) before.moment) step held.leads)
+          (subst (λ files. LeadsTo (texts_of c.args.desk.now.texts) (bounds_of c.args.desk.now.limits) files _ before.moment (scripts_front rest c.in-Ok.scripts) now.moment) held.files
+          (script_then c.args.desk.now _ rest c.each_name.scripts c.in-Ok.scripts before now (taken g.O.Sink c.each_name.out) (taken g.O.Sink c.read_script.new.out) read.read));
       job = λ folder known.
-          read.job folder (held.files ∙ known) (bytes_of (drop (c.each_name.name-index + 1) c.args.names.now))
+          read.job folder (held.files ∙ known) rest
           ∙ ap (λ (names : List (List ℕ)). scripts_in folder names c.each_name.scripts) (sym step) ∙ held.job folder known;
       count = omega (arith, read.count, held.count);
       modules = read.modules;
       opens = omega (arith, read.opens, held.opens);
       input = c.read_script.ensures.input ∙ held.input;
       line_limit = c.read_script.ensures.line ∙ held.line_limit;
-      silent = c.read_script.ensures.silent ∙ held.silent;
-      files = c.read_script.ensures.files ∙ held.files;
-      write_faults = read.sound ∙ held.write_faults;
+      silent = read.read.silent ∙ held.silent;
+      files = read.read.files ∙ held.files;
+      write_faults = read.read.sound (λ four. absurd (omega (arith, four))) ∙ held.write_faults;
     }
 
-pub returns-in-Err-clause-halted : goal.returns-in-Err-clause-halted
-returns-in-Err-clause-halted g c = λ last text.
-    let store = g.S.Store in
+pub returns-in-Err-clause-read : goal.returns-in-Err-clause-read
+returns-in-Err-clause-read g c =
     let held = c.each_name.invariant in
-    let before = held.leads last text in
+    let rest = bytes_of (drop (c.each_name.name-index + 1) c.args.names.now) in
     let within : c.each_name.name-index < length c.args.names.now = omega arith in
     let step = next_name c.args.names.now c.each_name.name-index _ within in
-    let rest = bytes_of (drop (c.each_name.name-index + 1) c.args.names.now) in
-    ran_more (texts_of c.args.desk.now.texts) (bounds_of c.args.desk.now.limits) (store.files c.args.store.now) (store.files c.each_name.store) held.files text _ before.0 _
-    (bytes_of (drop c.each_name.name-index c.args.names.now)) rest c.each_name.scripts
-    (moment (store.opens c.each_name.store) (store.current c.each_name.store) (store.left c.each_name.store) (store.faults c.each_name.store))
-    (moment (store.opens c.read_script.new.store) (store.current c.read_script.new.store) (store.left c.read_script.new.store) (store.faults c.read_script.new.store))
-    (halt_answer (texts_of c.args.desk.now.texts) c.in-Err.halt) step before.1 (c.in-Err.ensures.halted before.0 rest text)
+    let mid = shown g.S.Store c.each_name.store in
+    let now = shown g.S.Store c.read_script.new.store in
+    let between = taken g.O.Sink c.each_name.out in
+    let new = taken g.O.Sink c.read_script.new.out in
+    front_behind c.args.desk.now (scripts_front (bytes_of c.args.names.now) c.args.scripts) (scripts_front (bytes_of (drop c.each_name.name-index c.args.names.now)) c.each_name.scripts)
+    (shown g.S.Store c.args.store.now) mid now (taken g.O.Sink c.args.out.now) between new (Err c.in-Err.halt) held.leads held.files held.silent held.write_faults
+    (subst (λ (names : List (List ℕ)). FrontRead c.args.desk.now (scripts_front names c.each_name.scripts) mid now between new (Err c.in-Err.halt)) (sym step)
+    (script_ends c.args.desk.now _ rest c.each_name.scripts mid now between new c.in-Err.halt c.in-Err.ensures.read))
 
 pub returns-clause-read : goal.returns-clause-read
-returns-clause-read g c = λ last text.
-    let store = g.S.Store in
-    let held = c.each_name.invariant.leads last text in
-    let past : length c.args.names.now ≤ c.each_name.name-index = omega arith in (
-      held.0,
-      subst (λ (names : List (List ℕ)). LeadsTo (texts_of c.args.desk.now.texts) (bounds_of c.args.desk.now.limits) (store.files c.args.store.now)
-          (record {
-            last = last;
-            names = bytes_of c.args.names.now;
-            plan = scripts_plan text (bytes_of c.args.names.now) c.args.scripts;
-            moment = moment (store.opens c.args.store.now) (store.current c.args.store.now) (store.left c.args.store.now) (store.faults c.args.store.now);
-          })
-          (record {
-            last = held.0;
-            names = names;
-            plan = scripts_plan text names c.each_name.scripts;
-            moment = moment (store.opens c.each_name.store) (store.current c.each_name.store) (store.left c.each_name.store) (store.faults c.each_name.store);
-          }))
-          (no_name c.args.names.now c.each_name.name-index past) held.1,
-    )
+returns-clause-read g c =
+    let held = c.each_name.invariant in
+    let past : length c.args.names.now ≤ c.each_name.name-index = omega arith in
+    let mid = shown g.S.Store c.each_name.store in
+    let out = taken g.O.Sink c.each_name.out in
+    front_behind c.args.desk.now (scripts_front (bytes_of c.args.names.now) c.args.scripts) (scripts_front [] c.each_name.scripts)
+    (shown g.S.Store c.args.store.now) mid mid (taken g.O.Sink c.args.out.now) out out _
+    (subst (λ (names : List (List ℕ)). LeadsTo (texts_of c.args.desk.now.texts) (bounds_of c.args.desk.now.limits) (g.S.Store.files c.args.store.now)
+    (scripts_front (bytes_of c.args.names.now) c.args.scripts) (shown g.S.Store c.args.store.now).moment (scripts_front names c.each_name.scripts) mid.moment)
+    (no_name c.args.names.now c.each_name.name-index past) held.leads)
+    held.files held.silent held.write_faults (none_read c.args.desk.now c.each_name.scripts mid out)
 
 pub returns-clause-job : goal.returns-clause-job
 returns-clause-job g c = λ folder known.
