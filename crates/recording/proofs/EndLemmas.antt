@@ -256,12 +256,12 @@ heaprec_ran bounds limit asking before now out_old out_new err_old err_new statu
     let done_is : (zero : status ≡ 0) → given.status ≡ 0 = λ zero. sym (whole (λ four. omega (arith, zero, four))).status_is ∙ zero in
     let wrote : ¬ Rose out_old.faults out_new.faults → ¬ Rose err_old.faults err_new.faults → status ≢ 4 = λ out_quiet err_quiet four. err_quiet (run.delivered.write four out_quiet) in
     let defined : (folder : Folder) → before.files ≡ Some folder → ¬ Rose before.moment.faults now.moment.faults → ¬ Rose out_old.faults out_new.faults → ¬ Rose err_old.faults err_new.faults → status ≢ 5
-        → (text : List ℕ) × (Delivered (asked_answer bounds limit folder text asking) status out_old.written out_new.written err_old.written err_new.written
-        × (status ≡ 0 → IsRecording IsRecorded limit before.files asking (asked_answer bounds limit folder text asking).output))
+    → (text : List ℕ) × (Delivered (asked_answer bounds limit folder text asking) status out_old.written out_new.written err_old.written err_new.written
+    × (status ≡ 0 → IsRecording IsRecorded limit before.files asking (asked_answer bounds limit folder text asking).output))
     = λ folder told quiet out_quiet err_quiet memory.
-        let delivered = whole (wrote out_quiet err_quiet) in
-        let same = facts.quiet folder told quiet (λ four. wrote out_quiet err_quiet (delivered.status_is ∙ four)) (λ five. memory (delivered.status_is ∙ five)) in
-        (run.text, (delivered_as same delivered, λ zero. subst (λ (a : Answer). IsRecording IsRecorded limit before.files asking a.output) same (run.recording (done_is zero)))) in
+    let delivered = whole (wrote out_quiet err_quiet) in
+    let same = facts.quiet folder told quiet (λ four. wrote out_quiet err_quiet (delivered.status_is ∙ four)) (λ five. memory (delivered.status_is ∙ five)) in
+    (run.text, (delivered_as same delivered, λ zero. subst (λ (a : Answer). IsRecording IsRecorded limit before.files asking a.output) same (run.recording (done_is zero)))) in
     record {
       run = run;
       recorded = λ zero. (given.output, ((whole (λ four. omega (arith, zero, four))).output, run.recording (done_is zero)));

@@ -168,7 +168,7 @@ file_told desk kind name start job before now old new read said =
     (read.halts.0, (said read.halts.0 read.halts.1.1, lines_told (bounds_of desk.limits) (file_report kind start) before.files name before.moment now.moment read.end read.halts.0 read.read read.halts.1.0))
 
 -- from the first files to some, and from these to others
-pub leads_by : (texts : Texts) (bounds : Bounds) (files : Option Folder) (front mid left : Front) (before between now : Moment)
+leads_by : (texts : Texts) (bounds : Bounds) (files : Option Folder) (front mid left : Front) (before between now : Moment)
     → LeadsTo texts bounds files front before mid between → LeadsTo texts bounds files mid between left now → LeadsTo texts bounds files front before left now
 leads_by texts bounds files front mid left before between now leads goes = λ last names next.
     let first = leads last names next in
@@ -194,10 +194,20 @@ front_behind desk front left before mid now old between new result leads same si
 }
 
 -- a script with others behind it
-pub script_then : (desk : Desk) (name : List ℕ) (names : List (List ℕ)) (start job : Job) (before now : Shown) (old new : Taken)
+script_then : (desk : Desk) (name : List ℕ) (names : List (List ℕ)) (start job : Job) (before now : Shown) (old new : Taken)
     → FrontRead desk (file_front Script name (begun start)) before now old new (Ok job)
     → LeadsTo (texts_of desk.texts) (bounds_of desk.limits) before.files (scripts_front (name ∷ names) start) before.moment (scripts_front names job) now.moment
 script_then desk name names start job before now old new read = λ last more next. read.goes_on last (names ++ more) (λ job. scripts_plan names job next)
+
+pub scripts_further : (desk : Desk) (files : Option Folder) (all left rest : List (List ℕ)) (name : List ℕ) (start job new : Job) (before : Moment) (mid now : Shown) (between after : Taken) → mid.files ≡ files → left ≡ name ∷ rest
+    → LeadsTo (texts_of desk.texts) (bounds_of desk.limits) files (scripts_front all start) before (scripts_front left job) mid.moment
+    → FrontRead desk (file_front Script name (begun job)) mid now between after (Ok new)
+    → LeadsTo (texts_of desk.texts) (bounds_of desk.limits) files (scripts_front all start) before (scripts_front rest new) now.moment
+scripts_further desk files all left rest name start job new before mid now between after same is leads read =
+    leads_by (texts_of desk.texts) (bounds_of desk.limits) files (scripts_front all start) (scripts_front (name ∷ rest) job) (scripts_front rest new) before mid.moment now.moment
+    (subst (λ (names : List (List ℕ)). LeadsTo (texts_of desk.texts) (bounds_of desk.limits) files (scripts_front all start) before (scripts_front names job) mid.moment) is leads)
+    (subst (λ (f : Option Folder). LeadsTo (texts_of desk.texts) (bounds_of desk.limits) f (scripts_front (name ∷ rest) job) mid.moment (scripts_front rest new) now.moment) same
+    (script_then desk name rest job new mid now between after read))
 
 pub script_ends : (desk : Desk) (name : List ℕ) (names : List (List ℕ)) (start : Job) (before now : Shown) (old new : Taken) (halt : Halt)
     → FrontRead desk (file_front Script name (begun start)) before now old new (Err halt) → FrontRead desk (scripts_front (name ∷ names) start) before now old new (Err halt)

@@ -3,3 +3,4 @@ mod FrontLemmas
 mod SilentLemmas
 mod HaltLemmas
 mod EndLemmas
+mod RecordedLemmas

@@ -39,12 +39,10 @@ pub record HasDelivered (bounds : Bounds) (limit : ℕ) (asking : Option RecordA
 -- the same, and what follows
 pub record HeaprecRan (bounds : Bounds) (limit : ℕ) (asking : Option RecordAsked) (before now : Shown) (out_old out_new err_old err_new : Taken) (status : ℕ) : Type 0 where
   pub run : HasDelivered bounds limit asking before now out_old out_new err_old err_new status
-
   -- the recording, at status 0: the order that the bytes written spell is an interleaving of the scripts, and the bytes are the trace
   -- of the scripts in this order, and behind it the summary where the words ask for it. Where the store tells its files, the scripts
   -- are what they say
   pub recorded : status ≡ 0 → (output : List ℕ) × ((out_new.written ≡ append_known out_old.written output) × IsRecording IsRecorded limit before.files asking output)
-
   -- the headline: over a store that tells its files, with no failed call and memory not wanting, output, message and status are the
   -- defined ones, with a text that at status 0 is that of such an order
   pub defined : (folder : Folder) → before.files ≡ Some folder
@@ -52,42 +50,34 @@ pub record HeaprecRan (bounds : Bounds) (limit : ℕ) (asking : Option RecordAsk
       → status ≢ 5
       → (text : List ℕ) × (Delivered (asked_answer bounds limit folder text asking) status out_old.written out_new.written err_old.written err_new.written
       × (status ≡ 0 → IsRecording IsRecorded limit before.files asking (asked_answer bounds limit folder text asking).output))
-
   -- completeness: where no file has a fault, the status is 0
   pub complete : (folder : Folder) → before.files ≡ Some folder
       → ((text : List ℕ) → (asked_answer bounds limit folder text asking).status ≡ 0)
       → ¬ Rose before.moment.faults now.moment.faults → ¬ Rose out_old.faults out_new.faults → ¬ Rose err_old.faults err_new.faults
       → status ≢ 5 → status ≡ 0
   pub statuses : status ≤ 6
-
   -- status 0: each file that the words name was opened once, and the last was read to its end
   pub opened : status ≡ 0 → now.moment.opens ≡ before.moment.opens + length (names_asked asking)
   pub opens : now.moment.opens ≤ before.moment.opens + length (names_asked asking)
   pub ended : status ≡ 0 → names_asked asking ≢ [] → WhereTold now.moment.left (λ left. left ≡ [])
   pub current : status ≡ 0 → names_asked asking ≢ [] → now.moment.current ≡ true
   pub files : now.files ≡ before.files
-
   -- statuses 0, 1 and 6: exactly where the words and the files define them
   pub judged : (folder : Folder) → before.files ≡ Some folder → status ≢ 3 → status ≢ 4 → status ≢ 5
       → (text : List ℕ) × Delivered (asked_answer bounds limit folder text asking) status out_old.written out_new.written err_old.written err_new.written
   pub faulty : (folder : Folder) (code : ℕ) → before.files ≡ Some folder → ¬ Rose before.moment.faults now.moment.faults
       → ((text : List ℕ) → (asked_answer bounds limit folder text asking).status ≡ code) → status ≢ 4 → status ≢ 5 → status ≡ code
-
   -- unless the status is 0 or 4, nothing was written to standard output
   pub silent : status ≢ 0 → status ≢ 4 → out_new.written ≡ out_old.written
-
   -- status 2: exactly where the words aren't taken
   pub usage : asking ≡ None → status ≢ 4 → status ≢ 5
       → Delivered (usage_answer heaprec_texts) status out_old.written out_new.written err_old.written err_new.written
   pub only_usage : status ≡ 2 → asking ≡ None
-
   -- status 3: only where the store failed or lacks a file, with the message that names the file opened last
   pub not_read : status ≡ 3 → (given : Answer)
       × NotRead heaprec_texts before.files (names_asked asking) before.moment now.moment given
       × Delivered given status out_old.written out_new.written err_old.written err_new.written
-
   -- status 5: the message for it
   pub no_memory : status ≡ 5 → err_new.written ≡ append_known err_old.written heaprec_texts.out_of_memory
-
   -- a failed call of the store is not passed over in silence
   pub store_faults : status ≢ 3 → status ≢ 4 → status ≢ 5 → now.moment.faults ≡ before.moment.faults

@@ -4,7 +4,7 @@ use Rattle.command_frame.specs.RunsTo.{shown, taken}
 use Rattle.command_frame.specs.Texts.{texts_of}
 use Rattle.recording.specs.FilesPlan.{scripts_front, scripts_in}
 use Rattle.recording.specs.FrontRead.{FrontRead, LeadsTo}
-use Rattle.recording.proofs.FrontLemmas.{bytes_of, front_behind, leads_by, next_name, no_name, none_read, script_ends, script_then}
+use Rattle.recording.proofs.FrontLemmas.{bytes_of, front_behind, next_name, no_name, none_read, script_ends, scripts_further}
 use Rattle.recording.proofs.files.read_scripts.Goals as goal
 
 pub each_name-init : goal.each_name-init
@@ -28,14 +28,10 @@ each_name-preserved g c =
     let rest = bytes_of (drop (c.each_name.name-index + 1) c.args.names.now) in
     let within : c.each_name.name-index < length c.args.names.now = omega arith in
     let step = next_name c.args.names.now c.each_name.name-index _ within in
-    let before = shown g.S.Store c.each_name.store in
-    let now = shown g.S.Store c.read_script.new.store in
     record {
-      leads = leads_by (texts_of c.args.desk.now.texts) (bounds_of c.args.desk.now.limits) (g.S.Store.files c.args.store.now) _ _ _ (shown g.S.Store c.args.store.now).moment before.moment now.moment
-          (subst (λ (names : List (List ℕ)). LeadsTo (texts_of c.args.desk.now.texts) (bounds_of c.args.desk.now.limits) (g.S.Store.files c.args.store.now)
-          (scripts_front (bytes_of c.args.names.now) c.args.scripts) (shown g.S.Store c.args.store.now).moment (scripts_front names c.each_name.scripts) before.moment) step held.leads)
-          (subst (λ files. LeadsTo (texts_of c.args.desk.now.texts) (bounds_of c.args.desk.now.limits) files _ before.moment (scripts_front rest c.in-Ok.scripts) now.moment) held.files
-          (script_then c.args.desk.now _ rest c.each_name.scripts c.in-Ok.scripts before now (taken g.O.Sink c.each_name.out) (taken g.O.Sink c.read_script.new.out) read.read));
+      leads = scripts_further c.args.desk.now (g.S.Store.files c.args.store.now) (bytes_of c.args.names.now) (bytes_of (drop c.each_name.name-index c.args.names.now)) rest _
+          c.args.scripts c.each_name.scripts c.in-Ok.scripts (shown g.S.Store c.args.store.now).moment (shown g.S.Store c.each_name.store) (shown g.S.Store c.read_script.new.store)
+          (taken g.O.Sink c.each_name.out) (taken g.O.Sink c.read_script.new.out) held.files step held.leads read.read;
       job = λ folder known.
           read.job folder (held.files ∙ known) rest
           ∙ ap (λ (names : List (List ℕ)). scripts_in folder names c.each_name.scripts) (sym step) ∙ held.job folder known;
