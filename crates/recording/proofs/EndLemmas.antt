@@ -292,7 +292,7 @@ heaprec_ran bounds limit asking before now out_old out_new err_old err_new statu
       only_usage = λ two. facts.only_usage (sym (whole (λ four. omega (arith, two, four))).status_is ∙ two);
       not_read = λ three.
           let delivered = whole (λ four. omega (arith, three, four)) in
-          (given, (facts.not_read (sym delivered.status_is ∙ three), delivered));
+          (given, facts.not_read (sym delivered.status_is ∙ three), delivered);
       no_memory = λ five.
           let delivered = whole (λ four. omega (arith, five, four)) in
           delivered.message ∙ ap (append_known err_old.written) (facts.memory (sym delivered.status_is ∙ five));

@@ -1,4 +1,4 @@
-use Rattle.std.proofs.Common.{◌≡◌, ◌≤◌, Bor, ℕ, List, length, map, sym, subst, ◌∙◌, arith}
+use Rattle.std.proofs.Common.{◌≤◌, Bor, ℕ, List, Err, length, map, sym, subst, arith}
 use Rattle.std.proofs.lemmas.List.{length-map}
 use Rattle.std.specs.Option.{option_copied}
 use Rattle.command_frame.specs.RunsTo.{shown, taken}
@@ -23,7 +23,7 @@ returns-in-Err-read_modules-clause-read g c =
     let names = map (λ name. name.now) c.args.files.now.scripts.now in
     let before = shown g.S.Store c.args.store.now in
     let now = shown g.S.Store c.read_modules.new.store in
-    subst (λ (job : Job). FrontRead c.args.desk.now (files_front modules names job) before now (taken g.O.Sink c.args.out.now) (taken g.O.Sink c.read_modules.new.out) _) c.new-scripts.ensures.empty
+    subst (λ (job : Job). FrontRead c.args.desk.now (files_front modules names job) before now (taken g.O.Sink c.args.out.now) (taken g.O.Sink c.read_modules.new.out) (Err c.in-Err-read_modules.halt)) c.new-scripts.ensures.empty
     (modules_end c.args.desk.now modules names _ before now (taken g.O.Sink c.args.out.now) (taken g.O.Sink c.read_modules.new.out) c.in-Err-read_modules.halt c.in-Err-read_modules.ensures.read)
 
 pub returns-clause-read : goal.returns-clause-read
