@@ -1,5 +1,5 @@
-//! The book of a recording: which thread took which turns of its script, and the trace that this gives. How threads
-//! share it is no part of it.
+//! The book of a recording: which thread took which turns of its script, the trace that this gives, and the order that
+//! the bytes of a trace spell. How threads share it is no part of it.
 //!
 //! `Book` is a recording of scripts, as far as their threads have come: contracts see the scripts with their modules
 //! and the order, which is the thread of each event so far. What it promises:
@@ -9,14 +9,14 @@
 //!   blocks overlap (`AreApart`); both are told by `order`. `into_bytes` gives the trace up without a copy. After
 //!   `NoMemory` a step leaves the book as it was.
 //! - `finish` takes all turns that are left: the book that it gives is one of the scripts that are handed in, its order
-//!   is an interleaving of them (`IsInterleaving`), and where the book had these scripts, its order goes on from the
-//!   earlier one.
+//!   is an interleaving of them (`IsInterleaving`) whose figures are those of the scripts (`HasScriptFigures`), and
+//!   where the book had these scripts, its order goes on from the earlier one.
 //! - `put_summary` appends the six lines of a book whose turns are all taken (`rec_summary`), as `finish` gives it;
 //!   they are meant to stand behind its bytes.
-//! - The law `figures_of_scripts` says that of every interleaving the events, calls, allocated bytes and what is live
-//!   at the end are the sums over the threads alone, of all stacks and of any that are counted, and that the greatest
-//!   total lies between the greatest of the threads' own peaks and their sum. So the summaries of two orders differ in
-//!   that peak alone (`same`).
+//! - The law `spelled_orders` says which order the bytes of a recording spell (`spelled`): that of the recording, also
+//!   where the summary stands behind them. The order is read off the lines: `# thread` with a number names the thread of
+//!   the events behind it. The lines of modules have to spell nothing (`AreQuiet`), which `quiet_modules` says of whole
+//!   lines about modules (`AreModuleLines`), and there may be 64 scripts at most.
 //!
 //! The tests of these calls are in the crate `record_tests`.
 //!
@@ -28,7 +28,7 @@
 //! | `heap.rt`, `free_places.rt` | where blocks lie, and the places without a block in order |
 //! | `tally.rt`, `summary.rt` | the figures of turns that are taken one after another; the six lines |
 //! | `same_scripts.rt` | whether two jobs are the same, turn by turn |
-//! | `laws.rt` | the law |
+//! | `laws.rt` | the laws |
 #![tactic(auto)]
 
 mod book;
@@ -42,4 +42,4 @@ mod tally;
 mod trace;
 
 pub use book::Book;
-pub use laws::figures_of_scripts;
+pub use laws::{quiet_modules, spelled_orders};
