@@ -2,12 +2,10 @@
 //! How a profile is read is `dhat_json`'s part, and how a tree of costs is built `cost_tree`'s.
 #![tactic(auto)]
 
-mod children;
 mod fault;
 mod fronts;
 mod lines;
 mod options;
-mod scale;
 mod sums;
 mod tree;
 mod view;

@@ -2,13 +2,11 @@
 //! When a snapshot is taken, and what a stack costs, are the business of the callers.
 #![tactic(auto)]
 
-mod children;
 mod function_lists;
 mod labels;
 mod laws;
 mod lines;
 mod options;
-mod scale;
 mod snapshot;
 mod trimmed_fronts;
 
