@@ -12,12 +12,11 @@
 //!   more than `depth` at most.
 //! - A node says its parent, which stands before it, its cost, its own cost and the first stack. `text` is its front's
 //!   last text, and `children_into` gives all its children by ascending number, which is also by ascending first stack.
-//! - The laws: `children_fronts` says that a node's children stand for the fronts one text longer than its own, by
-//!   ascending least stack (`next_fronts`); `front_sums` that the empty front costs what all stacks cost together, and
-//!   no front more; `next_sums` that a front costs its own cost and what the fronts cost that are one text longer.
+//! - `cost_lines` gives the lines of a tree above a threshold, as a list over fronts (`CostLines`): costly fronts first,
+//!   and one line for the others of a node.
 //!
-//! A text is compared with others once, when it is pushed; a child is found by its parent and the number of its text.
-//! The tests of these calls are the crate `cost_tree_tests`.
+//! A text is compared with others once, when it is pushed; a child is found by its parent and the number of its text. The
+//! crates above may cite its `proofs/Laws`. The tests of these calls are the crate `cost_tree_tests`.
 //!
 //! | File | Does |
 //! |---|---|
@@ -25,17 +24,21 @@
 //! | `costing.rt`, `frame_test.rt` | what each stack costs, and which names are meant, by closures |
 //! | `branches.rt`, `links.rt` | a tree that grows; the children of each node |
 //! | `tree.rt`, `node.rt` | the tree, and one node |
-//! | `laws.rt` | the laws |
+//! | `scale.rt`, `line.rt` | what costs are measured by; a line |
+//! | `children.rt`, `lines.rt` | which children of a node have lines of their own; the walk that gives the lines |
 #![tactic(auto)]
 
 mod branches;
+mod children;
 mod costing;
 mod direction;
 mod frame_test;
 mod fronts;
-mod laws;
+mod line;
+mod lines;
 mod links;
 mod node;
+mod scale;
 mod stack_lists;
 mod tree;
 
@@ -43,6 +46,8 @@ pub use costing::Costing;
 pub use direction::Direction;
 pub use frame_test::FrameTest;
 pub use fronts::Fronts;
-pub use laws::{children_fronts, front_sums, next_sums};
+pub use line::{CostLine, Place};
+pub use lines::cost_lines;
 pub use node::CostNode;
+pub use scale::Scale;
 pub use tree::CostTree;

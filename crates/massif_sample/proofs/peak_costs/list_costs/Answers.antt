@@ -1,6 +1,6 @@
 use Rattle.std.proofs.Common.{ℕ, List, [], ◌∷◌, ◌++◌, sym, ap, ◌∙◌, arith}
 use Rattle.std.proofs.lemmas.List.{take_all}
-use Rattle.cost_tree.proofs.Lists.{take-next}
+use Rattle.cost_tree.proofs.Laws.{take-next}
 use Rattle.massif_sample.proofs.peak_costs.list_costs.Goals as goal
 
 pub loop-stack-preserved : goal.loop-stack-preserved
