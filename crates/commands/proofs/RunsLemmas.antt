@@ -24,8 +24,8 @@ words_ran desk request asking before now old new result answer texts asks is ran
       early = whole.0;
       written = whole.1.0;
       ran = subst (λ o. WordsRan (bounds_of desk.limits) before.files o before.moment now.moment (after whole.0 answer)) (sym asks)
-        (inr (subst (λ a. Ran heapsuite_texts (bounds_of desk.limits) before.files [] (names_of request) (plan_of request) before.moment now.moment (after whole.0 a)) given
-        (subst (λ t. Ran t (bounds_of desk.limits) before.files [] (names_of request) (plan_of request) before.moment now.moment (after whole.0 (rest_of (texts_of desk.texts) result))) texts whole.1.1)));
+          (inr (subst (λ a. Ran heapsuite_texts (bounds_of desk.limits) before.files [] (names_of request) (plan_of request) before.moment now.moment (after whole.0 a)) given
+          (subst (λ t. Ran t (bounds_of desk.limits) before.files [] (names_of request) (plan_of request) before.moment now.moment (after whole.0 (rest_of (texts_of desk.texts) result))) texts whole.1.1)));
       files = ran.files;
       unwritten = λ four. ran.unwritten (status ∙ four);
       sound = λ other. ran.sound (λ four. other (sym status ∙ four));

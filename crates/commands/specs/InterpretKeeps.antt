@@ -37,7 +37,7 @@ pub record KeepsTrace (symbols : List Symbol) (lines : List (List ℕ)) (output 
 pub record KeepsFronts (symbols : List Symbol) (lines : List (List ℕ)) (output : List ℕ) : Type 0 where
   pub whole : KeepsTrace symbols lines output
   pub fronts : (count : ℕ) → (text : List ℕ) × ((rest : List ℕ) × ((output ≡ text ++ rest)
-    × KeepsTrace symbols (take count lines) text))
+      × KeepsTrace symbols (take count lines) text))
 
 abbrev pub RequestKeeps : Folder → Asked → List ℕ → Type 0
 RequestKeeps folder (Interpret interpret) output =
