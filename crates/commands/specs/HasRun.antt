@@ -113,6 +113,8 @@ pub record HasNotBegun (before now : Outside) (status : ℕ) : Type 0 where
   pub delivered : status ≢ 4 → Gives before now (memory_answer the_texts) status
   pub fronts : GainsFronts the_texts.write_failed (memory_answer the_texts) (OutRose before now) (ErrRose before now)
       before.out.written now.out.written before.err.written now.err.written
+  pub own_message : (bytes : List ℕ) → before.out.written ≡ Some bytes → now.out.written ≡ append_known before.out.written []
+      → GainsFront before.err.written now.err.written (memory_answer the_texts).message
   pub write : status ≡ 4 → ¬ OutRose before now → ErrRose before now
   pub out_faults : status ≢ 4 → now.out.faults ≡ before.out.faults
   pub err_faults : status ≢ 4 → now.err.faults ≡ before.err.faults
