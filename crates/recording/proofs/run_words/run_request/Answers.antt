@@ -1,17 +1,14 @@
-use Rattle.std.proofs.Common.{◌≡◌, ◌≤◌, Bor, ℕ, List, Ok, Err, Result, map, length, ap, sym, subst, ◌∙◌}
+use Rattle.std.proofs.Common.{◌≡◌, Bor, ℕ, List, Ok, Err, map, length, ap, sym, subst, ◌∙◌}
 use Rattle.std.proofs.lemmas.List.{length-map}
 use Rattle.std.specs.Option.{option_copied}
 use Rattle.hp_outside.specs.Taken.{WhereTold}
-use Rattle.command_frame.specs.declared.halt.Halt.{Halt}
 use Rattle.command_frame.specs.RunsTo.{shown, taken}
-use Rattle.record_scripts.specs.Job.{Job}
 use Rattle.recording.specs.FileLines.{no_job}
 use Rattle.recording.specs.FilesPlan.{files_front, job_in}
 use Rattle.recording.specs.FrontRead.{FrontRead}
 use Rattle.recording.specs.Recorded.{IsRecorded}
 use Rattle.recording.specs.Requests.{asked_by}
 use Rattle.recording.proofs.EndLemmas.{asked_done, asked_halted, asked_wanting}
-use Rattle.recording.proofs.run_words.run_request.Given.{Over}
 use Rattle.recording.proofs.run_words.run_request.Goals as goal
 
 pub returns-in-Err : goal.returns-in-Err
