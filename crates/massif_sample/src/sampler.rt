@@ -1,6 +1,6 @@
 //! The sampler: it follows the events of a trace beside a ledger, and takes Massif's snapshots of it.
 //! How one event is taken is in `taking`, and what a profile says in `profile`.
-ghost use Rattle.std.specs.Prelude.{◌≡◌, ◌≢◌, ◌⊎◌, ℕ, ◌+◌, ◌^◌, ◌<◌, ◌≤◌, List, [], ◌∷◌, ◌++◌, true, false, length, Err, IfOk, IfErr, OnOk, OnErr};
+ghost use Rattle.std.specs.Prelude.{◌≡◌, ◌≢◌, ◌⊎◌, ℕ, ◌+◌, ◌^◌, ◌<◌, ◌≤◌, List, [], ◌∷◌, ◌++◌, true, false, length, Err, IfOk, IfErr, IsErr, OnOk, OnErr};
 ghost use Rattle.std.specs.Fn.{FnReturnsAt};
 ghost use Rattle.ht_trace.specs.TableState.{TableState};
 ghost use Rattle.live_ledger.specs.declared.event.Event.{Event};
@@ -163,10 +163,11 @@ impl<A: Fn(&[u8]) -> bool, I: Fn(&[u8]) -> bool> Sampler<A, I> {
     }
 
     /// The profile of the events, with the command of a trace, which is empty where the trace has none. `NoMemory` where
-    /// memory is wanting.
+    /// memory is wanting, and always after an `event` that answered it.
     pub fn finish(self, cmd: &[u8]) -> Result<Profile, NoMemory>
         ensures profile { IfOk result (λ profile. (names : FunctionNames) (tables : TableState) (events : List Event) →
             StandsFor self.judged.items self.samples names tables events → profile ≡ sampled self.samples.options names tables events cmd.now) }
+        ensures failed { self.samples.failed ≡ true → IsErr result }
     {
         let Sampler { samples, .. } = self;
         samples.into_profile(cmd)

@@ -1,6 +1,6 @@
 //! The snapshots that are kept of a trace, with the figures that the next one would have.
 //! What a tree says, and which stacks are ignored, are no part of it.
-ghost use Rattle.std.specs.Prelude.{◌≡◌, ◌⊎◌, ℕ, ◌+◌, ◌-◌, ◌^◌, ◌<◌, ◌≤◌, List, [], ◌∷◌, ◌++◌, true, false, length, IfNone, IfOk, IfSome, OnOk};
+ghost use Rattle.std.specs.Prelude.{◌≡◌, ◌⊎◌, ℕ, ◌+◌, ◌-◌, ◌^◌, ◌<◌, ◌≤◌, List, [], ◌∷◌, ◌++◌, true, false, length, IfNone, IfOk, IfSome, IsErr, OnOk};
 ghost use Rattle.std.specs.Fn.{FnReturnsAt};
 ghost use Rattle.cost_tree.specs.Costed.{costed};
 ghost use Rattle.cost_tree.specs.Costs.{AreCosts};
@@ -284,13 +284,18 @@ impl Samples {
         self.running = self.running.ticked(ms);
     }
 
-    /// The profile of the snapshots, with the command that was profiled.
+    /// The profile of the snapshots, with the command that was profiled. `NoMemory` where memory is wanting, and where it was
+    /// wanting for a snapshot.
     pub(crate) fn into_profile(self, cmd: &[u8]) -> Result<Profile, NoMemory>
+        ensures failed { self.failed ≡ true → IsErr result }
         ensures profile { IfOk result (λ profile. (tables : TableState) (names : List (List ℕ)) → self.fronts ≡ first_lists tables names (self.options.depth + 1) (length self.fronts) →
             profile ≡ profile_made self tables names cmd.now) }
         ensures sound { IsSound self }
         ensures array { array.IsSound self.array }
     {
+        if self.failed {
+            return Err(NoMemory);
+        }
         let asked = self.tree_options();
         let Samples {
             options,
