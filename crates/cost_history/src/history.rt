@@ -120,7 +120,7 @@ impl CostHistory {
     /// The replay of the history, before its first place. It takes no memory.
     pub fn into_replay(self) -> Replay
         ensures changes { result.changes ≡ self.changes }
-        ensures reached { result.reached ≡ 0 }
+        ensures none { (place stack : ℕ) → self.stacks ≤ stack → cost_at self.changes place stack ≡ 0 }
     {
         let CostHistory { changes, cells, .. } = self;
         Replay::new(changes, cells)

@@ -41,14 +41,27 @@ impl Replay {
         }
     }
 
-    /// Moves on to the place, which is not before that of the last call.
-    pub fn advance(&mut self, place: u64)
-        requires { self.old.reached ≤ place }
+    /// Moves to the place. One that is before that of the last call costs another walk from the first change on.
+    pub fn move_to(&mut self, place: u64)
         ensures costs { (stack : ℕ) → slice_index self.new.costs stack ≡ cost_at self.new.changes place stack }
         ensures rest { self.new ≡ record self.old { costs = self.new.costs; reached = place } }
     {
+        self.be_before(place);
         self.next = advance(&mut self.costs, &self.changes, self.next, place);
         self.reached = place;
+    }
+
+    /// Begins again where the place is passed.
+    fn be_before(&mut self, place: u64)
+        ensures reached { self.new.reached ≤ place }
+        ensures changes { self.new.changes ≡ self.old.changes }
+    {
+        if self.reached <= place {
+            return;
+        }
+        zero(&mut self.costs);
+        self.next = 0;
+        self.reached = 0;
     }
 
     /// What each stack costs at the place that is reached, by the stacks' numbers. Those behind the last one cost nothing.

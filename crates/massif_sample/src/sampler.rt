@@ -19,7 +19,7 @@ use crate::fault::SampleFault;
 use crate::options::MassifOptions;
 use crate::samples::Samples;
 use crate::taking::{sample, take_event};
-use cost_tree::{Costing, FrameTest};
+use cost_tree::FrameTest;
 use hp_num::NoMemory;
 use ht_trace::{FrameAt, Tables};
 use live_ledger::{Event, Ledger};
@@ -63,9 +63,8 @@ impl<A: Fn(&[u8]) -> bool, I: Fn(&[u8]) -> bool> Sampler<A, I> {
         ensures ignore_fns { IfOk result (λ sampler. sampler.ignore_fns ≡ ignore_fns) }
     {
         let judged = judge_stacks(alloc, tables, &alloc_fns, &ignore_fns)?;
-        let mut samples = Samples::new(alloc, options)?;
-        let costing = Costing::new(tables.stacks(), |_stack: u32| 0);
-        sample(&mut samples, false, tables, &alloc_fns, &costing)?;
+        let mut samples = Samples::new(alloc, options, tables.stacks())?;
+        sample(&mut samples, false, tables, &alloc_fns, &|_stack: u32| 0)?;
         Ok(Sampler {
             judged,
             frames: Vec::new(alloc),
@@ -98,6 +97,7 @@ impl<A: Fn(&[u8]) -> bool, I: Fn(&[u8]) -> bool> Sampler<A, I> {
             &self.ignore_fns,
             &mut self.frames,
         )?;
+        self.samples.make_room()?;
         self.judged.push(ignored)?;
         Ok(())
     }

@@ -1,53 +1,32 @@
--- What stacks cost at the peak, and the tree that is built of it at the end, when there may be more stacks.
+-- What stacks cost at a place, and the tree that is built of it at the end, when there may be more stacks.
 use Rattle.std.proofs.Common.{◌≡◌, ℕ, zero, suc, ◌+◌, ◌-◌, ◌<◌, ◌≤◌, List, [], ◌∷◌, length, map, sum, refl, ap, sym, ◌∙◌, ◌⊎◌, inl, inr, arith}
-use Rattle.std.proofs.lemmas.Bool.{cases_lt}
-use Rattle.std.specs.Prelude.{slice_get, slice_index_or, Some, sum_by}
+use Rattle.std.specs.Prelude.{slice_get, slice_index, slice_index_or, Some, sum_by}
 use Rattle.std.specs.List.{range_with_len}
 use Rattle.std.proofs.lemmas.List.{get_or_past}
 use Rattle.std.proofs.lemmas.List.FromFn.{get_or-map-range_with_len, length-map-range_with_len}
 use Rattle.std.proofs.lemmas.List.Sums.{sum-map, sum_by-cons}
 use Rattle.std.proofs.lemmas.Option.{slice_get-get_or}
+use Rattle.cost_history.specs.declared.change.Change.{Change}
+use Rattle.cost_history.specs.Changes as history
 use Rattle.cost_tree.specs.Costed.{Costed, costed}
 use Rattle.ht_trace.specs.TableState.{TableState}
 use Rattle.live_ledger.specs.declared.event.Event.{Event}
-use Rattle.live_ledger.specs.Events.{event_count}
 use Rattle.massif_tree.specs.FunctionLists.{trimmed_before, trimmed_lists, trimmed_texts}
 use Rattle.massif_tree.specs.MassifTree.{massif_tree}
 use Rattle.massif_tree.proofs.Idle.{range-parts, tree-idle}
 use Rattle.massif_sample.specs.declared.options.MassifOptions.{MassifOptions}
 use Rattle.massif_sample.specs.FunctionNames.{FunctionNames, ignores}
 use Rattle.massif_sample.specs.Options.{tree_options}
-use Rattle.massif_sample.specs.Padded.{padded}
+use Rattle.massif_sample.specs.Padded.{padded, told}
 use Rattle.massif_sample.specs.Places.{gross_at}
 use Rattle.massif_sample.specs.Snapshots.{cost_at, costs_at, tree_at}
-use Rattle.massif_sample.specs.StandsFor.{AreCostsAt, AreOfStacks}
+use Rattle.massif_sample.specs.StandsFor.{AreCostsAt}
 use Rattle.massif_sample.proofs.Costs.{map-same}
-use Rattle.massif_sample.proofs.Growing.{cost-none, costed-idle, costed-parts, of-stacks}
+use Rattle.massif_sample.proofs.Growing.{costed-idle, costed-parts}
 
 -- a stack's cost, where the costs are a function of the stacks' numbers
 cost-of : (cost : ℕ → ℕ) (count stack : ℕ) → stack < count → slice_index_or (map cost (range_with_len 0 count)) stack 0 ≡ cost stack
 cost-of cost count stack below = get_or-map-range_with_len cost 0 count stack stack 0 below (omega arith)
-
--- the costs of the present place, of which a stack that isn't there has none
-pub costs-here : (names : FunctionNames) (tables : TableState) (events : List Event) (costs : List ℕ) → AreOfStacks tables events
-    → costs ≡ costs_at (length tables.nodes + 1) (ignores tables names) events (event_count events) → AreCostsAt names tables events (event_count events) costs
-unfolding costs_at
-costs-here names tables events costs held are = record { each = λ stack. by_stack stack (cases_lt (length tables.nodes) stack) } where
-  cost : ℕ → ℕ
-  cost stack = cost_at (ignores tables names) events (event_count events) stack
-
-  count : ℕ
-  count = length tables.nodes + 1
-
-  by_stack : (stack : ℕ) → (length tables.nodes < stack) ⊎ (stack ≤ length tables.nodes) → cost stack ≡ slice_index_or costs stack 0
-  by_stack stack (inl above) =
-      let long : length costs ≡ count = ap (λ (cs : List ℕ). length cs) are ∙ length-map-range_with_len cost 0 count in
-      cost-none tables (ignores tables names) events (event_count events) stack above (of-stacks tables events held) ∙ sym (get_or_past costs stack 0 (omega arith))
-  by_stack stack (inr below) = sym (ap (λ (cs : List ℕ). slice_index_or cs stack 0) are ∙ cost-of cost count stack (omega arith))
-
-pub costs-count : (stacks : ℕ) (names : FunctionNames) (tables : TableState) (events : List Event) (place : ℕ) → length (costs_at stacks (ignores tables names) events place) ≡ stacks
-unfolding costs_at
-costs-count stacks names tables events place = length-map-range_with_len (cost_at (ignores tables names) events place) 0 stacks
 
 -- there is one for each stack
 pub padded-count : (count : ℕ) (costs : List ℕ) → length (padded count costs) ≡ count
@@ -99,16 +78,21 @@ padded-within count costs =
     let rest = rest-within costs 0 count in
     omega arith
 
+-- costs that are those of a place
+pub padded-told : (count : ℕ) (costs : List ℕ) (changes : List Change) (place : ℕ) → ((stack : ℕ) → slice_index costs stack ≡ history.cost_at changes place stack) → padded count costs ≡ told count changes place
+unfolding padded told
+padded-told count costs changes place are = map-same (λ (stack : ℕ). slice_index_or costs stack 0) (history.cost_at changes place) 0 count (λ stack low high. are stack)
+
 -- the tree of the stacks whose texts are there is that of all: the others cost nothing
-pub tree-peak :
-    (options : MassifOptions) (names : FunctionNames) (tables : TableState) (events : List Event) (place total count : ℕ) (costs : List ℕ)
+pub tree-told :
+    (options : MassifOptions) (names : FunctionNames) (tables : TableState) (events : List Event) (place total count : ℕ) (changes : List Change)
     → count ≤ length tables.nodes + 1
-    → length costs ≤ count
+    → ((stack : ℕ) → count ≤ stack → history.cost_at changes place stack ≡ 0)
     → total ≡ gross_at options (ignores tables names) events place
-    → AreCostsAt names tables events place costs
-    → massif_tree (tree_options options) total (costed (trimmed_before tables names.alloc_fns count) (padded count costs)) ≡ tree_at options names tables events place
-unfolding tree_at costs_at trimmed_before trimmed_lists padded
-tree-peak options names tables events place total count costs held within total_is at =
+    → AreCostsAt names tables events place changes
+    → massif_tree (tree_options options) total (costed (trimmed_before tables names.alloc_fns count) (told count changes place)) ≡ tree_at options names tables events place
+unfolding tree_at costs_at trimmed_before trimmed_lists told
+tree-told options names tables events place total count changes held none total_is at =
     let all : ℕ = length tables.nodes + 1 in
     let extra : ℕ = all - count in
     let texts : ℕ → List (List ℕ) = trimmed_texts tables names.alloc_fns in
@@ -121,8 +105,8 @@ tree-peak options names tables events place total count costs held within total_
     ap (λ (n : ℕ). massif_tree asked gross (costed (map texts (range_with_len 0 n)) (map cost (range_with_len 0 n)))) (let both : all ≡ count + extra = omega arith in both)
     ∙ ap (λ (ks : List ℕ). massif_tree asked gross (costed (map texts ks) (map cost ks))) (range-parts 0 count extra)
     ∙ ap (massif_tree asked gross) (costed-parts texts cost (range_with_len 0 count) (range_with_len (0 + count) extra))
-    ∙ tree-idle asked gross first idle (costed-idle texts cost (0 + count) extra (λ stack low. at.each stack ∙ get_or_past costs stack 0 (omega arith))) in
-    ap (λ (t : ℕ). massif_tree asked t (costed (map texts (range_with_len 0 count)) (map (λ (stack : ℕ). slice_index_or costs stack 0) (range_with_len 0 count)))) total_is
+    ∙ tree-idle asked gross first idle (costed-idle texts cost (0 + count) extra (λ stack low. at.each stack ∙ none stack (omega arith))) in
+    ap (λ (t : ℕ). massif_tree asked t (costed (map texts (range_with_len 0 count)) (map (history.cost_at changes place) (range_with_len 0 count)))) total_is
     ∙ ap (λ (cs : List ℕ). massif_tree asked gross (costed (map texts (range_with_len 0 count)) cs))
-    (map-same (λ (stack : ℕ). slice_index_or costs stack 0) cost 0 count (λ n low high. sym (at.each n)))
+    (map-same (history.cost_at changes place) cost 0 count (λ n low high. sym (at.each n)))
     ∙ sym parts
