@@ -6,7 +6,7 @@ use Rattle.massif_sample.proofs.profile.take_snaps.Goals as goal
 
 pub each_snapshot-preserved : goal.each_snapshot-preserved
 each_snapshot-preserved c = record {
-  changes = c.snapshot-snap.ensures.changes ∙ c.each_snapshot.invariant.changes;
+  changes = c.snapshot.ensures.changes ∙ c.each_snapshot.invariant.changes;
   all = λ tables names are.
       made-first _ _ _ _ _ _ _ _ c.in-Some.entry c.in-Some.load c.in_ok-snap.snap (c.each_snapshot.invariant.all tables names are) c.in-Some.ensures.entry c.in-Some.ensures.load
       (c.in_ok-snap.ensures.snap tables names are

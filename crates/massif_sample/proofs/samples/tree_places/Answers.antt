@@ -14,8 +14,8 @@ entries-init c = λ k entry below at shows. absurd (omega arith)
 same : (entries : List SnapEntry) (i k : ℕ) (one entry : SnapEntry) → slice_get entries i ≡ Some one → i ≡ k → slice_get entries k ≡ Some entry → one ≡ entry
 same entries i k one entry read is at = same_Some one entry (sym read ∙ ap (λ (n : ℕ). slice_get entries n) is ∙ at)
 
-pub entries-preserved-then-has_tree : goal.entries-preserved-then-has_tree
-entries-preserved-then-has_tree c =
+pub entries-preserved-then-not-has_tree : goal.entries-preserved-then-not-has_tree
+entries-preserved-then-not-has_tree c =
     let none : shows_tree c.entry-entry.result.kind ≡ false = search rules in
     λ k entry below at shows. elim (cases_lt k c.entries.i) [
       | inl early ↦ c.entries.invariant k entry early at shows
@@ -36,4 +36,4 @@ entries-preserved c =
     ])
 
 pub returns : goal.returns
-returns c = λ k entry at shows. c.entries.invariant k entry (let within = slice_get_within c.args.array.now.kept.entries k entry at in omega (arith, c.len.ensures.entries, c.entries-test.false)) at shows
+returns c = λ k entry at shows. c.entries.invariant k entry (let within = slice_get_within c.args.array.now.kept.entries k entry at in omega (arith, c.len-i-end.ensures.entries, c.entries-test.false)) at shows
