@@ -151,29 +151,29 @@ sampling-thinned old changes places names tables events made held same was =
 
 -- where the costs of the present place were kept
 pub sampling-kept :
-    (old : SamplesState) (history : HistoryState) (stacks : ℕ) (answers : ℕ → ℕ → Type 0) (names : FunctionNames) (tables : TableState) (events : List Event) (made : List Offer)
-    → ((costs : ℕ → ℕ) → AreSaid answers stacks costs → (seer stack : ℕ) → seer < old.running.place → history.cost_at history.changes seer stack ≡ history.cost_at old.history.changes seer stack)
-    → ((costs : ℕ → ℕ) → AreSaid answers stacks costs → old.history.stacks ≤ stacks → TellsNow old.history costs → (seer stack : ℕ) → old.running.place ≤ seer → history.cost_at history.changes seer stack ≡ costs stack)
-    → history.last ≡ old.running.place
-    → history.stacks ≡ max old.history.stacks stacks
+    (old : SamplesState) (after : HistoryState) (stacks : ℕ) (answers : ℕ → ℕ → Type 0) (names : FunctionNames) (tables : TableState) (events : List Event) (made : List Offer)
+    → ((costs : ℕ → ℕ) → AreSaid answers stacks costs → (seer stack : ℕ) → seer < old.running.place → history.cost_at after.changes seer stack ≡ history.cost_at old.history.changes seer stack)
+    → ((costs : ℕ → ℕ) → AreSaid answers stacks costs → old.history.stacks ≤ stacks → TellsNow old.history costs → (seer stack : ℕ) → old.running.place ≤ seer → history.cost_at after.changes seer stack ≡ costs stack)
+    → after.last ≡ old.running.place
+    → after.stacks ≡ max old.history.stacks stacks
     → stacks ≡ length old.fronts
     → AreSaid answers stacks (cost_at (ignores tables names) events (event_count events))
     → IsSampling old names tables events made
-    → IsSampling (record old { history = history }) names tables events made × AreCostsAt names tables events (event_count events) history.changes
-sampling-kept old history stacks answers names tables events made before here last count fronts said was =
-    (sampling-retold old history names tables events made served
+    → IsSampling (record old { history = after }) names tables events made × AreCostsAt names tables events (event_count events) after.changes
+sampling-kept old after stacks answers names tables events made before here last count fronts said was =
+    (sampling-retold old after names tables events made served
     (record { unmarked = λ stack place unmarked late. now place stack (omega arith) })
-    (no-more old.history.stacks stacks history.stacks (length old.fronts) was.told_within fronts count) was,
+    (no-more old.history.stacks stacks after.stacks (length old.fronts) was.told_within fronts count) was,
     record { each = λ stack. sym (now (event_count events) stack (let at = was.figures.place in omega arith)) })
   where
     costs_now : ℕ → ℕ
     costs_now stack = cost_at (ignores tables names) events (event_count events) stack
 
-    now : (seer stack : ℕ) → old.running.place ≤ seer → history.cost_at history.changes seer stack ≡ costs_now stack
+    now : (seer stack : ℕ) → old.running.place ≤ seer → history.cost_at after.changes seer stack ≡ costs_now stack
     now seer stack late = here costs_now said (let within = was.told_within in omega arith) was.told seer stack late
 
     served : (k : ℕ) (entry : SnapEntry) → slice_get old.array.kept.entries k ≡ Some entry → entry.place ≤ event_count events → shows_tree entry.kind ≡ true →
-        AreCostsAt names tables events entry.place old.history.changes → AreCostsAt names tables events entry.place history.changes
+        AreCostsAt names tables events entry.place old.history.changes → AreCostsAt names tables events entry.place after.changes
     served k entry at within shows costs = record {
       each = λ stack. elim (cases_lt entry.place old.running.place) [
         | inl early ↦ costs.each stack ∙ sym (before costs_now said entry.place stack early)

@@ -21,8 +21,6 @@ use Rattle.massif_sample.specs.Options.{tree_options}
 use Rattle.massif_sample.specs.Places.{gross_at}
 use Rattle.massif_sample.specs.Running.{AreFigures}
 use Rattle.massif_sample.specs.Snapshots.{costs_at, tree_at}
-use Rattle.massif_sample.specs.StandsFor.{IsTreeAt}
-use Rattle.massif_sample.proofs.Figures.{gross-now}
 
 -- what is taken, and not as a normal snapshot, has a tree: a peak where it was offered as one, and else it is detailed
 pub taken-with_tree : (settings : Settings) (kept : Kept) (offer : Offer) (taken : Taken) → taken ≡ taken_as settings kept offer → taken ≢ No → taken ≢ Normal → taken_as settings kept offer ≡ with_tree offer.peak

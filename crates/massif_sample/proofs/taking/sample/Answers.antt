@@ -58,6 +58,7 @@ returns-clause-sampling g c =
     λ names events made texts said was.
     let offer_is = c.offer-offer.ensures ∙ offer-now c.args.samples.now.options (ignores c.args.tables.now names) events c.args.samples.now.running c.args.as_peak was.figures in
     let known = c.in_ok-add_fronts.ensures.sampling names events made texts was in
-    let here = subst (λ (n : ℕ). AreSaid _ n (cost_at (ignores c.args.tables.now names) events (event_count events))) (sym c.stacks.ensures.count) said in
+    let count = c.stacks.ensures.count in
+    let here = record { said = λ stack says below answered. said.said stack says (omega arith) answered; none = λ stack beyond. said.none stack (omega arith) } in
     subst (λ (o : Offer). IsSampling c.take-2.new.self names c.args.tables.now events (made ++ o ∷ [])) offer_is
     (c.take-2.ensures.sampling names c.args.tables.now events made (inr (c.in_ok-keep.ensures.costs names c.args.tables.now events made here known)) (c.in_ok-keep.ensures.sampling names c.args.tables.now events made here known))
