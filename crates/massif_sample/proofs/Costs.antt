@@ -6,6 +6,7 @@ use Rattle.std.proofs.lemmas.List.Sums.{sum_by_push}
 use Rattle.std.proofs.lemmas.Bool.{cases_eq, ne_eqb}
 use Rattle.std.proofs.Math.Nat.{max-le}
 use Rattle.std.proofs.lemmas.Option.{get_or_from_slice_get}
+use Rattle.cost_history.specs.HistoryState.{AreSaid}
 use Rattle.ht_trace.specs.TableState.{TableState}
 use Rattle.live_ledger.specs.declared.event.Event.{Event}
 use Rattle.live_ledger.specs.declared.event.Event.TheVariants.{Alloc, Free, Tick}
@@ -117,3 +118,7 @@ cost-passed ignored events (Free i s z) none stack = of-ignored ignored events (
 -- the greater of two numbers is at most a third that is the one and no less than the other
 pub no-more : (a b greater most : ℕ) → a ≤ most → b ≡ most → greater ≡ max a b → greater ≤ most
 no-more a b greater most first second is = subst (λ (n : ℕ). n ≤ most) (sym is) (max-le first (let least : b ≤ most = omega arith in least))
+
+-- a closure's answers, where the number of stacks goes by another name
+pub said-as : {answers : ℕ → ℕ → Type 0} (n m : ℕ) (costs : ℕ → ℕ) → n ≡ m → AreSaid answers m costs → AreSaid answers n costs
+said-as {answers} n m costs same said = subst (λ (k : ℕ). AreSaid answers k costs) (sym same) said

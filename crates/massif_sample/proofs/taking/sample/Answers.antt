@@ -2,7 +2,6 @@ use Rattle.std.proofs.Common.{◌≡◌, ◌≢◌, ◌∙◌, ◌++◌, ◌∷�
 use Rattle.massif_cull.specs.declared.snapshot.Offer.{Offer}
 use Rattle.massif_cull.specs.declared.snapshot.Taken.TheVariants.{No, Normal}
 use Rattle.massif_cull.specs.KeptOf.{kept_of}
-use Rattle.cost_history.specs.HistoryState.{AreSaid}
 use Rattle.live_ledger.specs.Events.{event_count}
 use Rattle.massif_sample.specs.Due.{IsTakenAs, with_tree}
 use Rattle.massif_sample.specs.FunctionNames.{ignores}
@@ -10,6 +9,7 @@ use Rattle.massif_sample.specs.Options.{settings_of}
 use Rattle.massif_sample.specs.SamplesState.{SamplesState}
 use Rattle.massif_sample.specs.Snapshots.{cost_at}
 use Rattle.massif_sample.specs.StandsFor.{IsSampling}
+use Rattle.massif_sample.proofs.Costs.{said-as}
 use Rattle.massif_sample.proofs.Offers.{offer-now}
 use Rattle.massif_sample.proofs.Trees.{at_err, taken-with_tree}
 use Rattle.massif_sample.proofs.taking.sample.Goals as goal
@@ -58,7 +58,6 @@ returns-clause-sampling g c =
     λ names events made texts said was.
     let offer_is = c.offer-offer.ensures ∙ offer-now c.args.samples.now.options (ignores c.args.tables.now names) events c.args.samples.now.running c.args.as_peak was.figures in
     let known = c.in_ok-add_fronts.ensures.sampling names events made texts was in
-    let count = c.stacks.ensures.count in
-    let here = record { said = λ stack says below answered. said.said stack says (omega arith) answered; none = λ stack beyond. said.none stack (omega arith) } in
+    let here = said-as c.stacks.result (length c.args.tables.now.nodes + 1) (cost_at (ignores c.args.tables.now names) events (event_count events)) c.stacks.ensures.count said in
     subst (λ (o : Offer). IsSampling c.take-2.new.self names c.args.tables.now events (made ++ o ∷ [])) offer_is
     (c.take-2.ensures.sampling names c.args.tables.now events made (inr (c.in_ok-keep.ensures.costs names c.args.tables.now events made here known)) (c.in_ok-keep.ensures.sampling names c.args.tables.now events made here known))
