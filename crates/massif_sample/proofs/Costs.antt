@@ -104,7 +104,6 @@ of-ignored ignored events event n stack is none =
           ∙ sym (ap (λ (b : Bool). cond {A = ℕ} b 0 (live_in stack (up_to (event_count events) events))) flag))
     ]
 
-
 -- behind an event that isn't counted all do
 pub cost-passed : (ignored : ℕ → Bool) (events : List Event) (event : Event) → counts ignored event ≡ false → (stack : ℕ)
     → cost_at ignored (events ++ event ∷ []) (event_count (events ++ event ∷ [])) stack ≡ cost_at ignored events (event_count events) stack

@@ -119,7 +119,7 @@ sampling-fronts old lists names tables events made fronts more was = record {
 pub sampling-retold :
     (old : SamplesState) (history : HistoryState) (names : FunctionNames) (tables : TableState) (events : List Event) (made : List Offer)
     → ((k : ℕ) (entry : SnapEntry) → slice_get old.array.kept.entries k ≡ Some entry → entry.place ≤ event_count events → shows_tree entry.kind ≡ true →
-      AreCostsAt names tables events entry.place old.history.changes → AreCostsAt names tables events entry.place history.changes)
+    AreCostsAt names tables events entry.place old.history.changes → AreCostsAt names tables events entry.place history.changes)
     → TellsNow history (cost_at (ignores tables names) events (event_count events))
     → history.stacks ≤ length old.fronts
     → IsSampling old names tables events made
@@ -160,11 +160,12 @@ pub sampling-kept :
     → AreSaid answers stacks (cost_at (ignores tables names) events (event_count events))
     → IsSampling old names tables events made
     → IsSampling (record old { history = after }) names tables events made × AreCostsAt names tables events (event_count events) after.changes
-sampling-kept old after stacks answers names tables events made before here last count fronts said was =
-    (sampling-retold old after names tables events made served
-    (record { unmarked = λ stack place unmarked late. now place stack (omega arith) })
-    (no-more old.history.stacks stacks after.stacks (length old.fronts) was.told_within fronts count) was,
-    record { each = λ stack. sym (now (event_count events) stack (let at = was.figures.place in omega arith)) })
+sampling-kept old after stacks answers names tables events made before here last count fronts said was = (
+  sampling-retold old after names tables events made served
+      (record { unmarked = λ stack place unmarked late. now place stack (omega arith) })
+      (no-more old.history.stacks stacks after.stacks (length old.fronts) was.told_within fronts count) was,
+  record { each = λ stack. sym (now (event_count events) stack (let at = was.figures.place in omega arith)) },
+)
   where
     costs_now : ℕ → ℕ
     costs_now stack = cost_at (ignores tables names) events (event_count events) stack

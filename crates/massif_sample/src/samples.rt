@@ -65,7 +65,11 @@ impl Model for Samples {
 
 impl Samples {
     /// No snapshot, before any event, with room for the marks of so many stacks.
-    pub(crate) fn new(alloc: Global, options: MassifOptions, stacks: u32) -> Result<Samples, NoMemory>
+    pub(crate) fn new(
+        alloc: Global,
+        options: MassifOptions,
+        stacks: u32,
+    ) -> Result<Samples, NoMemory>
         requires options { AreInRange options }
         ensures options { IfOk result (λ samples. samples.options ≡ options) }
         ensures running { IfOk result (λ samples. samples.running ≡ no_figures) }
