@@ -1,14 +1,26 @@
 # Thin: `rt` proves, builds and tests. See README.md.
 PREFIX ?= /usr/local
 
-.PHONY: demo build test install
+# How many crates are proved at a time: one on each processor, each with 2 GB of the memory that is free.
+JOBS ?= $(shell awk -v processors="$$(nproc)" '/^MemAvailable/ { fit = int($$2 / 2000000); \
+	print fit < 1 ? 1 : fit < processors ? fit : processors }' /proc/meminfo)
+
+PROGRAMS = heapsuite heaprec
+SCRIPTS = heapsuite-symbols heapsuite-compare heapsuite-budget
+BIN = $(DESTDIR)$(PREFIX)/bin
+SHARE = $(DESTDIR)$(PREFIX)/share
+
+.PHONY: demo build test install uninstall
 
 # A summary of an example.
 demo: build
 	bin/heapsuite summary examples/two-sizes.trace
 
-# Proves and builds bin/heapsuite and bin/heaprec.
+# Proves all crates side by side, and builds bin/heapsuite and bin/heaprec over what was proved. All but two crates wait for
+# hp_num, so that it is proved first, by all processors.
 build:
+	cd crates/hp_num && rt lib --jobs $(JOBS)
+	rt all check --jobs $(JOBS)
 	cd crates/heapsuite && rt run -- summary ../../examples/two-sizes.trace > /dev/null
 	cd crates/heaprec && rt run -- data/s > /dev/null
 	mkdir -p bin
@@ -18,5 +30,16 @@ test:
 	rt ci
 
 install: build
-	install -D bin/heapsuite $(DESTDIR)$(PREFIX)/bin/heapsuite
-	install -D bin/heaprec $(DESTDIR)$(PREFIX)/bin/heaprec
+	install -d $(BIN) $(SHARE)/man/man1 $(SHARE)/bash-completion/completions \
+	    $(SHARE)/zsh/site-functions $(SHARE)/fish/vendor_completions.d
+	install $(PROGRAMS:%=bin/%) $(SCRIPTS:%=scripts/%) $(BIN)
+	install -m 644 $(PROGRAMS:%=man/%.1) $(SHARE)/man/man1
+	install -m 644 $(PROGRAMS:%=completions/_%) $(SHARE)/zsh/site-functions
+	install -m 644 $(PROGRAMS:%=completions/%.fish) $(SHARE)/fish/vendor_completions.d
+	for program in $(PROGRAMS); do install -m 644 completions/$$program.bash \
+	    $(SHARE)/bash-completion/completions/$$program || exit 1; done
+
+uninstall:
+	rm -f $(PROGRAMS:%=$(BIN)/%) $(SCRIPTS:%=$(BIN)/%) $(PROGRAMS:%=$(SHARE)/man/man1/%.1) \
+	    $(PROGRAMS:%=$(SHARE)/bash-completion/completions/%) $(PROGRAMS:%=$(SHARE)/zsh/site-functions/_%) \
+	    $(PROGRAMS:%=$(SHARE)/fish/vendor_completions.d/%.fish)

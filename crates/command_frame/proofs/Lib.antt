@@ -16,3 +16,4 @@ pub mod LinesFactLemmas
 pub mod DocumentFactLemmas
 pub mod RunFactLemmas
 pub mod QuietLemmas
+pub mod RunsToLemmas

@@ -18,3 +18,4 @@ pub mod Outcome
 pub mod Delivery
 pub mod RunFacts
 pub mod OutcomeAnswer
+pub mod RunsTo

@@ -1,13 +1,12 @@
 //! Writing what is left of a run to the two outputs. What is written is decided by the commands; here are its order and the
 //! status of a write that fails.
-ghost use Rattle.std.specs.Prelude.{◌≡◌, ◌≢◌, ◌≤◌, ℕ, List, Some, IfErr, IfOk, OnOk, OnErr};
+ghost use Rattle.std.specs.Prelude.{◌≡◌, ◌≢◌, ◌≤◌, ℕ, List, Some, OnOk, OnErr};
 ghost use Rattle.std.specs.Io.KnownBytes.{append_known};
 ghost use Rattle.hp_outside.specs.Faults.{Rose};
 ghost use Rattle.hp_outside.specs.Taken.{GainsFront};
-ghost use Rattle.command_frame.specs.Answer.{done};
 ghost use Rattle.command_frame.specs.Delivery.{Delivered, GainsFronts};
-ghost use Rattle.command_frame.specs.Halts.{halt_answer};
 ghost use Rattle.command_frame.specs.OutcomeAnswer.{outcome_answer};
+ghost use Rattle.command_frame.specs.RunsTo.{rest_of};
 ghost use Rattle.command_frame.specs.Texts.{texts_of};
 
 use crate::halt::Halt;
@@ -33,8 +32,7 @@ pub struct Outcome {
 impl Outcome {
     /// The outcome of a run. It takes no memory.
     pub fn new(alloc: Global, ran: Result<Vec<u8>, Halt>) -> Outcome
-        ensures all { IfOk ran (λ rest. (texts : _) → outcome_answer texts result ≡ done rest.items) }
-        ensures halted { IfErr ran (λ halt. (texts : _) → outcome_answer texts result ≡ halt_answer texts halt) }
+        ensures { (texts : _) → outcome_answer texts result ≡ rest_of texts ran }
     {
         match ran {
             Ok(rest) => Outcome { rest, halt: None },

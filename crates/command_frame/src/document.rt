@@ -1,13 +1,12 @@
 //! Reading a named file as a whole, and making the output of it. What its bytes mean is the business of the commands.
-ghost use Rattle.std.specs.Prelude.{◌≡◌, ◌≢◌, ◌+◌, ◌-◌, ◌^◌, ◌<◌, ◌≤◌, ℕ, List, [], ◌∷◌, Option, IfErr, IfOk, length};
-ghost use Rattle.command_frame.specs.Answer.{done, memory_answer};
-ghost use Rattle.command_frame.specs.DocumentRead.{DocumentEnd, DocumentRead, document_end_answer};
-ghost use Rattle.command_frame.specs.FirstFault.{bounds_of};
+ghost use Rattle.std.specs.Prelude.{◌≡◌, ◌≢◌, ◌-◌, ◌^◌, ◌<◌, ◌≤◌, ℕ, List, [], ◌∷◌, IfErr, IfOk, length};
+ghost use Rattle.command_frame.specs.Answer.{memory_answer};
+ghost use Rattle.command_frame.specs.DocumentRead.{document_end_answer};
 ghost use Rattle.command_frame.specs.Halts.{halt_answer, status_code};
-ghost use Rattle.command_frame.specs.Outcome.{GivesWhole, end_of_whole, moment};
+ghost use Rattle.command_frame.specs.Outcome.{end_of_whole};
 ghost use Rattle.command_frame.specs.Plan.{one_document};
 ghost use Rattle.command_frame.specs.Report.{Verdict, Writes};
-ghost use Rattle.command_frame.specs.Run.{RanTo};
+ghost use Rattle.command_frame.specs.RunsTo.{ReadsWhole, RunsTo, Taken, shown};
 ghost use Rattle.command_frame.specs.Taker.{Refuses};
 ghost use Rattle.command_frame.specs.Texts.{texts_of};
 
@@ -67,12 +66,8 @@ fn unread(desk: &Desk, name: &str, fault: WholeFault) -> Halt
 /// Opens the named file and reads all its bytes, which are within the limit.
 pub fn read_document<S: Store>(desk: &Desk, name: &str, store: &mut S) -> Result<Bytes, Halt>
     requires opens { S.opens store.old < 2 ^ 64 - 1 }
-    ensures read { (end : DocumentEnd) × (DocumentRead (bounds_of desk.now.limits) (S.files store.old) name.now
-        (moment (S.opens store.old) (S.current store.old) (S.left store.old) (S.faults store.old)) (moment (S.opens store.new) (S.current store.new) (S.left store.new) (S.faults store.new)) end
-        × GivesWhole (texts_of desk.now.texts) name.now end result) }
+    ensures read { ReadsWhole S.Store desk.now name.now store.old store.new result }
     ensures within { IfOk result (λ bytes. length bytes ≤ 2 ^ 34) }
-    ensures files { S.files store.new ≡ S.files store.old }
-    ensures no_write { IfErr result (λ halt. status_code halt.status ≢ 4) }
 {
     match store.open(name) {
         Ok(()) => {}
@@ -92,13 +87,9 @@ pub fn run_document<D: DocumentReport, S: Store>(
     store: &mut S,
 ) -> Result<Vec<u8>, Halt>
     requires opens { S.opens store.old < 2 ^ 64 - 1 }
-    ensures all { IfOk result (λ rest. (last : List ℕ) (out : Option (List ℕ)) → RanTo (texts_of desk.now.texts) (bounds_of desk.now.limits) (S.files store.old) last (name.now ∷ []) (one_document name.now (D.verdict document.now))
-        (moment (S.opens store.old) (S.current store.old) (S.left store.old) (S.faults store.old)) (moment (S.opens store.new) (S.current store.new) (S.left store.new) (S.faults store.new)) out out (done rest.items)) }
-    ensures halted { IfErr result (λ halt. (last : List ℕ) (out : Option (List ℕ)) → RanTo (texts_of desk.now.texts) (bounds_of desk.now.limits) (S.files store.old) last (name.now ∷ []) (one_document name.now (D.verdict document.now))
-        (moment (S.opens store.old) (S.current store.old) (S.left store.old) (S.faults store.old)) (moment (S.opens store.new) (S.current store.new) (S.left store.new) (S.faults store.new)) out out
-        (halt_answer (texts_of desk.now.texts) halt)) }
-    ensures files { S.files store.new ≡ S.files store.old }
-    ensures no_write { IfErr result (λ halt. status_code halt.status ≢ 4) }
+    ensures { (out : Taken) → RunsTo desk.now (name.now ∷ [])
+        (one_document name.now (D.verdict document.now))
+        (shown S.Store store.old) (shown S.Store store.new) out out result }
 {
     let bytes = match read_document(desk, name, store) {
         Ok(bytes) => bytes,

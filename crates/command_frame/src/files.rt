@@ -1,26 +1,25 @@
 //! Opening named files and reading them by lines, to a message where that ends before the last line.
-ghost use Rattle.std.specs.Prelude.{◌≡◌, ◌≢◌, ◌+◌, ◌-◌, ◌^◌, ◌<◌, ◌≤◌, ℕ, List, [], Err, OnOk, IfErr, IsTrue};
-ghost use Rattle.std.specs.Io.KnownBytes.{append_known};
+ghost use Rattle.std.specs.Prelude.{◌≡◌, ◌≢◌, ◌-◌, ◌^◌, ◌<◌, ◌≤◌, ℕ, List, [], Err, OnOk, IsTrue};
 ghost use Rattle.hp_outside.specs.Faults.{Rose};
 ghost use Rattle.hp_outside.specs.Taken.{WhereTold};
 ghost use Rattle.command_frame.specs.Answer.{memory_answer};
-ghost use Rattle.command_frame.specs.FirstFault.{bounds_of};
+ghost use Rattle.command_frame.specs.FileRead.{end_answer};
 ghost use Rattle.command_frame.specs.Halts.{halt_answer, status_code};
 ghost use Rattle.command_frame.specs.LinesRun.{IsNewReader, LinesRun, end_of};
-ghost use Rattle.command_frame.specs.Outcome.{HaltsAt, end_of_open, moment};
-ghost use Rattle.command_frame.specs.FileRead.{FileEnd, FileRead, end_answer, end_output};
+ghost use Rattle.command_frame.specs.Outcome.{end_of_open};
+ghost use Rattle.command_frame.specs.RunsTo.{Reads};
 ghost use Rattle.command_frame.specs.Texts.{texts_of};
 
 use crate::desk::Desk;
 use crate::fault::Fault;
 use crate::halt::Halt;
-use crate::lines::{LinesStop, pass_on, take_lines};
+use crate::lines::{LinesStop, pass_on, read_through_buffer};
 use crate::taker::LineTaker;
 use hp_outside::{Failed, LineReader, OpenFault, Sink, Store};
 use std::alloc::Global;
 
 /// Takes all lines of the current file, and writes all that they give to standard output.
-fn take_all<T: LineTaker, S: Store, O: Sink>(
+fn read_current_file<T: LineTaker, S: Store, O: Sink>(
     alloc: Global,
     lines: &mut LineReader,
     taker: &mut T,
@@ -50,7 +49,7 @@ fn take_all<T: LineTaker, S: Store, O: Sink>(
     ensures opens { S.opens store.new ≡ S.opens store.old }
 {
     let mut buffer = Vec::new(alloc);
-    let taken = take_lines(lines, taker, store, out, &mut buffer);
+    let taken = read_through_buffer(lines, taker, store, out, &mut buffer);
     match pass_on(&mut buffer, out) {
         Ok(()) => taken,
         Err(Failed) => Err(LinesStop::WriteFailed),
@@ -99,7 +98,7 @@ impl Desk {
 }
 
 /// Opens the named file and takes all its lines.
-pub fn read_lines<T: LineTaker, S: Store, O: Sink>(
+pub fn read_named_file<T: LineTaker, S: Store, O: Sink>(
     desk: &Desk,
     lines: &mut LineReader,
     name: &str,
@@ -113,25 +112,19 @@ pub fn read_lines<T: LineTaker, S: Store, O: Sink>(
     requires sound { T.is_sound taker.old }
     requires new_taker { T.has_taken taker.old [] }
     requires no_weight { T.weight taker.old ≡ 0 }
-    ensures read { (end : FileEnd) × (FileRead (bounds_of desk.now.limits) (S.files store.old) name.now (T.report taker.old)
-        (moment (S.opens store.old) (S.current store.old) (S.left store.old) (S.faults store.old)) (moment (S.opens store.new) (S.current store.new) (S.left store.new) (S.faults store.new)) end
-        × HaltsAt (texts_of desk.now.texts) name.now (T.has_taken taker.new) end result
-        × (O.written out.new ≡ append_known (O.written out.old) (end_output (T.report taker.old) end))) }
+    ensures read { Reads S.Store O.Sink desk.now name.now (T.report taker.old) (T.has_taken taker.new)
+        store.old store.new out.old out.new result }
     ensures input { lines.new.input ≡ lines.old.input }
     ensures line { lines.new.line_limit ≡ lines.old.line_limit }
     ensures report { T.report taker.new ≡ T.report taker.old }
     ensures sound_taker { OnOk result (T.is_sound taker.new) }
-    ensures files { S.files store.new ≡ S.files store.old }
-    ensures unwritten { IfErr result (λ halt. status_code halt.status ≡ 4 → Rose (O.faults out.old) (O.faults out.new)) }
-    ensures sound_writes { IfErr result (λ halt. status_code halt.status ≢ 4 → O.faults out.new ≡ O.faults out.old) }
-    ensures sound { OnOk result (O.faults out.new ≡ O.faults out.old) }
 {
     lines.start();
     match store.open(name) {
         Ok(()) => {}
         Err(fault) => return Err(desk.unopened(name, fault)),
     }
-    match take_all(desk.alloc, lines, taker, store, out) {
+    match read_current_file(desk.alloc, lines, taker, store, out) {
         Ok(()) => Ok(()),
         Err(stop) => Err(desk.stopped(name, stop)),
     }

@@ -171,6 +171,17 @@ impl Halt {
     }
 }
 
+impl From<NoMemory> for Halt {
+    ghost use Rattle.command_frame.specs.declared.halt.Message.TheVariants.{OutOfMemory};
+    ghost use Rattle.command_frame.specs.declared.halt.Status.TheVariants.{NoMemory as Wanting};
+
+    ghost from_gives = { λ _ halt. halt ≡ record { message = OutOfMemory; status = Wanting } };
+
+    fn from(_: NoMemory) -> Halt {
+        Halt::no_memory()
+    }
+}
+
 /// The front of a message that names a file.
 fn begin(alloc: Global, texts: &ProgramTexts, file: &str) -> Result<Vec<u8>, NoMemory>
     ensures { IfOk result (λ message. message.items ≡ texts.now.name.now ++ (codes ": " ++ file.now)) }

@@ -1,6 +1,6 @@
 //! Taking the lines of the current file, one after another, and passing on what they give to standard output. Which file it
 //! is, and what a stop is called, is no part of it.
-ghost use Rattle.std.specs.Prelude.{◌≡◌, ◌≢◌, ◌+◌, ◌-◌, ◌*◌, ◌^◌, ◌<◌, ◌≤◌, ℕ, List, [], ◌++◌, Ok, Err, OnOk, OnErr, IsTrue, length};
+ghost use Rattle.std.specs.Prelude.{◌≡◌, ◌≢◌, ◌+◌, ◌-◌, ◌^◌, ◌<◌, ◌≤◌, ℕ, List, [], ◌++◌, Ok, Err, OnOk, OnErr, IsTrue};
 ghost use Rattle.std.specs.Io.KnownBytes.{append_known};
 ghost use Rattle.hp_outside.specs.Faults.{Rose};
 ghost use Rattle.hp_outside.specs.Taken.{GainsFront, WhereTold};
@@ -61,7 +61,7 @@ pub enum LinesStop<F> {
 const PIECE: usize = 65_536;
 
 /// Takes all lines of the current file. What they give to standard output is written but for what `buffer` then holds.
-pub fn take_lines<T: LineTaker, S: Store, O: Sink>(
+pub fn read_through_buffer<T: LineTaker, S: Store, O: Sink>(
     lines: &mut LineReader,
     taker: &mut T,
     store: &mut S,

@@ -1,14 +1,7 @@
 //! Writing a text piece by piece while it is made. Which text it is, is the business of the commands.
-ghost use Rattle.std.specs.Prelude.{◌≡◌, ◌≢◌, ◌<◌, ◌++◌, ℕ, List, [], Option, Ok, true, false, IfErr, IfOk, OnOk};
-ghost use Rattle.hp_outside.specs.Faults.{Rose};
-ghost use Rattle.hp_outside.specs.Folder.{Folder};
-ghost use Rattle.command_frame.specs.Answer.{done};
-ghost use Rattle.command_frame.specs.FirstFault.{Bounds};
-ghost use Rattle.command_frame.specs.Halts.{halt_answer, status_code};
-ghost use Rattle.command_frame.specs.Moment.{Moment};
+ghost use Rattle.std.specs.Prelude.{◌≡◌, ◌<◌, ◌++◌, ℕ, List, [], Ok, true, false, OnOk};
 ghost use Rattle.command_frame.specs.Plan.{Pieces};
-ghost use Rattle.command_frame.specs.Run.{RanTo};
-ghost use Rattle.command_frame.specs.Texts.{texts_of};
+ghost use Rattle.command_frame.specs.RunsTo.{RunsTo, Shown, taken};
 
 use crate::desk::Desk;
 use crate::halt::Halt;
@@ -45,13 +38,8 @@ pub fn run_text<M: TextMaker, O: Sink>(
     out: &mut O,
 ) -> Result<Vec<u8>, Halt>
     requires sound { M.is_sound maker.old }
-    ensures all { IfOk result (λ rest. (bounds : Bounds) (files : Option Folder) (last : List ℕ) (now : Moment) → RanTo (texts_of desk.now.texts) bounds files last [] (Pieces (M.rest maker.old)) now now
-        (O.written out.old) (O.written out.new) (done rest.items)) }
-    ensures halted { IfErr result (λ halt. (bounds : Bounds) (files : Option Folder) (last : List ℕ) (now : Moment) → RanTo (texts_of desk.now.texts) bounds files last [] (Pieces (M.rest maker.old)) now now
-        (O.written out.old) (O.written out.new) (halt_answer (texts_of desk.now.texts) halt)) }
-    ensures unwritten { IfErr result (λ halt. status_code halt.status ≡ 4 → Rose (O.faults out.old) (O.faults out.new)) }
-    ensures sound_writes { IfErr result (λ halt. status_code halt.status ≢ 4 → O.faults out.new ≡ O.faults out.old) }
-    ensures sound { OnOk result (O.faults out.new ≡ O.faults out.old) }
+    ensures { (store : Shown) → RunsTo desk.now [] (Pieces (M.rest maker.old)) store store
+        (taken O.Sink out.old) (taken O.Sink out.new) result }
 {
     let mut buffer = Vec::new(desk.alloc);
     'pieces: loop {

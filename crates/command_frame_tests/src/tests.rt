@@ -3,7 +3,7 @@ ghost use Rattle.std.specs.Prelude.{◌≡◌};
 
 use crate::echo::Echo;
 use crate::runs::{Answer, Outputs, TEXTS, assert_answer, folder, sink, two_files};
-use command_frame::{Desk, Outcome, deliver, read_lines, run_lines};
+use command_frame::{Desk, Outcome, deliver, read_named_file, run_one_file};
 use hp_num::{NoMemory, put_bytes};
 use hp_outside::{Limits, LineReader, MemSink, MemStore};
 use std::alloc::Global;
@@ -61,7 +61,7 @@ fn status_of(alloc: Global, case: &Case, store: &mut MemStore, outputs: &mut Out
     let mut echo = Echo {
         refuses: case.refuses,
     };
-    let ran = run_lines(&desk(alloc), case.file, &mut echo, store, &mut outputs.out);
+    let ran = run_one_file(&desk(alloc), case.file, &mut echo, store, &mut outputs.out);
     let outcome = Outcome::new(alloc, ran);
     deliver(&outcome, &TEXTS, &mut outputs.out, &mut outputs.err)
 }
@@ -184,7 +184,7 @@ fn assert_one_piece(
     requires unopened { store.old.store.opens ≡ 0 }
 {
     let mut echo = Echo { refuses: false };
-    let ran = run_lines(&desk(alloc), "t", &mut echo, store, out);
+    let ran = run_one_file(&desk(alloc), "t", &mut echo, store, out);
     assert!(rt; ran.is_err());
     assert_eq!(rt; out.bytes().len(), 65_540);
     Ok(())
@@ -207,10 +207,10 @@ fn are_read(alloc: Global, store: &mut MemStore, out: &mut MemSink) -> Result<bo
     let mut echo = Echo { refuses: false };
     let desk = desk(alloc);
     let mut lines = LineReader::new(alloc, &desk.limits)?;
-    if read_lines(&desk, &mut lines, "a", &mut echo, store, out).is_err() {
+    if read_named_file(&desk, &mut lines, "a", &mut echo, store, out).is_err() {
         return Ok(false);
     }
-    Ok(read_lines(&desk, &mut lines, "b", &mut echo, store, out).is_ok())
+    Ok(read_named_file(&desk, &mut lines, "b", &mut echo, store, out).is_ok())
 }
 
 /// Asserts that both files are read, and that their lines are written in order.

@@ -1,1 +1,1 @@
-pub mod TableLemmas
+mod TableLemmas

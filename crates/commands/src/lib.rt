@@ -1,5 +1,46 @@
-//! The commands of `heapsuite`: words and files in, reports, messages and a status out.
-//! What the real files and outputs are is the business of the program.
+//! The commands of `heapsuite`: words and files in, reports, messages and a status out. What the real files and outputs
+//! are is the business of the program.
+//!
+//! What it promises is the contract of `heapsuite_run`, which speaks of what the words ask for (`asked`) and of the
+//! answer to it (`answer`), and names no command. `run.rt` calls `run_words.rt` and then the frame's `deliver`. The
+//! definitions in `specs/` follow the same chain: `Asked` and `Requests` with one module of words for each command, one
+//! module for its report, and `Run` and `Answer` for the whole.
+//!
+//! Every command over one trace has the same reader. `ReadTrace` keeps `Tables` and, grown step by step beside them,
+//! `Peaks`: the tables stand for the lines, behind the texts of suppressions that were given before, and the peaks for
+//! their events. What the commands differ in is a function of those patterns and lines, the ghost member `text` of a
+//! `TraceWriter`, and one method that appends it. The loop, a batch and a line are proved once for all of them. `dhat`
+//! has `Lifetimes` beside that reader, which take each event that the peaks took. The lines of a suppressions file go
+//! into the tables of the trace that is read behind it, which so count patterns once (`SuppressedTrace`).
+//!
+//! `massif` has a reader of its own, since a line's fault there is the sampler's too. Where memory is wanting for a
+//! snapshot, the event's line is taken, since it has no fault, and the sampler is let go: from then on a batch takes
+//! nothing, and a line that the tables take and the end of the file are refused for want of memory. So the reader's
+//! ghost members speak of a sampler only where there is one. The lists of functions' names are texts in the request,
+//! and the reader gets each as a closure; what both mean is the ghost member `settings` of the request (`Settled`).
+//!
+//! The tests of the public calls are the crate `commands_tests`.
+//!
+//! | File | Does |
+//! |---|---|
+//! | `run.rt` | `heapsuite_run`, the public call, and `heapsuite_main` |
+//! | `words.rt`, `run_words.rt` | the list of commands: which words are taken; from a request to its run |
+//! | `texts.rt` | the program's name, its usage text and its messages |
+//! | `summary_command.rt` | `summary`: its words, its writer, its run |
+//! | `print_command.rt`, `print_words.rt` | `print`; its options |
+//! | `flame_command.rt` | `flame` |
+//! | `interpret_command.rt`, `interpret_reader.rt` | `interpret`; its two takers |
+//! | `massif_command.rt`, `massif_words.rt`, `massif_request.rt` | `massif`; its options; what it is to do |
+//! | `massif_reader.rt` | the taker of a trace whose snapshots are taken |
+//! | `page_command.rt`, `page_reader.rt`, `page_size.rt` | `ms_print`; the taker of a Massif file; how a page is made |
+//! | `dhat_command.rt`, `dhat_reader.rt` | `dhat`; the taker of a trace whose lifetimes are kept |
+//! | `dhat_view_command.rt`, `view_words.rt` | `dhat_view` and its document; its options |
+//! | `gen_command.rt`, `gen_summary.rt` | `gen`; the summary of the lines as they are made |
+//! | `number_words.rt`, `name_list.rt` | values of options: numbers and percentages; lists of names |
+//! | `trace_writer.rt`, `trace_run.rt`, `trace_reader.rt` | commands over one trace: what is written, run, taker |
+//! | `suppressions.rt`, `suppressed_trace.rt` | a suppressions file, and a trace behind it |
+//! | `read_trace.rt`, `batch.rt` | one line into tables and peaks; lines of events, many at a time |
+//! | `fault.rt`, `profile_fault.rt` | texts and statuses of the faults of lines, and of DHAT documents |
 #![tactic(auto)]
 
 mod batch;

@@ -1,13 +1,16 @@
 -- Lemmas on stacks that a tree can't tell apart.
-use Rattle.std.proofs.Common.{◌≡◌, ℕ, zero, suc, ◌+◌, ◌<◌, ◌≤◌, ◌&&◌, Bool, true, false, cond, List, [], ◌∷◌, length, map, Some, refl, sym, ap, ◌∙◌, arith}
+use Rattle.std.proofs.Common.{◌≡◌, ℕ, zero, suc, ◌+◌, ◌<◌, ◌≤◌, ◌&&◌, Bool, true, false, cond, List, [], ◌∷◌, length, map, take, Some, refl, sym, ap, ◌∙◌, arith}
 use Rattle.std.specs.Prelude.{nat_lt, slice_get}
 use Rattle.std.specs.List.{position_or_len}
+use Rattle.std.proofs.lemmas.Bool.Decides.{same_from_decides}
+use Rattle.std.proofs.lemmas.List.{length-take, take_all}
 use Rattle.std.proofs.lemmas.List.Recursion.{is_position_or_len}
 use Rattle.std.proofs.lemmas.List.Sums.{sum_by-cons}
 use Rattle.cost_tree.specs.Costed.{Costed, costed}
 use Rattle.cost_tree.specs.Inclusive.{has_front, is_front, inclusive, own, least}
 use Rattle.cost_tree.specs.IsTreeOf.{IsTreeOf}
 use Rattle.cost_tree.specs.TreeState.{TreeState}
+use Rattle.cost_tree.proofs.Prefixes.{has_front-take, is_front-Decides}
 
 -- two lists of texts of a stack of this cost are alike for each front of at most so many texts
 pub record AreAlike (depth cost : ℕ) (texts other : List (List ℕ)) : Type 0 where
@@ -111,4 +114,25 @@ IsTreeOf-same tree stacks other depth same is = record {
   below = is.below;
   root_parent = is.root_parent;
   brothers = is.brothers;
+}
+
+-- whether a list is a front is told by its first texts, one more than the front may have
+is_front-take : (front texts : List (List ℕ)) (n : ℕ) → length front ≤ n → is_front front (take (n + 1) texts) ≡ is_front front texts
+is_front-take front texts n within =
+    let cut = length-take (n + 1) texts in
+    same_from_decides (is_front front (take (n + 1) texts)) (is_front front texts) (is_front-Decides front (take (n + 1) texts)) (
+      (λ has.
+          let same = (is_front-Decides front texts).0 has in
+          let count = ap (λ (xs : List (List ℕ)). length xs) same in
+          same ∙ sym (take_all (n + 1) texts (omega arith))),
+      (λ same.
+          let count = ap (λ (xs : List (List ℕ)). length xs) same in
+          (is_front-Decides front texts).1 (same ∙ take_all (n + 1) texts (omega arith))),
+    )
+
+-- the first texts of a list, one more than fronts may have, are alike for a tree
+pub first-alike : (depth cost : ℕ) (texts : List (List ℕ)) → AreAlike depth cost (take (depth + 1) texts) texts
+first-alike depth cost texts = record {
+  begins = λ front short some. has_front-take front texts (depth + 1) (omega arith);
+  is = λ front short some. is_front-take front texts depth short;
 }

@@ -1,17 +1,23 @@
-pub mod Lists
-pub mod Prefixes
-pub mod Sums
-pub mod Naming
-pub mod Branching
-pub mod Counting
-pub mod Edges
-pub mod Stages
-pub mod Linking
-pub mod Trees
-pub mod Copying
-pub mod Listing
-pub mod Needing
-pub mod Alike
-pub mod Ascending
-pub mod Brothers
-pub mod NextSums
+mod Lists
+mod Prefixes
+mod Sums
+mod Naming
+mod Branching
+mod Counting
+mod Edges
+mod Stages
+mod Linking
+mod Trees
+mod Copying
+mod Listing
+mod Needing
+mod Alike
+mod Ascending
+mod Brothers
+mod NextSums
+mod Orders
+mod Sorting
+mod ChildNodes
+mod Pushing
+mod Walks
+pub mod Laws

@@ -1,5 +1,5 @@
 -- Lemmas on the element at a place of a list that grew by one, or of which one was replaced.
-use Rattle.std.proofs.Common.{◌≡◌, ◌≢◌, ℕ, zero, suc, ◌+◌, ◌⊎◌, inl, inr, List, [], ◌∷◌, ◌++◌, length, take, set, Some, refl, sym, ap, ◌∙◌, arith}
+use Rattle.std.proofs.Common.{◌≡◌, ◌≢◌, ℕ, zero, suc, ◌+◌, ◌⊎◌, inl, inr, List, [], ◌∷◌, ◌++◌, length, take, set, Some, refl, sym, ap, ◌∙◌, arith, append_assoc}
 use Rattle.std.specs.Prelude.{slice_get}
 use Rattle.std.proofs.lemmas.List.{take_more}
 use Rattle.std.proofs.lemmas.Option.{none-some, same_Some, slice_get_within, get_or_from_slice_get}
@@ -43,3 +43,7 @@ get-set_cases (z ∷ zs) (suc m) y (suc n) x at =
 -- one element more of the front of a list
 pub take-next : {X : Type 0} (xs : List X) (i : ℕ) (x : X) → slice_get xs i ≡ Some x → take (i + 1) xs ≡ take i xs ++ x ∷ []
 take-next xs i x at = take_more xs i x (slice_get_within xs i x at) ∙ ap (λ y. take i xs ++ y ∷ []) (get_or_from_slice_get xs i x x at)
+
+-- two appends in a row
+pub two-appended : {X : Type 0} (o a b p q : List X) → a ≡ o ++ p → b ≡ a ++ q → b ≡ o ++ (p ++ q)
+two-appended {X} o a b p q p_is q_is = q_is ∙ ap (λ (xs : List X). xs ++ q) p_is ∙ append_assoc o p q

@@ -1,10 +1,10 @@
 -- Lemmas on the lists that a tree needs.
-use Rattle.std.proofs.Common.{◌≡◌, ℕ, ◌+◌, ◌<◌, ◌≤◌, eqb, false, List, [], ◌∷◌, ◌++◌, length, map, take, get_or, reverse, Some, refl, sym, ap, ◌∙◌, subst, arith}
+use Rattle.std.proofs.Common.{◌≡◌, ℕ, ◌+◌, ◌<◌, eqb, false, List, [], ◌∷◌, ◌++◌, length, map, take, get_or, reverse, Some, refl, sym, ap, ◌∙◌, subst, arith}
 use Rattle.std.specs.Prelude.{slice_get, slice_index}
 use Rattle.std.specs.List.{range_with_len}
 use Rattle.std.proofs.lemmas.Bool.{cond-false}
-use Rattle.std.proofs.lemmas.Bool.Decides.{nat_tests, same_from_decides}
-use Rattle.std.proofs.lemmas.List.{length-take, map-append, reverse-append, take-map, take_all}
+use Rattle.std.proofs.lemmas.Bool.Decides.{nat_tests}
+use Rattle.std.proofs.lemmas.List.{map-append, reverse-append, take-map}
 use Rattle.std.proofs.lemmas.List.FromFn.{get_or-range_with_len, length-map-range_with_len, length-range_with_len, map-range_with_len_more}
 use Rattle.std.proofs.lemmas.Option.{get_or_from_slice_get, slice_get_within}
 use Rattle.cost_tree.specs.declared.direction.Direction.{Direction}
@@ -17,8 +17,7 @@ use Rattle.cost_tree.specs.StackTexts.{lists_towards, stack_texts, towards}
 use Rattle.cost_tree.specs.TreeState.{TreeState}
 use Rattle.ht_trace.specs.declared.frame.Style.{Style}
 use Rattle.ht_trace.specs.TableState.{TableState}
-use Rattle.cost_tree.proofs.Alike.{AreAlike, IsSameTo-map, IsTreeOf-same}
-use Rattle.cost_tree.proofs.Prefixes.{has_front-take, is_front-Decides}
+use Rattle.cost_tree.proofs.Alike.{AreAlike, IsSameTo-map, IsTreeOf-same, first-alike}
 
 -- the other way round, of each element
 map-reverse : {X Y : Type 0} (f : X → Y) (xs : List X) → map f (reverse xs) ≡ reverse (map f xs)
@@ -47,28 +46,17 @@ listed-count f n xs are = ap (λ ys. length ys) are ∙ length-map-range_with_le
 
 -- what a tree needs of a list is alike for it
 needed-alike : (depth cost : ℕ) (texts : List (List ℕ)) → AreAlike depth cost (needed (depth + 1) cost texts) texts
-needed-alike depth cost texts = record {
-  begins = λ front short some. ap (λ xs. has_front front xs) (is some) ∙ has_front-take front texts (depth + 1) (omega arith);
-  is = λ front short some. ap (λ xs. is_front front xs) (is some) ∙ is_front-take front texts depth short;
-}
+needed-alike depth cost texts =
+    let first = first-alike depth cost texts in
+    record {
+      begins = λ front short some. ap (λ xs. has_front front xs) (is some) ∙ first.begins front short some;
+      is = λ front short some. ap (λ xs. is_front front xs) (is some) ∙ first.is front short some;
+    }
   where
     is : 0 < cost → needed (depth + 1) cost texts ≡ take (depth + 1) texts
     is some =
         let above : eqb cost 0 ≡ false = grind (arith, nat_tests) in
         cond-false (eqb cost 0) [] (take (depth + 1) texts) above
-
-    is_front-take : (front texts : List (List ℕ)) (n : ℕ) → length front ≤ n → is_front front (take (n + 1) texts) ≡ is_front front texts
-    is_front-take front texts n within =
-        let cut = length-take (n + 1) texts in
-        same_from_decides (is_front front (take (n + 1) texts)) (is_front front texts) (is_front-Decides front (take (n + 1) texts)) (
-          (λ has.
-              let same = (is_front-Decides front texts).0 has in
-              let count = ap (λ (xs : List (List ℕ)). length xs) same in
-              same ∙ sym (take_all (n + 1) texts (omega arith))),
-          (λ same.
-              let count = ap (λ (xs : List (List ℕ)). length xs) same in
-              (is_front-Decides front texts).1 (same ∙ take_all (n + 1) texts (omega arith))),
-        )
 
 -- a tree of the needed lists is one of the stacks' lists
 pub IsTreeOf-needed : (tree : TreeState) (direction : Direction) (style : Style) (tables : TableState) (depth : ℕ) (costs : List ℕ)

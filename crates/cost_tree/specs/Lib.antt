@@ -11,3 +11,8 @@ pub mod View
 pub mod StackTexts
 pub mod NextFronts
 pub mod Needed
+pub mod Order
+pub mod CostLines
+pub mod TreeLines
+pub mod Shares
+pub mod Pendings

@@ -1,15 +1,44 @@
-//! Trees of inclusive costs: each front of some stacks' texts once, with what the stacks below it cost.
-//! Which figure is a stack's cost, and what a tree is printed as, are the business of the callers.
+//! Trees of inclusive costs: each front of some stacks' texts once, with what the stacks below it cost. Which figure is
+//! a stack's cost, and what a tree is printed as, are the business of the callers.
+//!
+//! What it promises:
+//!
+//! - `Fronts` is seen as a list of lists of texts, and keeps each distinct text once. `Costing` and `FrameTest` keep a
+//!   closure, and what it is to answer is said at each call that uses it.
+//! - `CostTree::of_fronts` gives the tree of the lists with their costs (`IsTreeOf`): one node for each front of at
+//!   most `depth` texts whose cost isn't 0, and node 0 for the empty one.
+//! - `CostTree::build` gives it for the stacks of a trace, whose lists are the texts of their frames in a style and
+//!   from one end (`lists_towards`). It makes no text of a stack that costs nothing, and of each other stack one text
+//!   more than `depth` at most.
+//! - A node says its parent, which stands before it, its cost, its own cost and the first stack. `text` is its front's
+//!   last text, and `children_into` gives all its children by ascending number, which is also by ascending first stack.
+//! - `cost_lines` gives the lines of a tree above a threshold, as a list over fronts (`CostLines`): costly fronts first,
+//!   and one line for the others of a node.
+//!
+//! A text is compared with others once, when it is pushed; a child is found by its parent and the number of its text. The
+//! crates above may cite its `proofs/Laws`. The tests of these calls are the crate `cost_tree_tests`.
+//!
+//! | File | Does |
+//! |---|---|
+//! | `fronts.rt`, `stack_lists.rt`, `direction.rt` | lists of texts; those of a trace's stacks; from which end |
+//! | `costing.rt`, `frame_test.rt` | what each stack costs, and which names are meant, by closures |
+//! | `branches.rt`, `links.rt` | a tree that grows; the children of each node |
+//! | `tree.rt`, `node.rt` | the tree, and one node |
+//! | `scale.rt`, `line.rt` | what costs are measured by; a line |
+//! | `children.rt`, `lines.rt` | which children of a node have lines of their own; the walk that gives the lines |
 #![tactic(auto)]
 
 mod branches;
+mod children;
 mod costing;
 mod direction;
 mod frame_test;
 mod fronts;
-mod laws;
+mod line;
+mod lines;
 mod links;
 mod node;
+mod scale;
 mod stack_lists;
 mod tree;
 
@@ -17,6 +46,8 @@ pub use costing::Costing;
 pub use direction::Direction;
 pub use frame_test::FrameTest;
 pub use fronts::Fronts;
-pub use laws::{children_fronts, front_sums, next_sums};
+pub use line::{CostLine, Place};
+pub use lines::cost_lines;
 pub use node::CostNode;
+pub use scale::Scale;
 pub use tree::CostTree;

@@ -9,6 +9,7 @@ ghost use Rattle.cost_tree.specs.Costs.{AreCosts};
 ghost use Rattle.cost_tree.specs.IsTreeOf.{IsTreeOf};
 ghost use Rattle.cost_tree.specs.StackTexts.{lists_towards};
 ghost use Rattle.cost_tree.specs.Texts.{AreLists, lists_of};
+ghost use Rattle.cost_tree.specs.TreeLines.{HasLines};
 
 use crate::branches::{Branches, Edge};
 use crate::costing::Costing;
@@ -46,7 +47,8 @@ impl Model for CostTree {
 }
 
 impl CostTree {
-    /// The tree of the lists with these costs, to fronts of at most `depth` texts, or `NoMemory`.
+    /// The tree of the lists with these costs, to fronts of at most `depth` texts, or `NoMemory`. It has lines, as
+    /// `cost_lines` gives them.
     pub fn of_fronts<F: Fn(u32) -> u64>(
         alloc: Global,
         fronts: &Fronts,
@@ -56,6 +58,7 @@ impl CostTree {
         requires as_many { costing.now.stacks ≡ length fronts.now }
         requires stated { (costs : List ℕ) × AreCosts (F.pre costing.now.cost) (F.post costing.now.cost) costing.now.stacks costs }
         ensures tree { IfOk result (λ tree. (costs : List ℕ) → AreCosts (F.pre costing.now.cost) (F.post costing.now.cost) costing.now.stacks costs → IsTreeOf tree (costed fronts.now costs) depth) }
+        ensures lines { IfOk result (λ tree. (costs : List ℕ) → AreCosts (F.pre costing.now.cost) (F.post costing.now.cost) costing.now.stacks costs → HasLines tree (costed fronts.now costs) depth) }
     {
         let costs = costing.list(alloc)?;
         CostTree::of_costs(alloc, fronts, &costs, depth)
@@ -113,6 +116,7 @@ impl CostTree {
         requires as_many { length costs.now ≡ length fronts.now }
         requires bound { sum costs.now ≤ 2 ^ 62 }
         ensures tree { IfOk result (λ tree. IsTreeOf tree (costed fronts.now costs.now) depth) }
+        ensures lines { IfOk result (λ tree. HasLines tree (costed fronts.now costs.now) depth) }
     {
         let names = copy_names(alloc, &fronts.names)?;
         CostTree::of_lists(alloc, names, &fronts.lists, costs, depth)
@@ -130,6 +134,7 @@ impl CostTree {
         requires as_many { length costs.now ≡ length lists.now }
         requires bound { sum costs.now ≤ 2 ^ 62 }
         ensures tree { IfOk result (λ tree. IsTreeOf tree (costed (lists_of names lists.now) costs.now) depth) }
+        ensures lines { IfOk result (λ tree. HasLines tree (costed (lists_of names lists.now) costs.now) depth) }
     {
         // Says that no two names are equal.
         let _count = names.len();

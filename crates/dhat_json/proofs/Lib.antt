@@ -1,13 +1,13 @@
-pub mod Added
-pub mod Documents
-pub mod Findings
-pub mod KeyOrder
-pub mod KindLemmas
-pub mod ProfileFindings
-pub mod ProfileTexts
-pub mod ReadAgain
-pub mod RoundTrip
-pub mod Says
-pub mod ShownTexts
-pub mod Taken
-pub mod ValueLists
+mod Added
+mod Documents
+mod Findings
+mod KeyOrder
+mod KindLemmas
+mod ProfileFindings
+mod ProfileTexts
+mod ReadAgain
+mod RoundTrip
+mod Says
+mod ShownTexts
+mod Taken
+mod ValueLists

@@ -1,5 +1,29 @@
-//! DHAT's JSON profile: as values, written as the one compact text, and read from any document of that form.
-//! What a profile's figures mean and how they are shown is the work of the crates above.
+//! DHAT's JSON profile: as values, written as the one compact text, and read from any document of that form. What a
+//! profile's figures mean and how they are shown is the work of the crates above.
+//!
+//! What it promises:
+//!
+//! - `read_profile` gives the profile that a document says, or its first fault, as `document_of` names it for every
+//!   list of bytes (`exact`). What it gives is what the document says (`read`), each document that says a profile is
+//!   taken (`only`), and what was read may be written (`writable`: points are few enough to be numbered, have the parts
+//!   that the profile tells of, and frames within the table).
+//! - `profile_text` gives exactly `dhat_text`, which reads as the same profile (`reads_back`).
+//! - The laws: `dhat_documents` says that a JSON value says one profile or has a fault and not both, and
+//!   `dhat_round_trip` that the value of every sound profile says that profile.
+//! - `Point::figure` gives a figure by its key, `Dhat::has_figures` whether the points have it. `put_shown` appends the
+//!   shown form of a text, of which `shown_texts` says that no line can be broken by it.
+//!
+//! The tests of these calls are in the crate `dhat_tests`.
+//!
+//! | File | Does |
+//! |---|---|
+//! | `profile.rt`, `lists.rt` | what a file says, as values; its lists |
+//! | `key.rt`, `figure.rt` | its keys, and the figures of a point by their keys |
+//! | `reader.rt`, `parts.rt`, `point.rt`, `member.rt` | a document, the parts of a profile, its points, one member |
+//! | `writer.rt`, `tokens.rt` | a profile as its one text, and the members of an object one by one |
+//! | `shown.rt` | the shown form of a text |
+//! | `fault.rt` | why a document is no profile |
+//! | `laws.rt` | the laws |
 #![tactic(auto)]
 
 mod fault;

@@ -1,3 +1,3 @@
-pub mod TimeLemmas
-pub mod Stepping
-pub mod LifeLemmas
+mod TimeLemmas
+mod Stepping
+mod LifeLemmas

@@ -1,5 +1,5 @@
-//! Tests of the public calls of `dhat_metrics`, `dhat_json`, `dhat_view` and `dhat_trace`, in a crate of their own: a crate
-//! that has tests is proved twice.
+//! Tests of the public calls of `dhat_metrics`, `dhat_json`, `dhat_view` and `dhat_trace`, in a crate of their own: a
+//! crate that has tests is proved twice.
 #![tactic(auto)]
 
 #[cfg(test)]

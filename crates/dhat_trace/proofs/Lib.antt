@@ -1,6 +1,6 @@
-pub mod Moments
-pub mod FigureLemmas
-pub mod PlaceLemmas
-pub mod PointLists
-pub mod TextLemmas
-pub mod ProfileLemmas
+mod Moments
+mod FigureLemmas
+mod PlaceLemmas
+mod PointLists
+mod TextLemmas
+mod ProfileLemmas

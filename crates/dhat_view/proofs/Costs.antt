@@ -1,10 +1,9 @@
 -- Lemmas on what points cost, and what they cost together.
-use Rattle.std.proofs.Common.{◌≡◌, ℕ, zero, suc, ◌+◌, ◌≤◌, List, [], ◌∷◌, length, map, take, Some, refl, ap, ◌∙◌, arith}
-use Rattle.std.specs.Prelude.{slice_get, sum, sum_by}
+use Rattle.std.proofs.Common.{◌≡◌, ℕ, zero, suc, ◌+◌, ◌≤◌, List, [], ◌∷◌, length, map, take, Some, ap, ◌∙◌}
+use Rattle.std.specs.Prelude.{slice_get, sum}
 use Rattle.std.proofs.lemmas.List.{length-map, take_all}
-use Rattle.std.proofs.lemmas.List.Sums.{sum_by-cons, sum_by_push}
+use Rattle.std.proofs.lemmas.List.Sums.{sum_by_push}
 use Rattle.std.proofs.lemmas.Option.{none-some, same_Some}
-use Rattle.cost_tree.specs.Costed.{Costed, costed}
 use Rattle.dhat_json.specs.declared.figure.FigureKey.{FigureKey}
 use Rattle.dhat_json.specs.declared.profile.Point.{Point}
 use Rattle.dhat_json.specs.declared.profile.Dhat.{Dhat}
@@ -37,16 +36,3 @@ sum-next ns k n held = ap (λ (xs : List ℕ). sum xs) (take-next ns k n held) �
 -- all of them
 pub sum-all : (ns : List ℕ) (k : ℕ) → length ns ≤ k → sum (take k ns) ≡ sum ns
 sum-all ns k all = ap (λ (xs : List ℕ). sum xs) (take_all k ns all)
-
--- stacks cost together what their costs sum to
-pub costed-sum : (lists : List (List (List ℕ))) (costs : List ℕ) → length costs ≡ length lists → sum_by (λ (stack : Costed). stack.cost) (costed lists costs) ≡ sum costs
-unfolding costed
-costed-sum [] [] same = refl
-costed-sum [] (cost ∷ costs) same = absurd (omega arith)
-costed-sum (list ∷ lists) [] same = absurd (omega arith)
-costed-sum (list ∷ lists) (cost ∷ costs) same =
-    let first : Costed = record { texts = list; cost = cost } in
-    let one = sum_by-cons (λ (stack : Costed). stack.cost) first (costed lists costs) in
-    let two = sum_by-cons (λ (n : ℕ). n) cost costs in
-    let rest = costed-sum lists costs (omega arith) in
-    omega arith

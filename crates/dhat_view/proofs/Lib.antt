@@ -1,9 +1,7 @@
 pub mod Appends
 pub mod Lists
 pub mod Costs
-pub mod Orders
 pub mod Faults
-pub mod Sorting
-pub mod Pushing
-pub mod Trees
-pub mod Walks
+pub mod LastTexts
+pub mod Viewed
+pub mod TreeTexts

@@ -1,9 +1,7 @@
 pub mod PointFronts
 pub mod PointCosts
-pub mod Order
 pub mod Lines
 pub mod TreeText
 pub mod ViewFault
 pub mod ViewText
-pub mod Children
-pub mod Pendings
+pub mod LinesIn

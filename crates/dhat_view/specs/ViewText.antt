@@ -1,5 +1,5 @@
 -- The view of a profile.
-use Rattle.std.specs.Prelude.{ℕ, List, [], ◌++◌, codes, decimal, length, sum}
+use Rattle.std.specs.Prelude.{ℕ, List, ◌++◌, codes, decimal, length, sum}
 use Rattle.cost_tree.specs.Costed.{costed}
 use Rattle.dhat_json.specs.declared.figure.FigureKey.{FigureKey}
 use Rattle.dhat_json.specs.declared.profile.Dhat.{Dhat}
@@ -26,4 +26,4 @@ head_text key dhat total = points_text dhat ++ total_text key total
 unfoldable pub view_text : FigureKey → ℕ → ℕ → Dhat → List ℕ
 view_text key threshold depth dhat =
     head_text key dhat (sum (point_costs key dhat))
-    ++ tree_text depth (record { sum = sum (point_costs key dhat); threshold = threshold }) (costed (point_fronts dhat) (point_costs key dhat)) []
+    ++ tree_text depth (record { total = sum (point_costs key dhat); threshold = threshold }) (costed (point_fronts dhat) (point_costs key dhat))

@@ -1,13 +1,24 @@
-//! A DHAT profile as a tree on a terminal: what its points cost below each front of their frames.
-//! How a profile is read is `dhat_json`'s part, and how a tree of costs is built `cost_tree`'s.
+//! A DHAT profile as a tree on a terminal: what its points cost below each front of their frames. How a profile is read
+//! is `dhat_json`'s part, and how a tree of costs is built `cost_tree`'s.
+//!
+//! What it promises: `fronts_of` gives for each point of a profile the shown texts of its frames (`point_fronts`).
+//! `put_view` appends the view of a profile (`view_text`): its head, and the tree of these lists with the points'
+//! figures of a key as costs, a line for each line of `cost_tree` but the first. `view_fault` says why a profile has no
+//! view: its points have no figures of the key, or these sum to more than 2^62. Both come exactly then (`refused`), take
+//! no memory, and leave the vector as it was, as `NoMemory` does. The tests of these calls are in the crate `dhat_tests`.
+//!
+//! | File | Does |
+//! |---|---|
+//! | `view.rt` | the view: its head, and its tree |
+//! | `fronts.rt`, `sums.rt` | the points' frames as lists of texts; what the points cost together |
+//! | `tree.rt`, `lines.rt` | the lines of the tree; one line |
+//! | `options.rt`, `fault.rt` | what is asked; why a profile has no view |
 #![tactic(auto)]
 
-mod children;
 mod fault;
 mod fronts;
 mod lines;
 mod options;
-mod scale;
 mod sums;
 mod tree;
 mod view;

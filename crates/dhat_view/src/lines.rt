@@ -5,8 +5,7 @@ ghost use Rattle.std.specs.Prelude.{◌≡◌, ◌≤◌, ◌<◌, ◌^◌, ◌+
 ghost use Rattle.hp_num.specs.Extends.{Extends};
 ghost use Rattle.dhat_view.specs.Lines.{gathered_line, places_text, share_text, view_line};
 
-use crate::children::Gathered;
-use crate::scale::Scale;
+use cost_tree::Scale;
 use hp_num::{NoMemory, hundredths, put_bytes, put_commas, put_dec, put_percent, put_right};
 
 /// Appends the line of a cost: two blanks for each level, the cost's share, the cost and a text.
@@ -18,7 +17,7 @@ pub(crate) fn put_line(
     out: &mut Vec<u8>,
 ) -> Result<(), NoMemory>
     requires level { level ≤ 2 ^ 32 }
-    requires part { cost ≤ scale.sum }
+    requires part { cost ≤ scale.total }
     ensures appended { OnOk result (out.new.items ≡ out.old.items ++ view_line scale level cost text.now) }
     ensures kept { Extends out.old.items out.new.items }
 {
@@ -31,17 +30,18 @@ pub(crate) fn put_line(
 pub(crate) fn put_gathered(
     scale: Scale,
     level: usize,
-    gathered: Gathered,
+    cost: u64,
+    places: u64,
     out: &mut Vec<u8>,
 ) -> Result<(), NoMemory>
     requires level { level ≤ 2 ^ 32 }
-    requires part { gathered.cost ≤ scale.sum }
+    requires part { cost ≤ scale.total }
     requires threshold { scale.threshold ≤ 10000 }
-    ensures appended { OnOk result (out.new.items ≡ out.old.items ++ gathered_line scale level gathered) }
+    ensures appended { OnOk result (out.new.items ≡ out.old.items ++ gathered_line scale level cost places) }
     ensures kept { Extends out.old.items out.new.items }
 {
-    put_share(scale, level, gathered.cost, out)?;
-    put_places(gathered.places, out)?;
+    put_share(scale, level, cost, out)?;
+    put_places(places, out)?;
     put_percent(out, scale.threshold)?;
     put_bytes(out, b"\n")
 }
@@ -49,12 +49,12 @@ pub(crate) fn put_gathered(
 /// Appends what stands before a line's text.
 fn put_share(scale: Scale, level: usize, cost: u64, out: &mut Vec<u8>) -> Result<(), NoMemory>
     requires level { level ≤ 2 ^ 32 }
-    requires part { cost ≤ scale.sum }
+    requires part { cost ≤ scale.total }
     ensures appended { OnOk result (out.new.items ≡ out.old.items ++ share_text scale level cost) }
     ensures kept { Extends out.old.items out.new.items }
 {
     put_right(out, b"", 2 * level)?;
-    put_percent(out, hundredths(cost, scale.sum))?;
+    put_percent(out, hundredths(cost, scale.total))?;
     put_bytes(out, b" (")?;
     put_commas(out, cost)?;
     put_bytes(out, b") ")

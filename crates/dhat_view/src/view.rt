@@ -3,7 +3,7 @@
 
 ghost use Rattle.std.specs.Prelude.{◌≡◌, ◌≢◌, ◌<◌, ◌≤◌, ◌^◌, ◌++◌, ℕ, List, length, sum, Some, None, Err, IfErr, IfOk, OnErr, OnOk};
 ghost use Rattle.cost_tree.specs.Costed.{costed};
-ghost use Rattle.cost_tree.specs.IsTreeOf.{IsTreeOf};
+ghost use Rattle.cost_tree.specs.TreeLines.{HasLines};
 ghost use Rattle.dhat_json.specs.IsSound.{IsSound};
 ghost use Rattle.hp_num.specs.Extends.{Extends};
 ghost use Rattle.dhat_view.specs.PointCosts.{point_costs};
@@ -112,8 +112,7 @@ fn put_total(key: FigureKey, total: u64, out: &mut Vec<u8>) -> Result<(), NoMemo
 fn points_tree(alloc: Global, options: &ViewOptions, dhat: &Dhat) -> Result<CostTree, NoMemory>
     requires sound { IsSound dhat.now }
     requires within { sum (point_costs options.now.key dhat.now) ≤ 2 ^ 62 }
-    ensures tree { IfOk result (λ tree. IsTreeOf tree (costed (point_fronts dhat.now) (point_costs options.now.key dhat.now)) options.now.depth) }
-    ensures depth { IfOk result (λ _. options.now.depth < 2 ^ 32) }
+    ensures tree { IfOk result (λ tree. HasLines tree (costed (point_fronts dhat.now) (point_costs options.now.key dhat.now)) options.now.depth) }
 {
     let fronts = fronts_of(alloc, dhat)?;
     fronts_tree(alloc, options, dhat, &fronts)
@@ -128,8 +127,7 @@ fn fronts_tree(
 ) -> Result<CostTree, NoMemory>
     requires fronts { fronts.now ≡ point_fronts dhat.now }
     requires within { sum (point_costs options.now.key dhat.now) ≤ 2 ^ 62 }
-    ensures tree { IfOk result (λ tree. IsTreeOf tree (costed (point_fronts dhat.now) (point_costs options.now.key dhat.now)) options.now.depth) }
-    ensures depth { IfOk result (λ _. options.now.depth < 2 ^ 32) }
+    ensures tree { IfOk result (λ tree. HasLines tree (costed (point_fronts dhat.now) (point_costs options.now.key dhat.now)) options.now.depth) }
 {
     let key = options.key;
     let depth = options.depth;

@@ -1,18 +1,12 @@
 //! `heaprec`: replays a script per thread and records one trace.
 //!
-//! The program makes the real store and outputs and ends with the status of `heaprec_main`, which goes to `heaprec_run`, the
-//! program's contract.
+//! The program makes the real store and outputs and ends with the status of `heaprec_main` of `recording`, which goes to
+//! `heaprec_run`, the program's contract.
 #![tactic(auto)]
 
-mod open_gate;
-mod record_text;
-mod run;
-mod run_words;
-mod texts;
-
-use crate::run::heaprec_main;
 use hp_num::NoMemory;
 use hp_outside::{FsStore, StdSink};
+use recording::heaprec_main;
 use std::alloc::Global;
 use std::env;
 use std::io::ErrorKind;
@@ -43,6 +37,3 @@ fn main(rt: HostRuntime) -> ExitCode {
     let status = heaprec_main(&rt, alloc, &words, &mut store, &mut out, &mut err);
     ExitCode::from(status)
 }
-
-#[cfg(test)]
-mod tests;

@@ -5,12 +5,12 @@ use Rattle.std.proofs.lemmas.List.Elements.{All-cons, All-nil, All-head, All-tai
 use Rattle.std.proofs.lemmas.List.{take_more_set}
 use Rattle.hp_num.specs.Commas.{with_commas, decimal_with_commas, is_full_groups}
 use Rattle.hp_num.specs.Digits.{IsDecimalDigit}
-use Rattle.hp_num.proofs.Numerals.{both}
+use Rattle.hp_num.proofs.Numerals.{and-true}
 use Rattle.hp_num.proofs.DecimalTexts as decimals
 
 -- what the test of groups says
 groups_true : (n : ℕ) → is_full_groups n ≡ true → (0 < n) × (n % 3 ≡ 0)
-groups_true n e = let p = both (nat_lt 0 n) (nat_eq (n % 3) 0) e in (ltb-true 0 n p.0, eqb-true (n % 3) 0 p.1)
+groups_true n e = let p = and-true (nat_lt 0 n) (nat_eq (n % 3) 0) e in (ltb-true 0 n p.0, eqb-true (n % 3) 0 p.1)
 
 -- and what it says where it does not hold
 groups_false : (n : ℕ) → is_full_groups n ≡ false → 0 < n → n % 3 ≢ 0

@@ -12,7 +12,7 @@ use Rattle.hp_num.specs.DecText.{IsDecText, IsShortestDecText}
 use Rattle.hp_num.specs.Digits.{IsDecimalDigit}
 use Rattle.hp_num.specs.Numeral.{is_numeral}
 use Rattle.hp_num.specs.ParsedDec.{parsed_dec}
-use Rattle.hp_num.proofs.Numerals.{both, Numeral, numeral_test, numeral_is}
+use Rattle.hp_num.proofs.Numerals.{Numeral, and-true, numeral_test, numeral_is}
 
 -- the bytes whose value is below 10 are the decimal digits
 decimal_digits_from_values : (ds : List ℕ) → AllDigits 10 ds → All IsDecimalDigit ds
@@ -48,7 +48,7 @@ pub parsed_is : (text : List ℕ) (n : ℕ) → parsed_dec text ≡ Some n → N
 unfolding parsed_dec
 parsed_is text n h =
     let p = cond_some (is_numeral 10 20 text && nat_lt (digits_value 10 text) (2 ^ 64)) (digits_value 10 text) n h in
-    let q = both (is_numeral 10 20 text) (nat_lt (digits_value 10 text) (2 ^ 64)) p.0 in
+    let q = and-true (is_numeral 10 20 text) (nat_lt (digits_value 10 text) (2 ^ 64)) p.0 in
     (numeral_is 10 20 text q.0, ltb-true (digits_value 10 text) (2 ^ 64) q.1, p.1)
 
 -- what is written reads back

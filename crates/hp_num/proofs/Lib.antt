@@ -1,8 +1,8 @@
-pub mod CommaTexts
-pub mod DecimalTexts
-pub mod HexSteps
-pub mod HexTexts
+mod CommaTexts
+mod DecimalTexts
+mod HexSteps
+mod HexTexts
 pub mod Laws
-pub mod Numerals
-pub mod PercentParts
-pub mod PercentTexts
+mod Numerals
+mod PercentParts
+mod PercentTexts

@@ -6,10 +6,10 @@ use Rattle.std.specs.Str.Parse.{AllDigits}
 use Rattle.hp_num.specs.Numeral.{is_numeral}
 
 -- both parts of a test that holds hold
-pub both : (a b : Bool) → (a && b) ≡ true → (a ≡ true) × (b ≡ true)
-both true true h = (refl, refl)
-both true false h = absurd (cc)
-both false b h = absurd (cc)
+pub and-true : (a b : Bool) → (a && b) ≡ true → (a ≡ true) × (b ≡ true)
+and-true true true h = (refl, refl)
+and-true true false h = absurd (cc)
+and-true false b h = absurd (cc)
 
 -- the test of each byte and the fact that each is a digit
 list_all_from_digits : (base : ℕ) (ds : List ℕ) → AllDigits base ds → list_all (λ b. is_digit b base) ds ≡ true
@@ -20,7 +20,7 @@ list_all_from_digits base (d ∷ ds) h = rw (lt-ltb (digit_value d) base h.0) (l
 digits_from_list_all : (base : ℕ) (ds : List ℕ) → list_all (λ b. is_digit b base) ds ≡ true → AllDigits base ds
 digits_from_list_all base [] h = tt
 digits_from_list_all base (d ∷ ds) h =
-    let p = both (is_digit d base) (list_all (λ b. is_digit b base) ds) h in
+    let p = and-true (is_digit d base) (list_all (λ b. is_digit b base) ds) h in
     (ltb-true (digit_value d) base p.0, digits_from_list_all base ds p.1)
 
 -- what a numeral of at most `most` digits is
@@ -36,8 +36,8 @@ numeral_test base most text h = rw (lt-ltb 0 (length text) h.some, le-leb (lengt
 -- what meets the test is a numeral
 pub numeral_is : (base most : ℕ) (text : List ℕ) → is_numeral base most text ≡ true → Numeral base most text
 numeral_is base most text h =
-    let front = both (nat_lt 0 (length text) && nat_le (length text) most) (list_all (λ b. is_digit b base) text) h in
-    let bounds = both (nat_lt 0 (length text)) (nat_le (length text) most) front.0 in
+    let front = and-true (nat_lt 0 (length text) && nat_le (length text) most) (list_all (λ b. is_digit b base) text) h in
+    let bounds = and-true (nat_lt 0 (length text)) (nat_le (length text) most) front.0 in
     record {
       some = ltb-true 0 (length text) bounds.0;
       short = leb-true (length text) most bounds.1;

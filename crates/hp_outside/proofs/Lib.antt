@@ -1,5 +1,5 @@
-pub mod Known
-pub mod HeldFilesLemmas
-pub mod WindowLemmas
-pub mod LineLemmas
-pub mod WholeLinesLemmas
+mod Known
+mod HeldFilesLemmas
+mod WindowLemmas
+mod LineLemmas
+mod WholeLinesLemmas

@@ -253,6 +253,8 @@ impl LineReader {
         ensures ended { self.new.ended ≡ self.old.ended }
         ensures fault { self.new.fault ≡ self.old.fault }
         ensures line_ended { self.new.line_ended ≡ self.old.line_ended }
+        ensures line { self.new.line ≡ self.old.line }
+        ensures span { self.new.span ≡ self.old.span }
 
         // Whatever the store has left: the lines of the file's rest are those that are passed, and those of what is left.
         ensures lines { (lines : List (List ℕ)) → All IsLineText lines → take count self.old.kept ≡ text_of_lines lines

@@ -9,7 +9,7 @@ use Rattle.std.proofs.Math.Seq.{drop-cons}
 use Rattle.std.specs.Char.{digit_value, is_digit}
 use Rattle.std.specs.Str.Parse.{AllDigits, digits_value}
 use Rattle.hp_num.specs.ParsedHex.{parsed_hex}
-use Rattle.hp_num.proofs.HexTexts.{parsed_numeral}
+use Rattle.hp_num.proofs.Laws.{parsed_digits}
 use Rattle.ht_lines.specs.declared.event.EventKind.{EventKind}
 use Rattle.ht_lines.specs.declared.event.EventKind.TheVariants.{Allocation, Free}
 use Rattle.ht_lines.specs.declared.event.EventLine.{EventLine}
@@ -37,11 +37,7 @@ said Free ds n is version = reading-item Interpreted version (45 ∷ 32 ∷ ds) 
 begins : (event : EventLine) (text ds rest : List ℕ) → text ≡ event_byte event.kind ∷ 32 ∷ (ds ++ (10 ∷ rest)) → rest ≡ drop event.bytes text
     → event.bytes ≡ length ds + 3 → 0 < length ds → length ds ≤ 8 → AllDigits 16 ds → event.info ≡ digits_value 16 ds → BeginsWithEvent text event
 begins event text ds rest split after counted some few all value =
-    let is : parsed_hex ds ≡ Some event.info = parsed_numeral ds (record {
-      some = some;
-      short = omega arith;
-      digits = all;
-    }) ∙ ap Some (sym value) in
+    let is : parsed_hex ds ≡ Some event.info = parsed_digits ds some (omega arith) all ∙ ap Some (sym value) in
     let most : 16 ^ length ds ≤ 16 ^ 8 = pow-le-pow_right {n = 16} (omega arith) few in
     record {
       line = event_byte event.kind ∷ 32 ∷ ds;

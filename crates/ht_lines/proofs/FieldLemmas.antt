@@ -1,11 +1,12 @@
 -- The fields of a text, taken off one at a time from the front.
-use Rattle.std.proofs.Common.{◌≡◌, ℕ, suc, ◌+◌, ◌<◌, ◌≤◌, Bool, true, false, cond, eqb, ltb, List, [], ◌∷◌, ◌++◌, length, take, drop, refl, sym, ap, ◌∙◌, subst, arith, Option, Some, None, IsTrue, length-append, zero, ◌&&◌, map}
+use Rattle.std.proofs.Common.{◌≡◌, ℕ, suc, ◌+◌, ◌<◌, ◌≤◌, Bool, true, false, cond, eqb, ltb, List, [], ◌∷◌, ◌++◌, length, take, drop, refl, sym, ap, ◌∙◌, subst, arith, Option, Some, None, IsTrue, length-append, zero, map}
 use Rattle.std.specs.Prelude.{filter, unwrap_or, is_some, slice_get}
 use Rattle.std.specs.Option.{option_and_then}
 use Rattle.std.proofs.lemmas.List.{length-map}
 use Rattle.hp_num.specs.ParsedHex.{parsed_hex}
 use Rattle.std.specs.List.{slice_split, onto_first, position, position_or_len}
 use borrow.Author.Tests.{eqb-true, lt-ltb, ltb-false}
+use Rattle.hp_num.proofs.Laws.{and-true}
 use Rattle.ht_lines.specs.Fields.{is_blank, fields, after_blanks, before_blank, from_blank, first_field, after_field, field_ends, all_numbers, number, numbers}
 
 one-add : (n : ℕ) → 1 + n ≡ suc n
@@ -189,10 +190,6 @@ unfolding fields
 length-fields text = length-kept text
 
 -- fields that are all numbers
-
-pub and-true : (a b : Bool) → (a && b) ≡ true → (a ≡ true) × (b ≡ true)
-and-true true b e = (refl, e)
-and-true false b e = absurd (cc)
 
 pub some-number : (o : Option ℕ) → IsTrue (is_some o) → o ≡ Some (unwrap_or o 0)
 some-number (Some n) e = refl

@@ -1,14 +1,15 @@
-pub mod FieldLemmas
-pub mod NumberLemmas
-pub mod CountedLines
-pub mod VersionLines
-pub mod InstructionLines
-pub mod TextLemmas
-pub mod NameLemmas
-pub mod ModuleLines
-pub mod LineSides
-pub mod WordLemmas
-pub mod WrittenLemmas
-pub mod LengthLemmas
-pub mod EventLines
-pub mod OneLineTexts
+mod CountedLines
+mod EventLines
+mod FieldLemmas
+mod InstructionLines
+pub mod Laws
+mod LengthLemmas
+mod LineSides
+mod ModuleLines
+mod NameLemmas
+mod NumberLemmas
+mod OneLineTexts
+mod TextLemmas
+mod VersionLines
+mod WordLemmas
+mod WrittenLemmas

@@ -12,7 +12,7 @@ use Rattle.ht_lines.specs.Content.{Content, clear_line, module_line}
 use Rattle.ht_lines.specs.Fields.{fields, AreNumbers, all_numbers, number}
 use Rattle.ht_lines.specs.Reads.{RangesFit}
 use Rattle.ht_lines.specs.Reading.{named_module, ranges_from, ranges_fit}
-use Rattle.ht_lines.proofs.FieldLemmas.{and-true}
+use Rattle.hp_num.proofs.Laws.{and-true}
 use Rattle.ht_lines.proofs.NumberLemmas.{AreNumbers-all, all-AreNumbers, AreNumbers-number, not_all-AreNoNumbers, AreNumbers-length}
 
 abbrev Tells : ℕ → ℕ → Type 0

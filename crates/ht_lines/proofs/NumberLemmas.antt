@@ -8,7 +8,8 @@ use Rattle.hp_num.specs.Numeral.{is_numeral}
 use Rattle.hp_num.specs.ParsedHex.{parsed_hex}
 use Rattle.ht_lines.specs.Fields.{AreNumbers, all_numbers, number}
 use Rattle.ht_lines.specs.Refuses.{AreNoNumbers}
-use Rattle.ht_lines.proofs.FieldLemmas.{and-true, some-number}
+use Rattle.hp_num.proofs.Laws.{and-true}
+use Rattle.ht_lines.proofs.FieldLemmas.{some-number}
 
 -- no bytes are no number
 pub parsed_nothing : parsed_hex [] ≡ None

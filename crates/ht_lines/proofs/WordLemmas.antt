@@ -9,7 +9,7 @@ use Rattle.hp_num.specs.Numeral.{is_numeral}
 use Rattle.hp_num.specs.ParsedHex.{parsed_hex}
 use Rattle.ht_lines.specs.Fields.{AreNumbers}
 use Rattle.ht_lines.specs.Written.{AreWords}
-use Rattle.ht_lines.proofs.FieldLemmas.{and-true}
+use Rattle.hp_num.proofs.Laws.{and-true}
 
 below_step : (n d k m v : ℕ) → d < 16 → m ≡ k * 16 → v < (n * 16 + d + 1) * k → v < (n + 1) * m
 below_step n d k m v small e h =

@@ -1,14 +1,14 @@
-pub mod PeakLemmas
-pub mod Searches
-pub mod Sizes
-pub mod FlameLemmas
-pub mod FlameTrees
-pub mod FlameWalks
-pub mod FlameFigures
-pub mod EntryOrder
-pub mod EntryLists
-pub mod ReportLemmas
-pub mod GroupLemmas
-pub mod GroupTexts
-pub mod LeakLemmas
-pub mod ReportParts
+mod PeakLemmas
+mod Searches
+mod Sizes
+mod FlameLemmas
+mod FlameTrees
+mod FlameWalks
+mod FlameFigures
+mod EntryOrder
+mod EntryLists
+mod ReportLemmas
+mod GroupLemmas
+mod GroupTexts
+mod LeakLemmas
+mod ReportParts

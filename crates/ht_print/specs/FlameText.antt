@@ -1,6 +1,7 @@
 -- Flame stacks: a line for each list of texts that some stacks have.
 use Rattle.std.specs.Prelude.{ℕ, zero, suc, ◌==◌, if◌then◌else◌, List, [], ◌∷◌, ◌++◌, codes, ◌+◌, decimal, length, map}
 use Rattle.std.specs.List.{flat_map}
+use Rattle.stack_table.specs.Stack.{most_frames}
 use Rattle.cost_tree.specs.declared.direction.Direction.TheVariants.{FromRoot}
 use Rattle.cost_tree.specs.Costed.{Costed, costed}
 use Rattle.cost_tree.specs.Inclusive.{own}
@@ -38,10 +39,6 @@ flame_line front sum = if sum == 0 then [] else flame_path front ++ (codes " " +
 unfoldable pub flame_of : ℕ → List Costed → List (List ℕ) → List ℕ
 flame_of zero stacks front = flame_line front (own front stacks)
 flame_of (suc more) stacks front = flame_line front (own front stacks) ++ flat_map (λ next. flame_of more stacks next) (next_fronts front stacks)
-
--- the most frames of a stack
-abbrev pub most_frames : ℕ
-most_frames = 4096
 
 -- the lines of the stacks of a trace, whose texts are read from the outermost frame on
 unfoldable pub flame_text : TableState → List ℕ → List ℕ

@@ -12,10 +12,8 @@ use cost_tree::{CostTree, Costing, Direction};
 use hp_num::NoMemory;
 use ht_trace::{Style, Tables};
 use peak_costs::Peaks;
+use stack_table::MOST_FRAMES;
 use std::alloc::Global;
-
-/// The most frames of a stack.
-const MOST_FRAMES: u32 = 4096;
 
 /// Which figure of a stack is its cost.
 #[derive(Clone, Copy, Debug, PartialEq, Eq)]

@@ -8,10 +8,11 @@ ghost use Rattle.cost_tree.specs.Children.{children_of};
 ghost use Rattle.cost_tree.specs.Costed.{Costed};
 ghost use Rattle.cost_tree.specs.IsTreeOf.{IsTreeOf};
 ghost use Rattle.hp_num.specs.Extends.{Extends};
-ghost use Rattle.ht_print.specs.FlameText.{flame_byte, flame_line, flame_name, flame_of, flame_path, flame_rest, most_frames};
+ghost use Rattle.ht_print.specs.FlameText.{flame_byte, flame_line, flame_name, flame_of, flame_path, flame_rest};
+ghost use Rattle.stack_table.specs.Stack.{most_frames};
 ghost use Rattle.ht_print.specs.FlameWalk.{IsBelowRoot, IsRooted, front_at, last_text};
 
-use cost_tree::{CostTree, children_fronts};
+use cost_tree::CostTree;
 use hp_num::{NoMemory, put_bytes, put_dec};
 use std::alloc::Global;
 
@@ -35,7 +36,6 @@ fn put_nodes(alloc: Global, tree: &CostTree, out: &mut Vec<u8>) -> Result<(), No
     ensures appended { OnOk result ((stacks : List Costed) → IsTreeOf tree.now stacks most_frames → out.new.items ≡ out.old.items ++ flame_of most_frames stacks []) }
     ensures kept { Extends out.old.items out.new.items }
 {
-    children_fronts();
     // The nodes whose lines are still to be written, the next one last.
     let mut left = Vec::new(alloc);
     let mut buffer = Vec::new(alloc);

@@ -1,5 +1,38 @@
-//! The texts of reports on a heap trace: its summary, its histogram of sizes, its flame stacks, its report by stacks; and
-//! which of its stacks are suppressed. What the figures are, and how a trace is read, are the parts of the crates below.
+//! The texts of reports on a heap trace: its summary, its histogram of sizes, its flame stacks, its report by stacks;
+//! and which of its stacks are suppressed. What the figures are, and how a trace is read, are the parts of the crates
+//! below.
+//!
+//! What it promises. Each call appends exactly its text, or answers `NoMemory` and leaves the vector's bytes as they
+//! were:
+//!
+//! - `put_summary`: the six lines of the events that the peaks stand for (`summary_text`).
+//! - `put_histogram`: the nine ranges of sizes (`histogram_text`); its ledger is beside its tables (`IsBeside`).
+//! - `put_flame`: the flame stacks by one of four costs. For each list of texts that some stacks have there is a line
+//!   with these stacks' sum, told by the tables and the peaks (`appended`) and by the tables and the events (`trace`).
+//! - `put_report`: a report by `PrintOptions`, up to four sections of the stacks, the histogram, and the summary
+//!   (`report_of_trace`).
+//! - `Suppressed::build` answers for each stack whether a pattern of the tables stands in the text of one of its
+//!   frames, and `has` gives one stack's answer.
+//!
+//! How: flame stacks are a walk over the tree of the stacks from the root, with a list of the nodes that are left, the
+//! next one last; a line's texts are found upwards from its node, so that the walk takes about the time of what it
+//! writes. A section is made of the figures of all stacks: those that aren't 0 become entries, which are sorted once
+//! (`ordered_stacks`). Where stacks are merged, they are shared out to groups by the text of their innermost frame,
+//! which is made once a stack and interned; so a group has its stacks in their order, and its sum and least stack while
+//! it is made (`ordered_groups`, `IsShared`). Only what is shown is written, each frame's text straight into the
+//! output.
+//!
+//! The tests of these calls are the crate `ht_print_tests`.
+//!
+//! | File | Does |
+//! |---|---|
+//! | `summary.rt`, `histogram.rt` | the six lines; the nine ranges of sizes |
+//! | `flame.rt`, `flame_lines.rt` | flame stacks, and the walk that writes them |
+//! | `report.rt`, `options.rt` | the report: which parts are asked for, and the figures of each |
+//! | `section.rt` | a section around its entries; the leaks without those of suppressed stacks |
+//! | `entry.rt`, `groups.rt` | the stacks that have a figure, and the order; stacks in groups |
+//! | `report_lines.rt`, `scale.rt` | the lines of a stack and of a group; a figure with its unit and its share |
+//! | `suppressed.rt` | which stacks are suppressed |
 #![tactic(auto)]
 
 mod entry;

@@ -15,7 +15,8 @@ use Rattle.live_ledger.specs.declared.event.Event.TheVariants.{Alloc, Free}
 use Rattle.live_ledger.specs.LedgerState.{HeldInfo}
 use Rattle.ht_trace.specs.declared.step.Step.TheVariants as step
 use Rattle.ht_trace.specs.Contents.{contents, file_version}
-use Rattle.ht_trace.specs.LineFault.{fault_in, may_stand_first}
+use Rattle.ht_trace.specs.LineFault.{fault_in}
+use Rattle.ht_trace.specs.VersionLines.{may_stand_first}
 use Rattle.ht_trace.specs.PassesEvents.{PassesEvents, PassesLine, event_of_info}
 use Rattle.ht_trace.specs.StateAfter.{Takes}
 use Rattle.ht_trace.specs.StepOf.{event_step, reading_step, step_in}

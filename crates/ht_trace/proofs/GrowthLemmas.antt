@@ -6,9 +6,10 @@ use Rattle.std.specs.List.{AllByRecursion}
 use Rattle.std.specs.Prelude.{Result, Ok, Err, IfErr, IfOk, OnOk, OnErr}
 use Rattle.std.proofs.lemmas.Bool.{cases_lt}
 use Rattle.std.proofs.lemmas.Bool.Decides.{nat_tests}
-use Rattle.std.proofs.lemmas.Option.{same_Some}
+use Rattle.std.proofs.lemmas.Option.{same_Some, slice_get_past}
 use Rattle.ht_lines.specs.Content.{Content, version_line, command_line, string_line, instruction_line, node_line, info_line, suppression_line}
-use Rattle.stack_table.proofs.Continuing as nodes
+use Rattle.hp_num.proofs.Laws.{slice_get-front}
+use Rattle.stack_table.proofs.Laws as nodes
 use Rattle.ht_trace.specs.declared.frame.Frame.{Frame}
 use Rattle.ht_trace.specs.declared.frame.FrameAt.{FrameAt}
 use Rattle.ht_trace.specs.declared.frame.FrameFound.{FrameFound}
@@ -25,7 +26,7 @@ use Rattle.ht_trace.specs.Sound.{IsNamed, IsSound}
 use Rattle.ht_trace.specs.StackFrames.{stack_frames}
 use Rattle.ht_trace.specs.StateAfter.{Refuses, Takes, state_after}
 use Rattle.ht_trace.specs.TableState.{TableState}
-use Rattle.ht_trace.proofs.StackLemmas.{frame_count_of-more, slice_get-more, stack_frames-more, stack_frames-stay}
+use Rattle.ht_trace.proofs.StackLemmas.{frame_count_of-more, stack_frames-more, stack_frames-stay}
 
 -- what holds of each element holds of one that is found
 pub all-at : {X : Type 0} (P : X → Type 0) (xs : List X) (k : ℕ) (x : X) → AllByRecursion P xs → slice_get xs k ≡ Some x → P x
@@ -33,22 +34,16 @@ all-at P [] k x all is = absurd (grind (arith, is))
 all-at P (y ∷ ys) zero x all is = subst P (same_Some y x is) all.0
 all-at P (y ∷ ys) (suc k) x all is = all-at P ys k x all.1 is
 
--- past the end there is none
-pub slice_get-past : {X : Type 0} (xs : List X) (k : ℕ) → length xs ≤ k → slice_get xs k ≡ None
-slice_get-past [] k past = refl
-slice_get-past (x ∷ xs) zero past = absurd (omega (arith, past))
-slice_get-past (x ∷ xs) (suc k) past = slice_get-past xs k (omega arith)
-
 -- a string that is held stays
 string_at-more : (strings more : List (List ℕ)) (n : ℕ) → n ≤ length strings → string_at (strings ++ more) n ≡ string_at strings n
 string_at-more strings more zero within = refl
-string_at-more strings more (suc n) within = grind (arith, nat_tests, slice_get-more strings more (suc n - 1) (omega arith))
+string_at-more strings more (suc n) within = grind (arith, nat_tests, slice_get-front strings more (suc n - 1) (omega arith))
 
 -- a held instruction's frames stay
 frame_at-more : (held more : List Instruction) (n index : ℕ) → n ≤ length held → frame_at (held ++ more) (record { instruction = n; index = index }) ≡ frame_at held (record { instruction = n; index = index })
 frame_at-more held more zero index within = refl
 frame_at-more held more (suc n) index within =
-    ap (λ (found : Option Instruction). cond (eqb (suc n) 0) None (option_and_then (λ instruction. frame_of instruction index) found)) (slice_get-more held more (suc n - 1) (omega arith))
+    ap (λ (found : Option Instruction). cond (eqb (suc n) 0) None (option_and_then (λ instruction. frame_of instruction index) found)) (slice_get-front held more (suc n - 1) (omega arith))
 
 place_count-more : (held more : List Instruction) (n : ℕ) → n ≤ length held → place_count (held ++ more) n ≡ place_count held n
 place_count-more held more n within = ap (λ (count : Option ℕ). cond {A = ℕ} (eqb n 0) 2 (unwrap_or count 0)) (frame_count_of-more held more n within)
@@ -60,7 +55,7 @@ frame-held held (suc n) index within = by (cases_lt (length held) (suc n))
   where
     by : (length held < suc n) ⊎ (suc n ≤ length held) → suc n ≤ length held
     by (inl past) =
-        let none = slice_get-past held (suc n - 1) (omega arith) in
+        let none = slice_get_past held (suc n - 1) (omega arith) in
         let count : place_count held (suc n) ≡ 0 = grind (arith, nat_tests, none) in
         absurd (omega (arith, within, count))
     by (inr here) = here

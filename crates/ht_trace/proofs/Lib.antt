@@ -1,8 +1,9 @@
-pub mod FrameLemmas
-pub mod EntryLemmas
-pub mod EventLemmas
-pub mod GrowthLemmas
-pub mod StackLemmas
-pub mod SoundLemmas
-pub mod LineLemmas
-pub mod TextLemmas
+mod EntryLemmas
+mod EventLemmas
+mod FrameLemmas
+mod GrowthLemmas
+pub mod Laws
+mod LineLemmas
+mod SoundLemmas
+mod StackLemmas
+mod TextLemmas

@@ -17,7 +17,8 @@ use Rattle.ht_trace.specs.declared.step.Step.{Step}
 use Rattle.ht_trace.specs.Contents.{contents, file_version, version_in, version_of, versions}
 use Rattle.ht_trace.specs.Gathered.{gathered}
 use Rattle.ht_trace.specs.declared.error.LineError.{LineError}
-use Rattle.ht_trace.specs.LineFault.{Tells, content_fault, fault_in, line_fault_after, may_stand_first}
+use Rattle.ht_trace.specs.LineFault.{Tells, content_fault, fault_in, line_fault_after}
+use Rattle.ht_trace.specs.VersionLines.{may_stand_first}
 use Rattle.ht_trace.specs.StandsFor.{StandsAfter}
 use Rattle.ht_trace.specs.StateAfter.{Takes, state_after}
 use Rattle.ht_trace.specs.StepOf.{event_in, event_of, event_step, step_in}

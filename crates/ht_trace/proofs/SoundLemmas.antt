@@ -6,14 +6,14 @@ use Rattle.std.specs.List.{All, AllByRecursion, flat_map}
 use Rattle.std.specs.Option.{option_map}
 use Rattle.std.proofs.lemmas.List.Elements.{All-append, All-nil}
 use Rattle.std.proofs.lemmas.List.FromFn.{get_or-map-range_with_len}
-use Rattle.std.proofs.lemmas.Option.{slice_get-get_or}
+use Rattle.std.proofs.lemmas.Option.{slice_get-get_or, slice_get_past}
 use Rattle.std.proofs.lemmas.Bool.{cases_lt}
 use Rattle.std.proofs.lemmas.Bool.Decides.{nat_tests}
-use Rattle.ht_lines.proofs.FieldLemmas.{and-true}
+use Rattle.hp_num.proofs.Laws.{and-true}
 use Rattle.stack_table.specs.CanAdd.{CanAdd}
 use Rattle.stack_table.specs.Node.{Node}
 use Rattle.stack_table.specs.Stack.{frame_count, stack, stack_nodes}
-use Rattle.stack_table.proofs.Stacks.{frame_count-newest, frame_count-older, stack-newest, stack-older}
+use Rattle.stack_table.proofs.Laws.{frame_count-newest, frame_count-older, stack-newest, stack-older}
 use Rattle.live_ledger.specs.LedgerState.{HeldInfo}
 use Rattle.live_ledger.specs.declared.event.Event.{Event}
 use Rattle.live_ledger.specs.declared.event.Event.TheVariants.{Alloc, Free}
@@ -34,7 +34,7 @@ use Rattle.ht_trace.specs.LineFault.{content_fault, frames_held, growth_fault, i
 use Rattle.ht_trace.specs.Sound.{IsNamed, IsSound, IsSoundStack}
 use Rattle.ht_trace.specs.StackFrames.{frames_of, no_stack, stack_frames}
 use Rattle.ht_trace.proofs.EntryLemmas.{all-push, all-weaker}
-use Rattle.ht_trace.proofs.GrowthLemmas.{all-at, slice_get-past}
+use Rattle.ht_trace.proofs.GrowthLemmas.{all-at}
 use Rattle.ht_trace.proofs.StackLemmas.{frames_of-more, length-frames_of}
 
 -- strings grow
@@ -133,7 +133,7 @@ held-by-count instructions (suc n) count is = by (cases_lt (length instructions)
   where
     by : (length instructions < suc n) ⊎ (suc n ≤ length instructions) → suc n ≤ length instructions
     by (inl past) =
-        let none = slice_get-past instructions (suc n - 1) (omega arith) in
+        let none = slice_get_past instructions (suc n - 1) (omega arith) in
         absurd (grind (arith, nat_tests, none, is))
     by (inr here) = here
 

@@ -1,9 +1,10 @@
 -- The frames of a stack, node by node.
-use Rattle.std.proofs.Common.{◌≡◌, ℕ, zero, suc, ◌+◌, ◌-◌, ◌<◌, ◌≤◌, false, cond, eqb, List, [], ◌∷◌, ◌++◌, length, map, reverse, Option, refl, ap, ◌∙◌, arith, length-append}
-use Rattle.std.specs.Prelude.{slice_get, unwrap_or}
+use Rattle.std.proofs.Common.{◌≡◌, ℕ, zero, suc, ◌+◌, ◌-◌, ◌≤◌, false, cond, eqb, List, [], ◌∷◌, ◌++◌, length, map, reverse, Option, refl, ap, ◌∙◌, arith, length-append}
+use Rattle.std.specs.Prelude.{unwrap_or}
 use Rattle.std.specs.List.{flat_map, range_with_len, AllByRecursion}
 use Rattle.std.proofs.lemmas.Bool.Decides.{nat_tests}
 use Rattle.std.proofs.lemmas.List.FromFn.{length-map-range_with_len}
+use Rattle.hp_num.proofs.Laws.{slice_get-front}
 use Rattle.stack_table.specs.Node.{Node}
 use Rattle.stack_table.specs.Stack.{outwards, stack, stack_nodes}
 use Rattle.ht_trace.specs.declared.frame.FrameAt.{FrameAt}
@@ -13,12 +14,6 @@ use Rattle.ht_trace.specs.StackFrames.{frames_of, no_stack, stack_frames}
 -- the place of a frame
 abbrev place : ℕ → ℕ → FrameAt
 place n index = record { instruction = n; index = index }
-
--- an element that is there stays as more are appended
-pub slice_get-more : {X : Type 0} (xs more : List X) (i : ℕ) → i < length xs → slice_get (xs ++ more) i ≡ slice_get xs i
-slice_get-more [] more i within = absurd (omega (arith, within))
-slice_get-more (x ∷ xs) more zero within = refl
-slice_get-more (x ∷ xs) more (suc i) within = slice_get-more xs more i (omega arith)
 
 outwards-zero : (nodes : List Node) → outwards nodes 0 ≡ []
 outwards-zero [] = refl
@@ -60,7 +55,7 @@ outermost (suc n) count unheld within = absurd (unheld (omega arith, within))
 -- a held instruction's frames stay as more are held
 pub frame_count_of-more : (held more : List Instruction) (n : ℕ) → n ≤ length held → frame_count_of (held ++ more) n ≡ frame_count_of held n
 frame_count_of-more held more zero within = refl
-frame_count_of-more held more (suc n) within = grind (arith, nat_tests, slice_get-more held more (suc n - 1) (omega arith))
+frame_count_of-more held more (suc n) within = grind (arith, nat_tests, slice_get-front held more (suc n - 1) (omega arith))
 
 pub frames_of-more : (held more : List Instruction) (ips : List ℕ) → AllByRecursion (λ n. n ≤ length held) ips → flat_map (frames_of (held ++ more)) ips ≡ flat_map (frames_of held) ips
 frames_of-more held more [] all = refl

@@ -24,3 +24,4 @@ pub mod Entries
 pub mod KeepsFrames
 pub mod StringEntries
 pub mod InstructionEntries
+pub mod VersionLines

@@ -1,5 +1,5 @@
 -- The fault of a line after earlier lines: the first that holds in the order of the tests here.
-use Rattle.std.specs.Prelude.{◌≡◌, ◌≢◌, ℕ, ◌+◌, ◌-◌, ◌^◌, Bool, false, ◌==◌, ◌&&◌, ◌||◌, if◌then◌else◌, List, [], ◌∷◌, length, nat_le, nat_lt, Option, Some, None, is_some, unwrap_or, Result, Ok, Err}
+use Rattle.std.specs.Prelude.{◌≡◌, ◌≢◌, ℕ, ◌+◌, ◌-◌, ◌^◌, Bool, ◌&&◌, ◌||◌, if◌then◌else◌, List, [], length, nat_le, nat_lt, Option, Some, None, is_some, unwrap_or, Result, Ok, Err}
 use Rattle.std.specs.List.{list_all}
 use Rattle.std.specs.Option.{option_or}
 use Rattle.ht_lines.specs.declared.item.Malformed.{Malformed}
@@ -7,20 +7,16 @@ use Rattle.ht_lines.specs.Content.{Content, version_line, string_line, instructi
 use Rattle.ht_lines.specs.declared.item.Form.TheVariants.{Interpreted}
 use Rattle.ht_lines.specs.Reading.{reading}
 use Rattle.stack_table.specs.Node.{Node}
-use Rattle.stack_table.specs.Stack.{frame_count}
+use Rattle.stack_table.specs.Stack.{frame_count, most_frames}
 use Rattle.ht_trace.specs.declared.frame.Frame.{Frame}
 use Rattle.ht_trace.specs.declared.error.LineError.{LineError}
-use Rattle.ht_trace.specs.declared.error.LineError.TheVariants.{NoVersion, SecondVersion, UnknownString, UnknownInstruction, UnknownParent, UnknownTrace, UnknownAllocation, TooDeep, TooMany, NoMemory}
+use Rattle.ht_trace.specs.declared.error.LineError.TheVariants.{NoVersion, UnknownString, UnknownInstruction, UnknownParent, UnknownTrace, UnknownAllocation, TooDeep, TooMany, NoMemory}
 use Rattle.ht_trace.specs.FramesSaid.{frames_said}
 use Rattle.ht_trace.specs.Instruction.{frame_count_of}
 use Rattle.ht_trace.specs.Pattern.{pattern_of}
 use Rattle.ht_trace.specs.TableState.{TableState, tables_after, tables_of}
 use Rattle.ht_trace.specs.ErrorOf.{of_malformed}
-
--- whether a line may stand before the version line: it is a comment, or a version line as far as its first byte says
-abbrev pub may_stand_first : List ℕ → Bool
-may_stand_first [] = false
-may_stand_first (b ∷ rest) = b == 35 || b == 118
+use Rattle.ht_trace.specs.VersionLines.{may_stand_first, missing_fault, second_fault}
 
 -- the most strings, instructions, infos and patterns of a trace, and the most nodes
 abbrev pub most_entries : ℕ
@@ -56,7 +52,7 @@ abbrev pub node_fault : List Node → Option ℕ → ℕ → Option LineError
 node_fault nodes None parent = Some UnknownInstruction
 node_fault nodes (Some frames) parent =
     if nat_lt (length nodes) parent then Some UnknownParent
-    else if nat_lt 4096 (frame_count nodes parent + frames) then Some TooDeep
+    else if nat_lt most_frames (frame_count nodes parent + frames) then Some TooDeep
     else growth_fault (length nodes) most_nodes
 
 -- an info's trace is a node or 0
@@ -73,7 +69,7 @@ pattern_fault count text = if is_some (pattern_of text) then growth_fault count 
 
 -- the fault of what a line says, beside the tables so far
 abbrev pub content_fault : TableState → Content → Option LineError
-content_fault tables (version_line heaptrack file) = if is_some tables.version then Some SecondVersion else None
+content_fault tables (version_line heaptrack file) = second_fault tables.version
 content_fault tables (string_line bytes) = growth_fault (length tables.strings) most_entries
 content_fault tables (instruction_line ip module_string numbers) =
     instruction_fault (length tables.strings) (length tables.instructions) module_string (frames_said numbers)
@@ -105,7 +101,7 @@ line_fault earlier line = line_fault_after [] earlier line
 
 -- the fault of a trace's end, if it has one
 abbrev pub end_fault : List (List ℕ) → Option LineError
-end_fault lines = if is_some (tables_of lines).version then None else Some NoVersion
+end_fault lines = missing_fault (tables_of lines).version
 
 -- the error is this fault, unless memory was wanting
 abbrev pub Tells : LineError → Option LineError → Type 0

@@ -3,7 +3,7 @@ use Rattle.std.specs.Prelude.{◌≡◌, ℕ, ◌<◌, ◌≤◌, List, length, 
 use Rattle.std.specs.List.{AllByRecursion, flat_map}
 use Rattle.live_ledger.specs.LedgerState.{HeldInfo}
 use Rattle.stack_table.specs.Node.{Node}
-use Rattle.stack_table.specs.Stack.{frame_count, stack}
+use Rattle.stack_table.specs.Stack.{frame_count, most_frames, stack}
 use Rattle.ht_trace.specs.Instruction.{Instruction}
 use Rattle.ht_trace.specs.StackFrames.{frames_of}
 
@@ -18,7 +18,7 @@ pub record IsNamed (string_count : ℕ) (instruction : Instruction) : Type 0 whe
 pub record IsSoundStack (instructions : List Instruction) (nodes : List Node) (n : ℕ) : Type 0 where
   pub held : AllByRecursion (λ instruction. instruction ≤ length instructions) (stack nodes n)
   pub count : length (flat_map (frames_of instructions) (stack nodes n)) ≡ frame_count nodes n
-  pub few : frame_count nodes n ≤ 4096
+  pub few : frame_count nodes n ≤ most_frames
   pub some : 0 < n → 0 < length (stack nodes n)
 
 -- the file version is one that there is, and strings, instructions and stacks are held where they are referred to

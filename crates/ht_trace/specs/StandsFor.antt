@@ -2,7 +2,8 @@
 use Rattle.std.specs.Prelude.{◌≡◌, ℕ, true, false, List, [], is_some}
 use Rattle.std.specs.List.{AllByRecursion}
 use Rattle.ht_trace.specs.Gathered.{gathered}
-use Rattle.ht_trace.specs.LineFault.{line_fault_after, may_stand_first}
+use Rattle.ht_trace.specs.LineFault.{line_fault_after}
+use Rattle.ht_trace.specs.VersionLines.{may_stand_first}
 use Rattle.ht_trace.specs.TableState.{TableState, tables_after}
 
 -- the tables are those of the lines, of which none has a fault after those before it; so long as none is a version

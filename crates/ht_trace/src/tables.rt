@@ -10,6 +10,7 @@ ghost use Rattle.ht_lines.specs.declared.item.Form.TheVariants.{Interpreted};
 ghost use Rattle.live_ledger.specs.LedgerState.{LedgerState};
 ghost use Rattle.ht_trace.specs.Continues.{Continues};
 ghost use Rattle.ht_trace.specs.FrameText.{HasNoFunction, frame_text, function_at};
+ghost use Rattle.stack_table.specs.Stack.{most_frames};
 ghost use Rattle.ht_trace.specs.HeldStack.{HasHeldStack};
 ghost use Rattle.ht_trace.specs.IsFrame.{IsFrame};
 ghost use Rattle.ht_trace.specs.LedgerFits.{CanTake, Grows, IsBeside, least_length};
@@ -24,7 +25,6 @@ ghost use Rattle.ht_trace.specs.TableState.{TableState};
 ghost use Rattle.ht_trace.specs.TraceEvents.{events};
 
 use crate::error::LineError;
-use crate::first_lines::may_stand_first;
 use crate::frame::{FrameAt, Style};
 use crate::frame_text::put_text;
 use crate::infos::{InfoEntry, InfoTable};
@@ -33,6 +33,7 @@ use crate::patterns::PatternTable;
 use crate::stack_frames::replace_by_stack;
 use crate::step::Step;
 use crate::strings::StringTable;
+use crate::version_lines::may_stand_first;
 use hp_num::{NoMemory, Text};
 use ht_lines::{Form, Item, read_item};
 use live_ledger::Event;
@@ -182,7 +183,7 @@ impl Tables {
         ensures frames { OnOk result ((given lines : List (List ℕ)) → StandsAfter self.now given lines → out.new.items ≡ frames lines stack) }
         ensures places { OnOk result (All (λ at. IsFrame self.now at) out.new.items) }
         ensures some_frame { OnOk result (1 ≤ vec_len out.new) }
-        ensures few { OnOk result (vec_len out.new ≤ 4096) }
+        ensures few { OnOk result (vec_len out.new ≤ most_frames) }
         ensures unchanged { OnErr result (out.new.items ≡ out.old.items) }
     {
         replace_by_stack(&self.instructions, &self.nodes, stack, out)

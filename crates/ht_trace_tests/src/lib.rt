@@ -1,5 +1,5 @@
-//! Tests of the calls of `intern_tables`, `stack_table` and `ht_trace`. They stand in a crate of their own, so that
-//! the tables are proved once.
+//! Tests of the calls of `intern_tables`, `stack_table` and `ht_trace`. They stand in a crate of their own, so that the
+//! tables are proved once.
 #![tactic(auto)]
 
 #[cfg(test)]

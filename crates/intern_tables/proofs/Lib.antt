@@ -1,2 +1,2 @@
-pub mod Lists
-pub mod Tables
+mod Lists
+mod Tables

@@ -1,5 +1,8 @@
-//! Names that are kept once each, under numbers from 1 on in the order of their first appearance.
-//! What the names stand for, and how many there may be, are no part of it.
+//! Names that are kept once each (`Names`), under numbers from 1 on in the order of their first appearance. What the
+//! names stand for, and how many there may be, are no part of it.
+//!
+//! What it promises: `intern` answers the number of a name, `find` that of a name that is held, `name` the name of a
+//! number. A name that is held takes no memory.
 #![tactic(auto)]
 
 mod names;

@@ -9,12 +9,13 @@ use Rattle.std.proofs.lemmas.Bool.Decides.{nat_tests}
 use Rattle.std.proofs.lemmas.Option.{same_Some}
 use Rattle.std.proofs.lemmas.Slice.Eq.{bytes_eq-Decides}
 use Rattle.intern_tables.specs.Numbers.{name_at, number_of}
+use Rattle.hp_num.proofs.Laws.{and-true}
 use Rattle.interpret.specs.declared.start_index.StartIndex.{StartIndex}
 use Rattle.interpret.specs.declared.symbols.SymbolEntry.{SymbolEntry}
 use Rattle.interpret.specs.SymbolLine.{Symbol, fields}
 use Rattle.interpret.specs.SymbolList.{holds, meets}
 use Rattle.interpret.specs.SymbolEntries.{AreApart, AreIndexed, AreNamed, HasNone, IsLast, holds_offset, meets_range, place_at, symbol_kept, symbols_kept}
-use Rattle.interpret.proofs.ListLemmas.{and-true, any-map, any-none, any-not, any-some, find-map, find-none, find-only, map-same, push-cases, push-new, push-old}
+use Rattle.interpret.proofs.ListLemmas.{any-map, any-none, any-not, any-some, find-map, find-none, find-only, map-same, push-cases, push-new, push-old}
 
 -- the entry under the last start
 pub last-is : (entries : List SymbolEntry) (index : StartIndex) (number offset start place : ℕ) (result : Option (Bor SymbolEntry)) → AreIndexed entries index

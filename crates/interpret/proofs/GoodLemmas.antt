@@ -39,7 +39,7 @@ use Rattle.interpret.proofs.FirstLemmas.{place-within}
 use Rattle.interpret.proofs.GrowthLemmas.{infos-push, known-push, nodes-push}
 use Rattle.interpret.proofs.KeepLemmas.{Holds}
 use Rattle.interpret.proofs.LedgerLemmas.{held_of, infos-append, infos-of}
-use Rattle.interpret.proofs.ListLemmas.{and-true}
+use Rattle.hp_num.proofs.Laws.{and-true}
 use Rattle.interpret.proofs.PointerLemmas.{info-held}
 use Rattle.interpret.proofs.ReadAgainLemmas.{AreFew, IsGoodNode, below, good-allocation, good-node}
 use Rattle.interpret.proofs.TakeLemmas.{new-call}
@@ -222,11 +222,11 @@ node-good version symbols said ip parent fine kept few few_after none =
         let count = length-append (nodes symbols said) (raw_tables.node_of held ip parent ∷ []) in
         let more = ap length (nodes-push symbols said (node_line ip parent)) in
         let frames : ip_frames held ip ≡ ip_frames (known_with (known symbols said) (new_call symbols (tables_of symbols said) ip)) ip = ap (λ (l : List KnownIp). ip_frames l ip) (known-push symbols said (node_line ip parent)) in
-        let shallow : nat_lt 4096 (stacks.frame_count (nodes symbols said) parent + ip_frames held ip) ≡ false = ap (λ (n : ℕ). nat_lt 4096 (stacks.frame_count (nodes symbols said) parent + n)) frames ∙ good.shallow in
+        let shallow : nat_lt stacks.most_frames (stacks.frame_count (nodes symbols said) parent + ip_frames held ip) ≡ false = ap (λ (n : ℕ). nat_lt stacks.most_frames (stacks.frame_count (nodes symbols said) parent + n)) frames ∙ good.shallow in
         let room = has-room (length (nodes symbols said)) most_nodes (omega (arith, more, count, few_after.nodes_few)) in
         ap (λ (l : List Node). of_trace.node_fault l (frame_count_of (lists.instructions front) (ip_number held ip)) parent) now.nodes_now
         ∙ (ap (λ (o : Option ℕ). of_trace.node_fault (nodes symbols said) o parent) (number-frames (lists.instructions front) held ip now.known_now now.numbered)
-        ∙ (ap (λ (b : Bool). cond {A = Option LineError} b (Some UnknownParent) (cond {A = Option LineError} (nat_lt 4096 (stacks.frame_count (nodes symbols said) parent + ip_frames held ip)) (Some TooDeep) (growth_fault (length (nodes symbols said)) most_nodes))) good.parent_held
+        ∙ (ap (λ (b : Bool). cond {A = Option LineError} b (Some UnknownParent) (cond {A = Option LineError} (nat_lt stacks.most_frames (stacks.frame_count (nodes symbols said) parent + ip_frames held ip)) (Some TooDeep) (growth_fault (length (nodes symbols said)) most_nodes))) good.parent_held
         ∙ (ap (λ (b : Bool). cond {A = Option LineError} b (Some TooDeep) (growth_fault (length (nodes symbols said)) most_nodes)) shallow ∙ room)))
 
 -- infos

@@ -11,18 +11,18 @@ use Rattle.ht_lines.specs.Content.{Content, version_line, string_line, clear_lin
 use Rattle.ht_lines.specs.Reading.{reading}
 use Rattle.ht_lines.specs.Reads.{Reads}
 use Rattle.ht_lines.specs.Written.{IsWritable, written}
-use Rattle.ht_lines.proofs.LineSides.{reading-item}
-use Rattle.ht_lines.proofs.WrittenLemmas.{Reads-IsWritable, reading-written}
+use Rattle.ht_lines.proofs.Laws.{Reads-IsWritable, reading-item, reading-written}
 use Rattle.ht_trace.specs.declared.error.LineError.{LineError}
 use Rattle.ht_trace.specs.declared.error.LineError.TheVariants.{NoVersion}
 use Rattle.ht_trace.specs.Contents as trace
 use Rattle.ht_trace.specs.Gathered.{gathered}
 use Rattle.ht_trace.specs.LineFault as of_trace
-use Rattle.ht_trace.specs.LineFault.{end_fault, line_fault, may_stand_first, most_entries}
+use Rattle.ht_trace.specs.LineFault.{end_fault, line_fault, most_entries}
+use Rattle.ht_trace.specs.VersionLines.{may_stand_first}
 use Rattle.ht_trace.specs.TableState.{TableState, tables_after}
 use Rattle.ht_trace.specs.TraceLists as lists
-use Rattle.ht_trace.proofs.LineLemmas as told
-use Rattle.ht_trace.proofs.LineLemmas.{no_fault_in}
+use Rattle.ht_trace.proofs.Laws as told
+use Rattle.ht_trace.proofs.Laws.{no_fault_in}
 use Rattle.interpret.specs.Interpreted.{interpreted_lines, lines_after, lines_read}
 use Rattle.interpret.specs.InterpretedSaid.{interpreted_said, told_after}
 use Rattle.interpret.specs.InterpretedTrace.{AreInterpretable, HasFrames, HasShortTexts, interpreted_trace, lines_from}

@@ -9,7 +9,7 @@ use Rattle.ht_lines.specs.declared.item.Form.TheVariants.{Raw}
 use Rattle.ht_lines.specs.Content.{Content, version_line, string_line, clear_line, module_line, node_line, free_line, raw_allocation_line, raw_free_line}
 use Rattle.ht_lines.specs.OneLine.{HasOneLineTexts, IsOneLine}
 use Rattle.ht_lines.specs.Written.{written}
-use Rattle.ht_lines.proofs.OneLineTexts.{Reads-one_line, written-one_line}
+use Rattle.ht_lines.proofs.Laws.{Reads-one_line, written-one_line}
 use Rattle.ht_trace.specs.Gathered.{gathered}
 use Rattle.interpret.specs.declared.infos.AllocationInfo.{AllocationInfo}
 use Rattle.interpret.specs.Interpreted.{info_said, interpreted_lines, lines_after, lines_read, new_in}

@@ -15,15 +15,15 @@ use Rattle.ht_lines.specs.Reading.{reading}
 use Rattle.ht_lines.specs.Reads.{Reads}
 use Rattle.ht_lines.specs.Refuses.{Refuses}
 use Rattle.ht_lines.specs.Written.{IsWritable, written}
-use Rattle.ht_lines.proofs.LineSides.{reading-item, reading-sides}
-use Rattle.ht_lines.proofs.WrittenLemmas.{Reads-IsWritable, reading-written}
+use Rattle.ht_lines.proofs.Laws.{Reads-IsWritable, reading-item, reading-sides, reading-written}
 use Rattle.ht_trace.specs.declared.error.LineError.{LineError}
 use Rattle.ht_trace.specs.declared.error.LineError.TheVariants.{NoVersion, SecondVersion, TooDeep, TooMany, UnknownParent, UnknownTrace}
 use Rattle.ht_trace.specs.Contents as trace
 use Rattle.ht_trace.specs.Gathered.{gathered}
-use Rattle.ht_trace.specs.LineFault.{may_stand_first, most_entries, most_nodes}
+use Rattle.ht_trace.specs.LineFault.{most_entries, most_nodes}
+use Rattle.ht_trace.specs.VersionLines.{may_stand_first}
 use Rattle.ht_trace.specs.TraceEvents.{events}
-use Rattle.ht_trace.proofs.LineLemmas as told
+use Rattle.ht_trace.proofs.Laws as told
 use Rattle.stack_table.specs.Node.{Node}
 use Rattle.interpret.specs.FirstAppearances.{over_fault}
 use Rattle.interpret.specs.Interpreted.{interpreted_lines, lines_after, lines_read}
@@ -80,13 +80,13 @@ few-full tables none = by (nat_lt most_entries (length tables.names) || (nat_lt 
 -- a node without a fault
 pub record IsGoodNode (nodes : List Node) (frames parent : ℕ) (full : Option LineError) : Type 0 where
   pub parent_held : nat_lt (length nodes) parent ≡ false
-  pub shallow : nat_lt 4096 (stacks.frame_count nodes parent + frames) ≡ false
+  pub shallow : nat_lt stacks.most_frames (stacks.frame_count nodes parent + frames) ≡ false
   pub has_room : full ≡ None
 
 pub good-node : (nodes : List Node) (frames parent : ℕ) (full : Option LineError) → node_fault nodes frames parent full ≡ None → IsGoodNode nodes frames parent full
-good-node nodes frames parent full none = by (nat_lt (length nodes) parent) (nat_lt 4096 (stacks.frame_count nodes parent + frames)) refl refl none
+good-node nodes frames parent full none = by (nat_lt (length nodes) parent) (nat_lt stacks.most_frames (stacks.frame_count nodes parent + frames)) refl refl none
   where
-    by : (a b : Bool) → nat_lt (length nodes) parent ≡ a → nat_lt 4096 (stacks.frame_count nodes parent + frames) ≡ b → cond {A = Option LineError} a (Some UnknownParent) (cond {A = Option LineError} b (Some TooDeep) full) ≡ None → IsGoodNode nodes frames parent full
+    by : (a b : Bool) → nat_lt (length nodes) parent ≡ a → nat_lt stacks.most_frames (stacks.frame_count nodes parent + frames) ≡ b → cond {A = Option LineError} a (Some UnknownParent) (cond {A = Option LineError} b (Some TooDeep) full) ≡ None → IsGoodNode nodes frames parent full
     by true b is it none = absurd (cc)
     by false true is it none = absurd (cc)
     by false false is it none = record { parent_held = is; shallow = it; has_room = none }

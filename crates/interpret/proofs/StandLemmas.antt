@@ -14,7 +14,8 @@ use Rattle.ht_lines.specs.Reading.{reading, reading_kind}
 use Rattle.ht_trace.specs.Contents.{version_in}
 use Rattle.ht_trace.specs.Gathered.{gathered}
 use Rattle.ht_trace.specs.declared.error.LineError.{LineError}
-use Rattle.ht_trace.specs.LineFault.{Tells, may_stand_first}
+use Rattle.ht_trace.specs.LineFault.{Tells}
+use Rattle.ht_trace.specs.VersionLines.{may_stand_first}
 use Rattle.interpret.specs.declared.infos.AllocationInfo.{AllocationInfo}
 use Rattle.interpret.specs.FirstAppearances.{with_all}
 use Rattle.interpret.specs.Interpreted.{interpreted_lines, lines_for, lines_read, text_of}

@@ -1,5 +1,5 @@
 -- What each kind of line does to an interpreter, over what contracts see of it.
-use Rattle.std.proofs.Common.{Bor, ◌≡◌, ◌≢◌, ℕ, ◌+◌, ◌<◌, ◌≤◌, Bool, true, false, cond, eqb, ◌||◌, List, [], ◌∷◌, ◌++◌, length, map, Option, Some, None, refl, sym, ap, ◌∙◌, arith, append-nil, length-append, true≢false}
+use Rattle.std.proofs.Common.{Bor, ◌≡◌, ◌≢◌, ◌⊎◌, inl, inr, ℕ, ◌+◌, ◌<◌, ◌≤◌, Bool, true, false, cond, eqb, ◌||◌, List, [], ◌∷◌, ◌++◌, length, map, Option, Some, None, refl, sym, ap, ◌∙◌, arith, append-nil, length-append, true≢false}
 use Rattle.std.specs.Prelude.{◌==◌, find, is_some, nat_lt, unwrap_or}
 use Rattle.std.specs.List.{list_any, position_or_len}
 use Rattle.std.specs.Option.{option_or, option_to_list}
@@ -336,16 +336,60 @@ takes-free old pointers ptr version freed line before after is is_version taken 
       ∙ ap (λ (v : ℕ). before ++ text_of (map (written v) (map free_line (option_to_list (info_at old.pointers ptr))))) is_version;
 }
 
+-- the kinds of lines that are passed on as they are
+abbrev passes_on : Item → Bool
+passes_on (Version heaptrack file) = false
+passes_on ModuleClear = false
+passes_on (Module name start ranges tail) = false
+passes_on (kind.Node ip parent) = false
+passes_on (RawAlloc size trace ptr) = false
+passes_on (RawFree ptr) = false
+passes_on other = true
+
+-- an item of one of them, as the code names them
+abbrev pub IsPassedOn : Item → Type 0
+IsPassedOn item =
+    ((text : Bor (List ℕ)) × item ≡ kind.Executable text)
+    ⊎ ((text : Bor (List ℕ)) × item ≡ kind.Command text)
+    ⊎ ((page : ℕ) × (pages : ℕ) × item ≡ kind.System page pages)
+    ⊎ ((text : Bor (List ℕ)) × item ≡ kind.Str text)
+    ⊎ ((ip : ℕ) × (string : ℕ) × (fields : ℕ) × (tail : Bor (List ℕ)) × item ≡ kind.Instr ip string fields tail)
+    ⊎ ((size : ℕ) × (trace : ℕ) × item ≡ kind.Info size trace)
+    ⊎ ((info : ℕ) × item ≡ kind.Alloc info)
+    ⊎ ((info : ℕ) × item ≡ kind.Free info)
+    ⊎ ((ms : ℕ) × item ≡ kind.Clock ms)
+    ⊎ ((pages : ℕ) × item ≡ kind.Rss pages)
+    ⊎ (item ≡ kind.Attached)
+    ⊎ ((text : Bor (List ℕ)) × item ≡ kind.Suppress text)
+    ⊎ ((text : Bor (List ℕ)) × item ≡ kind.Comment text)
+    ⊎ ((text : Bor (List ℕ)) × item ≡ kind.Other text)
+
+passed_on : (item : Item) → IsPassedOn item → passes_on item ≡ true
+passed_on item (inl e) = ap passes_on e.1
+passed_on item (inr (inl e)) = ap passes_on e.1
+passed_on item (inr (inr (inl e))) = ap passes_on e.2
+passed_on item (inr (inr (inr (inl e)))) = ap passes_on e.1
+passed_on item (inr (inr (inr (inr (inl e))))) = ap passes_on e.4
+passed_on item (inr (inr (inr (inr (inr (inl e)))))) = ap passes_on e.2
+passed_on item (inr (inr (inr (inr (inr (inr (inl e))))))) = ap passes_on e.1
+passed_on item (inr (inr (inr (inr (inr (inr (inr (inl e)))))))) = ap passes_on e.1
+passed_on item (inr (inr (inr (inr (inr (inr (inr (inr (inl e))))))))) = ap passes_on e.1
+passed_on item (inr (inr (inr (inr (inr (inr (inr (inr (inr (inl e)))))))))) = ap passes_on e.1
+passed_on item (inr (inr (inr (inr (inr (inr (inr (inr (inr (inr (inl e))))))))))) = ap passes_on e
+passed_on item (inr (inr (inr (inr (inr (inr (inr (inr (inr (inr (inr (inl e)))))))))))) = ap passes_on e.1
+passed_on item (inr (inr (inr (inr (inr (inr (inr (inr (inr (inr (inr (inr (inl e))))))))))))) = ap passes_on e.1
+passed_on item (inr (inr (inr (inr (inr (inr (inr (inr (inr (inr (inr (inr (inr e))))))))))))) = ap passes_on e.1
+
 -- a line that is passed on as it is
-pub takes-other : (old : InterpreterState) (item : Item) (line before after : List ℕ)
-    → ((heaptrack file : ℕ) → item ≡ Version heaptrack file → ⊥) → (item ≡ ModuleClear → ⊥) → ((name : Bor (List ℕ)) (start ranges : ℕ) (tail : Bor (List ℕ)) → item ≡ Module name start ranges tail → ⊥)
-    → ((ip parent : ℕ) → item ≡ kind.Node ip parent → ⊥) → ((size trace ptr : ℕ) → item ≡ RawAlloc size trace ptr → ⊥) → ((ptr : ℕ) → item ≡ RawFree ptr → ⊥)
-    → after ≡ before ++ text_of (line ∷ []) → Takes old old line (content item) before after
+pub takes-passed : (old : InterpreterState) (item : Item) (line before after : List ℕ) → IsPassedOn item → after ≡ before ++ text_of (line ∷ []) → Takes old old line (content item) before after
 unfolding content_fault tables_after
-takes-other old (Version heaptrack file) line before after a b c d e f wrote = absurd (a heaptrack file refl)
-takes-other old ModuleClear line before after a b c d e f wrote = absurd (b refl)
-takes-other old (Module name start ranges tail) line before after a b c d e f wrote = absurd (c name start ranges tail refl)
-takes-other old (kind.Node ip parent) line before after a b c d e f wrote = absurd (d ip parent refl)
-takes-other old (RawAlloc size trace ptr) line before after a b c d e f wrote = absurd (e size trace ptr refl)
-takes-other old (RawFree ptr) line before after a b c d e f wrote = absurd (f ptr refl)
-takes-other old other line before after a b c d e f wrote = record { no_fault = refl; symbols = refl; version = sym (no_error old.version); tables = refl; pointers = λ ptr. refl; failed = refl; lines = wrote }
+takes-passed old item line before after is wrote = by item (passed_on item is)
+  where
+    by : (item : Item) → passes_on item ≡ true → Takes old old line (content item) before after
+    by (Version heaptrack file) e = absurd (cc)
+    by ModuleClear e = absurd (cc)
+    by (Module name start ranges tail) e = absurd (cc)
+    by (kind.Node ip parent) e = absurd (cc)
+    by (RawAlloc size trace ptr) e = absurd (cc)
+    by (RawFree ptr) e = absurd (cc)
+    by other e = record { no_fault = refl; symbols = refl; version = sym (no_error old.version); tables = refl; pointers = λ ptr. refl; failed = refl; lines = wrote }

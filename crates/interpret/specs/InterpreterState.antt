@@ -6,7 +6,8 @@ use Rattle.ht_lines.specs.Content.{Content, raw_allocation_line, raw_free_line}
 use Rattle.ht_trace.specs.declared.error.LineError.{LineError}
 use Rattle.ht_trace.specs.declared.error.LineError.TheVariants.{NoMemory, TooMany}
 use Rattle.ht_trace.specs.Gathered.{gathered}
-use Rattle.ht_trace.specs.LineFault.{may_stand_first, most_entries, most_nodes}
+use Rattle.ht_trace.specs.LineFault.{most_entries, most_nodes}
+use Rattle.ht_trace.specs.VersionLines.{may_stand_first}
 use Rattle.stack_table.specs.Node.{Node}
 use Rattle.interpret.specs.declared.infos.AllocationInfo.{AllocationInfo}
 use Rattle.interpret.specs.RawBlocks.{freed_info, held}

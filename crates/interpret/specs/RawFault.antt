@@ -6,11 +6,12 @@ use Rattle.ht_lines.specs.Content.{Content, version_line, node_line, raw_allocat
 use Rattle.ht_lines.specs.declared.item.Form.TheVariants.{Raw}
 use Rattle.ht_lines.specs.Reading.{reading}
 use Rattle.ht_trace.specs.declared.error.LineError.{LineError}
-use Rattle.ht_trace.specs.declared.error.LineError.TheVariants.{NoVersion, SecondVersion, UnknownParent, UnknownTrace, TooDeep, TooMany}
+use Rattle.ht_trace.specs.declared.error.LineError.TheVariants.{NoVersion, UnknownParent, UnknownTrace, TooDeep, TooMany}
 use Rattle.ht_trace.specs.ErrorOf.{of_malformed}
-use Rattle.ht_trace.specs.LineFault.{may_stand_first, most_entries, most_nodes}
+use Rattle.ht_trace.specs.LineFault.{most_entries, most_nodes}
+use Rattle.ht_trace.specs.VersionLines.{may_stand_first, missing_fault, second_fault}
 use Rattle.stack_table.specs.Node.{Node}
-use Rattle.stack_table.specs.Stack.{frame_count}
+use Rattle.stack_table.specs.Stack.{frame_count, most_frames}
 use Rattle.interpret.specs.FirstAppearances.{over_fault}
 use Rattle.interpret.specs.RawContents.{contents, version_of}
 use Rattle.interpret.specs.RawTables.{KnownIp, RawTables, ip_frames, known_with, new_call, tables_after, tables_of}
@@ -30,7 +31,7 @@ full_fault tables = option_or (lists_fault tables.names tables.known tables.node
 abbrev pub node_fault : List Node → ℕ → ℕ → Option LineError → Option LineError
 node_fault nodes frames parent full =
     if nat_lt (length nodes) parent then Some UnknownParent
-    else if nat_lt 4096 (frame_count nodes parent + frames) then Some TooDeep
+    else if nat_lt most_frames (frame_count nodes parent + frames) then Some TooDeep
     else full
 
 -- an allocation's node is one that is held or 0
@@ -39,7 +40,7 @@ allocation_fault nodes trace full = if nat_lt (length nodes) trace then Some Unk
 
 -- the fault of what a line says, beside the version and the tables so far
 unfoldable pub content_fault : List Symbol → Option ℕ → RawTables → Content → Option LineError
-content_fault symbols version tables (version_line heaptrack file) = if is_some version then Some SecondVersion else None
+content_fault symbols version tables (version_line heaptrack file) = second_fault version
 content_fault symbols version tables (node_line ip parent) =
     node_fault tables.nodes (ip_frames (known_with tables.known (new_call symbols tables ip)) ip) parent
     (full_fault (tables_after symbols tables (node_line ip parent)))
@@ -64,4 +65,4 @@ raw_fault symbols earlier line = fault_in symbols (version_of earlier) (tables_o
 
 -- the fault of a trace's end, if it has one
 abbrev pub raw_end_fault : List (List ℕ) → Option LineError
-raw_end_fault lines = if is_some (version_of lines) then None else Some NoVersion
+raw_end_fault lines = missing_fault (version_of lines)

@@ -7,7 +7,8 @@ use Rattle.ht_lines.specs.Reading.{reading}
 use Rattle.ht_trace.specs.Contents.{version_in}
 use Rattle.ht_trace.specs.declared.error.LineError.{LineError}
 use Rattle.ht_trace.specs.declared.error.LineError.TheVariants.{NoMemory, TooMany}
-use Rattle.ht_trace.specs.LineFault.{Tells, may_stand_first}
+use Rattle.ht_trace.specs.LineFault.{Tells}
+use Rattle.ht_trace.specs.VersionLines.{may_stand_first}
 use Rattle.interpret.specs.Interpreted.{lines_for, text_of}
 use Rattle.interpret.specs.InterpreterState.{InterpreterState, info_after, info_at}
 use Rattle.interpret.specs.RawContents.{IsRaw}

@@ -9,7 +9,8 @@ ghost use Rattle.ht_lines.specs.ItemContent.{content};
 ghost use Rattle.ht_lines.specs.Reads.{RangesFit};
 ghost use Rattle.ht_lines.specs.Written.{IsWritable};
 ghost use Rattle.ht_lines.specs.declared.item.Form.TheVariants.{Raw};
-ghost use Rattle.ht_trace.specs.LineFault.{Tells, may_stand_first};
+ghost use Rattle.ht_trace.specs.LineFault.{Tells};
+ghost use Rattle.ht_trace.specs.VersionLines.{may_stand_first};
 ghost use Rattle.interpret.specs.Interpreted.{interpreted_lines, text_of};
 ghost use Rattle.interpret.specs.InterpreterState.{StandsFor, failed_with};
 ghost use Rattle.interpret.specs.RawContents.{contents};
@@ -29,7 +30,7 @@ use crate::resolved::resolve;
 use crate::symbols::Symbols;
 use hp_num::put_bytes;
 use ht_lines::{Form, Item, put_item, read_item};
-use ht_trace::LineError;
+use ht_trace::{LineError, may_stand_first};
 use stack_table::Nodes;
 use std::alloc::Global;
 use std::marker::Model;
@@ -183,7 +184,20 @@ impl Interpreter {
             Item::Node { ip, parent } => self.add_node(ip, parent, out),
             Item::RawAlloc { size, trace, ptr } => self.allocate(size, trace, ptr, out),
             Item::RawFree { ptr } => self.free(ptr, out),
-            _ => put_line(out, line),
+            Item::Executable { .. }
+            | Item::Command { .. }
+            | Item::System { .. }
+            | Item::Str { .. }
+            | Item::Instr { .. }
+            | Item::Info { .. }
+            | Item::Alloc { .. }
+            | Item::Free { .. }
+            | Item::Clock { .. }
+            | Item::Rss { .. }
+            | Item::Attached
+            | Item::Suppress { .. }
+            | Item::Comment { .. }
+            | Item::Other { .. } => put_line(out, line),
         }
     }
 
@@ -301,14 +315,4 @@ fn put_line(out: &mut Vec<u8>, line: &[u8]) -> Result<(), LineError>
     put_bytes(out, line)?;
     put_bytes(out, b"\n")?;
     Ok(())
-}
-
-// Whether a line may stand before the version line: a comment, or a line of the version line's kind.
-fn may_stand_first(line: &[u8]) -> bool
-    ensures { result ≡ may_stand_first line.now }
-{
-    match line {
-        [] => false,
-        [kind, ..] => *kind == b'#' || *kind == b'v',
-    }
 }

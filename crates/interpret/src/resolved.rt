@@ -6,9 +6,7 @@ ghost use Rattle.interpret.specs.Resolved.{frame_count, resolved};
 use crate::modules::ModuleList;
 use crate::symbol_frame::next_frame;
 use crate::symbols::Symbols;
-
-/// The most frames of a stack.
-const MAX_FRAMES: u32 = 4096;
+use stack_table::MOST_FRAMES;
 
 /// An instruction pointer, the name of its module, and the texts of its symbol, where they are known.
 #[derive(Clone, Copy, Debug)]
@@ -52,7 +50,7 @@ impl ResolvedIp<'_> {
         let mut count = 0;
         let mut rest = self.texts;
         'frames: while let Some(texts) = rest {
-            if count > MAX_FRAMES {
+            if count > MOST_FRAMES {
                 return count;
             }
             let (_, after) = next_frame(texts);

@@ -1,8 +1,8 @@
-pub mod Entries
-pub mod Balances
-pub mod Consistency
-pub mod Views
-pub mod Lists
-pub mod PossibleLemmas
-pub mod Stands
-pub mod Infos
+mod Entries
+mod Balances
+mod Consistency
+mod Views
+mod Lists
+mod PossibleLemmas
+mod Stands
+mod Infos

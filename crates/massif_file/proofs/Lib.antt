@@ -1,13 +1,14 @@
-pub mod Complete
-pub mod Lent
-pub mod LineLemmas
-pub mod NoTruncation
-pub mod Profiles
-pub mod ReadTexts
-pub mod ReadingLemmas
-pub mod RoundTrip
-pub mod Refusing
-pub mod Sound
-pub mod Stopping
-pub mod TreeLemmas
-pub mod WrittenLemmas
+mod Complete
+mod Lent
+mod LevelTexts
+mod LineLemmas
+mod NoTruncation
+mod Profiles
+mod ReadTexts
+mod ReadingLemmas
+mod RoundTrip
+mod Refusing
+mod Sound
+mod Stopping
+mod TreeLemmas
+mod WrittenLemmas

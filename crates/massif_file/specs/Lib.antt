@@ -17,5 +17,6 @@ pub mod Reading
 pub mod Refuses
 pub mod StandsFor
 pub mod TreeLineOf
+pub mod TreeTexts
 pub mod Trees
 pub mod UnlessNoMemory

@@ -1,13 +1,15 @@
 //! The laws of Massif files, over whole lists of lines, for callers whose contracts speak of lists that they do
 //! not read themselves.
-ghost use Rattle.std.specs.Prelude.{◌≡◌, ◌⊎◌, ◌↔◌, ℕ, List, Ok, Err, All};
+ghost use Rattle.std.specs.Prelude.{◌≡◌, ◌⊎◌, ◌↔◌, ℕ, List, [], ◌∷◌, Ok, Err, All};
 ghost use Rattle.massif_file.specs.declared.fault.ProfileFault.{ProfileFault};
 ghost use Rattle.massif_file.specs.declared.profile.Profile.{Profile};
 ghost use Rattle.massif_file.specs.IsProfile.{is_profile};
 ghost use Rattle.massif_file.specs.ProfileFault.{profile_fault};
 ghost use Rattle.massif_file.specs.ProfileOf.{profile_of};
 ghost use Rattle.massif_file.specs.IsWritable.{IsLine, IsWritable};
-ghost use Rattle.massif_file.specs.MassifText.{massif_lines};
+ghost use Rattle.massif_file.specs.MassifText.{massif_lines, tree_lines};
+ghost use Rattle.massif_file.specs.TreeTexts.{tree_texts};
+ghost use Rattle.massif_file.specs.Trees.{Trees, count_of, lines_of};
 
 use hp_num::decimal_texts;
 
@@ -34,6 +36,9 @@ pub fn massif_round_trip()
     ensures reads_back { (profile : Profile) → IsWritable profile → is_profile (massif_lines profile) profile }
     ensures lines { (profile : Profile) → IsWritable profile → All IsLine (massif_lines profile) }
     ensures writable { (lines : List (List ℕ)) (profile : Profile) → All IsLine lines → is_profile lines profile → IsWritable profile }
+
+    // Before each line of a tree stand as many blanks as its level there.
+    ensures levels { (tree : Trees) → count_of tree ≡ 1 → tree_lines (1 ∷ []) (lines_of tree) ≡ tree_texts 0 tree }
 {
     decimal_texts();
 }

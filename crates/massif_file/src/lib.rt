@@ -1,5 +1,25 @@
-//! Massif's output file: its profile as values, written as text, and read again line by line.
-//! Taking snapshots of a trace and printing pages of a profile are the work of the crates above.
+//! Massif's output file: its profile as values, written as text, and read again line by line. Taking snapshots of a
+//! trace and printing pages of a profile are the work of the crates above.
+//!
+//! What it promises:
+//!
+//! - `ProfileReader` stands for the lines that it was given. `line` takes one more, or answers the fault of the first
+//!   line that can't follow those before it, and then that fault again; `finish` answers the profile of the lines, or
+//!   `Truncated`, and `profile` lends what `finish` would answer.
+//! - `put_profile` appends a profile's text.
+//! - The laws: `massif_profiles` says that any lines are one profile or have one first fault, and `massif_round_trip`
+//!   that a writable profile's text reads as that profile, and that every profile that was read is writable.
+//!
+//! The tests of these calls are in the crate `massif_tests`.
+//!
+//! | File | Does |
+//! |---|---|
+//! | `profile.rt`, `lists.rt` | what a file says, as values; their lists |
+//! | `reader.rt`, `reading.rt` | the reader; one short step for each line that may come next |
+//! | `line.rt`, `levels.rt` | what single lines say; how many lines of a tree are still to come |
+//! | `writer.rt` | a profile as text |
+//! | `fault.rt` | why lines are refused |
+//! | `laws.rt` | the two laws |
 #![tactic(auto)]
 
 mod fault;

@@ -16,7 +16,7 @@ use Rattle.ht_trace.specs.FrameText.{frame_text}
 use Rattle.ht_trace.specs.IsFrame.{IsFrame}
 use Rattle.ht_trace.specs.StackFrames.{stack_frames}
 use Rattle.ht_trace.specs.TableState.{TableState}
-use Rattle.ht_trace.proofs.SoundLemmas.{stack-places}
+use Rattle.ht_trace.proofs.Laws.{stack-places}
 use Rattle.massif_tree.specs.FunctionLists.{is_ignored, is_listed, trimmed, trimmed_texts, without_listed}
 use Rattle.massif_tree.specs.FirstLists.{first_lists, first_texts}
 use Rattle.massif_tree.proofs.Idle.{AreIdle}

@@ -1,19 +1,35 @@
-//! Massif's snapshots of a trace: which are taken while its events pass, what they show, and the profile that they make.
-//! Which offers are kept, what a tree says and how a profile is written are the parts of the crates below.
+//! Massif's snapshots of a trace: which are taken while its events pass, what they show, and the profile that they
+//! make. Which offers are kept, what a tree says and how a profile is written are the parts of the crates below.
 //!
-//! No tree is built while events pass. A history keeps what stacks cost at the places of the snapshots that have a tree, and
-//! the trees of those that are left at the end are built then, from its replay. An event marks its stack, in constant time and
-//! without memory.
+//! `Sampler` follows the events of a trace beside a ledger and takes Massif's snapshots of it. What it stands for
+//! (`StandsFor`) is told of lists of names, tables and events: its figures are those of the events, its snapshots those
+//! that are kept of their offers, and each has the figures of its place. What it promises:
 //!
-//! | File | What stands there |
+//! - `new` takes account of the stacks of the tables and takes the snapshot of place 0. `stack` takes account of the
+//!   next stack, which is judged once. `event` applies an event to the ledger and, where its stack isn't ignored,
+//!   offers the peak before a free and the normal snapshot behind the event. `finish` gives `sampled`, the profile of
+//!   the events.
+//! - An event costs a few additions and takes no memory unless a detailed snapshot or a peak is due. `NoMemory` comes
+//!   only where one is (`IsDue`), then for every later event, and of `finish` (`failed`); the other faults are the
+//!   ledger's, and that the gross bytes or the time of a counted event pass 2^62 (`sample_fault`), and leave sampler
+//!   and ledger as they were.
+//! - The law `sampling_goes_on` says that a sampler stands for the same events when its tables have grown, so that a
+//!   caller may read a trace line by line beside it.
+//!
+//! An event marks its stack. Where a detailed snapshot or a peak is due, the texts of the stacks are made that came
+//! since the last such one, and a `CostHistory` notes what the marked stacks cost. No tree is built while events pass:
+//! nearly every peak is followed by a greater one, and most detailed snapshots are dropped. `finish` replays the
+//! history and builds the trees of the snapshots that are left; the stacks that came later cost nothing there, and a
+//! tree can't tell. The tests of these calls are in the crate `massif_tests`.
+//!
+//! | File | Does |
 //! |---|---|
-//! | `sampler` | the sampler, which is told of stacks and events |
-//! | `taking` | how one event is taken |
-//! | `samples` | the snapshots so far, their costs and the figures of the present place |
-//! | `running` | the figures that grow with each event |
-//! | `profile`, `place_tree` | the profile of the snapshots at the end, and the tree of one |
-//! | `load`, `options`, `fault` | what a snapshot carries, what is asked, and why an event isn't taken |
-//! | `laws` | what holds when tables grow |
+//! | `sampler.rt`, `taking.rt` | the sampler; how one event is taken |
+//! | `running.rt` | the figures that grow with each event |
+//! | `samples.rt`, `load.rt` | the snapshots that are kept and what their stacks cost; what each shows beside its time and its total |
+//! | `profile.rt`, `place_tree.rt` | the profile that the kept snapshots make; the tree of one of them |
+//! | `options.rt`, `fault.rt` | what is asked; why an event isn't taken |
+//! | `laws.rt` | the law |
 #![tactic(auto)]
 
 mod fault;

@@ -1,5 +1,5 @@
-//! Tests of the public calls of `massif_cull`, `massif_file`, `ms_print`, `massif_tree` and `massif_sample`, in a crate of their
-//! own: a crate that has tests is proved twice.
+//! Tests of the public calls of `massif_cull`, `massif_file`, `ms_print`, `massif_tree` and `massif_sample`, in a crate
+//! of their own: a crate that has tests is proved twice.
 #![tactic(auto)]
 
 #[cfg(test)]

@@ -1,21 +1,20 @@
 -- Stacks that cost nothing, behind others: they change no tree.
 use Rattle.std.proofs.Common.{◌≡◌, ℕ, zero, suc, ◌+◌, ◌<◌, ◌≤◌, List, [], ◌∷◌, ◌++◌, length, map, take, eqb, Bool, true, false, cond, refl, ap, sym, ◌∙◌, inl, inr, arith, append-nil, length-append}
 use Rattle.std.specs.Prelude.{◌&&◌, filter, not, nat_lt, sum_by}
-use Rattle.std.specs.List.{AllByRecursion, position_or_len, range_with_len}
+use Rattle.std.specs.List.{AllByRecursion, flat_map, position_or_len, range_with_len}
 use Rattle.std.proofs.Math.Path.{fun_ext}
 use Rattle.std.proofs.lemmas.List.Elements.{filter-append}
 use Rattle.std.proofs.lemmas.List.Folds.{prefix_len-append}
 use Rattle.std.proofs.lemmas.List.Sums.{prefix_len-le-length, sum_by-append, sum_by-cons}
 use Rattle.std.proofs.lemmas.Bool.Decides.{eqb_tells, nat_tests}
+use Rattle.cost_tree.specs.declared.scale.Scale.{Scale}
 use Rattle.cost_tree.specs.Costed.{Costed}
+use Rattle.cost_tree.specs.CostLines.{FrontLine, a_front, gathered, cost_lines, cost_of, front_lines, gathered_lines, is_small, kept_fronts, small_fronts}
 use Rattle.cost_tree.specs.Inclusive.{has_front, inclusive, least}
 use Rattle.cost_tree.specs.NextFronts.{longer_front, next_fronts, opens, texts_at}
-use Rattle.massif_file.specs.Trees.{Trees, no_tree, a_tree, lines_of}
+use Rattle.cost_tree.specs.Order.{by_cost}
 use Rattle.massif_tree.specs.declared.options.TreeOptions.{TreeOptions}
-use Rattle.massif_tree.specs.declared.scale.Scale.{Scale}
-use Rattle.massif_tree.specs.Labels.{gathered_label}
-use Rattle.massif_tree.specs.MassifTree.{beside, cost_of, front_tree, gathered_tree, is_small, kept_fronts, label_of, massif_tree, scale_of, small_fronts}
-use Rattle.massif_tree.specs.Order.{by_cost}
+use Rattle.massif_tree.specs.MassifTree.{massif_line, massif_tree, scale_of}
 
 -- each costs nothing
 abbrev pub AreIdle : List Costed → Type 0
@@ -169,28 +168,33 @@ small-idle scale stacks idle front none =
     ap (λ (cost : List (List ℕ) → ℕ). filter (λ next. is_small scale (cost next)) (next_fronts front (stacks ++ idle))) (costs-idle stacks idle none)
     ∙ ap (λ (fronts : List (List (List ℕ))). filter (λ next. is_small scale (cost_of stacks next)) fronts) (next-idle front stacks idle none)
 
-gathered-idle : (scale : Scale) (stacks idle : List Costed) (fronts : List (List (List ℕ))) → AreIdle idle → gathered_tree scale (stacks ++ idle) fronts ≡ gathered_tree scale stacks fronts
-unfolding gathered_tree
-gathered-idle scale stacks idle [] none = refl
-gathered-idle scale stacks idle (next ∷ more) none =
-    ap (λ (cost : List (List ℕ) → ℕ). a_tree (sum_by cost (next ∷ more)) (gathered_label scale.threshold (length (next ∷ more))) no_tree no_tree) (costs-idle stacks idle none)
+-- the line of a front
+abbrev line : List (List ℕ) → ℕ → ℕ → FrontLine
+line front children cost = record { level = length front; children = children; cost = cost; shown = a_front front }
 
-front-idle : (more : ℕ) (scale : Scale) (stacks idle : List Costed) → AreIdle idle → front_tree more scale (stacks ++ idle) ≡ front_tree more scale stacks
-unfolding front_tree
+gathered-idle : (stacks idle : List Costed) (level : ℕ) (fronts : List (List (List ℕ))) → AreIdle idle → gathered_lines (stacks ++ idle) level fronts ≡ gathered_lines stacks level fronts
+unfolding gathered_lines
+gathered-idle stacks idle level [] none = refl
+gathered-idle stacks idle level (next ∷ more) none =
+    ap (λ (cost : List (List ℕ) → ℕ). record { level = level; children = 0; cost = sum_by cost (next ∷ more); shown = gathered (length (next ∷ more)) } ∷ []) (costs-idle stacks idle none)
+
+front-idle : (more : ℕ) (scale : Scale) (stacks idle : List Costed) → AreIdle idle → front_lines more scale (stacks ++ idle) ≡ front_lines more scale stacks
+unfolding front_lines
 front-idle zero scale stacks idle none =
-    fun_ext (λ front. fun_ext (λ others. ap (λ (cost : List (List ℕ) → ℕ). a_tree (cost front) (label_of front) no_tree others) (costs-idle stacks idle none)))
+    fun_ext (λ front. ap (λ (cost : List (List ℕ) → ℕ). line front 0 (cost front) ∷ []) (costs-idle stacks idle none))
 front-idle (suc more) scale stacks idle none =
     let whole : List Costed = stacks ++ idle in
-    fun_ext (λ front. fun_ext (λ others.
-    let small : gathered_tree scale whole (small_fronts scale whole front) ≡ gathered_tree scale stacks (small_fronts scale stacks front) =
-    gathered-idle scale stacks idle (small_fronts scale whole front) none ∙ ap (gathered_tree scale stacks) (small-idle scale stacks idle front none) in
-    ap (λ (cost : List (List ℕ) → ℕ). a_tree (cost front) (label_of front) (beside (front_tree more scale whole) (kept_fronts scale whole front) (gathered_tree scale whole (small_fronts scale whole front))) others) (costs-idle stacks idle none)
-    ∙ ap (λ (tree : List (List ℕ) → Trees → Trees). a_tree (cost_of stacks front) (label_of front) (beside tree (kept_fronts scale whole front) (gathered_tree scale whole (small_fronts scale whole front))) others) (front-idle more scale stacks idle none)
-    ∙ ap (λ (kept : List (List (List ℕ))). a_tree (cost_of stacks front) (label_of front) (beside (front_tree more scale stacks) kept (gathered_tree scale whole (small_fronts scale whole front))) others) (kept-idle scale stacks idle front none)
-    ∙ ap (λ (last : Trees). a_tree (cost_of stacks front) (label_of front) (beside (front_tree more scale stacks) (kept_fronts scale stacks front) last) others) small))
+    fun_ext (λ front.
+    let few : gathered_lines whole (length front + 1) (small_fronts scale whole front) ≡ gathered_lines stacks (length front + 1) (small_fronts scale stacks front) =
+    gathered-idle stacks idle (length front + 1) (small_fronts scale whole front) none ∙ ap (λ (fronts : List (List (List ℕ))). gathered_lines stacks (length front + 1) fronts) (small-idle scale stacks idle front none) in
+    let lines : (List (List ℕ) → List FrontLine) → List (List (List ℕ)) → List FrontLine → ℕ → List FrontLine = λ below kept last cost. line front (length kept + length last) cost ∷ (flat_map below kept ++ last) in
+    ap (λ (cost : List (List ℕ) → ℕ). lines (front_lines more scale whole) (kept_fronts scale whole front) (gathered_lines whole (length front + 1) (small_fronts scale whole front)) (cost front)) (costs-idle stacks idle none)
+    ∙ ap (λ (below : List (List ℕ) → List FrontLine). lines below (kept_fronts scale whole front) (gathered_lines whole (length front + 1) (small_fronts scale whole front)) (cost_of stacks front)) (front-idle more scale stacks idle none)
+    ∙ ap (λ (kept : List (List (List ℕ))). lines (front_lines more scale stacks) kept (gathered_lines whole (length front + 1) (small_fronts scale whole front)) (cost_of stacks front)) (kept-idle scale stacks idle front none)
+    ∙ ap (λ (last : List FrontLine). lines (front_lines more scale stacks) (kept_fronts scale stacks front) last (cost_of stacks front)) few)
 
 -- the tree stays
 pub tree-idle : (options : TreeOptions) (total : ℕ) (stacks idle : List Costed) → AreIdle idle → massif_tree options total (stacks ++ idle) ≡ massif_tree options total stacks
-unfolding massif_tree
+unfolding massif_tree cost_lines
 tree-idle options total stacks idle none =
-    ap (λ (tree : List (List ℕ) → Trees → Trees). lines_of (tree [] no_tree)) (front-idle options.depth (scale_of options total) stacks idle none)
+    ap (λ (lines : List (List ℕ) → List FrontLine). map (massif_line options.threshold) (lines [])) (front-idle options.depth (scale_of options total) stacks idle none)

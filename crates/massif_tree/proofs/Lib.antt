@@ -3,11 +3,6 @@ pub mod Forests
 pub mod LabelTexts
 pub mod Listed
 pub mod OneLine
-pub mod Orders
-pub mod Pushing
-pub mod Sorting
-pub mod Trees
 pub mod Trimming
-pub mod Walks
 pub mod Writable
 pub mod Idle

@@ -1,66 +1,62 @@
 -- Lemmas on the lines of a tree that may be written.
-use Rattle.std.proofs.Common.{◌≡◌, ℕ, zero, suc, ◌+◌, ◌^◌, ◌<◌, ◌≤◌, not, Bool, List, [], ◌∷◌, ◌++◌, length, filter, get_or, Some, refl, ap, ◌∙◌, arith}
+use Rattle.std.proofs.Common.{◌≡◌, ℕ, zero, suc, ◌+◌, ◌-◌, ◌^◌, ◌<◌, ◌≤◌, List, [], ◌∷◌, ◌++◌, length, map, filter, get_or, Some, refl, sym, ap, ◌∙◌, arith, append-nil}
 use Rattle.std.specs.Prelude.{All, slice_get, sum_by}
-use Rattle.std.specs.List.{range_with_len}
+use Rattle.std.specs.List.{flat_map, range_with_len}
 use Rattle.std.specs.Option.{option_map}
-use Rattle.std.proofs.lemmas.List.Elements.{All-append, All-cons, All-filter, All-head, All-map, All-nil, All-tail, All-take}
-use Rattle.std.proofs.lemmas.List.Filters.{length-filter_both, sum_by-filter_both}
-use Rattle.std.proofs.lemmas.List.Sorted.{All-permutation, length_permutation}
+use Rattle.std.proofs.lemmas.List.Elements.{All-append, All-cons, All-head, All-map, All-nil, All-tail, All-take, All-weaker}
+use Rattle.cost_tree.specs.declared.scale.Scale.{Scale}
 use Rattle.cost_tree.specs.Costed.{Costed}
-use Rattle.cost_tree.specs.Inclusive.{inclusive, own}
+use Rattle.cost_tree.specs.CostLines.{FrontLine, cost_lines, cost_of, front_line, front_lines, gathered_lines, kept_fronts, small_fronts}
+use Rattle.cost_tree.specs.Inclusive.{inclusive}
 use Rattle.cost_tree.specs.NextFronts.{longer_front, next_fronts, opens, texts_at}
+use Rattle.cost_tree.proofs.Laws.{kept-all, lines-few, small-within}
 use Rattle.ht_trace.specs.declared.frame.FrameAt.{FrameAt}
 use Rattle.ht_trace.specs.declared.frame.Style.TheVariants.{Addressed}
 use Rattle.ht_trace.specs.FrameText.{frame_text}
 use Rattle.ht_trace.specs.TableState.{TableState}
 use Rattle.massif_file.specs.declared.profile.TreeLine.{TreeLine}
 use Rattle.massif_file.specs.IsWritable.{IsLine, IsText, IsWritableLine}
-use Rattle.massif_file.specs.Trees.{IsTree, Trees, no_tree, count_of, lines_of}
+use Rattle.massif_file.specs.Trees.{IsTree, no_tree}
 use Rattle.massif_tree.specs.declared.options.TreeOptions.{TreeOptions}
-use Rattle.massif_tree.specs.declared.scale.Scale.{Scale}
 use Rattle.massif_tree.specs.FunctionLists.{trimmed, trimmed_lists, trimmed_texts}
-use Rattle.massif_tree.specs.Labels.{gathered_label}
-use Rattle.massif_tree.specs.MassifTree.{beside, cost_of, front_tree, gathered_tree, is_small, kept_fronts, label_of, massif_tree, scale_of, small_fronts}
-use Rattle.massif_tree.proofs.Forests.{count-beside, front-count, front-levels}
+use Rattle.massif_tree.specs.MassifTree.{label_of, massif_line, massif_tree, scale_of}
+use Rattle.massif_tree.proofs.Forests.{front-count, front-levels, front-lines, front_tree}
 use Rattle.massif_tree.proofs.OneLine.{frame-text, gathered-text, root-text}
-use Rattle.massif_tree.proofs.Orders.{by_cost-permutation}
-use Rattle.massif_tree.proofs.Walks.{next-few}
 
 -- a tree to a depth of at most 256 may stand in a profile
 pub right : (options : TreeOptions) (total : ℕ) (stacks : List Costed) → options.depth ≤ 256 → IsTree (massif_tree options total stacks)
-unfolding massif_tree
+unfolding massif_tree cost_lines
 right options total stacks shallow =
     let scale : Scale = scale_of options total in
     record {
       tree = front_tree options.depth scale stacks [] no_tree;
       one = front-count options.depth scale stacks [] no_tree;
       levels = front-levels options.depth 257 scale stacks [] no_tree (omega arith) (omega arith);
-      same = refl;
+      same = sym (front-lines options.depth scale stacks [] no_tree ∙ append-nil (map (massif_line options.threshold) (front_lines options.depth scale stacks [])));
     }
 
 -- the first line has the cost of the front
-front-bytes : (more : ℕ) (scale : Scale) (stacks : List Costed) (front : List (List ℕ)) (others : Trees)
-    → option_map (λ (line : TreeLine). line.bytes) (slice_get (lines_of (front_tree more scale stacks front others)) 0) ≡ Some (inclusive front stacks)
-unfolding front_tree
-front-bytes zero scale stacks front others = refl
-front-bytes (suc more) scale stacks front others = refl
+front-bytes : (more threshold : ℕ) (scale : Scale) (stacks : List Costed) (front : List (List ℕ))
+    → option_map (λ (line : TreeLine). line.bytes) (slice_get (map (massif_line threshold) (front_lines more scale stacks front)) 0) ≡ Some (inclusive front stacks)
+unfolding front_lines
+front-bytes zero threshold scale stacks front = refl
+front-bytes (suc more) threshold scale stacks front = refl
 
 pub root-bytes : (options : TreeOptions) (total sum : ℕ) (stacks : List Costed) → inclusive [] stacks ≡ sum
     → option_map (λ (line : TreeLine). line.bytes) (slice_get (massif_tree options total stacks) 0) ≡ Some sum
-unfolding massif_tree
-root-bytes options total sum stacks is = front-bytes options.depth (scale_of options total) stacks [] no_tree ∙ ap (λ (n : ℕ). Some n) is
+unfolding massif_tree cost_lines
+root-bytes options total sum stacks is = front-bytes options.depth options.threshold (scale_of options total) stacks [] ∙ ap (λ (n : ℕ). Some n) is
 
--- what holds of stacks whose tree may be written, with what is known of their fronts
+-- what holds of stacks whose tree may be written
 pub record MayWrite (stacks : List Costed) : Type 0 where
   pub few : length stacks < 2 ^ 32
   pub within : (front : List (List ℕ)) → inclusive front stacks ≤ 2 ^ 62
-  pub sums : (front : List (List ℕ)) → inclusive front stacks ≡ own front stacks + sum_by (λ next. inclusive next stacks) (next_fronts front stacks)
   pub texts : All (λ (stack : Costed). All IsText stack.texts) stacks
 
 -- a front of texts has a label that may be written
 label-text : (front : List (List ℕ)) → All IsText front → IsText (label_of front)
 label-text [] all = root-text
-label-text (text ∷ more) all = all (length more) [] (omega arith)
+label-text (text ∷ more) all = all (length (text ∷ more) - 1) [] (omega arith)
 
 -- a front that goes on from another is one of such texts
 stack-texts : (stacks : List Costed) (n : ℕ) → All (λ (stack : Costed). All IsText stack.texts) stacks → All IsText (texts_at stacks n)
@@ -75,77 +71,51 @@ next-texts front stacks all =
     All-map (All IsText) (longer_front front stacks) places
     (λ k d within. All-take IsText (length front + 1) (texts_at stacks (get_or places k d)) (stack-texts stacks (get_or places k d) all))
 
-kept-texts : (scale : Scale) (stacks : List Costed) (front : List (List ℕ)) → MayWrite stacks → All (All IsText) (kept_fronts scale stacks front)
-unfolding kept_fronts
-kept-texts scale stacks front may =
-    let kept : List (List ℕ) → Bool = λ next. not (is_small scale (cost_of stacks next)) in
-    All-permutation (All IsText) (filter kept (next_fronts front stacks)) (kept_fronts scale stacks front) (by_cost-permutation (cost_of stacks) (filter kept (next_fronts front stacks)))
-    (All-filter kept (All IsText) (next_fronts front stacks) (next-texts front stacks may.texts))
-
--- trees side by side
-beside-writable : {X : Type 0} (tree : X → Trees → Trees) (P : X → Type 0) → ((x : X) (others : Trees) → P x → All IsWritableLine (lines_of others) → All IsWritableLine (lines_of (tree x others)))
-    → (xs : List X) (others : Trees) → All P xs → All IsWritableLine (lines_of others) → All IsWritableLine (lines_of (beside tree xs others))
-beside-writable tree P one [] others all rest = rest
-beside-writable tree P one (x ∷ xs) others all rest = one x (beside tree xs others) (All-head P x xs all) (beside-writable tree P one xs others (All-tail P x xs all) rest)
+-- a line of a tree whose line of the file may be written
+abbrev MayStand : ℕ → FrontLine → Type 0
+MayStand threshold line = IsWritableLine (massif_line threshold line)
 
 -- the line of places that are gathered
-gathered-writable : (scale : Scale) (stacks : List Costed) (fronts : List (List (List ℕ))) → sum_by (cost_of stacks) fronts ≤ 2 ^ 62 → All IsWritableLine (lines_of (gathered_tree scale stacks fronts))
-unfolding gathered_tree
-gathered-writable scale stacks [] within = All-nil IsWritableLine
-gathered-writable scale stacks (next ∷ more) within =
-    All-cons IsWritableLine (record { children = 0; bytes = sum_by (cost_of stacks) (next ∷ more); label = gathered_label scale.threshold (length (next ∷ more)) }) []
-    (record { children = omega arith; bytes = within; label = gathered-text scale.threshold (length (next ∷ more)) })
-    (All-nil IsWritableLine)
+gathered-writable : (threshold : ℕ) (stacks : List Costed) (level : ℕ) (fronts : List (List (List ℕ))) → sum_by (cost_of stacks) fronts ≤ 2 ^ 62 → All (MayStand threshold) (gathered_lines stacks level fronts)
+unfolding gathered_lines
+gathered-writable threshold stacks level [] within = All-nil (MayStand threshold)
+gathered-writable threshold stacks level (next ∷ more) within =
+    All-cons (MayStand threshold) _ []
+    (record { children = omega arith; bytes = within; label = gathered-text threshold (length (next ∷ more)) })
+    (All-nil (MayStand threshold))
 
-small-within : (scale : Scale) (stacks : List Costed) (front : List (List ℕ)) → MayWrite stacks → sum_by (cost_of stacks) (small_fronts scale stacks front) ≤ 2 ^ 62
-unfolding small_fronts
-small-within scale stacks front may =
-    let small : List (List ℕ) → Bool = λ next. is_small scale (cost_of stacks next) in
-    let both = sum_by-filter_both small (λ next. not (small next)) (λ next. refl) (cost_of stacks) (next_fronts front stacks) in
-    let whole = may.sums front in
+-- what holds of each element's list holds of all of them in a row
+All-flat : {X A : Type 0} (P : A → Type 0) (f : X → List A) (xs : List X) → All (λ x. All P (f x)) xs → All P (flat_map f xs)
+All-flat P f [] all = All-nil P
+All-flat P f (x ∷ xs) all = All-append P (f x) (flat_map f xs) (All-head (λ y. All P (f y)) x xs all) (All-flat P f xs (All-tail (λ y. All P (f y)) x xs all))
+
+-- the lines of a front of such texts
+front-writable : (more threshold : ℕ) (scale : Scale) (stacks : List Costed) (front : List (List ℕ)) → MayWrite stacks → All IsText front → All (MayStand threshold) (front_lines more scale stacks front)
+unfolding front_lines
+front-writable zero threshold scale stacks front may texts =
+    All-cons (MayStand threshold) (front_line 0 stacks front) []
+    (record { children = omega arith; bytes = may.within front; label = label-text front texts })
+    (All-nil (MayStand threshold))
+front-writable (suc more) threshold scale stacks front may texts =
+    let kept : List (List (List ℕ)) = kept_fronts scale stacks front in
+    let few : List FrontLine = gathered_lines stacks (length front + 1) (small_fronts scale stacks front) in
+    let children = lines-few scale stacks front (length front + 1) in
+    let count = may.few in
+    let small = small-within scale stacks front in
     let within = may.within front in
-    omega arith
-
--- the children of a front can be counted
-gathered-one : (scale : Scale) (stacks : List Costed) (fronts : List (List (List ℕ))) → count_of (gathered_tree scale stacks fronts) ≤ length fronts
-unfolding gathered_tree
-gathered-one scale stacks [] = omega arith
-gathered-one scale stacks (next ∷ more) = omega arith
-
-children-few : (more : ℕ) (scale : Scale) (stacks : List Costed) (front : List (List ℕ)) → MayWrite stacks
-    → count_of (beside (front_tree more scale stacks) (kept_fronts scale stacks front) (gathered_tree scale stacks (small_fronts scale stacks front))) < 2 ^ 32
-unfolding kept_fronts small_fronts
-children-few more scale stacks front may =
-    let small : List (List ℕ) → Bool = λ next. is_small scale (cost_of stacks next) in
-    let kept : List (List ℕ) → Bool = λ next. not (small next) in
-    let counted = count-beside (front_tree more scale stacks) (front-count more scale stacks) (kept_fronts scale stacks front) (gathered_tree scale stacks (small_fronts scale stacks front)) in
-    let order = length_permutation (filter kept (next_fronts front stacks)) (kept_fronts scale stacks front) (by_cost-permutation (cost_of stacks) (filter kept (next_fronts front stacks))) in
-    let gathered = gathered-one scale stacks (small_fronts scale stacks front) in
-    let both = length-filter_both small kept (λ next. refl) (next_fronts front stacks) in
-    let most = next-few front stacks in
-    let few = may.few in
-    omega arith
-
--- the tree of a front of such texts
-front-writable : (more : ℕ) (scale : Scale) (stacks : List Costed) (front : List (List ℕ)) (others : Trees) → MayWrite stacks → All IsText front → All IsWritableLine (lines_of others)
-    → All IsWritableLine (lines_of (front_tree more scale stacks front others))
-unfolding front_tree
-front-writable zero scale stacks front others may texts rest =
-    All-cons IsWritableLine (record { children = 0; bytes = cost_of stacks front; label = label_of front }) (lines_of others)
-    (record { children = omega arith; bytes = may.within front; label = label-text front texts }) rest
-front-writable (suc more) scale stacks front others may texts rest =
-    let below : Trees = beside (front_tree more scale stacks) (kept_fronts scale stacks front) (gathered_tree scale stacks (small_fronts scale stacks front)) in
-    All-cons IsWritableLine (record { children = count_of below; bytes = cost_of stacks front; label = label_of front }) (lines_of below ++ lines_of others)
-    (record { children = children-few more scale stacks front may; bytes = may.within front; label = label-text front texts })
-    (All-append IsWritableLine (lines_of below) (lines_of others)
-    (beside-writable (front_tree more scale stacks) (All IsText) (λ next before all lines. front-writable more scale stacks next before may all lines)
-    (kept_fronts scale stacks front) (gathered_tree scale stacks (small_fronts scale stacks front)) (kept-texts scale stacks front may)
-    (gathered-writable scale stacks (small_fronts scale stacks front) (small-within scale stacks front may)))
-    rest)
+    All-cons (MayStand threshold) (front_line (length kept + length few) stacks front) (flat_map (front_lines more scale stacks) kept ++ few)
+    (record { children = omega arith; bytes = may.within front; label = label-text front texts })
+    (All-append (MayStand threshold) (flat_map (front_lines more scale stacks) kept) few
+    (All-flat (MayStand threshold) (front_lines more scale stacks) kept
+    (All-weaker (All IsText) (λ next. All (MayStand threshold) (front_lines more scale stacks next)) (λ next all. front-writable more threshold scale stacks next may all) kept
+    (kept-all (All IsText) scale stacks front (next-texts front stacks may.texts))))
+    (gathered-writable threshold stacks (length front + 1) (small_fronts scale stacks front) (omega arith)))
 
 pub writable : (options : TreeOptions) (total : ℕ) (stacks : List Costed) → MayWrite stacks → All IsWritableLine (massif_tree options total stacks)
-unfolding massif_tree
-writable options total stacks may = front-writable options.depth (scale_of options total) stacks [] no_tree may (All-nil IsText) (All-nil IsWritableLine)
+unfolding massif_tree cost_lines
+writable options total stacks may =
+    All-map IsWritableLine (massif_line options.threshold) (front_lines options.depth (scale_of options total) stacks [])
+    (front-writable options.depth options.threshold (scale_of options total) stacks [] may (All-nil IsText))
 
 -- the texts of trimmed stacks
 pub texts-writable : (tables : TableState) (alloc_fns : List (List ℕ)) → All IsLine tables.strings → All (All IsText) (trimmed_lists tables alloc_fns)

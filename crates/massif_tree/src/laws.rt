@@ -9,8 +9,6 @@ ghost use Rattle.massif_tree.specs.declared.options.TreeOptions.{TreeOptions};
 ghost use Rattle.massif_tree.specs.FunctionLists.{trimmed_lists};
 ghost use Rattle.massif_tree.specs.MassifTree.{massif_tree};
 
-use cost_tree::{front_sums, next_sums};
-
 /// What the trees of snapshots are. It does nothing.
 pub fn massif_trees()
     // A tree to a depth of at most 256 may stand in a profile: its counts are right, and its levels few enough. Its first
@@ -26,7 +24,4 @@ pub fn massif_trees()
 
     // The texts of frames are such texts, where no string of the trace has a line feed.
     ensures texts { (tables : TableState) (alloc_fns : List (List ℕ)) → All IsLine tables.strings → All (All IsText) (trimmed_lists tables alloc_fns) }
-{
-    front_sums();
-    next_sums();
-}
+{}

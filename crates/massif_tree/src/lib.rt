@@ -1,14 +1,35 @@
 //! The tree of a snapshot in Massif's output file: what stacks cost below each front of their frames, line by line.
 //! When a snapshot is taken, and what a stack costs, are the business of the callers.
+//!
+//! What it promises, for every list of names and of costs that the closures state:
+//!
+//! - `is_ignored` says whether a stack is ignored: behind its front of allocation functions (`trimmed`), its first
+//!   frame has a function that is to be ignored.
+//! - `tree_lines` gives the lines of a tree of costs (`massif_tree`): a line for each front whose share of the
+//!   snapshot's total reaches the threshold, the costly ones first, and one for the others together. Each is made of
+//!   one line of `cost_tree`.
+//! - `add_trimmed` makes the texts of a trace's stacks as they are trimmed, once for each stack and at most one more
+//!   than a tree is deep, and `snapshot_tree` gives the lines of the tree of such lists.
+//! - The law `massif_trees` says that such lines may stand in a profile: counts and levels are right to a depth of 256
+//!   (`right`), the first line has the sum of all costs (`root`), and numbers and labels may be written (`writable`),
+//!   as the texts of a trace may whose strings have no line feed (`texts`).
+//!
+//! The tests of these calls are in the crate `massif_tests`.
+//!
+//! | File | Does |
+//! |---|---|
+//! | `function_lists.rt` | what allocation functions leave of a stack, and which stacks are ignored |
+//! | `trimmed_fronts.rt`, `snapshot.rt` | the trimmed lists of a trace's stacks; the tree of such lists |
+//! | `labels.rt`, `lines.rt` | the labels that name no frame; the lines of a tree |
+//! | `options.rt` | what is asked of a tree |
+//! | `laws.rt` | the law |
 #![tactic(auto)]
 
-mod children;
 mod function_lists;
 mod labels;
 mod laws;
 mod lines;
 mod options;
-mod scale;
 mod snapshot;
 mod trimmed_fronts;
 

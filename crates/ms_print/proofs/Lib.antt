@@ -1,11 +1,11 @@
-pub mod Lists
-pub mod Appends
-pub mod PlacesText
-pub mod LabelLemmas
-pub mod NumberLemmas
-pub mod SumLemmas
-pub mod BarLemmas
-pub mod RowLemmas
-pub mod TreesOfLemmas
-pub mod LeftLemmas
-pub mod SplitLemmas
+mod Lists
+mod Appends
+mod PlacesText
+mod LabelLemmas
+mod NumberLemmas
+mod SumLemmas
+mod BarLemmas
+mod RowLemmas
+mod TreesOfLemmas
+mod LeftLemmas
+mod SplitLemmas

@@ -1,3 +1,3 @@
-pub mod Shares
-pub mod Keeping
-pub mod PeakLemmas
+mod Shares
+mod Keeping
+mod PeakLemmas

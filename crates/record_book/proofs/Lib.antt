@@ -12,3 +12,7 @@ mod TallyOrders
 mod SumLemmas
 mod FigureLemmas
 mod SummaryLemmas
+mod LineTexts
+mod SpelledLemmas
+mod SummaryLines
+mod ModuleLines

@@ -7,9 +7,10 @@ use Rattle.record_book.specs.declared.tally.Tally.{Tally}
 use Rattle.record_book.specs.Actions.{actions}
 use Rattle.record_book.specs.Figures.{Held, allocated, bytes_asked, bytes_held, calls, every, greatest_below, held_after, live_bytes, live_count, one_asked, one_held, own_peak, peak, sum_below, weigh, weigh_events}
 use Rattle.record_book.specs.Orders.{IsInterleaving}
+use Rattle.record_book.specs.ScriptFigures.{HasScriptFigures}
 use Rattle.record_book.specs.SummaryText.{summary_of}
 use Rattle.record_book.specs.TallyState.{IsTally}
-use Rattle.record_book.proofs.FigureLemmas.{events-scripts, held-scripts, order-length}
+use Rattle.record_book.proofs.FigureLemmas.{events-scripts, greatest-peak, held-scripts, least-peak, order-length}
 
 -- nine figures
 abbrev summary_with : ℕ → ℕ → ℕ → ℕ → ℕ → ℕ → ℕ → ℕ → ℕ → Summary
@@ -52,3 +53,16 @@ same-but-peak scripts left right n is other =
     ∙ ap (λ (k : ℕ). summary_with (length scripts) (length right) (calls every (actions scripts right)) k (live_bytes every (actions scripts left)) (live_count every (actions scripts left)) n low high) (asked (bytes_asked every))
     ∙ ap (λ (k : ℕ). summary_with (length scripts) (length right) (calls every (actions scripts right)) (allocated every (actions scripts right)) k (live_count every (actions scripts left)) n low high) (held (bytes_held every))
     ∙ ap (λ (k : ℕ). summary_with (length scripts) (length right) (calls every (actions scripts right)) (allocated every (actions scripts right)) (live_bytes every (actions scripts right)) k n low high) (held (one_held every))
+
+-- the figures of an interleaving are those of its scripts
+pub script-figures : (scripts : List (List Turn)) (order : List ℕ) → IsInterleaving scripts order → HasScriptFigures scripts order
+script-figures scripts order is = record {
+  event_sum = order-length scripts order is;
+  call_sum = λ counted. events-scripts (one_asked counted) scripts order is;
+  allocated_sum = λ counted. events-scripts (bytes_asked counted) scripts order is;
+  live_sum = λ counted. held-scripts (bytes_held counted) scripts order is;
+  block_sum = λ counted. held-scripts (one_held counted) scripts order is;
+  least_peak = least-peak scripts order is;
+  greatest_peak = greatest-peak scripts order is;
+  other_orders = λ other total same. same-but-peak scripts order other total is same;
+}

@@ -9,4 +9,6 @@ pub mod TraceState
 pub mod BookState
 pub mod Figures
 pub mod SummaryText
+pub mod ScriptFigures
 pub mod TallyState
+pub mod Spelled

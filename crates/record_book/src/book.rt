@@ -7,6 +7,7 @@ ghost use Rattle.record_book.specs.BookState.{HasStepped, entries_of, stepped};
 ghost use Rattle.record_book.specs.HeapPlaces.{AreApart, live_blocks, places_after};
 ghost use Rattle.record_book.specs.Orders.{Continues, IsInterleaving, IsUnder};
 ghost use Rattle.record_book.specs.RecordedTrace.{recorded};
+ghost use Rattle.record_book.specs.ScriptFigures.{HasScriptFigures};
 ghost use Rattle.record_book.specs.SummaryText.{rec_summary};
 
 use crate::same_scripts::is_same;
@@ -145,6 +146,7 @@ impl Book {
         requires { IsInterleaving self.now.job.scripts self.now.order }
         ensures appended { OnOk result (out.new.items ≡ out.old.items ++ rec_summary self.now.job.scripts self.now.order) }
         ensures unchanged { OnErr result (out.new.items ≡ out.old.items) }
+        ensures figures { HasScriptFigures self.now.job.scripts self.now.order }
     {
         put_summary(self.alloc, &self.job, &self.order, out)
     }
@@ -154,6 +156,7 @@ impl Book {
     pub fn finish(self, job: Arc<Scripts>) -> Result<Book, NoMemory>
         ensures job { IfOk result (λ book. book.job ≡ arc_value job) }
         ensures all { IfOk result (λ book. IsInterleaving book.job.scripts book.order) }
+        ensures figures { IfOk result (λ book. HasScriptFigures book.job.scripts book.order) }
         ensures grown { self.job ≡ arc_value job → IfOk result (λ book. Continues self.order book.order) }
     {
         let mut book = self.for_job(job)?;

@@ -1,5 +1,34 @@
-//! The book of a recording: which thread took which turns of its script, and the trace that this gives. How threads share
-//! it is no part of it.
+//! The book of a recording: which thread took which turns of its script, the trace that this gives, and the order that
+//! the bytes of a trace spell. How threads share it is no part of it.
+//!
+//! `Book` is a recording of scripts, as far as their threads have come: contracts see the scripts with their modules
+//! and the order, which is the thread of each event so far. What it promises:
+//!
+//! - `new` makes the empty one, `step` takes the next turn of a thread, `steps` up to 64 of them. At every moment
+//!   `bytes` is the trace of that order (`recorded`), the order is one under the scripts (`IsUnder`), and no two live
+//!   blocks overlap (`AreApart`); both are told by `order`. `into_bytes` gives the trace up without a copy. After
+//!   `NoMemory` a step leaves the book as it was.
+//! - `finish` takes all turns that are left: the book that it gives is one of the scripts that are handed in, its order
+//!   is an interleaving of them (`IsInterleaving`) whose figures are those of the scripts (`HasScriptFigures`), and
+//!   where the book had these scripts, its order goes on from the earlier one.
+//! - `put_summary` appends the six lines of a book whose turns are all taken (`rec_summary`), as `finish` gives it;
+//!   they are meant to stand behind its bytes.
+//! - The law `spelled_orders` says which order the bytes of a recording spell (`spelled`): that of the recording, also
+//!   where the summary stands behind them. The order is read off the lines: `# thread` with a number names the thread of
+//!   the events behind it. The lines of modules have to spell nothing (`AreQuiet`), which `quiet_modules` says of whole
+//!   lines about modules (`AreModuleLines`), and there may be 64 scripts at most.
+//!
+//! The tests of these calls are in the crate `record_tests`.
+//!
+//! | File | Does |
+//! |---|---|
+//! | `book.rt` | the book |
+//! | `trace.rt` | appends the lines of a turn, and takes them back where memory is wanting halfway |
+//! | `node_lines.rt` | interns a stack from the outermost pointer on, and writes each new node |
+//! | `heap.rt`, `free_places.rt` | where blocks lie, and the places without a block in order |
+//! | `tally.rt`, `summary.rt` | the figures of turns that are taken one after another; the six lines |
+//! | `same_scripts.rt` | whether two jobs are the same, turn by turn |
+//! | `laws.rt` | the laws |
 #![tactic(auto)]
 
 mod book;
@@ -13,4 +42,4 @@ mod tally;
 mod trace;
 
 pub use book::Book;
-pub use laws::figures_of_scripts;
+pub use laws::{quiet_modules, spelled_orders};

@@ -1,5 +1,30 @@
-//! Scripts of threads: what each thread allocates and frees, line by line. How they are run, and the program's files and
-//! words, are no part of it.
+//! Scripts of threads: what each thread allocates and frees, line by line. How they are run, and the program's files
+//! and words, are no part of it.
+//!
+//! `Scripts` is what is to be recorded (`Job`): how many events there may be, the text of the modules, and the script
+//! of each thread as a list of turns. What it promises:
+//!
+//! - `module_line` takes a line of a modules file, `begin` opens the script of the next thread, and `line` takes a line
+//!   of the script that was opened last. Each answers the first fault of its line after the lines before it
+//!   (`module_fault`, `line_fault`), and then leaves all as it was; else the line adds exactly what it says
+//!   (`with_module_line`, `with_line`). `share` gives the same behind a pointer that threads can share.
+//! - `turn_into` gives a turn of a thread by its number, with its pointers in a buffer, and tells that its block and
+//!   its stack are bounded and how many events there are; `modules` the text of the modules, and `limit` how many
+//!   events there may be.
+//! - The text of the modules is whole lines about modules (`AreModuleLines`) as long as no line that is handed to
+//!   `module_line` has a line feed: its clause `lines` says so, `new` begins with none, and `begin` and `line` leave
+//!   the text as it is.
+//!
+//! A turn is kept with the node of its stack, so each distinct stack is kept once, and the IDs that are live are kept
+//! for the last script alone. The tests of these calls are in the crate `record_tests`.
+//!
+//! | File | Does |
+//! |---|---|
+//! | `scripts.rt` | the scripts of all threads, and the modules, by the lines of their files |
+//! | `script.rt`, `script_line.rt` | the script of one thread; one line of it |
+//! | `module_line.rt` | one line of a modules file |
+//! | `script_table.rt`, `turn_entry.rt` | how scripts and turns are kept |
+//! | `fault.rt` | why a line is refused |
 #![tactic(auto)]
 
 mod fault;

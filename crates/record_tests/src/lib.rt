@@ -1,16 +1,28 @@
-//! Tests of the public calls of `record_scripts`, `record_book`, `recorder`, `record_words` and `record_files`, in a crate of
-//! their own: a crate that has tests is proved twice.
+//! Tests of the public calls of `record_scripts`, `record_book`, `recorder` and `recording`, in a crate of their own: a crate that
+//! has tests is proved twice.
+//!
+//! | File | What it has |
+//! |---|---|
+//! | `script_tests`, `book_tests` | lines of scripts, and the traces and summaries of small scripts |
+//! | `worker_tests` | that the workers take the turns, beside each other, in numbered holds |
+//! | `run_tests` | runs whose text is the same whatever the threads do |
+//! | `thread_run_tests` | runs of two scripts by threads |
+//! | `gates`, `runs`, `script_text` | what they share |
 #![tactic(auto)]
 
 #[cfg(test)]
 mod book_tests;
 #[cfg(test)]
-mod file_tests;
+mod gates;
+#[cfg(test)]
+mod run_tests;
+#[cfg(test)]
+mod runs;
 #[cfg(test)]
 mod script_tests;
 #[cfg(test)]
 mod script_text;
 #[cfg(test)]
-mod word_tests;
+mod thread_run_tests;
 #[cfg(test)]
 mod worker_tests;

@@ -1,5 +1,6 @@
 //! What no clause says: that the workers take the turns, and beside each other.
 
+use crate::gates::{Counting, Meeting, Open};
 use crate::script_text::scripts_of;
 use hp_num::{NoMemory, put_bytes, put_hex};
 use record_book::Book;
@@ -7,60 +8,8 @@ use record_scripts::{ScriptFault, Scripts};
 use recorder::{Gate, Recorder, record_job, run_workers};
 use std::alloc::Global;
 use std::process::Abort;
-use std::sync::atomic::{AtomicBool, Ordering};
 use std::sync::{Arc, Wait};
 use std::thread::Threads;
-
-// How often a gate looks before it lets go.
-const MOST_LOOKS: u64 = 1_000_000_000;
-
-/// A gate that does nothing.
-#[derive(Drop)]
-struct Open;
-
-impl Gate for Open {
-    fn before(&self, _worker: u32, _hold: u64) {}
-}
-
-/// A gate that keeps one worker from its second hold until another was at its own, or until it has looked often enough.
-#[derive(Drop)]
-struct Meeting {
-    waits: u32,
-    other_came: AtomicBool,
-    met: AtomicBool,
-}
-
-impl Meeting {
-    fn of(waits: u32) -> Meeting {
-        Meeting {
-            waits,
-            other_came: AtomicBool::new(false),
-            met: AtomicBool::new(false),
-        }
-    }
-
-    fn wait(&self) {
-        for _ in 0..MOST_LOOKS {
-            if self.other_came.load(Ordering::SeqCst) {
-                self.met.store(true, Ordering::SeqCst);
-                return;
-            }
-        }
-    }
-}
-
-impl Gate for Meeting {
-    fn before(&self, worker: u32, hold: u64) {
-        if hold != 1 {
-            return;
-        }
-        if worker == self.waits {
-            self.wait();
-        } else {
-            self.other_came.store(true, Ordering::SeqCst);
-        }
-    }
-}
 
 /// The scripts of a text, for threads to share.
 fn job_of(alloc: Global, text: &[u8]) -> Result<Arc<Scripts>, ScriptFault> {
@@ -149,8 +98,15 @@ fn is_two_hundred(rt: &impl Abort, alloc: Global, book: &Book) -> Result<(), NoM
     Ok(())
 }
 
-/// That two workers meet where this one waits for the other, and that the other has taken the turns of its first hold when
-/// the one begins its second.
+/// That two workers of a job met where this one waits for the other, and that the other had taken the turns of its first hold
+/// when the one began its second.
+fn has_met(rt: &impl Abort, gate: &Meeting, book: &Book, waits: u32, other: u32) {
+    assert!(rt; gate.has_met(), "the workers never met");
+    let order = book.order();
+    assert!(rt; entries_before(order, other, 63) < entries_before(order, waits, 64));
+}
+
+/// That two workers meet where this one waits for the other, in the book that they leave and in that of the whole job.
 fn meet<R: Threads + Wait + Sync + Abort>(
     rt: &R,
     alloc: Global,
@@ -158,10 +114,12 @@ fn meet<R: Threads + Wait + Sync + Abort>(
     other: u32,
 ) -> Result<(), ScriptFault> {
     let gate = Meeting::of(waits);
-    let book = left_by_workers(rt, alloc, two_hundred(alloc)?, &gate)?;
-    assert!(rt; gate.met.load(Ordering::SeqCst), "the workers never met");
-    let order = book.order();
-    assert!(rt; entries_before(order, other, 63) < entries_before(order, waits, 64));
+    let left = left_by_workers(rt, alloc, two_hundred(alloc)?, &gate)?;
+    has_met(rt, &gate, &left, waits, other);
+    is_two_hundred(rt, alloc, &left)?;
+    let gate = Meeting::of(waits);
+    let book = record_job(rt, alloc, two_hundred(alloc)?, &gate)?;
+    has_met(rt, &gate, &book, waits, other);
     is_two_hundred(rt, alloc, &book)?;
     Ok(())
 }
@@ -173,16 +131,17 @@ fn workers_meet(rt: HostRuntime) -> Result<(), ScriptFault> {
 }
 
 #[test]
-fn workers_leave_no_turn(rt: HostRuntime) -> Result<(), ScriptFault> {
-    let job = job_of(rt.alloc(), b"a 1 40 500 400;f 1|a 1 8 400")?;
-    let book = left_by_workers(&rt, rt.alloc(), job, &Open)?;
-    assert_eq!(rt; book.order().len(), 3);
+fn holds_are_numbered(rt: HostRuntime) -> Result<(), ScriptFault> {
+    let gate = Counting::new();
+    record_job(&rt, rt.alloc(), two_hundred(rt.alloc())?, &gate)?;
+    assert!(rt; gate.has_counted(2), "the holds have other numbers");
     Ok(())
 }
 
 #[test]
-fn records_jobs(rt: HostRuntime) -> Result<(), ScriptFault> {
-    let book = record_job(&rt, rt.alloc(), two_hundred(rt.alloc())?, &Open)?;
-    is_two_hundred(&rt, rt.alloc(), &book)?;
+fn workers_leave_no_turn(rt: HostRuntime) -> Result<(), ScriptFault> {
+    let job = job_of(rt.alloc(), b"a 1 40 500 400;f 1|a 1 8 400")?;
+    let book = left_by_workers(&rt, rt.alloc(), job, &Open)?;
+    assert_eq!(rt; book.order().len(), 3);
     Ok(())
 }

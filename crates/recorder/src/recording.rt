@@ -2,6 +2,7 @@
 ghost use Rattle.std.specs.Prelude.{◌≡◌, IfOk};
 ghost use Rattle.std.specs.Arc.{arc_value};
 ghost use Rattle.record_book.specs.Orders.{IsInterleaving};
+ghost use Rattle.record_book.specs.ScriptFigures.{HasScriptFigures};
 
 use crate::gate::Gate;
 use crate::locked_book::Recorder;
@@ -14,7 +15,7 @@ use std::sync::{Arc, Wait};
 use std::thread::Threads;
 
 /// Records these scripts by a worker for each of them, and answers the book with all turns taken: its order is an
-/// interleaving of the scripts. Which one it is, is up to the threads and the gate.
+/// interleaving of the scripts, and its figures are theirs. Which order it is, is up to the threads and the gate.
 pub fn record_job<R: Threads + Wait + Sync, G: Gate + Sync>(
     rt: &R,
     alloc: Global,
@@ -23,6 +24,7 @@ pub fn record_job<R: Threads + Wait + Sync, G: Gate + Sync>(
 ) -> Result<Book, NoMemory>
     ensures job { IfOk result (λ book. book.job ≡ arc_value job) }
     ensures all { IfOk result (λ book. IsInterleaving book.job.scripts book.order) }
+    ensures figures { IfOk result (λ book. HasScriptFigures book.job.scripts book.order) }
 {
     let threads = job.threads();
     let recorder = Recorder::new(Book::new(alloc, Arc::try_clone(&job)?)?);

@@ -5,12 +5,13 @@ use Rattle.std.proofs.lemmas.Bool.Decides.{eqb_tells, nat_tests}
 use Rattle.std.proofs.lemmas.List.{length_push}
 use Rattle.stack_table.specs.Node.{Node}
 use Rattle.stack_table.specs.Stack.{frame_count}
-use Rattle.stack_table.proofs.Stacks.{frame_count-newest, frame_count-older, slice_get-end, slice_get-front}
+use Rattle.hp_num.proofs.Laws.{slice_get-end, slice_get-front}
+use Rattle.stack_table.proofs.Laws.{frame_count-newest, frame_count-older}
 use Rattle.live_ledger.specs.LedgerState.{HeldInfo}
 use Rattle.ht_trace.specs.Instruction.{Instruction, frame_count_of}
 use Rattle.ht_trace.specs.LineFault.{growth_fault}
 use Rattle.ht_trace.specs.TableState.{TableState}
-use Rattle.ht_trace.proofs.StackLemmas.{frame_count_of-more}
+use Rattle.ht_trace.proofs.Laws.{frame_count_of-more}
 
 -- each instruction has one frame, the stack of a node has no more frames than its number says, and infos have at most 4,096 bytes
 pub record Held (strings instructions nodes infos : ℕ) (tables : TableState) : Type 0 where

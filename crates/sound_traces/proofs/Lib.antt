@@ -1,6 +1,6 @@
-pub mod Walk
-pub mod Held
-pub mod Figures
-pub mod Groups
-pub mod Events
-pub mod Trace
+mod Walk
+mod Held
+mod Figures
+mod Groups
+mod Events
+mod Trace

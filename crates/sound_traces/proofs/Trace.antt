@@ -3,10 +3,10 @@ use Rattle.std.proofs.Common.{◌≡◌, ℕ, zero, suc, ◌^◌, ◌<◌, ◌�
 use Rattle.std.proofs.lemmas.Fmt.{hex_one_digit}
 use Rattle.hp_num.specs.Hexadecimal.{hexadecimal}
 use Rattle.hp_num.specs.ParsedHex.{parsed_hex}
-use Rattle.hp_num.proofs.HexSteps.{hexadecimal_step}
+use Rattle.hp_num.proofs.Laws.{hexadecimal_step}
 use Rattle.ht_lines.specs.Written.{written}
 use Rattle.stack_table.specs.Stack.{frame_count}
-use Rattle.stack_table.proofs.Stacks.{frame_count-zero}
+use Rattle.stack_table.proofs.Laws.{frame_count-zero}
 use Rattle.live_ledger.specs.declared.event.Event.{Event}
 use Rattle.ht_lines.specs.Content.{command_line, string_line, version_line}
 use Rattle.ht_trace.specs.declared.error.LineError.{LineError}

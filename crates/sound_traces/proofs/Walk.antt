@@ -8,14 +8,15 @@ use Rattle.ht_lines.specs.Content.{Content}
 use Rattle.ht_lines.specs.declared.item.Form.TheVariants.{Interpreted}
 use Rattle.ht_lines.specs.Reading.{reading}
 use Rattle.ht_lines.specs.Written.{IsWritable, written}
-use Rattle.ht_lines.proofs.WrittenLemmas.{reading-written}
-use Rattle.ht_trace.specs.LineFault.{content_fault, fault_in, may_stand_first}
+use Rattle.ht_lines.proofs.Laws.{reading-written}
+use Rattle.ht_trace.specs.LineFault.{content_fault, fault_in}
+use Rattle.ht_trace.specs.VersionLines.{may_stand_first}
 use Rattle.ht_trace.specs.StandsFor.{StandsFor}
 use Rattle.ht_trace.specs.StateAfter.{Takes, state_after}
 use Rattle.ht_trace.specs.StepOf.{event_of, reading_step, step_in}
 use Rattle.ht_trace.specs.TableState.{TableState}
 use Rattle.ht_trace.specs.TraceEvents.{events}
-use Rattle.ht_trace.proofs.LineLemmas.{events-push, no_fault_in, stands-push}
+use Rattle.ht_trace.proofs.Laws.{events-push, no_fault_in, stands-push}
 use Rattle.trace_gen.specs.GeneratedTrace.{lines_from}
 use Rattle.sound_traces.specs.NoFault.{HasNoFault, IsGood, event_fault}
 

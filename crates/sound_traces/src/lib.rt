@@ -1,4 +1,9 @@
 //! That no generated trace has a fault.
+//!
+//! The law `generated_traces`: of the lines that `trace_gen` defines none has a fault after those before it, neither in
+//! the tables nor in the figures of the event that it brings, nor has their end (`HasNoFault`). It holds for every
+//! seed, 1 to 4,000 stacks and at most 10,000,000 events. The command `gen` reads such lines, and has no answer for a
+//! fault of theirs.
 #![tactic(auto)]
 
 ghost use Rattle.std.specs.Prelude.{◌≤◌, []};

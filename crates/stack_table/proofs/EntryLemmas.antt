@@ -5,15 +5,16 @@ use Rattle.std.proofs.lemmas.Bool.{cases_lt}
 use Rattle.std.proofs.lemmas.Bool.Decides.{nat_tests}
 use Rattle.std.proofs.lemmas.List.{length-map, map-append, take-append-drop, take-map}
 use Rattle.std.proofs.lemmas.Option.{same_Some, slice_get-map, slice_get-get_or, slice_get_read, slice_get_within}
+use Rattle.hp_num.proofs.Laws.{slice_get-end, slice_get-front}
 use Rattle.stack_table.specs.declared.node_entry.NodeEntry.{NodeEntry}
 use Rattle.stack_table.specs.Node.{Node, node_at}
-use Rattle.stack_table.specs.Stack.{stack, frame_count}
+use Rattle.stack_table.specs.Stack.{frame_count, most_frames, stack}
 use Rattle.stack_table.specs.AreNodes.{AreNodes}
 use Rattle.stack_table.specs.LowerParents.{HasLowerParents}
 use Rattle.stack_table.specs.Entries.{IsTable, node_of, nodes_of}
 use Rattle.stack_table.specs.Continues.{Continues}
 use Rattle.stack_table.proofs.Continuing.{Continues-append}
-use Rattle.stack_table.proofs.Stacks.{node_at-within, slice_get-front, slice_get-end, frame_count-zero, frame_count-older, frame_count-newest, frame_count-unfold, HasLowerParents-push, stack-zero, stack-unfold}
+use Rattle.stack_table.proofs.Stacks.{node_at-within, frame_count-zero, frame_count-older, frame_count-newest, frame_count-unfold, HasLowerParents-push, stack-zero, stack-unfold}
 
 -- as many nodes as entries
 pub length-nodes_of : (entries : List NodeEntry) → length (nodes_of entries) ≡ length entries
@@ -27,7 +28,7 @@ nodes_of-push entries entry = map-append node_of entries (entry ∷ [])
 pub IsTable-push :
     (entries : List NodeEntry) (entry : NodeEntry)
     → IsTable entries → entry.parent ≤ length entries → entry.depth ≡ frame_count (nodes_of entries) entry.parent + entry.frames
-    → entry.depth ≤ 4096 → length entries < 2 ^ 32 - 2 → IsTable (entries ++ entry ∷ [])
+    → entry.depth ≤ most_frames → length entries < 2 ^ 32 - 2 → IsTable (entries ++ entry ∷ [])
 IsTable-push entries entry table held depth few room = record {
   parents =
       let P : List Node → Type 0 = λ nodes. HasLowerParents nodes in
@@ -55,7 +56,7 @@ IsTable-push entries entry table held depth few room = record {
         let newest = frame_count-newest (nodes_of entries) (node_of entry) (k + 1) (omega arith) in
         rw (nodes_of-push entries entry, newest, ← at_end.1) depth
 
-    few_frames : (k : ℕ) (found : NodeEntry) → slice_get (entries ++ entry ∷ []) k ≡ Some found → (k < length entries) ⊎ (length entries ≤ k) → found.depth ≤ 4096
+    few_frames : (k : ℕ) (found : NodeEntry) → slice_get (entries ++ entry ∷ []) k ≡ Some found → (k < length entries) ⊎ (length entries ≤ k) → found.depth ≤ most_frames
     few_frames k found is (inl within) = table.few_frames k found (sym (slice_get-front entries (entry ∷ []) k within) ∙ is)
     few_frames k found is (inr past) =
         let at_end = last k found is past in
@@ -75,7 +76,7 @@ pub record Reads (nodes : List Node) (n : ℕ) (entry : NodeEntry) : Type 0 wher
   pub node : node_at nodes n ≡ Some (node_of entry)
   pub lower_parent : entry.parent < n
   pub depth : entry.depth ≡ frame_count nodes n
-  pub few_frames : entry.depth ≤ 4096
+  pub few_frames : entry.depth ≤ most_frames
   pub unfolds : stack nodes n ≡ entry.ip ∷ stack nodes entry.parent
 
 -- an entry of a table says this
@@ -127,7 +128,7 @@ read_slice entries n table above held =
     read_found entries (nodes_of entries) n (get_or entries (n - 1) past_end) table refl above (slice_get-get_or entries (n - 1) past_end (omega arith))
 
 -- no stack of a table has too many frames
-few_frames-table : (entries : List NodeEntry) → IsTable entries → (n : ℕ) → n ≤ length (nodes_of entries) → frame_count (nodes_of entries) n ≤ 4096
+few_frames-table : (entries : List NodeEntry) → IsTable entries → (n : ℕ) → n ≤ length (nodes_of entries) → frame_count (nodes_of entries) n ≤ most_frames
 few_frames-table entries table zero held = rw (frame_count-zero (nodes_of entries)) (omega arith)
 few_frames-table entries table (suc k) held =
     let count = length-nodes_of entries in
@@ -135,7 +136,7 @@ few_frames-table entries table (suc k) held =
     let depth = table.depths k (get_or entries k past_end) found in
     let few = table.few_frames k (get_or entries k past_end) found in
     let number : k + 1 ≡ suc k = omega arith in
-    let P : ℕ → Type 0 = λ n. frame_count (nodes_of entries) n ≤ 4096 in
+    let P : ℕ → Type 0 = λ n. frame_count (nodes_of entries) n ≤ most_frames in
     subst P number (rw (← depth) few)
 
 -- what holds of the nodes of a table

@@ -1,6 +1,7 @@
-pub mod Continuing
-pub mod EntryLemmas
-pub mod IndexLemmas
-pub mod Interning
-pub mod NodeNumbers
-pub mod Stacks
+mod Continuing
+mod EntryLemmas
+mod IndexLemmas
+mod Interning
+pub mod Laws
+mod NodeNumbers
+mod Stacks

@@ -1,12 +1,13 @@
 -- Lemmas on the stacks of a list of nodes with one more node at its end.
 use Rattle.std.proofs.Common.{◌≡◌, ℕ, zero, suc, ◌+◌, ◌-◌, ◌<◌, ◌≤◌, List, [], ◌∷◌, ◌++◌, length, refl, sym, ap, ◌∙◌, arith, subst, ◌⊎◌, inl, inr, length-append}
-use Rattle.std.specs.Prelude.{reverse, map, sum_by, slice_get, Some}
+use Rattle.std.specs.Prelude.{reverse, map, sum_by, Some}
 use Rattle.std.proofs.lemmas.List.{length-reverse, reverse-append, reverse-reverse}
 use Rattle.std.proofs.lemmas.List.Sums.{sum_by-cons}
 use Rattle.std.proofs.lemmas.Bool.{cases_lt}
 use Rattle.std.proofs.lemmas.Bool.Decides.{nat_tests}
 use Rattle.std.proofs.lemmas.Grind.{reverse_onto}
-use Rattle.std.proofs.lemmas.Option.{same_Some}
+use Rattle.std.proofs.lemmas.Option.{same_Some, slice_get_within}
+use Rattle.hp_num.proofs.Laws.{slice_get-end, slice_get-front}
 use Rattle.stack_table.specs.Node.{Node, node_at}
 use Rattle.stack_table.specs.Stack.{outwards, stack_nodes, stack, frame_count}
 use Rattle.stack_table.specs.LowerParents.{HasLowerParents}
@@ -74,25 +75,6 @@ frame_count-newest nodes node n is =
     let first = sum_by-cons (λ (node : Node). node.frames) node (stack_nodes nodes node.parent) in
     omega arith
 
--- an element of the front of a list
-pub slice_get-front : {A : Type 0} → (xs ys : List A) (k : ℕ) → k < length xs → slice_get (xs ++ ys) k ≡ slice_get xs k
-slice_get-front [] ys k within = absurd (omega arith)
-slice_get-front (x ∷ xs) ys zero within = refl
-slice_get-front (x ∷ xs) ys (suc k) within = slice_get-front xs ys k (omega arith)
-
--- the element at the end of a list
-pub slice_get-end : {A : Type 0} → (xs : List A) (x : A) (k : ℕ) → k ≡ length xs → slice_get (xs ++ x ∷ []) k ≡ Some x
-slice_get-end [] x zero is = refl
-slice_get-end [] x (suc k) is = absurd (omega arith)
-slice_get-end (y ∷ xs) x zero is = absurd (omega arith)
-slice_get-end (y ∷ xs) x (suc k) is = slice_get-end xs x k (omega arith)
-
--- what an element past the end of a list is
-slice_get-past : {A : Type 0} → (xs : List A) (k : ℕ) (x : A) → slice_get xs k ≡ Some x → k < length xs
-slice_get-past [] k x is = absurd (grind arith)
-slice_get-past (y ∷ xs) zero x is = omega arith
-slice_get-past (y ∷ xs) (suc k) x is = let within = slice_get-past xs k x is in omega arith
-
 -- an older node stays as the list grows
 pub node_at-older : (nodes : List Node) (node : Node) (n : ℕ) → n ≤ length nodes → node_at (nodes ++ node ∷ []) n ≡ node_at nodes n
 node_at-older nodes node zero held = refl
@@ -104,7 +86,7 @@ node_at-newest nodes node n is = grind (arith, nat_tests, slice_get-end nodes no
 
 -- a node has a number from 1 to the count
 pub node_at-within : (nodes : List Node) (n : ℕ) (node : Node) → node_at nodes n ≡ Some node → (0 < n) × (n ≤ length nodes)
-node_at-within nodes n node is = grind (arith, nat_tests, slice_get-past nodes (n - 1) node)
+node_at-within nodes n node is = grind (arith, nat_tests, slice_get_within nodes (n - 1) node)
 
 -- the parents' law for a list without its last node
 pub HasLowerParents-front : (nodes : List Node) (node : Node) → HasLowerParents (nodes ++ node ∷ []) → HasLowerParents nodes

@@ -1,7 +1,7 @@
 -- What holds of the nodes of every table.
 use Rattle.std.specs.Prelude.{◌≡◌, ℕ, ◌+◌, ◌≤◌, List, [], ◌∷◌, length, Some}
 use Rattle.stack_table.specs.Node.{Node, node_at}
-use Rattle.stack_table.specs.Stack.{stack, frame_count}
+use Rattle.stack_table.specs.Stack.{frame_count, most_frames, stack}
 use Rattle.stack_table.specs.LowerParents.{HasLowerParents}
 
 -- parents have lower numbers; stack 0 is empty, and stack n is the instruction pointer of node n, followed by the
@@ -12,4 +12,4 @@ pub record AreNodes (nodes : List Node) : Type 0 where
   pub stack_n : (n : ℕ) (node : Node) → node_at nodes n ≡ Some node → stack nodes n ≡ node.ip ∷ stack nodes node.parent
   pub frames_0 : frame_count nodes 0 ≡ 0
   pub frames_n : (n : ℕ) (node : Node) → node_at nodes n ≡ Some node → frame_count nodes n ≡ frame_count nodes node.parent + node.frames
-  pub few_frames : (n : ℕ) → n ≤ length nodes → frame_count nodes n ≤ 4096
+  pub few_frames : (n : ℕ) → n ≤ length nodes → frame_count nodes n ≤ most_frames

@@ -2,7 +2,7 @@
 use Rattle.std.specs.Prelude.{◌≡◌, ℕ, ◌+◌, ◌-◌, ◌^◌, ◌≤◌, List, length, map, slice_get, Some}
 use Rattle.stack_table.specs.declared.node_entry.NodeEntry.{NodeEntry}
 use Rattle.stack_table.specs.Node.{Node}
-use Rattle.stack_table.specs.Stack.{frame_count}
+use Rattle.stack_table.specs.Stack.{frame_count, most_frames}
 use Rattle.stack_table.specs.LowerParents.{HasLowerParents}
 
 -- the node that an entry stands for
@@ -17,5 +17,5 @@ nodes_of entries = map node_of entries
 pub record IsTable (entries : List NodeEntry) : Type 0 where
   pub parents : HasLowerParents (nodes_of entries)
   pub depths : (k : ℕ) (entry : NodeEntry) → slice_get entries k ≡ Some entry → entry.depth ≡ frame_count (nodes_of entries) (k + 1)
-  pub few_frames : (k : ℕ) (entry : NodeEntry) → slice_get entries k ≡ Some entry → entry.depth ≤ 4096
+  pub few_frames : (k : ℕ) (entry : NodeEntry) → slice_get entries k ≡ Some entry → entry.depth ≤ most_frames
   pub few_nodes : length entries ≤ 2 ^ 32 - 2

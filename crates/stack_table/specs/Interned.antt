@@ -5,7 +5,7 @@ use Rattle.stack_table.specs.declared.fault.NodeFault.{NodeFault}
 use Rattle.stack_table.specs.declared.fault.NodeFault.TheVariants.{UnknownParent, TooDeep, Full}
 use Rattle.stack_table.specs.Node.{Node}
 use Rattle.stack_table.specs.NodeNumber.{node_number}
-use Rattle.stack_table.specs.Stack.{frame_count}
+use Rattle.stack_table.specs.Stack.{frame_count, most_frames}
 
 -- the nodes and the number that is answered
 pub record Interned : Type 0 where
@@ -24,7 +24,7 @@ node_interned nodes node = of_number nodes node (node_number nodes node.ip node.
 abbrev pub fault_of_number : List Node → Node → Option ℕ → Option NodeFault
 fault_of_number nodes node (Some number) = None
 fault_of_number nodes node None =
-    if nat_lt 4096 (frame_count nodes node.parent + node.frames) then Some TooDeep
+    if nat_lt most_frames (frame_count nodes node.parent + node.frames) then Some TooDeep
     else if length nodes == 2 ^ 32 - 2 then Some Full
     else None
 

@@ -19,3 +19,7 @@ stack nodes n = map (λ node. node.ip) (stack_nodes nodes n)
 -- the frames of stack n: the sum over its nodes
 unfoldable pub frame_count : List Node → ℕ → ℕ
 frame_count nodes n = sum_by (λ node. node.frames) (stack_nodes nodes n)
+
+-- the most frames of a stack
+abbrev pub most_frames : ℕ
+most_frames = 4096

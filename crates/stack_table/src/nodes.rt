@@ -2,7 +2,7 @@
 ghost use Rattle.std.specs.Prelude.{◌≡◌, ◌≢◌, ℕ, ◌+◌, ◌-◌, ◌^◌, ◌<◌, ◌≤◌, ◌↔◌, [], ◌∷◌, ◌++◌, length, map, take, vec_len, vec_capacity, None, Some, IfErr, IfNone, IsSome, IfSome, IsOk, IfOk, OnOk, OnErr};
 ghost use Rattle.std.specs.Option.{option_map};
 ghost use Rattle.stack_table.specs.Node.{Node, node_at};
-ghost use Rattle.stack_table.specs.Stack.{stack, frame_count};
+ghost use Rattle.stack_table.specs.Stack.{frame_count, most_frames, stack};
 ghost use Rattle.stack_table.specs.AreNodes.{AreNodes};
 ghost use Rattle.stack_table.specs.CanAdd.{CanAdd};
 ghost use Rattle.stack_table.specs.Continues.{Continues};
@@ -18,7 +18,7 @@ use std::alloc::Global;
 use std::marker::Model;
 
 /// The greatest number of frames of one stack.
-const MAX_FRAMES: u32 = 4096;
+pub const MOST_FRAMES: u32 = 4096;
 
 /// The greatest number of nodes.
 const MAX_NODES: u32 = u32::MAX - 1;
@@ -81,8 +81,8 @@ impl Nodes {
 
         // When each fault comes.
         ensures unknown_parent { (result ≡ Err NodeFault.UnknownParent) ↔ (length self.old < parent) }
-        ensures too_deep { (result ≡ Err NodeFault.TooDeep) ↔ ((parent ≤ length self.old) × (4096 < frame_count self.old parent + frames)) }
-        ensures full { (result ≡ Err NodeFault.Full) ↔ ((parent ≤ length self.old) × (frame_count self.old parent + frames ≤ 4096) × (length self.old ≡ 2 ^ 32 - 2)) }
+        ensures too_deep { (result ≡ Err NodeFault.TooDeep) ↔ ((parent ≤ length self.old) × (most_frames < frame_count self.old parent + frames)) }
+        ensures full { (result ≡ Err NodeFault.Full) ↔ ((parent ≤ length self.old) × (frame_count self.old parent + frames ≤ most_frames) × (length self.old ≡ 2 ^ 32 - 2)) }
         ensures unchanged { OnErr result (self.new ≡ self.old) }
 
         // The stacks.
@@ -99,7 +99,7 @@ impl Nodes {
         }
         let parent = parent as u32;
         let outer = self.frames_of(parent);
-        if frames > MAX_FRAMES - outer {
+        if frames > MOST_FRAMES - outer {
             return Err(NodeFault::TooDeep);
         }
         if count == MAX_NODES {
@@ -138,8 +138,8 @@ impl Nodes {
 
         // When each fault comes.
         ensures unknown_parent { (result ≡ Err NodeFault.UnknownParent) ↔ (length self.old < parent) }
-        ensures too_deep { (result ≡ Err NodeFault.TooDeep) ↔ ((parent ≤ length self.old) × (node_number self.old ip parent ≡ None) × (4096 < frame_count self.old parent + frames)) }
-        ensures full { (result ≡ Err NodeFault.Full) ↔ ((parent ≤ length self.old) × (node_number self.old ip parent ≡ None) × (frame_count self.old parent + frames ≤ 4096) × (length self.old ≡ 2 ^ 32 - 2)) }
+        ensures too_deep { (result ≡ Err NodeFault.TooDeep) ↔ ((parent ≤ length self.old) × (node_number self.old ip parent ≡ None) × (most_frames < frame_count self.old parent + frames)) }
+        ensures full { (result ≡ Err NodeFault.Full) ↔ ((parent ≤ length self.old) × (node_number self.old ip parent ≡ None) × (frame_count self.old parent + frames ≤ most_frames) × (length self.old ≡ 2 ^ 32 - 2)) }
         ensures fault { IfErr result (λ fault. fault ≢ NodeFault.NoMemory → node_interned_fault self.old (record { ip = ip; parent = parent; frames = frames }) ≡ Some fault) }
         ensures no_fault { OnOk result (node_interned_fault self.old (record { ip = ip; parent = parent; frames = frames }) ≡ None) }
         ensures unchanged { OnErr result (self.new ≡ self.old) }
@@ -210,7 +210,7 @@ impl Nodes {
     fn frames_of(&self, n: u32) -> u32
         requires { n ≤ length self.now }
         ensures frames { result ≡ frame_count self.now n }
-        ensures few { result ≤ 4096 }
+        ensures few { result ≤ most_frames }
     {
         if n == 0 {
             return 0;

@@ -1,2 +1,2 @@
-pub mod Steps
-pub mod Live
+mod Steps
+mod Live

@@ -10,6 +10,6 @@ unfolding gathered_line
 returns-clause-appended c =
     on_ok_weaker c.put_bytes.result
     (λ added. four-appended c.args.out.now.items c.put_share.new.out.items c.put_places.new.out.items c.put_percent.new.out.items c.put_bytes.new.out.items
-    (share_text c.args.scale c.args.level c.args.gathered.cost) (places_text c.args.gathered.places) (percent c.args.scale.threshold) (codes "\n")
+    (share_text c.args.scale c.args.level c.args.cost) (places_text c.args.places) (percent c.args.scale.threshold) (codes "\n")
     c.in_ok-put_share.ensures.appended c.in_ok-put_places.ensures.appended c.in_ok-put_percent.ensures.appended added)
     c.put_bytes.ensures.appended

@@ -14,7 +14,7 @@ unfolding share_text
 returns-clause-appended c =
     on_ok_weaker c.put_bytes-2.result
     (λ added. five-appended c.args.out.now.items c.put_right.new.out.items c.put_percent.new.out.items c.put_bytes.new.out.items c.put_commas.new.out.items c.put_bytes-2.new.out.items
-    (right_aligned (2 * c.args.level) []) (percent (hundredths_of c.args.cost c.args.scale.sum)) (codes " (") (decimal_with_commas c.args.cost) (codes ") ")
+    (right_aligned (2 * c.args.level) []) (percent (hundredths_of c.args.cost c.args.scale.total)) (codes " (") (decimal_with_commas c.args.cost) (codes ") ")
     c.in_ok-put_right.ensures.appended
     (c.in_ok-put_percent.ensures.appended ∙ ap (λ (h : ℕ). c.put_right.new.out.items ++ percent h) c.hundredths.ensures.value)
     c.in_ok-put_bytes.ensures.appended

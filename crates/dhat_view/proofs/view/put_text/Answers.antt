@@ -1,13 +1,12 @@
-use Rattle.std.proofs.Common.{ℕ, List, [], ◌++◌, sym, ap, ◌∙◌}
+use Rattle.std.proofs.Common.{ℕ, List, ◌++◌, ap, ◌∙◌}
 use Rattle.std.proofs.lemmas.Result.{on_ok_weaker}
 use Rattle.cost_tree.specs.Costed.{Costed, costed}
-use Rattle.dhat_view.specs.Pendings.{IsViewed}
 use Rattle.dhat_view.specs.PointCosts.{point_costs}
 use Rattle.dhat_view.specs.PointFronts.{point_fronts}
 use Rattle.dhat_view.specs.TreeText.{tree_text}
 use Rattle.dhat_view.specs.ViewText.{head_text, view_text}
 use Rattle.dhat_view.proofs.Appends.{two-appended}
-use Rattle.dhat_view.proofs.Costs.{costed-sum, costs-count, fronts-count}
+use Rattle.dhat_view.proofs.Viewed.{viewed}
 use Rattle.dhat_view.proofs.view.put_text.Goals as goal
 
 pub put_tree-requires : goal.put_tree-requires
@@ -16,17 +15,7 @@ put_tree-requires c =
     let dhat = c.args.dhat.now in
     let fronts = point_fronts dhat in
     let costs = point_costs key dhat in
-    record {
-      tree = (
-        costed fronts costs,
-        record {
-          tree_of = c.in_ok-tree.ensures.tree;
-          total_is = costed-sum fronts costs (costs-count key dhat ∙ sym (fronts-count dhat)) ∙ sym c.requires.total;
-          within = c.requires.within;
-          few = c.in_ok-tree.ensures.depth;
-        },
-      );
-    }
+    record { tree = (costed fronts costs, viewed key dhat c.args.total c.in_ok-tree.tree c.args.options.now.depth c.requires.total c.in_ok-tree.ensures.tree) }
 
 pub returns-clause-appended : goal.returns-clause-appended
 unfolding view_text
@@ -36,13 +25,8 @@ returns-clause-appended c =
     let fronts = point_fronts dhat in
     let costs = point_costs key dhat in
     let stacks : List Costed = costed fronts costs in
-    let viewed : IsViewed c.args.total c.in_ok-tree.tree stacks c.args.options.now.depth = record {
-      tree_of = c.in_ok-tree.ensures.tree;
-      total_is = costed-sum fronts costs (costs-count key dhat ∙ sym (fronts-count dhat)) ∙ sym c.requires.total;
-      within = c.requires.within;
-      few = c.in_ok-tree.ensures.depth;
-    } in
+    let is = viewed key dhat c.args.total c.in_ok-tree.tree c.args.options.now.depth c.requires.total c.in_ok-tree.ensures.tree in
     on_ok_weaker c.put_tree.result
-    (λ added. two-appended c.args.out.now.items c.put_head.new.out.items c.put_tree.new.out.items (head_text key dhat c.args.total) _ c.in_ok-put_head.ensures.appended (added stacks viewed)
-    ∙ ap (λ (t : ℕ). c.args.out.now.items ++ (head_text key dhat t ++ tree_text c.args.options.now.depth (record { sum = t; threshold = c.args.options.now.threshold }) stacks [])) c.requires.total)
+    (λ added. two-appended c.args.out.now.items c.put_head.new.out.items c.put_tree.new.out.items (head_text key dhat c.args.total) _ c.in_ok-put_head.ensures.appended (added stacks is)
+    ∙ ap (λ (t : ℕ). c.args.out.now.items ++ (head_text key dhat t ++ tree_text c.args.options.now.depth (record { total = t; threshold = c.args.options.now.threshold }) stacks)) c.requires.total)
     c.put_tree.ensures.appended

@@ -3,7 +3,7 @@ use Rattle.std.proofs.Common.{◌≡◌, ◌+◌, ◌<◌, ℕ, List, length, dr
 use Rattle.std.proofs.lemmas.Int.Digits.{digits_value_more, digits_more}
 use Rattle.std.proofs.lemmas.List.{get_or-drop}
 use Rattle.std.specs.Char.{digit_value}
-use Rattle.hp_num.proofs.HexTexts.{room_for_digit}
+use Rattle.hp_num.proofs.Laws.{room_for_digit}
 use Rattle.ht_lines.proofs.event.number_to_feed.Goals as goal
 
 -- the byte that is read is the next of those after the first two

@@ -3,7 +3,9 @@ use Rattle.std.proofs.lemmas.List.Elements.{All-pop}
 use Rattle.std.proofs.lemmas.Option.{slice_get-get_or}
 use Rattle.cost_tree.specs.declared.node.CostNode.{CostNode}
 use Rattle.cost_tree.specs.Children.{children_of}
-use Rattle.ht_print.specs.FlameText.{flame_line, most_frames}
+use Rattle.stack_table.specs.Stack.{most_frames}
+use Rattle.cost_tree.proofs.Laws.{children-next, children-none}
+use Rattle.ht_print.specs.FlameText.{flame_line}
 use Rattle.ht_print.specs.FlameWalk.{flame_at, front_at}
 use Rattle.ht_print.proofs.FlameLemmas.{extends_trans}
 use Rattle.ht_print.proofs.FlameTrees.{IsRooted-of}
@@ -25,7 +27,7 @@ each_node-smaller c =
     let front_held = slice_get-get_or tree.fronts n [] (omega arith) in
     left-smaller (size_at most_frames tree) c.each_node.left.items c.pop.new.self.items c.push_children.new.left.items (children_of tree.nodes n) n
     c.in-Some.ensures.items c.in_ok-push_children.ensures.appended
-    (size-step tree stacks most_frames n is (λ longest. c.children_fronts.ensures.longest tree stacks most_frames n (front_at tree n) is front_held longest))
+    (size-step tree stacks most_frames n is (λ longest. children-none tree stacks most_frames n (front_at tree n) is front_held longest))
 
 pub each_node-preserved : goal.each_node-preserved
 each_node-preserved c =
@@ -46,7 +48,7 @@ each_node-preserved c =
           c.each_node.out.items c.put_line.new.out.items (flame_line (front_at tree n) node.own) _
           c.in-Some.ensures.items c.in_ok-push_children.ensures.appended (c.in_ok-put_line.ensures.appended node node_held)
           (flame-step tree stacks most_frames n node is node_held
-          (λ shorter. c.children_fronts.ensures.shorter tree stacks most_frames n (front_at tree n) is front_held shorter)
-          (λ longest. c.children_fronts.ensures.longest tree stacks most_frames n (front_at tree n) is front_held longest))
+          (λ shorter. children-next tree stacks most_frames n (front_at tree n) is front_held shorter)
+          (λ longest. children-none tree stacks most_frames n (front_at tree n) is front_held longest))
           (c.each_node.invariant.written stacks is);
     }

@@ -4,7 +4,7 @@ use Rattle.std.specs.List.{flat_map}
 use Rattle.cost_tree.specs.Costed.{Costed}
 use Rattle.cost_tree.specs.IsTreeOf.{IsTreeOf}
 use Rattle.hp_num.specs.Extends.{Extends}
-use Rattle.ht_print.specs.FlameText.{most_frames}
+use Rattle.stack_table.specs.Stack.{most_frames}
 use Rattle.ht_print.specs.FlameWalk.{flame_at}
 use Rattle.ht_print.proofs.FlameWalks.{size_at}
 use Rattle.ht_print.proofs.flame_lines.put_nodes.Given as goal

@@ -1,4 +1,5 @@
 -- By what is known of decimal texts.
+use Rattle.massif_file.proofs.LevelTexts.{level_texts}
 use Rattle.massif_file.proofs.ReadTexts.{is_writable}
 use Rattle.massif_file.proofs.RoundTrip.{reads_again, are_lines}
 use Rattle.massif_file.proofs.laws.massif_round_trip.Goals as goal
@@ -11,3 +12,6 @@ returns-clause-lines c = are_lines (record { digits = c.decimal_texts.ensures.di
 
 pub returns-clause-writable : goal.returns-clause-writable
 returns-clause-writable c = is_writable
+
+pub returns-clause-levels : goal.returns-clause-levels
+returns-clause-levels c = level_texts

@@ -3,7 +3,8 @@ use Rattle.std.proofs.lemmas.Result.{IfOk-weaker}
 use Rattle.cost_tree.specs.Costed.{costed}
 use Rattle.cost_tree.specs.IsTreeOf.{IsTreeOf}
 use Rattle.massif_tree.specs.FunctionLists.{trimmed_before}
-use Rattle.massif_tree.proofs.Trimming.{IsTreeOf-trimmed, costed-count, costed-sum, trimmed-count}
+use Rattle.cost_tree.proofs.Laws.{costed-count, costed-sum}
+use Rattle.massif_tree.proofs.Trimming.{IsTreeOf-trimmed, trimmed-count}
 use Rattle.massif_tree.proofs.snapshot.snapshot_tree.Goals as goal
 
 pub tree_lines-requires : goal.tree_lines-requires

@@ -4,7 +4,7 @@ use Rattle.std.proofs.lemmas.Result.{MatchResult-weaker}
 use Rattle.ht_lines.specs.ItemContent.{content}
 use Rattle.ht_lines.specs.declared.item.Form.TheVariants.{Interpreted}
 use Rattle.ht_lines.specs.Reading.{reading}
-use Rattle.ht_trace.specs.LineFault.{may_stand_first}
+use Rattle.ht_trace.specs.VersionLines.{may_stand_first}
 use Rattle.ht_trace.specs.TableState.{TableState}
 use Rattle.ht_trace.proofs.GrowthLemmas.{continues-answer, continues-trans}
 use Rattle.ht_trace.proofs.SoundLemmas.{held-after}

@@ -1,5 +1,5 @@
 use Rattle.std.proofs.lemmas.Result.{MatchResult-weaker}
-use Rattle.interpret.proofs.TakeLemmas.{takes-other}
+use Rattle.interpret.proofs.TakeLemmas.{takes-passed}
 use Rattle.interpret.proofs.interpreter.Interpreter.take.Goals as goal
 
 pub returns-in-Version-clause-takes : goal.returns-in-Version-clause-takes
@@ -17,8 +17,8 @@ returns-in-RawAlloc-clause-takes c = rw c.in-RawAlloc.is (MatchResult-weaker c.a
 pub returns-in-RawFree-clause-takes : goal.returns-in-RawFree-clause-takes
 returns-in-RawFree-clause-takes c = rw c.in-RawFree.is (MatchResult-weaker c.free.result c.free.ensures.takes (λ done takes. takes c.args.line.now) (λ error all. all))
 
-pub returns-in_default-clause-takes : goal.returns-in_default-clause-takes
-returns-in_default-clause-takes c =
+pub returns-in-Executable-clause-takes : goal.returns-in-Executable-clause-takes
+returns-in-Executable-clause-takes c =
     MatchResult-weaker c.put_line.result c.put_line.ensures.appended
-    (λ done wrote. takes-other c.args.self.now c.args.item.now c.args.line.now _ _ c.in_default.not-Version c.in_default.not-ModuleClear c.in_default.not-Module c.in_default.not-Node c.in_default.not-RawAlloc c.in_default.not-RawFree wrote)
+    (λ done wrote. takes-passed c.args.self.now c.args.item.now c.args.line.now _ _ c.in-Executable.is wrote)
     (λ error all. all)

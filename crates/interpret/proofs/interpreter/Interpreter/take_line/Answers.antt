@@ -4,7 +4,7 @@ use Rattle.std.proofs.lemmas.Result.{MatchResult-weaker}
 use Rattle.ht_lines.specs.ItemContent.{content}
 use Rattle.ht_lines.specs.declared.item.Form.TheVariants.{Raw}
 use Rattle.ht_lines.specs.Reading.{reading}
-use Rattle.ht_trace.specs.LineFault.{may_stand_first}
+use Rattle.ht_trace.specs.VersionLines.{may_stand_first}
 use Rattle.interpret.specs.InterpreterState.{InterpreterState}
 use Rattle.interpret.proofs.StandLemmas.{raw-writable}
 use Rattle.interpret.proofs.interpreter.Interpreter.take_line.Goals as goal

@@ -1,0 +1,3 @@
+# Completion of heaprec for fish.
+complete -c heaprec -l modules -r -F -d "A file of module lines"
+complete -c heaprec -l summary -d "Writes the figures of the recording too"

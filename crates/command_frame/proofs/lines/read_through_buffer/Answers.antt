@@ -1,0 +1,262 @@
+use Rattle.std.proofs.Common.{◌≡◌, ◌+◌, ◌≤◌, [], ◌∷◌, ◌++◌, length, take, append-nil, Some, None, Ok, Err, IfSome, is_some, if◌then◌else◌, ap, sym, subst, refl, ◌∙◌, arith}
+use Rattle.hp_outside.specs.declared.span.LineFault.TheVariants as reading
+use Rattle.hp_outside.specs.NextLine.{IsLine}
+use Rattle.command_frame.specs.Batch.{HasTakenKept}
+use Rattle.command_frame.specs.Report.{Report, written}
+use Rattle.command_frame.specs.Taker.{Tells}
+use Rattle.command_frame.proofs.OutputLemmas.{append_nothing, front_of_all, kept_as}
+use Rattle.command_frame.proofs.BatchLemmas.{read_batch}
+use Rattle.command_frame.proofs.LinesLoop.{bounds_at, read_end, read_end_fault, read_fault, read_front, read_input_too_long, read_line_too_long, read_more, read_stopped, reading_new}
+use Rattle.command_frame.proofs.lines.read_through_buffer.Goals as goal
+
+pub lines-init : goal.lines-init
+lines-init g c = record {
+  input = refl;
+  line_limit = refl;
+  no_fault = c.requires.new_lines.fault;
+  given = omega (arith, c.requires.new_lines.given);
+  ended = λ ended. absurd (cc);
+  sound = c.requires.sound;
+  weight = omega (arith, c.requires.no_weight);
+  report = refl;
+  reading = reading_new (bounds_at c.args.lines.now) (g.T.LineTaker.report c.args.taker.now) (g.T.LineTaker.has_taken c.args.taker.now) c.args.lines.now (g.S.Store.left c.args.store.now)
+      (g.O.Sink.written c.args.out.now) c.args.buffer.now.items c.requires.new_lines.kept c.requires.new_lines.passed c.requires.new_lines.number c.requires.new_taker c.requires.no_output
+      (sym (append_nothing (g.O.Sink.written c.args.out.now)));
+  files = refl;
+  current = refl;
+  opens = refl;
+  faults = refl;
+  write_faults = refl;
+}
+
+pub lines-preserved : goal.lines-preserved
+lines-preserved g c =
+    let held = c.lines.invariant in
+    let next = c.next.ensures in
+    let is : c.next.result ≡ Ok (Some c.in-Ok-Some.span) = c.in-Ok-Some.is ∙ ap Ok c.in-Ok-Some.field-0-is in
+    let taken = c.in-Ok.ensures in
+    let report : Report = g.T.LineTaker.report c.args.taker.now in
+    let ready = c.take_ready.ensures in
+    let given : c.next.new.self.given ≡ c.lines.lines.given + length c.next.new.self.line + 1 =
+    subst (λ place. IfSome place (λ span. c.next.new.self.given ≡ c.lines.lines.given + length c.next.new.self.line + 1)) c.in-Ok-Some.field-0-is c.in-Ok-Some.ensures.given in
+    let number : c.next.new.self.number ≡ c.lines.lines.number + 1 =
+    subst (λ place. c.next.new.self.number ≡ c.lines.lines.number + (if is_some place then 1 else 0)) c.in-Ok-Some.field-0-is c.in-Ok-Some.ensures.number in
+    let size : length c.line.result.now ≡ length c.next.new.self.line = ap length c.line.ensures in
+    record {
+      input = ready.input ∙ (next.input ∙ held.input);
+      line_limit = ready.limit ∙ (next.limit ∙ held.line_limit);
+      no_fault = ready.fault ∙ c.in-Ok-Some.ensures.no_fault;
+      given = ready.bounded;
+      ended = λ ended. next.end (sym ready.ended ∙ ended);
+      sound = ready.sound;
+      weight = ready.weight;
+      report = ready.report ∙ (taken.report ∙ held.report);
+      reading = read_batch (bounds_at c.args.lines.now) report (g.T.LineTaker.has_taken c.line-in-Ok-Some.new.self) (g.T.LineTaker.has_taken c.take_ready.new.taker) c.next.new.self c.take_ready.new.lines
+          (g.S.Store.left c.args.store.now) (g.S.Store.left c.next.new.store)
+          (g.O.Sink.written c.args.out.now) (g.O.Sink.written c.pass_on_piece.new.out) c.pass_on_piece.new.buffer.items
+          (read_more (bounds_at c.args.lines.now) report (g.T.LineTaker.has_taken c.lines.taker) (g.T.LineTaker.has_taken c.line-in-Ok-Some.new.self) c.lines.lines c.next.new.self
+          (g.S.Store.left c.args.store.now) (g.S.Store.left c.lines.store) (g.S.Store.left c.next.new.store)
+          (g.O.Sink.written c.args.out.now) (g.O.Sink.written c.lines.out) (g.O.Sink.written c.pass_on_piece.new.out)
+          c.lines.buffer.items c.line-in-Ok-Some.new.output.items c.pass_on_piece.new.buffer.items c.next.result c.in-Ok-Some.span
+          held.reading held.input held.line_limit is (next.answer held.no_fault) (next.line held.no_fault) number
+          (λ lines has. subst (λ line. g.T.LineTaker.has_taken c.line-in-Ok-Some.new.self (lines ++ line ∷ [])) c.line.ensures (taken.taken lines has))
+          (λ lines has. subst (λ line. report.line_fault lines line ≡ None) c.line.ensures (subst (λ (r : Report). r.line_fault lines c.line.result.now ≡ None) held.report (taken.no_fault lines has)))
+          (λ lines has. subst (λ line. c.line-in-Ok-Some.new.output.items ≡ c.lines.buffer.items ++ report.gains lines line) c.line.ensures
+          (subst (λ (r : Report). c.line-in-Ok-Some.new.output.items ≡ c.lines.buffer.items ++ r.gains lines c.line.result.now) held.report (taken.output lines has)))
+          c.in-Ok-pass_on_piece.ensures.passed)
+          (next.input ∙ held.input) (next.limit ∙ held.line_limit)
+          (subst (λ (r : Report). HasTakenKept r (g.T.LineTaker.has_taken c.line-in-Ok-Some.new.self) (g.T.LineTaker.has_taken c.take_ready.new.taker) c.next.new.self c.take_ready.new.lines)
+          (taken.report ∙ held.report) ready.taken);
+      files = next.files ∙ held.files;
+      current = next.current ∙ held.current;
+      opens = next.opens ∙ held.opens;
+      faults = next.sound (λ bad. absurd (cc)) ∙ held.faults;
+      write_faults = c.in-Ok-pass_on_piece.ensures.sound ∙ held.write_faults;
+    }
+
+-- a line was given and not taken
+pub returns-in-Err-Fault-clause-run : goal.returns-in-Err-Fault-clause-run
+returns-in-Err-Fault-clause-run g c =
+    let held = c.lines.invariant in
+    let is : c.next.result ≡ Ok (Some c.in-Ok-Some.span) = c.in-Ok-Some.is ∙ ap Ok c.in-Ok-Some.field-0-is in
+    let report : Report = g.T.LineTaker.report c.args.taker.now in
+    let told = g.T.Fault.Fault.told c.in-Err-Fault.fault in (
+      held.reading.taken,
+      (
+        0,
+        (
+          record {
+            told = read_fault (bounds_at c.args.lines.now) report (g.T.LineTaker.has_taken c.lines.taker) c.lines.lines c.next.new.self
+                (g.S.Store.left c.args.store.now) (g.S.Store.left c.lines.store) (g.S.Store.left c.next.new.store) (g.O.Sink.written c.args.out.now) (g.O.Sink.written c.lines.out)
+                c.lines.buffer.items c.next.result c.in-Ok-Some.span _ told
+                held.reading held.input held.line_limit is (c.next.ensures.answer held.no_fault) (c.next.ensures.line held.no_fault) (ap (λ n. n + 1) c.number-number.ensures.count)
+                (λ lines has. subst (λ line. report.line_fault lines line ≡ Some told) c.line.ensures
+                (subst (λ (r : Report). r.line_fault lines c.line.result.now ≡ Some told) held.report
+                (subst (λ refusal. Tells g.T.Fault.Fault.told refusal ((g.T.LineTaker.report c.lines.taker).line_fault lines c.line.result.now)) c.in-Err-Fault.field-0-is (c.in-Err-Fault.ensures.fault lines has))));
+            gained = kept_as held.reading.gained c.in-Err-Fault.ensures.no_output;
+          },
+          tt,
+        ),
+      ),
+    )
+
+pub returns-in-Err-NoMemory-clause-run : goal.returns-in-Err-NoMemory-clause-run
+returns-in-Err-NoMemory-clause-run g c =
+    let held = c.lines.invariant in (
+      held.reading.taken,
+      (
+        0,
+        (
+          record {
+            told = read_front (bounds_at c.args.lines.now) (g.T.LineTaker.report c.args.taker.now) (g.T.LineTaker.has_taken c.lines.taker) c.lines.lines (g.S.Store.left c.args.store.now) (g.S.Store.left c.lines.store)
+                (g.O.Sink.written c.args.out.now) (g.O.Sink.written c.lines.out) c.lines.buffer.items held.reading;
+            gained = kept_as held.reading.gained c.in-Err-NoMemory.ensures.no_output;
+          },
+          tt,
+        ),
+      ),
+    )
+
+-- a write failed
+pub returns-in-Err-clause-run : goal.returns-in-Err-clause-run
+returns-in-Err-clause-run g c =
+    let held = c.lines.invariant in
+    let next = c.next.ensures in
+    let is : c.next.result ≡ Ok (Some c.in-Ok-Some.span) = c.in-Ok-Some.is ∙ ap Ok c.in-Ok-Some.field-0-is in
+    let taken = c.in-Ok.ensures in
+    let report : Report = g.T.LineTaker.report c.args.taker.now in
+    let number : c.next.new.self.number ≡ c.lines.lines.number + 1 =
+    subst (λ place. c.next.new.self.number ≡ c.lines.lines.number + (if is_some place then 1 else 0)) c.in-Ok-Some.field-0-is c.in-Ok-Some.ensures.number in
+    let reading = read_more (bounds_at c.args.lines.now) report (g.T.LineTaker.has_taken c.lines.taker) (g.T.LineTaker.has_taken c.line-in-Ok-Some.new.self) c.lines.lines c.next.new.self
+    (g.S.Store.left c.args.store.now) (g.S.Store.left c.lines.store) (g.S.Store.left c.next.new.store)
+    (g.O.Sink.written c.args.out.now) (g.O.Sink.written c.lines.out) (g.O.Sink.written c.lines.out)
+    c.lines.buffer.items c.line-in-Ok-Some.new.output.items c.line-in-Ok-Some.new.output.items c.next.result c.in-Ok-Some.span
+    held.reading held.input held.line_limit is (next.answer held.no_fault) (next.line held.no_fault) number
+    (λ lines has. subst (λ line. g.T.LineTaker.has_taken c.line-in-Ok-Some.new.self (lines ++ line ∷ [])) c.line.ensures (taken.taken lines has))
+    (λ lines has. subst (λ line. report.line_fault lines line ≡ None) c.line.ensures (subst (λ (r : Report). r.line_fault lines c.line.result.now ≡ None) held.report (taken.no_fault lines has)))
+    (λ lines has. subst (λ line. c.line-in-Ok-Some.new.output.items ≡ c.lines.buffer.items ++ report.gains lines line) c.line.ensures
+    (subst (λ (r : Report). c.line-in-Ok-Some.new.output.items ≡ c.lines.buffer.items ++ r.gains lines c.line.result.now) held.report (taken.output lines has)))
+    ([], (sym (append_nothing (g.O.Sink.written c.lines.out)), refl)) in
+    let passed_on = c.in-Err.ensures.front in
+    let front = front_of_all (g.O.Sink.written c.args.out.now) (g.O.Sink.written c.lines.out) (g.O.Sink.written c.pass_on_piece.new.out) c.line-in-Ok-Some.new.output.items
+    (written report reading.taken) reading.gained passed_on.0 passed_on.1 in (
+      reading.taken,
+      (
+        front.0,
+        (
+          record {
+            told = read_front (bounds_at c.args.lines.now) report (g.T.LineTaker.has_taken c.line-in-Ok-Some.new.self) c.next.new.self (g.S.Store.left c.args.store.now) (g.S.Store.left c.next.new.store)
+                (g.O.Sink.written c.args.out.now) (g.O.Sink.written c.lines.out) c.line-in-Ok-Some.new.output.items reading;
+            gained = record { early = take front.0 (written report reading.taken); written = front.1; all = ap (λ kept. take front.0 (written report reading.taken) ++ kept) c.in-Err.ensures.emptied ∙ append-nil _ };
+          },
+          tt,
+        ),
+      ),
+    )
+
+-- the end was seen
+pub returns-in-Ok-end-clause-run : goal.returns-in-Ok-end-clause-run
+returns-in-Ok-end-clause-run g c =
+    let held = c.lines.invariant in
+    let is : c.next.result ≡ Ok None = c.in-Ok-None.is ∙ ap Ok c.in-Ok-None.field-0-is in
+    let report : Report = g.T.LineTaker.report c.args.taker.now in (
+      held.reading.taken,
+      (
+        0,
+        (
+          record {
+            told = read_end (bounds_at c.args.lines.now) report (g.T.LineTaker.has_taken c.lines.taker) c.lines.lines (g.S.Store.left c.args.store.now) (g.S.Store.left c.lines.store)
+                (g.O.Sink.written c.args.out.now) (g.O.Sink.written c.lines.out) c.lines.buffer.items c.next.result
+                held.reading held.input held.line_limit is (c.next.ensures.answer held.no_fault)
+                (λ lines has. subst (λ (r : Report). r.end_fault lines ≡ None) held.report (c.in-Ok-end.ensures.no_fault lines has));
+            gained = held.reading.gained;
+          },
+          held.reading.has_taken,
+        ),
+      ),
+    )
+
+pub returns-in-Err-end-clause-run : goal.returns-in-Err-end-clause-run
+returns-in-Err-end-clause-run g c =
+    let held = c.lines.invariant in
+    let is : c.next.result ≡ Ok None = c.in-Ok-None.is ∙ ap Ok c.in-Ok-None.field-0-is in
+    let report : Report = g.T.LineTaker.report c.args.taker.now in
+    let told = g.T.Fault.Fault.told c.in-Err-end.fault in (
+      held.reading.taken,
+      (
+        0,
+        (
+          record {
+            told = read_end_fault (bounds_at c.args.lines.now) report (g.T.LineTaker.has_taken c.lines.taker) c.lines.lines (g.S.Store.left c.args.store.now) (g.S.Store.left c.lines.store)
+                (g.O.Sink.written c.args.out.now) (g.O.Sink.written c.lines.out) c.lines.buffer.items c.next.result _ told
+                held.reading held.input held.line_limit is (c.next.ensures.answer held.no_fault) (ap (λ n. n + 1) c.number-number.ensures.count)
+                (λ lines has. subst (λ (r : Report). r.end_fault lines ≡ Some told) held.report (c.in-Err-end.ensures.fault lines has));
+            gained = held.reading.gained;
+          },
+          tt,
+        ),
+      ),
+    )
+
+-- no line was given
+pub returns-in-Err-ReadFailed-clause-run : goal.returns-in-Err-ReadFailed-clause-run
+returns-in-Err-ReadFailed-clause-run g c =
+    let held = c.lines.invariant in
+    let next = c.next.ensures in
+    let is : c.next.result ≡ Err reading.ReadFailed = c.in-Err-ReadFailed.is ∙ ap Err c.in-Err-ReadFailed.field-0-is in
+    let unmoved = next.unmoved (λ line. subst IsLine is line) in (
+      held.reading.taken,
+      (
+        0,
+        (
+          record {
+            told = read_stopped (bounds_at c.args.lines.now) (g.T.LineTaker.report c.args.taker.now) (g.T.LineTaker.has_taken c.lines.taker) c.lines.lines c.next.new.self
+                (g.S.Store.left c.args.store.now) (g.S.Store.left c.lines.store) (g.S.Store.left c.next.new.store) (g.O.Sink.written c.args.out.now) (g.O.Sink.written c.lines.out) c.lines.buffer.items
+                held.reading (next.input ∙ held.input) (next.limit ∙ held.line_limit) unmoved.0 unmoved.3 (next.place held.no_fault is);
+            gained = held.reading.gained;
+          },
+          tt,
+        ),
+      ),
+    )
+
+pub returns-in-Err-LineTooLong-clause-run : goal.returns-in-Err-LineTooLong-clause-run
+returns-in-Err-LineTooLong-clause-run g c =
+    let held = c.lines.invariant in
+    let is : c.next.result ≡ Err reading.LineTooLong = c.in-Err-LineTooLong.is ∙ ap Err c.in-Err-LineTooLong.field-0-is in (
+      held.reading.taken,
+      (
+        0,
+        (
+          record {
+            told = read_line_too_long (bounds_at c.args.lines.now) (g.T.LineTaker.report c.args.taker.now) (g.T.LineTaker.has_taken c.lines.taker) c.lines.lines
+                (g.S.Store.left c.args.store.now) (g.S.Store.left c.lines.store) (g.O.Sink.written c.args.out.now) (g.O.Sink.written c.lines.out) c.lines.buffer.items c.next.result _
+                held.reading held.input held.line_limit is (c.next.ensures.answer held.no_fault) (ap (λ n. n + 1) c.number-number.ensures.count);
+            gained = held.reading.gained;
+          },
+          tt,
+        ),
+      ),
+    )
+
+pub returns-in-Err-InputTooLong-clause-run : goal.returns-in-Err-InputTooLong-clause-run
+returns-in-Err-InputTooLong-clause-run g c =
+    let held = c.lines.invariant in
+    let is : c.next.result ≡ Err reading.InputTooLong = c.in-Err-InputTooLong.is ∙ ap Err c.in-Err-InputTooLong.field-0-is in
+    let next = c.next.ensures in
+    let unmoved = next.unmoved (λ line. subst IsLine is line) in
+    let within : c.lines.lines.passed ≤ c.args.lines.now.input = omega (arith, next.within, unmoved.0, next.input, held.input) in (
+      held.reading.taken,
+      (
+        0,
+        (
+          record {
+            told = read_input_too_long (bounds_at c.args.lines.now) (g.T.LineTaker.report c.args.taker.now) (g.T.LineTaker.has_taken c.lines.taker) c.lines.lines
+                (g.S.Store.left c.args.store.now) (g.S.Store.left c.lines.store) (g.O.Sink.written c.args.out.now) (g.O.Sink.written c.lines.out) c.lines.buffer.items c.next.result _
+                held.reading held.input held.line_limit within is (c.next.ensures.answer held.no_fault) (ap (λ n. n + 1) c.number-number.ensures.count);
+            gained = held.reading.gained;
+          },
+          tt,
+        ),
+      ),
+    )

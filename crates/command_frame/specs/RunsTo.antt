@@ -1,0 +1,91 @@
+-- What reading a file and running a plan come to, of what a store and an output show before it and after it.
+use Rattle.std.specs.Prelude.{◌≡◌, ◌≢◌, ℕ, List, Option, Result, Ok, Err, Vec}
+use Rattle.std.specs.Io.KnownBytes.{append_known}
+use Rattle.hp_outside.specs.declared.store.Store as store
+use Rattle.hp_outside.specs.declared.sink.Sink as sink
+use Rattle.hp_outside.specs.Faults.{Rose}
+use Rattle.hp_outside.specs.Folder.{Folder}
+use Rattle.command_frame.specs.declared.desk.Desk.{Desk}
+use Rattle.command_frame.specs.declared.halt.Halt.{Halt}
+use Rattle.command_frame.specs.Answer.{Answer, done}
+use Rattle.command_frame.specs.DocumentRead.{DocumentEnd, DocumentRead}
+use Rattle.command_frame.specs.FileRead.{FileEnd, FileRead, end_output}
+use Rattle.command_frame.specs.FirstFault.{bounds_of}
+use Rattle.command_frame.specs.Halts.{halt_answer, status_code}
+use Rattle.command_frame.specs.Moment.{Moment}
+use Rattle.command_frame.specs.Outcome.{GivesWhole, HaltsAt}
+use Rattle.command_frame.specs.Plan.{Plan}
+use Rattle.command_frame.specs.Report.{Report}
+use Rattle.command_frame.specs.Run.{RanTo}
+use Rattle.command_frame.specs.Texts.{Texts, texts_of}
+
+-- what a store shows
+pub record Shown : Type 0 where
+  pub files : Option Folder
+  pub moment : Moment
+
+abbrev pub shown : {S : Type 0} → store.Ghosts S → S → Shown
+shown g s = record {
+  files = g.files s;
+  moment = record { opens = g.opens s; current = g.current s; left = g.left s; faults = g.faults s };
+}
+
+-- what an output shows
+pub record Taken : Type 0 where
+  pub written : Option (List ℕ)
+  pub faults : ℕ
+
+abbrev pub taken : {O : Type 0} → sink.Ghosts O → O → Taken
+taken g o = record { written = g.written o; faults = g.faults o }
+
+-- the status of a result, and the answer that is yet to be delivered
+abbrev pub status_of : {T : Type 0} → Result T Halt → ℕ
+status_of (Ok all) = 0
+status_of (Err halt) = status_code halt.status
+
+abbrev pub rest_of : {Z : Type 0} → Texts → Result (Vec ℕ Z) Halt → Answer
+rest_of texts (Ok rest) = done rest.items
+rest_of texts (Err halt) = halt_answer texts halt
+
+-- a named file was read by lines: how that ended, and that writes failed exactly where the status says so
+pub record ReadsTo (desk : Desk) (name : List ℕ) (report : Report) (has_taken : List (List ℕ) → Type 0)
+    (before now : Shown) (old new : Taken) (result : Result (Unit {0}) Halt) : Type 0 where
+  pub end : FileEnd
+  pub read : FileRead (bounds_of desk.limits) before.files name report before.moment now.moment end
+  pub halts : HaltsAt (texts_of desk.texts) name has_taken end result
+  pub written : new.written ≡ append_known old.written (end_output report end)
+  pub files : now.files ≡ before.files
+  pub unwritten : status_of result ≡ 4 → Rose old.faults new.faults
+  pub sound : status_of result ≢ 4 → new.faults ≡ old.faults
+
+-- a named file was read as a whole
+pub record WholeReadTo (desk : Desk) (name : List ℕ) (before now : Shown) (result : Result (List ℕ) Halt)
+    : Type 0 where
+  pub end : DocumentEnd
+  pub read : DocumentRead (bounds_of desk.limits) before.files name before.moment now.moment end
+  pub gives : GivesWhole (texts_of desk.texts) name end result
+  pub files : now.files ≡ before.files
+  pub no_write : status_of result ≢ 4
+
+-- a plan was run over files of these names, whatever file was read last before it
+pub record RunsTo {Z : Type 0} (desk : Desk) (names : List (List ℕ)) (plan : Plan) (before now : Shown)
+    (old new : Taken) (result : Result (Vec ℕ Z) Halt) : Type 0 where
+  pub ran : (last : List ℕ) → RanTo (texts_of desk.texts) (bounds_of desk.limits) before.files last names plan
+      before.moment now.moment old.written new.written (rest_of (texts_of desk.texts) result)
+  pub files : now.files ≡ before.files
+  pub unwritten : status_of result ≡ 4 → Rose old.faults new.faults
+  pub sound : status_of result ≢ 4 → new.faults ≡ old.faults
+
+-- the three, of a store and an output before it and after it
+abbrev pub Reads : {S O : Type 0} → store.Ghosts S → sink.Ghosts O → Desk → List ℕ → Report
+    → (List (List ℕ) → Type 0) → S → S → O → O → Result (Unit {0}) Halt → Type 0
+Reads s o desk name report has_taken before now old new result =
+    ReadsTo desk name report has_taken (shown s before) (shown s now) (taken o old) (taken o new) result
+
+abbrev pub ReadsWhole : {S : Type 0} → store.Ghosts S → Desk → List ℕ → S → S → Result (List ℕ) Halt → Type 0
+ReadsWhole s desk name before now result = WholeReadTo desk name (shown s before) (shown s now) result
+
+abbrev pub Runs : {S O Z : Type 0} → store.Ghosts S → sink.Ghosts O → Desk → List (List ℕ) → Plan
+    → S → S → O → O → Result (Vec ℕ Z) Halt → Type 0
+Runs s o desk names plan before now old new result =
+    RunsTo desk names plan (shown s before) (shown s now) (taken o old) (taken o new) result

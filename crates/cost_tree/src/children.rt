@@ -1,0 +1,60 @@
+//! The children of a node as lines show them: the costly ones by descending cost, and the others gathered.
+ghost use Rattle.std.specs.Prelude.{◌≡◌, ◌<◌, ◌≤◌, ◌^◌, ◌++◌, All, AllPairs, List, length, map, sum_by, OnOk, IfOk, filter};
+ghost use Rattle.cost_tree.specs.Order.{by_cost};
+ghost use Rattle.cost_tree.specs.Shares.{child_at, cost_at, gathered_in, is_kept_at, is_small_at};
+
+use crate::scale::Scale;
+use crate::tree::CostTree;
+use hp_num::NoMemory;
+use std::cmp::Reverse;
+
+/// A child of a node, and what it costs.
+#[derive(Clone, Copy, Debug, PartialEq, Eq)]
+pub(crate) struct Child {
+    pub(crate) node: usize,
+    pub(crate) cost: u64,
+}
+
+/// The children that are too small for lines of their own.
+#[derive(Clone, Copy, Debug, PartialEq, Eq)]
+pub(crate) struct Gathered {
+    /// How many there are.
+    pub(crate) places: u64,
+    /// What they cost together.
+    pub(crate) cost: u64,
+}
+
+/// Appends the nodes that have lines of their own to `kept`, in their order, and gathers the others.
+pub(crate) fn split_children(
+    tree: &CostTree,
+    scale: Scale,
+    nodes: &[usize],
+    kept: &mut Vec<Child>,
+) -> Result<Gathered, NoMemory>
+    requires held { All (λ m. m < length tree.now.nodes) nodes.now }
+    requires few { length nodes.now < 2 ^ 64 }
+    requires within { sum_by (cost_at tree.now) nodes.now ≤ 2 ^ 62 }
+    ensures kept { OnOk result (kept.new.items ≡ kept.old.items ++ map (child_at tree.now) (filter (is_kept_at scale tree.now) nodes.now)) }
+    ensures gathered { IfOk result (λ gathered. gathered ≡ gathered_in tree.now (filter (is_small_at scale tree.now) nodes.now)) }
+{
+    let mut gathered = Gathered { places: 0, cost: 0 };
+    'each_node: for node in nodes {
+        let cost = tree.node(*node).cost;
+        if scale.is_small(cost) {
+            gathered.places += 1;
+            gathered.cost += cost;
+        } else {
+            kept.push(Child { node: *node, cost })?;
+        }
+    }
+    Ok(gathered)
+}
+
+/// Sorts the children by descending cost; of equal ones the one with the lower number comes first. They come by ascending
+/// number.
+pub(crate) fn sort_children(children: &mut Vec<Child>)
+    requires ascending { AllPairs (λ older younger. older.node < younger.node) children.old.items }
+    ensures sorted { children.new.items ≡ by_cost (λ child. child.cost) children.old.items }
+{
+    children.sort_unstable_by_key(|child| (Reverse(child.cost), child.node));
+}

@@ -1,0 +1,165 @@
+//! The lines of a tree: that of a node stands before those of its children.
+//! Where a tree comes from, and how a line is written, are no part of it.
+ghost use Rattle.std.specs.Prelude.{◌≡◌, ℕ, ◌<◌, ◌≤◌, ◌^◌, ◌∷◌, [], ◌++◌, All, List, length, map, IfOk, OnOk, reverse, sum_by};
+ghost use Rattle.cost_tree.specs.Children.{children_of};
+ghost use Rattle.cost_tree.specs.Costed.{Costed};
+ghost use Rattle.cost_tree.specs.CostLines.{cost_lines};
+ghost use Rattle.cost_tree.specs.Pendings.{IsPending, children_below, pending_below, pending_child, pending_children, pending_gathered, pending_line};
+ghost use Rattle.cost_tree.specs.Shares.{cost_at};
+ghost use Rattle.cost_tree.specs.TreeLines.{HasLines, IsLineOf, line_at};
+
+use crate::children::{Child, Gathered, sort_children, split_children};
+use crate::line::{CostLine, Place};
+use crate::scale::Scale;
+use crate::tree::CostTree;
+use hp_num::NoMemory;
+use std::alloc::Global;
+
+/// What still has no line.
+#[derive(Clone, Copy, Debug)]
+pub(crate) enum Pending {
+    /// A node on a level, and the nodes below it.
+    Below { level: usize, node: usize },
+    /// A line that has nothing below it.
+    Line { line: CostLine },
+}
+
+/// Buffers for the children of a node.
+#[derive(Debug, Drop)]
+struct Children {
+    nodes: Vec<usize>,
+    kept: Vec<Child>,
+}
+
+/// The lines of the tree, or `NoMemory`: a line for node 0, and below a line the children whose share of the total reaches
+/// the threshold, by descending cost and then by their least stack, before one line for all others.
+///
+/// The tree must be one of fewer than 2^32 stacks, which cost at most 2^62 together.
+pub fn cost_lines(alloc: Global, tree: &CostTree, scale: Scale) -> Result<Vec<CostLine>, NoMemory>
+    requires tree { (stacks : List Costed) × (depth : ℕ) × HasLines tree.now stacks depth }
+    ensures lines { IfOk result (λ lines. (stacks : List Costed) (depth : ℕ) → HasLines tree.now stacks depth →
+        map (line_at tree.now) lines.items ≡ cost_lines depth scale stacks) }
+    ensures each { IfOk result (λ lines. (stacks : List Costed) (depth : ℕ) → HasLines tree.now stacks depth →
+        All (IsLineOf tree.now stacks depth) lines.items) }
+{
+    let mut children = Children {
+        nodes: Vec::new(alloc),
+        kept: Vec::new(alloc),
+    };
+    let mut lines = Vec::new(alloc);
+    let mut pending = Vec::new(alloc);
+    pending.push(Pending::Below { level: 0, node: 0 })?;
+    'each_pending: while let Some(next) = pending.pop() {
+        lines.push(take_pending(tree, scale, next, &mut children, &mut pending)?)?;
+    }
+    Ok(lines)
+}
+
+/// The line of what is pending; what stands below it is put in its place, the first one last. `children` are buffers.
+fn take_pending(
+    tree: &CostTree,
+    scale: Scale,
+    next: Pending,
+    children: &mut Children,
+    pending: &mut Vec<Pending>,
+) -> Result<CostLine, NoMemory>
+    requires pending { IsPending tree.now next }
+    requires within { sum_by (cost_at tree.now) (children_below tree.now next) ≤ 2 ^ 62 }
+    requires few { length (children_below tree.now next) < 2 ^ 32 }
+    ensures line { IfOk result (λ line. line ≡ pending_line scale tree.now next) }
+    ensures below { OnOk result (pending.new.items ≡ pending.old.items ++ pending_below scale tree.now next) }
+{
+    match next {
+        Pending::Below { level, node } => {
+            let count = push_children(tree, scale, level + 1, node, children, pending)?;
+            Ok(CostLine {
+                level,
+                children: count,
+                cost: tree.node(node).cost,
+                place: Place::Node { node },
+            })
+        }
+        Pending::Line { line } => Ok(line),
+    }
+}
+
+/// Appends the children of a node, which stand on this level, the first one last, and answers how many lines they have.
+/// `children` are buffers.
+fn push_children(
+    tree: &CostTree,
+    scale: Scale,
+    level: usize,
+    node: usize,
+    children: &mut Children,
+    pending: &mut Vec<Pending>,
+) -> Result<u32, NoMemory>
+    requires held { node < length tree.now.nodes }
+    requires within { sum_by (cost_at tree.now) (children_of tree.now.nodes node) ≤ 2 ^ 62 }
+    requires few { length (children_of tree.now.nodes node) < 2 ^ 32 }
+    ensures appended { OnOk result (pending.new.items ≡ pending.old.items ++ pending_children scale tree.now level node) }
+    ensures count { IfOk result (λ count. count ≡ length (pending_children scale tree.now level node)) }
+{
+    let before = pending.len();
+    push_shown(tree, scale, level, node, children, pending)?;
+    Ok((pending.len() - before) as u32)
+}
+
+/// Appends the children of a node, which stand on this level, the first one last. `children` are buffers.
+fn push_shown(
+    tree: &CostTree,
+    scale: Scale,
+    level: usize,
+    node: usize,
+    children: &mut Children,
+    pending: &mut Vec<Pending>,
+) -> Result<(), NoMemory>
+    requires held { node < length tree.now.nodes }
+    requires within { sum_by (cost_at tree.now) (children_of tree.now.nodes node) ≤ 2 ^ 62 }
+    ensures appended { OnOk result (pending.new.items ≡ pending.old.items ++ pending_children scale tree.now level node) }
+{
+    tree.children_into(node, &mut children.nodes)?;
+    children.kept.clear();
+    let gathered = split_children(tree, scale, &children.nodes, &mut children.kept)?;
+    sort_children(&mut children.kept);
+    push_gathered(level, gathered, pending)?;
+    push_kept(level, &mut children.kept, pending)
+}
+
+/// Appends the line of the children that are gathered, where there are some.
+fn push_gathered(
+    level: usize,
+    gathered: Gathered,
+    pending: &mut Vec<Pending>,
+) -> Result<(), NoMemory>
+    ensures appended { OnOk result (pending.new.items ≡ pending.old.items ++ pending_gathered level gathered) }
+{
+    if gathered.places > 0 {
+        let line = CostLine {
+            level,
+            children: 0,
+            cost: gathered.cost,
+            place: Place::Gathered {
+                places: gathered.places,
+            },
+        };
+        pending.push(Pending::Line { line })?;
+    }
+    Ok(())
+}
+
+/// Appends the children, the first one last, and leaves none of them.
+fn push_kept(
+    level: usize,
+    kept: &mut Vec<Child>,
+    pending: &mut Vec<Pending>,
+) -> Result<(), NoMemory>
+    ensures appended { OnOk result (pending.new.items ≡ pending.old.items ++ reverse (map (pending_child level) kept.old.items)) }
+{
+    'each_child: while let Some(child) = kept.pop() {
+        pending.push(Pending::Below {
+            level,
+            node: child.node,
+        })?;
+    }
+    Ok(())
+}

@@ -1,2 +1,0 @@
-pub mod HaltLemmas
-pub mod RunLemmas

@@ -1,4 +1,0 @@
-pub mod Texts
-pub mod Answer
-pub mod Recorded
-pub mod Run

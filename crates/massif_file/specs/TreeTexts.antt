@@ -1,0 +1,12 @@
+-- The written lines of trees side by side, each after as many blanks as its level.
+use Rattle.std.specs.Prelude.{ℕ, suc, List, [], ◌∷◌, ◌++◌}
+use Rattle.massif_file.specs.Blanks.{blanks}
+use Rattle.massif_file.specs.MassifText.{node_text}
+use Rattle.massif_file.specs.Trees.{Trees, no_tree, a_tree, count_of}
+
+-- a line for each root, which are at this level, before the lines of what is below it, one level further in
+abbrev pub tree_texts : ℕ → Trees → List (List ℕ)
+tree_texts level no_tree = []
+tree_texts level (a_tree bytes label children others) =
+    (blanks level ++ node_text (record { children = count_of children; bytes = bytes; label = label }))
+    ∷ (tree_texts (suc level) children ++ tree_texts level others)

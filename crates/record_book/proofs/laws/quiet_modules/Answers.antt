@@ -1,0 +1,5 @@
+use Rattle.record_book.proofs.ModuleLines.{quiet-modules}
+use Rattle.record_book.proofs.laws.quiet_modules.Goals as goal
+
+pub returns : goal.returns
+returns c = quiet-modules

@@ -1,4 +1,0 @@
-pub mod LineLemmas
-pub mod RunLemmas
-pub mod NameLemmas
-pub mod SilentLemmas

@@ -1,4 +1,0 @@
-pub mod FaultTold
-pub mod FileLines
-pub mod FilesPlan
-pub mod LeadsTo

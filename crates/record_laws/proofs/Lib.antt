@@ -1,4 +1,0 @@
-mod LineTexts
-mod SpelledLemmas
-mod SummaryLines
-mod ModuleLines

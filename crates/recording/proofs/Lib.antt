@@ -1,0 +1,6 @@
+mod LineLemmas
+mod FrontLemmas
+mod SilentLemmas
+mod HaltLemmas
+mod EndLemmas
+mod RecordedLemmas

@@ -1,0 +1,46 @@
+-- What a run is to write and to answer, for its words, the files of a folder, and the text of the recording.
+use Rattle.std.specs.Prelude.{ℕ, List, [], Bool, false, Option, None, Some, length}
+use Rattle.hp_outside.specs.Folder.{Folder}
+use Rattle.command_frame.specs.Answer.{Answer, plan_answer, usage_answer}
+use Rattle.command_frame.specs.FirstFault.{Bounds}
+use Rattle.command_frame.specs.Plan.{Ends, Plan}
+use Rattle.command_frame.specs.Report.{Writes}
+use Rattle.record_scripts.specs.Job.{Job}
+use Rattle.recording.specs.FileLines.{no_job}
+use Rattle.recording.specs.FilesPlan.{files_named, files_plan, job_in}
+use Rattle.recording.specs.RecordWords.{RecordAsked, record_asked}
+use Rattle.recording.specs.Texts.{heaprec_texts}
+
+-- what is done with the files: the text is written behind them, and says nothing of their faults
+abbrev pub record_plan : ℕ → List ℕ → RecordAsked → Plan
+record_plan limit text asked = files_plan asked.modules asked.scripts (no_job limit) (λ job. Ends (Writes text))
+
+-- the answer to what was asked, or to words that aren't taken
+abbrev pub asked_answer : Bounds → ℕ → Folder → List ℕ → Option RecordAsked → Answer
+asked_answer bounds limit folder text None = usage_answer heaprec_texts
+asked_answer bounds limit folder text (Some asked) = plan_answer heaprec_texts bounds folder [] (record_plan limit text asked)
+
+-- the answer to words, over a folder of files, of which none may have more bytes, nor longer lines, than the bounds, and which
+-- together may have so many events; this is the text of the recording, where there is one
+abbrev pub rec_answer : List (List ℕ) → Bounds → ℕ → Folder → List ℕ → Answer
+rec_answer words bounds limit folder text = asked_answer bounds limit folder text (record_asked words)
+
+-- the files that words name, where they are taken
+abbrev pub names_asked : Option RecordAsked → List (List ℕ)
+names_asked None = []
+names_asked (Some asked) = files_named asked.modules asked.scripts
+
+-- how many scripts they name
+abbrev pub count_asked : Option RecordAsked → ℕ
+count_asked None = 0
+count_asked (Some asked) = length asked.scripts
+
+-- whether a summary is asked for
+abbrev pub summary_asked : Option RecordAsked → Bool
+summary_asked None = false
+summary_asked (Some asked) = asked.summary
+
+-- what the files of a folder say that words name
+abbrev pub job_asked : ℕ → Folder → Option RecordAsked → Job
+job_asked limit folder None = no_job limit
+job_asked limit folder (Some asked) = job_in folder asked.modules asked.scripts limit

@@ -1,0 +1,11 @@
+pub mod RecordWords
+pub mod Requests
+pub mod FaultTold
+pub mod FileLines
+pub mod FrontRead
+pub mod FilesPlan
+pub mod Texts
+pub mod Answer
+pub mod Recorded
+pub mod Run
+pub mod HeaprecRan

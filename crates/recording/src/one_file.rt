@@ -1,0 +1,84 @@
+//! Reading one named file of a recording. Which files there are is no part of it.
+ghost use Rattle.std.specs.Prelude.{◌≡◌, ℕ, ◌+◌, ◌-◌, ◌^◌, ◌<◌, List, length, IfOk};
+ghost use Rattle.hp_outside.specs.Taken.{WhereTold};
+ghost use Rattle.record_scripts.specs.ModuleLines.{AreModuleLines};
+ghost use Rattle.recording.specs.declared.reader.FileKind.TheVariants.{Script};
+ghost use Rattle.recording.specs.FileLines.{with_lines};
+ghost use Rattle.recording.specs.FilesPlan.{file_front, lines_in};
+ghost use Rattle.recording.specs.FrontRead.{ReadsFront};
+
+use crate::reader::{FileKind, FileReader, Start};
+use command_frame::{Desk, Halt, read_named_file};
+use hp_outside::{LineReader, Sink, Store};
+use record_scripts::Scripts;
+use std::marker::{Brand, PhantomData};
+
+/// A file, and what its lines are.
+#[derive(Clone, Copy, Debug)]
+pub struct NamedFile<'a> {
+    pub kind: FileKind,
+    pub name: &'a str,
+}
+
+/// Reads a file into scripts. For a script, one of them is open.
+pub fn read_file<S: Store, O: Sink>(
+    desk: &Desk,
+    lines: &mut LineReader,
+    file: &NamedFile,
+    scripts: Scripts,
+    store: &mut S,
+    out: &mut O,
+) -> Result<Scripts, Halt>
+    requires opens { S.opens store.old < 2 ^ 64 - 1 }
+    requires open { file.now.kind ≡ Script → 0 < length scripts.scripts }
+    requires modules { AreModuleLines scripts.modules }
+    requires input { lines.old.input ≡ desk.now.limits.input }
+    requires line { lines.old.line_limit ≡ desk.now.limits.line }
+    ensures read { ReadsFront S.Store O.Sink desk.now (file_front file.now.kind file.now.name.now scripts)
+        store.old store.new out.old out.new result }
+    ensures lines { IfOk result (λ job. (taken : List (List ℕ))
+        × ((job ≡ with_lines file.now.kind scripts taken)
+        × WhereTold (S.files store.old) (λ folder. taken ≡ lines_in folder file.now.name.now))) }
+    ensures modules { IfOk result (λ job. AreModuleLines job.modules) }
+    ensures opens { IfOk result (λ job. S.opens store.new ≡ S.opens store.old + 1) }
+    ensures input { lines.new.input ≡ lines.old.input }
+    ensures line { lines.new.line_limit ≡ lines.old.line_limit }
+{
+    read_behind::<Brand, S, O>(desk, lines, file, scripts, store, out)
+}
+
+/// The same, where `B` says what was read before.
+fn read_behind<B: Start, S: Store, O: Sink>(
+    desk: &Desk,
+    lines: &mut LineReader,
+    file: &NamedFile,
+    scripts: Scripts,
+    store: &mut S,
+    out: &mut O,
+) -> Result<Scripts, Halt>
+    requires opens { S.opens store.old < 2 ^ 64 - 1 }
+    requires open { file.now.kind ≡ Script → 0 < length scripts.scripts }
+    requires modules { AreModuleLines scripts.modules }
+    requires input { lines.old.input ≡ desk.now.limits.input }
+    requires line { lines.old.line_limit ≡ desk.now.limits.line }
+    requires kind { file.now.kind ≡ B.kind }
+    requires job { scripts ≡ B.job }
+    ensures read { ReadsFront S.Store O.Sink desk.now (file_front B.kind file.now.name.now B.job)
+        store.old store.new out.old out.new result }
+    ensures lines { IfOk result (λ job. (taken : List (List ℕ)) × ((job ≡ with_lines B.kind B.job taken)
+        × WhereTold (S.files store.old) (λ folder. taken ≡ lines_in folder file.now.name.now))) }
+    ensures modules { IfOk result (λ job. AreModuleLines job.modules) }
+    ensures opens { IfOk result (λ job. S.opens store.new ≡ S.opens store.old + 1) }
+    ensures input { lines.new.input ≡ lines.old.input }
+    ensures line { lines.new.line_limit ≡ lines.old.line_limit }
+{
+    let mut reader = FileReader::<B> {
+        kind: file.kind,
+        scripts,
+        behind: PhantomData,
+    };
+    match read_named_file(desk, lines, file.name, &mut reader, store, out) {
+        Ok(()) => Ok(reader.scripts),
+        Err(halt) => Err(halt),
+    }
+}

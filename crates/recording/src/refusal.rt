@@ -1,0 +1,50 @@
+//! What is told of a refused line of a script or of a modules file. When a line is refused is decided where it is read.
+ghost use Rattle.std.specs.Prelude.{◌≡◌};
+ghost use Rattle.recording.specs.FaultTold.{fault_status, fault_text};
+
+use command_frame::{Fault, FaultStatus};
+use hp_num::{NoMemory, put_bytes};
+use record_scripts::ScriptFault;
+
+/// Why a line is refused.
+#[derive(Clone, Copy, Debug, PartialEq, Eq)]
+pub struct LineFault {
+    pub fault: ScriptFault,
+}
+
+impl Fault for LineFault {
+    ghost use Rattle.recording.specs.FaultTold.{told as told_of};
+
+    ghost told = { λ refused. told_of refused.fault };
+
+    fn put_text(&self, out: &mut Vec<u8>) -> Result<(), NoMemory> {
+        put_bytes(out, fault_text(self.fault).as_bytes())
+    }
+
+    fn status(&self) -> FaultStatus {
+        fault_status(self.fault)
+    }
+}
+
+/// What the fault is called. Want of memory is none, and never told as one.
+fn fault_text(fault: ScriptFault) -> &'static str
+    ensures { result.now ≡ fault_text fault }
+{
+    match fault {
+        ScriptFault::BadScriptLine => "bad script line",
+        ScriptFault::BlockLive => "block live",
+        ScriptFault::BlockNotLive => "block not live",
+        ScriptFault::TooManyEvents => "too many events",
+        ScriptFault::NoMemory => "out of memory",
+    }
+}
+
+/// Its kind: with too many events the input is past a limit.
+fn fault_status(fault: ScriptFault) -> FaultStatus
+    ensures { result ≡ fault_status fault }
+{
+    match fault {
+        ScriptFault::TooManyEvents => FaultStatus::PastLimit,
+        _ => FaultStatus::Malformed,
+    }
+}

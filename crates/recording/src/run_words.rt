@@ -1,0 +1,79 @@
+//! From the words and the files to what is to be delivered. How that is written is the business of the frame.
+ghost use Rattle.std.specs.Prelude.{◌≡◌, ◌^◌, ◌<◌, ◌≤◌, length, map, string_bytes, Some};
+ghost use Rattle.command_frame.specs.FirstFault.{bounds_of};
+ghost use Rattle.command_frame.specs.OutcomeAnswer.{outcome_answer};
+ghost use Rattle.command_frame.specs.RunsTo.{rest_of, shown, taken};
+ghost use Rattle.command_frame.specs.Texts.{texts_of};
+ghost use Rattle.recording.specs.Recorded.{IsRecorded};
+ghost use Rattle.recording.specs.RecordWords.{record_asked};
+ghost use Rattle.recording.specs.Requests.{asked_by};
+ghost use Rattle.recording.specs.Run.{WordsRunTo};
+ghost use Rattle.recording.specs.Texts.{heaprec_texts};
+
+use crate::files::{ScriptFiles, read_files};
+use crate::record_text::record_text;
+use crate::request::RecordRequest;
+use command_frame::{Desk, Halt, Outcome};
+use command_words::WordsFault;
+use hp_num::NoMemory;
+use hp_outside::{Sink, Store};
+use recorder::Gate;
+use std::alloc::Global;
+use std::sync::Wait;
+use std::thread::Threads;
+
+/// Runs what the words ask for. Nothing is written.
+pub fn run_words<R: Threads + Wait + Sync, S: Store, O: Sink, G: Gate + Sync>(
+    rt: &R,
+    desk: &Desk,
+    words: &[String],
+    store: &mut S,
+    out: &mut O,
+    gate: &G,
+) -> Outcome
+    requires opens { S.opens store.old < 2 ^ 63 }
+    requires texts { texts_of desk.now.texts ≡ heaprec_texts }
+    ensures { WordsRunTo IsRecorded (bounds_of desk.now.limits) desk.now.limits.order
+        (record_asked (map string_bytes words.now)) (shown S.Store store.old) (shown S.Store store.new)
+        (taken O.Sink out.old) (taken O.Sink out.new) (outcome_answer heaprec_texts result) }
+{
+    match RecordRequest::read(desk.alloc, words) {
+        Ok(request) => Outcome::new(
+            desk.alloc,
+            run_request(rt, desk, &request, store, out, gate),
+        ),
+        Err(WordsFault::NotTaken) => Outcome::new(desk.alloc, Err(Halt::usage())),
+        Err(WordsFault::NoMemory) => Outcome::new(desk.alloc, Err(Halt::no_memory())),
+    }
+}
+
+/// Runs a request: reads its files, and records what they say.
+fn run_request<R: Threads + Wait + Sync, S: Store, O: Sink, G: Gate + Sync>(
+    rt: &R,
+    desk: &Desk,
+    request: &RecordRequest,
+    store: &mut S,
+    out: &mut O,
+    gate: &G,
+) -> Result<Vec<u8>, Halt>
+    requires opens { S.opens store.old < 2 ^ 63 }
+    requires texts { texts_of desk.now.texts ≡ heaprec_texts }
+    requires some { 1 ≤ length request.now.scripts.items }
+    requires few { length request.now.scripts.items ≤ 64 }
+    ensures { WordsRunTo IsRecorded (bounds_of desk.now.limits) desk.now.limits.order (Some (asked_by request.now))
+        (shown S.Store store.old) (shown S.Store store.new) (taken O.Sink out.old) (taken O.Sink out.new)
+        (rest_of heaprec_texts result) }
+{
+    let files = ScriptFiles {
+        modules: request.modules,
+        scripts: &request.scripts,
+    };
+    let scripts = match read_files(desk, &files, store, out) {
+        Ok(scripts) => scripts,
+        Err(halt) => return Err(halt),
+    };
+    match record_text(rt, desk.alloc, scripts, request.summary, gate) {
+        Ok(text) => Ok(text),
+        Err(NoMemory) => Err(Halt::no_memory()),
+    }
+}
