@@ -1,19 +1,20 @@
-pub mod LineLemmas
-pub mod FaultLemmas
-pub mod OutputLemmas
-pub mod LinesLoop
-pub mod BatchLemmas
-pub mod EndLemmas
-pub mod RunLemmas
-pub mod DocumentLemmas
-pub mod TextLoop
-pub mod DeliveryLemmas
-pub mod FrontLemmas
-pub mod StatusFactLemmas
-pub mod NotReadLemmas
-pub mod BehindFactLemmas
-pub mod LinesFactLemmas
-pub mod DocumentFactLemmas
-pub mod RunFactLemmas
-pub mod QuietLemmas
-pub mod RunsToLemmas
+pub mod Laws
+mod LineLemmas
+mod FaultLemmas
+mod OutputLemmas
+mod LinesLoop
+mod BatchLemmas
+mod EndLemmas
+mod RunLemmas
+mod DocumentLemmas
+mod TextLoop
+mod DeliveryLemmas
+mod FrontLemmas
+mod StatusFactLemmas
+mod NotReadLemmas
+mod BehindFactLemmas
+mod LinesFactLemmas
+mod DocumentFactLemmas
+mod RunFactLemmas
+mod QuietLemmas
+mod RunsToLemmas

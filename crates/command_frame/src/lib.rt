@@ -4,33 +4,35 @@
 //!
 //! A command is a `Plan`: its files in order, each read by lines (`Lines`) or whole (`Document`), and what is made of
 //! them (`Ends`), or a text that is written while it is made (`Pieces`). `plan_answer` is the answer to a plan over a
-//! folder of files, `Ran` what a run of it may come to, whatever a store and an output tell and do, and `RunFacts` what
-//! follows from that for every plan. What it promises:
+//! folder of files. Whatever the store and the outputs do, a run is one that the plan allows. What it promises:
 //!
+//! - `run_one_file`, `run_pair`, `run_document` and `run_text` come to `Runs` (`specs/RunsTo`), one record: the answer
+//!   that is yet to be delivered, what the store's calls were, what was written early, and that a write failed exactly at
+//!   status 4. `read_named_file` and `read_document`, of which they are made, come to `Reads` and `ReadsWhole`.
 //! - `LineTaker`: what takes the lines of a file. Its ghost `report` says what the lines mean: their faults, and what
 //!   each gives to standard output. `line` takes one line, `end` judges the end of the file, and `batch` takes whole
 //!   short lines at the front of bytes, which have no fault and give nothing; a taker that takes none at once leaves
 //!   `batch` out. `LineReport` makes the rest of the output of all lines.
-//! - `read_lines` reads the next file with a taker, and `run_lines` is a run of a plan of one file (`one_file`).
 //! - `FilePair`: two files by lines, where the taker of the second is made of that of the first, and what the second
-//!   means depends on the lines of the first. `run_pair` is a run of a plan of two files (`two_files`).
+//!   means depends on the lines of the first.
 //! - `DocumentReport`: what makes the output of a file's bytes, or finds their first fault, which the message tells at
-//!   the file and at no line. `read_document` reads the next file whole, and `run_document` is a run of a plan of one
-//!   document (`one_document`). A document of too many bytes is refused before any other fault of it, exactly where no
-//!   read failed; every other fault comes only once the end was read.
+//!   the file and at no line. A document of too many bytes is refused before any other fault of it, exactly where no read
+//!   failed; every other fault comes only once the end was read.
 //! - `TextMaker`: what makes a text piece by piece. `run_text` writes it while it is made (`Pieces`), in the memory of
 //!   one piece and of what is written at once.
 //! - `Halt`: why a run ends early, with its message and its status. `Outcome` and `deliver`: both outputs, written and
-//!   flushed, and the status.
+//!   flushed, whole at every status but 4, which comes only where an output failed (`specs/Delivery`).
+//! - What follows for the program (`specs/RunFacts`) is the law `run_facts`.
 //!
-//! The tests of these calls, with a taker that writes while it reads, are the crate `command_frame_tests`.
+//! `proofs/Laws` has all that callers may cite. The tests of these calls, with a taker that writes while it reads, are the
+//! crate `command_frame_tests`.
 //!
 //! | File | Does |
 //! |---|---|
 //! | `taker.rt`, `report.rt`, `fault.rt` | what takes lines; what makes the rest of the output; faults as told |
-//! | `lines.rt`, `files.rt`, `run.rt` | the lines of the current file; named files; a run over one file |
+//! | `lines.rt`, `files.rt`, `run.rt` | the lines of the current file; those of a named one; a run over one file |
 //! | `pair.rt` | a run over two files |
-//! | `document.rt` | a file that is read whole |
+//! | `document.rt` | a file that is read whole, and a run over one |
 //! | `text.rt` | a text that is written while it is made |
 //! | `halt.rt`, `texts.rt`, `desk.rt` | why a run ends early; a program's texts; what a command has at hand |
 //! | `delivery.rt` | both outputs, and the status |

@@ -1,23 +1,16 @@
--- From a run of what the words ask for to the facts of its answer, and to what the outputs hold.
-use Rattle.std.proofs.Common.{◌≡◌, ◌≢◌, ℕ, ◌+◌, ◌≤◌, true, List, [], ◌∷◌, ◌++◌, ◌||◌, codes, length, take, Bool, false, Option, Some, None, refl, ap, sym, subst, ◌∙◌, inl, inr, arith}
+-- From a run of what the words ask for to the facts of its answer.
+use Rattle.std.proofs.Common.{◌≡◌, ◌≢◌, ℕ, ◌+◌, ◌≤◌, true, List, [], ◌∷◌, ◌||◌, codes, length, take, Bool, false, Option, Some, None, refl, ap, subst, inl, inr, arith}
 use Rattle.std.proofs.lemmas.Bool.{or_parts}
 use Rattle.std.specs.Str.{bytes_eq}
-use Rattle.std.specs.Io.KnownBytes.{append_known}
 use Rattle.hp_outside.specs.Faults.{Rose}
 use Rattle.hp_outside.specs.Folder.{Folder}
-use Rattle.hp_outside.specs.Taken.{GainsFront, WhereTold}
-use Rattle.command_frame.specs.declared.delivery.Outcome.{Outcome}
-use Rattle.command_frame.specs.Answer.{Answer, after, memory_answer, usage_answer}
-use Rattle.command_frame.specs.Delivery.{Delivered, GainsFronts}
+use Rattle.hp_outside.specs.Taken.{WhereTold}
+use Rattle.command_frame.specs.Answer.{Answer, memory_answer, usage_answer}
+use Rattle.command_frame.specs.Delivery.{Delivered}
 use Rattle.command_frame.specs.FirstFault.{Bounds}
-use Rattle.command_frame.specs.OutcomeAnswer.{outcome_answer}
 use Rattle.command_frame.specs.Moment.{Moment}
 use Rattle.command_frame.specs.RunFacts.{NotRead}
-use Rattle.command_frame.specs.Texts.{Texts}
-use Rattle.command_frame.proofs.DeliveryLemmas.{fronts_behind, fronts_later}
-use Rattle.command_frame.proofs.OutputLemmas.{append_further}
-use Rattle.command_frame.proofs.QuietLemmas.{plan_quiet}
-use Rattle.command_frame.proofs.RunFactLemmas.{run_facts}
+use Rattle.command_frame.proofs.Laws.{plan_quiet, run_facts}
 use Rattle.commands.specs.Answer.{asked_answer}
 use Rattle.commands.specs.Asked.{Asked, asked, command_asked, knows_first, names_asked, names_of, plan_of}
 use Rattle.commands.specs.Run.{WordsRan}
@@ -102,40 +95,6 @@ asked_facts bounds files (Some request) before now given (inr ran) =
       usage = λ none five. absurd (cc);
       only_usage = λ two. absurd (facts.not_usage two);
       silent = facts.silent;
-    }
-
--- what a run came to, and what the outputs hold
-pub record Ended (bounds : Bounds) (files : Option Folder) (asking : Option Asked) (before now : Moment) (status : ℕ) (out_rose err_rose : Type 0) (out_old out_new err_old err_new : Option (List ℕ)) (given : Answer) : Type 0 where
-  pub ran : WordsRan bounds files asking before now given
-  pub facts : AskedFacts bounds files asking before now given
-  pub delivered : status ≢ 4 → Delivered given status out_old out_new err_old err_new
-  pub fronts : GainsFronts heapsuite_texts.write_failed given out_rose err_rose out_old out_new err_old err_new
-  pub own_message : (bytes : List ℕ) → out_old ≡ Some bytes → out_new ≡ append_known out_old given.output → GainsFront err_old err_new given.message
-
--- what was delivered behind bytes that were written before
-pub ended_run : (bounds : Bounds) (files : Option Folder) (asking : Option Asked) (before now : Moment) (status : ℕ) (out_rose out_rises err_rose : Type 0) (out_old out_mid out_new err_old err_new : Option (List ℕ))
-    (outcome : Outcome) (texts : Texts) → texts ≡ heapsuite_texts
-    → (ran : (early : List ℕ) × ((out_mid ≡ append_known out_old early) × WordsRan bounds files asking before now (after early (outcome_answer heapsuite_texts outcome))))
-    → (status ≢ 4 → Delivered (outcome_answer texts outcome) status out_mid out_new err_old err_new)
-    → GainsFronts texts.write_failed (outcome_answer texts outcome) out_rose err_rose out_mid out_new err_old err_new
-    → ((bytes : List ℕ) → out_mid ≡ Some bytes → out_new ≡ append_known out_mid (outcome_answer texts outcome).output → GainsFront err_old err_new (outcome_answer texts outcome).message)
-    → (out_rose → out_rises)
-    → Ended bounds files asking before now status out_rises err_rose out_old out_new err_old err_new (after ran.0 (outcome_answer heapsuite_texts outcome))
-ended_run bounds files asking before now status out_rose out_rises err_rose out_old out_mid out_new err_old err_new outcome texts is ran delivers gains own later =
-    let answer : Answer = outcome_answer heapsuite_texts outcome in
-    let whole : append_known out_mid answer.output ≡ append_known out_old (ran.0 ++ answer.output) =
-    ap (λ o. append_known o answer.output) ran.1.0 ∙ append_further out_old ran.0 answer.output in
-    record {
-      ran = ran.1.1;
-      facts = asked_facts bounds files asking before now (after ran.0 answer) ran.1.1;
-      delivered = λ four.
-          let given = subst (λ t. Delivered (outcome_answer t outcome) status out_mid out_new err_old err_new) is (delivers four) in
-          record { status_is = given.status_is; output = given.output ∙ whole; message = given.message };
-      fronts = fronts_behind heapsuite_texts.write_failed ran.0 answer ran.1.0
-          (fronts_later later (λ rose. rose) refl refl (subst (λ (t : Texts). GainsFronts t.write_failed (outcome_answer t outcome) out_rose err_rose out_mid out_new err_old err_new) is gains));
-      own_message = λ bytes known all.
-          subst (λ t. (bytes : List ℕ) → out_mid ≡ Some bytes → out_new ≡ append_known out_mid (outcome_answer t outcome).output → GainsFront err_old err_new (outcome_answer t outcome).message) is own
-          (bytes ++ ran.0) (ran.1.0 ∙ ap (λ o. append_known o ran.0) known) (all ∙ sym whole);
     }
 
 -- one answer for another that is equal

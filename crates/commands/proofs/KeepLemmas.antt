@@ -1,10 +1,11 @@
 -- That `interpret` at status 0 keeps the ledger and the stacks of the raw trace.
-use Rattle.std.proofs.Common.{◌≡◌, ◌≢◌, ℕ, ◌+◌, ◌^◌, ◌<◌, ◌≤◌, Bool, true, false, cond, ◌&&◌, List, [], ◌∷◌, ◌++◌, length, Option, Some, None, refl, sym, ap, ◌∙◌, arith, append-nil, subst, ne_eqb}
+use Rattle.std.proofs.Common.{◌≡◌, ◌≢◌, ℕ, ◌+◌, ◌^◌, ◌<◌, ◌≤◌, Bool, true, false, cond, ◌&&◌, List, [], ◌∷◌, ◌++◌, length, Option, Some, None, refl, sym, ap, ◌∙◌, arith, append-nil, append_assoc, drop, take, subst, ne_eqb}
 use Rattle.std.specs.Prelude.{nat_le, nat_lt, unwrap_or}
 use Rattle.std.specs.List.{AllByRecursion, cons_option, onto_first, slice_split}
 use Rattle.std.specs.Option.{option_map, option_or, option_to_list}
 use Rattle.std.proofs.lemmas.Bool.Decides.{nat_tests}
 use Rattle.std.proofs.lemmas.Grind.{flat_map-append}
+use Rattle.std.proofs.lemmas.List.{take-append-drop}
 use Rattle.std.proofs.lemmas.List.Elements.{All-cons, All-head, All-nil, All-tail}
 use Rattle.std.proofs.lemmas.List.Sums.{sum_by-cons}
 use Rattle.hp_outside.specs.Folder.{Folder, file_of}
@@ -30,7 +31,7 @@ use Rattle.interpret.specs.SymbolList.{is_skipped, symbols_of}
 use Rattle.command_frame.specs.Answer.{Answer, after, lines_answer, named_answer, plan_answer}
 use Rattle.command_frame.specs.FirstFault.{Bounds, Refusal, bytes_of_lines, end_refusal, file_fault, first_fault, length_fault, line_fault, line_faults, line_too_long, input_too_long}
 use Rattle.command_frame.specs.Plan.{Ends, one_file}
-use Rattle.command_frame.proofs.FaultLemmas.{bytes_of_lines-push}
+use Rattle.command_frame.proofs.Laws.{bytes_of_lines-push}
 use Rattle.command_frame.specs.Report.{Report, gains_from, written}
 use Rattle.command_frame.specs.Texts.{Texts}
 use Rattle.command_frame.specs.Told.{Told, code_of}
@@ -40,7 +41,7 @@ use Rattle.commands.specs.Answer.{asked_answer}
 use Rattle.commands.specs.Asked.{Asked, Interpret}
 use Rattle.commands.specs.CommandFault as fault
 use Rattle.commands.specs.declared.fault.CommandFault.TheVariants.{Line}
-use Rattle.commands.specs.InterpretKeeps.{KeepsLedgerOf, KeepsTrace, lines_in, symbols_in}
+use Rattle.commands.specs.InterpretKeeps.{KeepsFronts, KeepsLedgerOf, KeepsTrace, lines_in, symbols_in}
 use Rattle.commands.specs.InterpretReport.{interpret_report, plan_with, symbols_report}
 use Rattle.commands.specs.Texts.{heapsuite_texts}
 
@@ -248,9 +249,64 @@ keeps laws symbols lines output are texts one is =
       stacks = λ node. ap (λ (l : List Content). interpreted_ips l node) (ap (λ (l : List (List ℕ)). trace.contents l) read ∙ laws.reads_back symbols lines are) ∙ kept.stacks node;
     }
 
+-- fronts of lines
+
+all-front : {X : Type 0} (P : X → Type 0) (xs ys : List X) → AllByRecursion P (xs ++ ys) → AllByRecursion P xs
+all-front P [] ys all = tt
+all-front P (x ∷ xs) ys all = (all.0, all-front P xs ys all.1)
+
+gathered-front : {X Y : Type 0} (found : List X → X → Option Y) (earlier xs ys : List X) → gathered found earlier (xs ++ ys) ≡ [] → gathered found earlier xs ≡ []
+gathered-front found earlier [] ys none = refl
+gathered-front {X} {Y} found earlier (x ∷ xs) ys none = by (found earlier x) none (λ rest. gathered-front found (earlier ++ x ∷ []) xs ys rest)
+  where
+    by : (o : Option Y) → option_to_list o ++ gathered found (earlier ++ x ∷ []) (xs ++ ys) ≡ [] → (gathered found (earlier ++ x ∷ []) (xs ++ ys) ≡ [] → gathered found (earlier ++ x ∷ []) xs ≡ [])
+        → option_to_list o ++ gathered found (earlier ++ x ∷ []) xs ≡ []
+    by None none rest = rest none
+    by (Some y) none rest = absurd (cc)
+
+interpretable-front : (symbols : List Symbol) (front more : List (List ℕ)) → AreInterpretable symbols (front ++ more) → AreInterpretable symbols front
+interpretable-front symbols front more are = record {
+  texts = are.texts;
+  short = all-front (λ line. length line < 2 ^ 32) front more are.short;
+  no_fault = gathered-front (raw_fault symbols) [] front more are.no_fault;
+}
+
+lines-append : (symbols : List Symbol) (earlier front more : List (List ℕ)) → lines_from symbols earlier (front ++ more) ≡ lines_from symbols earlier front ++ lines_from symbols (earlier ++ front) more
+lines-append symbols earlier [] more = ap (λ (before : List (List ℕ)). lines_from symbols before more) (sym (append-nil earlier))
+lines-append symbols earlier (line ∷ front) more =
+    ap (λ (lines : List (List ℕ)). interpreted_lines symbols earlier line ++ lines) (lines-append symbols (earlier ++ line ∷ []) front more)
+    ∙ (sym (append_assoc (interpreted_lines symbols earlier line) (lines_from symbols (earlier ++ line ∷ []) front) (lines_from symbols ((earlier ++ line ∷ []) ++ front) more))
+    ∙ ap (λ (before : List (List ℕ)). (interpreted_lines symbols earlier line ++ lines_from symbols (earlier ++ line ∷ []) front) ++ lines_from symbols before more) (append_assoc earlier (line ∷ []) front))
+
+-- every front of an interpretation is that of a front
+keeps-fronts : AreLaws → (symbols : List Symbol) (lines : List (List ℕ)) (output : List ℕ) → AreInterpretable symbols lines → AllByRecursion (λ (s : Symbol). AllByRecursion IsOneLine s.texts) symbols → AllByRecursion IsOneLine lines
+    → output ≡ text_of (interpreted_trace symbols lines) → KeepsFronts symbols lines output
+unfolding interpreted_trace
+keeps-fronts laws symbols lines output are texts one is = record {
+  whole = keeps laws symbols lines output are texts one is;
+  fronts = λ count.
+      let front : List (List ℕ) = take count lines in
+      let more : List (List ℕ) = drop count lines in
+      let parts : lines ≡ front ++ more = sym (take-append-drop count lines) in
+      let begins : output ≡ text_of (lines_from symbols [] front) ++ text_of (lines_from symbols front more) =
+      is ∙ (ap (λ (ls : List (List ℕ)). text_of (lines_from symbols [] ls)) parts
+      ∙ (ap (λ (ls : List (List ℕ)). text_of ls) (lines-append symbols [] front more)
+      ∙ flat_map-append (λ line. line ++ 10 ∷ []) (lines_from symbols [] front) (lines_from symbols front more))) in (
+        text_of (lines_from symbols [] front),
+        (
+          text_of (lines_from symbols front more),
+          (
+            begins,
+            keeps laws symbols front (text_of (lines_from symbols [] front)) (interpretable-front symbols front more (subst (AreInterpretable symbols) parts are)) texts
+                (all-front IsOneLine front more (subst (λ (ls : List (List ℕ)). AllByRecursion IsOneLine ls) parts one)) refl,
+          ),
+        ),
+      );
+}
+
 -- a raw trace that was read with symbols whose texts are fine
 trace-keeps : AreLaws → (bounds : Bounds) (folder : Folder) (name : List ℕ) (symbols : List Symbol) (last : List ℕ) → bounds.line < 2 ^ 32 → AllByRecursion (λ (s : Symbol). AllByRecursion (IsFine bounds.line) s.texts) symbols
-    → (plan_answer heapsuite_texts bounds folder last (one_file name (interpret_report symbols))).status ≡ 0 → KeepsTrace symbols (lines_in folder name) (plan_answer heapsuite_texts bounds folder last (one_file name (interpret_report symbols))).output
+    → (plan_answer heapsuite_texts bounds folder last (one_file name (interpret_report symbols))).status ≡ 0 → KeepsFronts symbols (lines_in folder name) (plan_answer heapsuite_texts bounds folder last (one_file name (interpret_report symbols))).output
 unfolding interpreted_trace
 trace-keeps laws bounds folder name symbols last small fine zero =
     let read = is-read heapsuite_texts bounds name (interpret_report symbols) (file_of folder name) (λ lines. plan_answer heapsuite_texts bounds folder name (Ends ((interpret_report symbols).verdict lines))) zero in
@@ -261,12 +317,12 @@ trace-keeps laws bounds folder name symbols last small fine zero =
       no_fault = no-raw-fault symbols [] (lines_of read.bytes) read.good.no_fault;
     } in
     let texts = all-weaker (λ (s : Symbol). AllByRecursion (IsFine bounds.line) s.texts) (λ (s : Symbol). AllByRecursion IsOneLine s.texts) symbols (λ s fine. all-weaker (IsFine bounds.line) IsOneLine s.texts (λ text fine. fine.1) fine) fine in
-    subst (λ (l : List (List ℕ)). KeepsTrace symbols l (plan_answer heapsuite_texts bounds folder last (one_file name (interpret_report symbols))).output) (sym lines)
-    (keeps laws symbols (lines_of read.bytes) _ are texts (lines-one read.bytes)
+    subst (λ (l : List (List ℕ)). KeepsFronts symbols l (plan_answer heapsuite_texts bounds folder last (one_file name (interpret_report symbols))).output) (sym lines)
+    (keeps-fronts laws symbols (lines_of read.bytes) _ are texts (lines-one read.bytes)
     (ap (λ (a : Answer). a.output) read.given_is ∙ (append-nil (gains_from (interpret_report symbols) [] (lines_of read.bytes)) ∙ gains-are symbols [] (lines_of read.bytes))))
 
 interpret-keeps : AreLaws → (bounds : Bounds) (folder : Folder) (symbols : Option (List ℕ)) (name : List ℕ) → bounds.line < 2 ^ 32 → (plan_answer heapsuite_texts bounds folder [] (plan_with symbols name)).status ≡ 0
-    → KeepsTrace (symbols_in folder symbols) (lines_in folder name) (plan_answer heapsuite_texts bounds folder [] (plan_with symbols name)).output
+    → KeepsFronts (symbols_in folder symbols) (lines_in folder name) (plan_answer heapsuite_texts bounds folder [] (plan_with symbols name)).output
 interpret-keeps laws bounds folder None name small zero = trace-keeps laws bounds folder name [] [] small tt zero
 interpret-keeps laws bounds folder (Some table) name small zero =
     let rest = λ (lines : List (List ℕ)). plan_answer heapsuite_texts bounds folder table (one_file name (interpret_report (symbols_of lines))) in
@@ -276,8 +332,8 @@ interpret-keeps laws bounds folder (Some table) name small zero =
     let behind : (rest (lines_of read.bytes)).status ≡ 0 = sym (ap (λ (a : Answer). a.status) read.given_is) ∙ zero in
     let output : (plan_answer heapsuite_texts bounds folder [] (plan_with (Some table) name)).output ≡ (rest (lines_of read.bytes)).output =
     ap (λ (a : Answer). a.output) read.given_is ∙ ap (λ (l : List ℕ). l ++ (rest (lines_of read.bytes)).output) (silent [] (lines_of read.bytes)) in
-    subst (λ (l : List (List ℕ)). KeepsTrace (symbols_of l) (lines_in folder name) (plan_answer heapsuite_texts bounds folder [] (plan_with (Some table) name)).output) (sym lines)
-    (subst (λ (l : List ℕ). KeepsTrace (symbols_of (lines_of read.bytes)) (lines_in folder name) l) (sym output) (trace-keeps laws bounds folder name (symbols_of (lines_of read.bytes)) table small fine behind))
+    subst (λ (l : List (List ℕ)). KeepsFronts (symbols_of l) (lines_in folder name) (plan_answer heapsuite_texts bounds folder [] (plan_with (Some table) name)).output) (sym lines)
+    (subst (λ (l : List ℕ). KeepsFronts (symbols_of (lines_of read.bytes)) (lines_in folder name) l) (sym output) (trace-keeps laws bounds folder name (symbols_of (lines_of read.bytes)) table small fine behind))
 
 pub run-keeps : AreLaws → (bounds : Bounds) (folder : Folder) (asking : Option Asked) → bounds.line < 2 ^ 32 → (asked_answer bounds folder asking).status ≡ 0 → KeepsLedgerOf folder asking (asked_answer bounds folder asking).output
 unfolding KeepsLedgerOf

@@ -10,3 +10,5 @@ pub mod WordLemmas
 pub mod NameLemmas
 pub mod MassifLemmas
 pub mod SampleLemmas
+pub mod RunsLemmas
+pub mod HasRunLemmas

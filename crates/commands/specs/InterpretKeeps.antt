@@ -1,5 +1,5 @@
--- What standard output gets of `interpret`: lines with the ledger and the stacks of the raw trace.
-use Rattle.std.specs.Prelude.{◌≡◌, ℕ, List, [], count_by, sum_by, map, Option, Some, None, unwrap_or}
+-- What standard output gets of `interpret`: lines with the ledger and the stacks of the raw trace, after every line of it.
+use Rattle.std.specs.Prelude.{◌≡◌, ℕ, List, [], ◌++◌, count_by, sum_by, map, take, Option, Some, None, unwrap_or}
 use Rattle.hp_outside.specs.Folder.{Folder, file_of}
 use Rattle.hp_outside.specs.Lines.{lines_of}
 use Rattle.ht_trace.specs.Contents as trace
@@ -33,8 +33,15 @@ pub record KeepsTrace (symbols : List Symbol) (lines : List (List ℕ)) (output 
   pub blocks : (node : ℕ) → blocks_in node (events (lines_of output)) ≡ count_by (is_of node) (live_blocks (contents lines))
   pub stacks : (node : ℕ) → interpreted_ips (trace.contents (lines_of output)) node ≡ map Some (raw_ips (contents lines) node)
 
+-- the same of every front of the lines, of which a front of the output is the interpretation
+pub record KeepsFronts (symbols : List Symbol) (lines : List (List ℕ)) (output : List ℕ) : Type 0 where
+  pub whole : KeepsTrace symbols lines output
+  pub fronts : (count : ℕ) → (text : List ℕ) × ((rest : List ℕ) × ((output ≡ text ++ rest)
+      × KeepsTrace symbols (take count lines) text))
+
 abbrev pub RequestKeeps : Folder → Asked → List ℕ → Type 0
-RequestKeeps folder (Interpret interpret) output = KeepsTrace (symbols_in folder interpret.symbols) (lines_in folder interpret.trace) output
+RequestKeeps folder (Interpret interpret) output =
+    KeepsFronts (symbols_in folder interpret.symbols) (lines_in folder interpret.trace) output
 RequestKeeps folder _ output = Unit {0}
 
 -- the same of words that ask for it; of others nothing

@@ -22,6 +22,7 @@ pub mod Answer
 pub mod Run
 pub mod Silent
 pub mod InterpretKeeps
+pub mod HasRun
 pub mod ProfileFault
 pub mod ViewWords
 pub mod ViewReport

@@ -1,19 +1,12 @@
 //! The command `dhat`: one trace as a DHAT profile.
-ghost use Rattle.std.specs.Prelude.{◌≡◌, ◌^◌, ◌<◌, Err, IfErr, IfOk, List, [], ◌∷◌, None, OnOk, Some, ℕ, map, string_bytes, ◌≢◌};
-ghost use Rattle.hp_outside.specs.Faults.{Rose};
-ghost use Rattle.command_frame.specs.Answer.{done};
-ghost use Rattle.command_frame.specs.FirstFault.{bounds_of};
-ghost use Rattle.command_frame.specs.Halts.{halt_answer, status_code};
-ghost use Rattle.command_frame.specs.Outcome.{moment};
-ghost use Rattle.command_frame.specs.Run.{RanTo};
-ghost use Rattle.command_frame.specs.Texts.{texts_of};
+ghost use Rattle.std.specs.Prelude.{◌≡◌, ◌^◌, ◌<◌, Err, IfOk, [], ◌∷◌, None, Some, map, string_bytes};
+ghost use Rattle.command_frame.specs.RunsTo.{Runs};
 ghost use Rattle.commands.specs.DhatReport.{dhat_plan};
 ghost use Rattle.commands.specs.DhatWords.{dhat_trace};
 
 use crate::dhat_reader::DhatReader;
-use command_frame::{Desk, Halt, run_lines};
+use command_frame::{Desk, Halt, run_one_file};
 use command_words::{WordTable, WordsFault, take_words};
-use hp_num::NoMemory;
 use hp_outside::{Sink, Store};
 use std::alloc::Global;
 
@@ -52,21 +45,10 @@ impl<'a> DhatRequest<'a> {
         out: &mut O,
     ) -> Result<Vec<u8>, Halt>
         requires { S.opens store.old < 2 ^ 63 }
-        ensures all { IfOk result (λ rest. (last : List ℕ) → RanTo (texts_of desk.now.texts) (bounds_of desk.now.limits) (S.files store.old) last (self.now.trace.now ∷ []) (dhat_plan self.now.trace.now)
-            (moment (S.opens store.old) (S.current store.old) (S.left store.old) (S.faults store.old)) (moment (S.opens store.new) (S.current store.new) (S.left store.new) (S.faults store.new))
-            (O.written out.old) (O.written out.new) (done rest.items)) }
-        ensures halted { IfErr result (λ halt. (last : List ℕ) → RanTo (texts_of desk.now.texts) (bounds_of desk.now.limits) (S.files store.old) last (self.now.trace.now ∷ []) (dhat_plan self.now.trace.now)
-            (moment (S.opens store.old) (S.current store.old) (S.left store.old) (S.faults store.old)) (moment (S.opens store.new) (S.current store.new) (S.left store.new) (S.faults store.new))
-            (O.written out.old) (O.written out.new) (halt_answer (texts_of desk.now.texts) halt)) }
-        ensures files { S.files store.new ≡ S.files store.old }
-        ensures unwritten { IfErr result (λ halt. status_code halt.status ≡ 4 → Rose (O.faults out.old) (O.faults out.new)) }
-        ensures sound_writes { IfErr result (λ halt. status_code halt.status ≢ 4 → O.faults out.new ≡ O.faults out.old) }
-        ensures sound { OnOk result (O.faults out.new ≡ O.faults out.old) }
+        ensures { Runs S.Store O.Sink desk.now (self.now.trace.now ∷ []) (dhat_plan self.now.trace.now)
+            store.old store.new out.old out.new result }
     {
-        let mut reader = match DhatReader::new(desk.alloc) {
-            Ok(reader) => reader,
-            Err(NoMemory) => return Err(Halt::no_memory()),
-        };
-        run_lines(desk, self.trace, &mut reader, store, out)
+        let mut reader = DhatReader::new(desk.alloc)?;
+        run_one_file(desk, self.trace, &mut reader, store, out)
     }
 }

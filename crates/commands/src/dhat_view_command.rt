@@ -1,12 +1,7 @@
 //! The command `dhat_view`: a DHAT profile as a tree of its points' frames. What the words say of the view is read in
 //! `view_words`.
-ghost use Rattle.std.specs.Prelude.{codes, option_map, ◌≡◌, ◌≢◌, ◌^◌, ◌<◌, Err, IfErr, IfOk, List, [], ◌∷◌, None, Option, Some, ℕ, map, string_bytes};
-ghost use Rattle.command_frame.specs.Answer.{done};
-ghost use Rattle.command_frame.specs.FirstFault.{bounds_of};
-ghost use Rattle.command_frame.specs.Halts.{halt_answer, status_code};
-ghost use Rattle.command_frame.specs.Outcome.{moment};
-ghost use Rattle.command_frame.specs.Run.{RanTo};
-ghost use Rattle.command_frame.specs.Texts.{texts_of};
+ghost use Rattle.std.specs.Prelude.{◌≡◌, ◌^◌, ◌<◌, Err, IfOk, [], ◌∷◌, None, Some, map, string_bytes};
+ghost use Rattle.command_frame.specs.RunsTo.{RunsTo, Taken, shown};
 ghost use Rattle.commands.specs.ViewReport.{document_refusal, view_plan, view_refusal};
 ghost use Rattle.commands.specs.Requests.{view_asked_by};
 ghost use Rattle.commands.specs.ViewWords.{view_asked};
@@ -75,13 +70,9 @@ impl<'a> DhatViewRequest<'a> {
     /// Reads the profile, and gives its view.
     pub fn run<S: Store>(&self, desk: &Desk, store: &mut S) -> Result<Vec<u8>, Halt>
         requires { S.opens store.old < 2 ^ 63 }
-        ensures all { IfOk result (λ rest. (last : List ℕ) (out : Option (List ℕ)) → RanTo (texts_of desk.now.texts) (bounds_of desk.now.limits) (S.files store.old) last (self.now.profile.now ∷ []) (view_plan (view_asked_by self.now))
-            (moment (S.opens store.old) (S.current store.old) (S.left store.old) (S.faults store.old)) (moment (S.opens store.new) (S.current store.new) (S.left store.new) (S.faults store.new)) out out (done rest.items)) }
-        ensures halted { IfErr result (λ halt. (last : List ℕ) (out : Option (List ℕ)) → RanTo (texts_of desk.now.texts) (bounds_of desk.now.limits) (S.files store.old) last (self.now.profile.now ∷ []) (view_plan (view_asked_by self.now))
-            (moment (S.opens store.old) (S.current store.old) (S.left store.old) (S.faults store.old)) (moment (S.opens store.new) (S.current store.new) (S.left store.new) (S.faults store.new)) out out
-            (halt_answer (texts_of desk.now.texts) halt)) }
-        ensures files { S.files store.new ≡ S.files store.old }
-        ensures no_write { IfErr result (λ halt. status_code halt.status ≢ 4) }
+        ensures { (out : Taken) → RunsTo desk.now (self.now.profile.now ∷ [])
+            (view_plan (view_asked_by self.now))
+            (shown S.Store store.old) (shown S.Store store.new) out out result }
     {
         let report = ViewReport {
             options: self.options,

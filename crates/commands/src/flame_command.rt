@@ -1,15 +1,10 @@
 //! The command `flame`: a line for each list of frame texts of one trace's stacks, for a flame graph to be drawn of.
-ghost use Rattle.std.specs.Prelude.{codes, option_map, ◌≡◌, ◌^◌, ◌<◌, Err, IfErr, IfOk, List, [], ◌∷◌, None, OnOk, Some, ℕ, map, string_bytes, ◌≢◌};
-ghost use Rattle.hp_outside.specs.Faults.{Rose};
-ghost use Rattle.command_frame.specs.Answer.{done};
-ghost use Rattle.command_frame.specs.FirstFault.{bounds_of};
-ghost use Rattle.command_frame.specs.Halts.{halt_answer, status_code};
-ghost use Rattle.command_frame.specs.Outcome.{moment};
-ghost use Rattle.command_frame.specs.Run.{RanTo};
-ghost use Rattle.command_frame.specs.Texts.{texts_of};
+ghost use Rattle.std.specs.Prelude.{codes, option_map, ◌≡◌, ◌^◌, ◌<◌, Err, IfOk, [], ◌∷◌, None, Some, map, string_bytes};
+ghost use Rattle.command_frame.specs.RunsTo.{Runs};
 ghost use Rattle.command_words.specs.WordsTaken.{only_file_in, rows_in, value_in};
 ghost use Rattle.commands.specs.FlameReport.{flame_plan};
 ghost use Rattle.commands.specs.FlameWords.{cost_named, cost_or, flame_asked, flame_of};
+ghost use Rattle.commands.specs.Requests.{flame_asked_by};
 
 use crate::trace_run::run_trace;
 use crate::trace_writer::TraceWriter;
@@ -61,7 +56,7 @@ impl TraceWriter for FlameWriter {
 impl<'a> FlameRequest<'a> {
     /// The request that the words behind `flame` make. `NotTaken` exactly where they aren't taken, unless memory is wanting.
     pub fn read(alloc: Global, words: &'a [String]) -> Result<FlameRequest<'a>, WordsFault>
-        ensures taken { IfOk result (λ request. flame_asked (map string_bytes words.entry.now) ≡ Some (record { trace = request.trace.now; cost = request.cost })) }
+        ensures taken { IfOk result (λ request. flame_asked (map string_bytes words.entry.now) ≡ Some (flame_asked_by request)) }
         ensures refused { result ≡ Err WordsFault.NotTaken → flame_asked (map string_bytes words.entry.now) ≡ None }
     {
         let words = take_words(alloc, &WORDS, words)?;
@@ -79,16 +74,9 @@ impl<'a> FlameRequest<'a> {
         out: &mut O,
     ) -> Result<Vec<u8>, Halt>
         requires { S.opens store.old < 2 ^ 63 }
-        ensures all { IfOk result (λ rest. (last : List ℕ) → RanTo (texts_of desk.now.texts) (bounds_of desk.now.limits) (S.files store.old) last (self.now.trace.now ∷ []) (flame_plan (record { trace = self.now.trace.now; cost = self.now.cost }))
-            (moment (S.opens store.old) (S.current store.old) (S.left store.old) (S.faults store.old)) (moment (S.opens store.new) (S.current store.new) (S.left store.new) (S.faults store.new))
-            (O.written out.old) (O.written out.new) (done rest.items)) }
-        ensures halted { IfErr result (λ halt. (last : List ℕ) → RanTo (texts_of desk.now.texts) (bounds_of desk.now.limits) (S.files store.old) last (self.now.trace.now ∷ []) (flame_plan (record { trace = self.now.trace.now; cost = self.now.cost }))
-            (moment (S.opens store.old) (S.current store.old) (S.left store.old) (S.faults store.old)) (moment (S.opens store.new) (S.current store.new) (S.left store.new) (S.faults store.new))
-            (O.written out.old) (O.written out.new) (halt_answer (texts_of desk.now.texts) halt)) }
-        ensures files { S.files store.new ≡ S.files store.old }
-        ensures unwritten { IfErr result (λ halt. status_code halt.status ≡ 4 → Rose (O.faults out.old) (O.faults out.new)) }
-        ensures sound_writes { IfErr result (λ halt. status_code halt.status ≢ 4 → O.faults out.new ≡ O.faults out.old) }
-        ensures sound { OnOk result (O.faults out.new ≡ O.faults out.old) }
+        ensures { Runs S.Store O.Sink desk.now (self.now.trace.now ∷ [])
+            (flame_plan (flame_asked_by self.now))
+            store.old store.new out.old out.new result }
     {
         let writer = FlameWriter {
             alloc: desk.alloc,
@@ -100,7 +88,7 @@ impl<'a> FlameRequest<'a> {
 
 /// What taken words ask for.
 fn request_in<'a>(words: &TakenWords<'a>) -> Option<FlameRequest<'a>>
-    ensures { option_map (λ request. record { trace = request.trace.now; cost = request.cost }) result ≡ flame_of (only_file_in (rows_in words.now)) (value_in (rows_in words.now) (codes "flamegraph-cost-type")) }
+    ensures { option_map flame_asked_by result ≡ flame_of (only_file_in (rows_in words.now)) (value_in (rows_in words.now) (codes "flamegraph-cost-type")) }
 {
     let trace = words.only_file()?;
     let cost = cost_in(words)?;

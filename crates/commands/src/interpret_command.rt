@@ -1,21 +1,15 @@
 //! The command `interpret`: from a raw trace to an interpreted one, with a table of symbols or without.
-ghost use Rattle.std.specs.Prelude.{codes, option_map, ◌≡◌, ◌^◌, ◌<◌, Err, IfErr, IfOk, List, [], ◌∷◌, None, OnOk, Some, ℕ, map, string_bytes, ◌≢◌};
+ghost use Rattle.std.specs.Prelude.{codes, option_map, ◌≡◌, ◌^◌, ◌<◌, Err, IfOk, [], ◌∷◌, None, Some, map, string_bytes};
 ghost use Rattle.std.specs.Option.{option_copied};
-ghost use Rattle.hp_outside.specs.Faults.{Rose};
-ghost use Rattle.command_frame.specs.Answer.{done};
-ghost use Rattle.command_frame.specs.FirstFault.{bounds_of};
-ghost use Rattle.command_frame.specs.Halts.{halt_answer, status_code};
-ghost use Rattle.command_frame.specs.Outcome.{moment};
 ghost use Rattle.command_frame.specs.Plan.{one_file, two_files};
-ghost use Rattle.command_frame.specs.Run.{RanTo};
-ghost use Rattle.command_frame.specs.Texts.{texts_of};
+ghost use Rattle.command_frame.specs.RunsTo.{Runs};
 ghost use Rattle.command_words.specs.WordsTaken.{only_file_in, rows_in, value_in};
 ghost use Rattle.interpret.specs.SymbolList.{symbols_of};
 ghost use Rattle.commands.specs.InterpretReport.{files_with, interpret_report, plan_with, symbols_report};
 ghost use Rattle.commands.specs.InterpretWords.{both_are_input, interpret_asked, interpret_of};
 
 use crate::interpret_reader::{RawReader, SymbolReader, SymbolsAndTrace};
-use command_frame::{Desk, Halt, PairNames, run_lines, run_pair};
+use command_frame::{Desk, Halt, PairNames, run_one_file, run_pair};
 use command_words::{TakenWords, WordTable, WordsFault, take_words};
 use hp_outside::{Sink, Store};
 use interpret::{Interpreter, Symbols};
@@ -62,16 +56,10 @@ impl<'a> InterpretRequest<'a> {
         out: &mut O,
     ) -> Result<Vec<u8>, Halt>
         requires { S.opens store.old < 2 ^ 63 }
-        ensures all { IfOk result (λ rest. (last : List ℕ) → RanTo (texts_of desk.now.texts) (bounds_of desk.now.limits) (S.files store.old) last (files_with (option_copied self.now.symbols) self.now.trace.now) (plan_with (option_copied self.now.symbols) self.now.trace.now)
-            (moment (S.opens store.old) (S.current store.old) (S.left store.old) (S.faults store.old)) (moment (S.opens store.new) (S.current store.new) (S.left store.new) (S.faults store.new))
-            (O.written out.old) (O.written out.new) (done rest.items)) }
-        ensures halted { IfErr result (λ halt. (last : List ℕ) → RanTo (texts_of desk.now.texts) (bounds_of desk.now.limits) (S.files store.old) last (files_with (option_copied self.now.symbols) self.now.trace.now) (plan_with (option_copied self.now.symbols) self.now.trace.now)
-            (moment (S.opens store.old) (S.current store.old) (S.left store.old) (S.faults store.old)) (moment (S.opens store.new) (S.current store.new) (S.left store.new) (S.faults store.new))
-            (O.written out.old) (O.written out.new) (halt_answer (texts_of desk.now.texts) halt)) }
-        ensures files { S.files store.new ≡ S.files store.old }
-        ensures unwritten { IfErr result (λ halt. status_code halt.status ≡ 4 → Rose (O.faults out.old) (O.faults out.new)) }
-        ensures sound_writes { IfErr result (λ halt. status_code halt.status ≢ 4 → O.faults out.new ≡ O.faults out.old) }
-        ensures sound { OnOk result (O.faults out.new ≡ O.faults out.old) }
+        ensures { Runs S.Store O.Sink desk.now
+            (files_with (option_copied self.now.symbols) self.now.trace.now)
+            (plan_with (option_copied self.now.symbols) self.now.trace.now)
+            store.old store.new out.old out.new result }
     {
         match self.symbols {
             Some(symbols) => run_with(desk, symbols, self.trace, store, out),
@@ -89,16 +77,9 @@ fn run_with<S: Store, O: Sink>(
     out: &mut O,
 ) -> Result<Vec<u8>, Halt>
     requires { S.opens store.old < 2 ^ 63 }
-    ensures all { IfOk result (λ rest. (last : List ℕ) → RanTo (texts_of desk.now.texts) (bounds_of desk.now.limits) (S.files store.old) last (symbols.now ∷ trace.now ∷ []) (two_files symbols.now symbols_report trace.now (λ lines. interpret_report (symbols_of lines)))
-        (moment (S.opens store.old) (S.current store.old) (S.left store.old) (S.faults store.old)) (moment (S.opens store.new) (S.current store.new) (S.left store.new) (S.faults store.new))
-        (O.written out.old) (O.written out.new) (done rest.items)) }
-    ensures halted { IfErr result (λ halt. (last : List ℕ) → RanTo (texts_of desk.now.texts) (bounds_of desk.now.limits) (S.files store.old) last (symbols.now ∷ trace.now ∷ []) (two_files symbols.now symbols_report trace.now (λ lines. interpret_report (symbols_of lines)))
-        (moment (S.opens store.old) (S.current store.old) (S.left store.old) (S.faults store.old)) (moment (S.opens store.new) (S.current store.new) (S.left store.new) (S.faults store.new))
-        (O.written out.old) (O.written out.new) (halt_answer (texts_of desk.now.texts) halt)) }
-    ensures files { S.files store.new ≡ S.files store.old }
-    ensures unwritten { IfErr result (λ halt. status_code halt.status ≡ 4 → Rose (O.faults out.old) (O.faults out.new)) }
-    ensures sound_writes { IfErr result (λ halt. status_code halt.status ≢ 4 → O.faults out.new ≡ O.faults out.old) }
-    ensures sound { OnOk result (O.faults out.new ≡ O.faults out.old) }
+    ensures { Runs S.Store O.Sink desk.now (symbols.now ∷ trace.now ∷ [])
+        (two_files symbols.now symbols_report trace.now (λ lines. interpret_report (symbols_of lines)))
+        store.old store.new out.old out.new result }
 {
     let names = PairNames {
         first: symbols,
@@ -118,21 +99,13 @@ fn run_alone<S: Store, O: Sink>(
     out: &mut O,
 ) -> Result<Vec<u8>, Halt>
     requires { S.opens store.old < 2 ^ 63 }
-    ensures all { IfOk result (λ rest. (last : List ℕ) → RanTo (texts_of desk.now.texts) (bounds_of desk.now.limits) (S.files store.old) last (trace.now ∷ []) (one_file trace.now (interpret_report []))
-        (moment (S.opens store.old) (S.current store.old) (S.left store.old) (S.faults store.old)) (moment (S.opens store.new) (S.current store.new) (S.left store.new) (S.faults store.new))
-        (O.written out.old) (O.written out.new) (done rest.items)) }
-    ensures halted { IfErr result (λ halt. (last : List ℕ) → RanTo (texts_of desk.now.texts) (bounds_of desk.now.limits) (S.files store.old) last (trace.now ∷ []) (one_file trace.now (interpret_report []))
-        (moment (S.opens store.old) (S.current store.old) (S.left store.old) (S.faults store.old)) (moment (S.opens store.new) (S.current store.new) (S.left store.new) (S.faults store.new))
-        (O.written out.old) (O.written out.new) (halt_answer (texts_of desk.now.texts) halt)) }
-    ensures files { S.files store.new ≡ S.files store.old }
-    ensures unwritten { IfErr result (λ halt. status_code halt.status ≡ 4 → Rose (O.faults out.old) (O.faults out.new)) }
-    ensures sound_writes { IfErr result (λ halt. status_code halt.status ≢ 4 → O.faults out.new ≡ O.faults out.old) }
-    ensures sound { OnOk result (O.faults out.new ≡ O.faults out.old) }
+    ensures { Runs S.Store O.Sink desk.now (trace.now ∷ []) (one_file trace.now (interpret_report []))
+        store.old store.new out.old out.new result }
 {
     let mut reader = RawReader {
         interpreter: Interpreter::new(desk.alloc, Symbols::new(desk.alloc)),
     };
-    run_lines(desk, trace, &mut reader, store, out)
+    run_one_file(desk, trace, &mut reader, store, out)
 }
 
 /// What taken words ask for.

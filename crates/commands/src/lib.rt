@@ -1,10 +1,12 @@
 //! The commands of `heapsuite`: words and files in, reports, messages and a status out. What the real files and outputs
 //! are is the business of the program.
 //!
-//! What it promises is the contract of `heapsuite_run`, which speaks of what the words ask for (`asked`) and of the
-//! answer to it (`answer`), and names no command. `run.rt` calls `run_words.rt` and then the frame's `deliver`. The
-//! definitions in `specs/` follow the same chain: `Asked` and `Requests` with one module of words for each command, one
-//! module for its report, and `Run` and `Answer` for the whole.
+//! What it promises is the contract of `heapsuite_run`, one record (`HasRun`), which speaks of what the words ask for
+//! (`asked`) and of the answer to it (`answer`), and names no command: output, message and status are the defined ones
+//! unless a call failed or memory was wanting, and what is left of that where one did. `run.rt` calls `run_words.rt` and
+//! then the frame's `deliver`; each request's `run` comes to `Runs` of the frame. The definitions in `specs/` follow the
+//! same chain: `Asked` and `Requests` with one module of words for each command, one module for its report, and `Answer`
+//! and `HasRun` for the whole.
 //!
 //! Every command over one trace has the same reader. `ReadTrace` keeps `Tables` and, grown step by step beside them,
 //! `Peaks`: the tables stand for the lines, behind the texts of suppressions that were given before, and the peaks for
@@ -23,7 +25,7 @@
 //!
 //! | File | Does |
 //! |---|---|
-//! | `run.rt` | `heapsuite_run`, the public call, and `heapsuite_main` |
+//! | `run.rt` | `heapsuite_run`, the public call |
 //! | `words.rt`, `run_words.rt` | the list of commands: which words are taken; from a request to its run |
 //! | `texts.rt` | the program's name, its usage text and its messages |
 //! | `summary_command.rt` | `summary`: its words, its writer, its run |
@@ -78,4 +80,5 @@ mod trace_writer;
 mod view_words;
 mod words;
 
-pub use run::{heapsuite_main, heapsuite_run};
+pub use run::heapsuite_run;
+pub use texts::heapsuite_texts;

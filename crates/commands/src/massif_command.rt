@@ -1,13 +1,7 @@
 //! The command `massif`: Massif's snapshots of a trace, as a Massif file. What the words say of them is read in
 //! `massif_words`.
-ghost use Rattle.std.specs.Prelude.{codes, option_map, ◌≡◌, ◌^◌, ◌<◌, Err, IfErr, IfOk, List, [], ◌∷◌, None, OnOk, Some, ℕ, map, string_bytes, ◌≢◌};
-ghost use Rattle.hp_outside.specs.Faults.{Rose};
-ghost use Rattle.command_frame.specs.Answer.{done};
-ghost use Rattle.command_frame.specs.FirstFault.{bounds_of};
-ghost use Rattle.command_frame.specs.Halts.{halt_answer, status_code};
-ghost use Rattle.command_frame.specs.Outcome.{moment};
-ghost use Rattle.command_frame.specs.Run.{RanTo};
-ghost use Rattle.command_frame.specs.Texts.{texts_of};
+ghost use Rattle.std.specs.Prelude.{option_map, ◌≡◌, ◌^◌, ◌<◌, Err, IfOk, [], ◌∷◌, None, Some, map, string_bytes};
+ghost use Rattle.command_frame.specs.RunsTo.{Runs};
 ghost use Rattle.command_words.specs.WordsTaken.{only_file_in, rows_in, value_in};
 ghost use Rattle.commands.specs.MassifReport.{massif_plan};
 ghost use Rattle.commands.specs.MassifWords.{massif_asked, massif_given, names_or};
@@ -18,7 +12,7 @@ use crate::massif_reader::{MassifReader, Settled};
 use crate::massif_request::MassifRequest;
 use crate::massif_words::{ALLOC_FNS, IGNORE_FNS, WORDS, options_in};
 use crate::name_list::is_named;
-use command_frame::{Desk, Halt, run_lines};
+use command_frame::{Desk, Halt, run_one_file};
 use command_words::{TakenWords, WordsFault, take_words};
 use cost_tree::FrameTest;
 use hp_num::NoMemory;
@@ -47,16 +41,9 @@ impl<'a> MassifRequest<'a> {
         out: &mut O,
     ) -> Result<Vec<u8>, Halt>
         requires { S.opens store.old < 2 ^ 63 }
-        ensures all { IfOk result (λ rest. (last : List ℕ) → RanTo (texts_of desk.now.texts) (bounds_of desk.now.limits) (S.files store.old) last (self.now.trace.now ∷ []) (massif_plan (massif_asked_by self.now).settings self.now.trace.now)
-            (moment (S.opens store.old) (S.current store.old) (S.left store.old) (S.faults store.old)) (moment (S.opens store.new) (S.current store.new) (S.left store.new) (S.faults store.new))
-            (O.written out.old) (O.written out.new) (done rest.items)) }
-        ensures halted { IfErr result (λ halt. (last : List ℕ) → RanTo (texts_of desk.now.texts) (bounds_of desk.now.limits) (S.files store.old) last (self.now.trace.now ∷ []) (massif_plan (massif_asked_by self.now).settings self.now.trace.now)
-            (moment (S.opens store.old) (S.current store.old) (S.left store.old) (S.faults store.old)) (moment (S.opens store.new) (S.current store.new) (S.left store.new) (S.faults store.new))
-            (O.written out.old) (O.written out.new) (halt_answer (texts_of desk.now.texts) halt)) }
-        ensures files { S.files store.new ≡ S.files store.old }
-        ensures unwritten { IfErr result (λ halt. status_code halt.status ≡ 4 → Rose (O.faults out.old) (O.faults out.new)) }
-        ensures sound_writes { IfErr result (λ halt. status_code halt.status ≢ 4 → O.faults out.new ≡ O.faults out.old) }
-        ensures sound { OnOk result (O.faults out.new ≡ O.faults out.old) }
+        ensures { Runs S.Store O.Sink desk.now (self.now.trace.now ∷ [])
+            (massif_plan (massif_asked_by self.now).settings self.now.trace.now)
+            store.old store.new out.old out.new result }
     {
         let (alloc_fns, ignore_fns) = match self.lists(desk.alloc) {
             Ok(lists) => lists,
@@ -64,17 +51,14 @@ impl<'a> MassifRequest<'a> {
         };
         let alloc_test = FrameTest::new(move |name: &[u8]| is_named(alloc_fns.as_bytes(), name));
         let ignore_test = FrameTest::new(move |name: &[u8]| is_named(ignore_fns.as_bytes(), name));
-        let mut reader = match MassifReader::new(
+        let mut reader = MassifReader::new(
             desk.alloc,
             self.options,
             alloc_test,
             ignore_test,
             *self,
-        ) {
-            Ok(reader) => reader,
-            Err(NoMemory) => return Err(Halt::no_memory()),
-        };
-        run_lines(desk, self.trace, &mut reader, store, out)
+        )?;
+        run_one_file(desk, self.trace, &mut reader, store, out)
     }
 
     /// Both lists of functions, which the tests of names keep. `NoMemory` where memory is wanting.

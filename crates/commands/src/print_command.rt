@@ -1,13 +1,8 @@
 //! The command `print`: by backtrace who calls most, who holds the peak, who leaks and who allocates for a moment. What the
 //! words say of the report is read in `print_words`.
-ghost use Rattle.std.specs.Prelude.{codes, option_map, ◌≡◌, ◌^◌, ◌<◌, ◌&&◌, Err, IfErr, IfOk, List, None, OnOk, Some, ℕ, map, string_bytes, ◌≢◌};
-ghost use Rattle.hp_outside.specs.Faults.{Rose};
-ghost use Rattle.command_frame.specs.Answer.{done};
-ghost use Rattle.command_frame.specs.FirstFault.{bounds_of};
-ghost use Rattle.command_frame.specs.Halts.{halt_answer, status_code};
+ghost use Rattle.std.specs.Prelude.{option_map, ◌≡◌, ◌^◌, ◌<◌, ◌&&◌, Err, IfOk, None, Some, map, string_bytes};
 ghost use Rattle.command_frame.specs.Outcome.{moment};
-ghost use Rattle.command_frame.specs.Run.{RanTo};
-ghost use Rattle.command_frame.specs.Texts.{texts_of};
+ghost use Rattle.command_frame.specs.RunsTo.{Runs};
 ghost use Rattle.command_words.specs.WordsTaken.{only_file_in, rows_in, value_in};
 ghost use Rattle.commands.specs.PrintReport.{print_plan};
 ghost use Rattle.commands.specs.Requests.{print_asked_by};
@@ -77,16 +72,10 @@ impl<'a> PrintRequest<'a> {
         out: &mut O,
     ) -> Result<Vec<u8>, Halt>
         requires { S.opens store.old < 2 ^ 63 }
-        ensures all { IfOk result (λ rest. (last : List ℕ) → RanTo (texts_of desk.now.texts) (bounds_of desk.now.limits) (S.files store.old) last (names_behind (print_asked_by self.now).suppressions self.now.trace.now) (print_plan (print_asked_by self.now))
-            (moment (S.opens store.old) (S.current store.old) (S.left store.old) (S.faults store.old)) (moment (S.opens store.new) (S.current store.new) (S.left store.new) (S.faults store.new))
-            (O.written out.old) (O.written out.new) (done rest.items)) }
-        ensures halted { IfErr result (λ halt. (last : List ℕ) → RanTo (texts_of desk.now.texts) (bounds_of desk.now.limits) (S.files store.old) last (names_behind (print_asked_by self.now).suppressions self.now.trace.now) (print_plan (print_asked_by self.now))
-            (moment (S.opens store.old) (S.current store.old) (S.left store.old) (S.faults store.old)) (moment (S.opens store.new) (S.current store.new) (S.left store.new) (S.faults store.new))
-            (O.written out.old) (O.written out.new) (halt_answer (texts_of desk.now.texts) halt)) }
-        ensures files { S.files store.new ≡ S.files store.old }
-        ensures unwritten { IfErr result (λ halt. status_code halt.status ≡ 4 → Rose (O.faults out.old) (O.faults out.new)) }
-        ensures sound_writes { IfErr result (λ halt. status_code halt.status ≢ 4 → O.faults out.new ≡ O.faults out.old) }
-        ensures sound { OnOk result (O.faults out.new ≡ O.faults out.old) }
+        ensures { Runs S.Store O.Sink desk.now
+            (names_behind (print_asked_by self.now).suppressions self.now.trace.now)
+            (print_plan (print_asked_by self.now))
+            store.old store.new out.old out.new result }
     {
         let writer = PrintWriter {
             alloc: desk.alloc,

@@ -1,12 +1,6 @@
 //! A suppressions file and the trace behind it, for any writer of a trace.
-ghost use Rattle.std.specs.Prelude.{◌≡◌, ◌≢◌, ◌^◌, ◌<◌, IfErr, IfOk, List, [], ◌∷◌, OnOk, Some, ℕ};
-ghost use Rattle.hp_outside.specs.Faults.{Rose};
-ghost use Rattle.command_frame.specs.Answer.{done};
-ghost use Rattle.command_frame.specs.FirstFault.{bounds_of};
-ghost use Rattle.command_frame.specs.Halts.{halt_answer, status_code};
-ghost use Rattle.command_frame.specs.Outcome.{moment};
-ghost use Rattle.command_frame.specs.Run.{RanTo};
-ghost use Rattle.command_frame.specs.Texts.{texts_of};
+ghost use Rattle.std.specs.Prelude.{◌^◌, ◌<◌, [], ◌∷◌, Some};
+ghost use Rattle.command_frame.specs.RunsTo.{Runs};
 ghost use Rattle.commands.specs.SuppressionsReport.{plan_behind};
 
 use crate::suppressions::SuppressionsTaker;
@@ -46,16 +40,9 @@ pub fn run_suppressed<W: TraceWriter + Copy + Drop, S: Store, O: Sink>(
     out: &mut O,
 ) -> Result<Vec<u8>, Halt>
     requires { S.opens store.old < 2 ^ 63 }
-    ensures all { IfOk result (λ rest. (last : List ℕ) → RanTo (texts_of desk.now.texts) (bounds_of desk.now.limits) (S.files store.old) last (names.now.first.now ∷ names.now.second.now ∷ []) (plan_behind (Some names.now.first.now) names.now.second.now (W.text writer))
-        (moment (S.opens store.old) (S.current store.old) (S.left store.old) (S.faults store.old)) (moment (S.opens store.new) (S.current store.new) (S.left store.new) (S.faults store.new))
-        (O.written out.old) (O.written out.new) (done rest.items)) }
-    ensures halted { IfErr result (λ halt. (last : List ℕ) → RanTo (texts_of desk.now.texts) (bounds_of desk.now.limits) (S.files store.old) last (names.now.first.now ∷ names.now.second.now ∷ []) (plan_behind (Some names.now.first.now) names.now.second.now (W.text writer))
-        (moment (S.opens store.old) (S.current store.old) (S.left store.old) (S.faults store.old)) (moment (S.opens store.new) (S.current store.new) (S.left store.new) (S.faults store.new))
-        (O.written out.old) (O.written out.new) (halt_answer (texts_of desk.now.texts) halt)) }
-    ensures files { S.files store.new ≡ S.files store.old }
-    ensures unwritten { IfErr result (λ halt. status_code halt.status ≡ 4 → Rose (O.faults out.old) (O.faults out.new)) }
-    ensures sound_writes { IfErr result (λ halt. status_code halt.status ≢ 4 → O.faults out.new ≡ O.faults out.old) }
-    ensures sound { OnOk result (O.faults out.new ≡ O.faults out.old) }
+    ensures { Runs S.Store O.Sink desk.now (names.now.first.now ∷ names.now.second.now ∷ [])
+        (plan_behind (Some names.now.first.now) names.now.second.now (W.text writer))
+        store.old store.new out.old out.new result }
 {
     let first = SuppressionsTaker::new(desk.alloc);
     run_pair(desk, names, &SuppressedTrace { writer }, first, store, out)

@@ -1,8 +1,8 @@
 //! `summary` over worked traces, its words, and every way in which reads are cut.
 
 use crate::transcript::{Setting, TWO_SIZES, append_run, expect, sound};
-use commands::heapsuite_main;
-use hp_outside::{SureSink, SureStore};
+use commands::heapsuite_run;
+use hp_outside::{Limits, SureSink, SureStore};
 use std::test::Fail;
 
 const FIGURES: &str = "$ summary e
@@ -133,7 +133,8 @@ fn standard_limits(rt: HostRuntime) -> Result<(), Fail> {
     store.add("t", TWO_SIZES.as_bytes())?;
     let mut out = SureSink::new();
     let mut err = SureSink::new();
-    let status = heapsuite_main(alloc, &Ok(list), &mut store, &mut out, &mut err);
+    let limits = Limits::standard();
+    let status = heapsuite_run(alloc, &list, &limits, &mut store, &mut out, &mut err);
     assert_eq!(rt; status, 0);
     Ok(())
 }

@@ -1,10 +1,12 @@
 //! `heapsuite`: reports on heap traces.
 //!
-//! The program makes the real store and outputs and ends with the status of `heapsuite_main` of `commands`, which goes to
-//! `heapsuite_run`, the program's contract.
+//! The program makes the real store and outputs and ends with the status of `heapsuite_main`, which goes to `heapsuite_run`
+//! of `commands`, the program's contract, with the limits of the program.
 #![tactic(auto)]
 
-use commands::heapsuite_main;
+mod run;
+
+use crate::run::heapsuite_main;
 use hp_num::NoMemory;
 use hp_outside::{FsStore, StdSink};
 use std::alloc::Global;

@@ -22,9 +22,7 @@ use Rattle.command_frame.specs.Run.{Ran}
 use Rattle.command_frame.specs.RunFacts.{NotRead}
 use Rattle.command_frame.specs.RunsTo.{Shown, Taken}
 use Rattle.command_frame.specs.Texts.{Texts, texts_of}
-use Rattle.command_frame.proofs.DeliveryLemmas.{fronts_later}
-use Rattle.command_frame.proofs.OutputLemmas.{append_nothing}
-use Rattle.command_frame.proofs.RunFactLemmas.{run_facts}
+use Rattle.command_frame.proofs.Laws.{append_nothing, fronts_later, run_facts}
 use Rattle.record_scripts.specs.Job.{Job}
 use Rattle.recording.specs.Answer.{asked_answer, names_asked, record_plan}
 use Rattle.recording.specs.FileLines.{no_job}

@@ -20,7 +20,7 @@ use Rattle.command_frame.specs.Report.{Report, gains_from, written}
 use Rattle.command_frame.specs.Run.{Ran}
 use Rattle.command_frame.specs.RunsTo.{ReadsTo, Shown, Taken}
 use Rattle.command_frame.specs.Texts.{Texts, texts_of}
-use Rattle.command_frame.proofs.OutputLemmas.{append_nothing}
+use Rattle.command_frame.proofs.Laws.{append_nothing}
 use Rattle.record_scripts.specs.Job.{Job}
 use Rattle.recording.specs.declared.reader.FileKind.{FileKind}
 use Rattle.recording.specs.declared.reader.FileKind.TheVariants.{Modules, Script}

@@ -1,7 +1,7 @@
 use Rattle.std.proofs.Common.{◌-◌, ℕ, List, [], length, drop, length-drop, sym, subst, arith}
 use Rattle.std.proofs.lemmas.List.{take_all}
 use Rattle.ht_trace.specs.PassesEvents.{PassesEvents}
-use Rattle.command_frame.proofs.BatchLemmas.{nothing_taken}
+use Rattle.command_frame.proofs.Laws.{nothing_taken}
 use Rattle.command_frame.specs.Report.{Report}
 use Rattle.commands.specs.Batch.{HasTakenLine}
 use Rattle.commands.specs.DhatReport.{dhat_written}

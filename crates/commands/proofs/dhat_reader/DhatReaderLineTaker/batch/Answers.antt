@@ -1,5 +1,5 @@
 use Rattle.std.proofs.Common.{[]}
-use Rattle.command_frame.proofs.BatchLemmas.{nothing_taken}
+use Rattle.command_frame.proofs.Laws.{nothing_taken}
 use Rattle.commands.specs.DhatReport.{dhat_written}
 use Rattle.commands.specs.ReadLives.{HasReadLives}
 use Rattle.commands.specs.TraceReport.{trace_report}

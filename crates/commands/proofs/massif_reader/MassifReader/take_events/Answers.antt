@@ -2,7 +2,7 @@ use Rattle.std.proofs.Common.{◌-◌, ◌*◌, ◌+◌, ◌≤◌, ℕ, List, l
 use Rattle.std.proofs.lemmas.List.{take_all}
 use Rattle.live_ledger.specs.LedgerState.{LedgerState}
 use Rattle.ht_trace.specs.PassesEvents.{PassesEvents}
-use Rattle.command_frame.proofs.BatchLemmas.{nothing_taken}
+use Rattle.command_frame.proofs.Laws.{nothing_taken}
 use Rattle.commands.specs.MassifReport.{massif_report}
 use Rattle.commands.proofs.BatchLemmas.{front_kept, line_more, line_within, same_line}
 use Rattle.commands.proofs.massif_reader.MassifReader.take_events.Goals as goal

@@ -1,4 +1,4 @@
-use Rattle.command_frame.proofs.BatchLemmas.{nothing_taken}
+use Rattle.command_frame.proofs.Laws.{nothing_taken}
 use Rattle.commands.specs.MassifReport.{massif_report}
 use Rattle.commands.proofs.massif_reader.MassifReaderLineTaker.batch.Goals as goal
 

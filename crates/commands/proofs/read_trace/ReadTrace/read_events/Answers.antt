@@ -1,7 +1,7 @@
 use Rattle.std.proofs.Common.{◌-◌, ℕ, List, ◌∷◌, length, drop, length-append, length-drop, refl, ap, sym, subst, ◌∙◌, arith}
 use Rattle.std.proofs.lemmas.List.{take_all}
 use Rattle.ht_trace.specs.PassesEvents.{PassesEvents}
-use Rattle.command_frame.proofs.BatchLemmas.{nothing_taken}
+use Rattle.command_frame.proofs.Laws.{nothing_taken}
 use Rattle.commands.specs.Batch.{HasReadLine}
 use Rattle.commands.specs.ReadTrace.{HasRead}
 use Rattle.commands.specs.TraceReport.{trace_report}

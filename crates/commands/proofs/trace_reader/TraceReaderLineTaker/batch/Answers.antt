@@ -1,5 +1,5 @@
 use Rattle.std.proofs.Common.{ℕ, List}
-use Rattle.command_frame.proofs.BatchLemmas.{nothing_taken}
+use Rattle.command_frame.proofs.Laws.{nothing_taken}
 use Rattle.commands.specs.ReadTrace.{HasRead}
 use Rattle.commands.specs.TraceReport.{patterns_before, trace_report}
 use Rattle.commands.proofs.trace_reader.TraceReaderLineTaker.batch.Goals as goal
