@@ -2,7 +2,7 @@
 ghost use Rattle.std.specs.Prelude.{◌≡◌, ℕ, ◌+◌, ◌-◌, ◌^◌, ◌<◌, ◌≤◌, ◌≢◌, max, List, [], ◌∷◌, ◌++◌, true, false, length, OnOk, OnErr};
 ghost use Rattle.cost_history.specs.Changes.{AreParted, IsAsked, IsBetween, cost_at};
 ghost use Rattle.cost_history.specs.Marks.{candidates, is_marked, no_marks};
-ghost use Rattle.cost_history.specs.HistoryState.{AreSaid, HistoryState, TellsNow, changes_to, no_history};
+ghost use Rattle.cost_history.specs.HistoryState.{AreSaid, HistoryState, IsRoomy, TellsNow, changes_to, no_history};
 
 use crate::change::Change;
 use crate::marks::Marks;
@@ -22,9 +22,9 @@ pub struct CostHistory {
     changes: Vec<Change>,
     /// A cell for each stack, which `thin` and a replay use.
     cells: Vec<u64>,
+    /// How many changes were left the last time that they were thinned.
+    left: usize,
     last: u64,
-    /// The number of changes above which `thin` is worth its while.
-    crowd: u64,
 }
 
 impl Model for CostHistory {
@@ -33,7 +33,7 @@ impl Model for CostHistory {
 
     ghost Value = { HistoryState };
 
-    ghost view = { λ history. history_of history.marks history.changes.items history.cells.items history.last };
+    ghost view = { λ history. history_of history.marks history.changes.items history.cells.items history.left history.last };
 
     ghost invariant = { λ history. IsKept history.changes.items history.cells.items history.last };
 }
@@ -48,8 +48,8 @@ impl CostHistory {
             marks: Marks::new(alloc),
             changes: Vec::new(alloc),
             cells: Vec::new(alloc),
+            left: 0,
             last: 0,
-            crowd: 0,
         }
     }
 
@@ -65,7 +65,8 @@ impl CostHistory {
     pub fn mark(&mut self, stack: u32)
         ensures marked { is_marked self.new.marks stack ≡ true }
         ensures rest { self.new ≡ record self.old { marks = self.new.marks } }
-        ensures tells { (before after : ℕ → ℕ) → TellsNow self.old before → ((other : ℕ) → other ≢ stack → after other ≡ before other) → TellsNow self.new after }
+        ensures tells { (before after : ℕ → ℕ) → TellsNow self.old before →
+            ((other : ℕ) → other ≢ stack → after other ≡ before other) → TellsNow self.new after }
     {
         self.marks.mark(stack);
     }
@@ -82,10 +83,15 @@ impl CostHistory {
         requires most { place ≤ 2 ^ 62 }
         requires callable { (stack : ℕ) → stack < stacks → F.pre cost.now stack }
         ensures before { OnOk result ((costs : ℕ → ℕ) → AreSaid (F.post cost.now) stacks costs →
-            (seer stack : ℕ) → seer < place → cost_at self.new.changes seer stack ≡ cost_at self.old.changes seer stack) }
-        ensures here { OnOk result ((costs : ℕ → ℕ) → AreSaid (F.post cost.now) stacks costs → self.old.stacks ≤ stacks → TellsNow self.old costs →
+            (seer stack : ℕ) → seer < place →
+            cost_at self.new.changes seer stack ≡ cost_at self.old.changes seer stack) }
+        ensures here { OnOk result ((costs : ℕ → ℕ) → AreSaid (F.post cost.now) stacks costs →
+            self.old.stacks ≤ stacks → TellsNow self.old costs →
             (seer stack : ℕ) → place ≤ seer → cost_at self.new.changes seer stack ≡ costs stack) }
+        ensures most { OnOk result
+            (length self.new.changes ≤ length self.old.changes + length (candidates self.old.marks stacks)) }
         ensures marks { OnOk result (self.new.marks ≡ no_marks) }
+        ensures left { OnOk result (self.new.left ≡ self.old.left) }
         ensures last { OnOk result (self.new.last ≡ place) }
         ensures stacks { OnOk result (self.new.stacks ≡ max self.old.stacks stacks) }
         ensures unchanged { OnErr result (self.new ≡ record self.old { stacks = self.new.stacks }) }
@@ -97,30 +103,37 @@ impl CostHistory {
         Ok(())
     }
 
-    /// Whether it is time to thin: there are twice as many changes as were left the last time, and one more for each stack.
-    pub fn is_crowded(&self) -> bool {
-        self.changes.len() as u64 > self.crowd
+    /// Whether it is time to thin: there are more changes than twice those that were left the last time, and one for each
+    /// stack.
+    pub fn is_crowded(&self) -> bool
+        ensures crowded { result ≡ true → IsRoomy self.now → ⊥ }
+        ensures roomy { result ≡ false → IsRoomy self.now }
+    {
+        let more = self.changes.len().saturating_sub(self.left);
+        if more <= self.left {
+            return false;
+        }
+        more - self.left > self.cells.len()
     }
 
     /// Takes out the changes that no kept place sees, nor the present one. The places come in any order, and are sorted. It
     /// takes no memory.
     pub fn thin(&mut self, kept: &mut Vec<u64>)
-        ensures costs { (place : ℕ) → IsAsked kept.old.items self.old.last place → (stack : ℕ) → cost_at self.new.changes place stack ≡ cost_at self.old.changes place stack }
+        ensures costs { (place : ℕ) → IsAsked kept.old.items self.old.last place →
+            (stack : ℕ) → cost_at self.new.changes place stack ≡ cost_at self.old.changes place stack }
         ensures parted { AreParted kept.old.items self.new.changes }
-        ensures rest { self.new ≡ record self.old { changes = self.new.changes } }
+        ensures rest { self.new ≡ record self.old { changes = self.new.changes; left = length self.new.changes } }
         ensures tells { (costs : ℕ → ℕ) → TellsNow self.old costs → TellsNow self.new costs }
     {
         thin(&mut self.changes, &mut self.cells, kept, self.last);
-        let left = self.changes.len() as u64;
-        self.crowd = left
-            .saturating_mul(2)
-            .saturating_add(self.cells.len() as u64);
+        self.left = self.changes.len();
     }
 
     /// The replay of the history, before its first place. It takes no memory.
     pub fn into_replay(self) -> Replay
         ensures changes { result.changes ≡ self.changes }
-        ensures none { (place stack : ℕ) → self.stacks ≤ stack → cost_at self.changes place stack ≡ 0 }
+        ensures none { (place stack : ℕ) →
+            self.stacks ≤ stack → cost_at self.changes place stack ≡ 0 }
     {
         let CostHistory { changes, cells, .. } = self;
         Replay::new(changes, cells)
@@ -148,9 +161,14 @@ fn push_changes<F: Fn(u32) -> u64>(
     cost: &F,
 ) -> Result<(), NoMemory>
     requires callable { (stack : ℕ) → stack < stacks → F.pre cost.now stack }
-    ensures pushed { OnOk result ((costs : ℕ → ℕ) → ((stack says : ℕ) → stack < stacks → F.post cost.now stack says → says ≡ costs stack) →
-        changes.new.items ≡ changes.old.items ++ changes_to stacks place costs (candidates marks.now stacks)) }
-    ensures between { OnOk result ((all last : ℕ) → stacks ≤ all → last ≤ place → IsBetween all 0 changes.old.items last → IsBetween all 0 changes.new.items place) }
+    ensures pushed { OnOk result ((costs : ℕ → ℕ) →
+        ((stack says : ℕ) → stack < stacks → F.post cost.now stack says → says ≡ costs stack) →
+        changes.new.items ≡
+        changes.old.items ++ changes_to stacks place costs (candidates marks.now stacks)) }
+    ensures most { OnOk result
+        (length changes.new.items ≤ length changes.old.items + length (candidates marks.now stacks)) }
+    ensures between { OnOk result ((all last : ℕ) → stacks ≤ all → last ≤ place →
+        IsBetween all 0 changes.old.items last → IsBetween all 0 changes.new.items place) }
     ensures unchanged { OnErr result (changes.new.items ≡ changes.old.items) }
 {
     let count = marks.candidates(stacks);

@@ -52,7 +52,8 @@ impl Marks {
     /// Marks the stack. It takes no memory: where there is no room to list it, all stacks are marked.
     pub(crate) fn mark(&mut self, stack: u32)
         ensures marked { is_marked self.new stack ≡ true }
-        ensures still { (other : ℕ) → is_marked self.old other ≡ true → is_marked self.new other ≡ true }
+        ensures still { (other : ℕ) →
+            is_marked self.old other ≡ true → is_marked self.new other ≡ true }
     {
         if self.is_listed(stack) {
             return;

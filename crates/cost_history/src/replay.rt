@@ -43,7 +43,8 @@ impl Replay {
 
     /// Moves to the place. One that is before that of the last call costs another walk from the first change on.
     pub fn move_to(&mut self, place: u64)
-        ensures costs { (stack : ℕ) → slice_index self.new.costs stack ≡ cost_at self.new.changes place stack }
+        ensures costs { (stack : ℕ) →
+            slice_index self.new.costs stack ≡ cost_at self.new.changes place stack }
         ensures rest { self.new ≡ record self.old { costs = self.new.costs; reached = place } }
     {
         self.be_before(place);
@@ -75,7 +76,8 @@ impl Replay {
 /// Makes each number 0.
 fn zero(cells: &mut Vec<u64>)
     ensures length { length cells.new.items ≡ length cells.old.items }
-    ensures zero { (stack : ℕ) → stack < length cells.new.items → slice_index cells.new.items stack ≡ 0 }
+    ensures zero { (stack : ℕ) →
+        stack < length cells.new.items → slice_index cells.new.items stack ≡ 0 }
 {
     for cell in cells.iter_mut() {
         *cell = 0;
@@ -88,7 +90,8 @@ fn advance(costs: &mut Vec<u64>, changes: &[Change], mut next: usize, place: u64
     requires told { AreTold costs.old.items changes.now next place }
     ensures told { AreTold costs.new.items changes.now result place }
     ensures length { length costs.new.items ≡ length costs.old.items }
-    ensures whole { (stack : ℕ) → slice_index costs.new.items stack ≡ cost_at changes.now place stack }
+    ensures whole { (stack : ℕ) →
+        slice_index costs.new.items stack ≡ cost_at changes.now place stack }
 {
     'changes: while is_due(changes, next, place) {
         let change = changes[next];

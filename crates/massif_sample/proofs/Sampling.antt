@@ -138,13 +138,13 @@ sampling-retold old history names tables events made serves tells within was = r
 
 -- where costs that no snapshot shows were taken out
 pub sampling-thinned :
-    (old : SamplesState) (changes : List Change) (places : List ℕ) (names : FunctionNames) (tables : TableState) (events : List Event) (made : List Offer)
+    (old : SamplesState) (changes : List Change) (left : ℕ) (places : List ℕ) (names : FunctionNames) (tables : TableState) (events : List Event) (made : List Offer)
     → ((k : ℕ) (entry : SnapEntry) → slice_get old.array.kept.entries k ≡ Some entry → shows_tree entry.kind ≡ true → Contains places entry.place)
     → ((place : ℕ) → IsAsked places old.history.last place → (stack : ℕ) → history.cost_at changes place stack ≡ history.cost_at old.history.changes place stack)
     → IsSampling old names tables events made
-    → IsSampling (record old { history = record old.history { changes = changes } }) names tables events made
-sampling-thinned old changes places names tables events made held same was =
-    sampling-retold old (record old.history { changes = changes }) names tables events made
+    → IsSampling (record old { history = record old.history { changes = changes; left = left } }) names tables events made
+sampling-thinned old changes left places names tables events made held same was =
+    sampling-retold old (record old.history { changes = changes; left = left }) names tables events made
     (λ k entry at within shows costs. record { each = λ stack. costs.each stack ∙ sym (same entry.place (inl (held k entry at shows)) stack) })
     (record { unmarked = λ stack place unmarked late. same place (inr late) stack ∙ was.told.unmarked stack place unmarked late })
     was.told_within was

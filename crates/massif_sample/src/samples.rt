@@ -3,7 +3,8 @@
 ghost use Rattle.std.specs.Prelude.{◌≡◌, ◌⊎◌, ℕ, ◌+◌, ◌-◌, ◌^◌, ◌<◌, ◌≤◌, List, [], ◌∷◌, ◌++◌, true, false, length, slice_get, Contains, Some, IfNone, IfOk, IfSome, IsErr, OnOk};
 ghost use Rattle.std.specs.Fn.{FnReturnsAt};
 ghost use Rattle.cost_history.specs.Changes as history;
-ghost use Rattle.cost_history.specs.HistoryState.{AreSaid, TellsNow, no_history};
+ghost use Rattle.cost_history.specs.Marks.{candidates};
+ghost use Rattle.cost_history.specs.HistoryState.{AreSaid, IsRoomy, TellsNow, no_history};
 ghost use Rattle.cost_tree.specs.FrameTexts.{AreTexts};
 ghost use Rattle.ht_trace.specs.TableState.{TableState};
 ghost use Rattle.live_ledger.specs.declared.event.Event.{Event};
@@ -176,6 +177,7 @@ impl Samples {
         ensures costs { OnOk result ((names : FunctionNames) (tables : TableState) (events : List Event) (made : List Offer) →
             AreSaid (F.post cost.now) stacks (cost_at (ignores tables names) events (event_count events)) →
             IsSampling self.old names tables events made → AreCostsAt names tables events (event_count events) self.new.history.changes) }
+        ensures few { OnOk result (length self.new.history.changes ≤ self.new.history.left + self.new.history.left + self.old.history.stacks + length (candidates self.old.history.marks stacks)) }
     {
         self.thin()?;
         self.history.keep(self.running.place, stacks, cost)?;
@@ -184,7 +186,8 @@ impl Samples {
 
     /// Takes out the costs that no snapshot shows any more, where there are enough of them. On `NoMemory` nothing is taken out.
     fn thin(&mut self) -> Result<(), NoMemory>
-        ensures samples { self.new ≡ record self.old { history = record self.old.history { changes = self.new.history.changes } } }
+        ensures samples { self.new ≡ record self.old { history = record self.old.history { changes = self.new.history.changes; left = self.new.history.left } } }
+        ensures roomy { OnOk result (IsRoomy self.new.history) }
         ensures tells { (costs : ℕ → ℕ) → TellsNow self.old.history costs → TellsNow self.new.history costs }
         ensures sampling { (names : FunctionNames) (tables : TableState) (events : List Event) (made : List Offer) →
             IsSampling self.old names tables events made → IsSampling self.new names tables events made }

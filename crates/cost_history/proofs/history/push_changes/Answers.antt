@@ -1,5 +1,5 @@
-use Rattle.std.proofs.Common.{◌≡◌, ℕ, List, ◌++◌, take, subst, sym, ap, ◌∙◌, arith}
-use Rattle.std.proofs.lemmas.List.{append-nil, take_all}
+use Rattle.std.proofs.Common.{◌≡◌, ℕ, List, ◌++◌, length, take, subst, sym, ap, ◌∙◌, arith}
+use Rattle.std.proofs.lemmas.List.{append-nil, length_push, take_all}
 use Rattle.cost_history.specs.declared.change.Change.{Change}
 use Rattle.cost_history.specs.Changes.{IsBetween}
 use Rattle.cost_history.specs.HistoryState.{changes_to}
@@ -10,6 +10,7 @@ use Rattle.cost_history.proofs.history.push_changes.Goals as goal
 
 pub loop-i-init : goal.loop-i-init
 loop-i-init g c = record {
+  most = (let same = ap (λ (xs : List Change). length xs) c.reserve.ensures.items in omega arith);
   room = (let ok = c.in_ok-reserve.ensures.ok in omega arith);
   pushed = λ costs says. c.reserve.ensures.items ∙ sym (append-nil c.args.changes.now.items);
   between = λ all last held up was. subst (λ (xs : List Change). IsBetween all 0 xs c.args.place) (sym c.reserve.ensures.items) (between-raise all 0 c.args.changes.now.items last c.args.place up was);
@@ -20,6 +21,7 @@ loop-i-preserved g c =
     let at = c.candidate-stack.ensures in
     let there = c.if-stack-stacks.false in
     record {
+      most = (let was = c.loop-i.invariant.most in let one = length_push c.loop-i.changes.items (record { place = c.args.place; stack = c.candidate-stack.result; cost = c.cost.result }) in let same = ap (λ (xs : List Change). length xs) c.push_reserved.ensures.items in omega arith);
       room = (let was = c.loop-i.invariant.room in let long = c.push_reserved.ensures.len in let cap = c.push_reserved.ensures.capacity in let test = c.loop-i-test.true in omega arith);
       pushed = λ costs says.
           c.push_reserved.ensures.items
@@ -34,6 +36,7 @@ loop-i-preserved-then-stack-stacks g c =
     let at = c.candidate-stack.ensures in
     let beyond = c.if-stack-stacks.true in
     record {
+      most = (let was = c.loop-i.invariant.most in omega arith);
       room = (let was = c.loop-i.invariant.room in let test = c.loop-i-test.true in omega arith);
       pushed = λ costs says.
           c.loop-i.invariant.pushed costs says

@@ -1,4 +1,4 @@
-use Rattle.std.proofs.Common.{ℕ, List, subst, sym}
+use Rattle.std.proofs.Common.{ℕ, List, length, subst, sym}
 use Rattle.cost_history.specs.HistoryState.{HistoryState}
 use Rattle.massif_sample.specs.SamplesState.{SamplesState}
 use Rattle.massif_sample.specs.StandsFor.{IsSampling}
@@ -13,4 +13,4 @@ returns-clause-sampling c =
     rw (← c.self.view_is)
     (λ names tables events made was.
     subst (λ (h : HistoryState). IsSampling (record old { history = h }) names tables events made) (sym c.thin.ensures.rest)
-    (sampling-thinned old c.thin.new.self.changes c.in_ok-places.places.items names tables events made c.in_ok-places.ensures c.thin.ensures.costs was))
+    (sampling-thinned old c.thin.new.self.changes (length c.thin.new.self.changes) c.in_ok-places.places.items names tables events made c.in_ok-places.ensures c.thin.ensures.costs was))
