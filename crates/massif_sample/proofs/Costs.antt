@@ -1,63 +1,26 @@
 -- What stacks cost.
-use Rattle.std.proofs.Common.{◌≡◌, ℕ, zero, suc, ◌+◌, ◌<◌, ◌≤◌, ◌^◌, List, [], ◌∷◌, length, map, get_or, Bool, true, false, cond, sum, refl, ap, sym, ◌∙◌, arith}
-use Rattle.std.specs.Prelude.{slice_get, slice_index_or, Some, sum_by}
+use Rattle.std.proofs.Common.{◌≡◌, ◌≢◌, ℕ, zero, suc, ◌+◌, ◌<◌, ◌≤◌, List, [], ◌∷◌, ◌++◌, length, map, eqb, Bool, true, false, cond, refl, ap, sym, subst, ◌∙◌, arith, inl, inr}
+use Rattle.std.specs.Prelude.{not, max, slice_index_or}
 use Rattle.std.specs.List.{range_with_len}
-use Rattle.std.proofs.lemmas.List.FromFn.{get_or-map-range_with_len, length-map-range_with_len}
-use Rattle.std.proofs.lemmas.List.Sums.{sum-map, sum_by-cons}
-use Rattle.std.proofs.lemmas.Option.{get_or_from_slice_get, slice_get-get_or}
+use Rattle.std.proofs.lemmas.List.Sums.{sum_by_push}
+use Rattle.std.proofs.lemmas.Bool.{cases_eq, ne_eqb}
+use Rattle.std.proofs.Math.Nat.{max-le}
+use Rattle.std.proofs.lemmas.Option.{get_or_from_slice_get}
+use Rattle.cost_history.specs.HistoryState.{AreSaid}
 use Rattle.ht_trace.specs.TableState.{TableState}
 use Rattle.live_ledger.specs.declared.event.Event.{Event}
-use Rattle.live_ledger.specs.declared.figures.Figures.{Figures}
+use Rattle.live_ledger.specs.declared.event.Event.TheVariants.{Alloc, Free, Tick}
 use Rattle.live_ledger.specs.Events.{event_count}
 use Rattle.live_ledger.specs.InStack.{alloc_size_in, free_size_in, live_in}
-use Rattle.live_ledger.specs.LedgerState.{LedgerState, figures_at, no_figures}
-use Rattle.live_ledger.specs.Sound.{IsSound}
+use Rattle.live_ledger.specs.LedgerState.{LedgerState, figures_at}
 use Rattle.live_ledger.specs.StandsFor as ledger_spec
 use Rattle.massif_sample.specs.FunctionNames.{FunctionNames, ignores}
-use Rattle.massif_sample.specs.LiveCosts.{live_cost, live_costs}
+use Rattle.massif_sample.specs.LiveCosts.{live_cost}
 use Rattle.massif_sample.specs.Places.{up_to}
-use Rattle.massif_sample.specs.Snapshots.{cost_at, costs_at}
-use Rattle.massif_sample.specs.StandsFor.{AreJudged}
+use Rattle.massif_sample.specs.Snapshots.{cost_at}
+use Rattle.massif_sample.specs.StandsFor.{AreJudged, IsIn}
+use Rattle.massif_sample.specs.Counted.{counts}
 use Rattle.massif_sample.proofs.UpTo.{sum-now}
-
--- there is one for each stack
-pub live_costs-count : (judged : List Bool) (ledger : LedgerState) → length (live_costs judged ledger) ≡ ledger.stacks
-unfolding live_costs
-live_costs-count judged ledger = length-map-range_with_len (live_cost judged ledger) 0 ledger.stacks
-
--- that of a stack
-pub live_costs-at : (judged : List Bool) (ledger : LedgerState) (stack : ℕ) → stack < ledger.stacks → slice_get (live_costs judged ledger) stack ≡ Some (live_cost judged ledger stack)
-unfolding live_costs
-live_costs-at judged ledger stack held =
-    slice_get-get_or (live_costs judged ledger) stack 0 (let count = live_costs-count judged ledger in omega arith)
-    ∙ ap (λ (n : ℕ). Some n) (get_or-map-range_with_len (live_cost judged ledger) 0 ledger.stacks stack stack 0 held (omega arith))
-
--- a sum over a range is no more than one over a list that is no less
-range-within : {X : Type 0} (f : ℕ → ℕ) (g : X → ℕ) (xs : List X) (d : X) (a : ℕ) → ((k : ℕ) → k < length xs → f (a + k) ≤ g (get_or xs k d)) → sum_by f (range_with_len a (length xs)) ≤ sum_by g xs
-range-within f g [] d a below = omega arith
-range-within f g (x ∷ xs) d a below =
-    let here : f a ≤ g x = let first = below 0 (omega arith) in let same : f (a + 0) ≡ f a = ap f (let e : a + 0 ≡ a = omega arith in e) in omega arith in
-    let rest = range-within f g xs d (a + 1) (λ k inside. let next = below (suc k) (omega arith) in let same : f (a + suc k) ≡ f (a + 1 + k) = ap f (let e : a + suc k ≡ a + 1 + k = omega arith in e) in omega arith) in
-    let left = sum_by-cons f a (range_with_len (a + 1) (length xs)) in
-    let right = sum_by-cons g x xs in
-    omega arith
-
-cost-within : (judged : List Bool) (ledger : LedgerState) (stack : ℕ) → live_cost judged ledger stack ≤ (figures_at ledger stack).live
-cost-within judged ledger stack = by_flag (slice_index_or judged stack false) where
-  by_flag : (b : Bool) → cond {A = ℕ} b 0 (figures_at ledger stack).live ≤ (figures_at ledger stack).live
-  by_flag true = omega arith
-  by_flag false = omega arith
-
--- their sum is within its bound
-pub live_costs-bound : (judged : List Bool) (ledger : LedgerState) → IsSound ledger → sum (live_costs judged ledger) ≤ 2 ^ 62
-unfolding live_costs
-live_costs-bound judged ledger sound =
-    let same = sum-map (live_cost judged ledger) (range_with_len 0 ledger.stacks) in
-    let within = range-within (live_cost judged ledger) (λ (f : Figures). f.live) ledger.figures no_figures 0
-    (λ k inside. let one = cost-within judged ledger k in let e : live_cost judged ledger (0 + k) ≡ live_cost judged ledger k = ap (live_cost judged ledger) (let z : 0 + k ≡ k = omega arith in z) in omega arith) in
-    let count : sum_by (live_cost judged ledger) (range_with_len 0 (length ledger.figures)) ≡ sum_by (live_cost judged ledger) (range_with_len 0 ledger.stacks) =
-    ap (λ (n : ℕ). sum_by (live_cost judged ledger) (range_with_len 0 n)) sound.stacks in
-    omega (arith, sound.sums.live, sound.live_within, sound.allocated_within)
 
 -- functions that agree over a range
 pub map-same : {X : Type 0} (f g : ℕ → X) (a n : ℕ) → ((k : ℕ) → a ≤ k → k < a + n → f k ≡ g k) → map f (range_with_len a n) ≡ map g (range_with_len a n)
@@ -73,46 +36,88 @@ live-now stack events =
     let freed = sum-now (free_size_in stack) events (λ ms. refl) in
     omega arith
 
--- they are what the events cost at the last place
-pub live_costs-are :
-    (judged : List Bool) (ledger : LedgerState) (names : FunctionNames) (tables : TableState) (events : List Event) (stacks : ℕ)
+-- what a ledger says that a stack costs is what the events cost at the last place
+pub live_cost-is :
+    (judged : List Bool) (ledger : LedgerState) (names : FunctionNames) (tables : TableState) (events : List Event) (stack : ℕ)
     → AreJudged names tables judged
-    → length judged ≡ stacks
-    → ledger.stacks ≡ stacks
+    → stack < length judged
     → ledger_spec.StandsFor ledger events
-    → live_costs judged ledger ≡ costs_at stacks (ignores tables names) events (event_count events)
-unfolding live_costs costs_at
-live_costs-are judged ledger names tables events stacks are count held stands =
-    ap (λ (n : ℕ). map (live_cost judged ledger) (range_with_len 0 n)) held
-    ∙ map-same (live_cost judged ledger) (cost_at (ignores tables names) events (event_count events)) 0 stacks
-    (λ stack low high.
-    ap (λ (b : Bool). cond {A = ℕ} b 0 (figures_at ledger stack).live) (get_or_from_slice_get judged stack (ignores tables names stack) false (are stack (omega arith)))
-    ∙ ap (λ (n : ℕ). cond {A = ℕ} (ignores tables names stack) 0 n) ((stands.each_stack stack).live_is ∙ sym (live-now stack events)))
+    → live_cost judged ledger stack ≡ cost_at (ignores tables names) events (event_count events) stack
+live_cost-is judged ledger names tables events stack are held stands =
+    ap (λ (b : Bool). cond {A = ℕ} b 0 (figures_at ledger stack).live) (get_or_from_slice_get judged stack (ignores tables names stack) false (are stack held))
+    ∙ ap (λ (n : ℕ). cond {A = ℕ} (ignores tables names stack) 0 n) ((stands.each_stack stack).live_is ∙ sym (live-now stack events))
 
 -- before any event no stack costs anything
-pub no_costs : ℕ → List ℕ
-no_costs stacks = map (λ (stack : ℕ). 0) (range_with_len 0 stacks)
-
-pub no_costs-count : (stacks : ℕ) → length (no_costs stacks) ≡ stacks
-unfolding no_costs
-no_costs-count stacks = length-map-range_with_len (λ (stack : ℕ). 0) 0 stacks
-
-pub no_costs-at : (stacks stack : ℕ) → stack < stacks → slice_get (no_costs stacks) stack ≡ Some 0
-unfolding no_costs
-no_costs-at stacks stack held =
-    slice_get-get_or (no_costs stacks) stack 0 (let count = no_costs-count stacks in omega arith)
-    ∙ ap (λ (n : ℕ). Some n) (get_or-map-range_with_len (λ (k : ℕ). 0) 0 stacks stack stack 0 held (omega arith))
-
-pub no_costs-bound : (stacks : ℕ) → sum (no_costs stacks) ≤ 2 ^ 62
-unfolding no_costs
-no_costs-bound stacks = let same = sum-map (λ (stack : ℕ). 0) (range_with_len 0 stacks) in let none = zeros 0 stacks in omega arith where
-  zeros : (a n : ℕ) → sum_by (λ (stack : ℕ). 0) (range_with_len a n) ≡ 0
-  zeros a zero = refl
-  zeros a (suc n) = let cons = sum_by-cons (λ (stack : ℕ). 0) a (range_with_len (a + 1) n) in let rest = zeros (a + 1) n in omega arith
-
-pub no_costs-are : (stacks : ℕ) (ignored : ℕ → Bool) → no_costs stacks ≡ costs_at stacks ignored [] (event_count [])
-unfolding no_costs costs_at up_to
-no_costs-are stacks ignored = map-same (λ (stack : ℕ). 0) (cost_at ignored [] (event_count [])) 0 stacks (λ stack low high. by_flag (ignored stack)) where
-  by_flag : (b : Bool) → 0 ≡ cond {A = ℕ} b 0 0
+pub cost-first : (ignored : ℕ → Bool) (stack : ℕ) → cost_at ignored [] (event_count []) stack ≡ 0
+unfolding up_to
+cost-first ignored stack = by_flag (ignored stack) where
+  by_flag : (b : Bool) → cond {A = ℕ} b 0 0 ≡ 0
   by_flag true = refl
   by_flag false = refl
+
+-- what a stack costs now
+cost-now : (ignored : ℕ → Bool) (events : List Event) (stack : ℕ) → cost_at ignored events (event_count events) stack ≡ cond {A = ℕ} (ignored stack) 0 (live_in stack events)
+cost-now ignored events stack = ap (λ (n : ℕ). cond {A = ℕ} (ignored stack) 0 n) (live-now stack events)
+
+-- an event without a block of the stack leaves what it has live
+live-other : (events : List Event) (event : Event) (stack : ℕ) → alloc_size_in stack event ≡ 0 → free_size_in stack event ≡ 0 → live_in stack (events ++ event ∷ []) ≡ live_in stack events
+live-other events event stack no_alloc no_free =
+    let allocated = sum_by_push (alloc_size_in stack) events event in
+    let freed = sum_by_push (free_size_in stack) events event in
+    omega arith
+
+no-size : (a b size : ℕ) → a ≢ b → cond {A = ℕ} (eqb a b) size 0 ≡ 0
+no-size a b size apart = ap (λ (flag : Bool). cond {A = ℕ} flag size 0) (ne_eqb a b apart)
+
+alloc-other : (n stack : ℕ) (event : Event) → IsIn n event → stack ≢ n → alloc_size_in stack event ≡ 0
+alloc-other n stack (Alloc i s z) is other = no-size s stack z (λ same. other (sym same ∙ is))
+alloc-other n stack (Free i s z) is other = refl
+alloc-other n stack (Tick ms) is other = refl
+
+free-other : (n stack : ℕ) (event : Event) → IsIn n event → stack ≢ n → free_size_in stack event ≡ 0
+free-other n stack (Alloc i s z) is other = refl
+free-other n stack (Free i s z) is other = no-size s stack z (λ same. other (sym same ∙ is))
+free-other n stack (Tick ms) is other = refl
+
+-- behind an event of a stack the others cost what they did
+pub cost-other : (ignored : ℕ → Bool) (events : List Event) (event : Event) (n stack : ℕ) → IsIn n event → stack ≢ n
+    → cost_at ignored (events ++ event ∷ []) (event_count (events ++ event ∷ [])) stack ≡ cost_at ignored events (event_count events) stack
+cost-other ignored events event n stack is other =
+    cost-now ignored (events ++ event ∷ []) stack
+    ∙ ap (λ (m : ℕ). cond {A = ℕ} (ignored stack) 0 m) (live-other events event stack (alloc-other n stack event is other) (free-other n stack event is other))
+    ∙ sym (cost-now ignored events stack)
+
+-- what isn't false is true
+was-true : (b : Bool) → not b ≡ false → b ≡ true
+was-true true is = refl
+was-true false is = absurd (cc)
+
+-- behind an event of an ignored stack all do
+of-ignored : (ignored : ℕ → Bool) (events : List Event) (event : Event) (n stack : ℕ) → IsIn n event → not (ignored n) ≡ false
+    → cost_at ignored (events ++ event ∷ []) (event_count (events ++ event ∷ [])) stack ≡ cost_at ignored events (event_count events) stack
+of-ignored ignored events event n stack is none =
+    elim (cases_eq stack n) [
+      | inr other ↦ cost-other ignored events event n stack is other
+      | inl own ↦
+          (let flag : ignored stack ≡ true = ap ignored own ∙ was-true (ignored n) none in
+          ap (λ (b : Bool). cond {A = ℕ} b 0 (live_in stack (up_to (event_count (events ++ event ∷ [])) (events ++ event ∷ [])))) flag
+          ∙ sym (ap (λ (b : Bool). cond {A = ℕ} b 0 (live_in stack (up_to (event_count events) events))) flag))
+    ]
+
+-- behind an event that isn't counted all do
+pub cost-passed : (ignored : ℕ → Bool) (events : List Event) (event : Event) → counts ignored event ≡ false → (stack : ℕ)
+    → cost_at ignored (events ++ event ∷ []) (event_count (events ++ event ∷ [])) stack ≡ cost_at ignored events (event_count events) stack
+cost-passed ignored events (Tick ms) none stack =
+    cost-now ignored (events ++ Tick ms ∷ []) stack
+    ∙ ap (λ (m : ℕ). cond {A = ℕ} (ignored stack) 0 m) (live-other events (Tick ms) stack refl refl)
+    ∙ sym (cost-now ignored events stack)
+cost-passed ignored events (Alloc i s z) none stack = of-ignored ignored events (Alloc i s z) s stack refl none
+cost-passed ignored events (Free i s z) none stack = of-ignored ignored events (Free i s z) s stack refl none
+
+-- the greater of two numbers is at most a third that is the one and no less than the other
+pub no-more : (a b greater most : ℕ) → a ≤ most → b ≡ most → greater ≡ max a b → greater ≤ most
+no-more a b greater most first second is = subst (λ (n : ℕ). n ≤ most) (sym is) (max-le first (let least : b ≤ most = omega arith in least))
+
+-- a closure's answers, where the number of stacks goes by another name
+pub said-as : {answers : ℕ → ℕ → Type 0} (n m : ℕ) (costs : ℕ → ℕ) → n ≡ m → AreSaid answers m costs → AreSaid answers n costs
+said-as {answers} n m costs same said = subst (λ (k : ℕ). AreSaid answers k costs) (sym same) said

@@ -1,13 +1,14 @@
 -- A sampler whose tables grow: it stands for the same events, since what it keeps is of stacks that were there before.
 use Rattle.std.proofs.Common.{◌≡◌, ℕ, zero, suc, ◌+◌, ◌-◌, ◌<◌, ◌≤◌, ◌^◌, List, [], ◌∷◌, ◌++◌, length, map, drop, get_or, eqb, take, ◌⊎◌, inl, inr, Bool, true, false, cond, Option, Some, refl, ap, sym, subst, ◌∙◌, arith}
 use Rattle.std.proofs.lemmas.Bool.{cases_lt}
-use Rattle.std.specs.Prelude.{All, slice_get, sum, sum_by}
+use Rattle.std.specs.Prelude.{All, slice_get, sum_by}
 use Rattle.std.specs.List.{AllByRecursion, list_any, prefix_len, range_with_len}
 use Rattle.std.specs.Option.{option_map_or}
 use Rattle.std.specs.Str.{bytes_eq}
 use Rattle.std.proofs.lemmas.List.Elements.{All-drop, All-head, All-tail}
-use Rattle.std.proofs.lemmas.List.Sums.{sum-map, sum_by-append, sum_by-cons}
+use Rattle.std.proofs.lemmas.List.Sums.{sum_by-cons}
 use Rattle.std.proofs.lemmas.Bool.Decides.{nat_tests}
+use Rattle.cost_history.specs.declared.change.Change.{Change}
 use Rattle.ht_trace.specs.declared.frame.FrameAt.{FrameAt}
 use Rattle.ht_trace.specs.declared.frame.Style.TheVariants.{Addressed}
 use Rattle.ht_trace.specs.Continues.{Continues}
@@ -17,28 +18,25 @@ use Rattle.ht_trace.specs.StackFrames.{stack_frames}
 use Rattle.ht_trace.specs.TableState.{TableState}
 use Rattle.ht_trace.proofs.Laws.{stack-places}
 use Rattle.massif_tree.specs.FunctionLists.{is_ignored, is_listed, trimmed, trimmed_texts, without_listed}
-use Rattle.massif_tree.specs.FunctionLists.{trimmed_lists}
 use Rattle.massif_tree.specs.FirstLists.{first_lists, first_texts}
-use Rattle.massif_tree.specs.MassifTree.{massif_tree}
-use Rattle.massif_tree.proofs.Idle.{AreIdle, range-parts, tree-idle}
+use Rattle.massif_tree.proofs.Idle.{AreIdle}
 use Rattle.cost_tree.specs.Costed.{Costed, costed}
 use Rattle.live_ledger.specs.declared.event.Event.{Event}
 use Rattle.live_ledger.specs.declared.event.Event.TheVariants.{Alloc, Free, Tick}
+use Rattle.live_ledger.specs.Events.{event_count}
 use Rattle.live_ledger.specs.InStack.{alloc_size_in, free_size_in, live_in}
 use Rattle.massif_cull.specs.declared.snapshot.Kind.{Kind}
 use Rattle.massif_cull.specs.declared.snapshot.Kind.TheVariants.{Normal, Detailed, Peak}
 use Rattle.massif_cull.specs.declared.snapshot.Offer.{Offer}
 use Rattle.massif_cull.specs.declared.snapshot.SnapEntry.{SnapEntry}
 use Rattle.massif_cull.specs.StandsFor as array
-use Rattle.massif_file.specs.declared.profile.TreeLine.{TreeLine}
 use Rattle.massif_sample.specs.declared.load.Load.{Load}
 use Rattle.massif_sample.specs.declared.options.MassifOptions.{MassifOptions}
 use Rattle.massif_sample.specs.FunctionNames.{FunctionNames, ignores}
-use Rattle.massif_sample.specs.Options.{tree_options}
-use Rattle.massif_sample.specs.Places.{gross_at, up_to}
+use Rattle.massif_sample.specs.Places.{up_to}
 use Rattle.massif_sample.specs.SamplesState.{SamplesState}
-use Rattle.massif_sample.specs.Snapshots.{cost_at, costs_at, tree_at}
-use Rattle.massif_sample.specs.StandsFor.{AreCostsAt, AreFronts, AreOfStacks, IsOfStack, IsSnapshot, IsTreeAt, StandsFor, WhereTree}
+use Rattle.massif_sample.specs.Snapshots.{cost_at}
+use Rattle.massif_sample.specs.StandsFor.{AreCostsAt, AreFronts, AreOfStacks, IsOfStack, IsSnapshot, StandsFor, WhereTree}
 use Rattle.massif_sample.proofs.Agreeing.{Agree, AgreeAt, figures-same, gross_at-same, heap_at-same, offers-same, time_at-same}
 use Rattle.massif_sample.proofs.Costs.{map-same}
 
@@ -154,13 +152,6 @@ cost-none tables ignored events k stack above held =
 cost-same : (old new : TableState) (names : FunctionNames) (events : List Event) (k stack : ℕ) → Continues old new → stack ≤ length old.nodes → cost_at (ignores new names) events k stack ≡ cost_at (ignores old names) events k stack
 cost-same old new names events k stack more held = ap (λ (b : Bool). cond {A = ℕ} b 0 (live_in stack (up_to k events))) (ignores-same old new names stack more held)
 
--- how many stacks came
-abbrev stacks_more : TableState → TableState → ℕ
-stacks_more old new = length new.nodes - length old.nodes
-
-count-more : (old new : TableState) → Continues old new → length new.nodes + 1 ≡ length old.nodes + 1 + stacks_more old new
-count-more old new more = let held = more.held in omega arith
-
 -- stacks side by side with their costs, in two parts
 pub costed-parts : (texts : ℕ → List (List ℕ)) (cost : ℕ → ℕ) (ks ls : List ℕ) → costed (map texts (ks ++ ls)) (map cost (ks ++ ls)) ≡ costed (map texts ks) (map cost ks) ++ costed (map texts ls) (map cost ls)
 unfolding costed
@@ -172,63 +163,18 @@ unfolding costed
 costed-idle texts cost a zero none = tt
 costed-idle texts cost a (suc n) none = (none a (omega arith), costed-idle texts cost (a + 1) n (λ k low. none k (omega arith)))
 
-sum-zeros : (cost : ℕ → ℕ) (a n : ℕ) → ((k : ℕ) → a ≤ k → cost k ≡ 0) → sum_by cost (range_with_len a n) ≡ 0
-sum-zeros cost a zero none = refl
-sum-zeros cost a (suc n) none =
-    let here = none a (omega arith) in
-    let rest = sum-zeros cost (a + 1) n (λ k low. none k (omega arith)) in
-    let whole = sum_by-cons cost a (range_with_len (a + 1) n) in
-    omega arith
+-- and so does each stack, if it was there or not
+cost-grown : (names : FunctionNames) (old new : TableState) (events : List Event) (place stack : ℕ) → Continues old new → AllByRecursion (IsOfStack old) events
+    → cost_at (ignores new names) events place stack ≡ cost_at (ignores old names) events place stack
+cost-grown names old new events place stack more held = elim (cases_lt (length old.nodes) stack) [
+  | inl above ↦ cost-none old (ignores new names) events place stack above held ∙ sym (cost-none old (ignores old names) events place stack above held)
+  | inr below ↦ cost-same old new names events place stack more below
+]
 
--- the tree of a place stays
-tree-grown : (options : MassifOptions) (names : FunctionNames) (old new : TableState) (events : List Event) (k : ℕ) → Continues old new → AllByRecursion (IsOfStack old) events
-    → tree_at options names new events k ≡ tree_at options names old events k
-unfolding tree_at costs_at trimmed_lists
-tree-grown options names old new events k more held =
-    let count : ℕ = length old.nodes + 1 in
-    let extra : ℕ = stacks_more old new in
-    let texts : ℕ → List (List ℕ) = trimmed_texts new names.alloc_fns in
-    let cost : ℕ → ℕ = cost_at (ignores new names) events k in
-    let asked = tree_options options in
-    let total : ℕ = gross_at options (ignores new names) events k in
-    let first : List Costed = costed (map texts (range_with_len 0 count)) (map cost (range_with_len 0 count)) in
-    let idle : List Costed = costed (map texts (range_with_len (0 + count) extra)) (map cost (range_with_len (0 + count) extra)) in
-    ap (λ (n : ℕ). massif_tree asked total (costed (map texts (range_with_len 0 n)) (map cost (range_with_len 0 n)))) (count-more old new more)
-    ∙ ap (λ (ks : List ℕ). massif_tree asked total (costed (map texts ks) (map cost ks))) (range-parts 0 count extra)
-    ∙ ap (massif_tree asked total) (costed-parts texts cost (range_with_len 0 count) (range_with_len (0 + count) extra))
-    ∙ tree-idle asked total first idle (costed-idle texts cost (0 + count) extra (λ stack low. cost-none old (ignores new names) events k stack (omega arith) held))
-    ∙ ap (λ (lists : List (List (List ℕ))). massif_tree asked total (costed lists (map cost (range_with_len 0 count))))
-    (map-same texts (trimmed_texts old names.alloc_fns) 0 count (λ n low high. texts-same old new names.alloc_fns n more (omega arith)))
-    ∙ ap (λ (costs : List ℕ). massif_tree asked total (costed (map (trimmed_texts old names.alloc_fns) (range_with_len 0 count)) costs))
-    (map-same cost (cost_at (ignores old names) events k) 0 count (λ n low high. cost-same old new names events k n more (omega arith)))
-    ∙ ap (λ (t : ℕ). massif_tree asked t (costed (map (trimmed_texts old names.alloc_fns) (range_with_len 0 count)) (map (cost_at (ignores old names) events k) (range_with_len 0 count))))
-    (sym (gross_at-same options (ignores old names) (ignores new names) events k (agree-all old new names events more held)))
-
--- and so does what all stacks cost
-sum-grown : (names : FunctionNames) (old new : TableState) (events : List Event) (k : ℕ) → Continues old new → AllByRecursion (IsOfStack old) events
-    → sum (costs_at (length new.nodes + 1) (ignores new names) events k) ≡ sum (costs_at (length old.nodes + 1) (ignores old names) events k)
-unfolding costs_at
-sum-grown names old new events k more held =
-    let count : ℕ = length old.nodes + 1 in
-    let extra : ℕ = stacks_more old new in
-    let cost : ℕ → ℕ = cost_at (ignores new names) events k in
-    let parts : sum_by cost (range_with_len 0 (length new.nodes + 1)) ≡ sum_by cost (range_with_len 0 count) + sum_by cost (range_with_len (0 + count) extra) =
-    ap (λ (n : ℕ). sum_by cost (range_with_len 0 n)) (count-more old new more)
-    ∙ ap (sum_by cost) (range-parts 0 count extra)
-    ∙ sum_by-append cost (range_with_len 0 count) (range_with_len (0 + count) extra) in
-    let none = sum-zeros cost (0 + count) extra (λ stack low. cost-none old (ignores new names) events k stack (omega arith) held) in
-    let whole = sum-map cost (range_with_len 0 (length new.nodes + 1)) in
-    let first = sum-map cost (range_with_len 0 count) in
-    let same = ap sum (map-same cost (cost_at (ignores old names) events k) 0 count (λ n low high. cost-same old new names events k n more (omega arith))) in
-    omega arith
-
--- the costs of the peak stay those of its place
-costs_at-grown : (names : FunctionNames) (old new : TableState) (events : List Event) (place : ℕ) (peak : List ℕ) → Continues old new → AllByRecursion (IsOfStack old) events
-    → AreCostsAt names old events place peak → AreCostsAt names new events place peak
-costs_at-grown names old new events place peak more held was = record { each = λ stack. same stack (cases_lt (length old.nodes) stack) ∙ was.each stack } where
-  same : (stack : ℕ) → (length old.nodes < stack) ⊎ (stack ≤ length old.nodes) → cost_at (ignores new names) events place stack ≡ cost_at (ignores old names) events place stack
-  same stack (inl above) = cost-none old (ignores new names) events place stack above held ∙ sym (cost-none old (ignores old names) events place stack above held)
-  same stack (inr below) = cost-same old new names events place stack more below
+-- what changes say of a place stays what stacks cost there
+costs_at-grown : (names : FunctionNames) (old new : TableState) (events : List Event) (place : ℕ) (changes : List Change) → Continues old new → AllByRecursion (IsOfStack old) events
+    → AreCostsAt names old events place changes → AreCostsAt names new events place changes
+costs_at-grown names old new events place changes more held was = record { each = λ stack. cost-grown names old new events place stack more held ∙ was.each stack }
 
 -- and the lists are still the stacks' texts
 fronts-grown : (options : MassifOptions) (names : FunctionNames) (old new : TableState) (fronts : List (List (List ℕ))) → Continues old new → AreFronts options names old fronts → AreFronts options names new fronts
@@ -241,24 +187,15 @@ fronts-grown options names old new fronts more was = record {
       (λ n low high. ap (λ (texts : List (List ℕ)). take (options.depth + 1) texts) (sym (texts-same old new names.alloc_fns n more (let within = was.held in omega arith))));
 }
 
-tree_at-grown : (options : MassifOptions) (names : FunctionNames) (old new : TableState) (events : List Event) (place : ℕ) (peak : List ℕ) (kind : Kind) (tree : List TreeLine) → Continues old new → AllByRecursion (IsOfStack old) events
-    → WhereTree kind (IsTreeAt options names old events place tree) (AreCostsAt names old events place peak) → WhereTree kind (IsTreeAt options names new events place tree) (AreCostsAt names new events place peak)
-tree_at-grown options names old new events place peak kind tree more held is = by_kind kind is
-  where
-    is_tree : IsTreeAt options names old events place tree → IsTreeAt options names new events place tree
-    is_tree was = record {
-      tree_is = was.tree_is ∙ sym (tree-grown options names old new events place more held);
-      costs = subst (λ (n : ℕ). n ≤ 2 ^ 62) (sym (sum-grown names old new events place more held)) was.costs;
-    }
+where-grown : (names : FunctionNames) (old new : TableState) (events : List Event) (place : ℕ) (changes : List Change) (kind : Kind) → Continues old new → AllByRecursion (IsOfStack old) events
+    → WhereTree kind (AreCostsAt names old events place changes) → WhereTree kind (AreCostsAt names new events place changes)
+where-grown names old new events place changes Normal more held was = tt
+where-grown names old new events place changes Detailed more held was = costs_at-grown names old new events place changes more held was
+where-grown names old new events place changes Peak more held was = costs_at-grown names old new events place changes more held was
 
-    by_kind : (kind : Kind) → WhereTree kind (IsTreeAt options names old events place tree) (AreCostsAt names old events place peak) → WhereTree kind (IsTreeAt options names new events place tree) (AreCostsAt names new events place peak)
-    by_kind Normal was = tt
-    by_kind Detailed was = is_tree was
-    by_kind Peak was = costs_at-grown names old new events place peak more held was
-
-snapshot-grown : (options : MassifOptions) (names : FunctionNames) (old new : TableState) (events : List Event) (peak : List ℕ) (entry : SnapEntry) (load : Load) → Continues old new → AllByRecursion (IsOfStack old) events
-    → IsSnapshot options names old events peak entry load → IsSnapshot options names new events peak entry load
-snapshot-grown options names old new events peak entry load more held was =
+snapshot-grown : (options : MassifOptions) (names : FunctionNames) (old new : TableState) (events : List Event) (changes : List Change) (entry : SnapEntry) (load : Load) → Continues old new → AllByRecursion (IsOfStack old) events
+    → IsSnapshot options names old events changes entry load → IsSnapshot options names new events changes entry load
+snapshot-grown options names old new events changes entry load more held was =
     let agree = agree-all old new names events more held in
     record {
       place = was.place;
@@ -266,7 +203,7 @@ snapshot-grown options names old new events peak entry load more held was =
       total = was.total ∙ gross_at-same options (ignores old names) (ignores new names) events entry.place agree;
       heap = was.heap ∙ heap_at-same (ignores old names) (ignores new names) events entry.place agree;
       extra = was.extra;
-      tree = tree_at-grown options names old new events entry.place peak entry.kind load.tree more held was.tree;
+      tree = where-grown names old new events entry.place changes entry.kind more held was.tree;
     }
 
 stack-grown : (old new : TableState) (e : Event) → Continues old new → IsOfStack old e → IsOfStack new e
@@ -286,10 +223,14 @@ stands-grown flags samples names old new events more stands =
         stacks = λ k event is. stack-grown old new event more (stands.sampling.stacks k event is);
         figures = figures-same samples.options (ignores old names) (ignores new names) events samples.running agree stands.sampling.figures;
         array = subst (λ (os : List Offer). array.StandsFor samples.array os) (offers-same samples.options (ignores old names) (ignores new names) events agree) stands.sampling.array;
-        snapshots = λ k entry load is_entry is_load. snapshot-grown samples.options names old new events samples.peak entry load more held (stands.sampling.snapshots k entry load is_entry is_load);
+        snapshots = λ k entry load is_entry is_load. snapshot-grown samples.options names old new events samples.history.changes entry load more held (stands.sampling.snapshots k entry load is_entry is_load);
         going = stands.sampling.going;
         fronts = fronts-grown samples.options names old new samples.fronts more stands.sampling.fronts;
-        peak_within = stands.sampling.peak_within;
+        told = record {
+          unmarked = λ stack place unmarked late.
+              stands.sampling.told.unmarked stack place unmarked late ∙ sym (cost-grown names old new events (event_count events) stack more held);
+        };
+        told_within = stands.sampling.told_within;
       };
       some = stands.some;
     }

@@ -11,5 +11,4 @@ pub mod Standing
 pub mod Judging
 pub mod Agreeing
 pub mod Growing
-pub mod Peaks
-pub mod AtPeak
+pub mod AtPlace

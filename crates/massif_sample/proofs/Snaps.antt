@@ -1,11 +1,10 @@
 -- The snapshots that are kept, where one more is offered or one more event comes.
-use Rattle.std.proofs.Common.{◌≡◌, ◌≢◌, ◌⊎◌, ℕ, ◌+◌, ◌≤◌, ◌^◌, List, ◌++◌, length, map, Bool, cond, refl, ap, sym, subst, ◌∙◌, inl, inr, arith, sum}
+use Rattle.std.proofs.Common.{◌≡◌, ◌≢◌, ◌⊎◌, ℕ, ◌+◌, ◌≤◌, List, ◌++◌, Bool, true, cond, refl, ap, sym, subst, ◌∙◌, inl, inr, arith}
 use Rattle.std.specs.Prelude.{slice_get, Option, Some, None}
-use Rattle.std.specs.List.{range_with_len}
 use Rattle.std.specs.Option.{option_map}
 use Rattle.std.proofs.lemmas.List.Sums.{sum_by-append}
 use Rattle.std.proofs.lemmas.Option.{same_Some, slice_get_within}
-use Rattle.cost_tree.specs.Costed.{costed}
+use Rattle.cost_history.specs.declared.change.Change.{Change}
 use Rattle.ht_trace.specs.TableState.{TableState}
 use Rattle.live_ledger.specs.declared.event.Event.{Event}
 use Rattle.live_ledger.specs.Events.{event_count, is_counted}
@@ -25,38 +24,35 @@ use Rattle.massif_sample.specs.declared.running.Running.{Running}
 use Rattle.massif_sample.specs.FunctionNames.{FunctionNames, ignores}
 use Rattle.massif_sample.specs.Places.{gross_at, heap_at, time_at}
 use Rattle.massif_sample.specs.Running.{AreFigures}
-use Rattle.massif_sample.specs.Snapshots.{costs_at, tree_at}
-use Rattle.massif_sample.specs.StandsFor.{AreCostsAt, AreSnapshots, IsSnapshot, IsTreeAt, WhereTree}
+use Rattle.massif_sample.specs.Snapshots.{shows_tree}
+use Rattle.massif_sample.specs.StandsFor.{AreCostsAt, AreSnapshots, IsSnapshot, WhereTree}
 use Rattle.massif_sample.specs.HeapTotals.{gross_total, heap_total}
-use Rattle.massif_sample.specs.Options.{tree_options}
 use Rattle.massif_sample.specs.Times.{time_of}
-use Rattle.massif_tree.specs.FunctionLists.{trimmed_lists}
-use Rattle.massif_tree.specs.MassifTree.{massif_tree}
 use Rattle.massif_sample.proofs.Figures.{gross-now, heap-now}
 use Rattle.massif_sample.proofs.UpTo.{up_to-front}
 
 -- a peak that became normal has the figures that it had
-pub ended : (options : MassifOptions) (names : FunctionNames) (tables : TableState) (events : List Event) (peak : List ℕ) (entry : SnapEntry) (load : Load)
-    → IsSnapshot options names tables events peak entry load → IsSnapshot options names tables events peak (end_peak entry) load
-ended options names tables events peak entry load is =
+pub ended : (options : MassifOptions) (names : FunctionNames) (tables : TableState) (events : List Event) (changes : List Change) (entry : SnapEntry) (load : Load)
+    → IsSnapshot options names tables events changes entry load → IsSnapshot options names tables events changes (end_peak entry) load
+ended options names tables events changes entry load is =
     record { place = is.place; time = is.time; total = is.total; heap = is.heap; extra = is.extra; tree = by_kind entry.kind is.tree }
   where
-    by_kind : (k : Kind) → WhereTree k (IsTreeAt options names tables events entry.place load.tree) (AreCostsAt names tables events entry.place peak) → WhereTree (end_peak (record entry { kind = k })).kind (IsTreeAt options names tables events entry.place load.tree) (AreCostsAt names tables events entry.place peak)
+    by_kind : (k : Kind) → WhereTree k (AreCostsAt names tables events entry.place changes) → WhereTree (end_peak (record entry { kind = k })).kind (AreCostsAt names tables events entry.place changes)
     by_kind kind.Normal tree = tree
     by_kind kind.Detailed tree = tree
     by_kind kind.Peak tree = tt
 
 -- the snapshot of the present place
-pub here : (options : MassifOptions) (names : FunctionNames) (tables : TableState) (events : List Event) (running : Running) (offer : Offer) (taken : Taken) (peak : List ℕ) (load : Load)
+pub here : (options : MassifOptions) (names : FunctionNames) (tables : TableState) (events : List Event) (running : Running) (offer : Offer) (taken : Taken) (changes : List Change) (load : Load)
     → AreFigures options (ignores tables names) events running
     → offer.place ≡ running.place
     → offer.time ≡ running.time
     → offer.total ≡ running.gross
     → load.heap ≡ running.heap
     → load.heap + load.extra ≡ running.gross
-    → WhereTree (kind_of taken) (IsTreeAt options names tables events (event_count events) load.tree) (AreCostsAt names tables events (event_count events) peak)
-    → IsSnapshot options names tables events peak (entry_of offer (kind_of taken)) load
-here options names tables events running offer taken peak load figures place time total heap extra tree =
+    → WhereTree (kind_of taken) (AreCostsAt names tables events (event_count events) changes)
+    → IsSnapshot options names tables events changes (entry_of offer (kind_of taken)) load
+here options names tables events running offer taken changes load figures place time total heap extra tree =
     let at : offer.place ≡ event_count events = place ∙ figures.place in
     record {
       place = omega arith;
@@ -64,76 +60,59 @@ here options names tables events running offer taken peak load figures place tim
       total = total ∙ gross-now options (ignores tables names) events running figures ∙ ap (gross_at options (ignores tables names) events) (sym at);
       heap = heap ∙ heap-now options (ignores tables names) events running figures ∙ ap (heap_at (ignores tables names) events) (sym at);
       extra = extra ∙ sym total;
-      tree = subst (λ (k : ℕ). WhereTree (kind_of taken) (IsTreeAt options names tables events k load.tree) (AreCostsAt names tables events k peak)) (sym at) tree;
+      tree = subst (λ (k : ℕ). WhereTree (kind_of taken) (AreCostsAt names tables events k changes)) (sym at) tree;
     }
 
--- a snapshot stays one where another peak is known, whose costs serve it too
-repeaked : (options : MassifOptions) (names : FunctionNames) (tables : TableState) (events : List Event) (old new : List ℕ) (entry : SnapEntry) (load : Load)
-    → (entry.kind ≡ kind.Peak → AreCostsAt names tables events entry.place old → AreCostsAt names tables events entry.place new)
+-- a snapshot stays one where other changes say the same of its place, if it has a tree
+pub retold : (options : MassifOptions) (names : FunctionNames) (tables : TableState) (events : List Event) (old new : List Change) (entry : SnapEntry) (load : Load)
+    → (shows_tree entry.kind ≡ true → AreCostsAt names tables events entry.place old → AreCostsAt names tables events entry.place new)
     → IsSnapshot options names tables events old entry load
     → IsSnapshot options names tables events new entry load
-repeaked options names tables events old new entry load serves is =
+retold options names tables events old new entry load serves is =
     record { place = is.place; time = is.time; total = is.total; heap = is.heap; extra = is.extra; tree = by_kind entry.kind refl is.tree }
   where
-    by_kind : (k : Kind) → entry.kind ≡ k → WhereTree k (IsTreeAt options names tables events entry.place load.tree) (AreCostsAt names tables events entry.place old)
-        → WhereTree k (IsTreeAt options names tables events entry.place load.tree) (AreCostsAt names tables events entry.place new)
+    by_kind : (k : Kind) → entry.kind ≡ k → WhereTree k (AreCostsAt names tables events entry.place old) → WhereTree k (AreCostsAt names tables events entry.place new)
     by_kind kind.Normal same tree = tt
-    by_kind kind.Detailed same tree = tree
-    by_kind kind.Peak same costs = serves same costs
+    by_kind kind.Detailed same tree = serves (ap shows_tree same) tree
+    by_kind kind.Peak same tree = serves (ap shows_tree same) tree
 
 -- the snapshots after an offer
 pub snapshots-offered :
-    (options : MassifOptions) (names : FunctionNames) (tables : TableState) (events : List Event) (old_peak new_peak : List ℕ) (earlier : List SnapEntry) (earlier_loads : List Load) (offer : Offer) (load : Load) (taken : Taken) (entries : List SnapEntry) (loads : List Load)
-    → AreSnapshots options names tables events old_peak earlier earlier_loads
-    → (taken ≢ No → IsSnapshot options names tables events new_peak (entry_of offer (kind_of taken)) load)
-    → ((k : ℕ) (entry : SnapEntry) → slice_get entries k ≡ Some entry → entry.kind ≡ kind.Peak → AreCostsAt names tables events entry.place old_peak → AreCostsAt names tables events entry.place new_peak)
+    (options : MassifOptions) (names : FunctionNames) (tables : TableState) (events : List Event) (changes : List Change) (earlier : List SnapEntry) (earlier_loads : List Load) (offer : Offer) (load : Load) (taken : Taken) (entries : List SnapEntry) (loads : List Load)
+    → AreSnapshots options names tables events changes earlier earlier_loads
+    → (taken ≢ No → IsSnapshot options names tables events changes (entry_of offer (kind_of taken)) load)
     → ComeFrom earlier earlier_loads offer load taken entries loads
-    → AreSnapshots options names tables events new_peak entries loads
-snapshots-offered options names tables events old_peak new_peak earlier earlier_loads offer load taken entries loads was is serves from =
+    → AreSnapshots options names tables events changes entries loads
+snapshots-offered options names tables events changes earlier earlier_loads offer load taken entries loads was is from =
     λ k entry held at beside. by_origin k entry held at beside (from.each k (slice_get_within entries k entry at))
   where
-    of_peak : (found : Option SnapEntry) (j : ℕ) (entry : SnapEntry) (held : Load) → slice_get earlier j ≡ found → option_map end_peak found ≡ Some entry → slice_get earlier_loads j ≡ Some held → IsSnapshot options names tables events old_peak entry held
+    of_peak : (found : Option SnapEntry) (j : ℕ) (entry : SnapEntry) (held : Load) → slice_get earlier j ≡ found → option_map end_peak found ≡ Some entry → slice_get earlier_loads j ≡ Some held → IsSnapshot options names tables events changes entry held
     of_peak None j entry held at ends beside = absurd (cc)
     of_peak (Some old) j entry held at ends beside =
-        subst (λ (e : SnapEntry). IsSnapshot options names tables events old_peak e held) (same_Some (end_peak old) entry ends) (ended options names tables events old_peak old held (was j old held at beside))
+        subst (λ (e : SnapEntry). IsSnapshot options names tables events changes e held) (same_Some (end_peak old) entry ends) (ended options names tables events changes old held (was j old held at beside))
 
     by_origin : (k : ℕ) (entry : SnapEntry) (held : Load) → slice_get entries k ≡ Some entry → slice_get loads k ≡ Some held
-        → WasHeld earlier earlier_loads entries loads k ⊎ IsOffered offer load taken entries loads k → IsSnapshot options names tables events new_peak entry held
+        → WasHeld earlier earlier_loads entries loads k ⊎ IsOffered offer load taken entries loads k → IsSnapshot options names tables events changes entry held
     by_origin k entry held at beside (inl (j, inside, origin)) =
         let load_was : slice_get earlier_loads j ≡ Some held = sym origin.1 ∙ beside in
-        repeaked options names tables events old_peak new_peak entry held (serves k entry at)
-        (elim origin.0 [
+        elim origin.0 [
           | inl same ↦ was j entry held (sym same ∙ at) load_was
           | inr peak ↦ of_peak (slice_get earlier j) j entry held refl (sym peak ∙ at) load_was
-        ])
+        ]
     by_origin k entry held at beside (inr (some, new, new_load)) =
         let entry_is : entry_of offer (kind_of taken) ≡ entry = same_Some (entry_of offer (kind_of taken)) entry (sym new ∙ at) in
         let load_is : load ≡ held = same_Some load held (sym new_load ∙ beside) in
-        subst (λ (l : Load). IsSnapshot options names tables events new_peak entry l) load_is
-        (subst (λ (e : SnapEntry). IsSnapshot options names tables events new_peak e load) entry_is (is some))
+        subst (λ (l : Load). IsSnapshot options names tables events changes entry l) load_is
+        (subst (λ (e : SnapEntry). IsSnapshot options names tables events changes e load) entry_is (is some))
 
 -- a place that was passed stays one
 pub count-front : (events more : List Event) → event_count events ≤ event_count (events ++ more)
 count-front events more = let both = sum_by-append (λ (e : Event). cond {A = ℕ} (is_counted e) 1 0) events more in omega arith
 
--- the costs and the tree of a place that was passed stay
-costs-front : (stacks : ℕ) (ignored : ℕ → Bool) (events more : List Event) (k : ℕ) → k ≤ event_count events → costs_at stacks ignored (events ++ more) k ≡ costs_at stacks ignored events k
-unfolding costs_at
-costs-front stacks ignored events more k within =
-    ap (λ (es : List Event). map (λ (stack : ℕ). cond {A = ℕ} (ignored stack) 0 (live_in stack es)) (range_with_len 0 stacks)) (up_to-front k events more within)
-
-tree-front : (options : MassifOptions) (names : FunctionNames) (tables : TableState) (events more : List Event) (k : ℕ) → k ≤ event_count events → tree_at options names tables (events ++ more) k ≡ tree_at options names tables events k
-unfolding tree_at
-tree-front options names tables events more k within =
-    ap (λ (t : ℕ). massif_tree (tree_options options) t (costed (trimmed_lists tables names.alloc_fns) (costs_at (length tables.nodes + 1) (ignores tables names) (events ++ more) k)))
-    (ap (gross_total options (ignores tables names)) (up_to-front k events more within))
-    ∙ ap (λ (costs : List ℕ). massif_tree (tree_options options) (gross_at options (ignores tables names) events k) (costed (trimmed_lists tables names.alloc_fns) costs))
-    (costs-front (length tables.nodes + 1) (ignores tables names) events more k within)
-
 -- a snapshot stays one when more events come
-pub snapshot-front : (options : MassifOptions) (names : FunctionNames) (tables : TableState) (events more : List Event) (peak : List ℕ) (entry : SnapEntry) (load : Load)
-    → IsSnapshot options names tables events peak entry load → IsSnapshot options names tables (events ++ more) peak entry load
-snapshot-front options names tables events more peak entry load is =
+pub snapshot-front : (options : MassifOptions) (names : FunctionNames) (tables : TableState) (events more : List Event) (changes : List Change) (entry : SnapEntry) (load : Load)
+    → IsSnapshot options names tables events changes entry load → IsSnapshot options names tables (events ++ more) changes entry load
+snapshot-front options names tables events more changes entry load is =
     let same = up_to-front entry.place events more is.place in
     record {
       place = let count = count-front events more in let within = is.place in omega arith;
@@ -144,19 +123,12 @@ snapshot-front options names tables events more peak entry load is =
       tree = by_kind entry.kind is.tree;
     }
   where
-    there : IsTreeAt options names tables events entry.place load.tree → IsTreeAt options names tables (events ++ more) entry.place load.tree
-    there at = record {
-      tree_is = at.tree_is ∙ sym (tree-front options names tables events more entry.place is.place);
-      costs = subst (λ (cs : List ℕ). sum cs ≤ 2 ^ 62) (sym (costs-front (length tables.nodes + 1) (ignores tables names) events more entry.place is.place)) at.costs;
-    }
-
-    same_costs : AreCostsAt names tables events entry.place peak → AreCostsAt names tables (events ++ more) entry.place peak
+    same_costs : AreCostsAt names tables events entry.place changes → AreCostsAt names tables (events ++ more) entry.place changes
     same_costs at = record {
       each = λ stack. ap (λ (es : List Event). cond {A = ℕ} (ignores tables names stack) 0 (live_in stack es)) (up_to-front entry.place events more is.place) ∙ at.each stack;
     }
 
-    by_kind : (k : Kind) → WhereTree k (IsTreeAt options names tables events entry.place load.tree) (AreCostsAt names tables events entry.place peak)
-        → WhereTree k (IsTreeAt options names tables (events ++ more) entry.place load.tree) (AreCostsAt names tables (events ++ more) entry.place peak)
+    by_kind : (k : Kind) → WhereTree k (AreCostsAt names tables events entry.place changes) → WhereTree k (AreCostsAt names tables (events ++ more) entry.place changes)
     by_kind kind.Normal tree = tt
-    by_kind kind.Detailed tree = there tree
+    by_kind kind.Detailed costs = same_costs costs
     by_kind kind.Peak costs = same_costs costs

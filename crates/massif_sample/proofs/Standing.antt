@@ -35,7 +35,7 @@ use Rattle.massif_sample.specs.Times.{time_of}
 use Rattle.massif_sample.proofs.Figures.{figures-tick}
 use Rattle.massif_sample.proofs.GrossSizes.{gross-least, some-alignment}
 use Rattle.massif_sample.proofs.Offers.{offer-front, offers-event, offers-tick}
-use Rattle.massif_sample.proofs.Sampling.{sampling-moved}
+use Rattle.massif_sample.proofs.Sampling.{sampling-passed}
 use Rattle.massif_sample.proofs.UpTo.{count-more, up_to-all}
 
 -- what was judged of a stack is whether it's ignored
@@ -61,7 +61,7 @@ pub stands-passed :
 stands-passed flags samples names tables events event is none of_stack figures stands =
     let next : SamplesState = record samples { running = passed samples.options samples.running } in
     let ignored : ℕ → Bool = ignores tables names in
-    let moved = sampling-moved samples names tables events (offers samples.options ignored events) event (passed samples.options samples.running) stands.sampling of_stack figures in
+    let moved = sampling-passed samples names tables events (offers samples.options ignored events) event (passed samples.options samples.running) stands.sampling of_stack none figures in
     let same : offers samples.options ignored (events ++ event ∷ []) ≡ offers samples.options ignored events =
     offers-event samples.options ignored events event is
     ∙ ap (λ (os : List Offer). offers samples.options ignored events ++ os) (offers-of samples.options ignored (events ++ event ∷ []) event (event_count events) false (is_free event) none refl)
@@ -82,7 +82,7 @@ stands-tick flags samples names tables events ms stands =
       judged = stands.judged;
       held = stands.held;
       sampling = subst (λ (os : List Offer). IsSampling (record samples { running = ticked samples.running ms }) names tables (events ++ Tick ms ∷ []) os) (sym (offers-tick samples.options ignored events ms))
-          (sampling-moved samples names tables events (offers samples.options ignored events) (Tick ms) (ticked samples.running ms) stands.sampling tt (figures-tick samples.options ignored events samples.running ms stands.sampling.figures));
+          (sampling-passed samples names tables events (offers samples.options ignored events) (Tick ms) (ticked samples.running ms) stands.sampling tt refl (figures-tick samples.options ignored events samples.running ms stands.sampling.figures));
       some = stands.some;
     }
 

@@ -1,6 +1,6 @@
 -- The tree of the present place, and when one is taken.
 use Rattle.std.proofs.Common.{◌≡◌, ◌≢◌, ℕ, ◌+◌, ◌≤◌, ◌^◌, List, length, Bool, true, false, cond, sum, refl, ap, subst, ◌∙◌}
-use Rattle.std.specs.Prelude.{◌==◌, ◌%◌, nat_le, nat_lt, Result, Ok, Err, OnErr, OnOk}
+use Rattle.std.specs.Prelude.{◌==◌, ◌%◌, nat_le, nat_lt, Result, Ok, Err, IfOk, OnErr, OnOk}
 use Rattle.cost_tree.specs.Costed.{costed}
 use Rattle.ht_trace.specs.TableState.{TableState}
 use Rattle.live_ledger.specs.declared.event.Event.{Event}
@@ -21,28 +21,6 @@ use Rattle.massif_sample.specs.Options.{tree_options}
 use Rattle.massif_sample.specs.Places.{gross_at}
 use Rattle.massif_sample.specs.Running.{AreFigures}
 use Rattle.massif_sample.specs.Snapshots.{costs_at, tree_at}
-use Rattle.massif_sample.specs.StandsFor.{IsTreeAt}
-use Rattle.massif_sample.proofs.Figures.{gross-now}
-
--- the tree of what the stacks cost now, of the texts of all of them
-pub tree-here :
-    (options : MassifOptions) (names : FunctionNames) (tables : TableState) (events : List Event) (running : Running) (costs : List ℕ) (tree : List TreeLine) (count total : ℕ)
-    → AreFigures options (ignores tables names) events running
-    → total ≡ running.gross
-    → count ≡ length tables.nodes + 1
-    → tree ≡ massif_tree (tree_options options) total (costed (trimmed_before tables names.alloc_fns count) costs)
-    → costs ≡ costs_at (length tables.nodes + 1) (ignores tables names) events (event_count events)
-    → sum costs ≤ 2 ^ 62
-    → IsTreeAt options names tables events (event_count events) tree
-unfolding tree_at trimmed_before trimmed_lists
-tree-here options names tables events running costs tree count total figures total_is count_is is costs_are bound = record {
-  tree_is =
-      is
-      ∙ ap (λ (n : ℕ). massif_tree (tree_options options) total (costed (trimmed_before tables names.alloc_fns n) costs)) count_is
-      ∙ ap (λ (t : ℕ). massif_tree (tree_options options) t (costed (trimmed_lists tables names.alloc_fns) costs)) (total_is ∙ gross-now options (ignores tables names) events running figures)
-      ∙ ap (λ (cs : List ℕ). massif_tree (tree_options options) (gross_at options (ignores tables names) events (event_count events)) (costed (trimmed_lists tables names.alloc_fns) cs)) costs_are;
-  costs = subst (λ (cs : List ℕ). sum cs ≤ 2 ^ 62) costs_are bound;
-}
 
 -- what is taken, and not as a normal snapshot, has a tree: a peak where it was offered as one, and else it is detailed
 pub taken-with_tree : (settings : Settings) (kept : Kept) (offer : Offer) (taken : Taken) → taken ≡ taken_as settings kept offer → taken ≢ No → taken ≢ Normal → taken_as settings kept offer ≡ with_tree offer.peak
@@ -59,13 +37,6 @@ taken-with_tree settings kept offer taken is some no_normal =
     by_tests false above true true some no_normal = refl
     by_tests false above true false some no_normal = absurd (no_normal refl)
     by_tests false above false freq some no_normal = absurd (some refl)
-
--- one that isn't a peak either is detailed
-pub taken-detailed : (taken : Taken) → taken ≢ No → taken ≢ Normal → taken ≢ Peak → taken ≡ Detailed
-taken-detailed No some no_normal no_peak = absurd (some refl)
-taken-detailed Normal some no_normal no_peak = absurd (no_normal refl)
-taken-detailed Detailed some no_normal no_peak = refl
-taken-detailed Peak some no_normal no_peak = absurd (no_peak refl)
 
 -- what holds holds at an error too
 pub at_err : {T E : Type 0} (r : Result T E) {P : Type 0} → P → OnErr r P
@@ -85,3 +56,8 @@ both_ok (Err error) f p q = tt
 -- what holds at an error holds where there is one
 pub of_err : {T E : Type 0} (r : Result T E) (error : E) {P : Type 0} → r ≡ Err error → OnErr r P → P
 of_err {T} {E} r error {P} is p = subst (λ (x : Result T E). OnErr x P) is p
+
+-- a fact at an answer, and one of the answer
+pub both_if_ok : {T E : Type 0} (r : Result T E) {P : Type 0} (Q R : T → Type 0) → ((answer : T) → P → Q answer → R answer) → OnOk r P → IfOk r Q → IfOk r R
+both_if_ok (Ok answer) Q R f p q = f answer p q
+both_if_ok (Err error) Q R f p q = tt

@@ -1,12 +1,7 @@
 -- What the stacks of a ledger cost.
-use Rattle.std.specs.Prelude.{ℕ, Bool, false, List, map, slice_index_or, if◌then◌else◌}
-use Rattle.std.specs.List.{range_with_len}
+use Rattle.std.specs.Prelude.{ℕ, Bool, false, List, slice_index_or, if◌then◌else◌}
 use Rattle.live_ledger.specs.LedgerState.{LedgerState, figures_at}
 
 -- a stack's live bytes, and 0 where it is ignored
 abbrev pub live_cost : List Bool → LedgerState → ℕ → ℕ
 live_cost judged ledger stack = if slice_index_or judged stack false then 0 else (figures_at ledger stack).live
-
--- those of all stacks, by their numbers
-unfoldable pub live_costs : List Bool → LedgerState → List ℕ
-live_costs judged ledger = map (live_cost judged ledger) (range_with_len 0 ledger.stacks)

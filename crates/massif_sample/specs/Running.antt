@@ -79,6 +79,7 @@ TimeFits Instructions running = running.time ≤ 2 ^ 62
 
 -- what is true of the figures after any events
 pub record AreSound (options : MassifOptions) (running : Running) : Type 0 where
+  pub place_most : running.place ≤ 2 ^ 32
   pub gross_most : running.gross ≤ 2 ^ 62
   pub heap_within : running.heap ≤ running.gross
   pub time : TimeFits options.unit running
@@ -89,8 +90,9 @@ pub record HasBlock (options : MassifOptions) (running : Running) (size : ℕ) :
   pub gross_within : gross options size ≤ running.gross
   pub extra : running.heap + gross options size ≤ running.gross + size
 
--- the figures are sound, and no time falls or passes 2^62
+-- the figures are sound, no place or time falls, and no time passes 2^62
 pub record Follows (options : MassifOptions) (running next : Running) : Type 0 where
   pub sound : AreSound options next
+  pub farther : running.place ≤ next.place
   pub later : running.time ≤ next.time
   pub within : next.time ≤ 2 ^ 62

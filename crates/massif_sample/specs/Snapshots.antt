@@ -1,5 +1,5 @@
 -- What a kept snapshot shows.
-use Rattle.std.specs.Prelude.{ℕ, ◌+◌, ◌-◌, Bool, List, [], length, map, if◌then◌else◌}
+use Rattle.std.specs.Prelude.{ℕ, ◌+◌, ◌-◌, Bool, true, false, List, [], length, map, if◌then◌else◌}
 use Rattle.std.specs.List.{range_with_len}
 use Rattle.cost_tree.specs.Costed.{costed}
 use Rattle.ht_trace.specs.TableState.{TableState}
@@ -55,3 +55,9 @@ snap_of options names tables events entry = record {
   mark = mark_of entry.kind;
   tree = tree_of entry.kind (tree_at options names tables events entry.place);
 }
+
+-- whether a snapshot of the kind has a tree
+abbrev pub shows_tree : Kind → Bool
+shows_tree kind.Normal = false
+shows_tree kind.Detailed = true
+shows_tree kind.Peak = true

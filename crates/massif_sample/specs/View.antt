@@ -1,5 +1,6 @@
 -- How contracts see the fields of samples.
 use Rattle.std.specs.Prelude.{ℕ, Bool, List}
+use Rattle.cost_history.specs.HistoryState.{HistoryState}
 use Rattle.massif_cull.specs.declared.snapshot.Offer.{Offer}
 use Rattle.massif_cull.specs.ArrayState.{ArrayState}
 use Rattle.massif_sample.specs.declared.load.Load.{Load}
@@ -7,14 +8,14 @@ use Rattle.massif_sample.specs.declared.options.MassifOptions.{MassifOptions}
 use Rattle.massif_sample.specs.declared.running.Running.{Running}
 use Rattle.massif_sample.specs.SamplesState.{SamplesState}
 
-abbrev pub state_of : MassifOptions → Running → ArrayState Load → Bool → List (List (List ℕ)) → List ℕ → SamplesState
-state_of options running array failed fronts peak = record {
+abbrev pub state_of : MassifOptions → Running → ArrayState Load → Bool → List (List (List ℕ)) → HistoryState → SamplesState
+state_of options running array failed fronts history = record {
   options = options;
   running = running;
   array = array;
   failed = failed;
   fronts = fronts;
-  peak = peak;
+  history = history;
 }
 
 -- the offer of a snapshot with these figures

@@ -8,25 +8,26 @@
 //! - `new` takes account of the stacks of the tables and takes the snapshot of place 0. `stack` takes account of the
 //!   next stack, which is judged once. `event` applies an event to the ledger and, where its stack isn't ignored,
 //!   offers the peak before a free and the normal snapshot behind the event. `finish` gives `sampled`, the profile of
-//!   the events, whose trees are handed out.
+//!   the events.
 //! - An event costs a few additions and takes no memory unless a detailed snapshot or a peak is due. `NoMemory` comes
-//!   only where one is (`IsDue`), and from then on; the other faults are the ledger's, and that the gross bytes or the
-//!   time of a counted event pass 2^62 (`sample_fault`), and leave sampler and ledger as they were.
+//!   only where one is (`IsDue`), then for every later event, and of `finish` (`failed`); the other faults are the
+//!   ledger's, and that the gross bytes or the time of a counted event pass 2^62 (`sample_fault`), and leave sampler
+//!   and ledger as they were.
 //! - The law `sampling_goes_on` says that a sampler stands for the same events when its tables have grown, so that a
 //!   caller may read a trace line by line beside it.
 //!
-//! An event is judged first, then the texts of the stacks are made that came since the last such one, then a detailed
-//! tree is built of the ledger as it stands, and of a peak what each stack costs is kept. Only `finish` builds the
-//! peak's tree, since nearly every peak is followed by a greater one; the stacks that came later cost nothing there,
-//! and a tree can't tell. The tests of these calls are in the crate `massif_tests`.
+//! An event marks its stack. Where a detailed snapshot or a peak is due, the texts of the stacks are made that came
+//! since the last such one, and a `CostHistory` notes what the marked stacks cost. No tree is built while events pass:
+//! nearly every peak is followed by a greater one, and most detailed snapshots are dropped. `finish` replays the
+//! history and builds the trees of the snapshots that are left; the stacks that came later cost nothing there, and a
+//! tree can't tell. The tests of these calls are in the crate `massif_tests`.
 //!
 //! | File | Does |
 //! |---|---|
 //! | `sampler.rt`, `taking.rt` | the sampler; how one event is taken |
 //! | `running.rt` | the figures that grow with each event |
-//! | `samples.rt`, `load.rt` | the snapshots that are kept, and what each shows beside its time and its total |
-//! | `peak_costs.rt` | what each stack cost at the last peak |
-//! | `profile.rt` | the profile that the kept snapshots make |
+//! | `samples.rt`, `load.rt` | the snapshots that are kept and what their stacks cost; what each shows beside its time and its total |
+//! | `profile.rt`, `place_tree.rt` | the profile that the kept snapshots make; the tree of one of them |
 //! | `options.rt`, `fault.rt` | what is asked; why an event isn't taken |
 //! | `laws.rt` | the law |
 #![tactic(auto)]
@@ -35,7 +36,7 @@ mod fault;
 mod laws;
 mod load;
 mod options;
-mod peak_costs;
+mod place_tree;
 mod profile;
 mod running;
 mod sampler;

@@ -3,12 +3,13 @@ ghost use Rattle.std.specs.Prelude.{◌≡◌, ℕ, ◌+◌, ◌++◌, List, len
 ghost use Rattle.ht_trace.specs.TableState.{TableState};
 ghost use Rattle.massif_file.specs.Blanks.{without_blanks};
 ghost use Rattle.massif_tree.specs.FirstLists.{first_lists};
-ghost use Rattle.massif_sample.specs.Made.{all_made, made, made_tree, peak_stacks};
+ghost use Rattle.massif_sample.specs.Made.{all_made, made, told_tree};
 ghost use Rattle.massif_sample.specs.Sampled.{description, shown_command};
-ghost use Rattle.massif_sample.specs.Snapshots.{mark_of};
+ghost use Rattle.massif_sample.specs.Snapshots.{mark_of, tree_of};
 
 use crate::load::Load;
-use crate::peak_costs::PeakCosts;
+use crate::place_tree::place_tree;
+use cost_history::Replay;
 use cost_tree::Fronts;
 use hp_num::{NoMemory, Text};
 use massif_cull::{Kind, SnapArray, SnapEntry};
@@ -16,46 +17,46 @@ use massif_file::{HeapTree, Snap, Snaps, Tree};
 use massif_tree::TreeOptions;
 use std::alloc::Global;
 
-/// The snapshots of an array, which it hands out, with the peak's tree over the stacks' lists, or `NoMemory`.
+/// The snapshots of an array, which it hands out, with the trees of their places over the stacks' lists, or `NoMemory`.
 pub(crate) fn take_snaps(
     alloc: Global,
     array: &mut SnapArray<Load>,
     fronts: &Fronts,
-    peak: &PeakCosts,
+    replay: &mut Replay,
     options: &TreeOptions,
 ) -> Result<Snaps, NoMemory>
     ensures { IfOk result (λ snaps. (tables : TableState) (names : List (List ℕ)) → fronts.now ≡ first_lists tables names (options.now.depth + 1) (length fronts.now) →
-        snaps ≡ all_made (peak_stacks options.now tables names (length fronts.now) peak.now) array.old.kept.entries array.old.loads) }
+        snaps ≡ all_made (told_tree options.now tables names (length fronts.now) replay.old.changes) array.old.kept.entries array.old.loads) }
 {
     let mut snaps = Snaps::new(alloc);
     'each_snapshot: while let Some((entry, load)) = array.take_first() {
-        let snap = snapshot(alloc, &entry, load, fronts, peak, options)?;
+        let snap = snapshot(alloc, &entry, load, fronts, replay, options)?;
         snaps.push(snap)?;
     }
     Ok(snaps)
 }
 
-/// The snapshot of an entry and its load, or `NoMemory`. A peak that became a normal snapshot has no tree.
+/// The snapshot of an entry and its load, or `NoMemory`.
 fn snapshot(
     alloc: Global,
     entry: &SnapEntry,
     load: Load,
     fronts: &Fronts,
-    peak: &PeakCosts,
+    replay: &mut Replay,
     options: &TreeOptions,
 ) -> Result<Snap, NoMemory>
-    ensures { IfOk result (λ snap. (tables : TableState) (names : List (List ℕ)) → fronts.now ≡ first_lists tables names (options.now.depth + 1) (length fronts.now) →
-        snap ≡ made (peak_stacks options.now tables names (length fronts.now) peak.now) entry.now load) }
+    ensures snap { IfOk result (λ snap. (tables : TableState) (names : List (List ℕ)) → fronts.now ≡ first_lists tables names (options.now.depth + 1) (length fronts.now) →
+        snap ≡ made (told_tree options.now tables names (length fronts.now) replay.old.changes) entry.now load) }
+    ensures changes { replay.new.changes ≡ replay.old.changes }
 {
-    let Load { heap, extra, tree } = load;
-    let shown = shown_tree(alloc, entry, tree, fronts, peak, options)?;
+    let tree = shown_tree(alloc, entry, fronts, replay, options)?;
     Ok(Snap {
         time: entry.time,
-        heap,
-        extra,
+        heap: load.heap,
+        extra: load.extra,
         stacks: 0,
         mark: mark_of(entry.kind),
-        tree: shown,
+        tree,
     })
 }
 
@@ -70,24 +71,39 @@ fn mark_of(kind: Kind) -> HeapTree
     }
 }
 
-/// The tree of an entry that was taken with this one, or `NoMemory`: that of the peak is built now, and a normal snapshot
-/// has none.
+/// The tree of an entry, or `NoMemory`: that of what stacks cost at its place, and none where it's a normal one.
 fn shown_tree(
     alloc: Global,
     entry: &SnapEntry,
-    tree: Tree,
     fronts: &Fronts,
-    peak: &PeakCosts,
+    replay: &mut Replay,
     options: &TreeOptions,
 ) -> Result<Tree, NoMemory>
-    ensures { IfOk result (λ shown. (tables : TableState) (names : List (List ℕ)) → fronts.now ≡ first_lists tables names (options.now.depth + 1) (length fronts.now) →
-        shown ≡ made_tree (peak_stacks options.now tables names (length fronts.now) peak.now) entry.now.kind entry.now.total tree) }
+    ensures tree { IfOk result (λ shown. (tables : TableState) (names : List (List ℕ)) → fronts.now ≡ first_lists tables names (options.now.depth + 1) (length fronts.now) →
+        shown ≡ tree_of entry.now.kind (told_tree options.now tables names (length fronts.now) replay.old.changes entry.now)) }
+    ensures changes { replay.new.changes ≡ replay.old.changes }
 {
     match entry.kind {
         Kind::Normal => Ok(Tree::new(alloc)),
-        Kind::Detailed => Ok(tree),
-        Kind::Peak => peak.tree(alloc, fronts, options, entry.total),
+        Kind::Detailed => replayed_tree(alloc, entry, fronts, replay, options),
+        Kind::Peak => replayed_tree(alloc, entry, fronts, replay, options),
     }
+}
+
+/// The tree of what stacks cost at the entry's place, or `NoMemory`.
+fn replayed_tree(
+    alloc: Global,
+    entry: &SnapEntry,
+    fronts: &Fronts,
+    replay: &mut Replay,
+    options: &TreeOptions,
+) -> Result<Tree, NoMemory>
+    ensures tree { IfOk result (λ shown. (tables : TableState) (names : List (List ℕ)) → fronts.now ≡ first_lists tables names (options.now.depth + 1) (length fronts.now) →
+        shown ≡ told_tree options.now tables names (length fronts.now) replay.old.changes entry.now) }
+    ensures changes { replay.new.changes ≡ replay.old.changes }
+{
+    replay.move_to(entry.place);
+    place_tree(alloc, fronts, options, entry.total, replay.costs())
 }
 
 /// What a profile says of how it was made.

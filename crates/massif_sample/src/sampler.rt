@@ -1,6 +1,6 @@
 //! The sampler: it follows the events of a trace beside a ledger, and takes Massif's snapshots of it.
 //! How one event is taken is in `taking`, and what a profile says in `profile`.
-ghost use Rattle.std.specs.Prelude.{◌≡◌, ◌≢◌, ◌⊎◌, ℕ, ◌+◌, ◌^◌, ◌<◌, ◌≤◌, List, [], ◌∷◌, ◌++◌, true, false, length, Err, IfOk, IfErr, OnOk, OnErr};
+ghost use Rattle.std.specs.Prelude.{◌≡◌, ◌≢◌, ◌⊎◌, ℕ, ◌+◌, ◌^◌, ◌<◌, ◌≤◌, List, [], ◌∷◌, ◌++◌, true, false, length, Err, IfOk, IfErr, IsErr, OnOk, OnErr};
 ghost use Rattle.std.specs.Fn.{FnReturnsAt};
 ghost use Rattle.ht_trace.specs.TableState.{TableState};
 ghost use Rattle.live_ledger.specs.declared.event.Event.{Event};
@@ -19,7 +19,7 @@ use crate::fault::SampleFault;
 use crate::options::MassifOptions;
 use crate::samples::Samples;
 use crate::taking::{sample, take_event};
-use cost_tree::{Costing, FrameTest};
+use cost_tree::FrameTest;
 use hp_num::NoMemory;
 use ht_trace::{FrameAt, Tables};
 use live_ledger::{Event, Ledger};
@@ -63,9 +63,8 @@ impl<A: Fn(&[u8]) -> bool, I: Fn(&[u8]) -> bool> Sampler<A, I> {
         ensures ignore_fns { IfOk result (λ sampler. sampler.ignore_fns ≡ ignore_fns) }
     {
         let judged = judge_stacks(alloc, tables, &alloc_fns, &ignore_fns)?;
-        let mut samples = Samples::new(alloc, options)?;
-        let costing = Costing::new(tables.stacks(), |_stack: u32| 0);
-        sample(&mut samples, false, tables, &alloc_fns, &costing)?;
+        let mut samples = Samples::new(alloc, options, tables.stacks())?;
+        sample(&mut samples, false, tables, &alloc_fns, &|_stack: u32| 0)?;
         Ok(Sampler {
             judged,
             frames: Vec::new(alloc),
@@ -98,6 +97,7 @@ impl<A: Fn(&[u8]) -> bool, I: Fn(&[u8]) -> bool> Sampler<A, I> {
             &self.ignore_fns,
             &mut self.frames,
         )?;
+        self.samples.make_room()?;
         self.judged.push(ignored)?;
         Ok(())
     }
@@ -163,10 +163,11 @@ impl<A: Fn(&[u8]) -> bool, I: Fn(&[u8]) -> bool> Sampler<A, I> {
     }
 
     /// The profile of the events, with the command of a trace, which is empty where the trace has none. `NoMemory` where
-    /// memory is wanting.
+    /// memory is wanting, and always after an `event` that answered it.
     pub fn finish(self, cmd: &[u8]) -> Result<Profile, NoMemory>
         ensures profile { IfOk result (λ profile. (names : FunctionNames) (tables : TableState) (events : List Event) →
             StandsFor self.judged.items self.samples names tables events → profile ≡ sampled self.samples.options names tables events cmd.now) }
+        ensures failed { self.samples.failed ≡ true → IsErr result }
     {
         let Sampler { samples, .. } = self;
         samples.into_profile(cmd)

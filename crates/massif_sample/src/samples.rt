@@ -1,40 +1,41 @@
 //! The snapshots that are kept of a trace, with the figures that the next one would have.
 //! What a tree says, and which stacks are ignored, are no part of it.
-ghost use Rattle.std.specs.Prelude.{◌≡◌, ◌⊎◌, ℕ, ◌+◌, ◌-◌, ◌^◌, ◌<◌, ◌≤◌, List, [], ◌∷◌, ◌++◌, true, false, length, IfNone, IfOk, IfSome, OnOk};
+ghost use Rattle.std.specs.Prelude.{◌≡◌, ◌⊎◌, ℕ, ◌+◌, ◌-◌, ◌^◌, ◌<◌, ◌≤◌, List, [], ◌∷◌, ◌++◌, true, false, length, slice_get, Contains, Some, IfNone, IfOk, IfSome, IsErr, OnOk};
 ghost use Rattle.std.specs.Fn.{FnReturnsAt};
-ghost use Rattle.cost_tree.specs.Costed.{costed};
-ghost use Rattle.cost_tree.specs.Costs.{AreCosts};
+ghost use Rattle.cost_history.specs.Changes as history;
+ghost use Rattle.cost_history.specs.Marks.{candidates};
+ghost use Rattle.cost_history.specs.HistoryState.{AreSaid, IsRoomy, TellsNow, no_history};
 ghost use Rattle.cost_tree.specs.FrameTexts.{AreTexts};
 ghost use Rattle.ht_trace.specs.TableState.{TableState};
 ghost use Rattle.live_ledger.specs.declared.event.Event.{Event};
 ghost use Rattle.live_ledger.specs.Events.{event_count};
 ghost use Rattle.massif_cull.specs.declared.snapshot.Offer.{Offer};
-ghost use Rattle.massif_cull.specs.declared.snapshot.Taken.TheVariants.{Detailed, No, Normal, Peak};
+ghost use Rattle.massif_cull.specs.declared.snapshot.Taken.TheVariants.{No, Normal};
+ghost use Rattle.massif_cull.specs.declared.snapshot.SnapEntry.{SnapEntry};
 ghost use Rattle.massif_cull.specs.ArrayState as array;
 ghost use Rattle.massif_cull.specs.KeptOf.{kept_of};
 ghost use Rattle.massif_cull.specs.TakenAs.{taken_as};
 ghost use Rattle.massif_tree.specs.FirstLists.{first_lists};
-ghost use Rattle.massif_tree.specs.FunctionLists.{trimmed_before};
-ghost use Rattle.massif_tree.specs.MassifTree.{massif_tree};
-ghost use Rattle.massif_sample.specs.FunctionNames.{FunctionNames};
+ghost use Rattle.massif_sample.specs.FunctionNames.{FunctionNames, ignores};
 ghost use Rattle.massif_sample.specs.Made.{profile_made};
 ghost use Rattle.massif_sample.specs.Options.{AreInRange, settings_of, tree_options};
-ghost use Rattle.massif_sample.specs.Running.{Follows, HasBlock, no_figures, passed, passes_most, ticked, with_alloc, with_free};
+ghost use Rattle.massif_sample.specs.Running.{AreFigures, Follows, HasBlock, no_figures, passed, passes_most, ticked, with_alloc, with_free};
 ghost use Rattle.massif_sample.specs.SamplesState.{IsSound};
-ghost use Rattle.massif_sample.specs.StandsFor.{AreCostsAt, IsSampling, IsTreeAt};
+ghost use Rattle.massif_sample.specs.Snapshots.{cost_at, shows_tree};
+ghost use Rattle.massif_sample.specs.StandsFor.{AreCostsAt, IsIn, IsOfStack, IsSampling};
 ghost use Rattle.massif_sample.specs.View.{offer_of};
 
 use crate::load::Load;
 use crate::options::MassifOptions;
-use crate::peak_costs::PeakCosts;
 use crate::profile::{description, shown_command, take_snaps};
 use crate::running::Running;
-use cost_tree::{Costing, FrameTest, Fronts};
+use cost_history::CostHistory;
+use cost_tree::{FrameTest, Fronts};
 use hp_num::NoMemory;
 use ht_trace::Tables;
-use massif_cull::{Offer, SnapArray, Taken};
-use massif_file::{Profile, Tree};
-use massif_tree::{TreeOptions, add_trimmed, snapshot_tree};
+use massif_cull::{Kind, Offer, SnapArray, Taken};
+use massif_file::Profile;
+use massif_tree::{TreeOptions, add_trimmed};
 use std::alloc::Global;
 use std::marker::Model;
 
@@ -47,8 +48,8 @@ pub(crate) struct Samples {
     failed: bool,
     /// The first texts of the stacks, as they are trimmed: of all that there were when the last tree was due.
     fronts: Fronts,
-    /// What each stack cost at the last peak.
-    peak: PeakCosts,
+    /// What stacks cost at the places of the snapshots that have a tree.
+    history: CostHistory,
     alloc: Global,
 }
 
@@ -58,14 +59,18 @@ impl Model for Samples {
 
     ghost Value = { SamplesState };
 
-    ghost view = { λ samples. state_of samples.options samples.running samples.array samples.failed samples.fronts samples.peak };
+    ghost view = { λ samples. state_of samples.options samples.running samples.array samples.failed samples.fronts samples.history };
 
-    ghost invariant = { λ samples. IsSound (state_of samples.options samples.running samples.array samples.failed samples.fronts samples.peak) };
+    ghost invariant = { λ samples. IsSound (state_of samples.options samples.running samples.array samples.failed samples.fronts samples.history) };
 }
 
 impl Samples {
-    /// No snapshot, before any event.
-    pub(crate) fn new(alloc: Global, options: MassifOptions) -> Result<Samples, NoMemory>
+    /// No snapshot, before any event, with room for the marks of so many stacks.
+    pub(crate) fn new(
+        alloc: Global,
+        options: MassifOptions,
+        stacks: u32,
+    ) -> Result<Samples, NoMemory>
         requires options { AreInRange options }
         ensures options { IfOk result (λ samples. samples.options ≡ options) }
         ensures running { IfOk result (λ samples. samples.running ≡ no_figures) }
@@ -78,20 +83,16 @@ impl Samples {
             options.detailed_freq,
             options.inaccuracy,
         )?;
+        let history = history_for(alloc, stacks)?;
         Ok(Samples {
             options,
             running: Running::new(),
             array,
             failed: false,
             fronts: Fronts::new(alloc),
-            peak: PeakCosts::none(alloc),
+            history,
             alloc,
         })
-    }
-
-    /// The allocator of trees.
-    pub(crate) fn allocator(&self) -> Global {
-        self.alloc
     }
 
     /// What is asked of a tree.
@@ -164,30 +165,43 @@ impl Samples {
         add_trimmed(self.alloc, tables, alloc_fns, &options, &mut self.fronts)
     }
 
-    /// The tree of the present place, where stacks cost this, or `NoMemory`.
-    pub(crate) fn tree_here<F: Fn(u32) -> u64>(
-        &self,
-        costing: &Costing<F>,
-    ) -> Result<Tree, NoMemory>
-        requires as_many { costing.now.stacks ≡ length self.now.fronts }
-        requires stated { (costs : List ℕ) × AreCosts (F.pre costing.now.cost) (F.post costing.now.cost) costing.now.stacks costs }
-        ensures lines { IfOk result (λ lines. (tables : TableState) (names : List (List ℕ)) (costs : List ℕ) →
-            self.now.fronts ≡ first_lists tables names (self.now.options.depth + 1) (length self.now.fronts) → AreCosts (F.pre costing.now.cost) (F.post costing.now.cost) costing.now.stacks costs →
-            lines ≡ massif_tree (tree_options self.now.options) self.now.running.gross (costed (trimmed_before tables names (length self.now.fronts)) costs)) }
+    /// Keeps what so many stacks cost at the present place, each of which has its texts: of those that are marked the closure
+    /// is asked. `NoMemory` where memory is wanting.
+    pub(crate) fn keep<F: Fn(u32) -> u64>(&mut self, stacks: u32, cost: &F) -> Result<(), NoMemory>
+        requires callable { (stack : ℕ) → stack < stacks → F.pre cost.now stack }
+        requires fronts { stacks ≡ length self.old.fronts }
+        ensures samples { self.new ≡ record self.old { history = self.new.history } }
+        ensures sampling { OnOk result ((names : FunctionNames) (tables : TableState) (events : List Event) (made : List Offer) →
+            AreSaid (F.post cost.now) stacks (cost_at (ignores tables names) events (event_count events)) →
+            IsSampling self.old names tables events made → IsSampling self.new names tables events made) }
+        ensures costs { OnOk result ((names : FunctionNames) (tables : TableState) (events : List Event) (made : List Offer) →
+            AreSaid (F.post cost.now) stacks (cost_at (ignores tables names) events (event_count events)) →
+            IsSampling self.old names tables events made → AreCostsAt names tables events (event_count events) self.new.history.changes) }
+        ensures few { OnOk result (length self.new.history.changes ≤ self.new.history.left + self.new.history.left + self.old.history.stacks + length (candidates self.old.history.marks stacks)) }
     {
-        let options = self.tree_options();
-        snapshot_tree(
-            self.alloc,
-            &self.fronts,
-            costing,
-            &options,
-            self.running.gross,
-        )
+        self.thin()?;
+        self.history.keep(self.running.place, stacks, cost)?;
+        Ok(())
     }
 
-    /// Takes the offer of the present place, which isn't taken as the peak, with the tree of this place where it is taken as
-    /// a detailed snapshot.
-    pub(crate) fn take(&mut self, offer: Offer, tree: Tree)
+    /// Takes out the costs that no snapshot shows any more, where there are enough of them. On `NoMemory` nothing is taken out.
+    fn thin(&mut self) -> Result<(), NoMemory>
+        ensures samples { self.new ≡ record self.old { history = record self.old.history { changes = self.new.history.changes; left = self.new.history.left } } }
+        ensures roomy { OnOk result (IsRoomy self.new.history) }
+        ensures tells { (costs : ℕ → ℕ) → TellsNow self.old.history costs → TellsNow self.new.history costs }
+        ensures sampling { (names : FunctionNames) (tables : TableState) (events : List Event) (made : List Offer) →
+            IsSampling self.old names tables events made → IsSampling self.new names tables events made }
+    {
+        if !self.history.is_crowded() {
+            return Ok(());
+        }
+        let mut places = tree_places(self.alloc, &self.array)?;
+        self.history.thin(&mut places);
+        Ok(())
+    }
+
+    /// Takes the offer of the present place. Where it isn't taken as a normal snapshot, what stacks cost here was kept.
+    pub(crate) fn take(&mut self, offer: Offer)
         requires place { offer.place ≡ self.old.running.place }
         requires time { offer.time ≡ self.old.running.time }
         requires total { offer.total ≡ self.old.running.gross }
@@ -200,41 +214,14 @@ impl Samples {
         ensures some { 0 < length self.new.array.kept.entries }
         ensures sampling { (names : FunctionNames) (tables : TableState) (events : List Event) (made : List Offer) →
             (taken_as (settings_of self.old.options) self.old.array.kept offer ≡ Normal)
-            ⊎ ((taken_as (settings_of self.old.options) self.old.array.kept offer ≡ Detailed) × IsTreeAt self.old.options names tables events (event_count events) tree) →
+            ⊎ AreCostsAt names tables events (event_count events) self.old.history.changes →
             IsSampling self.old names tables events made → IsSampling self.new names tables events (made ++ offer ∷ []) }
     {
         let load = Load {
             heap: self.running.heap,
             extra: self.running.gross - self.running.heap,
-            tree,
         };
         self.array.offer(offer, load);
-    }
-
-    /// Takes the offer of the present place, which is taken as the peak, with what stacks cost here. Those of the peak
-    /// before are dropped.
-    pub(crate) fn take_peak(&mut self, offer: Offer, costs: PeakCosts)
-        requires place { offer.place ≡ self.old.running.place }
-        requires time { offer.time ≡ self.old.running.time }
-        requires total { offer.total ≡ self.old.running.gross }
-        requires within { self.old.running.time ≤ 2 ^ 62 }
-        requires first { offer.peak ≡ true → 0 < length self.old.array.kept.entries }
-        ensures options { self.new.options ≡ self.old.options }
-        ensures running { self.new.running ≡ self.old.running }
-        ensures failed { self.new.failed ≡ self.old.failed }
-        ensures fronts { self.new.fronts ≡ self.old.fronts }
-        ensures some { 0 < length self.new.array.kept.entries }
-        ensures sampling { (names : FunctionNames) (tables : TableState) (events : List Event) (made : List Offer) →
-            taken_as (settings_of self.old.options) self.old.array.kept offer ≡ Peak → AreCostsAt names tables events (event_count events) costs → length costs ≤ length self.old.fronts →
-            IsSampling self.old names tables events made → IsSampling self.new names tables events (made ++ offer ∷ []) }
-    {
-        let load = Load {
-            heap: self.running.heap,
-            extra: self.running.gross - self.running.heap,
-            tree: Tree::new(self.alloc),
-        };
-        self.array.offer(offer, load);
-        self.peak = costs;
     }
 
     /// The figures behind an allocation that is counted, or `None` where one of them passes 2^62.
@@ -261,12 +248,24 @@ impl Samples {
         self.running.freed(&self.options, size).bounded()
     }
 
-    /// Moves on to the place behind an event that is counted, which has these figures.
-    pub(crate) fn move_to(&mut self, next: Running)
-        requires { Follows self.old.options self.old.running next }
-        ensures { self.new ≡ record self.old { running = next } }
+    /// Moves on to the place behind an event of the stack that is counted, which has these figures, and marks the stack.
+    pub(crate) fn move_to(&mut self, next: Running, stack: u32)
+        requires follows { Follows self.old.options self.old.running next }
+        ensures samples { self.new ≡ record self.old { running = next; history = self.new.history } }
+        ensures sampling { (names : FunctionNames) (tables : TableState) (events : List Event) (made : List Offer) (event : Event) →
+            IsSampling self.old names tables events made → IsOfStack tables event → IsIn stack event →
+            AreFigures self.old.options (ignores tables names) (events ++ event ∷ []) next →
+            IsSampling self.new names tables (events ++ event ∷ []) made }
     {
         self.running = next;
+        self.history.mark(stack);
+    }
+
+    /// Makes room for the mark of one more stack, or answers `NoMemory`.
+    pub(crate) fn make_room(&mut self) -> Result<(), NoMemory>
+        ensures { self.new ≡ self.old }
+    {
+        self.history.make_room()
     }
 
     /// Moves on to the place behind an event that isn't counted.
@@ -284,19 +283,25 @@ impl Samples {
         self.running = self.running.ticked(ms);
     }
 
-    /// The profile of the snapshots, with the command that was profiled.
+    /// The profile of the snapshots, with the command that was profiled. `NoMemory` where memory is wanting, and where it was
+    /// wanting for a snapshot.
     pub(crate) fn into_profile(self, cmd: &[u8]) -> Result<Profile, NoMemory>
+        ensures failed { self.failed ≡ true → IsErr result }
         ensures profile { IfOk result (λ profile. (tables : TableState) (names : List (List ℕ)) → self.fronts ≡ first_lists tables names (self.options.depth + 1) (length self.fronts) →
             profile ≡ profile_made self tables names cmd.now) }
+        ensures none { OnOk result ((place stack : ℕ) → self.history.stacks ≤ stack → history.cost_at self.history.changes place stack ≡ 0) }
         ensures sound { IsSound self }
         ensures array { array.IsSound self.array }
     {
+        if self.failed {
+            return Err(NoMemory);
+        }
         let asked = self.tree_options();
         let Samples {
             options,
             mut array,
             fronts,
-            peak,
+            history,
             alloc,
             ..
         } = self;
@@ -304,7 +309,8 @@ impl Samples {
         let _count = array.len();
         let desc = description(alloc)?;
         let cmd = shown_command(alloc, cmd)?;
-        let snaps = take_snaps(alloc, &mut array, &fronts, &peak, &asked)?;
+        let mut replay = history.into_replay();
+        let snaps = take_snaps(alloc, &mut array, &fronts, &mut replay, &asked)?;
         Ok(Profile {
             desc,
             cmd,
@@ -312,4 +318,41 @@ impl Samples {
             snaps,
         })
     }
+}
+
+/// The places of the snapshots that have a tree, or `NoMemory`.
+fn tree_places(alloc: Global, array: &SnapArray<Load>) -> Result<Vec<u64>, NoMemory>
+    ensures { IfOk result (λ places. (k : ℕ) (entry : SnapEntry) → slice_get array.now.kept.entries k ≡ Some entry → shows_tree entry.kind ≡ true → Contains places.items entry.place) }
+{
+    let mut places = Vec::new(alloc);
+    'entries: for i in 0..array.len() {
+        let entry = array.entry(i);
+        if !has_tree(entry.kind) {
+            continue;
+        }
+        places.push(entry.place)?;
+    }
+    Ok(places)
+}
+
+/// Whether a snapshot of the kind has a tree.
+fn has_tree(kind: Kind) -> bool
+    ensures { result ≡ shows_tree kind }
+{
+    match kind {
+        Kind::Normal => false,
+        Kind::Detailed => true,
+        Kind::Peak => true,
+    }
+}
+
+/// A history of no place, with room for the marks of so many stacks, or `NoMemory`.
+fn history_for(alloc: Global, stacks: u32) -> Result<CostHistory, NoMemory>
+    ensures { IfOk result (λ history. history ≡ no_history) }
+{
+    let mut history = CostHistory::new(alloc);
+    for _ in 0..stacks {
+        history.make_room()?;
+    }
+    Ok(history)
 }

@@ -3,7 +3,7 @@
 ghost use Rattle.std.specs.Prelude.{◌≡◌, ◌≢◌, ◌⊎◌, ℕ, ◌+◌, ◌-◌, ◌^◌, ◌<◌, ◌≤◌, Bool, List, [], ◌∷◌, ◌++◌, true, false, not, length, Some, None, slice_get, slice_index_or, sum, Err, IfOk, IfErr, IsOk, OnOk, OnErr};
 ghost use Rattle.std.specs.Fn.{FnReturnsAt};
 ghost use Rattle.std.specs.Result.{result_err};
-ghost use Rattle.cost_tree.specs.Costs.{AreCosts};
+ghost use Rattle.cost_history.specs.HistoryState.{AreSaid};
 ghost use Rattle.cost_tree.specs.FrameTexts.{AreTexts};
 ghost use Rattle.live_ledger.specs.declared.event.Event.{Event};
 ghost use Rattle.live_ledger.specs.declared.event.Event.TheVariants.{Alloc, Free, Tick};
@@ -17,44 +17,40 @@ ghost use Rattle.massif_sample.specs.declared.fault.SampleFault.TheVariants.{NoM
 ghost use Rattle.massif_sample.specs.Due.{IsDue, IsTakenAs, with_tree};
 ghost use Rattle.massif_sample.specs.FunctionNames.{FunctionNames, ignores};
 ghost use Rattle.massif_sample.specs.HasApplied.{HasApplied};
-ghost use Rattle.massif_sample.specs.LiveCosts.{live_costs};
+ghost use Rattle.massif_sample.specs.LiveCosts.{live_cost};
 ghost use Rattle.massif_sample.specs.Offers.{offer_at, offers};
 ghost use Rattle.massif_sample.specs.Options.{AreInRange};
 ghost use Rattle.massif_sample.specs.Running.{AreFigures, Follows, passed, ticked};
 ghost use Rattle.massif_sample.specs.SampleFault.{Tells, sample_fault};
-ghost use Rattle.massif_sample.specs.Snapshots.{costs_at};
-ghost use Rattle.massif_sample.specs.StandsFor.{AreJudged, IsOfStack, IsSampling, StandsFor};
+ghost use Rattle.massif_sample.specs.Snapshots.{cost_at};
+ghost use Rattle.massif_sample.specs.StandsFor.{AreJudged, IsIn, IsOfStack, IsSampling, StandsFor};
 
 use crate::fault::SampleFault;
-use crate::peak_costs::PeakCosts;
 use crate::running::Running;
 use crate::samples::Samples;
-use cost_tree::{Costing, FrameTest};
+use cost_tree::FrameTest;
 use hp_num::NoMemory;
 use ht_trace::Tables;
 use live_ledger::{Event, Ledger, possible_weights};
 use massif_cull::Taken;
-use massif_file::Tree;
 
-/// Offers a snapshot of the present place, as a peak or not. The tree of a detailed one is built now, and of a peak it is kept
-/// what its tree will be built of. `NoMemory`, where memory is wanting for that, leaves the samples unfit for more.
+/// Offers a snapshot of the present place, as a peak or not. Of one that has a tree it is kept what stacks cost here, by the
+/// closure. `NoMemory`, where memory is wanting for that, leaves the samples unfit for more.
 pub(crate) fn sample<A: Fn(&[u8]) -> bool, F: Fn(u32) -> u64>(
     samples: &mut Samples,
     as_peak: bool,
     tables: &Tables,
     alloc_fns: &FrameTest<A>,
-    costing: &Costing<F>,
+    cost: &F,
 ) -> Result<(), NoMemory>
     requires within { samples.old.running.time ≤ 2 ^ 62 }
     requires first { as_peak ≡ true → 0 < length samples.old.array.kept.entries }
-    requires as_many { costing.now.stacks ≡ length tables.now.nodes + 1 }
-    requires stated { (costs : List ℕ) × AreCosts (F.pre costing.now.cost) (F.post costing.now.cost) costing.now.stacks costs }
+    requires cost_callable { (stack : ℕ) → stack < length tables.now.nodes + 1 → F.pre cost.now stack }
     requires fronts { length samples.old.fronts ≤ length tables.now.nodes + 1 }
     requires callable { A.IsAlwaysCallable alloc_fns.now.test }
-    ensures sampling { OnOk result ((names : FunctionNames) (events : List Event) (costs : List ℕ) (made : List Offer) →
+    ensures sampling { OnOk result ((names : FunctionNames) (events : List Event) (made : List Offer) →
         AreTexts (FnReturnsAt A.Fn alloc_fns.now.test) names.alloc_fns →
-        AreCosts (F.pre costing.now.cost) (F.post costing.now.cost) costing.now.stacks costs →
-        costs ≡ costs_at (length tables.now.nodes + 1) (ignores tables.now names) events (event_count events) →
+        AreSaid (F.post cost.now) (length tables.now.nodes + 1) (cost_at (ignores tables.now names) events (event_count events)) →
         IsSampling samples.old names tables.now events made →
         IsSampling samples.new names tables.now events (made ++ offer_at samples.old.options (ignores tables.now names) events as_peak (event_count events) ∷ [])) }
     ensures due { OnErr result ((names : FunctionNames) (events : List Event) (made : List Offer) → IsSampling samples.old names tables.now events made →
@@ -71,18 +67,12 @@ pub(crate) fn sample<A: Fn(&[u8]) -> bool, F: Fn(u32) -> u64>(
         return Ok(());
     }
     if taken == Taken::Normal {
-        let none = Tree::new(samples.allocator());
-        samples.take(offer, none);
+        samples.take(offer);
         return Ok(());
     }
     samples.add_fronts(tables, alloc_fns)?;
-    if taken == Taken::Peak {
-        let costs = PeakCosts::of(samples.allocator(), costing)?;
-        samples.take_peak(offer, costs);
-        return Ok(());
-    }
-    let tree = samples.tree_here(costing)?;
-    samples.take(offer, tree);
+    samples.keep(tables.stacks(), cost)?;
+    samples.take(offer);
     Ok(())
 }
 
@@ -90,7 +80,7 @@ pub(crate) fn sample<A: Fn(&[u8]) -> bool, F: Fn(u32) -> u64>(
 fn live_cost(judged: &[bool], ledger: &Ledger, stack: u32) -> u64
     requires judged { stack < length judged.now }
     requires held { stack < ledger.now.stacks }
-    ensures { slice_get (live_costs judged.now ledger.now) stack ≡ Some result }
+    ensures { result ≡ live_cost judged.now ledger.now stack }
 {
     if judged[stack as usize] {
         return 0;
@@ -126,18 +116,16 @@ fn sample_ledger<A: Fn(&[u8]) -> bool>(
     ensures fronts { OnOk result (length samples.new.fronts ≤ length tables.now.nodes + 1) }
     ensures some { OnOk result (0 < length samples.new.array.kept.entries) }
 {
-    let costing = Costing::new(
-        ledger.stacks(),
-        |stack: u32| live_cost(judged, ledger, stack),
-    );
-    sample(samples, as_peak, tables, alloc_fns, &costing)
+    let cost = |stack: u32| live_cost(judged, ledger, stack);
+    sample(samples, as_peak, tables, alloc_fns, &cost)
 }
 
-/// Applies the event, which has no fault and is counted, to the ledger, and offers the snapshot behind it.
+/// Applies the event of the stack, which has no fault and is counted, to the ledger, and offers the snapshot behind it.
 fn advance<A: Fn(&[u8]) -> bool>(
     samples: &mut Samples,
     judged: &[bool],
     event: Event,
+    stack: u32,
     next: Running,
     ledger: &mut Ledger,
     tables: &Tables,
@@ -146,6 +134,7 @@ fn advance<A: Fn(&[u8]) -> bool>(
     requires held { IsHeld ledger.old event }
     requires count { ledger.old.totals.events < 2 ^ 32 }
     requires no_fault { fault_at ledger.old event ≡ None }
+    requires of_stack { IsIn stack event }
     requires stacks { ledger.old.stacks ≡ length tables.now.nodes + 1 }
     requires judged { length judged.now ≡ length tables.now.nodes + 1 }
     requires fronts { length samples.old.fronts ≤ length tables.now.nodes + 1 }
@@ -168,7 +157,7 @@ fn advance<A: Fn(&[u8]) -> bool>(
     ensures applied { HasApplied ledger.old ledger.new event }
 {
     ledger.apply(event)?;
-    samples.move_to(next);
+    samples.move_to(next, stack);
     sample_ledger(samples, judged, false, ledger, tables, alloc_fns)?;
     Ok(())
 }
@@ -278,7 +267,9 @@ fn take_alloc<A: Fn(&[u8]) -> bool>(
     let Some(next) = samples.allocated(size) else {
         return Err(SampleFault::CostTooLarge);
     };
-    advance(samples, judged, event, next, ledger, tables, alloc_fns)
+    advance(
+        samples, judged, event, stack, next, ledger, tables, alloc_fns,
+    )
 }
 
 /// Takes a free of a block of the stack.
@@ -322,5 +313,7 @@ fn take_free<A: Fn(&[u8]) -> bool>(
         return Err(SampleFault::CostTooLarge);
     };
     sample_ledger(samples, judged, true, ledger, tables, alloc_fns)?;
-    advance(samples, judged, event, next, ledger, tables, alloc_fns)
+    advance(
+        samples, judged, event, stack, next, ledger, tables, alloc_fns,
+    )
 }

@@ -3,6 +3,7 @@ ghost use Rattle.std.specs.Prelude.{◌≡◌, [], IfOk, OnOk};
 ghost use Rattle.std.specs.Fn.{FnReturnsAt};
 ghost use Rattle.live_ledger.specs.StandsFor.{StandsFor};
 ghost use Rattle.massif_sample.specs.FunctionNames.{AreStated, FunctionNames};
+ghost use Rattle.massif_sample.specs.Options.{AreInRange};
 ghost use Rattle.massif_tests.specs.Following.{AreFollowing};
 
 use cost_tree::FrameTest;
@@ -33,7 +34,16 @@ const ONE_PERCENT: MassifOptions = MassifOptions {
     unit: TimeUnit::Bytes,
 };
 
-/// A ledger with infos 0, 1 and 2 of 1000, 10 and 1 bytes.
+/// The same with the number of events for time, which no size makes too great.
+const IN_EVENTS: MassifOptions = MassifOptions {
+    unit: TimeUnit::Events,
+    ..ONE_PERCENT
+};
+
+/// The most bytes that a trace may allocate.
+const MOST: u64 = 0x4000_0000_0000_0000;
+
+/// A ledger with infos 0, 1, 2 and 3 of 1000, 10, 1 and the most bytes.
 fn held_sizes(alloc: Global) -> Result<Ledger, NoMemory>
     ensures stands { IfOk result (λ ledger. StandsFor ledger []) }
     ensures stacks { IfOk result (λ ledger. ledger.stacks ≡ 1) }
@@ -42,15 +52,18 @@ fn held_sizes(alloc: Global) -> Result<Ledger, NoMemory>
     ledger.grow_info(0, 1000)?;
     ledger.grow_info(0, 10)?;
     ledger.grow_info(0, 1)?;
+    ledger.grow_info(0, MOST)?;
     Ok(ledger)
 }
 
 /// A run before any event.
 fn begin<A: Fn(&[u8]) -> bool, I: Fn(&[u8]) -> bool>(
     alloc: Global,
+    options: MassifOptions,
     alloc_fns: FrameTest<A>,
     ignore_fns: FrameTest<I>,
 ) -> Result<Run<A, I>, NoMemory>
+    requires options { AreInRange options }
     requires alloc_callable { A.IsAlwaysCallable alloc_fns.test }
     requires ignore_callable { I.IsAlwaysCallable ignore_fns.test }
     requires stated { (names : FunctionNames) × AreStated (FnReturnsAt A.Fn alloc_fns.test) (FnReturnsAt I.Fn ignore_fns.test) names }
@@ -60,7 +73,7 @@ fn begin<A: Fn(&[u8]) -> bool, I: Fn(&[u8]) -> bool>(
 {
     let ledger = held_sizes(alloc)?;
     let tables = Tables::new(alloc);
-    let sampler = Sampler::new(alloc, ONE_PERCENT, alloc_fns, ignore_fns, &tables)?;
+    let sampler = Sampler::new(alloc, options, alloc_fns, ignore_fns, &tables)?;
     Ok(Run {
         tables,
         ledger,
@@ -150,7 +163,7 @@ fn snapshots<A: Fn(&[u8]) -> bool, I: Fn(&[u8]) -> bool>(
     requires ignore_callable { I.IsAlwaysCallable ignore_fns.test }
     requires stated { (names : FunctionNames) × AreStated (FnReturnsAt A.Fn alloc_fns.test) (FnReturnsAt I.Fn ignore_fns.test) names }
 {
-    let mut run = begin(alloc, alloc_fns, ignore_fns)?;
+    let mut run = begin(alloc, ONE_PERCENT, alloc_fns, ignore_fns)?;
     assert_eq!(rt; take_all(rt, &mut run), Ok(()));
     let profile = profile_of(run)?;
     shown(rt, alloc, &profile.snaps)
@@ -164,6 +177,36 @@ fn peak_offers(rt: HostRuntime) -> Result<(), NoMemory> {
     assert_eq!(rt;
         shown.as_slice(),
         b"0 0\n1000 1000\n1000 1000\n2000 0\n3000 1000\n3010 1010\n3020 1000\n3030 1010\n3031 1011\n3031 1011 peak\n3032 1010\n".as_slice()
+    );
+    Ok(())
+}
+
+/// The snapshots of one block of the most bytes, which is allocated and freed, with these names.
+fn greatest_peak<A: Fn(&[u8]) -> bool, I: Fn(&[u8]) -> bool>(
+    rt: &impl Abort,
+    alloc: Global,
+    alloc_fns: FrameTest<A>,
+    ignore_fns: FrameTest<I>,
+) -> Result<Vec<u8>, NoMemory>
+    requires alloc_callable { A.IsAlwaysCallable alloc_fns.test }
+    requires ignore_callable { I.IsAlwaysCallable ignore_fns.test }
+    requires stated { (names : FunctionNames) × AreStated (FnReturnsAt A.Fn alloc_fns.test) (FnReturnsAt I.Fn ignore_fns.test) names }
+{
+    let mut run = begin(alloc, IN_EVENTS, alloc_fns, ignore_fns)?;
+    assert_eq!(rt; take(rt, &mut run, true, 3), Ok(()));
+    assert_eq!(rt; take(rt, &mut run, false, 3), Ok(()));
+    let profile = profile_of(run)?;
+    shown(rt, alloc, &profile.snaps)
+}
+
+#[test]
+fn has_a_tree_of_the_most_bytes(rt: HostRuntime) -> Result<(), NoMemory> {
+    let alloc_fns = FrameTest::new(|_name: &[u8]| false);
+    let ignore_fns = FrameTest::new(|_name: &[u8]| false);
+    let shown = greatest_peak(&rt, rt.alloc(), alloc_fns, ignore_fns)?;
+    assert_eq!(rt;
+        shown.as_slice(),
+        b"0 0\n1 4611686018427387904\n1 4611686018427387904 peak\n2 0\n".as_slice()
     );
     Ok(())
 }

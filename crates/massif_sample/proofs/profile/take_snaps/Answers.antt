@@ -1,10 +1,18 @@
-use Rattle.std.proofs.Common.{rules}
+use Rattle.std.proofs.Common.{List, ap, length, rules, ◌∙◌}
+use Rattle.cost_history.specs.declared.change.Change.{Change}
+use Rattle.massif_sample.specs.Made.{made, told_tree}
 use Rattle.massif_sample.proofs.Making.{made-first, made-none}
 use Rattle.massif_sample.proofs.profile.take_snaps.Goals as goal
 
 pub each_snapshot-preserved : goal.each_snapshot-preserved
-each_snapshot-preserved c = λ tables names are.
-    made-first _ _ _ _ _ _ _ _ c.in-Some.entry c.in-Some.load c.in_ok-snap.snap (c.each_snapshot.invariant tables names are) c.in-Some.ensures.entry c.in-Some.ensures.load (c.in_ok-snap.ensures tables names are) c.in_ok-push.ensures.appended
+each_snapshot-preserved c = record {
+  changes = c.snapshot.ensures.changes ∙ c.each_snapshot.invariant.changes;
+  all = λ tables names are.
+      made-first _ _ _ _ _ _ _ _ c.in-Some.entry c.in-Some.load c.in_ok-snap.snap (c.each_snapshot.invariant.all tables names are) c.in-Some.ensures.entry c.in-Some.ensures.load
+      (c.in_ok-snap.ensures.snap tables names are
+      ∙ ap (λ (cs : List Change). made (told_tree c.args.options.now tables names (length c.args.fronts.now) cs) c.in-Some.entry c.in-Some.load) c.each_snapshot.invariant.changes)
+      c.in_ok-push.ensures.appended;
+}
 
 pub returns : goal.returns
-returns c = λ tables names are. made-none _ _ _ _ _ (c.each_snapshot.invariant tables names are) (search rules)
+returns c = λ tables names are. made-none _ _ _ _ _ (c.each_snapshot.invariant.all tables names are) (search rules)

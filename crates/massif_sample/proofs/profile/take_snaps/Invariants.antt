@@ -2,15 +2,18 @@
 use Rattle.std.proofs.Common.{◌≡◌, ℕ, ◌+◌, ◌++◌, List, length}
 use Rattle.ht_trace.specs.TableState.{TableState}
 use Rattle.massif_tree.specs.FirstLists.{first_lists}
-use Rattle.massif_sample.specs.Made.{all_made, peak_stacks}
+use Rattle.massif_sample.specs.Made.{all_made, told_tree}
 use Rattle.massif_sample.proofs.profile.take_snaps.Given as goal
 
 abbrev pub invariant-each_snapshot : goal.invariant-each_snapshot
-invariant-each_snapshot l =
-    (tables : TableState) (names : List (List ℕ))
-    → l.fronts ≡ first_lists tables names (l.options.depth + 1) (length l.fronts)
-    → l.snaps ++ all_made (peak_stacks l.options tables names (length l.fronts) l.peak) l.array.kept.entries l.array.loads
-    ≡ all_made (peak_stacks l.options tables names (length l.fronts) l.peak) l.initial.array.kept.entries l.initial.array.loads
+invariant-each_snapshot l = record {
+  changes : l.replay.changes ≡ l.initial.replay.changes;
+  all :
+      (tables : TableState) (names : List (List ℕ))
+      → l.fronts ≡ first_lists tables names (l.options.depth + 1) (length l.fronts)
+      → l.snaps ++ all_made (told_tree l.options tables names (length l.fronts) l.initial.replay.changes) l.array.kept.entries l.array.loads
+      ≡ all_made (told_tree l.options tables names (length l.fronts) l.initial.replay.changes) l.initial.array.kept.entries l.initial.array.loads;
+}
 
 abbrev pub decreases-each_snapshot : goal.decreases-each_snapshot
 decreases-each_snapshot l = length l.array.kept.entries

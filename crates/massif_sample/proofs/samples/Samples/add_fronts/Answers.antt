@@ -1,4 +1,4 @@
-use Rattle.std.proofs.Common.{◌≡◌, ℕ, ◌+◌, List, length, refl, ap, sym, subst, arith}
+use Rattle.std.proofs.Common.{◌≡◌, ℕ, ◌+◌, List, length, ap, sym, subst, arith}
 use Rattle.massif_tree.specs.declared.options.TreeOptions.{TreeOptions}
 use Rattle.massif_tree.specs.FirstLists.{first_lists}
 use Rattle.massif_sample.specs.View.{state_of}
@@ -16,8 +16,8 @@ returns-clause-sampling g c =
     (λ count lists names events made texts was.
     let tables = c.args.tables.now in
     let are : List (List (List ℕ)) → ℕ → Type 0 = λ fronts depth. fronts ≡ first_lists tables names.alloc_fns (depth + 1) (length fronts) in
-    sampling-fronts (state_of inside.options inside.running inside.array inside.failed inside.fronts inside.peak) (state_of inside.options inside.running inside.array inside.failed c.add_trimmed.new.fronts inside.peak)
-    names tables events made refl
+    sampling-fronts (state_of inside.options inside.running inside.array inside.failed inside.fronts inside.history) c.add_trimmed.new.fronts
+    names tables events made
     (record { held = omega arith; are = subst (are c.add_trimmed.new.fronts) same (lists names.alloc_fns texts (subst (are inside.fronts) (sym same) was.fronts.are)) })
     (let held = was.fronts.held in omega arith) was)
     c.add_trimmed.ensures.count c.add_trimmed.ensures.lists)

@@ -15,25 +15,20 @@ returns-clause-sampling c =
     rw (← c.self.view_is)
     (λ names tables events made tree was.
     sampling-offered
-    (state_of inside.options inside.running inside.array inside.failed inside.fronts inside.peak) (state_of inside.options inside.running c.offer.new.self inside.failed inside.fronts inside.peak)
+    (state_of inside.options inside.running inside.array inside.failed inside.fronts inside.history) c.offer.new.self
     names tables events made c.args.offer
-    (record { heap = inside.running.heap; extra = inside.running.gross - inside.running.heap; tree = c.args.tree }) c.offer.result
+    (record { heap = inside.running.heap; extra = inside.running.gross - inside.running.heap }) c.offer.result
     (record {
       place = place;
       time = time;
       total = total;
       heap = refl;
       extra = omega arith;
-      options = refl;
-      running = refl;
-      failed = refl;
-      fronts = refl;
       stands = c.offer.ensures.stands;
       origins = c.offer.ensures.origins;
     })
-    refl
     (elim tree [
       | inl normal ↦ inl (c.offer.ensures.taken ∙ ap (λ (s : Settings). taken_as s inside.array.kept c.args.offer) c.self.invariant.settings ∙ normal)
-      | inr at ↦ inr (c.offer.ensures.taken ∙ ap (λ (s : Settings). taken_as s inside.array.kept c.args.offer) c.self.invariant.settings ∙ at.0, at.1)
+      | inr at ↦ inr at
     ])
     was)

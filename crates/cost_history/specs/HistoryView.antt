@@ -1,0 +1,15 @@
+-- How contracts see the fields of a history, and what holds of these.
+use Rattle.std.specs.Prelude.{ℕ, ◌^◌, ◌≤◌, List, length}
+use Rattle.cost_history.specs.declared.change.Change.{Change}
+use Rattle.cost_history.specs.Changes.{IsBetween}
+use Rattle.cost_history.specs.Marks.{MarksState}
+use Rattle.cost_history.specs.HistoryState.{HistoryState}
+
+-- there is a cell for each stack
+abbrev pub history_of : MarksState → List Change → List ℕ → ℕ → ℕ → HistoryState
+history_of marks changes cells left last = record { marks = marks; stacks = length cells; changes = changes; left = left; last = last }
+
+-- the changes are of these stacks and in the order of their places
+pub record IsKept (changes : List Change) (cells : List ℕ) (last : ℕ) : Type 0 where
+  pub between : IsBetween (length cells) 0 changes last
+  pub last_most : last ≤ 2 ^ 62

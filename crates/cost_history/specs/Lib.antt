@@ -1,0 +1,7 @@
+pub mod Changes
+pub mod Seen
+pub mod Marks
+pub mod MarksView
+pub mod HistoryState
+pub mod HistoryView
+pub mod ReplayState

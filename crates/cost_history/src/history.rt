@@ -1,0 +1,188 @@
+//! A history of what stacks cost: the marks of those that have changed, and the changes at the places that were kept.
+ghost use Rattle.std.specs.Prelude.{◌≡◌, ℕ, ◌+◌, ◌-◌, ◌^◌, ◌<◌, ◌≤◌, ◌≢◌, max, List, [], ◌∷◌, ◌++◌, true, false, length, OnOk, OnErr};
+ghost use Rattle.cost_history.specs.Changes.{AreParted, IsAsked, IsBetween, cost_at};
+ghost use Rattle.cost_history.specs.Marks.{candidates, is_marked, no_marks};
+ghost use Rattle.cost_history.specs.HistoryState.{AreSaid, HistoryState, IsRoomy, TellsNow, changes_to, no_history};
+
+use crate::change::Change;
+use crate::marks::Marks;
+use crate::replay::Replay;
+use crate::thinning::thin;
+use hp_num::NoMemory;
+use std::alloc::Global;
+use std::marker::Model;
+
+/// What stacks cost at the places that were kept. A place is a number of events, and places ascend.
+///
+/// A change says what its stack costs from its place on. A place that is dropped asks for nothing: the changes that it
+/// alone could see are taken out by the next `thin`, which is told which places are kept.
+#[derive(Drop)]
+pub struct CostHistory {
+    marks: Marks,
+    changes: Vec<Change>,
+    /// A cell for each stack, which `thin` and a replay use.
+    cells: Vec<u64>,
+    /// How many changes were left the last time that they were thinned.
+    left: usize,
+    last: u64,
+}
+
+impl Model for CostHistory {
+    ghost use Rattle.cost_history.specs.HistoryState.{HistoryState};
+    ghost use Rattle.cost_history.specs.HistoryView.{IsKept, history_of};
+
+    ghost Value = { HistoryState };
+
+    ghost view = { λ history. history_of history.marks history.changes.items history.cells.items history.left history.last };
+
+    ghost invariant = { λ history. IsKept history.changes.items history.cells.items history.last };
+}
+
+impl CostHistory {
+    /// No stack, and no place kept. It takes no memory.
+    pub fn new(alloc: Global) -> CostHistory
+        ensures empty { result ≡ no_history }
+        ensures tells { (costs : ℕ → ℕ) → ((stack : ℕ) → costs stack ≡ 0) → TellsNow result costs }
+    {
+        CostHistory {
+            marks: Marks::new(alloc),
+            changes: Vec::new(alloc),
+            cells: Vec::new(alloc),
+            left: 0,
+            last: 0,
+        }
+    }
+
+    /// Makes room for the mark of one more stack, or answers `NoMemory`.
+    pub fn make_room(&mut self) -> Result<(), NoMemory>
+        ensures { self.new ≡ self.old }
+    {
+        self.marks.make_room()
+    }
+
+    /// Says that the stack's cost has changed since the last place that was kept. It takes no memory: of a stack for whose
+    /// mark no room was made, it marks all.
+    pub fn mark(&mut self, stack: u32)
+        ensures marked { is_marked self.new.marks stack ≡ true }
+        ensures rest { self.new ≡ record self.old { marks = self.new.marks } }
+        ensures tells { (before after : ℕ → ℕ) → TellsNow self.old before →
+            ((other : ℕ) → other ≢ stack → after other ≡ before other) → TellsNow self.new after }
+    {
+        self.marks.mark(stack);
+    }
+
+    /// Keeps a place, at which so many stacks cost what the closure says: it is asked of the marked ones, which are marked
+    /// no more. On `NoMemory` the marks and the changes are as before.
+    pub fn keep<F: Fn(u32) -> u64>(
+        &mut self,
+        place: u64,
+        stacks: u32,
+        cost: &F,
+    ) -> Result<(), NoMemory>
+        requires ascends { self.old.last ≤ place }
+        requires most { place ≤ 2 ^ 62 }
+        requires callable { (stack : ℕ) → stack < stacks → F.pre cost.now stack }
+        ensures before { OnOk result ((costs : ℕ → ℕ) → AreSaid (F.post cost.now) stacks costs →
+            (seer stack : ℕ) → seer < place →
+            cost_at self.new.changes seer stack ≡ cost_at self.old.changes seer stack) }
+        ensures here { OnOk result ((costs : ℕ → ℕ) → AreSaid (F.post cost.now) stacks costs →
+            self.old.stacks ≤ stacks → TellsNow self.old costs →
+            (seer stack : ℕ) → place ≤ seer → cost_at self.new.changes seer stack ≡ costs stack) }
+        ensures most { OnOk result
+            (length self.new.changes ≤ length self.old.changes + length (candidates self.old.marks stacks)) }
+        ensures marks { OnOk result (self.new.marks ≡ no_marks) }
+        ensures left { OnOk result (self.new.left ≡ self.old.left) }
+        ensures last { OnOk result (self.new.last ≡ place) }
+        ensures stacks { OnOk result (self.new.stacks ≡ max self.old.stacks stacks) }
+        ensures unchanged { OnErr result (self.new ≡ record self.old { stacks = self.new.stacks }) }
+    {
+        grow(&mut self.cells, stacks)?;
+        push_changes(&mut self.changes, &self.marks, stacks, place, cost)?;
+        self.marks.clear();
+        self.last = place;
+        Ok(())
+    }
+
+    /// Whether it is time to thin: there are more changes than twice those that were left the last time, and one for each
+    /// stack.
+    pub fn is_crowded(&self) -> bool
+        ensures crowded { result ≡ true → IsRoomy self.now → ⊥ }
+        ensures roomy { result ≡ false → IsRoomy self.now }
+    {
+        let more = self.changes.len().saturating_sub(self.left);
+        if more <= self.left {
+            return false;
+        }
+        more - self.left > self.cells.len()
+    }
+
+    /// Takes out the changes that no kept place sees, nor the present one. The places come in any order, and are sorted. It
+    /// takes no memory.
+    pub fn thin(&mut self, kept: &mut Vec<u64>)
+        ensures costs { (place : ℕ) → IsAsked kept.old.items self.old.last place →
+            (stack : ℕ) → cost_at self.new.changes place stack ≡ cost_at self.old.changes place stack }
+        ensures parted { AreParted kept.old.items self.new.changes }
+        ensures rest { self.new ≡ record self.old { changes = self.new.changes; left = length self.new.changes } }
+        ensures tells { (costs : ℕ → ℕ) → TellsNow self.old costs → TellsNow self.new costs }
+    {
+        thin(&mut self.changes, &mut self.cells, kept, self.last);
+        self.left = self.changes.len();
+    }
+
+    /// The replay of the history, before its first place. It takes no memory.
+    pub fn into_replay(self) -> Replay
+        ensures changes { result.changes ≡ self.changes }
+        ensures none { (place stack : ℕ) →
+            self.stacks ≤ stack → cost_at self.changes place stack ≡ 0 }
+    {
+        let CostHistory { changes, cells, .. } = self;
+        Replay::new(changes, cells)
+    }
+}
+
+/// Makes a cell for each of so many stacks.
+fn grow(cells: &mut Vec<u64>, stacks: u32) -> Result<(), NoMemory>
+    ensures grown { OnOk result (length cells.new.items ≡ max (length cells.old.items) stacks) }
+    ensures enough { OnOk result (stacks ≤ length cells.new.items) }
+    ensures least { length cells.old.items ≤ length cells.new.items }
+{
+    if cells.len() < stacks as usize {
+        cells.resize(stacks as usize, 0)?;
+    }
+    Ok(())
+}
+
+/// Appends a change of each marked stack, of so many.
+fn push_changes<F: Fn(u32) -> u64>(
+    changes: &mut Vec<Change>,
+    marks: &Marks,
+    stacks: u32,
+    place: u64,
+    cost: &F,
+) -> Result<(), NoMemory>
+    requires callable { (stack : ℕ) → stack < stacks → F.pre cost.now stack }
+    ensures pushed { OnOk result ((costs : ℕ → ℕ) →
+        ((stack says : ℕ) → stack < stacks → F.post cost.now stack says → says ≡ costs stack) →
+        changes.new.items ≡
+        changes.old.items ++ changes_to stacks place costs (candidates marks.now stacks)) }
+    ensures most { OnOk result
+        (length changes.new.items ≤ length changes.old.items + length (candidates marks.now stacks)) }
+    ensures between { OnOk result ((all last : ℕ) → stacks ≤ all → last ≤ place →
+        IsBetween all 0 changes.old.items last → IsBetween all 0 changes.new.items place) }
+    ensures unchanged { OnErr result (changes.new.items ≡ changes.old.items) }
+{
+    let count = marks.candidates(stacks);
+    changes.reserve(count)?;
+    for i in 0..count {
+        let stack = marks.candidate(stacks, i);
+        if stack >= stacks {
+            continue;
+        }
+        changes.push_reserved(Change {
+            place,
+            stack,
+            cost: cost(stack),
+        });
+    }
+    Ok(())
+}

@@ -1,0 +1,8 @@
+use Rattle.std.proofs.Common.{◌≡◌, ◌≤◌, ◌^◌, take, sum}
+use Rattle.massif_sample.proofs.place_tree.are_bounded.Given as goal
+
+abbrev pub invariant-loop-cost : goal.invariant-loop-cost
+invariant-loop-cost l = record {
+  total : l.total ≡ sum (take l.cost-index l.costs);
+  most : l.total ≤ 2 ^ 62;
+}

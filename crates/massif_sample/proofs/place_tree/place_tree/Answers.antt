@@ -1,0 +1,57 @@
+use Rattle.std.proofs.Common.{◌≡◌, ℕ, ◌≤◌, ◌^◌, true, List, length, ap, sym, ◌∙◌, arith, rules}
+use Rattle.std.specs.Prelude.{Some, slice_index_or, sum}
+use Rattle.std.proofs.lemmas.Result.{IfOk-weaker}
+use Rattle.cost_tree.specs.Costed.{costed}
+use Rattle.massif_tree.specs.FunctionLists.{trimmed_before}
+use Rattle.massif_tree.specs.MassifTree.{massif_tree}
+use Rattle.massif_sample.specs.Padded.{padded}
+use Rattle.massif_sample.proofs.AtPlace.{padded-at, padded-count, padded-within}
+use Rattle.massif_sample.proofs.place_tree.place_tree.Goals as goal
+
+pub new-costing-requires : goal.new-costing-requires
+new-costing-requires c =
+    let costs : List ℕ = c.args.costs.now in
+    let fits : sum costs ≤ 2 ^ 62 = search rules in
+    let count = padded-count c.len.result costs in
+    record {
+      stated = (
+        padded c.len.result costs,
+        record {
+          count = omega arith;
+          bound = let within = padded-within c.len.result costs in omega arith;
+          callable = λ stack below. search rules;
+          cost = λ stack cost below says. let is : cost ≡ slice_index_or costs stack 0 = search rules in padded-at c.len.result costs stack below ∙ ap (λ (n : ℕ). Some n) (sym is);
+        },
+      );
+    }
+
+pub snapshot_tree-requires-clause-stated : goal.snapshot_tree-requires-clause-stated
+snapshot_tree-requires-clause-stated c =
+    let costs : List ℕ = c.args.costs.now in
+    let fits : sum costs ≤ 2 ^ 62 = search rules in
+    let count = padded-count c.len.result costs in (
+      padded c.len.result costs,
+      c.new-costing.ensures.stated (padded c.len.result costs) (record {
+        count = omega arith;
+        bound = let within = padded-within c.len.result costs in omega arith;
+        callable = λ stack below. search rules;
+        cost = λ stack cost below says. let is : cost ≡ slice_index_or costs stack 0 = search rules in padded-at c.len.result costs stack below ∙ ap (λ (n : ℕ). Some n) (sym is);
+      }),
+    )
+
+pub returns : goal.returns
+returns c =
+    let costs : List ℕ = c.args.costs.now in
+    let fits : sum costs ≤ 2 ^ 62 = search rules in
+    let count = padded-count c.len.result costs in
+    IfOk-weaker c.snapshot_tree.result _ _
+    (λ lines is tables names are.
+    is tables names (padded c.len.result costs) are
+    (c.new-costing.ensures.stated (padded c.len.result costs) (record {
+      count = omega arith;
+      bound = let within = padded-within c.len.result costs in omega arith;
+      callable = λ stack below. search rules;
+      cost = λ stack cost below says. let told : cost ≡ slice_index_or costs stack 0 = search rules in padded-at c.len.result costs stack below ∙ ap (λ (n : ℕ). Some n) (sym told);
+    }))
+    ∙ ap (λ (n : ℕ). massif_tree c.args.options.now c.args.total (costed (trimmed_before tables names (length c.args.fronts.now)) (padded n costs))) c.len.ensures.count)
+    c.snapshot_tree.ensures.lines

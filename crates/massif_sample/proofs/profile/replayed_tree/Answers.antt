@@ -1,0 +1,21 @@
+use Rattle.std.proofs.Common.{ℕ, List, length, ap, ◌∙◌, sym}
+use Rattle.std.specs.Prelude.{slice_index}
+use Rattle.std.proofs.lemmas.Result.{IfOk-weaker}
+use Rattle.cost_tree.specs.Costed.{costed}
+use Rattle.massif_tree.specs.FunctionLists.{trimmed_before}
+use Rattle.massif_tree.specs.MassifTree.{massif_tree}
+use Rattle.cost_history.specs.ReplayState.{ReplayState}
+use Rattle.cost_history.specs.declared.change.Change.{Change}
+use Rattle.massif_sample.specs.Padded.{told}
+use Rattle.massif_sample.proofs.AtPlace.{padded-told}
+use Rattle.massif_sample.proofs.profile.replayed_tree.Goals as goal
+
+pub returns-clause-tree : goal.returns-clause-tree
+returns-clause-tree c =
+    IfOk-weaker c.place_tree.result _ _
+    (λ lines is tables names are.
+    is tables names are
+    ∙ ap (λ (cs : List ℕ). massif_tree c.args.options.now c.args.entry.now.total (costed (trimmed_before tables names (length c.args.fronts.now)) cs))
+    (padded-told (length c.args.fronts.now) c.costs.result.now c.move_to.new.self.changes c.args.entry.now.place (λ stack. ap (λ (xs : List ℕ). slice_index xs stack) c.costs.ensures ∙ c.move_to.ensures.costs stack)
+    ∙ ap (λ (cs : List Change). told (length c.args.fronts.now) cs c.args.entry.now.place) (ap (λ (r : ReplayState). r.changes) c.move_to.ensures.rest)))
+    c.place_tree.ensures

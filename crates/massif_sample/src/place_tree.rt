@@ -1,0 +1,61 @@
+//! The tree of a place that was kept, of what each stack cost there.
+ghost use Rattle.std.specs.Prelude.{◌≡◌, ℕ, ◌+◌, ◌^◌, ◌≤◌, true, List, length, slice_index_or, sum, IfOk};
+ghost use Rattle.cost_tree.specs.Costed.{costed};
+ghost use Rattle.ht_trace.specs.TableState.{TableState};
+ghost use Rattle.massif_tree.specs.FirstLists.{first_lists};
+ghost use Rattle.massif_tree.specs.FunctionLists.{trimmed_before};
+ghost use Rattle.massif_tree.specs.MassifTree.{massif_tree};
+ghost use Rattle.massif_sample.specs.Padded.{padded};
+
+use cost_tree::{Costing, Fronts};
+use hp_num::NoMemory;
+use massif_file::Tree;
+use massif_tree::{TreeOptions, snapshot_tree};
+use std::alloc::Global;
+
+/// The most that all stacks cost together, in bytes.
+const MOST: u64 = 0x4000_0000_0000_0000;
+
+/// The lines of the tree with this total, over the stacks' lists, or `NoMemory`. A stack behind the costs costs nothing.
+pub(crate) fn place_tree(
+    alloc: Global,
+    fronts: &Fronts,
+    options: &TreeOptions,
+    total: u64,
+    costs: &[u64],
+) -> Result<Tree, NoMemory>
+    ensures { IfOk result (λ lines. (tables : TableState) (names : List (List ℕ)) → fronts.now ≡ first_lists tables names (options.now.depth + 1) (length fronts.now) →
+        lines ≡ massif_tree options.now total (costed (trimmed_before tables names (length fronts.now)) (padded (length fronts.now) costs.now))) }
+{
+    // What stacks cost together at a place is live there, and a trace allocates at most 2^62 bytes in all. So they always
+    // are, and this only tells the bound.
+    if !are_bounded(costs) {
+        return Err(NoMemory);
+    }
+    let costing = Costing::new(fronts.len(), |stack: u32| cost_at(costs, stack));
+    snapshot_tree(alloc, fronts, &costing, options, total)
+}
+
+/// Whether the costs sum to at most 2^62.
+fn are_bounded(costs: &[u64]) -> bool
+    ensures { result ≡ true → sum costs.now ≤ 2 ^ 62 }
+{
+    let mut total: u64 = 0;
+    for cost in costs {
+        if *cost > MOST - total {
+            return false;
+        }
+        total += *cost;
+    }
+    true
+}
+
+/// What the stack costs, and 0 where it has no cost.
+fn cost_at(costs: &[u64], stack: u32) -> u64
+    ensures { result ≡ slice_index_or costs.now stack 0 }
+{
+    match costs.get(stack as usize) {
+        Some(cost) => *cost,
+        None => 0,
+    }
+}
