@@ -26,10 +26,14 @@ build:
 	mkdir -p bin
 	cp crates/heapsuite/out/heapsuite crates/heaprec/out/heaprec bin/
 
+$(PROGRAMS:%=bin/%):
+	$(MAKE) build
+
 test:
 	rt ci
 
-install: build
+# Takes the programs that stand in bin/, and builds them only where they aren't there.
+install: $(PROGRAMS:%=bin/%)
 	install -d $(BIN) $(SHARE)/man/man1 $(SHARE)/bash-completion/completions \
 	    $(SHARE)/zsh/site-functions $(SHARE)/fish/vendor_completions.d
 	install $(PROGRAMS:%=bin/%) $(SCRIPTS:%=scripts/%) $(BIN)
