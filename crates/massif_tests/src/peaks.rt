@@ -181,6 +181,19 @@ fn peak_offers(rt: HostRuntime) -> Result<(), NoMemory> {
     Ok(())
 }
 
+/// Takes an allocation and a free of the greatest block.
+fn take_greatest<A: Fn(&[u8]) -> bool, I: Fn(&[u8]) -> bool>(
+    rt: &impl Abort,
+    run: &mut Run<A, I>,
+) -> Result<(), SampleFault>
+    requires alloc_callable { A.IsAlwaysCallable run.old.sampler.alloc_fns.test }
+    requires ignore_callable { I.IsAlwaysCallable run.old.sampler.ignore_fns.test }
+    requires following { AreFollowing (FnReturnsAt A.Fn run.old.sampler.alloc_fns.test) (FnReturnsAt I.Fn run.old.sampler.ignore_fns.test) run.old.sampler.judged.items run.old.sampler.samples run.old.tables run.old.ledger }
+{
+    take(rt, run, true, 3)?;
+    take(rt, run, false, 3)
+}
+
 /// The snapshots of one block of the most bytes, which is allocated and freed, with these names.
 fn greatest_peak<A: Fn(&[u8]) -> bool, I: Fn(&[u8]) -> bool>(
     rt: &impl Abort,
@@ -193,8 +206,7 @@ fn greatest_peak<A: Fn(&[u8]) -> bool, I: Fn(&[u8]) -> bool>(
     requires stated { (names : FunctionNames) × AreStated (FnReturnsAt A.Fn alloc_fns.test) (FnReturnsAt I.Fn ignore_fns.test) names }
 {
     let mut run = begin(alloc, IN_EVENTS, alloc_fns, ignore_fns)?;
-    assert_eq!(rt; take(rt, &mut run, true, 3), Ok(()));
-    assert_eq!(rt; take(rt, &mut run, false, 3), Ok(()));
+    assert_eq!(rt; take_greatest(rt, &mut run), Ok(()));
     let profile = profile_of(run)?;
     shown(rt, alloc, &profile.snaps)
 }
