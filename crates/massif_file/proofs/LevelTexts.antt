@@ -24,11 +24,11 @@ texts_of (a_tree bytes label children others) m outer rest =
     ap (λ (k : ℕ). tree_lines (without_done (k ∷ outer)) (line ∷ ((lines_of children ++ lines_of others) ++ rest))) first
     ∙ ap (λ (k : ℕ). (blanks k ++ node_text line) ∷ tree_lines (after_line (count_of children) (suc n ∷ outer)) ((lines_of children ++ lines_of others) ++ rest)) level
     ∙ ap (λ (lines : List (List ℕ)). (blanks (length outer) ++ node_text line) ∷ lines) (
-      ap (λ (lines : List TreeLine). tree_lines (after_line (count_of children) (suc n ∷ outer)) lines) (append_assoc (lines_of children) (lines_of others) rest)
-      ∙ ap (λ (to_come : List ℕ). tree_lines to_come (lines_of children ++ (lines_of others ++ rest))) begun
-      ∙ below
-      ∙ ap (λ (lines : List (List ℕ)). tree_texts (suc (length outer)) children ++ lines) beside
-      ∙ sym (append_assoc (tree_texts (suc (length outer)) children) (tree_texts (length outer) others) (tree_lines (without_done (m ∷ outer)) rest))
+    ap (λ (lines : List TreeLine). tree_lines (after_line (count_of children) (suc n ∷ outer)) lines) (append_assoc (lines_of children) (lines_of others) rest)
+    ∙ ap (λ (to_come : List ℕ). tree_lines to_come (lines_of children ++ (lines_of others ++ rest))) begun
+    ∙ below
+    ∙ ap (λ (lines : List (List ℕ)). tree_texts (suc (length outer)) children ++ lines) beside
+    ∙ sym (append_assoc (tree_texts (suc (length outer)) children) (tree_texts (length outer) others) (tree_lines (without_done (m ∷ outer)) rest))
     )
 
 -- the lines of one tree
