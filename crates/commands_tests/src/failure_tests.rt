@@ -134,10 +134,7 @@ fn failing_flush(rt: HostRuntime) -> Result<(), Fail> {
     };
     let mut all = Vec::new(alloc);
     append_run(alloc, &setting, b"", "", &mut all)?;
-    assert_eq!(rt;
-        all.as_slice(),
-        "usage: heapsuite COMMAND [OPTION]... [FILE]\ncommands: summary print flame interpret massif ms_print dhat gen dhat_view\n[4]\n".as_bytes()
-    );
+    assert_eq!(rt; all.as_slice(), "(usage)\n[4]\n".as_bytes());
     Ok(())
 }
 

@@ -17,8 +17,8 @@ pub const TWO_SIZES: &str = "v 10500 2\na 64 0\na 20 0\n+ 0\n+ 1\n- 0\n+ 0\n";
 pub const WORKED: &str =
     "v 10500 2\nX demo\nI 1000 3e80\ns app\ns main\ns f\ns a.c\ni 400 1 2 4 14\ni 500 1 3 4 a\nt 1 0\nt 2 1\na 64 2\na 64 1\n+ 0\nc 5\nR 100\n- 0\n+ 1\n";
 
-/// How the program is called.
-pub const USAGE: &str =
+/// How the program is called. Transcripts show it as `(usage)`.
+const USAGE: &str =
     "usage: heapsuite COMMAND [OPTION]... [FILE]\ncommands: summary print flame interpret massif ms_print dhat gen dhat_view\n";
 
 /// How runs are made, and the front of the file `t` that they find. A call of number 0 never fails.
@@ -121,10 +121,18 @@ fn status_of(
     )
 }
 
+/// Appends what an output got.
+fn put_got(got: &[u8], all: &mut Vec<u8>) -> Result<(), NoMemory> {
+    if got == USAGE.as_bytes() {
+        return put_bytes(all, b"(usage)\n");
+    }
+    put_bytes(all, got)
+}
+
 /// Appends what both outputs got and the status in brackets.
 fn put_answer(outputs: &Outputs, status: u8, all: &mut Vec<u8>) -> Result<(), NoMemory> {
-    put_bytes(all, outputs.out.bytes())?;
-    put_bytes(all, outputs.err.bytes())?;
+    put_got(outputs.out.bytes(), all)?;
+    put_got(outputs.err.bytes(), all)?;
     put_bytes(all, b"[")?;
     put_dec(all, u64::from(status))?;
     put_bytes(all, b"]\n")
