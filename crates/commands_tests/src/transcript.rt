@@ -208,7 +208,12 @@ fn gathered(alloc: Global, status: u8, outputs: &Outputs) -> Result<Ran, NoMemor
 }
 
 /// Runs the words, which stand between blanks, where `t` has these bytes.
-pub fn run_once(alloc: Global, setting: &Setting, file: &[u8], words: &str) -> Result<Ran, NoMemory> {
+pub fn run_once(
+    alloc: Global,
+    setting: &Setting,
+    file: &[u8],
+    words: &str,
+) -> Result<Ran, NoMemory> {
     let words = words_of(alloc, words)?;
     let mut store = folder(alloc, setting, file)?;
     let mut outputs = empty_outputs(alloc, setting)?;
