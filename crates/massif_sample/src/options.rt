@@ -36,6 +36,9 @@ impl MassifOptions {
         ensures least { size ≤ result }
         ensures most { result ≤ size + 5120 }
     {
-        (size + (self.alignment - 1)) / self.alignment * self.alignment + self.admin
+        // The alignment is a power of two, so that what the end is over a multiple of it is in its lower bits.
+        let over = self.alignment - 1;
+        let end = size + over;
+        end - (end & over) + self.admin
     }
 }

@@ -27,4 +27,5 @@ invariant_of-self g c =
         normals_below = before.normals_below;
       },
       record { max = c.remove-load.ensures.max ∙ c.self.invariant.1.max },
+      record { normal = c.normal_from-self.ensures.time; normal_most = c.normal_from-self.ensures.most; peak = c.self.invariant.2.peak },
     )

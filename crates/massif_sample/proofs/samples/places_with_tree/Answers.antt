@@ -5,7 +5,7 @@ use Rattle.std.proofs.lemmas.List.Elements.{Contains-append_left, Contains-push}
 use Rattle.std.proofs.lemmas.Option.{same_Some, slice_get_within}
 use Rattle.massif_cull.specs.declared.snapshot.SnapEntry.{SnapEntry}
 use Rattle.massif_sample.specs.Snapshots.{shows_tree}
-use Rattle.massif_sample.proofs.samples.tree_places.Goals as goal
+use Rattle.massif_sample.proofs.samples.places_with_tree.Goals as goal
 
 pub entries-init : goal.entries-init
 entries-init c = λ k entry below at shows. absurd (omega arith)
