@@ -1,11 +1,14 @@
 -- The names of a list, each once.
-use Rattle.std.proofs.Common.{◌≡◌, ℕ, ◌↔◌, Bool, true, false, ◌||◌, List, [], ◌∷◌, ◌++◌, refl, sym, ap, subst, ◌∙◌, not, Contains, IsTrue}
+use Rattle.std.proofs.Common.{◌≡◌, ℕ, ◌<◌, ◌↔◌, Bool, true, false, cond, ◌||◌, List, [], ◌∷◌, ◌++◌, length, nat_lt, refl, sym, ap, subst, ◌∙◌, not, append-nil, arith, Contains, IsTrue}
 use Rattle.std.specs.List.{filter, list_any}
 use Rattle.std.specs.Str.{bytes_eq}
+use Rattle.std.proofs.lemmas.Bool.Decides.{nat_tests}
+use Rattle.std.proofs.lemmas.List.Elements.{filter-append}
 use Rattle.std.proofs.lemmas.List.Folds.{list_any_at}
 use Rattle.std.proofs.lemmas.Map.Views.{Contains-from_any}
 use Rattle.std.proofs.lemmas.Slice.Eq.{bytes_eq-Decides}
 use Rattle.intern_tables.specs.WithoutRepeats.{without_repeats}
+use Rattle.commands.specs.NameList.{with_text}
 
 -- a list contains what a test of each element finds
 found : (name : List ℕ) (names : List (List ℕ)) → (IsTrue (list_any (bytes_eq name) names) ↔ Contains names name)
@@ -44,3 +47,15 @@ Contains-once names name = (
   (λ held. (found name names).0 (sym (found-once name names) ∙ (found name (without_repeats bytes_eq names)).1 held)),
   (λ held. (found name (without_repeats bytes_eq names)).0 (found-once name names ∙ (found name names).1 held)),
 )
+
+-- the pieces that count, with one more
+counted : (came : List (List ℕ)) (piece : List ℕ) (counts : Bool) → nat_lt 0 (length piece) ≡ counts → with_text (came ++ piece ∷ []) ≡ with_text came ++ cond counts (piece ∷ []) []
+counted came piece counts is =
+    filter-append (λ (text : List ℕ). nat_lt 0 (length text)) came (piece ∷ [])
+    ∙ ap (λ (b : Bool). with_text came ++ cond {A = List (List ℕ)} b (piece ∷ []) []) is
+
+pub with_text-none : (came : List (List ℕ)) (piece : List ℕ) → length piece ≡ 0 → with_text (came ++ piece ∷ []) ≡ with_text came
+with_text-none came piece empty = counted came piece false (grind (arith, nat_tests)) ∙ append-nil (with_text came)
+
+pub with_text-more : (came : List (List ℕ)) (piece : List ℕ) → 0 < length piece → with_text (came ++ piece ∷ []) ≡ with_text came ++ piece ∷ []
+with_text-more came piece some = counted came piece true (grind (arith, nat_tests))

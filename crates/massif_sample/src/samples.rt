@@ -123,7 +123,10 @@ impl Samples {
     /// The offer of a snapshot of the present place.
     #[inline(always)]
     fn offer(&self, as_peak: bool) -> Offer
-        ensures { result ≡ offer_of self.now.running as_peak }
+        ensures exact { result ≡ offer_of self.now.running as_peak }
+        ensures time { result.time ≡ self.now.running.time }
+        ensures total { result.total ≡ self.now.running.gross }
+        ensures peak { result.peak ≡ as_peak }
     {
         Offer {
             place: self.running.place,
