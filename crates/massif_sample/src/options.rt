@@ -29,6 +29,7 @@ pub struct MassifOptions {
 impl MassifOptions {
     /// What a block of this size takes of the heap: the size rounded up to a multiple of the alignment, and the bytes of
     /// administration.
+    #[inline(always)]
     pub(crate) fn gross(&self, size: u64) -> u64
         requires options { AreInRange self.now }
         requires size { size ≤ 2 ^ 62 }

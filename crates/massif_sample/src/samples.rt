@@ -228,6 +228,7 @@ impl Samples {
     }
 
     /// The figures behind an allocation that is counted, or `None` where one of them passes 2^62.
+    #[inline(always)]
     pub(crate) fn allocated(&self, size: u64) -> Option<Running>
         requires place { self.now.running.place < 2 ^ 32 }
         requires size { size ≤ 2 ^ 62 }
@@ -240,6 +241,7 @@ impl Samples {
     }
 
     /// The figures behind a free that is counted, or `None` where one of them passes 2^62.
+    #[inline(always)]
     pub(crate) fn freed(&self, size: u64) -> Option<Running>
         requires place { self.now.running.place < 2 ^ 32 }
         requires block { HasBlock self.now.options self.now.running size }
@@ -252,6 +254,7 @@ impl Samples {
     }
 
     /// Moves on to the place behind an event of the stack that is counted, which has these figures, and marks the stack.
+    #[inline(always)]
     pub(crate) fn move_to(&mut self, next: Running, stack: u32)
         requires follows { Follows self.old.options self.old.running next }
         ensures samples { self.new ≡ record self.old { running = next; history = self.new.history } }
@@ -338,9 +341,10 @@ fn places_with_tree(alloc: Global, entries: &[SnapEntry]) -> Result<Vec<u64>, No
 {
     let mut places = Vec::new(alloc);
     'entries: for entry in entries {
-        if has_tree(entry.kind) {
-            places.push(entry.place)?;
+        if !has_tree(entry.kind) {
+            continue;
         }
+        places.push(entry.place)?;
     }
     Ok(places)
 }

@@ -161,6 +161,7 @@ fn sample_ledger<A: Fn(&[u8]) -> bool>(
 }
 
 /// Applies the event of the stack, which has no fault and is counted, to the ledger, and offers the snapshot behind it.
+#[inline(always)]
 fn advance<A: Fn(&[u8]) -> bool>(
     samples: &mut Samples,
     judged: &[bool],
@@ -203,6 +204,7 @@ fn advance<A: Fn(&[u8]) -> bool>(
 }
 
 /// Applies the event, which has no fault and isn't counted, to the ledger.
+#[inline(always)]
 fn pass(samples: &mut Samples, event: Event, ledger: &mut Ledger) -> Result<(), SampleFault>
     requires held { IsHeld ledger.old event }
     requires count { ledger.old.totals.events < 2 ^ 32 }
@@ -230,6 +232,7 @@ fn tick(samples: &mut Samples, ms: u64, ledger: &mut Ledger) -> Result<(), Sampl
 }
 
 /// Takes an event: applies it to the ledger and takes the snapshots that are due.
+#[inline(always)]
 pub(crate) fn take_event<A: Fn(&[u8]) -> bool>(
     samples: &mut Samples,
     judged: &[bool],
@@ -270,6 +273,7 @@ pub(crate) fn take_event<A: Fn(&[u8]) -> bool>(
 }
 
 /// Takes an allocation in the stack.
+#[inline(always)]
 fn take_alloc<A: Fn(&[u8]) -> bool>(
     samples: &mut Samples,
     judged: &[bool],
@@ -313,6 +317,7 @@ fn take_alloc<A: Fn(&[u8]) -> bool>(
 }
 
 /// Takes a free of a block of the stack.
+#[inline(always)]
 fn take_free<A: Fn(&[u8]) -> bool>(
     samples: &mut Samples,
     judged: &[bool],

@@ -1,11 +1,13 @@
-use Rattle.std.proofs.Common.{◌≡◌, ◌≢◌, ◌∙◌, ◌++◌, ◌∷◌, ◌+◌, [], length, subst, sym, inl, inr, rules}
+use Rattle.std.proofs.Common.{◌≡◌, ◌≢◌, ◌∙◌, ◌++◌, ◌∷◌, ◌+◌, [], length, ap, subst, sym, inl, inr, rules}
 use Rattle.massif_cull.specs.declared.snapshot.Offer.{Offer}
 use Rattle.massif_cull.specs.declared.snapshot.Taken.TheVariants.{Normal}
 use Rattle.massif_cull.specs.KeptOf.{kept_of}
 use Rattle.live_ledger.specs.Events.{event_count}
 use Rattle.massif_sample.specs.Due.{IsTakenAs, with_tree}
+use Rattle.massif_sample.specs.declared.running.Running.{Running}
 use Rattle.massif_sample.specs.FunctionNames.{ignores}
 use Rattle.massif_sample.specs.Options.{settings_of}
+use Rattle.massif_sample.specs.SamplesState.{SamplesState}
 use Rattle.massif_sample.specs.Snapshots.{cost_at}
 use Rattle.massif_sample.specs.StandsFor.{IsSampling}
 use Rattle.massif_sample.specs.View.{offer_of}
@@ -48,8 +50,10 @@ returns-in_err-keep-clause-due g c =
 
 pub returns-clause-sampling : goal.returns-clause-sampling
 returns-clause-sampling g c =
+    let same : c.keep.new.self.running ≡ c.args.samples.now.running =
+    ap (λ (s : SamplesState). s.running) c.keep.ensures.samples ∙ ap (λ (s : SamplesState). s.running) c.add_fronts.ensures.samples in
     λ names events made texts said was.
-    let offer_is = offer-now c.args.samples.now.options (ignores c.args.tables.now names) events c.args.samples.now.running c.args.as_peak was.figures in
+    let offer_is = ap (λ (r : Running). offer_of r c.args.as_peak) same ∙ offer-now c.args.samples.now.options (ignores c.args.tables.now names) events c.args.samples.now.running c.args.as_peak was.figures in
     let known = c.in_ok-add_fronts.ensures.sampling names events made texts was in
     let here = said-as c.stacks.result (length c.args.tables.now.nodes + 1) (cost_at (ignores c.args.tables.now names) events (event_count events)) c.stacks.ensures.count said in
     subst (λ (o : Offer). IsSampling c.take-2.new.self names c.args.tables.now events (made ++ o ∷ [])) offer_is
