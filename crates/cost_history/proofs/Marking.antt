@@ -1,6 +1,6 @@
 -- Marks: what is listed, and what is marked.
-use Rattle.std.proofs.Common.{◌≡◌, ◌≢◌, ℕ, ◌+◌, ◌<◌, ◌≤◌, zero, suc, List, [], ◌∷◌, ◌++◌, length, get_or, set, take, Bool, true, false, refl, inl, inr, sym, ap, ◌∙◌, arith}
-use Rattle.std.specs.Prelude.{◌||◌, slice_get, slice_index, Some}
+use Rattle.std.proofs.Common.{◌≡◌, ◌≢◌, ℕ, ◌+◌, ◌<◌, ◌≤◌, zero, suc, List, [], ◌∷◌, ◌++◌, length, get_or, set, take, Bool, true, false, cond, refl, inl, inr, sym, ap, ◌∙◌, arith}
+use Rattle.std.specs.Prelude.{◌||◌, nat_lt, slice_get, slice_index, Some}
 use Rattle.std.proofs.Math.Dec.{eqb}
 use Rattle.std.specs.List.{range_with_len}
 use Rattle.std.proofs.lemmas.List.FromFn.{get_or-range_with_len, length-range_with_len}
@@ -8,8 +8,8 @@ use Rattle.std.proofs.lemmas.Option.{slice_get-get_or}
 use Rattle.std.proofs.lemmas.Bool.Decides.{eqb_tells}
 use Rattle.std.proofs.lemmas.Bool.{both_ways, cases_Bool, cases_eq, eq-eqb, ne_eqb}
 use Rattle.std.proofs.lemmas.List.{get_or_read, get_or-take, length-take-le, take_more_set}
-use Rattle.cost_history.specs.Marks.{MarksState, candidates, has, is_marked}
-use Rattle.cost_history.specs.MarksView.{marks_of}
+use Rattle.cost_history.specs.Marks.{MarksState, RoomyMarks, candidates, has, is_marked, marked_with, with_mark}
+use Rattle.cost_history.specs.MarksView.{listed_of}
 
 pub has-first : (first : ℕ) (others : List ℕ) (stack : ℕ) → first ≡ stack → has (first ∷ others) stack ≡ true
 has-first first others stack own = ap (λ (b : Bool). b || has others stack) (eq-eqb first stack own)
@@ -58,21 +58,43 @@ or-more : (a b c : Bool) → (b ≡ true → c ≡ true) → (a || b) ≡ true �
 or-more false b c more is = more is
 or-more true b c more is = refl
 
--- a stack that is listed is marked
-pub marked-listed : (marks : MarksState) (stack : ℕ) → has marks.listed stack ≡ true → is_marked marks stack ≡ true
-marked-listed marks stack listed = or-right marks.all (has marks.listed stack) listed
+-- the stack is marked with its mark, and so is what was
+with_mark-marked : (marks : MarksState) (stack : ℕ) → is_marked (with_mark marks stack) stack ≡ true
+with_mark-marked marks stack =
+    elim (cases_Bool (has marks.listed stack)) [
+      | inl was ↦
+          ap (λ (b : Bool). is_marked (cond {A = MarksState} b marks (record marks { listed = marks.listed ++ stack ∷ [] })) stack) was
+          ∙ or-right marks.all (has marks.listed stack) was
+      | inr none ↦
+          ap (λ (b : Bool). is_marked (cond {A = MarksState} b marks (record marks { listed = marks.listed ++ stack ∷ [] })) stack) none
+          ∙ or-right marks.all (has (marks.listed ++ stack ∷ []) stack) (has-push marks.listed stack)
+    ]
 
--- the order with one more
-pub listed-more : (order : List ℕ) (count stack : ℕ) → count < length order → take (count + 1) (set order count stack) ≡ take count order ++ stack ∷ []
-listed-more order count stack room = take_more_set order count stack room
+with_mark-still : (marks : MarksState) (stack other : ℕ) → is_marked marks other ≡ true → is_marked (with_mark marks stack) other ≡ true
+with_mark-still marks stack other is =
+    elim (cases_Bool (has marks.listed stack)) [
+      | inl was ↦ ap (λ (b : Bool). is_marked (cond {A = MarksState} b marks (record marks { listed = marks.listed ++ stack ∷ [] })) other) was ∙ is
+      | inr none ↦
+          ap (λ (b : Bool). is_marked (cond {A = MarksState} b marks (record marks { listed = marks.listed ++ stack ∷ [] })) other) none
+          ∙ or-more marks.all (has marks.listed other) _ (has-still marks.listed stack other) is
+    ]
 
-pub marked-more : (order : List ℕ) (count stack : ℕ) (all : Bool) → count < length order → is_marked (marks_of (set order count stack) (count + 1) all) stack ≡ true
-marked-more order count stack all room =
-    or-right all _ (ap (λ (xs : List ℕ). has xs stack) (listed-more order count stack room) ∙ has-push (take count order) stack)
+abbrev with_room : Bool → RoomyMarks → ℕ → RoomyMarks
+with_room room state stack = cond room (record state { marks = with_mark state.marks stack }) (record state { marks = record state.marks { all = true } })
 
-pub still-more : (order : List ℕ) (count stack : ℕ) (all : Bool) (other : ℕ) → count < length order → is_marked (marks_of order count all) other ≡ true → is_marked (marks_of (set order count stack) (count + 1) all) other ≡ true
-still-more order count stack all other room is =
-    or-more all (has (take count order) other) _ (λ was. ap (λ (xs : List ℕ). has xs other) (listed-more order count stack room) ∙ has-still (take count order) stack other was) is
+pub marked_with-marked : (state : RoomyMarks) (stack : ℕ) → is_marked (marked_with state stack).marks stack ≡ true
+marked_with-marked state stack =
+    elim (cases_Bool (nat_lt stack state.room)) [
+      | inl room ↦ ap (λ (b : Bool). is_marked (with_room b state stack).marks stack) room ∙ with_mark-marked state.marks stack
+      | inr full ↦ ap (λ (b : Bool). is_marked (with_room b state stack).marks stack) full
+    ]
+
+pub marked_with-still : (state : RoomyMarks) (stack other : ℕ) → is_marked state.marks other ≡ true → is_marked (marked_with state stack).marks other ≡ true
+marked_with-still state stack other is =
+    elim (cases_Bool (nat_lt stack state.room)) [
+      | inl room ↦ ap (λ (b : Bool). is_marked (with_room b state stack).marks other) room ∙ with_mark-still state.marks stack other is
+      | inr full ↦ ap (λ (b : Bool). is_marked (with_room b state stack).marks other) full
+    ]
 
 -- what isn't marked after a mark is another stack, which wasn't marked before
 pub unmarked-still : (before after : MarksState) (stack other : ℕ)
@@ -89,33 +111,25 @@ unmarked-still before after stack other marked still none = (
 )
 
 -- the candidates are all stacks, or those that are listed
-pub count-all : (order : List ℕ) (count stacks : ℕ) (all : Bool) → all ≡ true → stacks ≡ length (candidates (marks_of order count all) stacks)
-count-all order count stacks all is = sym (ap (λ (b : Bool). length (candidates (marks_of order count b) stacks)) is ∙ length-range_with_len 0 stacks)
+pub count-all : (order : List ℕ) (count stacks : ℕ) (all : Bool) → all ≡ true → stacks ≡ length (candidates (listed_of order count all) stacks)
+count-all order count stacks all is = sym (ap (λ (b : Bool). length (candidates (listed_of order count b) stacks)) is ∙ length-range_with_len 0 stacks)
 
-pub count-listed : (order : List ℕ) (count stacks : ℕ) (all : Bool) → count ≤ length order → all ≡ false → count ≡ length (candidates (marks_of order count all) stacks)
-count-listed order count stacks all room is = sym (ap (λ (b : Bool). length (candidates (marks_of order count b) stacks)) is ∙ length-take-le count order room)
+pub count-listed : (order : List ℕ) (count stacks : ℕ) (all : Bool) → count ≤ length order → all ≡ false → count ≡ length (candidates (listed_of order count all) stacks)
+count-listed order count stacks all room is = sym (ap (λ (b : Bool). length (candidates (listed_of order count b) stacks)) is ∙ length-take-le count order room)
 
-pub at-all : (order : List ℕ) (count stacks i : ℕ) (all : Bool) → all ≡ true → i < length (candidates (marks_of order count all) stacks) → slice_get (candidates (marks_of order count all) stacks) i ≡ Some i
+pub at-all : (order : List ℕ) (count stacks i : ℕ) (all : Bool) → all ≡ true → i < length (candidates (listed_of order count all) stacks) → slice_get (candidates (listed_of order count all) stacks) i ≡ Some i
 at-all order count stacks i all is within =
     let long = count-all order count stacks all is in
-    ap (λ (b : Bool). slice_get (candidates (marks_of order count b) stacks) i) is
+    ap (λ (b : Bool). slice_get (candidates (listed_of order count b) stacks) i) is
     ∙ slice_get-get_or (range_with_len 0 stacks) i 0 (let count_is = length-range_with_len 0 stacks in omega arith)
     ∙ ap (λ (n : ℕ). Some n) (let at : get_or (range_with_len 0 stacks) i 0 ≡ i = (let found = get_or-range_with_len 0 stacks i 0 (omega arith) in omega arith) in at)
 
-pub listed-within : (order : List ℕ) (count stacks i : ℕ) (all : Bool) → count ≤ length order → all ≡ false → i < length (candidates (marks_of order count all) stacks) → i < count
+pub listed-within : (order : List ℕ) (count stacks i : ℕ) (all : Bool) → count ≤ length order → all ≡ false → i < length (candidates (listed_of order count all) stacks) → i < count
 listed-within order count stacks i all room is within = let long = count-listed order count stacks all room is in omega arith
 
-pub at-listed : (order : List ℕ) (count stacks i result : ℕ) (all : Bool) → count ≤ length order → all ≡ false → i < length (candidates (marks_of order count all) stacks) → result ≡ get_or order i result → slice_get (candidates (marks_of order count all) stacks) i ≡ Some result
+pub at-listed : (order : List ℕ) (count stacks i result : ℕ) (all : Bool) → count ≤ length order → all ≡ false → i < length (candidates (listed_of order count all) stacks) → result ≡ get_or order i result → slice_get (candidates (listed_of order count all) stacks) i ≡ Some result
 at-listed order count stacks i result all room is within read =
     let below = listed-within order count stacks i all room is within in
-    ap (λ (b : Bool). slice_get (candidates (marks_of order count b) stacks) i) is
+    ap (λ (b : Bool). slice_get (candidates (listed_of order count b) stacks) i) is
     ∙ slice_get-get_or (take count order) i 0 (let long = length-take-le count order room in omega arith)
     ∙ ap (λ (n : ℕ). Some n) (get_or-take count order i 0 below ∙ sym (get_or_read order i result (omega arith) read 0))
-
--- what is found equal is equal
-same-number : (a b : ℕ) → eqb a b ≡ true → a ≡ b
-same-number a b is = elim (eqb_tells a b) [ inl same ↦ same.1 | inr other ↦ absurd (both_ways _ other.0 is) ]
-
--- what stands at a checked place
-pub listed-there : (order : List ℕ) (count place stack read : ℕ) → count ≤ length order → place < count → read ≡ get_or order place read → eqb read stack ≡ true → has (take count order) stack ≡ true
-listed-there order count place stack read room among at is = has-front order count place stack room among (sym (get_or_read order place read (omega arith) at 0) ∙ same-number read stack is)

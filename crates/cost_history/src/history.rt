@@ -33,7 +33,7 @@ impl Model for CostHistory {
 
     ghost Value = { HistoryState };
 
-    ghost view = { λ history. history_of history.marks history.changes.items history.cells.items history.left history.last };
+    ghost view = { λ history. history_of history.marks.marks history.changes.items history.cells.items history.left history.last };
 
     ghost invariant = { λ history. IsKept history.changes.items history.cells.items history.last };
 }
@@ -57,6 +57,9 @@ impl CostHistory {
     pub fn make_room(&mut self) -> Result<(), NoMemory>
         ensures { self.new ≡ self.old }
     {
+        if self.marks.room() == u32::MAX {
+            return Ok(());
+        }
         self.marks.make_room()
     }
 
@@ -164,9 +167,9 @@ fn push_changes<F: Fn(u32) -> u64>(
     ensures pushed { OnOk result ((costs : ℕ → ℕ) →
         ((stack says : ℕ) → stack < stacks → F.post cost.now stack says → says ≡ costs stack) →
         changes.new.items ≡
-        changes.old.items ++ changes_to stacks place costs (candidates marks.now stacks)) }
+        changes.old.items ++ changes_to stacks place costs (candidates marks.now.marks stacks)) }
     ensures most { OnOk result
-        (length changes.new.items ≤ length changes.old.items + length (candidates marks.now stacks)) }
+        (length changes.new.items ≤ length changes.old.items + length (candidates marks.now.marks stacks)) }
     ensures between { OnOk result ((all last : ℕ) → stacks ≤ all → last ≤ place →
         IsBetween all 0 changes.old.items last → IsBetween all 0 changes.new.items place) }
     ensures unchanged { OnErr result (changes.new.items ≡ changes.old.items) }

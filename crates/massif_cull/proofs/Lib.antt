@@ -6,6 +6,7 @@ pub mod Search
 pub mod Places
 pub mod Differences
 pub mod Removals
+pub mod Equals
 pub mod Standing
 pub mod Sound
 pub mod Taking

@@ -1,7 +1,8 @@
 -- How contracts see the fields of an array.
-use Rattle.std.specs.Prelude.{◌≡◌}
+use Rattle.std.specs.Prelude.{◌≡◌, ◌≤◌, ◌^◌}
 use Rattle.massif_cull.specs.declared.array.SnapArray.TheInside.{Inside}
 use Rattle.massif_cull.specs.ArrayState.{ArrayState}
+use Rattle.massif_cull.specs.TakenAs.{next_time_after, peak_bound}
 
 -- the settings, what is kept, and the loads
 abbrev pub state_of : {T : Type 0} → Inside T → ArrayState T
@@ -14,3 +15,9 @@ state_of array = record {
 -- there are as many places as the maximum says
 pub record IsAsLarge {T : Type 0} (array : Inside T) : Type 0 where
   pub max : array.snaps.max ≡ array.max
+
+-- the numbers that offers are judged by are those of what is kept
+pub record JudgesBy {T : Type 0} (array : Inside T) : Type 0 where
+  pub normal : array.normal_from ≡ next_time_after array.snaps.entries array.interval
+  pub normal_most : array.normal_from ≤ 2 ^ 63
+  pub peak : array.peak_above ≡ peak_bound (state_of array).settings (state_of array).kept

@@ -1,6 +1,6 @@
 //! The array of snapshots: which offers it takes, and what it keeps of them.
 //! How entries are removed is in `removal`.
-ghost use Rattle.std.specs.Prelude.{◌≡◌, ◌+◌, ◌*◌, ◌/◌, ◌^◌, ◌<◌, ◌≤◌, List, [], ◌∷◌, ◌++◌, false, length, map, slice_get, Some, None, IfOk, IfSome};
+ghost use Rattle.std.specs.Prelude.{◌≡◌, ◌+◌, ◌*◌, ◌/◌, ◌^◌, ◌<◌, ◌≤◌, List, [], ◌∷◌, ◌++◌, false, length, map, slice_get, Some, None, IfOk, IfSome, vec_capacity};
 ghost use Rattle.massif_cull.specs.declared.snapshot.Offer.{Offer};
 ghost use Rattle.massif_cull.specs.declared.snapshot.Taken.TheVariants.{No};
 ghost use Rattle.massif_cull.specs.Among.{AreAmong};
@@ -38,6 +38,10 @@ pub struct SnapArray<T: Drop> {
     interval: u64,
     last_peak: u64,
     normals: u64,
+    /// The least time at which a normal offer is taken.
+    normal_from: u64,
+    /// The greatest total that isn't taken as a peak.
+    peak_above: u64,
 }
 
 impl<T: Drop> Model for SnapArray<T> {
@@ -45,11 +49,11 @@ impl<T: Drop> Model for SnapArray<T> {
 
     ghost Value = { ArrayState T };
 
-    ghost use Rattle.massif_cull.specs.View.{state_of, IsAsLarge};
+    ghost use Rattle.massif_cull.specs.View.{state_of, IsAsLarge, JudgesBy};
 
     ghost view = { state_of };
 
-    ghost invariant = { λ array. IsSound (state_of array) × IsAsLarge array };
+    ghost invariant = { λ array. IsSound (state_of array) × IsAsLarge array × JudgesBy array };
 }
 
 impl<T: Drop> SnapArray<T> {
@@ -78,10 +82,14 @@ impl<T: Drop> SnapArray<T> {
             interval: 0,
             last_peak: 0,
             normals: 0,
+            normal_from: 0,
+            peak_above: 0,
         })
     }
 
     /// Whether `offer` would take the offer, and as what. It changes nothing, and needs of the offer what `offer` needs.
+    // Nearly every offer is refused, by one test of a number that changes only where a snapshot is taken.
+    #[inline(always)]
     pub fn judge(&self, offer: &Offer) -> Taken
         requires in_order { last_time self.now.kept.entries ≤ offer.now.time }
         requires time { offer.now.time ≤ 2 ^ 62 }
@@ -93,12 +101,12 @@ impl<T: Drop> SnapArray<T> {
         ensures sound { IsSound self.now }
     {
         if offer.peak {
-            if offer.total > self.last_peak + allowance(self.last_peak, self.inaccuracy) {
+            if offer.total > self.peak_above {
                 return Taken::Peak;
             }
             return Taken::No;
         }
-        if offer.time < self.next_time() {
+        if offer.time < self.normal_from {
             return Taken::No;
         }
         if (self.normals + 1) % self.detailed_freq == 0 {
@@ -157,6 +165,7 @@ impl<T: Drop> SnapArray<T> {
         ensures length { length self.new.kept.entries + length self.old.kept.entries / 2 ≡ length self.old.kept.entries }
     {
         self.interval = self.snaps.cull();
+        self.normal_from = normal_from(&self.snaps, self.interval);
     }
 
     /// Takes the first snapshot out and gives it with its load, and None where none is held. It takes no memory.
@@ -174,6 +183,7 @@ impl<T: Drop> SnapArray<T> {
             return None;
         }
         let Held { entry, load } = self.snaps.remove(self.snaps.first());
+        self.normal_from = normal_from(&self.snaps, self.interval);
         Some((entry, load))
     }
 
@@ -196,6 +206,14 @@ impl<T: Drop> SnapArray<T> {
         self.snaps.entry(self.snaps.spot(i))
     }
 
+    /// Replaces `out` by the snapshots in their order, by one walk. It takes no memory: `out` must have room for them.
+    pub fn entries_into(&self, out: &mut Vec<SnapEntry>)
+        requires room { length self.now.kept.entries ≤ vec_capacity out.old }
+        ensures entries { out.new.items ≡ self.now.kept.entries }
+    {
+        self.snaps.entries_into(out);
+    }
+
     /// The load of the snapshot at place `i`, from 0, which must be held.
     pub fn load(&self, i: u32) -> &T
         requires { i < length self.now.kept.entries }
@@ -209,10 +227,7 @@ impl<T: Drop> SnapArray<T> {
         ensures time { result ≡ next_time_after self.now.kept.entries self.now.kept.interval }
         ensures most { result ≤ 2 ^ 63 }
     {
-        match self.snaps.last() {
-            None => 0,
-            Some(entry) => entry.time + self.interval,
-        }
+        self.normal_from
     }
 
     /// Takes an entry that is no peak.
@@ -231,6 +246,7 @@ impl<T: Drop> SnapArray<T> {
     {
         self.normals = (self.normals + 1) % self.detailed_freq;
         self.interval = append(&mut self.snaps, entry, load, self.interval);
+        self.normal_from = normal_from(&self.snaps, self.interval);
     }
 
     /// Takes an entry as the peak.
@@ -248,7 +264,9 @@ impl<T: Drop> SnapArray<T> {
     {
         self.snaps.end_peaks();
         self.last_peak = entry.total;
+        self.peak_above = entry.total + allowance(entry.total, self.inaccuracy);
         self.interval = append(&mut self.snaps, entry, load, self.interval);
+        self.normal_from = normal_from(&self.snaps, self.interval);
     }
 }
 
@@ -277,6 +295,19 @@ fn append<T: Drop>(snaps: &mut LinkedSnaps<T>, entry: SnapEntry, load: T, interv
         return interval;
     }
     snaps.cull()
+}
+
+/// The least time at which a normal offer is taken: the last snapshot's and the interval, and 0 where none is held.
+fn normal_from<T: Drop>(snaps: &LinkedSnaps<T>, interval: u64) -> u64
+    requires sound { AreSound snaps.now.entries }
+    requires interval { interval ≤ 2 ^ 62 }
+    ensures time { result ≡ next_time_after snaps.now.entries interval }
+    ensures most { result ≤ 2 ^ 63 }
+{
+    match snaps.last() {
+        None => 0,
+        Some(entry) => entry.time + interval,
+    }
 }
 
 /// The entry of an offer.

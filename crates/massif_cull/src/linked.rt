@@ -1,6 +1,6 @@
 //! Snapshots with their loads: each stays at its place, and links keep their order.
 //! Which of them are removed is decided in `removal`.
-ghost use Rattle.std.specs.Prelude.{◌≡◌, ◌+◌, ◌-◌, ◌<◌, ◌≤◌, [], ◌∷◌, ◌++◌, length, map, slice_get, remove, Some, IfOk};
+ghost use Rattle.std.specs.Prelude.{◌≡◌, ◌+◌, ◌-◌, ◌<◌, ◌≤◌, [], ◌∷◌, ◌++◌, length, map, slice_get, remove, Some, IfOk, vec_capacity};
 ghost use Rattle.std.specs.Option.{option_map};
 ghost use Rattle.massif_cull.specs.Entries.{end_peak};
 ghost use Rattle.massif_cull.specs.Held.{ended};
@@ -143,6 +143,23 @@ impl<T: Drop> LinkedSnaps<T> {
             spot = self.after(spot);
         }
         spot
+    }
+
+    /// Replaces `out` by the entries in their order, by one walk. `out` must have room for them.
+    pub fn entries_into(&self, out: &mut Vec<SnapEntry>)
+        requires { length self.now.entries ≤ vec_capacity out.old }
+        ensures { out.new.items ≡ self.now.entries }
+    {
+        out.clear();
+        if self.len() == 0 {
+            return;
+        }
+        let mut spot = self.first();
+        out.push_reserved(self.entry(spot));
+        'others: for _ in 1..self.len() {
+            spot = self.after(spot);
+            out.push_reserved(self.entry(spot));
+        }
     }
 
     /// The entry at the spot.

@@ -1,6 +1,6 @@
 //! Removing snapshots by their times, and the interval of what is left.
 //! When they are culled is decided by the array.
-ghost use Rattle.std.specs.Prelude.{◌≡◌, ◌+◌, ◌-◌, ◌/◌, ◌<◌, ◌≤◌, ◌^◌, true, length, slice_index, Some};
+ghost use Rattle.std.specs.Prelude.{◌≡◌, ◌+◌, ◌-◌, ◌/◌, ◌<◌, ◌≤◌, ◌^◌, true, false, length, remove, slice_index, Some};
 ghost use Rattle.massif_cull.specs.Among.{AreAmong};
 ghost use Rattle.massif_cull.specs.ArrayState.{AreSound};
 ghost use Rattle.massif_cull.specs.Culling.{may_go, gap_at, removed_place, cull};
@@ -30,12 +30,59 @@ impl<T: Drop> LinkedSnaps<T> {
         ensures last { last_time self.new.entries ≡ last_time self.old.entries }
         ensures among { AreAmong self.old.entries self.old.loads self.new.entries self.new.loads }
     {
-        let removals = self.len() / 2;
-        'each_removal: for _ in 0..removals {
-            let spot = self.least_gap();
-            let _ = self.remove(spot);
+        let mut left = self.len() / 2;
+        // Those whose neighbours have one time go before all others, in their order: one walk finds them.
+        let mut spot = self.spot(1);
+        'equals: while left > 0 {
+            let last = self.len() - 1;
+            if spot.index == last {
+                break;
+            }
+            if !self.is_between_equals(spot) {
+                spot = self.after(spot);
+                continue;
+            }
+            spot = self.remove_at(spot);
+            left -= 1;
+        }
+        'each_removal: for _ in 0..left {
+            let least = self.least_gap();
+            let _ = self.remove(least);
         }
         self.least_difference()
+    }
+
+    /// Whether the snapshot at the spot is no peak, and its neighbours have one time.
+    fn is_between_equals(&self, spot: Spot) -> bool
+        requires spot { IsSpot self.now spot }
+        requires inside { (0 < spot.index) × (spot.index + 1 < length self.now.entries) }
+        requires sound { AreSound self.now.entries }
+        ensures goes { result ≡ true → may_go self.now.entries spot.index ≡ true }
+        ensures none { result ≡ true → gap_at self.now.entries spot.index ≡ 0 }
+        ensures some { result ≡ false → may_go self.now.entries spot.index ≡ true → 0 < gap_at self.now.entries spot.index }
+    {
+        if is_peak_entry(&self.entry(spot)) {
+            return false;
+        }
+        self.neighbour_gap(spot) == 0
+    }
+
+    /// Removes the snapshot at the spot with its load, and answers where the next one stands. The spot must not be the last.
+    fn remove_at(&mut self, spot: Spot) -> Spot
+        requires spot { IsSpot self.old spot }
+        requires inside { spot.index + 1 < length self.old.entries }
+        ensures max { self.new.max ≡ self.old.max }
+        ensures entries { self.new.entries ≡ remove self.old.entries spot.index }
+        ensures loads { self.new.loads ≡ remove self.old.loads spot.index }
+        ensures spot { IsSpot self.new result }
+        ensures index { result.index ≡ spot.index }
+    {
+        let next = self.after(spot);
+        let _ = self.remove(spot);
+        Spot {
+            index: spot.index,
+            place: next.place,
+        }
     }
 
     /// Where the snapshot stands that goes next: of those that are neither first, last nor the peak, the first with the

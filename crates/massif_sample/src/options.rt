@@ -29,6 +29,7 @@ pub struct MassifOptions {
 impl MassifOptions {
     /// What a block of this size takes of the heap: the size rounded up to a multiple of the alignment, and the bytes of
     /// administration.
+    #[inline(always)]
     pub(crate) fn gross(&self, size: u64) -> u64
         requires options { AreInRange self.now }
         requires size { size ≤ 2 ^ 62 }
@@ -36,6 +37,9 @@ impl MassifOptions {
         ensures least { size ≤ result }
         ensures most { result ≤ size + 5120 }
     {
-        (size + (self.alignment - 1)) / self.alignment * self.alignment + self.admin
+        // The alignment is a power of two, so that what the end is over a multiple of it is in its lower bits.
+        let over = self.alignment - 1;
+        let end = size + over;
+        end - (end & over) + self.admin
     }
 }

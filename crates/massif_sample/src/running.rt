@@ -63,6 +63,7 @@ impl Running {
     }
 
     /// The figures with a block more.
+    #[inline(always)]
     pub(crate) fn allocated(self, options: &MassifOptions, size: u64) -> Running
         requires options { AreInRange options.now }
         requires place { self.place < 2 ^ 32 }
@@ -83,6 +84,7 @@ impl Running {
     }
 
     /// The figures with a live block fewer.
+    #[inline(always)]
     pub(crate) fn freed(self, options: &MassifOptions, size: u64) -> Running
         requires options { AreInRange options.now }
         requires place { self.place < 2 ^ 32 }
@@ -103,6 +105,7 @@ impl Running {
     }
 
     /// These figures, or `None` where the live bytes or the time are more than they may be.
+    #[inline(always)]
     pub(crate) fn bounded(self) -> Option<Running>
         ensures some { IfSome result (λ bounded. (bounded ≡ self) × (passes_most self ≡ false)) }
         ensures none { IfNone result (passes_most self ≡ true) }
@@ -114,6 +117,7 @@ impl Running {
     }
 
     /// The time behind a counted event of so many gross bytes.
+    #[inline(always)]
     fn time_after(&self, unit: TimeUnit, bytes: u64) -> u64
         requires time { TimeFits unit self.now }
         requires bytes { bytes ≤ 2 ^ 63 }

@@ -109,6 +109,7 @@ impl<A: Fn(&[u8]) -> bool, I: Fn(&[u8]) -> bool> Sampler<A, I> {
     /// the tables were taken account of, and the ledger holds as many. `FreeOfNothing` and `CostTooLarge` come exactly where
     /// the event has that fault; sampler and ledger are then as before. `NoMemory` comes only where a detailed snapshot or a
     /// peak is due, and then for every later event. The ledger has then taken that first event or not.
+    #[inline(always)]
     pub fn event(
         &mut self,
         event: Event,

@@ -33,7 +33,7 @@ use cost_history::CostHistory;
 use cost_tree::{FrameTest, Fronts};
 use hp_num::NoMemory;
 use ht_trace::Tables;
-use massif_cull::{Kind, Offer, SnapArray, Taken};
+use massif_cull::{Kind, Offer, SnapArray, SnapEntry, Taken};
 use massif_file::Profile;
 use massif_tree::{TreeOptions, add_trimmed};
 use std::alloc::Global;
@@ -121,8 +121,12 @@ impl Samples {
     }
 
     /// The offer of a snapshot of the present place.
-    pub(crate) fn offer(&self, as_peak: bool) -> Offer
-        ensures { result ≡ offer_of self.now.running as_peak }
+    #[inline(always)]
+    fn offer(&self, as_peak: bool) -> Offer
+        ensures exact { result ≡ offer_of self.now.running as_peak }
+        ensures time { result.time ≡ self.now.running.time }
+        ensures total { result.total ≡ self.now.running.gross }
+        ensures peak { result.peak ≡ as_peak }
     {
         Offer {
             place: self.running.place,
@@ -132,20 +136,20 @@ impl Samples {
         }
     }
 
-    /// Whether the offer of the present place would be taken, and as what.
-    pub(crate) fn judge(&self, offer: &Offer) -> Taken
-        requires time { offer.now.time ≡ self.now.running.time }
-        requires total { offer.now.total ≡ self.now.running.gross }
+    /// As what a snapshot of the present place would be taken, as a peak or not. Nearly every one is refused, by one test.
+    #[inline(always)]
+    pub(crate) fn judge(&self, as_peak: bool) -> Taken
         requires within { self.now.running.time ≤ 2 ^ 62 }
-        requires first { offer.now.peak ≡ true → 0 < length self.now.array.kept.entries }
-        ensures taken { result ≡ taken_as (settings_of self.now.options) self.now.array.kept offer.now }
+        requires first { as_peak ≡ true → 0 < length self.now.array.kept.entries }
+        ensures taken { result ≡ taken_as (settings_of self.now.options) self.now.array.kept (offer_of self.now.running as_peak) }
         ensures of_sampling { (names : FunctionNames) (tables : TableState) (events : List Event) (made : List Offer) → IsSampling self.now names tables events made →
-            result ≡ taken_as (settings_of self.now.options) (kept_of (settings_of self.now.options) made) offer.now }
+            result ≡ taken_as (settings_of self.now.options) (kept_of (settings_of self.now.options) made) (offer_of self.now.running as_peak) }
         ensures passed { result ≡ No → (names : FunctionNames) (tables : TableState) (events : List Event) (made : List Offer) → IsSampling self.now names tables events made →
-            IsSampling self.now names tables events (made ++ offer.now ∷ []) }
+            IsSampling self.now names tables events (made ++ offer_of self.now.running as_peak ∷ []) }
         ensures some { result ≡ No → 0 < length self.now.array.kept.entries }
     {
-        self.array.judge(offer)
+        let offer = self.offer(as_peak);
+        self.array.judge(&offer)
     }
 
     /// Makes the texts of the stacks that came since the last tree was due. After `NoMemory` no tree may be built.
@@ -200,23 +204,22 @@ impl Samples {
         Ok(())
     }
 
-    /// Takes the offer of the present place. Where it isn't taken as a normal snapshot, what stacks cost here was kept.
-    pub(crate) fn take(&mut self, offer: Offer)
-        requires place { offer.place ≡ self.old.running.place }
-        requires time { offer.time ≡ self.old.running.time }
-        requires total { offer.total ≡ self.old.running.gross }
+    /// Takes a snapshot of the present place, as a peak or not. Where it isn't taken as a normal one, what stacks cost here was
+    /// kept.
+    pub(crate) fn take(&mut self, as_peak: bool)
         requires within { self.old.running.time ≤ 2 ^ 62 }
-        requires first { offer.peak ≡ true → 0 < length self.old.array.kept.entries }
+        requires first { as_peak ≡ true → 0 < length self.old.array.kept.entries }
         ensures options { self.new.options ≡ self.old.options }
         ensures running { self.new.running ≡ self.old.running }
         ensures failed { self.new.failed ≡ self.old.failed }
         ensures fronts { self.new.fronts ≡ self.old.fronts }
         ensures some { 0 < length self.new.array.kept.entries }
         ensures sampling { (names : FunctionNames) (tables : TableState) (events : List Event) (made : List Offer) →
-            (taken_as (settings_of self.old.options) self.old.array.kept offer ≡ Normal)
+            (taken_as (settings_of self.old.options) self.old.array.kept (offer_of self.old.running as_peak) ≡ Normal)
             ⊎ AreCostsAt names tables events (event_count events) self.old.history.changes →
-            IsSampling self.old names tables events made → IsSampling self.new names tables events (made ++ offer ∷ []) }
+            IsSampling self.old names tables events made → IsSampling self.new names tables events (made ++ offer_of self.old.running as_peak ∷ []) }
     {
+        let offer = self.offer(as_peak);
         let load = Load {
             heap: self.running.heap,
             extra: self.running.gross - self.running.heap,
@@ -225,6 +228,7 @@ impl Samples {
     }
 
     /// The figures behind an allocation that is counted, or `None` where one of them passes 2^62.
+    #[inline(always)]
     pub(crate) fn allocated(&self, size: u64) -> Option<Running>
         requires place { self.now.running.place < 2 ^ 32 }
         requires size { size ≤ 2 ^ 62 }
@@ -237,6 +241,7 @@ impl Samples {
     }
 
     /// The figures behind a free that is counted, or `None` where one of them passes 2^62.
+    #[inline(always)]
     pub(crate) fn freed(&self, size: u64) -> Option<Running>
         requires place { self.now.running.place < 2 ^ 32 }
         requires block { HasBlock self.now.options self.now.running size }
@@ -249,6 +254,7 @@ impl Samples {
     }
 
     /// Moves on to the place behind an event of the stack that is counted, which has these figures, and marks the stack.
+    #[inline(always)]
     pub(crate) fn move_to(&mut self, next: Running, stack: u32)
         requires follows { Follows self.old.options self.old.running next }
         ensures samples { self.new ≡ record self.old { running = next; history = self.new.history } }
@@ -324,9 +330,17 @@ impl Samples {
 fn tree_places(alloc: Global, array: &SnapArray<Load>) -> Result<Vec<u64>, NoMemory>
     ensures { IfOk result (λ places. (k : ℕ) (entry : SnapEntry) → slice_get array.now.kept.entries k ≡ Some entry → shows_tree entry.kind ≡ true → Contains places.items entry.place) }
 {
+    let mut entries = Vec::with_capacity(alloc, array.len() as usize)?;
+    array.entries_into(&mut entries);
+    places_with_tree(alloc, &entries)
+}
+
+/// Those of the entries that have one.
+fn places_with_tree(alloc: Global, entries: &[SnapEntry]) -> Result<Vec<u64>, NoMemory>
+    ensures { IfOk result (λ places. (k : ℕ) (entry : SnapEntry) → slice_get entries.now k ≡ Some entry → shows_tree entry.kind ≡ true → Contains places.items entry.place) }
+{
     let mut places = Vec::new(alloc);
-    'entries: for i in 0..array.len() {
-        let entry = array.entry(i);
+    'entries: for entry in entries {
         if !has_tree(entry.kind) {
             continue;
         }

@@ -12,18 +12,22 @@ ghost use Rattle.live_ledger.specs.Faults.{fault_at, fault_of};
 ghost use Rattle.live_ledger.specs.LedgerState.{IsHeld};
 ghost use Rattle.live_ledger.specs.StandsFor as ledger_spec;
 ghost use Rattle.massif_cull.specs.declared.snapshot.Offer.{Offer};
-ghost use Rattle.massif_cull.specs.declared.snapshot.Taken.TheVariants.{Detailed};
+ghost use Rattle.massif_cull.specs.declared.snapshot.Taken.TheVariants.{No, Detailed};
+ghost use Rattle.massif_cull.specs.KeptOf.{kept_of};
+ghost use Rattle.massif_cull.specs.TakenAs.{taken_as};
+ghost use Rattle.ht_trace.specs.TableState.{TableState};
 ghost use Rattle.massif_sample.specs.declared.fault.SampleFault.TheVariants.{NoMemory as OutOfMemory};
 ghost use Rattle.massif_sample.specs.Due.{IsDue, IsTakenAs, with_tree};
 ghost use Rattle.massif_sample.specs.FunctionNames.{FunctionNames, ignores};
 ghost use Rattle.massif_sample.specs.HasApplied.{HasApplied};
 ghost use Rattle.massif_sample.specs.LiveCosts.{live_cost};
 ghost use Rattle.massif_sample.specs.Offers.{offer_at, offers};
-ghost use Rattle.massif_sample.specs.Options.{AreInRange};
+ghost use Rattle.massif_sample.specs.Options.{AreInRange, settings_of};
 ghost use Rattle.massif_sample.specs.Running.{AreFigures, Follows, passed, ticked};
 ghost use Rattle.massif_sample.specs.SampleFault.{Tells, sample_fault};
 ghost use Rattle.massif_sample.specs.Snapshots.{cost_at};
 ghost use Rattle.massif_sample.specs.StandsFor.{AreJudged, IsIn, IsOfStack, IsSampling, StandsFor};
+ghost use Rattle.massif_sample.specs.View.{offer_of};
 
 use crate::fault::SampleFault;
 use crate::running::Running;
@@ -36,6 +40,8 @@ use massif_cull::Taken;
 
 /// Offers a snapshot of the present place, as a peak or not. Of one that has a tree it is kept what stacks cost here, by the
 /// closure. `NoMemory`, where memory is wanting for that, leaves the samples unfit for more.
+// What is refused ends here, in the body of each caller.
+#[inline(always)]
 pub(crate) fn sample<A: Fn(&[u8]) -> bool, F: Fn(u32) -> u64>(
     samples: &mut Samples,
     as_peak: bool,
@@ -61,18 +67,51 @@ pub(crate) fn sample<A: Fn(&[u8]) -> bool, F: Fn(u32) -> u64>(
     ensures fronts { OnOk result (length samples.new.fronts ≤ length tables.now.nodes + 1) }
     ensures some { OnOk result (0 < length samples.new.array.kept.entries) }
 {
-    let offer = samples.offer(as_peak);
-    let taken = samples.judge(&offer);
+    let taken = samples.judge(as_peak);
     if taken == Taken::No {
         return Ok(());
     }
+    take_due(samples, as_peak, taken, tables, alloc_fns, cost)
+}
+
+/// Takes a snapshot of the present place as what it is judged to be.
+fn take_due<A: Fn(&[u8]) -> bool, F: Fn(u32) -> u64>(
+    samples: &mut Samples,
+    as_peak: bool,
+    taken: Taken,
+    tables: &Tables,
+    alloc_fns: &FrameTest<A>,
+    cost: &F,
+) -> Result<(), NoMemory>
+    requires within { samples.old.running.time ≤ 2 ^ 62 }
+    requires first { as_peak ≡ true → 0 < length samples.old.array.kept.entries }
+    requires some { taken ≢ No }
+    requires judged { taken ≡ taken_as (settings_of samples.old.options) samples.old.array.kept (offer_of samples.old.running as_peak) }
+    requires of_sampling { (names : FunctionNames) (tables : TableState) (events : List Event) (made : List Offer) → IsSampling samples.old names tables events made →
+        taken ≡ taken_as (settings_of samples.old.options) (kept_of (settings_of samples.old.options) made) (offer_of samples.old.running as_peak) }
+    requires cost_callable { (stack : ℕ) → stack < length tables.now.nodes + 1 → F.pre cost.now stack }
+    requires fronts { length samples.old.fronts ≤ length tables.now.nodes + 1 }
+    requires callable { A.IsAlwaysCallable alloc_fns.now.test }
+    ensures sampling { OnOk result ((names : FunctionNames) (events : List Event) (made : List Offer) →
+        AreTexts (FnReturnsAt A.Fn alloc_fns.now.test) names.alloc_fns →
+        AreSaid (F.post cost.now) (length tables.now.nodes + 1) (cost_at (ignores tables.now names) events (event_count events)) →
+        IsSampling samples.old names tables.now events made →
+        IsSampling samples.new names tables.now events (made ++ offer_at samples.old.options (ignores tables.now names) events as_peak (event_count events) ∷ [])) }
+    ensures due { OnErr result ((names : FunctionNames) (events : List Event) (made : List Offer) → IsSampling samples.old names tables.now events made →
+        IsTakenAs samples.old.options made (offer_at samples.old.options (ignores tables.now names) events as_peak (event_count events)) (with_tree as_peak)) }
+    ensures options { samples.new.options ≡ samples.old.options }
+    ensures running { samples.new.running ≡ samples.old.running }
+    ensures failed { samples.new.failed ≡ samples.old.failed }
+    ensures fronts { OnOk result (length samples.new.fronts ≤ length tables.now.nodes + 1) }
+    ensures some { OnOk result (0 < length samples.new.array.kept.entries) }
+{
     if taken == Taken::Normal {
-        samples.take(offer);
+        samples.take(as_peak);
         return Ok(());
     }
     samples.add_fronts(tables, alloc_fns)?;
     samples.keep(tables.stacks(), cost)?;
-    samples.take(offer);
+    samples.take(as_peak);
     Ok(())
 }
 
@@ -89,6 +128,7 @@ fn live_cost(judged: &[bool], ledger: &Ledger, stack: u32) -> u64
 }
 
 /// Offers a snapshot of what the ledger has live.
+#[inline(always)]
 fn sample_ledger<A: Fn(&[u8]) -> bool>(
     samples: &mut Samples,
     judged: &[bool],
@@ -121,6 +161,7 @@ fn sample_ledger<A: Fn(&[u8]) -> bool>(
 }
 
 /// Applies the event of the stack, which has no fault and is counted, to the ledger, and offers the snapshot behind it.
+#[inline(always)]
 fn advance<A: Fn(&[u8]) -> bool>(
     samples: &mut Samples,
     judged: &[bool],
@@ -163,6 +204,7 @@ fn advance<A: Fn(&[u8]) -> bool>(
 }
 
 /// Applies the event, which has no fault and isn't counted, to the ledger.
+#[inline(always)]
 fn pass(samples: &mut Samples, event: Event, ledger: &mut Ledger) -> Result<(), SampleFault>
     requires held { IsHeld ledger.old event }
     requires count { ledger.old.totals.events < 2 ^ 32 }
@@ -190,6 +232,7 @@ fn tick(samples: &mut Samples, ms: u64, ledger: &mut Ledger) -> Result<(), Sampl
 }
 
 /// Takes an event: applies it to the ledger and takes the snapshots that are due.
+#[inline(always)]
 pub(crate) fn take_event<A: Fn(&[u8]) -> bool>(
     samples: &mut Samples,
     judged: &[bool],
@@ -230,6 +273,7 @@ pub(crate) fn take_event<A: Fn(&[u8]) -> bool>(
 }
 
 /// Takes an allocation in the stack.
+#[inline(always)]
 fn take_alloc<A: Fn(&[u8]) -> bool>(
     samples: &mut Samples,
     judged: &[bool],
@@ -273,6 +317,7 @@ fn take_alloc<A: Fn(&[u8]) -> bool>(
 }
 
 /// Takes a free of a block of the stack.
+#[inline(always)]
 fn take_free<A: Fn(&[u8]) -> bool>(
     samples: &mut Samples,
     judged: &[bool],

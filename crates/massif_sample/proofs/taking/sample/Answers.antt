@@ -1,63 +1,14 @@
-use Rattle.std.proofs.Common.{◌≡◌, ◌≢◌, ◌∙◌, ◌++◌, ◌∷◌, ◌+◌, [], ℕ, List, length, ap, refl, sym, subst, inl, inr, arith, rules}
+use Rattle.std.proofs.Common.{◌≡◌, ◌++◌, ◌∷◌, [], subst, rules}
 use Rattle.massif_cull.specs.declared.snapshot.Offer.{Offer}
-use Rattle.massif_cull.specs.declared.snapshot.Taken.TheVariants.{No, Normal}
-use Rattle.massif_cull.specs.KeptOf.{kept_of}
-use Rattle.live_ledger.specs.Events.{event_count}
-use Rattle.massif_sample.specs.Due.{IsTakenAs, with_tree}
+use Rattle.massif_cull.specs.declared.snapshot.Taken.TheVariants.{No}
 use Rattle.massif_sample.specs.FunctionNames.{ignores}
-use Rattle.massif_sample.specs.Options.{settings_of}
-use Rattle.massif_sample.specs.SamplesState.{SamplesState}
-use Rattle.massif_sample.specs.Snapshots.{cost_at}
 use Rattle.massif_sample.specs.StandsFor.{IsSampling}
-use Rattle.massif_sample.proofs.Costs.{said-as}
 use Rattle.massif_sample.proofs.Offers.{offer-now}
-use Rattle.massif_sample.proofs.Trees.{at_err, taken-with_tree}
 use Rattle.massif_sample.proofs.taking.sample.Goals as goal
 
 pub returns-then-eq-clause-sampling : goal.returns-then-eq-clause-sampling
 returns-then-eq-clause-sampling g c =
     let none : c.judge-taken.result ≡ No = search rules in
     λ names events made texts said was.
-    let offer_is = c.offer-offer.ensures ∙ offer-now c.args.samples.now.options (ignores c.args.tables.now names) events c.args.samples.now.running c.args.as_peak was.figures in
+    let offer_is = offer-now c.args.samples.now.options (ignores c.args.tables.now names) events c.args.samples.now.running c.args.as_peak was.figures in
     subst (λ (o : Offer). IsSampling c.args.samples.now names c.args.tables.now events (made ++ o ∷ [])) offer_is (c.judge-taken.ensures.passed none names c.args.tables.now events made was)
-
-pub returns-then-eq-2-clause-sampling : goal.returns-then-eq-2-clause-sampling
-returns-then-eq-2-clause-sampling g c =
-    let normal : c.judge-taken.result ≡ Normal = search rules in
-    λ names events made texts said was.
-    let offer_is = c.offer-offer.ensures ∙ offer-now c.args.samples.now.options (ignores c.args.tables.now names) events c.args.samples.now.running c.args.as_peak was.figures in
-    subst (λ (o : Offer). IsSampling c.take.new.self names c.args.tables.now events (made ++ o ∷ [])) offer_is
-    (c.take.ensures.sampling names c.args.tables.now events made (inl (sym c.judge-taken.ensures.taken ∙ normal)) was)
-
-pub returns-in_err-add_fronts-clause-due : goal.returns-in_err-add_fronts-clause-due
-returns-in_err-add_fronts-clause-due g c =
-    let some : c.judge-taken.result ≢ No = search rules in
-    let no_normal : c.judge-taken.result ≢ Normal = search rules in
-    at_err c.from_residual.result
-    (λ names events made was.
-    let offer_is = c.offer-offer.ensures ∙ offer-now c.args.samples.now.options (ignores c.args.tables.now names) events c.args.samples.now.running c.args.as_peak was.figures in
-    let of_made = c.judge-taken.ensures.of_sampling names c.args.tables.now events made was in
-    let as_peak : with_tree c.offer-offer.result.peak ≡ with_tree c.args.as_peak = ap (λ (o : Offer). with_tree o.peak) c.offer-offer.ensures in
-    subst (λ (o : Offer). IsTakenAs c.args.samples.now.options made o (with_tree c.args.as_peak)) offer_is
-    (record { taken_is = taken-with_tree (settings_of c.args.samples.now.options) (kept_of (settings_of c.args.samples.now.options) made) c.offer-offer.result c.judge-taken.result of_made some no_normal ∙ as_peak }))
-
-pub returns-in_err-keep-clause-due : goal.returns-in_err-keep-clause-due
-returns-in_err-keep-clause-due g c =
-    let some : c.judge-taken.result ≢ No = search rules in
-    let no_normal : c.judge-taken.result ≢ Normal = search rules in
-    at_err c.from_residual-in_err-keep.result
-    (λ names events made was.
-    let offer_is = c.offer-offer.ensures ∙ offer-now c.args.samples.now.options (ignores c.args.tables.now names) events c.args.samples.now.running c.args.as_peak was.figures in
-    let of_made = c.judge-taken.ensures.of_sampling names c.args.tables.now events made was in
-    let as_peak : with_tree c.offer-offer.result.peak ≡ with_tree c.args.as_peak = ap (λ (o : Offer). with_tree o.peak) c.offer-offer.ensures in
-    subst (λ (o : Offer). IsTakenAs c.args.samples.now.options made o (with_tree c.args.as_peak)) offer_is
-    (record { taken_is = taken-with_tree (settings_of c.args.samples.now.options) (kept_of (settings_of c.args.samples.now.options) made) c.offer-offer.result c.judge-taken.result of_made some no_normal ∙ as_peak }))
-
-pub returns-clause-sampling : goal.returns-clause-sampling
-returns-clause-sampling g c =
-    λ names events made texts said was.
-    let offer_is = c.offer-offer.ensures ∙ offer-now c.args.samples.now.options (ignores c.args.tables.now names) events c.args.samples.now.running c.args.as_peak was.figures in
-    let known = c.in_ok-add_fronts.ensures.sampling names events made texts was in
-    let here = said-as c.stacks.result (length c.args.tables.now.nodes + 1) (cost_at (ignores c.args.tables.now names) events (event_count events)) c.stacks.ensures.count said in
-    subst (λ (o : Offer). IsSampling c.take-2.new.self names c.args.tables.now events (made ++ o ∷ [])) offer_is
-    (c.take-2.ensures.sampling names c.args.tables.now events made (inr (c.in_ok-keep.ensures.costs names c.args.tables.now events made here known)) (c.in_ok-keep.ensures.sampling names c.args.tables.now events made here known))

@@ -1,7 +1,16 @@
-use Rattle.std.proofs.Common.{refl}
+use Rattle.std.proofs.Common.{◌≡◌, ℕ, true, refl, sym, subst}
+use Rattle.cost_history.specs.Marks.{RoomyMarks, is_marked}
+use Rattle.cost_history.proofs.Marking.{marked_with-marked, marked_with-still}
 use Rattle.cost_history.proofs.Telling.{tells-marked}
 use Rattle.cost_history.proofs.history.CostHistory.mark.Goals as goal
 
+pub returns-clause-marked : goal.returns-clause-marked
+returns-clause-marked c =
+    subst (λ (state : RoomyMarks). is_marked state.marks c.args.stack ≡ true) (sym c.mark.ensures) (marked_with-marked c.self.inside.marks c.args.stack)
+
 pub returns-clause-tells : goal.returns-clause-tells
 returns-clause-tells c =
-    rw (← c.self.view_is) (λ before after tells others. tells-marked _ _ before after c.args.stack refl refl c.mark.ensures.marked c.mark.ensures.still tells others)
+    let marked = subst (λ (state : RoomyMarks). is_marked state.marks c.args.stack ≡ true) (sym c.mark.ensures) (marked_with-marked c.self.inside.marks c.args.stack) in
+    let still : (other : ℕ) → is_marked c.self.inside.marks.marks other ≡ true → is_marked c.mark.new.self.marks other ≡ true =
+    λ other was. subst (λ (state : RoomyMarks). is_marked state.marks other ≡ true) (sym c.mark.ensures) (marked_with-still c.self.inside.marks c.args.stack other was) in
+    rw (← c.self.view_is) (λ before after tells others. tells-marked _ _ before after c.args.stack refl refl marked still tells others)

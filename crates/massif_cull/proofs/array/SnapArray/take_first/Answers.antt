@@ -27,4 +27,12 @@ invariant_of-self g c =
         normals_below = before.normals_below;
       },
       record { max = c.remove-load.ensures.max ∙ c.self.invariant.1.max },
+      record { normal = c.normal_from-self-inside.ensures.time; normal_most = c.normal_from-self-inside.ensures.most; peak = c.self.invariant.2.peak },
     )
+
+pub normal_from-self-inside-requires-clause-sound : goal.normal_from-self-inside-requires-clause-sound
+normal_from-self-inside-requires-clause-sound g c =
+    let old = c.self.inside.snaps in
+    let place = c.first.result.index in
+    let inside : place < length old.entries = omega (arith, c.first.ensures.index, c.if-len-eq0.false, c.len.ensures.entries) in
+    subst AreSound (sym c.remove-load.ensures.entries) (sound-remove old.entries place inside c.self.invariant.0.entries)
