@@ -4,7 +4,7 @@ mod NextLemmas
 mod NodeLemmas
 mod TraceLemmas
 mod OrderLemmas
-mod BookLemmas
+mod StreamLemmas
 mod FinishLemmas
 mod SameLemmas
 mod TallyLemmas

@@ -58,10 +58,10 @@ spells-event thread line text event = λ more.
     ∙ ap (λ (t : Bool). cond t (thread ∷ spelled_by thread (lines_of more)) (spelled_by (unwrap_or (named line) thread) (lines_of more))) event
 
 -- the line that names a thread
-thread-text : (thread : ℕ) → IsLineText (codes "# thread " ++ decimal thread)
+pub thread-text : (thread : ℕ) → IsLineText (codes "# thread " ++ decimal thread)
 thread-text thread = both-text (codes "# thread ") (decimal thread) (literal-text (codes "# thread ") refl) (digits-text 10 thread)
 
-thread-named : (thread : ℕ) → parsed_dec (decimal thread) ≡ Some thread → named (codes "# thread " ++ decimal thread) ≡ Some thread
+pub thread-named : (thread : ℕ) → parsed_dec (decimal thread) ≡ Some thread → named (codes "# thread " ++ decimal thread) ≡ Some thread
 unfolding named
 thread-named thread reads = reads
 
@@ -142,12 +142,12 @@ spells-trace modules (action ∷ before) quiet read =
     (spells-switch before action.thread read.0) (spells-action (stacks_after before) (places_after before) action.thread action.event))
 
 -- the threads of the actions that an order means are the order
-there : {X : Type 0} (xs : List X) (k : ℕ) → k < length xs → (x : X) × (slice_get xs k ≡ Some x)
+pub there : {X : Type 0} (xs : List X) (k : ℕ) → k < length xs → (x : X) × (slice_get xs k ≡ Some x)
 there [] k within = absurd (omega (arith, within))
 there (x ∷ xs) zero within = (x, refl)
 there (x ∷ xs) (suc k) within = there xs k (omega (arith, within))
 
-none-at : (scripts : List (List Turn)) (thread : ℕ) → length scripts ≤ thread → length (events_at scripts thread) ≡ 0
+pub none-at : (scripts : List (List Turn)) (thread : ℕ) → length scripts ≤ thread → length (events_at scripts thread) ≡ 0
 none-at [] thread past = refl
 none-at (script ∷ scripts) zero past = absurd (omega (arith, past))
 none-at (script ∷ scripts) (suc thread) past = none-at scripts thread (omega (arith, past))

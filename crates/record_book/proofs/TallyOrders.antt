@@ -9,11 +9,12 @@ use Rattle.std.proofs.Math.Seq.{take-suc}
 use Rattle.record_scripts.specs.Events.{Event, free, events_of, events_of_turn}
 use Rattle.record_scripts.specs.Turns.{Turn, allocates, frees, reallocates, script_at}
 use Rattle.record_book.specs.Actions.{Action, actions, events_at, times, with_event}
-use Rattle.record_book.specs.BookState.{done_at, entries_of}
+use Rattle.record_book.specs.BookState.{entries_of}
+use Rattle.record_book.specs.StreamState.{done_at}
 use Rattle.record_book.specs.Figures.{alone, with_events}
 use Rattle.record_book.specs.Orders.{ArePaired, IsUnder, awaited}
 use Rattle.record_book.specs.TraceState.{with_turn}
-use Rattle.record_book.proofs.BookLemmas.{done-here, done-other}
+use Rattle.record_book.proofs.StreamLemmas.{done-here, done-other}
 use Rattle.record_book.proofs.FinishLemmas.{none-at}
 use Rattle.record_book.proofs.OrderLemmas.{actions-push, actions-turn, all-taken, done-length, event-at, events-more, times-append, times-other, times-own, times-reverse}
 

@@ -62,37 +62,39 @@ switch-none thread = by (thread == thread) refl
     by true p = refl
     by false p = absurd (grind (arith, nat_tests, p))
 
--- the text with the lines of an event behind that of its thread
-text-step : (old switched new text : List ℕ) (modules : List ℕ) (actions : List Action) (last : Option ℕ) (thread : ℕ) → old ≡ trace_text modules actions → last ≡ last_thread actions
-    → switched ≡ old ++ switch_text last thread → new ≡ switched ++ text → new ≡ trace_text modules actions ++ (switch_text (last_thread actions) thread ++ text)
-text-step old switched new text modules actions last thread old_is last_is switch added =
-    added ∙ ap (λ (front : List ℕ). front ++ text) (switch ∙ ap₂ (λ (front : List ℕ) (at : Option ℕ). front ++ switch_text at thread) old_is last_is)
-    ∙ append_assoc (trace_text modules actions) (switch_text (last_thread actions) thread) text
+-- the text with the lines of an event behind that of its thread, all behind what was let go
+text-step : (gone old switched new text : List ℕ) (modules : List ℕ) (actions : List Action) (last : Option ℕ) (thread : ℕ) → gone ++ old ≡ trace_text modules actions → last ≡ last_thread actions
+    → switched ≡ old ++ switch_text last thread → new ≡ switched ++ text → gone ++ new ≡ trace_text modules actions ++ (switch_text (last_thread actions) thread ++ text)
+text-step gone old switched new text modules actions last thread old_is last_is switch added =
+    ap (λ (rest : List ℕ). gone ++ rest)
+    (added ∙ ap (λ (front : List ℕ). front ++ text) switch ∙ append_assoc old (switch_text last thread) text)
+    ∙ sym (append_assoc gone old (switch_text last thread ++ text))
+    ∙ ap₂ (λ (front : List ℕ) (at : Option ℕ). front ++ (switch_text at thread ++ text)) old_is last_is
 
 -- the trace with the lines of a turn behind that of its thread
-pub turn-added : (old new : Trace) (switched : List ℕ) (modules : List ℕ) (actions : List Action) (thread : ℕ) (turn : Turn) → IsTrace old modules actions
+pub turn-added : (gone : List ℕ) (old new : Trace) (switched : List ℕ) (modules : List ℕ) (actions : List Action) (thread : ℕ) (turn : Turn) → IsTrace gone old modules actions
     → switched ≡ old.text.items ++ switch_text old.last thread → HasTurn switched new (stacks_after actions) (places_after actions) thread turn
-    → IsTrace (record new { last = Some thread }) modules (with_turn thread turn actions)
-turn-added old new switched modules actions thread (allocates id size ips) is switch has = record {
-  text_is = text-step old.text.items switched new.text.items (event_text (stacks_after actions) (places_after actions) thread (allocation id size ips)) modules actions old.last thread is.text_is is.last_is switch has.text_is;
+    → IsTrace gone (record new { last = Some thread }) modules (with_turn thread turn actions)
+turn-added gone old new switched modules actions thread (allocates id size ips) is switch has = record {
+  text_is = text-step gone old.text.items switched new.text.items (event_text (stacks_after actions) (places_after actions) thread (allocation id size ips)) modules actions old.last thread is.text_is is.last_is switch has.text_is;
   nodes_are = has.nodes_are;
   heap_is = has.heap_is;
   last_is = refl;
 }
-turn-added old new switched modules actions thread (frees id) is switch has = record {
-  text_is = text-step old.text.items switched new.text.items (event_text (stacks_after actions) (places_after actions) thread (free id false)) modules actions old.last thread is.text_is is.last_is switch has.text_is;
+turn-added gone old new switched modules actions thread (frees id) is switch has = record {
+  text_is = text-step gone old.text.items switched new.text.items (event_text (stacks_after actions) (places_after actions) thread (free id false)) modules actions old.last thread is.text_is is.last_is switch has.text_is;
   nodes_are = has.nodes_are;
   heap_is = has.heap_is;
   last_is = refl;
 }
-turn-added old new switched modules actions thread (reallocates id size ips) is switch has =
+turn-added gone old new switched modules actions thread (reallocates id size ips) is switch has =
     let whole = trace_text modules actions in
     let named = switch_text (last_thread actions) thread in
     let freed = event_text (stacks_after actions) (places_after actions) thread (free id true) in
     let allocated = event_text (stacks_after actions) (released thread id (places_after actions)) thread (allocation id size ips) in
     record {
       text_is =
-          text-step old.text.items switched new.text.items (freed ++ allocated) modules actions old.last thread is.text_is is.last_is switch has.text_is
+          text-step gone old.text.items switched new.text.items (freed ++ allocated) modules actions old.last thread is.text_is is.last_is switch has.text_is
           ∙ ap (λ (text : List ℕ). whole ++ text) (sym (append_assoc named freed allocated)) ∙ sym (append_assoc whole (named ++ freed) allocated)
           ∙ ap (λ (none : List ℕ). (whole ++ (named ++ freed)) ++ (none ++ allocated)) (sym (switch-none thread));
       nodes_are = has.nodes_are;

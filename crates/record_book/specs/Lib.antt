@@ -6,6 +6,7 @@ pub mod RecordedTrace
 pub mod HeapState
 pub mod NodeState
 pub mod TraceState
+pub mod StreamState
 pub mod BookState
 pub mod Figures
 pub mod SummaryText

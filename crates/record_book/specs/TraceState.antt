@@ -17,9 +17,9 @@ with_turn thread (frees id) before = record { thread = thread; event = free id f
 with_turn thread (reallocates id size ips) before =
     record { thread = thread; event = allocation id size ips } ∷ record { thread = thread; event = free id true } ∷ before
 
--- the trace is that of the actions, behind the lines of modules
-pub record IsTrace (trace : Trace) (modules : List ℕ) (actions : List Action) : Type 0 where
-  pub text_is : trace.text.items ≡ trace_text modules actions
+-- behind a front that was let go, the trace is that of the actions, behind the lines of modules
+pub record IsTrace (gone : List ℕ) (trace : Trace) (modules : List ℕ) (actions : List Action) : Type 0 where
+  pub text_is : gone ++ trace.text.items ≡ trace_text modules actions
   pub nodes_are : AreNumbered trace.nodes (stacks_after actions)
   pub heap_is : IsHeap trace.heap (places_after actions)
   pub last_is : trace.last ≡ last_thread actions

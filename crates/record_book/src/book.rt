@@ -1,10 +1,9 @@
-//! The book: which thread took which turns of its script, and in what order. The text of the trace is made elsewhere.
-ghost use Rattle.std.specs.Prelude.{◌≡◌, ◌≢◌, ℕ, ◌+◌, ◌<◌, ◌≤◌, false, List, [], ◌++◌, length, vec_capacity, vec_len, IfOk, IsOk, OnOk, OnErr, nat_lt};
+//! The book: a recording with all of its trace. How a turn is taken, and how its lines are made, is no part of it.
+ghost use Rattle.std.specs.Prelude.{◌≡◌, ◌≢◌, ℕ, ◌<◌, ◌≤◌, false, [], ◌++◌, length, IfOk, OnOk, OnErr, nat_lt};
 ghost use Rattle.std.specs.Arc.{arc_value};
 ghost use Rattle.record_scripts.specs.Playable.{IsPlayable};
-ghost use Rattle.record_scripts.specs.ScriptTurns.{turn_said};
 ghost use Rattle.record_book.specs.Actions.{actions, events_at, times};
-ghost use Rattle.record_book.specs.BookState.{HasStepped, entries_of, stepped};
+ghost use Rattle.record_book.specs.BookState.{HasStepped, stepped};
 ghost use Rattle.record_book.specs.HeapPlaces.{AreApart, live_blocks, places_after};
 ghost use Rattle.record_book.specs.Orders.{Continues, IsInterleaving, IsUnder};
 ghost use Rattle.record_book.specs.RecordedTrace.{recorded};
@@ -13,9 +12,9 @@ ghost use Rattle.record_book.specs.SummaryText.{rec_summary};
 
 use crate::same_scripts::is_same;
 use crate::summary::put_summary;
-use crate::trace::Trace;
+use crate::trace_stream::TraceStream;
 use hp_num::NoMemory;
-use record_scripts::{ScriptLine, Scripts};
+use record_scripts::Scripts;
 use std::alloc::Global;
 use std::marker::Model;
 use std::sync::Arc;
@@ -26,23 +25,20 @@ use std::sync::Arc;
 /// order is one under the scripts, and the bytes are its trace.
 #[derive(Drop)]
 pub struct Book {
-    job: Arc<Scripts>,
-    done: Vec<u32>,
-    order: Vec<u32>,
-    trace: Trace,
-    ips: Vec<u64>,
+    stream: TraceStream,
     alloc: Global,
 }
 
 impl Model for Book {
-    ghost use Rattle.std.specs.Arc.{arc_value};
-    ghost use Rattle.record_book.specs.BookState.{IsBook, Recording};
+    ghost use Rattle.std.specs.Prelude.{◌≡◌};
+    ghost use Rattle.record_book.specs.BookState.{Recording};
+    ghost use Rattle.record_book.specs.RecordedTrace.{recorded};
 
     ghost Value = { Recording };
 
-    ghost view = { λ book. record { job = arc_value book.job; order = book.order.items } };
+    ghost view = { λ book. record { job = book.stream.job; order = book.stream.order } };
 
-    ghost invariant = { λ book. IsBook (arc_value book.job) book.done.items book.order.items book.trace };
+    ghost invariant = { λ book. book.stream.text ≡ recorded book.stream.job book.stream.order };
 }
 
 impl Book {
@@ -50,16 +46,8 @@ impl Book {
     pub fn new(alloc: Global, job: Arc<Scripts>) -> Result<Book, NoMemory>
         ensures empty { IfOk result (λ book. book ≡ record { job = arc_value job; order = [] }) }
     {
-        let done = vec![in alloc; 0; job.threads() as usize]?;
-        let trace = Trace::new(alloc, job.modules())?;
-        Ok(Book {
-            job,
-            done,
-            order: Vec::new(alloc),
-            trace,
-            ips: Vec::new(alloc),
-            alloc,
-        })
+        let stream = TraceStream::new(alloc, job)?;
+        Ok(Book { stream, alloc })
     }
 
     /// Takes the next turn of a thread, whose script has to be there: the thread is appended to the order, twice for a
@@ -73,15 +61,7 @@ impl Book {
         ensures under { OnOk result (IsUnder self.new.job.scripts self.new.order) }
         ensures unchanged { OnErr result (self.new ≡ self.old) }
     {
-        let place = self.done[thread as usize];
-        let Some(turn) = self.job.turn_into(thread, place, &mut self.ips)? else {
-            return Ok(false);
-        };
-        self.order.reserve(2)?;
-        self.trace.add(thread, turn, &self.ips)?;
-        push_entries(&mut self.order, thread, turn)?;
-        self.done[thread as usize] = place + 1;
-        Ok(true)
+        self.stream.step(thread)
     }
 
     /// Takes turns of a thread, whose script has to be there, until `most` are taken, from 1 to 64, or the script is done,
@@ -109,15 +89,14 @@ impl Book {
     pub fn bytes(&self) -> &[u8]
         ensures trace { result.now ≡ recorded self.now.job self.now.order }
     {
-        self.trace.text.as_slice()
+        self.stream.text()
     }
 
     /// The trace so far, which is all that stays of the book.
     pub fn into_bytes(self) -> Vec<u8>
         ensures trace { result.items ≡ recorded self.job self.order }
     {
-        let trace = self.trace;
-        trace.text
+        self.stream.into_text()
     }
 
     /// The thread of each event so far.
@@ -128,7 +107,7 @@ impl Book {
         ensures under { IsUnder self.now.job.scripts self.now.order }
         ensures apart { AreApart (live_blocks (places_after (actions self.now.job.scripts self.now.order))) }
     {
-        self.order.as_slice()
+        self.stream.order()
     }
 
     /// How many scripts there are, at most 64.
@@ -138,7 +117,7 @@ impl Book {
         ensures under { IsUnder self.now.job.scripts self.now.order }
         ensures playable { IsPlayable self.now.job }
     {
-        self.job.threads()
+        self.stream.scripts().threads()
     }
 
     /// Appends the six lines of the summary: threads, events, calls, allocated bytes, what is live at the end, and the peak
@@ -150,7 +129,7 @@ impl Book {
         ensures unchanged { OnErr result (out.new.items ≡ out.old.items) }
         ensures figures { HasScriptFigures self.now.job.scripts self.now.order }
     {
-        put_summary(self.alloc, &self.job, &self.order, out)
+        put_summary(self.alloc, self.stream.scripts(), self.stream.order(), out)
     }
 
     /// The book of these scripts with all turns taken. Where this is a book of the same scripts and modules for as many
@@ -171,7 +150,7 @@ impl Book {
         ensures job { IfOk result (λ book. book.job ≡ arc_value job) }
         ensures same { self.job ≡ arc_value job → IfOk result (λ book. book ≡ self) }
     {
-        if is_same(self.alloc, &self.job, &job)? {
+        if is_same(self.alloc, self.stream.scripts(), &job)? {
             return Ok(self);
         }
         Book::new(self.alloc, job)
@@ -201,17 +180,4 @@ impl Book {
         'turns: while self.step(thread)? {}
         Ok(())
     }
-}
-
-// Appends a thread to an order, once for each event of its turn. It can't fail where there is room for two.
-fn push_entries(order: &mut Vec<u32>, thread: u32, turn: ScriptLine) -> Result<(), NoMemory>
-    ensures pushed { OnOk result ((ips : List ℕ) → order.new.items ≡ order.old.items ++ entries_of thread (turn_said turn ips)) }
-    ensures room { vec_len order.old + 2 ≤ vec_capacity order.old → IsOk result }
-{
-    order.push(thread)?;
-    match turn {
-        ScriptLine::Reallocation { .. } => order.push(thread)?,
-        _ => {}
-    }
-    Ok(())
 }

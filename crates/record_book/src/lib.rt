@@ -8,6 +8,9 @@
 //!   `bytes` is the trace of that order (`recorded`), the order is one under the scripts (`IsUnder`), and no two live
 //!   blocks overlap (`AreApart`); both are told by `order`. `into_bytes` gives the trace up without a copy. After
 //!   `NoMemory` a step leaves the book as it was.
+//! - `TraceStream` is a recording of which a front of the trace may be let go (`let_go`): each `step` appends to the text
+//!   that is kept exactly what it appends to the trace, so who looks at a trace once needs no room for all of it.
+//!   `is_complete` tells whether all turns are taken. A book is such a stream of which nothing was let go.
 //! - `finish` takes all turns that are left: the book that it gives is one of the scripts that are handed in, its order
 //!   is an interleaving of them (`IsInterleaving`) whose figures are those of the scripts (`HasScriptFigures`), and
 //!   where the book had these scripts, its order goes on from the earlier one.
@@ -18,17 +21,18 @@
 //!   the events behind it. The lines of modules have to spell nothing (`AreQuiet`), which `quiet_modules` says of whole
 //!   lines about modules (`AreModuleLines`), and there may be 64 scripts at most.
 //!
-//! The tests of these calls are in the crate `record_tests`.
+//! The crates above may cite its `proofs/Laws`. The tests of these calls are in the crate `record_tests`.
 //!
 //! | File | Does |
 //! |---|---|
-//! | `book.rt` | the book |
+//! | `book.rt` | the book: a recording with all of its trace |
+//! | `trace_stream.rt` | a recording of which a front of the trace may be let go; takes the turns |
 //! | `trace.rt` | appends the lines of a turn, and takes them back where memory is wanting halfway |
 //! | `node_lines.rt` | interns a stack from the outermost pointer on, and writes each new node |
 //! | `heap.rt`, `free_places.rt` | where blocks lie, and the places without a block in order |
 //! | `tally.rt`, `summary.rt` | the figures of turns that are taken one after another; the six lines |
 //! | `same_scripts.rt` | whether two jobs are the same, turn by turn |
-//! | `spelling.rt` | the laws of what bytes spell |
+//! | `spelling.rt` | the laws on the order that bytes spell |
 #![tactic(auto)]
 
 mod book;
@@ -40,6 +44,8 @@ mod spelling;
 mod summary;
 mod tally;
 mod trace;
+mod trace_stream;
 
 pub use book::Book;
 pub use spelling::{quiet_modules, spelled_orders};
+pub use trace_stream::TraceStream;

@@ -23,7 +23,7 @@ use record_scripts::{FILE_VERSION, ScriptLine};
 use stack_table::Nodes;
 use std::alloc::Global;
 
-/// The text so far, its nodes, its heap, and the thread that its last event is of.
+/// The text so far but for a front that was let go, its nodes, its heap, and the thread that its last event is of.
 #[derive(Debug, Drop)]
 pub struct Trace {
     pub text: Vec<u8>,
@@ -35,7 +35,7 @@ pub struct Trace {
 impl Trace {
     /// The trace without events, behind the lines of modules.
     pub fn new(alloc: Global, modules: &[u8]) -> Result<Trace, NoMemory>
-        ensures new { IfOk result (λ trace. IsTrace trace modules.now []) }
+        ensures new { IfOk result (λ trace. IsTrace [] trace modules.now []) }
         ensures no_nodes { IfOk result (λ trace. length trace.nodes ≡ 0) }
         ensures end { IfOk result (λ trace. trace.heap.end ≡ 65536) }
     {
@@ -56,8 +56,10 @@ impl Trace {
         requires numbered { (known : List (List ℕ)) × AreNumbered self.old.nodes known }
         requires node_room { length self.old.nodes + 256 ≤ 2 ^ 32 - 2 }
         requires heap_room { self.old.heap.end + 2 ^ 33 ≤ 2 ^ 63 }
-        ensures added { OnOk result ((modules : List ℕ) (actions : List Action) → IsTrace self.old modules actions → IsTrace self.new modules (with_turn thread (turn_said turn ips.now) actions)) }
-        ensures unchanged { OnErr result ((modules : List ℕ) (actions : List Action) → IsTrace self.old modules actions → IsTrace self.new modules actions) }
+        ensures added { OnOk result ((gone modules : List ℕ) (actions : List Action) → IsTrace gone self.old modules actions → IsTrace gone self.new modules (with_turn thread (turn_said turn ips.now) actions)) }
+        ensures unchanged { OnErr result ((gone modules : List ℕ) (actions : List Action) → IsTrace gone self.old modules actions → IsTrace gone self.new modules actions) }
+        ensures kept { Extends self.old.text.items self.new.text.items }
+        ensures same_text { OnErr result (self.new.text.items ≡ self.old.text.items) }
         ensures few_more { length self.new.nodes ≤ length self.old.nodes + 256 }
         ensures same_nodes { OnErr result (self.new.nodes ≡ self.old.nodes) }
         ensures end { self.new.heap.end ≤ self.old.heap.end + 2 ^ 33 }
@@ -79,7 +81,7 @@ impl Trace {
         requires numbered { (known : List (List ℕ)) × AreNumbered self.old.nodes known }
         requires node_room { length self.old.nodes + 256 ≤ 2 ^ 32 - 2 }
         requires heap_room { self.old.heap.end + 2 ^ 33 ≤ 2 ^ 63 }
-        ensures added { OnOk result ((modules : List ℕ) (actions : List Action) → IsTrace self.old modules actions → IsTrace self.new modules (with_turn thread (turn_said turn ips.now) actions)) }
+        ensures added { OnOk result ((gone modules : List ℕ) (actions : List Action) → IsTrace gone self.old modules actions → IsTrace gone self.new modules (with_turn thread (turn_said turn ips.now) actions)) }
         ensures same_heap { OnErr result ((places : List Place) → IsHeap self.old.heap places → IsHeap self.new.heap places) }
         ensures same_last { OnErr result (self.new.last ≡ self.old.last) }
         ensures few_more { length self.new.nodes ≤ length self.old.nodes + 256 }

@@ -118,6 +118,13 @@ impl ScriptTable {
         self.limit
     }
 
+    /// How many events all scripts have together.
+    pub fn events(&self) -> u64
+        ensures count { result ≡ event_count self.now.scripts }
+    {
+        self.events
+    }
+
     /// The text of the modules.
     pub fn modules(&self) -> &[u8]
         ensures lines { result.now ≡ self.now.modules }

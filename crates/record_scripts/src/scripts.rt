@@ -141,6 +141,13 @@ impl Scripts {
         self.table.limit()
     }
 
+    /// How many events all scripts have together.
+    pub fn events(&self) -> u64
+        ensures count { result ≡ event_count self.now.scripts }
+    {
+        self.table.events()
+    }
+
     /// The lines of the modules in their written form, each with its line feed.
     pub fn modules(&self) -> &[u8]
         ensures lines { result.now ≡ self.now.modules }

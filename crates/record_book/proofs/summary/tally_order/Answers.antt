@@ -4,9 +4,9 @@ use Rattle.record_scripts.specs.declared.script_line.ScriptLine.{ScriptLine}
 use Rattle.record_scripts.specs.ScriptTurns.{turn_said}
 use Rattle.record_scripts.specs.Turns.{script_at}
 use Rattle.record_book.specs.Actions.{Action, actions}
-use Rattle.record_book.specs.BookState.{done_at}
+use Rattle.record_book.specs.StreamState.{done_at}
 use Rattle.record_book.specs.TallyState.{IsTally}
-use Rattle.record_book.proofs.BookLemmas.{length-slice_set, length-zeros, place-is, zero-at}
+use Rattle.record_book.proofs.StreamLemmas.{length-slice_set, length-zeros, place-is, zero-at}
 use Rattle.record_book.proofs.OrderLemmas.{actions-none}
 use Rattle.record_book.proofs.SameLemmas.{place-few}
 use Rattle.record_book.proofs.TallyOrders.{at-place, entry-there, taken-none, turn-there, walk-next}

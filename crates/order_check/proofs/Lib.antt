@@ -1,0 +1,9 @@
+mod LineTexts
+mod RecordedLines
+mod NextTurn
+mod FollowLemmas
+mod WholeLemmas
+mod SpelledFronts
+mod LengthLemmas
+mod LinesLoop
+mod StepLemmas

@@ -1,0 +1,50 @@
+-- What the check of a trace answers.
+use Rattle.std.specs.Prelude.{◌≡◌, ℕ, ◌+◌, ◌≤◌, ◌<◌, min, List, ◌++◌, length, take, Option, Some, Result, Ok, Err}
+use Rattle.hp_outside.specs.Lines.{lines_of}
+use Rattle.hp_outside.specs.NextLine.{IsUndecided}
+use Rattle.record_scripts.specs.Job.{Job}
+use Rattle.record_book.specs.Spelled.{spelled}
+use Rattle.order_check.specs.declared.verdict.CheckFault.{CheckFault}
+use Rattle.order_check.specs.declared.verdict.CheckFault.TheVariants.{InputTooLong, LineTooLong, NoMemory, ReadFailed}
+use Rattle.order_check.specs.declared.verdict.Verdict.{Verdict}
+use Rattle.order_check.specs.declared.verdict.Verdict.TheVariants.{No, Yes}
+use Rattle.order_check.specs.Fronts.{IsFront, IsRecording}
+use Rattle.order_check.specs.LengthFaults.{HasNoLengthFault, InputTooLongAt, LineTooLongAt, behind_lines, length_before}
+
+-- the first so many lines of a file have no fault of their length, and some recording begins with them
+pub record IsGoodFront (input line : ℕ) (job : Job) (bytes : List ℕ) (count : ℕ) : Type 0 where
+  pub within : count ≤ length (lines_of bytes)
+  pub lengths : HasNoLengthFault input line bytes count
+  pub front : IsFront job (take count (lines_of bytes))
+
+-- the file is a recording
+pub record IsWhole (input line : ℕ) (job : Job) (bytes : List ℕ) (events : ℕ) : Type 0 where
+  pub lengths : HasNoLengthFault input line bytes (length (lines_of bytes))
+  pub recording : IsRecording job bytes
+  pub count : events ≡ length (spelled bytes)
+
+-- the file is none: the line behind so many is the first up to which no recording begins so, or the one behind the last
+pub record IsRefusedAt (input line : ℕ) (job : Job) (bytes : List ℕ) (count : ℕ) : Type 0 where
+  pub before : IsGoodFront input line job bytes count
+  pub lengths : HasNoLengthFault input line bytes (min (count + 1) (length (lines_of bytes)))
+  pub no_front : count < length (lines_of bytes) → ¬ (IsFront job (take (count + 1) (lines_of bytes)))
+  pub no_recording : ¬ (IsRecording job bytes)
+
+-- a read failed behind so many lines: the bytes that were taken before it show neither the next line nor a fault of its
+-- length
+pub record IsStoppedAt (input line : ℕ) (job : Job) (bytes : List ℕ) (left : Option (List ℕ)) (count : ℕ) : Type 0 where
+  pub before : IsGoodFront input line job bytes count
+  pub kept : List ℕ
+  pub unread : List ℕ
+  pub left_is : left ≡ Some unread
+  pub rest_is : behind_lines bytes count ≡ kept ++ unread
+  pub undecided : IsUndecided input line (length_before bytes count) kept
+
+-- the answer to a file of these bytes, of which this is left
+abbrev pub CheckAnswer : ℕ → ℕ → Job → List ℕ → Option (List ℕ) → Result Verdict CheckFault → Type 0
+CheckAnswer input line job bytes left (Ok (Yes events)) = IsWhole input line job bytes events
+CheckAnswer input line job bytes left (Ok (No number)) = (count : ℕ) × (number ≡ count + 1) × IsRefusedAt input line job bytes count
+CheckAnswer input line job bytes left (Err LineTooLong) = (count : ℕ) × IsGoodFront input line job bytes count × LineTooLongAt input line bytes count
+CheckAnswer input line job bytes left (Err InputTooLong) = (count : ℕ) × IsGoodFront input line job bytes count × InputTooLongAt input line bytes count
+CheckAnswer input line job bytes left (Err ReadFailed) = (count : ℕ) × IsStoppedAt input line job bytes left count
+CheckAnswer input line job bytes left (Err NoMemory) = Unit {0}

@@ -1,0 +1,20 @@
+-- With which lines recordings begin, and which bytes are one.
+use Rattle.std.specs.Prelude.{◌≡◌, ℕ, List, ◌++◌}
+use Rattle.hp_outside.specs.Lines.{lines_of}
+use Rattle.record_scripts.specs.Job.{Job}
+use Rattle.record_book.specs.Orders.{IsInterleaving, IsUnder}
+use Rattle.record_book.specs.RecordedTrace.{recorded}
+use Rattle.record_book.specs.Spelled.{spelled}
+
+-- the lines of the recording of an order begin with these
+abbrev pub Begins : Job → List ℕ → List (List ℕ) → Type 0
+Begins job order lines = (more : List (List ℕ)) × (lines_of (recorded job order) ≡ lines ++ more)
+
+-- the lines of the recording of some order under the scripts do
+abbrev pub IsFront : Job → List (List ℕ) → Type 0
+IsFront job lines = (order : List ℕ) × IsUnder job.scripts order × Begins job order lines
+
+-- bytes that are the recording of the order that they spell, in which all turns are taken
+pub record IsRecording (job : Job) (bytes : List ℕ) : Type 0 where
+  pub trace : bytes ≡ recorded job (spelled bytes)
+  pub all : IsInterleaving job.scripts (spelled bytes)

@@ -1,0 +1,96 @@
+//! The check of the current file of a store. What its lines are compared with is no part of it.
+ghost use Rattle.std.specs.Prelude.{◌≡◌, ◌≢◌, ℕ, ◌+◌, ◌^◌, ◌≤◌, List, [], Ok, Err, IsTrue, IfOk, OnOk, length};
+ghost use Rattle.std.specs.Arc.{arc_value};
+ghost use Rattle.hp_outside.specs.Faults.{Rose};
+ghost use Rattle.hp_outside.specs.Taken.{WhereTold};
+ghost use Rattle.record_scripts.specs.ModuleLines.{AreModuleLines};
+ghost use Rattle.order_check.specs.CheckAnswer.{CheckAnswer};
+ghost use Rattle.order_check.specs.CheckState.{HasTaken};
+ghost use Rattle.order_check.specs.CheckedLines.{IsNewReader, end_verdict};
+ghost use Rattle.order_check.specs.Spelling.{IsSpelling};
+
+use crate::order_check::OrderCheck;
+use crate::verdict::{CheckFault, LineRefusal, Verdict};
+use hp_num::decimal_texts;
+use hp_outside::{Limits, LineFault, LineReader, Store};
+use record_book::quiet_modules;
+use record_scripts::Scripts;
+use std::alloc::Global;
+use std::sync::Arc;
+
+/// Says whether the current file is a recording of these scripts. Nothing of the file may be read before. The modules of the
+/// scripts are whole lines about modules.
+///
+/// - `Yes` exactly where no line is past a limit, and the bytes are the recording of the order that they spell, in which
+///   all turns of the scripts are taken;
+/// - else `No`, where no line up to there is past a limit, with the first line up to which the file begins as no recording
+///   of these scripts does, in whatever order; where there is none, with the line behind the last;
+/// - else `LineTooLong` and `InputTooLong`, as a reader of lines tells them;
+/// - `ReadFailed` only where a call on the store failed before the lines told of another answer;
+/// - `NoMemory` only where memory is wanting.
+pub fn check_order<S: Store>(
+    alloc: Global,
+    job: Arc<Scripts>,
+    limits: &Limits,
+    store: &mut S,
+) -> Result<Verdict, CheckFault>
+    requires current { IsTrue (S.current store.old) }
+    requires modules { AreModuleLines (arc_value job).modules }
+    ensures answer { WhereTold (S.left store.old) (λ bytes. CheckAnswer limits.now.input limits.now.line (arc_value job) bytes (S.left store.new) result) }
+    ensures failed { result ≡ Err CheckFault.ReadFailed → Rose (S.faults store.old) (S.faults store.new) }
+    ensures sound { result ≢ Err CheckFault.ReadFailed → S.faults store.new ≡ S.faults store.old }
+    ensures files { S.files store.new ≡ S.files store.old }
+    ensures current { S.current store.new ≡ S.current store.old }
+    ensures opens { S.opens store.new ≡ S.opens store.old }
+{
+    quiet_modules();
+    decimal_texts();
+    let _threads = job.threads();
+    let mut check = OrderCheck::new(alloc, job)?;
+    let mut lines = LineReader::new(alloc, limits)?;
+    compare_lines(&mut check, &mut lines, store)
+}
+
+// Compares all lines of the current file.
+fn compare_lines<S: Store>(
+    check: &mut OrderCheck,
+    lines: &mut LineReader,
+    store: &mut S,
+) -> Result<Verdict, CheckFault>
+    requires current { IsTrue (S.current store.old) }
+    requires bounds { lines.old.input ≤ 2 ^ 34 }
+    requires new_lines { IsNewReader lines.old }
+    requires new_check { HasTaken check.old [] }
+    requires spelling { IsSpelling check.old.job }
+    ensures answer { WhereTold (S.left store.old) (λ bytes. CheckAnswer lines.old.input lines.old.line_limit check.old.job bytes (S.left store.new) result) }
+    ensures failed { result ≡ Err CheckFault.ReadFailed → Rose (S.faults store.old) (S.faults store.new) }
+    ensures sound { result ≢ Err CheckFault.ReadFailed → S.faults store.new ≡ S.faults store.old }
+    ensures files { S.files store.new ≡ S.files store.old }
+    ensures current { S.current store.new ≡ S.current store.old }
+    ensures opens { S.opens store.new ≡ S.opens store.old }
+{
+    'lines: loop {
+        let number = lines.number() + 1;
+        match lines.next(store) {
+            Ok(Some(span)) => match check.line(lines.line(&span)) {
+                Ok(()) => {}
+                Err(LineRefusal::NotRecorded) => return Ok(Verdict::No { line: number }),
+                Err(LineRefusal::NoMemory) => return Err(CheckFault::NoMemory),
+            },
+            Ok(None) => return Ok(verdict_at_end(check.end(lines.ended()), number)),
+            Err(LineFault::ReadFailed) => return Err(CheckFault::ReadFailed),
+            Err(LineFault::LineTooLong) => return Err(CheckFault::LineTooLong),
+            Err(LineFault::InputTooLong) => return Err(CheckFault::InputTooLong),
+        }
+    }
+}
+
+// The verdict where all lines were taken, with the number of the line behind the last.
+fn verdict_at_end(events: Option<u64>, number: u64) -> Verdict
+    ensures { result ≡ end_verdict events number }
+{
+    match events {
+        Some(events) => Verdict::Yes { events },
+        None => Verdict::No { line: number },
+    }
+}

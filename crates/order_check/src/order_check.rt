@@ -1,0 +1,187 @@
+//! The check of a trace line by line: what was compared with a recording is let go. Where the lines come from is no part
+//! of it.
+ghost use Rattle.std.specs.Prelude.{◌≡◌, ℕ, ◌+◌, ◌<◌, ◌≤◌, true, false, List, [], ◌∷◌, ◌++◌, length, drop, None, Some, IfErr, IfOk, OnErr, OnOk};
+ghost use Rattle.std.specs.Arc.{arc_value};
+ghost use Rattle.record_book.specs.Spelled.{behind, named};
+ghost use Rattle.order_check.specs.CheckState.{HasTaken, following_of};
+ghost use Rattle.order_check.specs.Following.{is_empty, is_front, thread_for, turn_begun, whole_events, with_line};
+
+use crate::verdict::LineRefusal;
+use hp_num::{NoMemory, parse_dec};
+use record_book::TraceStream;
+use record_scripts::Scripts;
+use std::alloc::Global;
+use std::marker::Model;
+use std::sync::Arc;
+
+/// A trace that is compared with the recordings of scripts.
+///
+/// Contracts see it as the scripts with their modules, the order of the turns that the lines have begun, and the bytes of
+/// its recording that are to come. It keeps no more of the recording than that of one turn.
+#[derive(Drop)]
+pub struct OrderCheck {
+    stream: TraceStream,
+    compared: usize,
+}
+
+impl Model for OrderCheck {
+    ghost use Rattle.std.specs.Prelude.{◌≤◌, drop, length};
+    ghost use Rattle.order_check.specs.CheckState.{CheckState};
+
+    ghost Value = { CheckState };
+
+    ghost view = { λ c. record { job = c.stream.job; order = c.stream.order; coming = drop c.compared c.stream.text } };
+
+    ghost invariant = { λ c. c.compared ≤ length c.stream.text };
+}
+
+impl OrderCheck {
+    /// The check of a trace against these scripts, of which no line is taken.
+    pub fn new(alloc: Global, job: Arc<Scripts>) -> Result<OrderCheck, NoMemory>
+        ensures job { IfOk result (λ check. check.job ≡ arc_value job) }
+        ensures none { IfOk result (λ check. HasTaken check []) }
+    {
+        let stream = TraceStream::new(alloc, job)?;
+        Ok(OrderCheck {
+            stream,
+            compared: 0,
+        })
+    }
+
+    /// Takes the next line of the trace, without its line feed.
+    ///
+    /// - `NotRecorded` exactly where no recording begins with the lines up to this one;
+    /// - `NoMemory` only where memory is wanting.
+    ///
+    /// After a refusal the check is of no use.
+    pub fn line(&mut self, line: &[u8]) -> Result<(), LineRefusal>
+        ensures taken { OnOk result ((lines : List (List ℕ)) → HasTaken self.old lines → HasTaken self.new (lines ++ line.now ∷ [])) }
+        ensures front { OnOk result ((lines : List (List ℕ)) → HasTaken self.old lines → is_front self.old.job (lines ++ line.now ∷ []) ≡ true) }
+        ensures refused { result ≡ Err LineRefusal.NotRecorded → (lines : List (List ℕ)) → HasTaken self.old lines → is_front self.old.job (lines ++ line.now ∷ []) ≡ false }
+        ensures job { self.new.job ≡ self.old.job }
+    {
+        self.step(line)
+    }
+
+    /// The number of events, where the lines are all of a recording in which all turns are taken. `ended` says whether the
+    /// last line ended with its line feed, which it does where there is none.
+    pub fn end(&self, ended: bool) -> Option<u64>
+        ensures events { (lines : List (List ℕ)) → HasTaken self.now lines → result ≡ whole_events self.now.job lines ended }
+    {
+        if !ended {
+            return None;
+        }
+        if !self.is_compared() {
+            return None;
+        }
+        let order = self.stream.order();
+        if !self.stream.is_complete() {
+            return None;
+        }
+        Some(order.len() as u64)
+    }
+
+    // One line further.
+    fn step(&mut self, line: &[u8]) -> Result<(), LineRefusal>
+        ensures stepped { OnOk result (with_line self.old.job (following_of self.old) line.now ≡ Some (following_of self.new)) }
+        ensures refused { result ≡ Err LineRefusal.NotRecorded → with_line self.old.job (following_of self.old) line.now ≡ None }
+        ensures job { self.new.job ≡ self.old.job }
+    {
+        if self.is_compared() {
+            return self.begin_with(line);
+        }
+        self.compare(line)
+    }
+
+    // Begins the turn that a line calls for, and compares the line; nothing is to come.
+    fn begin_with(&mut self, line: &[u8]) -> Result<(), LineRefusal>
+        requires { self.old.coming ≡ [] }
+        ensures stepped { OnOk result (with_line self.old.job (following_of self.old) line.now ≡ Some (following_of self.new)) }
+        ensures refused { result ≡ Err LineRefusal.NotRecorded → with_line self.old.job (following_of self.old) line.now ≡ None }
+        ensures job { self.new.job ≡ self.old.job }
+    {
+        match self.begin_turn(line) {
+            Ok(()) => self.compare(line),
+            Err(refusal) => Err(refusal),
+        }
+    }
+
+    // Whether nothing is to come of the turns that were begun.
+    fn is_compared(&self) -> bool
+        ensures { result ≡ is_empty self.now.coming }
+    {
+        self.compared == self.stream.text().len()
+    }
+
+    // Begins the turn that a line calls for; nothing is to come.
+    fn begin_turn(&mut self, line: &[u8]) -> Result<(), LineRefusal>
+        requires { self.old.coming ≡ [] }
+        ensures begun { OnOk result (turn_begun self.old.job self.old.order (thread_for self.old.order line.now) ≡ Some (following_of self.new)) }
+        ensures refused { result ≡ Err LineRefusal.NotRecorded → turn_begun self.old.job self.old.order (thread_for self.old.order line.now) ≡ None }
+        ensures job { self.new.job ≡ self.old.job }
+    {
+        let Some(thread) = thread_for(line, self.stream.order()) else {
+            return Err(LineRefusal::NotRecorded);
+        };
+        if thread >= u64::from(self.stream.scripts().threads()) {
+            return Err(LineRefusal::NotRecorded);
+        }
+        self.stream.let_go();
+        self.compared = 0;
+        if self.stream.step(thread as u32)? {
+            return Ok(());
+        }
+        Err(LineRefusal::NotRecorded)
+    }
+
+    // Compares a line with what is to come.
+    fn compare(&mut self, line: &[u8]) -> Result<(), LineRefusal>
+        ensures passed { OnOk result (behind (line.now ++ 10 ∷ []) self.old.coming ≡ Some self.new.coming) }
+        ensures refused { OnErr result (behind (line.now ++ 10 ∷ []) self.old.coming ≡ None) }
+        ensures fault { IfErr result (λ refusal. refusal ≡ LineRefusal.NotRecorded) }
+        ensures order { self.new.order ≡ self.old.order }
+        ensures job { self.new.job ≡ self.old.job }
+    {
+        let coming = &self.stream.text()[self.compared..];
+        if !begins_with_line(coming, line) {
+            return Err(LineRefusal::NotRecorded);
+        }
+        self.compared += line.len() + 1;
+        Ok(())
+    }
+}
+
+// Whether a text begins with a line and its line feed.
+fn begins_with_line(text: &[u8], line: &[u8]) -> bool
+    ensures begins { result ≡ true → (behind (line.now ++ 10 ∷ []) text.now ≡ Some (drop (length line.now + 1) text.now)) × (length line.now + 1 ≤ length text.now) }
+    ensures other { result ≡ false → behind (line.now ++ 10 ∷ []) text.now ≡ None }
+{
+    let count = line.len();
+    if count >= text.len() {
+        return false;
+    }
+    if text[count] != b'\n' {
+        return false;
+    }
+    &text[..count] == line
+}
+
+// The thread whose turn a line begins, behind the events of these threads.
+fn thread_for(line: &[u8], order: &[u32]) -> Option<u64>
+    ensures { result ≡ thread_for order.now line.now }
+{
+    match named_thread(line) {
+        Some(thread) => Some(thread),
+        None => order.last().map(|last| u64::from(*last)),
+    }
+}
+
+// The thread that a line names.
+fn named_thread(line: &[u8]) -> Option<u64>
+    ensures { result ≡ named line.now }
+{
+    match line.strip_prefix(b"# thread ") {
+        Some(digits) => parse_dec(digits),
+        None => None,
+    }
+}

@@ -1,0 +1,6 @@
+use Rattle.std.proofs.Common.{◌≡◌}
+use Rattle.order_check_tests.proofs.check_tests.add_script.Given as goal
+
+-- the modules stay
+abbrev pub invariant-loop-line : goal.invariant-loop-line
+invariant-loop-line l = record { same : l.scripts.modules ≡ l.initial.scripts.modules }

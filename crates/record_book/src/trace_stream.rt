@@ -1,0 +1,148 @@
+//! The trace of a recording turn by turn, of which a front may be let go. That all of it is kept, is no part of it.
+ghost use Rattle.std.specs.Prelude.{◌≡◌, ℕ, ◌+◌, ◌<◌, ◌≤◌, ◌↔◌, false, List, [], ◌++◌, length, vec_capacity, vec_len, IfOk, IsOk, IsTrue, OnOk, OnErr, nat_lt};
+ghost use Rattle.std.specs.Arc.{arc_value};
+ghost use Rattle.record_scripts.specs.Events.{event_count};
+ghost use Rattle.record_scripts.specs.ScriptTurns.{turn_said};
+ghost use Rattle.record_book.specs.Actions.{actions, events_at, times};
+ghost use Rattle.record_book.specs.BookState.{entries_of, stepped};
+ghost use Rattle.record_book.specs.HeapPlaces.{AreApart, live_blocks, places_after};
+ghost use Rattle.record_book.specs.Orders.{IsInterleaving, IsUnder};
+ghost use Rattle.record_book.specs.RecordedTrace.{recorded};
+
+use crate::trace::Trace;
+use hp_num::NoMemory;
+use record_scripts::{ScriptLine, Scripts};
+use std::alloc::Global;
+use std::marker::Model;
+use std::sync::Arc;
+
+/// The recording of scripts, as far as their threads have come, with what is kept of its trace.
+///
+/// Contracts see it as the scripts with their modules, the order, and the text that is kept: the trace of the order but for
+/// a front, which was let go.
+#[derive(Drop)]
+pub struct TraceStream {
+    job: Arc<Scripts>,
+    done: Vec<u32>,
+    order: Vec<u32>,
+    trace: Trace,
+    ips: Vec<u64>,
+}
+
+impl Model for TraceStream {
+    ghost use Rattle.std.specs.Arc.{arc_value};
+    ghost use Rattle.record_book.specs.StreamState.{IsStream, Streamed};
+
+    ghost Value = { Streamed };
+
+    ghost view = { λ s. record { job = arc_value s.job; order = s.order.items; text = s.trace.text.items } };
+
+    ghost invariant = { λ s. IsStream (arc_value s.job) s.done.items s.order.items s.trace };
+}
+
+impl TraceStream {
+    /// The recording of these scripts, of which no turn is taken, with all of its trace.
+    pub fn new(alloc: Global, job: Arc<Scripts>) -> Result<TraceStream, NoMemory>
+        ensures job { IfOk result (λ stream. stream.job ≡ arc_value job) }
+        ensures no_turns { IfOk result (λ stream. stream.order ≡ []) }
+        ensures whole { IfOk result (λ stream. stream.text ≡ recorded stream.job stream.order) }
+    {
+        let done = vec![in alloc; 0; job.threads() as usize]?;
+        let trace = Trace::new(alloc, job.modules())?;
+        Ok(TraceStream {
+            job,
+            done,
+            order: Vec::new(alloc),
+            trace,
+            ips: Vec::new(alloc),
+        })
+    }
+
+    /// Takes the next turn of a thread, whose script has to be there: the thread is appended to the order, twice for a
+    /// reallocation and else once, and its lines to the text. It answers `true`, or `false` exactly where the script is
+    /// done. On `NoMemory` all is as before.
+    pub fn step(&mut self, thread: u32) -> Result<bool, NoMemory>
+        requires { thread < length self.old.job.scripts }
+        ensures stepped { OnOk result (self.new.order ≡ stepped self.old.job.scripts thread self.old.order) }
+        ensures job { self.new.job ≡ self.old.job }
+        ensures text { OnOk result ((more : List ℕ) × (self.new.text ≡ self.old.text ++ more)
+            × (recorded self.new.job self.new.order ≡ recorded self.old.job self.old.order ++ more)) }
+        ensures more { IfOk result (λ more. more ≡ nat_lt (times thread self.old.order) (length (events_at self.old.job.scripts thread))) }
+        ensures done { IfOk result (λ more. more ≡ false → times thread self.new.order ≡ length (events_at self.new.job.scripts thread)) }
+        ensures under { OnOk result (IsUnder self.new.job.scripts self.new.order) }
+        ensures unchanged { OnErr result (self.new ≡ self.old) }
+    {
+        let place = self.done[thread as usize];
+        let Some(turn) = self.job.turn_into(thread, place, &mut self.ips)? else {
+            return Ok(false);
+        };
+        self.order.reserve(2)?;
+        self.trace.add(thread, turn, &self.ips)?;
+        push_entries(&mut self.order, thread, turn)?;
+        self.done[thread as usize] = place + 1;
+        Ok(true)
+    }
+
+    /// What is kept of the trace: its end.
+    pub fn text(&self) -> &[u8]
+        ensures text { result.now ≡ self.now.text }
+    {
+        self.trace.text.as_slice()
+    }
+
+    /// The same, which is all that stays.
+    pub fn into_text(self) -> Vec<u8>
+        ensures text { result.items ≡ self.text }
+    {
+        let trace = self.trace;
+        trace.text
+    }
+
+    /// Lets go what is kept of the trace.
+    pub fn let_go(&mut self)
+        ensures { self.new ≡ record self.old { text = [] } }
+    {
+        self.trace.text.clear();
+    }
+
+    /// The thread of each event so far.
+    pub fn order(&self) -> &[u32]
+        ensures order { result.now ≡ self.now.order }
+
+        // The order.
+        ensures under { IsUnder self.now.job.scripts self.now.order }
+        ensures apart { AreApart (live_blocks (places_after (actions self.now.job.scripts self.now.order))) }
+        ensures few { length self.now.order ≤ event_count self.now.job.scripts }
+    {
+        self.order.as_slice()
+    }
+
+    /// Whether all turns are taken.
+    pub fn is_complete(&self) -> bool
+        ensures { IsTrue result ↔ IsInterleaving self.now.job.scripts self.now.order }
+    {
+        let order = self.order.as_slice();
+        order.len() as u64 == self.job.events()
+    }
+
+    /// The scripts, with their modules.
+    pub fn scripts(&self) -> &Scripts
+        ensures job { result.now ≡ self.now.job }
+        ensures under { IsUnder self.now.job.scripts self.now.order }
+    {
+        &self.job
+    }
+}
+
+// Appends a thread to an order, once for each event of its turn. It can't fail where there is room for two.
+fn push_entries(order: &mut Vec<u32>, thread: u32, turn: ScriptLine) -> Result<(), NoMemory>
+    ensures pushed { OnOk result ((ips : List ℕ) → order.new.items ≡ order.old.items ++ entries_of thread (turn_said turn ips)) }
+    ensures room { vec_len order.old + 2 ≤ vec_capacity order.old → IsOk result }
+{
+    order.push(thread)?;
+    match turn {
+        ScriptLine::Reallocation { .. } => order.push(thread)?,
+        _ => {}
+    }
+    Ok(())
+}
