@@ -24,7 +24,7 @@ of_thread thread [] = []
 of_thread thread (action ∷ before) = cond (action.thread == thread) (action ∷ of_thread thread before) (of_thread thread before)
 
 -- the blocks of a thread
-abbrev held_by : ℕ → List Held → List Held
+abbrev pub held_by : ℕ → List Held → List Held
 held_by thread [] = []
 held_by thread (block ∷ older) = cond (block.thread == thread) (block ∷ held_by thread older) (held_by thread older)
 
@@ -54,7 +54,7 @@ other-event : (scripts : List (List Turn)) (entry thread : ℕ) (rest : List Act
 other-event scripts entry thread rest None p = refl
 other-event scripts entry thread rest (Some event) p = ap (λ (b : Bool). cond b (record { thread = entry; event = event } ∷ of_thread thread rest) (of_thread thread rest)) p
 
-thread-back : (scripts : List (List Turn)) (thread : ℕ) (back : List ℕ) → times thread back ≤ length (events_at scripts thread)
+pub thread-back : (scripts : List (List Turn)) (thread : ℕ) (back : List ℕ) → times thread back ≤ length (events_at scripts thread)
     → of_thread thread (actions_back scripts back) ≡ with_events thread (take (times thread back) (events_at scripts thread)) []
 thread-back scripts thread [] few = refl
 thread-back scripts thread (entry ∷ back) few = by (λ less. thread-back scripts thread back less) (entry == thread) refl few
@@ -298,3 +298,9 @@ pub order-length : (scripts : List (List Turn)) (order : List ℕ) → IsInterle
 order-length scripts order is =
     entries-sum (length scripts) order (entries-below scripts order is.under.at_most)
     ∙ sum-same (λ (thread : ℕ). times thread order) (λ (thread : ℕ). length (events_at scripts thread)) (length scripts) is.exactly ∙ scripts-sum scripts
+
+-- and an order under scripts no more
+pub order-within : (scripts : List (List Turn)) (order : List ℕ) → ((thread : ℕ) → times thread order ≤ length (events_at scripts thread)) → length order ≤ event_count scripts
+order-within scripts order few =
+    let less = sum-less (λ (thread : ℕ). times thread order) (λ (thread : ℕ). length (events_at scripts thread)) (length scripts) few in
+    omega (arith, entries-sum (length scripts) order (entries-below scripts order few), less, scripts-sum scripts)

@@ -12,7 +12,7 @@ abbrev pub same : ℕ → ℕ → ℕ → ℕ → Bool
 same thread id t i = thread == t && id == i
 
 -- a block that has an ID has another one exactly where the two are the same
-of-same : (block : Block) (thread id t i : ℕ) → is_of thread id block ≡ true → is_of t i block ≡ same thread id t i
+pub of-same : (block : Block) (thread id t i : ℕ) → is_of thread id block ≡ true → is_of t i block ≡ same thread id t i
 of-same block thread id t i owned =
     let a : block.thread ≡ thread = grind (arith, nat_tests, owned) in
     let b : block.id ≡ id = grind (arith, nat_tests, owned) in

@@ -16,3 +16,5 @@ mod LineTexts
 mod SpelledLemmas
 mod SummaryLines
 mod ModuleLines
+mod PlaceLemmas
+pub mod Laws

@@ -126,7 +126,7 @@ unfolding named
 spells-opening = λ more. refl
 
 -- the threads of actions, in their order
-abbrev threads_of : List Action → List ℕ
+abbrev pub threads_of : List Action → List ℕ
 threads_of [] = []
 threads_of (action ∷ before) = threads_of before ++ action.thread ∷ []
 
@@ -181,7 +181,7 @@ reverse-twice : (xs : List ℕ) → reverse (reverse xs) ≡ xs
 reverse-twice [] = refl
 reverse-twice (x ∷ xs) = ap (λ (ys : List ℕ). reverse ys) (reverse-append (x ∷ []) xs) ∙ reverse-append (reverse xs) (x ∷ []) ∙ ap (λ (ys : List ℕ). x ∷ ys) (reverse-twice xs)
 
-threads-order : (scripts : List (List Turn)) (order : List ℕ) → IsUnder scripts order → threads_of (actions scripts order) ≡ order
+pub threads-order : (scripts : List (List Turn)) (order : List ℕ) → IsUnder scripts order → threads_of (actions scripts order) ≡ order
 unfolding actions
 threads-order scripts order under =
     threads-back scripts (reverse order) (λ thread. omega (arith, times-reverse thread order, under.at_most thread)) ∙ reverse-twice order

@@ -51,20 +51,25 @@ regrouped : (z t n e m c o a p l q i r b k s f u x v : List ℕ)
     ≡ (t ++ n) ++ (z ++ ((e ++ m) ++ (z ++ ((c ++ o) ++ (z ++ ((a ++ p) ++ (z ++ ((l ++ (q ++ (i ++ (r ++ b)))) ++ (z ++ ((k ++ (s ++ (f ++ (u ++ (x ++ v))))) ++ z))))))))))
 regrouped z t n e m c o a p l q i r b k s f u x v = simp append_assoc
 
-abbrev lines : Summary → List (List ℕ)
-lines s =
+-- its lines
+abbrev pub summary_lines : Summary → List (List ℕ)
+summary_lines s =
     (codes "# threads: " ++ decimal s.threads) ∷ (codes "# events: " ++ decimal s.events) ∷ (codes "# calls: " ++ decimal s.calls) ∷ (codes "# allocated: " ++ decimal s.allocated)
     ∷ (codes "# leaked: " ++ (decimal s.leaked ++ (codes " in " ++ (decimal s.blocks ++ codes " blocks"))))
     ∷ (codes "# peak: " ++ (decimal s.peak ++ (codes " from " ++ (decimal s.low ++ (codes " to " ++ decimal s.high))))) ∷ []
 
-text-lines : (s : Summary) → count_lines s ++ (leaked_line s ++ peak_line s) ≡ text_of_lines (lines s)
+text-lines : (s : Summary) → count_lines s ++ (leaked_line s ++ peak_line s) ≡ text_of_lines (summary_lines s)
 unfolding count_lines leaked_line peak_line
 text-lines s =
     regrouped (10 ∷ []) (codes "# threads: ") (decimal s.threads) (codes "# events: ") (decimal s.events) (codes "# calls: ") (decimal s.calls) (codes "# allocated: ") (decimal s.allocated)
     (codes "# leaked: ") (decimal s.leaked) (codes " in ") (decimal s.blocks) (codes " blocks") (codes "# peak: ") (decimal s.peak) (codes " from ") (decimal s.low) (codes " to ") (decimal s.high)
 
+pub summary-text : (scripts : List (List Turn)) (order : List ℕ) → rec_summary scripts order ≡ text_of_lines (summary_lines (summary_of scripts order))
+unfolding rec_summary
+summary-text scripts order = text-lines (summary_of scripts order)
+
 pub summary-quiet : (scripts : List (List Turn)) (order : List ℕ) → AreQuiet (rec_summary scripts order)
 unfolding rec_summary
 summary-quiet scripts order =
     let s = summary_of scripts order in
-    (lines s, (threads-line s.threads, (events-line s.events, (calls-line s.calls, (allocated-line s.allocated, (leaked-line s.leaked s.blocks, (peak-line s.peak s.low s.high, tt)))))), text-lines s)
+    (summary_lines s, (threads-line s.threads, (events-line s.events, (calls-line s.calls, (allocated-line s.allocated, (leaked-line s.leaked s.blocks, (peak-line s.peak s.low s.high, tt)))))), text-lines s)

@@ -22,7 +22,7 @@ of-other block thread id t i other is =
     let b : id ≡ i = grind (arith, nat_tests, is) in
     sym (ap₂ (λ (x y : ℕ). has_id x y block) a b) ∙ other
 
-same-self : (thread id : ℕ) → same thread id thread id ≡ true
+pub same-self : (thread id : ℕ) → same thread id thread id ≡ true
 same-self thread id = by (same thread id thread id) refl
   where
     by : (b : Bool) → same thread id thread id ≡ b → b ≡ true

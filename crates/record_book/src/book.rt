@@ -1,6 +1,7 @@
 //! The book: which thread took which turns of its script, and in what order. The text of the trace is made elsewhere.
 ghost use Rattle.std.specs.Prelude.{◌≡◌, ◌≢◌, ℕ, ◌+◌, ◌<◌, ◌≤◌, false, List, [], ◌++◌, length, vec_capacity, vec_len, IfOk, IsOk, OnOk, OnErr, nat_lt};
 ghost use Rattle.std.specs.Arc.{arc_value};
+ghost use Rattle.record_scripts.specs.Playable.{IsPlayable};
 ghost use Rattle.record_scripts.specs.ScriptTurns.{turn_said};
 ghost use Rattle.record_book.specs.Actions.{actions, events_at, times};
 ghost use Rattle.record_book.specs.BookState.{HasStepped, entries_of, stepped};
@@ -135,6 +136,7 @@ impl Book {
         ensures count { result ≡ length self.now.job.scripts }
         ensures few { result ≤ 64 }
         ensures under { IsUnder self.now.job.scripts self.now.order }
+        ensures playable { IsPlayable self.now.job }
     {
         self.job.threads()
     }

@@ -28,18 +28,18 @@
 //! | `heap.rt`, `free_places.rt` | where blocks lie, and the places without a block in order |
 //! | `tally.rt`, `summary.rt` | the figures of turns that are taken one after another; the six lines |
 //! | `same_scripts.rt` | whether two jobs are the same, turn by turn |
-//! | `laws.rt` | the laws |
+//! | `spelling.rt` | the laws of what bytes spell |
 #![tactic(auto)]
 
 mod book;
 mod free_places;
 mod heap;
-mod laws;
 mod node_lines;
 mod same_scripts;
+mod spelling;
 mod summary;
 mod tally;
 mod trace;
 
 pub use book::Book;
-pub use laws::{quiet_modules, spelled_orders};
+pub use spelling::{quiet_modules, spelled_orders};

@@ -1,14 +1,16 @@
 -- What one turn more in the last script changes.
-use Rattle.std.proofs.Common.{◌≡◌, ℕ, zero, suc, ◌+◌, ◌<◌, List, [], ◌∷◌, ◌++◌, length, reverse, Some, refl, ap, ◌∙◌, subst, arith, length-append, append-nil}
+use Rattle.std.proofs.Common.{◌≡◌, ℕ, zero, suc, ◌+◌, ◌^◌, ◌<◌, List, [], ◌∷◌, ◌++◌, get_or, length, reverse, Some, refl, sym, ap, ◌∙◌, subst, arith, length-append, append-nil}
 use Rattle.std.specs.Prelude.{flat_map, slice_get}
 use Rattle.std.proofs.lemmas.List.{reverse-append}
 use Rattle.std.proofs.lemmas.Option.{same_Some}
 use Rattle.std.proofs.lemmas.List.Sums.{sum_by-append, sum_by-cons}
 use Rattle.std.proofs.lemmas.Grind.{flat_map-append}
 use Rattle.std.specs.List.{AllByRecursion}
+use Rattle.ht_lines.specs.Written.{AreWords}
 use Rattle.record_scripts.specs.Turns.{AreBounded, IsBounded, Turn, is_live, is_live_after, script_at}
 use Rattle.record_scripts.specs.Events.{Event, event_count, events_of, events_of_turn}
 use Rattle.record_scripts.specs.Job.{in_last, last_script}
+use Rattle.record_scripts.specs.Playable.{AreInTurn, Follows, IsInTurn}
 
 events-push : (script : List Turn) (turn : Turn) → length (events_of (script ++ turn ∷ [])) ≡ length (events_of script) + length (events_of_turn turn)
 events-push script turn =
@@ -58,6 +60,20 @@ pub bounded-push : (scripts : List (List Turn)) (turn : Turn) → AreBounded scr
 bounded-push [] turn all here = tt
 bounded-push (script ∷ []) turn all here = (bounded-more script turn all.0 here, tt)
 bounded-push (script ∷ next ∷ more) turn all here = (all.0, bounded-push (next ∷ more) turn all.1 here)
+
+-- numbers that fit 64 bits, one by one
+pub are-words : (ns : List ℕ) → ((i : ℕ) → get_or ns i 0 < 2 ^ 64) → AreWords ns
+are-words [] fits = tt
+are-words (n ∷ ns) fits = (fits 0, are-words ns (λ i. fits (suc i)))
+
+-- a turn more that follows the last script
+in-turn-more : (script : List Turn) (turn : Turn) → IsInTurn script → Follows (reverse script) turn → IsInTurn (script ++ turn ∷ [])
+in-turn-more script turn are follows = subst AreInTurn (sym (reverse-append script (turn ∷ []))) (follows, are)
+
+pub in-turn-push : (scripts : List (List Turn)) (turn : Turn) → AllByRecursion IsInTurn scripts → Follows (reverse (last_script scripts)) turn → AllByRecursion IsInTurn (in_last scripts turn)
+in-turn-push [] turn all follows = tt
+in-turn-push (script ∷ []) turn all follows = (in-turn-more script turn all.0 follows, tt)
+in-turn-push (script ∷ next ∷ more) turn all follows = (all.0, in-turn-push (next ∷ more) turn all.1 follows)
 
 -- the bounds of a turn of a script
 bounded-in : (script : List Turn) (k : ℕ) (turn : Turn) → AllByRecursion IsBounded script → slice_get script k ≡ Some turn → IsBounded turn

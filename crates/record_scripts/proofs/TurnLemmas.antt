@@ -11,10 +11,11 @@ use Rattle.record_scripts.specs.declared.turn_entry.TurnEntry.{TurnEntry}
 use Rattle.record_scripts.specs.Turns.{AreBounded, IsBounded, Turn, allocates, frees, reallocates, is_live, is_live_after}
 use Rattle.record_scripts.specs.Events.{event_count, events_of_turn}
 use Rattle.record_scripts.specs.Job.{Job, in_last, last_script}
+use Rattle.record_scripts.specs.Playable.{Follows, IsInTurn}
 use Rattle.record_scripts.specs.ScriptFaults.{with_turn}
 use Rattle.record_scripts.specs.ScriptTurns.{AreHeld, AreScripts, AreSingle, IsHeld, script_kept, scripts_kept, turn_kept}
 use Rattle.record_scripts.proofs.KeptLemmas.{all-push, kept-grown}
-use Rattle.record_scripts.proofs.TableLemmas.{bounded-push, count-begun, count-push, last-begun, last-push, live-push}
+use Rattle.record_scripts.proofs.TableLemmas.{bounded-push, count-begun, count-push, in-turn-push, last-begun, last-push, live-push}
 
 -- the scripts with the turn
 pub kept-next : (nodes new : List Node) (scripts reserved pushed : List Script) (turn : TurnEntry) (said : Turn) → Continues nodes new → AreHeld (length nodes) scripts
@@ -36,6 +37,7 @@ scripts-same nodes scripts others live later events limit table kept held count 
   few_events = table.few_events;
   few_scripts = omega (arith, count, table.few_scripts);
   bounded = subst AreBounded (sym kept) table.bounded;
+  in_turn = subst (AllByRecursion IsInTurn) (sym kept) table.in_turn;
   live_blocks = λ id. same id ∙ table.live_blocks id ∙ ap (λ (all : List (List Turn)). is_live (last_script all) id) (sym kept);
 }
 
@@ -54,6 +56,7 @@ scripts-begun nodes scripts empty live later events limit table few none gone =
       few_events = table.few_events;
       few_scripts = omega (arith, few, length-map scripts (script_kept nodes), length-append scripts (empty ∷ []));
       bounded = subst AreBounded (sym kept) (all-push (λ (script : List Turn). AllByRecursion IsBounded script) (scripts_kept nodes scripts) [] table.bounded tt);
+      in_turn = subst (AllByRecursion IsInTurn) (sym kept) (all-push IsInTurn (scripts_kept nodes scripts) [] table.in_turn tt);
       live_blocks = λ id. gone id ∙ ap (λ (turns : List Turn). is_live turns id) (sym (last-begun (scripts_kept nodes scripts)) ∙ ap last_script (sym kept));
     }
 
@@ -78,8 +81,9 @@ pub scripts-next : (nodes new : List Node) (scripts pushed : List Script) (live 
     → 0 < length (scripts_kept nodes scripts) → length pushed ≡ length scripts → AreHeld (length new) pushed → AreSingle (reverse new) → length new ≤ length nodes + 256
     → scripts_kept new pushed ≡ in_last (scripts_kept nodes scripts) said → events + length (events_of_turn said) ≤ limit
     → ((id : ℕ) → later id ≡ is_live_after (said ∷ reverse (last_script (scripts_kept nodes scripts))) id) → IsBounded said
+    → Follows (reverse (last_script (scripts_kept nodes scripts))) said
     → AreScripts new pushed later (events + length (events_of_turn said)) limit
-scripts-next nodes new scripts pushed live later events limit said table some count held single few kept within live_then bound =
+scripts-next nodes new scripts pushed live later events limit said table some count held single few kept within live_then bound follows =
     record {
       held = held;
       single = single;
@@ -89,6 +93,7 @@ scripts-next nodes new scripts pushed live later events limit said table some co
       few_events = table.few_events;
       few_scripts = omega (arith, count, table.few_scripts);
       bounded = subst AreBounded (sym kept) (bounded-push (scripts_kept nodes scripts) said table.bounded bound);
+      in_turn = subst (AllByRecursion IsInTurn) (sym kept) (in-turn-push (scripts_kept nodes scripts) said table.in_turn follows);
       live_blocks = λ id.
           live_then id ∙ sym (live-push (last_script (scripts_kept nodes scripts)) said id)
           ∙ ap (λ (turns : List Turn). is_live turns id) (sym (last-push (scripts_kept nodes scripts) said some) ∙ ap last_script (sym kept));

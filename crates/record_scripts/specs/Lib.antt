@@ -5,5 +5,6 @@ pub mod ModuleLine
 pub mod ModuleLines
 pub mod Events
 pub mod Job
+pub mod Playable
 pub mod ScriptFaults
 pub mod ScriptTurns

@@ -3,13 +3,15 @@ use Rattle.std.specs.Prelude.{◌≡◌, ℕ, true, List, [], ◌∷◌, ◌++�
 use Rattle.std.specs.List.{AllByRecursion}
 use Rattle.ht_lines.specs.Content.{Content}
 use Rattle.ht_lines.specs.OneLine.{HasOneLineTexts}
-use Rattle.ht_lines.specs.Written.{written}
+use Rattle.ht_lines.specs.declared.item.Form.TheVariants.{Raw}
+use Rattle.ht_lines.specs.Written.{IsWritable, written}
 use Rattle.record_scripts.specs.ModuleLine.{is_module}
 
--- what one line about modules says: a name in it has no line feed
+-- what one line about modules says in file version 2: a name in it has no line feed
 pub record IsModuleSaid (said : Content) : Type 0 where
   pub about : is_module said ≡ true
   pub texts : HasOneLineTexts said
+  pub writable : IsWritable Raw 2 said
 
 -- the written forms of what is said, each with its line feed
 abbrev pub module_lines : List Content → List ℕ

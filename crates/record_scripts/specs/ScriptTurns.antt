@@ -11,6 +11,7 @@ use Rattle.record_scripts.specs.declared.script.Script.{Script}
 use Rattle.record_scripts.specs.Turns.{AreBounded, Turn, allocates, frees, reallocates, is_live}
 use Rattle.record_scripts.specs.Events.{event_count}
 use Rattle.record_scripts.specs.Job.{last_script}
+use Rattle.record_scripts.specs.Playable.{IsInTurn}
 
 -- the turn that a line says with these ips
 abbrev pub turn_said : ScriptLine → List ℕ → Turn
@@ -63,4 +64,5 @@ pub record AreScripts (nodes : List Node) (scripts : List Script) (live : ℕ �
   pub few_events : limit < 2 ^ 24
   pub few_scripts : length scripts ≤ 64
   pub bounded : AreBounded (scripts_kept nodes scripts)
+  pub in_turn : AllByRecursion IsInTurn (scripts_kept nodes scripts)
   pub live_blocks : (id : ℕ) → live id ≡ is_live (last_script (scripts_kept nodes scripts)) id

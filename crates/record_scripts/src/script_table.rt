@@ -6,6 +6,7 @@ ghost use Rattle.stack_table.specs.Continues.{Continues};
 ghost use Rattle.stack_table.specs.Stack.{stack};
 ghost use Rattle.record_scripts.specs.Events.{event_count};
 ghost use Rattle.record_scripts.specs.Job.{Job};
+ghost use Rattle.record_scripts.specs.Playable.{IsPlayable};
 ghost use Rattle.record_scripts.specs.ModuleLine.{module_in};
 ghost use Rattle.record_scripts.specs.ModuleLines.{AreModuleLines};
 ghost use Rattle.record_scripts.specs.Turns.{IsBounded, allocates, frees, reallocates, script_at};
@@ -128,6 +129,7 @@ impl ScriptTable {
     pub fn threads(&self) -> u32
         ensures count { result ≡ length self.now.scripts }
         ensures few { result ≤ 64 }
+        ensures playable { IsPlayable self.now }
     {
         self.scripts.len() as u32
     }

@@ -5,6 +5,7 @@ ghost use Rattle.std.specs.Arc.{arc_value};
 ghost use Rattle.ht_lines.specs.OneLine.{IsOneLine};
 ghost use Rattle.record_scripts.specs.Events.{event_count};
 ghost use Rattle.record_scripts.specs.Job.{Job};
+ghost use Rattle.record_scripts.specs.Playable.{IsPlayable};
 ghost use Rattle.record_scripts.specs.ModuleLines.{AreModuleLines};
 ghost use Rattle.record_scripts.specs.ScriptFaults.{Tells, line_fault, module_fault, with_line, with_module_line};
 ghost use Rattle.record_scripts.specs.ScriptTurns.{turn_said};
@@ -151,6 +152,7 @@ impl Scripts {
     pub fn threads(&self) -> u32
         ensures count { result ≡ length self.now.scripts }
         ensures few { result ≤ 64 }
+        ensures playable { IsPlayable self.now }
     {
         self.table.threads()
     }

@@ -1,4 +1,4 @@
-use Rattle.std.proofs.Common.{Bool, false, cond, length, refl, ap, ◌∙◌, arith}
+use Rattle.std.proofs.Common.{Bool, false, cond, length, refl, sym, ap, ◌∙◌, arith}
 use Rattle.std.specs.Prelude.{nat_eq}
 use Rattle.std.specs.HashSet.{contains}
 use Rattle.record_scripts.specs.Turns.{frees}
@@ -17,3 +17,4 @@ invariant_of-self-2 c =
     (frees c.args.id) c.self.invariant (omega (arith, ap (λ (job : Job). length job.scripts) c.self.view_is)) c.push_turn.ensures.count
     (c.in_ok-push_turn.ensures.held _ tt c.self.invariant.held) c.self.invariant.single (omega arith) (c.in_ok-push_turn.ensures.pushed c.self.inside.nodes) (omega arith)
     (λ q. c.remove.ensures.updates.0 q ∙ ap (λ (b : Bool). cond (nat_eq c.args.id q) false b) (c.self.invariant.live_blocks q)) tt
+    (sym (c.self.invariant.live_blocks c.args.id) ∙ (sym c.contains.ensures ∙ c.if-not-contains.false))

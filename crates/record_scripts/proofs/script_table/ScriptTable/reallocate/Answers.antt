@@ -7,6 +7,7 @@ use Rattle.record_scripts.specs.Turns.{reallocates}
 use Rattle.record_scripts.specs.Job.{Job, in_last}
 use Rattle.record_scripts.specs.ScriptTurns.{AreScripts, scripts_kept}
 use Rattle.record_scripts.proofs.KeptLemmas.{held-grown}
+use Rattle.record_scripts.proofs.TableLemmas.{are-words}
 use Rattle.record_scripts.proofs.TurnLemmas.{kept-next, live-kept, scripts-next, scripts-same, view-next}
 use Rattle.record_scripts.proofs.script_table.ScriptTable.reallocate.Goals as goal
 
@@ -35,6 +36,7 @@ invariant_of-self-2 c =
     (c.in_ok-push_turn.ensures.held _ c.in_ok-node.ensures.within (c.reserve_turn.ensures.held _ (held-grown _ _ c.intern.ensures.continues.held c.self.inside.scripts.items c.self.invariant.held)))
     c.intern.ensures.single c.intern.ensures.few_more (kept c) (omega arith)
     (live-kept (contains nat_eq c.self.inside.live) _ c.args.id c.self.invariant.live_blocks (sym c.contains.ensures ∙ c.if-not-contains.false)) (c.requires.few_bytes, c.requires.few_ips)
+    (sym (c.self.invariant.live_blocks c.args.id) ∙ (sym c.contains.ensures ∙ c.if-not-contains.false), are-words c.args.ips.now (λ i. let fits = c.type_inv.ips i in omega arith))
 
 pub returns-clause-added : goal.returns-clause-added
 returns-clause-added c =

@@ -1,6 +1,6 @@
 use Rattle.record_book.proofs.SpelledLemmas.{spelled-more, spelled-order}
 use Rattle.record_book.proofs.SummaryLines.{summary-quiet}
-use Rattle.record_book.proofs.laws.spelled_orders.Goals as goal
+use Rattle.record_book.proofs.spelling.spelled_orders.Goals as goal
 
 pub returns-clause-trace : goal.returns-clause-trace
 returns-clause-trace c = λ job order few quiet under. spelled-order job order c.decimal_texts.ensures.reads_back few quiet under
