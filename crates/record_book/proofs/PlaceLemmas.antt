@@ -78,8 +78,8 @@ record IsAllocated (thread id size : ℕ) (places after : List Place) : Type 0 w
   end : ℕ
   few : end ≤ end_of places + class_of size
   of : AreOf
-    (λ t i. cond (same thread id t i) (Some (record { address = next_address (class_of size) (released thread id places); class = class_of size })) (entry_in (released thread id places) t i))
-    less end after
+      (λ t i. cond (same thread id t i) (Some (record { address = next_address (class_of size) (released thread id places); class = class_of size })) (entry_in (released thread id places) t i))
+      less end after
 
 allocated-of : (thread id size : ℕ) (places : List Place) → AreOnly places → IsAllocated thread id size places (placed (new_block thread id size) (released thread id places))
 allocated-of thread id size places only =

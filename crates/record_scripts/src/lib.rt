@@ -11,6 +11,8 @@
 //! - `turn_into` gives a turn of a thread by its number, with its pointers in a buffer, and tells that its block and
 //!   its stack are bounded and how many events there are; `modules` the text of the modules, and `limit` how many
 //!   events there may be.
+//! - The scripts are ones that threads can take (`IsPlayable`, told by `threads`): each turn follows those before it, so
+//!   that none allocates a live block or frees another.
 //! - The text of the modules is whole lines about modules (`AreModuleLines`) as long as no line that is handed to
 //!   `module_line` has a line feed: its clause `lines` says so, `new` begins with none, and `begin` and `line` leave
 //!   the text as it is.

@@ -148,7 +148,7 @@ impl Scripts {
         self.table.modules()
     }
 
-    /// How many scripts were begun, at most 64.
+    /// How many scripts were begun, at most 64. Each turn of them follows those before it.
     pub fn threads(&self) -> u32
         ensures count { result ≡ length self.now.scripts }
         ensures few { result ≤ 64 }

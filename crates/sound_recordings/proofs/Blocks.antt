@@ -1,5 +1,5 @@
 -- What the pointers of a recorded trace stand for: the live blocks of the scripts.
-use Rattle.std.proofs.Common.{◌≡◌, ◌≢◌, ℕ, ◌==◌, ◌&&◌, Bool, true, false, cond, List, [], ◌∷◌, ◌++◌, Option, None, Some, refl, sym, ap, ap₂, ◌∙◌, subst, arith, true≢false}
+use Rattle.std.proofs.Common.{◌≡◌, ◌≢◌, ℕ, ◌==◌, ◌&&◌, Bool, true, false, cond, List, [], ◌∷◌, ◌++◌, length, Option, None, Some, refl, sym, ap, ap₂, ◌∙◌, subst, arith, true≢false}
 use Rattle.std.proofs.lemmas.Bool.Decides.{nat_tests}
 use Rattle.ht_lines.specs.Content.{Content, raw_allocation_line, raw_free_line}
 use Rattle.interpret.specs.RawBlocks.{IsEventless, RawBlock, held}
@@ -21,7 +21,7 @@ StandsAt said _ _ = ⊥
 
 -- the same of the block of each thread's ID
 pub record AreLive (said : List Content) (places : List Place) (blocks : List Held) : Type 0 where
-  pub at : (t i : ℕ) → StandsAt said (entry_in places t i) (size_in blocks t i)
+  pub each : (t i : ℕ) → StandsAt said (entry_in places t i) (size_in blocks t i)
   pub only : AreOnly places
 
 stands-still : (said more : List Content) (entry : Option LiveEntry) (size : Option ℕ) → ((e : LiveEntry) → entry ≡ Some e → held more e.address ≡ held said e.address) → StandsAt said entry size → StandsAt more entry size
@@ -33,7 +33,7 @@ stands-still said more (Some e) None same at = absurd at
 -- lines without an event
 pub live-none : (said : List Content) (c : Content) (places : List Place) (blocks : List Held) → IsEventless c → AreLive said places blocks → AreLive (said ++ c ∷ []) places blocks
 live-none said c places blocks none live = record {
-  at = λ t i. stands-still said (said ++ c ∷ []) (entry_in places t i) (size_in blocks t i) (λ e is. held-none said c e.address none) (live.at t i);
+  each = λ t i. stands-still said (said ++ c ∷ []) (entry_in places t i) (size_in blocks t i) (λ e is. held-none said c e.address none) (live.each t i);
   only = live.only;
 }
 
@@ -47,7 +47,7 @@ pub record IsThere (said : List Content) (places : List Place) (thread id size :
 
 pub there : (said : List Content) (places : List Place) (blocks : List Held) (thread id size : ℕ) → AreLive said places blocks → size_in blocks thread id ≡ Some size → IsThere said places thread id size
 there said places blocks thread id size live is =
-    by (entry_in places thread id) refl (subst (λ (o : Option ℕ). StandsAt said (entry_in places thread id) o) is (live.at thread id))
+    by (entry_in places thread id) refl (subst (λ (o : Option ℕ). StandsAt said (entry_in places thread id) o) is (live.each thread id))
   where
     by : (o : Option LiveEntry) → entry_in places thread id ≡ o → StandsAt said o (Some size) → IsThere said places thread id size
     by None lies at = absurd at
@@ -63,18 +63,12 @@ there said places blocks thread id size live is =
 pub live-freed : (said : List Content) (places : List Place) (blocks : List Held) (thread id size : ℕ) → AreLive said places blocks → AreOnly (released thread id places) → IsThere said places thread id size
     → AreLive (said ++ raw_free_line (address_of thread id places) ∷ []) (released thread id places) (without thread id blocks)
 live-freed said places blocks thread id size live only here = record {
-  at = λ t i.
-      subst (λ (o : Option ℕ). StandsAt more (entry_in (released thread id places) t i) o) (sym (size-without thread id blocks t i))
-      (subst (λ (o : Option LiveEntry). StandsAt more o (cond (same thread id t i) None (size_in blocks t i))) (sym (entry-released thread id places t i)) (by t i (same thread id t i) refl));
+  each = λ t i.
+      subst (λ (o : Option ℕ). StandsAt (said ++ raw_free_line (address_of thread id places) ∷ []) (entry_in (released thread id places) t i) o) (sym (size-without thread id blocks t i))
+      (subst (λ (o : Option LiveEntry). StandsAt (said ++ raw_free_line (address_of thread id places) ∷ []) o (cond (same thread id t i) None (size_in blocks t i))) (sym (entry-released thread id places t i)) (by t i (same thread id t i) refl));
   only = only;
 }
   where
-    ptr : ℕ
-    ptr = address_of thread id places
-
-    more : List Content
-    more = said ++ raw_free_line (address_of thread id places) ∷ []
-
     still : (t i : ℕ) → same thread id t i ≡ false → (e : LiveEntry) → entry_in places t i ≡ Some e → held (said ++ raw_free_line (address_of thread id places) ∷ []) e.address ≡ held said e.address
     still t i other e is = held-free said (address_of thread id places) e.address ∙ pick (address_of thread id places == e.address) refl
       where
@@ -87,7 +81,7 @@ live-freed said places blocks thread id size live only here = record {
 
     by : (t i : ℕ) (b : Bool) → same thread id t i ≡ b → StandsAt (said ++ raw_free_line (address_of thread id places) ∷ []) (cond b None (entry_in places t i)) (cond b None (size_in blocks t i))
     by t i true p = tt
-    by t i false p = stands-still said (said ++ raw_free_line (address_of thread id places) ∷ []) (entry_in places t i) (size_in blocks t i) (still t i p) (live.at t i)
+    by t i false p = stands-still said (said ++ raw_free_line (address_of thread id places) ∷ []) (entry_in places t i) (size_in blocks t i) (still t i p) (live.each t i)
 
 -- an allocation
 pub live-allocated : (said : List Content) (places : List Place) (blocks : List Held) (thread id size trace : ℕ) (ips : List ℕ) → AreLive said places blocks
@@ -95,22 +89,16 @@ pub live-allocated : (said : List Content) (places : List Place) (blocks : List 
     → AreLive (said ++ raw_allocation_line size trace (next_address (class_of size) (released thread id places)) ∷ []) (places_with thread (allocation id size ips) places)
     (record { thread = thread; id = id; size = size; ips = ips } ∷ without thread id blocks)
 live-allocated said places blocks thread id size trace ips live left only = record {
-  at = λ t i.
-      subst (λ (o : Option ℕ). StandsAt more (entry_in (places_with thread (allocation id size ips) places) t i) (cond (same thread id t i) (Some size) o)) (sym (size-without thread id blocks t i))
-      (subst (λ (o : Option LiveEntry). StandsAt more o (cond (same thread id t i) (Some size) (cond (same thread id t i) None (size_in blocks t i)))) (sym (entry-allocated thread id size ips places t i live.only))
+  each = λ t i.
+      subst (λ (o : Option ℕ). StandsAt (said ++ raw_allocation_line size trace (next_address (class_of size) (released thread id places)) ∷ []) (entry_in (places_with thread (allocation id size ips) places) t i) (cond (same thread id t i) (Some size) o)) (sym (size-without thread id blocks t i))
+      (subst (λ (o : Option LiveEntry). StandsAt (said ++ raw_allocation_line size trace (next_address (class_of size) (released thread id places)) ∷ []) o (cond (same thread id t i) (Some size) (cond (same thread id t i) None (size_in blocks t i)))) (sym (entry-allocated thread id size ips places t i live.only))
       (by t i (same thread id t i) refl));
   only = only;
 }
   where
-    ptr : ℕ
-    ptr = next_address (class_of size) (released thread id places)
-
-    more : List Content
-    more = said ++ raw_allocation_line size trace (next_address (class_of size) (released thread id places)) ∷ []
-
-    own : (block : RawBlock) → block.info.size ≡ size → (b : Bool) → b ≡ true → cond {A = Option RawBlock} b (Some block) (held said (next_address (class_of size) (released thread id places))) ≡ Some block
-    own block is true p = refl
-    own block is false p = absurd (true≢false (sym p))
+    own : (block : RawBlock) (b : Bool) → b ≡ true → cond {A = Option RawBlock} b (Some block) (held said (next_address (class_of size) (released thread id places))) ≡ Some block
+    own block true p = refl
+    own block false p = absurd (true≢false (sym p))
 
     still : (t i : ℕ) → same thread id t i ≡ false → (e : LiveEntry) → entry_in places t i ≡ Some e
         → held (said ++ raw_allocation_line size trace (next_address (class_of size) (released thread id places)) ∷ []) e.address ≡ held said e.address
@@ -131,10 +119,11 @@ live-allocated said places blocks thread id size trace ips live left only = reco
         (cond b (Some (record { address = next_address (class_of size) (released thread id places); class = class_of size })) (entry_in places t i)) (cond b (Some size) (cond b None (size_in blocks t i)))
     by t i true p =
         let equal : (next_address (class_of size) (released thread id places) == next_address (class_of size) (released thread id places)) ≡ true = grind (arith, nat_tests) in
+        let block : RawBlock = record { place = length said; info = record { size = size; trace = trace } } in
         (
-          _,
-          held-alloc said size trace (next_address (class_of size) (released thread id places)) (next_address (class_of size) (released thread id places)) ∙ own _ refl _ equal,
+          block,
+          held-alloc said size trace (next_address (class_of size) (released thread id places)) (next_address (class_of size) (released thread id places)) ∙ own block _ equal,
           refl,
         )
     by t i false p =
-        stands-still said (said ++ raw_allocation_line size trace (next_address (class_of size) (released thread id places)) ∷ []) (entry_in places t i) (size_in blocks t i) (still t i p) (live.at t i)
+        stands-still said (said ++ raw_allocation_line size trace (next_address (class_of size) (released thread id places)) ∷ []) (entry_in places t i) (size_in blocks t i) (still t i p) (live.each t i)

@@ -1,5 +1,5 @@
 -- The figures of the events that a recorded trace brings are those of its actions.
-use Rattle.std.proofs.Common.{◌≡◌, ℕ, zero, suc, ◌+◌, ◌-◌, ◌<◌, ◌≤◌, Bool, true, false, List, [], ◌∷◌, ◌++◌, length, map, take, Option, None, Some, refl, sym, ap, ap₂, ◌∙◌, arith, length-append}
+use Rattle.std.proofs.Common.{◌≡◌, ℕ, zero, suc, ◌+◌, ◌-◌, ◌<◌, ◌≤◌, Bool, true, false, List, [], ◌∷◌, ◌++◌, length, map, take, Option, None, Some, refl, sym, ap, ap₂, ◌∙◌, arith, length-append, true≢false}
 use Rattle.std.specs.Prelude.{max, filter, is_some, sum_by, unwrap_or, if◌then◌else◌}
 use Rattle.std.specs.List.{range_with_len}
 use Rattle.std.proofs.lemmas.List.{take-append-le, take_all}
@@ -69,7 +69,7 @@ counted-push events e is are =
   where
     by : (b : Bool) → b ≡ true → (if b then (e ∷ []) else []) ≡ e ∷ []
     by true p = refl
-    by false p = absurd (cc)
+    by false p = absurd (true≢false (sym p))
 
 pub events-none : AreEventsOf [] []
 events-none = record { counted_are = refl; count = refl; calls_are = refl; allocated_are = refl; bytes = refl; blocks = refl; peak_is = refl }

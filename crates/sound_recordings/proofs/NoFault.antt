@@ -96,19 +96,19 @@ switch-harmless (Some last) thread = by (last == thread)
     by true = tt
     by false = (comment-harmless _, tt)
 
+-- lines of file version 2 without a fault, with these stacks and so many infos at most
+pub record AreSound (said : List Content) (known : List (List ℕ)) (most : ℕ) : Type 0 where
+  pub first : (more : List Content) × (said ≡ version_line 66816 2 ∷ more)
+  pub readable : AllByRecursion IsReadable said
+  pub no_fault : gathered (raw_fault []) [] (map (written 2) said) ≡ []
+  pub shallow : AreShallow known (raw_nodes said)
+  pub few : length (filter_map info_in said) ≤ most
+
 all-parts : (xs ys : List Content) → AllByRecursion IsReadable (xs ++ ys) → AllByRecursion IsReadable xs × AllByRecursion IsReadable ys
 all-parts [] ys all = (tt, all)
 all-parts (x ∷ xs) ys all = let rest = all-parts xs ys all.1 in ((all.0, rest.0), rest.1)
 
 module _ (back : (n : ℕ) → n < 2 ^ 64 → parsed_hex (hexadecimal n) ≡ Some n) where
-  -- lines of file version 2 without a fault, with these stacks and so many infos at most
-  pub record AreSound (said : List Content) (known : List (List ℕ)) (most : ℕ) : Type 0 where
-    pub first : (more : List Content) × (said ≡ version_line 66816 2 ∷ more)
-    pub readable : AllByRecursion IsReadable said
-    pub no_fault : gathered (raw_fault []) [] (map (written 2) said) ≡ []
-    pub shallow : AreShallow known (raw_nodes said)
-    pub few : length (filter_map info_in said) ≤ most
-
   -- what they say
   pub says-all : (said : List Content) (known : List (List ℕ)) (most : ℕ) → AreSound said known most → contents (map (written 2) said) ≡ said
   says-all said known most are =

@@ -54,7 +54,7 @@ record Reached (symbols : List Symbol) (said : List Content) (acts : List Action
 
 reached-nothing : (symbols : List Symbol) → Reached symbols [] []
 reached-nothing symbols = record {
-  live = record { at = λ t i. tt; only = tt };
+  live = record { each = λ t i. tt; only = tt };
   figures = subst (λ (told : List TraceEvent). AreEventsOf told []) (sym (no-events symbols)) events-none;
 }
 

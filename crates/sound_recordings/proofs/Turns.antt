@@ -169,12 +169,12 @@ size-back thread (free other rejoined ∷ before) id =
 -- the blocks of a thread among all
 size-by : (thread : ℕ) (blocks : List Held) (id : ℕ) → size_in (held_by thread blocks) thread id ≡ size_in blocks thread id
 size-by thread [] id = refl
-size-by thread (block ∷ older) id = by (block.thread == thread) (size-by thread older id)
+size-by thread (block ∷ older) id = by (block.thread == thread) refl (size-by thread older id)
   where
-    by : (b : Bool) → size_in (held_by thread older) thread id ≡ size_in older thread id
-        → size_in (cond b (block ∷ held_by thread older) (held_by thread older)) thread id ≡ cond (b && (block.id == id)) (Some block.size) (size_in older thread id)
-    by true rest = ?
-    by false rest = rest
+    by : (b : Bool) → (block.thread == thread) ≡ b → size_in (held_by thread older) thread id ≡ size_in older thread id
+        → size_in (cond b (block ∷ held_by thread older) (held_by thread older)) thread id ≡ cond (has_id thread id block) (Some block.size) (size_in older thread id)
+    by true p rest = ap (λ (o : Option ℕ). cond (has_id thread id block) (Some block.size) o) rest
+    by false p rest = rest ∙ sym (ap (λ (b : Bool). cond (b && (block.id == id)) (Some block.size) (size_in older thread id)) p)
 
 -- an event of an order is played
 plays-at : (scripts : List (List Turn)) (thread : ℕ) (back : List ℕ) (event : Event) → IsInTurn (script_at scripts thread) → AllByRecursion IsBounded (script_at scripts thread)
