@@ -1,40 +1,34 @@
--- What `ms_print` makes of the lines of a Massif file: the page of the profile that they are, or their first fault.
-use Rattle.std.specs.Prelude.{ℕ, ◌+◌, ◌==◌, if◌then◌else◌, List, [], ◌∷◌, ◌++◌, length, Option, Some, None, Result, Ok, Err}
+-- What `ms_print` makes of the lines of a Massif file.
+use Rattle.std.specs.Prelude.{ℕ, List, [], Option, Some, None, Result, Ok, Err}
+use Rattle.std.specs.Option.{option_map}
 use Rattle.massif_file.specs.declared.fault.ProfileFault.{ProfileFault}
 use Rattle.massif_file.specs.declared.profile.Profile.{Profile}
-use Rattle.massif_file.specs.ProfileOf.{profile_of}
+use Rattle.massif_file.specs.Progress.{after, end_of, fault_in, progress_of}
 use Rattle.ms_print.specs.PageText.{page_text}
 use Rattle.command_frame.specs.Plan.{Plan, one_file}
 use Rattle.command_frame.specs.Report.{Refuses, Report, Verdict, Writes}
 use Rattle.command_frame.specs.Told.{Told}
-use Rattle.commands.specs.declared.fault.CommandFault.TheVariants.{Profile as told_profile}
+use Rattle.commands.specs.declared.fault.CommandFault.TheVariants.{Profile as profile_fault}
 use Rattle.commands.specs.CommandFault.{told}
 use Rattle.commands.specs.PageWords.{PageAsked, shown_words}
 
--- what is told of lines that are no profile
-abbrev pub fault_told : Result Profile (ℕ × ProfileFault) → Option Told
-fault_told (Ok profile) = None
-fault_told (Err first) = Some (told (told_profile first.1))
-
--- the same where it is this line that has their first fault
-abbrev pub told_at : ℕ → Result Profile (ℕ × ProfileFault) → Option Told
-told_at number (Ok profile) = None
-told_at number (Err first) = if first.0 == number then fault_told (Err first) else None
+-- why the lines can't end where they do
+abbrev pub end_told : Result Profile ProfileFault → Option Told
+end_told (Ok profile) = None
+end_told (Err fault) = Some (told (profile_fault fault))
 
 -- the page of the profile
-abbrev pub page_verdict : ℕ → ℕ → ℕ → List ℕ → Result Profile (ℕ × ProfileFault) → Verdict
+abbrev pub page_verdict : ℕ → ℕ → ℕ → List ℕ → Result Profile ProfileFault → Verdict
 page_verdict threshold x y words (Ok profile) = Writes (page_text threshold x y words profile)
-page_verdict threshold x y words (Err first) = Refuses (told (told_profile first.1))
+page_verdict threshold x y words (Err fault) = Refuses (told (profile_fault fault))
 
--- what lines are says `profile_of`: the profile to which they stand as `is_profile` says, or the number of their first faulty line and
--- its fault, to which they stand as `profile_fault` says; that it is these is the law `massif_profiles` of the crate massif_file. A line
--- is refused where it has the first fault of the lines up to it, and the page is written once all were read
+-- a line is refused where it can't follow those before it, and the page is written once all were read
 abbrev pub page_report : ℕ → ℕ → ℕ → List ℕ → Report
 page_report threshold x y words = record {
-  line_fault = λ earlier line. told_at (length earlier + 1) (profile_of (earlier ++ line ∷ []));
-  end_fault = λ lines. fault_told (profile_of lines);
+  line_fault = λ earlier line. option_map (λ fault. told (profile_fault fault)) (fault_in (after (progress_of earlier) line));
+  end_fault = λ lines. end_told (end_of (progress_of lines));
   gains = λ earlier line. [];
-  verdict = λ lines. page_verdict threshold x y words (profile_of lines);
+  verdict = λ lines. page_verdict threshold x y words (end_of (progress_of lines));
 }
 
 abbrev pub page_plan : PageAsked → Plan

@@ -9,7 +9,7 @@ use crate::fault::CommandFault;
 use crate::page_size::PageSize;
 use command_frame::{LineRefusal, LineReport, LineTaker};
 use hp_num::{NoMemory, Text, put_bytes};
-use massif_file::{ProfileFault, ProfileReader, massif_profiles};
+use massif_file::{ProfileFault, ProfileReader};
 use ms_print::{PageOptions, put_page};
 use std::alloc::Global;
 
@@ -38,7 +38,6 @@ impl LineTaker for PageReader<'_> {
         line: &[u8],
         _output: &mut Vec<u8>,
     ) -> Result<(), LineRefusal<CommandFault>> {
-        massif_profiles();
         match self.reader.line(line) {
             Ok(()) => Ok(()),
             Err(ProfileFault::NoMemory) => Err(LineRefusal::NoMemory),

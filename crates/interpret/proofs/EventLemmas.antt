@@ -5,7 +5,8 @@ use Rattle.ht_lines.specs.Content.{Content, version_line, executable_line, comma
 use Rattle.live_ledger.specs.declared.event.Event.{Event}
 use Rattle.live_ledger.specs.declared.event.Event.TheVariants.{Alloc, Free}
 use Rattle.interpret.specs.InterpretedSaid.{events_said, interpreted_events, interpreted_said, told_after}
-use Rattle.interpret.specs.RawBlocks.{IsEventless, RawBlock, held}
+use Rattle.interpret.specs.Eventless.{IsEventless}
+use Rattle.interpret.specs.RawBlocks.{RawBlock, held}
 use Rattle.interpret.specs.RawContents.{IsRaw}
 use Rattle.interpret.specs.RawTables.{info_number, infos}
 use Rattle.interpret.specs.SymbolLine.{Symbol}

@@ -18,8 +18,8 @@ use Rattle.interpret.specs.declared.infos.AllocationInfo.{AllocationInfo}
 use Rattle.interpret.specs.FirstAppearances.{with_all, with_new}
 use Rattle.interpret.specs.IpLists.{raw_node_in, raw_nodes}
 use Rattle.interpret.specs.Modules.{LoadedModule, module_of}
-use Rattle.interpret.specs.RawFault.{content_fault, full_fault}
-use Rattle.interpret.specs.RawTables.{KnownIp, RawTables, info_in, infos, ip_frames, known, known_of, known_with, names, names_with, new_call, node_in, node_of, nodes, same_info, tables_after, tables_of}
+use Rattle.interpret.specs.RawFault.{allocation_fault, content_fault, full_fault, node_fault}
+use Rattle.interpret.specs.RawTables.{KnownIp, RawTables, info_in, infos, instructions, ip_frames, known, known_of, known_with, names, names_with, new_call, node_in, node_of, nodes, same_info, tables_after, tables_of}
 use Rattle.interpret.specs.Resolved.{Resolved, frame_names, frames_of, names_called, resolved, resolved_in, texts_in}
 use Rattle.interpret.specs.SymbolLine.{Symbol}
 use Rattle.interpret.proofs.GrowthLemmas.{added, filter_map-push, infos-push, known-push, names-push, nodes-push, tables-push}
@@ -123,7 +123,7 @@ pub record IsPlain (said : List Content) : Type 0 where
   pub infos_few : length (infos said) ≤ length (filter_map info_in said)
 
 plain-none : IsPlain []
-unfolding known names nodes infos
+unfolding instructions known names nodes infos
 plain-none = record { one_frame = tt; known_few = omega arith; names_few = omega arith; count = refl; frames = λ n. refl; infos_few = omega arith }
 
 -- frames with a node more
@@ -233,7 +233,9 @@ plain-node version said ip parent held shallow few infos =
     let same : filter_map info_in (said ++ c ∷ []) ≡ filter_map info_in said = filter_map-push info_in said c ∙ append-nil (filter_map info_in said) in
     let full : full_fault (tables_after [] (tables_of [] said) c) ≡ None =
     ap full_fault (sym (tables-push [] said c)) ∙ not-full (said ++ c ∷ []) (omega (arith, count, few)) (omega (arith, ap length same, infos)) in
-    rw (frames, le-ltb (length (nodes [] said)) parent (omega (arith, held, p.count)), le-ltb 4096 (frame_count (nodes [] said) parent + 1) (omega (arith, p.frames parent, shallow))) full
+    let one : node_fault (nodes [] said) 1 parent None ≡ None =
+    rw (le-ltb (length (nodes [] said)) parent (omega (arith, held, p.count)), le-ltb 4096 (frame_count (nodes [] said) parent + 1) (omega (arith, p.frames parent, shallow))) refl in
+    ap₂ (λ (n : ℕ) (o : Option LineError). node_fault (nodes [] said) n parent o) frames full ∙ one
 
 pub plain-allocation : (version : Option ℕ) (said : List Content) (size trace ptr : ℕ) → trace ≤ length (raw_nodes said) → length (raw_nodes said) ≤ most_nodes → length (filter_map info_in said) < most_entries
     → content_fault [] version (tables_of [] said) (raw_allocation_line size trace ptr) ≡ None
@@ -245,4 +247,5 @@ plain-allocation version said size trace ptr held few infos =
     let count = ap length (filter_map-push info_in said c) ∙ length-append (filter_map info_in said) (record { size = size; trace = trace } ∷ []) in
     let full : full_fault (tables_after [] (tables_of [] said) c) ≡ None =
     ap full_fault (sym (tables-push [] said c)) ∙ not-full (said ++ c ∷ []) (omega (arith, ap length same, few)) (omega (arith, count, infos)) in
-    rw (le-ltb (length (nodes [] said)) trace (omega (arith, held, p.count))) full
+    let one : allocation_fault (nodes [] said) trace None ≡ None = rw (le-ltb (length (nodes [] said)) trace (omega (arith, held, p.count))) refl in
+    ap (λ (o : Option LineError). allocation_fault (nodes [] said) trace o) full ∙ one

@@ -4,7 +4,8 @@ ghost use Rattle.ht_trace.specs.Continues.{Continues};
 ghost use Rattle.ht_trace.specs.TableState.{TableState};
 ghost use Rattle.live_ledger.specs.declared.event.Event.{Event};
 ghost use Rattle.massif_sample.specs.FunctionNames.{FunctionNames};
-ghost use Rattle.massif_sample.specs.Gross.{IsLeastMultiple, rounded_up};
+ghost use Rattle.massif_sample.specs.Gross.{rounded_up};
+ghost use Rattle.massif_sample.specs.LeastMultiple.{IsLeastMultiple};
 ghost use Rattle.massif_sample.specs.SamplesState.{SamplesState};
 ghost use Rattle.massif_sample.specs.StandsFor.{StandsFor};
 

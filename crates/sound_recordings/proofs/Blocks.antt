@@ -2,7 +2,8 @@
 use Rattle.std.proofs.Common.{◌≡◌, ◌≢◌, ℕ, ◌==◌, ◌&&◌, Bool, true, false, cond, List, [], ◌∷◌, ◌++◌, length, Option, None, Some, refl, sym, ap, ap₂, ◌∙◌, subst, arith, true≢false}
 use Rattle.std.proofs.lemmas.Bool.Decides.{nat_tests}
 use Rattle.ht_lines.specs.Content.{Content, raw_allocation_line, raw_free_line}
-use Rattle.interpret.specs.RawBlocks.{IsEventless, RawBlock, held}
+use Rattle.interpret.specs.Eventless.{IsEventless}
+use Rattle.interpret.specs.RawBlocks.{RawBlock, held}
 use Rattle.interpret.proofs.Laws.{held-alloc, held-free, held-none}
 use Rattle.record_scripts.specs.Events.{allocation}
 use Rattle.record_book.specs.declared.heap.LiveEntry.{LiveEntry}

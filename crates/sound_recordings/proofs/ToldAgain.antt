@@ -15,7 +15,7 @@ use Rattle.ht_trace.specs.TraceEvents.{events}
 use Rattle.ht_trace.specs.VersionLines.{missing_fault}
 use Rattle.interpret.specs.InterpretedSaid.{interpreted_events}
 use Rattle.interpret.specs.InterpretedTrace.{AreInterpretable, interpreted_trace}
-use Rattle.interpret.specs.RawBlocks.{IsEventless}
+use Rattle.interpret.specs.Eventless.{IsEventless}
 use Rattle.interpret.specs.RawContents.{IsRaw, contents, version_of}
 use Rattle.interpret.specs.RawFault.{raw_fault}
 use Rattle.interpret.specs.SymbolLine.{Symbol}

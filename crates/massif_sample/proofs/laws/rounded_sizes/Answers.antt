@@ -1,4 +1,4 @@
-use Rattle.massif_sample.proofs.GrossSizes.{rounded-least}
+use Rattle.massif_sample.proofs.Rounding.{rounded-least}
 use Rattle.massif_sample.proofs.laws.rounded_sizes.Goals as goal
 
 pub returns : goal.returns
