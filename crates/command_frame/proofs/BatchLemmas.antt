@@ -1,6 +1,6 @@
 -- What holds of a file when whole lines at the front of what is kept were taken at once.
-use Rattle.std.proofs.Common.{◌≡◌, ◌≢◌, ℕ, ◌+◌, ◌<◌, ◌≤◌, List, [], ◌∷◌, ◌++◌, length, drop, All, Option, Some, None, refl, ap, ap₂, sym, subst, ◌∙◌, append-nil, append_assoc, length-append, length-take, arith}
-use Rattle.std.proofs.lemmas.Bool.{ne_eqb}
+use Rattle.std.proofs.Common.{◌≡◌, ◌≢◌, ℕ, Bool, if◌then◌else◌, nat_le, ◌+◌, ◌<◌, ◌≤◌, List, [], ◌∷◌, ◌++◌, length, drop, All, Option, Some, None, refl, ap, ap₂, sym, subst, ◌∙◌, append-nil, append_assoc, length-append, length-take, arith}
+use Rattle.std.proofs.lemmas.Bool.{le-leb, ne_eqb}
 use Rattle.std.proofs.lemmas.List.{take-append-drop}
 use Rattle.std.proofs.lemmas.List.Elements.{All-head, All-nil, All-tail}
 use Rattle.std.specs.Io.KnownBytes.{prepend_known}
@@ -8,7 +8,7 @@ use Rattle.hp_outside.specs.LineReaderState.{LineReaderState}
 use Rattle.hp_outside.specs.Lines.{after_line, first_line, lines_of}
 use Rattle.hp_outside.specs.WholeLines.{IsLineText, text_of_lines}
 use Rattle.command_frame.specs.Batch.{AreSilent, HasTakenFront, HasTakenKept, IsShortLine}
-use Rattle.command_frame.specs.FirstFault.{Bounds}
+use Rattle.command_frame.specs.FirstFault.{Bounds, bytes_of_lines}
 use Rattle.command_frame.specs.LinesRun.{Gained}
 use Rattle.command_frame.specs.Report.{Report, gains_from, written}
 use Rattle.command_frame.proofs.FrontLemmas.{gains_append}
@@ -39,6 +39,7 @@ nothing_kept report has reader within = record {
   kept = refl;
   passed = omega arith;
   number = omega arith;
+  line_ended = refl;
 }
 
 -- the first line, and what stands behind it
@@ -60,8 +61,9 @@ moved reader passed kept = record reader { passed = passed; kept = kept }
 
 -- the same of a reader and lines that are the same
 told_as : (bounds : Bounds) (report : Report) (reader next : LineReaderState) (bytes : List ℕ) (taken same : List (List ℕ)) (left : Option (List ℕ))
-    → ToldReading bounds report reader bytes taken left → reader.kept ≡ next.kept → reader.passed ≡ next.passed → taken ≡ same → ToldReading bounds report next bytes same left
-told_as bounds report reader next bytes taken same left told kept passed is =
+    → ToldReading bounds report reader bytes taken left → reader.kept ≡ next.kept → reader.passed ≡ next.passed → reader.line_ended ≡ next.line_ended → taken ≡ same
+    → ToldReading bounds report next bytes same left
+told_as bounds report reader next bytes taken same left told kept passed ended is =
     subst (λ ls. ToldReading bounds report next bytes ls left) is (record {
       rest = told.rest;
       rest_is = ap (λ k. prepend_known k left) (sym kept) ∙ told.rest_is;
@@ -71,6 +73,7 @@ told_as bounds report reader next bytes taken same left told kept passed is =
       passed = omega (arith, told.passed, passed);
       before = λ some. sym passed ∙ told.before some;
       reached = omega (arith, told.reached, passed);
+      ended = sym ended ∙ (told.ended ∙ ap (nat_le (bytes_of_lines taken)) passed);
     })
 
 -- the first of the lines was taken
@@ -91,6 +94,7 @@ told_line bounds report reader bytes taken left line more told kept text short w
     (ap (prepend_known more) unread.1 ∙ ap Some (sym after))
     (lines_of_first told.rest some ∙ ap (λ l. l ∷ lines_of (after_line told.rest)) first)
     (omega (arith, ap length after, ap length rest_is, length-append line (10 ∷ (more ++ unread.0))))
+    (ap (λ (e : Bool). reader.passed + length line + (if e then 1 else 0)) (sym (told.ended ∙ le-leb _ _ (omega (arith, told.before some)))))
     good
 
 -- all of them were taken
@@ -99,7 +103,7 @@ told_batch : (bounds : Bounds) (report : Report) (reader : LineReaderState) (byt
     → reader.passed + length (text_of_lines lines) ≤ bounds.input → AreSilent report taken lines
     → ToldReading bounds report (moved reader (reader.passed + length (text_of_lines lines)) more) bytes (taken ++ lines) left
 told_batch bounds report reader bytes taken [] left more told kept texts short long within silent =
-    told_as bounds report reader (moved reader (reader.passed + 0) more) bytes taken (taken ++ []) left told kept (omega arith) (sym (append-nil taken))
+    told_as bounds report reader (moved reader (reader.passed + 0) more) bytes taken (taken ++ []) left told kept (omega arith) refl (sym (append-nil taken))
 told_batch bounds report reader bytes taken (line ∷ lines) left more told kept texts short long within silent =
     let size : length (text_of_lines (line ∷ lines)) ≡ length line + 1 + length (text_of_lines lines) = length-append line (10 ∷ text_of_lines lines) ∙ omega arith in
     let few : length line < 16 = All-head IsShortLine line lines short in
@@ -112,7 +116,7 @@ told_batch bounds report reader bytes taken (line ∷ lines) left more told kept
     ((taken ++ line ∷ []) ++ lines) (taken ++ line ∷ lines) left
     (told_batch bounds report next bytes (taken ++ line ∷ []) lines left more one refl (All-tail IsLineText line lines texts) (All-tail IsShortLine line lines short)
     (λ some. line_bound) (omega (arith, size, within)) silent.2)
-    refl (omega (arith, size)) (append_assoc taken (line ∷ []) lines)
+    refl (omega (arith, size)) refl (append_assoc taken (line ∷ []) lines)
 
 -- they give nothing
 silent_gains : (report : Report) (earlier lines : List (List ℕ)) → AreSilent report earlier lines → gains_from report earlier lines ≡ []
@@ -140,6 +144,6 @@ read_batch bounds report has new_has reader next start left old now kept_back be
           told_as bounds report (moved reader (reader.passed + length (text_of_lines front.lines)) next.kept) next bytes (before.taken ++ front.lines) (before.taken ++ front.lines) left
           (told_batch bounds report reader bytes before.taken front.lines left next.kept (before.told bytes known) text front.texts front.short
           (λ some. omega (arith, more.short (omega (arith, some, size)), line_limit)) (omega (arith, size, more.within, input)) silent)
-          refl (omega (arith, size, more.passed)) refl;
+          refl (omega (arith, size, more.passed)) (sym more.line_ended) refl;
       gained = subst (λ bytes. Gained old now kept_back bytes) (sym (silent_written report before.taken front.lines silent)) before.gained;
     }

@@ -38,7 +38,7 @@ passed_front bounds report bytes taken whole = record {
   more = [];
   lines_are = sym whole.lines_are ∙ sym (append-nil taken);
   no_fault = ap (λ ls. first_fault 1 (line_faults bounds report (length bytes) [] ls)) whole.lines_are
-      ∙ first_none (first_fault 1 (line_faults bounds report (length bytes) [] (lines_of bytes))) (end_refusal report (lines_of bytes)) whole.no_fault;
+      ∙ first_none (first_fault 1 (line_faults bounds report (length bytes) [] (lines_of bytes))) (end_refusal report (length bytes) (lines_of bytes)) whole.no_fault;
 }
 
 -- however lines stopped, those that were taken are a front without a fault

@@ -5,7 +5,7 @@ use Rattle.std.specs.Option.{option_map, option_or}
 use Rattle.hp_outside.specs.Lines.{lines_of}
 use Rattle.command_frame.specs.Told.{Told}
 use Rattle.command_frame.specs.Report.{Report, gains_from, written}
-use Rattle.command_frame.specs.FirstFault.{Bounds, Refusal, end_refusal, file_fault, first_fault, line_fault, line_faults}
+use Rattle.command_frame.specs.FirstFault.{Bounds, Refusal, end_refusal, file_fault, first_fault, is_ended, line_fault, line_faults}
 use Rattle.command_frame.specs.Texts.{Texts}
 use Rattle.command_frame.specs.Answer.{Answer, lines_answer}
 use Rattle.command_frame.specs.FileRead.{GoodFront}
@@ -67,9 +67,9 @@ end_behind report lines (Some told) refusal is =
 
 -- lines without a fault at the front of a file stand before its refusal
 refused_behind : (first : Option Refusal) (bounds : Bounds) (report : Report) (bytes : List ℕ) (taken : List (List ℕ)) (refusal : Refusal) → (front : GoodFront bounds report bytes taken)
-    → first_fault 1 (line_faults bounds report (length bytes) [] (lines_of bytes)) ≡ first → option_or first (end_refusal report (lines_of bytes)) ≡ Some refusal → length taken + 1 ≤ refusal.number
+    → first_fault 1 (line_faults bounds report (length bytes) [] (lines_of bytes)) ≡ first → option_or first (end_refusal report (length bytes) (lines_of bytes)) ≡ Some refusal → length taken + 1 ≤ refusal.number
 refused_behind None bounds report bytes taken refusal front first is =
-    let behind = end_behind report (lines_of bytes) (report.end_fault (lines_of bytes)) refusal is in
+    let behind = end_behind report (lines_of bytes) (report.end_fault (lines_of bytes) (is_ended (length bytes) (lines_of bytes))) refusal is in
     let all : length (lines_of bytes) ≡ length taken + length front.more = ap length front.lines_are ∙ length-append taken front.more in
     omega (arith, behind, all)
 refused_behind (Some found) bounds report bytes taken refusal front first is =

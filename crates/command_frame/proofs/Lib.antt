@@ -5,6 +5,7 @@ mod OutputLemmas
 mod LinesLoop
 mod BatchLemmas
 mod EndLemmas
+mod EndedLemmas
 mod RunLemmas
 mod DocumentLemmas
 mod TextLoop

@@ -64,7 +64,7 @@ cut_more : {bytes all : List ℕ} (most : ℕ) → (count : ℕ) × (bytes ≡ t
 cut_more {bytes} {all} most front = (min most front.0, append-nil (take most bytes) ∙ (ap (take most) front.1 ∙ take_take most front.0 all))
 
 -- lines of a silent plan give nothing
-gives_nothing : (report : Report) (earlier lines : List (List ℕ)) → ((earlier : List (List ℕ)) (line : List ℕ) → report.gains earlier line ≡ []) → gains_from report earlier lines ≡ []
+pub gives_nothing : (report : Report) (earlier lines : List (List ℕ)) → ((earlier : List (List ℕ)) (line : List ℕ) → report.gains earlier line ≡ []) → gains_from report earlier lines ≡ []
 gives_nothing report earlier [] none = refl
 gives_nothing report earlier (line ∷ lines) none = ap (λ bytes. bytes ++ gains_from report (earlier ++ line ∷ []) lines) (none earlier line) ∙ gives_nothing report (earlier ++ line ∷ []) lines none
 

@@ -1,5 +1,6 @@
 -- What holds while the lines of a file are taken.
-use Rattle.std.proofs.Common.{◌≡◌, ◌≢◌, ℕ, ◌+◌, ◌-◌, ◌<◌, ◌≤◌, List, [], ◌∷◌, ◌++◌, length, Option, Some, None, Result, Ok, Err, refl, ap, sym, subst, ◌∙◌, append-nil, append_assoc, arith}
+use Rattle.std.proofs.Common.{◌≡◌, ◌≢◌, ℕ, Bool, true, false, if◌then◌else◌, nat_le, ◌+◌, ◌-◌, ◌<◌, ◌≤◌, List, [], ◌∷◌, ◌++◌, length, Option, Some, None, Result, Ok, Err, refl, ap, sym, subst, ◌∙◌, append-nil, append_assoc, arith}
+use Rattle.std.proofs.lemmas.Bool.{le-leb, lt-leb}
 use Rattle.std.proofs.lemmas.List.{length_push}
 use Rattle.std.specs.Option.{option_map, option_or}
 use Rattle.std.specs.Io.KnownBytes.{append_known, prepend_known}
@@ -12,7 +13,7 @@ use Rattle.hp_outside.specs.NextLine.{GivesLine, IsInputTooLong, IsLineTooLong, 
 use Rattle.hp_outside.specs.Taken.{WhereTold}
 use Rattle.command_frame.specs.Told.{Told}
 use Rattle.command_frame.specs.Report.{Report, written}
-use Rattle.command_frame.specs.FirstFault.{Bounds, Refusal, bytes_of_lines, end_refusal, first_fault, input_too_long, length_fault, line_fault, line_faults, line_too_long}
+use Rattle.command_frame.specs.FirstFault.{Bounds, Refusal, bytes_of_lines, end_refusal, first_fault, input_too_long, is_ended, length_fault, line_fault, line_faults, line_too_long}
 use Rattle.command_frame.specs.LinesRun.{Gained}
 use Rattle.command_frame.specs.FileRead.{GoodFront, PassedWhole, RefusedAt, StoppedBefore}
 use Rattle.command_frame.proofs.FaultLemmas.{bytes_of_lines-push, fault_found, fault_passes, good_push, line_has_content_fault, line_has_length_fault, line_is_good}
@@ -41,6 +42,7 @@ pub record ToldReading (bounds : Bounds) (report : Report) (reader : LineReaderS
   pub passed : reader.passed + length rest ≡ length bytes
   pub before : 0 < length rest → reader.passed ≡ bytes_of_lines taken
   pub reached : reader.passed ≤ bytes_of_lines taken
+  pub ended : reader.line_ended ≡ is_ended reader.passed taken
 
 -- the lines that were taken so far, and what they gave
 pub record Reading (bounds : Bounds) (report : Report) (has : List (List ℕ) → Type 0) (reader : LineReaderState) (start left old now : Option (List ℕ)) (kept_back : List ℕ) : Type 0 where
@@ -52,8 +54,8 @@ pub record Reading (bounds : Bounds) (report : Report) (has : List (List ℕ) �
 
 -- nothing was taken
 pub reading_new : (bounds : Bounds) (report : Report) (has : List (List ℕ) → Type 0) (reader : LineReaderState) (start old : Option (List ℕ)) (kept_back : List ℕ)
-    → reader.kept ≡ [] → reader.passed ≡ 0 → reader.number ≡ 0 → has [] → kept_back ≡ [] → old ≡ append_known old [] → Reading bounds report has reader start start old old kept_back
-reading_new bounds report has reader start old kept_back kept passed number nothing empty same = record {
+    → reader.kept ≡ [] → reader.passed ≡ 0 → reader.number ≡ 0 → reader.line_ended ≡ true → has [] → kept_back ≡ [] → old ≡ append_known old [] → Reading bounds report has reader start start old old kept_back
+reading_new bounds report has reader start old kept_back kept passed number ended nothing empty same = record {
   taken = [];
   has_taken = nothing;
   number = number;
@@ -66,6 +68,7 @@ reading_new bounds report has reader start old kept_back kept passed number noth
     passed = omega (arith, passed);
     before = λ some. passed;
     reached = omega (arith, passed);
+    ended = ended ∙ sym (le-leb _ _ (omega arith));
   };
   gained = record { early = []; written = same; all = empty };
 }
@@ -89,14 +92,20 @@ next_length bounds passed before bytes rest total same short within =
     (λ long. short (long.0, omega (arith, long.1, same)))
     (λ past. within (omega (arith, past.0, total), omega (arith, past.1, same), short))
 
+-- whether a line behind others that end with their line feeds ends with its own
+line_ends : (passed before size next : ℕ) (ends : Bool) → passed ≡ before → next ≡ passed + size + (if ends then 1 else 0) → ends ≡ nat_le (before + (size + 1)) next
+line_ends passed before size next true same step = sym (le-leb _ _ (omega (arith, same, step)))
+line_ends passed before size next false same step = sym (lt-leb _ _ (omega (arith, same, step)))
+
 -- one line more
 pub told_more : (bounds : Bounds) (report : Report) (reader next : LineReaderState) (bytes : List ℕ) (taken : List (List ℕ)) (left new_left : Option (List ℕ)) (line : List ℕ)
     → (before : ToldReading bounds report reader bytes taken left)
     → 0 < length before.rest → ¬ IsLineTooLong bounds.input bounds.line reader.passed before.rest → ¬ IsInputTooLong bounds.input bounds.line reader.passed before.rest
     → line ≡ first_line before.rest → prepend_known next.kept new_left ≡ Some (after_line before.rest) → lines_of before.rest ≡ line ∷ lines_of (after_line before.rest)
     → next.passed + length (after_line before.rest) ≡ reader.passed + length before.rest
+    → next.passed ≡ reader.passed + length line + (if next.line_ended then 1 else 0)
     → report.line_fault taken line ≡ None → ToldReading bounds report next bytes (taken ++ line ∷ []) new_left
-told_more bounds report reader next bytes taken left new_left line before some short within is rest_is lines_are passed good =
+told_more bounds report reader next bytes taken left new_left line before some short within is rest_is lines_are passed step good =
     let length_good : length_fault bounds (length bytes) (bytes_of_lines taken) (length line) ≡ None =
     ap (λ l. length_fault bounds (length bytes) (bytes_of_lines taken) (length l)) is
     ∙ next_length bounds reader.passed (bytes_of_lines taken) bytes before.rest before.passed (before.before some) short within in
@@ -119,6 +128,8 @@ told_more bounds report reader next bytes taken left new_left line before some s
       reached =
           let same : length line ≡ length (first_line before.rest) = ap length is in
           omega (arith, passed, first_line_reaches before.rest, same, before.before some, bytes_of_lines-push taken line);
+      ended = line_ends reader.passed (bytes_of_lines taken) (length line) next.passed next.line_ended (before.before some) step
+          ∙ ap (λ n. nat_le n next.passed) (sym (bytes_of_lines-push taken line));
     }
 
 -- the lines that were taken are a front without a fault
@@ -137,7 +148,7 @@ refused_at bounds report reader bytes taken left line more number told before li
       ∙ (ap (λ ls. first_fault (length taken + 1) (line_faults bounds report (length bytes) taken ls)) lines_are
       ∙ (ap (λ n. first_fault n (line_faults bounds report (length bytes) taken (line ∷ more))) (sym number_is)
       ∙ fault_found bounds report (length bytes) number taken line more told found)) in
-      ap (λ one. option_or one (end_refusal report (lines_of bytes))) first;
+      ap (λ one. option_or one (end_refusal report (length bytes) (lines_of bytes))) first;
   before = take_front taken (lines_of before.rest) (lines_of bytes) number before.lines_are number_is;
   front = told_front bounds report reader bytes taken left before;
 }
@@ -183,22 +194,28 @@ all_taken bounds report reader bytes taken left before none =
     let lines : lines_of bytes ≡ taken = before.lines_are ∙ (ap (λ rest. taken ++ lines_of rest) none ∙ append-nil taken) in
     (lines, ap (λ ls. first_fault 1 (line_faults bounds report (length bytes) [] ls)) lines ∙ before.good)
 
+-- the end is judged by what the reader says of the last line
+end_known : (bounds : Bounds) (report : Report) (reader : LineReaderState) (bytes : List ℕ) (taken : List (List ℕ)) (left : Option (List ℕ)) → (before : ToldReading bounds report reader bytes taken left) → before.rest ≡ []
+    → report.end_fault taken (is_ended (length bytes) taken) ≡ report.end_fault taken reader.line_ended
+end_known bounds report reader bytes taken left before none =
+    ap (report.end_fault taken) (ap (λ total. is_ended total taken) (omega (arith, before.passed, ap length none)) ∙ sym before.ended)
+
 told_passed : (bounds : Bounds) (report : Report) (reader : LineReaderState) (bytes : List ℕ) (taken : List (List ℕ)) (left : Option (List ℕ)) → (before : ToldReading bounds report reader bytes taken left) → before.rest ≡ []
-    → report.end_fault taken ≡ None → PassedWhole bounds report bytes taken
+    → report.end_fault taken reader.line_ended ≡ None → PassedWhole bounds report bytes taken
 told_passed bounds report reader bytes taken left before none ends =
     let all = all_taken bounds report reader bytes taken left before none in
-    let end_none : end_refusal report (lines_of bytes) ≡ None =
-    ap (end_refusal report) all.0 ∙ ap (option_map (refusal (length taken + 1))) ends in
-    record { no_fault = ap (λ one. option_or one (end_refusal report (lines_of bytes))) all.1 ∙ end_none; lines_are = sym all.0 }
+    let end_none : end_refusal report (length bytes) (lines_of bytes) ≡ None =
+    ap (end_refusal report (length bytes)) all.0 ∙ ap (option_map (refusal (length taken + 1))) (end_known bounds report reader bytes taken left before none ∙ ends) in
+    record { no_fault = ap (λ one. option_or one (end_refusal report (length bytes) (lines_of bytes))) all.1 ∙ end_none; lines_are = sym all.0 }
 
 told_end_fault : (bounds : Bounds) (report : Report) (reader : LineReaderState) (bytes : List ℕ) (taken : List (List ℕ)) (left : Option (List ℕ)) (number : ℕ) (told : Told) → (before : ToldReading bounds report reader bytes taken left) → before.rest ≡ []
-    → number ≡ length taken + 1 → report.end_fault taken ≡ Some told → RefusedAt bounds report bytes taken number told
+    → number ≡ length taken + 1 → report.end_fault taken reader.line_ended ≡ Some told → RefusedAt bounds report bytes taken number told
 told_end_fault bounds report reader bytes taken left number told before none number_is ends =
     let all = all_taken bounds report reader bytes taken left before none in
-    let end_is : end_refusal report taken ≡ Some (refusal number told) =
-    ap (option_map (refusal (length taken + 1))) ends ∙ ap (λ n. Some (refusal n told)) (sym number_is) in
+    let end_is : end_refusal report (length bytes) taken ≡ Some (refusal number told) =
+    ap (option_map (refusal (length taken + 1))) (end_known bounds report reader bytes taken left before none ∙ ends) ∙ ap (λ n. Some (refusal n told)) (sym number_is) in
     record {
-      refusal = ap (λ one. option_or one (end_refusal report (lines_of bytes))) all.1 ∙ (ap (end_refusal report) all.0 ∙ end_is);
+      refusal = ap (λ one. option_or one (end_refusal report (length bytes) (lines_of bytes))) all.1 ∙ (ap (end_refusal report (length bytes)) all.0 ∙ end_is);
       before = take_front taken (lines_of before.rest) (lines_of bytes) number before.lines_are number_is;
       front = told_front bounds report reader bytes taken left before;
     }
@@ -246,12 +263,13 @@ pub read_more : (bounds : Bounds) (report : Report) (has new_has : List (List �
     (result : Result (Option Span) LineFault) (span : Span)
     → Reading bounds report has reader start left old now kept_back → reader.input ≡ bounds.input → reader.line_limit ≡ bounds.line → result ≡ Ok (Some span)
     → Answers reader left result → Gives reader next left new_left result
+    → next.passed ≡ reader.passed + length next.line + (if next.line_ended then 1 else 0)
     → next.number ≡ reader.number + 1 → ((lines : List (List ℕ)) → has lines → new_has (lines ++ next.line ∷ []))
     → ((lines : List (List ℕ)) → has lines → report.line_fault lines next.line ≡ None)
     → ((lines : List (List ℕ)) → has lines → added ≡ kept_back ++ report.gains lines next.line)
     → ((early : List ℕ) × ((new ≡ append_known now early) × (early ++ kept ≡ added)))
     → Reading bounds report new_has next start new_left old new kept
-read_more bounds report has new_has reader next start left new_left old now new kept_back added kept result span before input line is answers gives number takes good gives_bytes passed_on = record {
+read_more bounds report has new_has reader next start left new_left old now new kept_back added kept result span before input line is answers gives step number takes good gives_bytes passed_on = record {
   taken = before.taken ++ next.line ∷ [];
   has_taken = takes before.taken before.has_taken;
   number = number ∙ (ap (λ n. n + 1) before.number ∙ sym (length_push before.taken next.line));
@@ -261,7 +279,7 @@ read_more bounds report has new_has reader next start left new_left old now new 
       let given : GivesLine reader.passed told.rest next.passed (prepend_known next.kept new_left) next.line (Ok (Some span)) =
       subst (λ r. GivesLine reader.passed told.rest next.passed (prepend_known next.kept new_left) next.line r) is (gives told.rest told.rest_is) in
       told_more bounds report reader next bytes before.taken left new_left next.line told (some_left told.rest answer.0) answer.1 answer.2
-      given.0 given.1 given.2 given.3 (good before.taken before.has_taken);
+      given.0 given.1 given.2 given.3 step (good before.taken before.has_taken);
   gained = gained_more report before.taken next.line old now new kept_back added kept before.gained (gives_bytes before.taken before.has_taken) passed_on.0 passed_on.1.0 passed_on.1.1;
 }
 
@@ -302,7 +320,7 @@ read_input_too_long bounds report has reader start left old now kept_back result
 -- the end was seen
 pub read_end : (bounds : Bounds) (report : Report) (has : List (List ℕ) → Type 0) (reader : LineReaderState) (start left old now : Option (List ℕ)) (kept_back : List ℕ) (result : Result (Option Span) LineFault)
     → (before : Reading bounds report has reader start left old now kept_back) → reader.input ≡ bounds.input → reader.line_limit ≡ bounds.line → result ≡ Ok None
-    → Answers reader left result → ((lines : List (List ℕ)) → has lines → report.end_fault lines ≡ None)
+    → Answers reader left result → ((lines : List (List ℕ)) → has lines → report.end_fault lines reader.line_ended ≡ None)
     → WhereTold start (λ bytes. PassedWhole bounds report bytes before.taken)
 read_end bounds report has reader start left old now kept_back result before input line is answers ends bytes known =
     let told = before.told bytes known in
@@ -311,7 +329,7 @@ read_end bounds report has reader start left old now kept_back result before inp
 
 pub read_end_fault : (bounds : Bounds) (report : Report) (has : List (List ℕ) → Type 0) (reader : LineReaderState) (start left old now : Option (List ℕ)) (kept_back : List ℕ) (result : Result (Option Span) LineFault) (number : ℕ) (told : Told)
     → (before : Reading bounds report has reader start left old now kept_back) → reader.input ≡ bounds.input → reader.line_limit ≡ bounds.line → result ≡ Ok None
-    → Answers reader left result → number ≡ reader.number + 1 → ((lines : List (List ℕ)) → has lines → report.end_fault lines ≡ Some told)
+    → Answers reader left result → number ≡ reader.number + 1 → ((lines : List (List ℕ)) → has lines → report.end_fault lines reader.line_ended ≡ Some told)
     → WhereTold start (λ bytes. RefusedAt bounds report bytes before.taken number told)
 read_end_fault bounds report has reader start left old now kept_back result number told before input line is answers number_is ends bytes known =
     let reads = before.told bytes known in

@@ -15,7 +15,7 @@ use Rattle.command_frame.specs.Told.{Told, code_of}
 abbrev pub IsQuiet : Answer → Type 0
 IsQuiet answer = answer.status ≡ 0 → answer.message ≡ []
 
-fault_isnt_zero : (status : FaultStatus) → code_of status ≡ 0 → ⊥
+pub fault_isnt_zero : (status : FaultStatus) → code_of status ≡ 0 → ⊥
 fault_isnt_zero Malformed is = omega (arith, is)
 fault_isnt_zero PastLimit is = omega (arith, is)
 

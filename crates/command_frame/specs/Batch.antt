@@ -36,3 +36,4 @@ pub record HasTakenKept (report : Report) (old new : List (List ℕ) → Type 0)
   pub kept : next.kept ≡ drop bytes reader.kept
   pub passed : next.passed ≡ reader.passed + bytes
   pub number : next.number ≡ reader.number + lines
+  pub line_ended : next.line_ended ≡ reader.line_ended

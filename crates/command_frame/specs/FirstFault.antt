@@ -1,5 +1,5 @@
 -- The first fault of a file of lines.
-use Rattle.std.specs.Prelude.{ℕ, ◌+◌, ◌&&◌, nat_le, nat_lt, if◌then◌else◌, List, [], ◌∷◌, ◌++◌, codes, length, sum_by, Option, Some, None}
+use Rattle.std.specs.Prelude.{ℕ, Bool, ◌+◌, ◌&&◌, nat_le, nat_lt, if◌then◌else◌, List, [], ◌∷◌, ◌++◌, codes, length, sum_by, Option, Some, None}
 use Rattle.std.specs.Option.{option_map, option_or}
 use Rattle.hp_outside.specs.Lines.{lines_of}
 use Rattle.hp_outside.specs.declared.limits.Limits.{Limits}
@@ -57,14 +57,19 @@ first_fault number [] = None
 first_fault number (None ∷ faults) = first_fault (number + 1) faults
 first_fault number (Some told ∷ faults) = Some (record { number = number; told = told })
 
--- the fault of the end of a file with these lines, which stands at the line after the last
-abbrev pub end_refusal : Report → List (List ℕ) → Option Refusal
-end_refusal report lines = option_map (λ told. record { number = length lines + 1; told = told }) (report.end_fault lines)
+-- whether each of the lines of a file of so many bytes ended with its line feed, which only the last one may lack
+abbrev pub is_ended : ℕ → List (List ℕ) → Bool
+is_ended total lines = nat_le (bytes_of_lines lines) total
+
+-- the fault of the end of a file of so many bytes with these lines, which stands at the line after the last
+abbrev pub end_refusal : Report → ℕ → List (List ℕ) → Option Refusal
+end_refusal report total lines =
+    option_map (λ told. record { number = length lines + 1; told = told }) (report.end_fault lines (is_ended total lines))
 
 -- the refusal of a file of so many bytes with these lines: that of its first faulty line, or of its end
 abbrev pub refusal_of_lines : Bounds → Report → ℕ → List (List ℕ) → Option Refusal
 refusal_of_lines bounds report total lines =
-    option_or (first_fault 1 (line_faults bounds report total [] lines)) (end_refusal report lines)
+    option_or (first_fault 1 (line_faults bounds report total [] lines)) (end_refusal report total lines)
 
 -- the refusal of a file of these bytes, if it has a fault
 abbrev pub file_fault : Bounds → Report → List ℕ → Option Refusal

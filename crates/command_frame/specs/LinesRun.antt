@@ -1,5 +1,5 @@
 -- What taking the lines of a file comes to, once the file was opened.
-use Rattle.std.specs.Prelude.{◌≡◌, ℕ, false, List, [], ◌++◌, Option, None, Result, Ok, Err}
+use Rattle.std.specs.Prelude.{◌≡◌, ℕ, true, false, List, [], ◌++◌, Option, None, Result, Ok, Err}
 use Rattle.std.specs.Io.KnownBytes.{append_known}
 use Rattle.hp_outside.specs.LineReaderState.{LineReaderState}
 use Rattle.hp_outside.specs.Taken.{WhereTold}
@@ -44,4 +44,5 @@ pub record IsNewReader (reader : LineReaderState) : Type 0 where
   pub ended : reader.ended ≡ false
   pub number : reader.number ≡ 0
   pub given : reader.given ≡ 0
+  pub line_ended : reader.line_ended ≡ true
   pub fault : reader.fault ≡ None

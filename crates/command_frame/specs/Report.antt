@@ -1,5 +1,5 @@
 -- What is made of the lines of a file.
-use Rattle.std.specs.Prelude.{ℕ, List, [], ◌∷◌, ◌++◌, Option}
+use Rattle.std.specs.Prelude.{ℕ, Bool, List, [], ◌∷◌, ◌++◌, Option}
 use Rattle.command_frame.specs.Told.{Told}
 
 -- what is made of all lines: the rest of the output, or a fault without a line
@@ -10,8 +10,8 @@ pub data Verdict : Type 0 where
 pub record Report : Type 0 where
   -- the fault of what a line says after earlier lines
   pub line_fault : List (List ℕ) → List ℕ → Option Told
-  -- the fault of the end of a file with these lines
-  pub end_fault : List (List ℕ) → Option Told
+  -- the fault of the end of a file with these lines, the last of which ended with its line feed or didn't
+  pub end_fault : List (List ℕ) → Bool → Option Told
   -- the bytes that a line after earlier lines gives to standard output
   pub gains : List (List ℕ) → List ℕ → List ℕ
   -- what is made of all lines

@@ -106,7 +106,7 @@ pub fn read_through_buffer<T: LineTaker, S: Store, O: Sink>(
                 Err(LineRefusal::NoMemory) => return Err(LinesStop::NoMemory),
             },
             Ok(None) => {
-                return match taker.end() {
+                return match taker.end(lines.ended()) {
                     Ok(()) => Ok(()),
                     Err(fault) => {
                         let fault = FileFault::Taker(fault);

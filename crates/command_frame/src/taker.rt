@@ -67,10 +67,11 @@ pub trait LineTaker {
         ensures weight { OnOk result (weight self.new ≤ weight self.old + length line.now + 1) }
         ensures report { report self.new ≡ report self.old };
 
-    /// Whether the file may end here: the fault of its end, if it has one.
-    fn end(&self) -> Result<(), Self::Fault>
-        ensures no_fault { OnOk result ((lines : List (List ℕ)) → has_taken self.now lines → (report self.now).end_fault lines ≡ None) }
-        ensures fault { IfErr result (λ fault. (lines : List (List ℕ)) → has_taken self.now lines → (report self.now).end_fault lines ≡ Some (Self.Fault.told fault)) };
+    /// Whether the file may end here: the fault of its end, if it has one. `ended` says whether the last line ended with
+    /// its line feed; it is true where there is no line.
+    fn end(&self, ended: bool) -> Result<(), Self::Fault>
+        ensures no_fault { OnOk result ((lines : List (List ℕ)) → has_taken self.now lines → (report self.now).end_fault lines ended ≡ None) }
+        ensures fault { IfErr result (λ fault. (lines : List (List ℕ)) → has_taken self.now lines → (report self.now).end_fault lines ended ≡ Some (Self.Fault.told fault)) };
 
     /// Takes whole lines at the front of the bytes, as `line` would, as long as each has fewer than 16 bytes, no fault,
     /// and nothing to give to standard output. It may stop before any line. Where memory is wanting, a later call tells it.

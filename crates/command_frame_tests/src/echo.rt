@@ -58,7 +58,7 @@ impl LineTaker for Echo {
         }
     }
 
-    fn end(&self) -> Result<(), Bad> {
+    fn end(&self, _ended: bool) -> Result<(), Bad> {
         Ok(())
     }
 }

@@ -49,7 +49,7 @@ impl LineTaker for Signs {
         Ok(())
     }
 
-    fn end(&self) -> Result<(), NoFault> {
+    fn end(&self, _ended: bool) -> Result<(), NoFault> {
         Ok(())
     }
 

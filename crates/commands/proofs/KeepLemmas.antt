@@ -177,7 +177,7 @@ good-lines bounds report total number earlier (line ∷ lines) inside none =
 good-file : (bounds : Bounds) (report : Report) (bytes : List ℕ) → file_fault bounds report bytes ≡ None → AreGoodLines bounds report [] (lines_of bytes)
 good-file bounds report bytes none =
     let few = lines-bytes bytes in
-    let parts = or-none (first_fault 1 (line_faults bounds report (length bytes) [] (lines_of bytes))) (end_refusal report (lines_of bytes)) none in
+    let parts = or-none (first_fault 1 (line_faults bounds report (length bytes) [] (lines_of bytes))) (end_refusal report (length bytes) (lines_of bytes)) none in
     good-lines bounds report (length bytes) 1 [] (lines_of bytes) (omega (arith, few)) parts.0
 
 fine-lines : (most : ℕ) (lines : List (List ℕ)) → AllByRecursion (λ line. length line ≤ most) lines → AllByRecursion IsOneLine lines → AllByRecursion (IsFine most) lines

@@ -15,7 +15,7 @@ use Rattle.commands.specs.InterpretWords.{InterpretAsked}
 abbrev pub symbols_report : Report
 symbols_report = record {
   line_fault = λ earlier line. option_map (λ fault. told (symbol fault)) (symbol_fault (symbols_of earlier) line);
-  end_fault = λ lines. None;
+  end_fault = λ lines ended. None;
   gains = λ earlier line. [];
   verdict = λ lines. Writes [];
 }
@@ -24,7 +24,7 @@ symbols_report = record {
 abbrev pub interpret_report : List Symbol → Report
 interpret_report symbols = record {
   line_fault = λ earlier line. option_map (λ error. told (Line error)) (raw_fault symbols earlier line);
-  end_fault = λ lines. option_map (λ error. told (Line error)) (raw_end_fault lines);
+  end_fault = λ lines ended. option_map (λ error. told (Line error)) (raw_end_fault lines);
   gains = λ earlier line. text_of (interpreted_lines symbols earlier line);
   verdict = λ lines. Writes [];
 }

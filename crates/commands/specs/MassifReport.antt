@@ -53,7 +53,7 @@ massif_fault settings earlier line =
 abbrev pub massif_report : MassifSettings → Report
 massif_report settings = record {
   line_fault = massif_fault settings;
-  end_fault = end_fault;
+  end_fault = λ lines ended. end_fault lines;
   gains = λ earlier line. [];
   verdict = λ lines. Writes (massif_written settings lines);
 }

@@ -26,7 +26,7 @@ page_verdict threshold x y words (Err fault) = Refuses (told (profile_fault faul
 abbrev pub page_report : ℕ → ℕ → ℕ → List ℕ → Report
 page_report threshold x y words = record {
   line_fault = λ earlier line. option_map (λ fault. told (profile_fault fault)) (fault_in (after (progress_of earlier) line));
-  end_fault = λ lines. end_told (end_of (progress_of lines));
+  end_fault = λ lines ended. end_told (end_of (progress_of lines));
   gains = λ earlier line. [];
   verdict = λ lines. page_verdict threshold x y words (end_of (progress_of lines));
 }

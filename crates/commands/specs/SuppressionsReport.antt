@@ -20,7 +20,7 @@ text_fault earlier line = option_map (λ error. told (Line error)) (pattern_faul
 abbrev pub suppressions_report : Report
 suppressions_report = record {
   line_fault = text_fault;
-  end_fault = λ lines. None;
+  end_fault = λ lines ended. None;
   gains = λ earlier line. [];
   verdict = λ lines. Writes [];
 }

@@ -43,7 +43,7 @@ end_fault lines = option_map (λ error. told (Line error)) (tables.end_fault lin
 abbrev pub trace_report : List (List ℕ) → (List (List ℕ) → List ℕ) → Report
 trace_report patterns text = record {
   line_fault = content_fault patterns;
-  end_fault = end_fault;
+  end_fault = λ lines ended. end_fault lines;
   gains = λ earlier line. [];
   verdict = λ lines. Writes (text lines);
 }

@@ -125,7 +125,7 @@ impl LineTaker for DhatReader {
         }
     }
 
-    fn end(&self) -> Result<(), CommandFault> {
+    fn end(&self, _ended: bool) -> Result<(), CommandFault> {
         self.trace.end()
     }
 

@@ -40,7 +40,7 @@ impl LineTaker for SymbolReader {
         }
     }
 
-    fn end(&self) -> Result<(), CommandFault> {
+    fn end(&self, _ended: bool) -> Result<(), CommandFault> {
         Ok(())
     }
 }
@@ -70,7 +70,7 @@ impl LineTaker for RawReader {
         }
     }
 
-    fn end(&self) -> Result<(), CommandFault> {
+    fn end(&self, _ended: bool) -> Result<(), CommandFault> {
         match self.interpreter.end() {
             Ok(()) => Ok(()),
             Err(error) => Err(CommandFault::Line(error)),

@@ -183,7 +183,7 @@ impl<A: Fn(&[u8]) -> bool, I: Fn(&[u8]) -> bool, S: Settled> LineTaker for Massi
         }
     }
 
-    fn end(&self) -> Result<(), CommandFault> {
+    fn end(&self, _ended: bool) -> Result<(), CommandFault> {
         match self.tables.end() {
             Ok(()) => Ok(()),
             Err(error) => Err(CommandFault::Line(error)),

@@ -45,7 +45,7 @@ impl LineTaker for PageReader<'_> {
         }
     }
 
-    fn end(&self) -> Result<(), CommandFault> {
+    fn end(&self, _ended: bool) -> Result<(), CommandFault> {
         match self.reader.profile() {
             Ok(_) => Ok(()),
             Err(fault) => Err(CommandFault::Profile(fault)),

@@ -51,7 +51,7 @@ impl LineTaker for SuppressionsTaker {
         }
     }
 
-    fn end(&self) -> Result<(), CommandFault> {
+    fn end(&self, _ended: bool) -> Result<(), CommandFault> {
         Ok(())
     }
 }

@@ -63,7 +63,7 @@ impl<W: TraceWriter> LineTaker for TraceReader<W> {
         self.trace.read(line)
     }
 
-    fn end(&self) -> Result<(), CommandFault> {
+    fn end(&self, _ended: bool) -> Result<(), CommandFault> {
         self.trace.end()
     }
 

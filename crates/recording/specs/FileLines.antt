@@ -35,7 +35,7 @@ with_lines kind job (line ∷ lines) = with_lines kind (with_one kind job line) 
 abbrev pub file_report : FileKind → Job → Report
 file_report kind job = record {
   line_fault = λ earlier line. option_map told (one_fault kind (with_lines kind job earlier) line);
-  end_fault = λ lines. None;
+  end_fault = λ lines ended. None;
   gains = λ earlier line. [];
   verdict = λ lines. Writes [];
 }

@@ -68,7 +68,7 @@ impl<B: Start> LineTaker for FileReader<B> {
         }
     }
 
-    fn end(&self) -> Result<(), LineFault> {
+    fn end(&self, _ended: bool) -> Result<(), LineFault> {
         Ok(())
     }
 }

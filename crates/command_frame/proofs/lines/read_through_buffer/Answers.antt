@@ -20,7 +20,7 @@ lines-init g c = record {
   weight = omega (arith, c.requires.no_weight);
   report = refl;
   reading = reading_new (bounds_at c.args.lines.now) (g.T.LineTaker.report c.args.taker.now) (g.T.LineTaker.has_taken c.args.taker.now) c.args.lines.now (g.S.Store.left c.args.store.now)
-      (g.O.Sink.written c.args.out.now) c.args.buffer.now.items c.requires.new_lines.kept c.requires.new_lines.passed c.requires.new_lines.number c.requires.new_taker c.requires.no_output
+      (g.O.Sink.written c.args.out.now) c.args.buffer.now.items c.requires.new_lines.kept c.requires.new_lines.passed c.requires.new_lines.number c.requires.new_lines.line_ended c.requires.new_taker c.requires.no_output
       (sym (append_nothing (g.O.Sink.written c.args.out.now)));
   files = refl;
   current = refl;
@@ -41,6 +41,8 @@ lines-preserved g c =
     subst (λ place. IfSome place (λ span. c.next.new.self.given ≡ c.lines.lines.given + length c.next.new.self.line + 1)) c.in-Ok-Some.field-0-is c.in-Ok-Some.ensures.given in
     let number : c.next.new.self.number ≡ c.lines.lines.number + 1 =
     subst (λ place. c.next.new.self.number ≡ c.lines.lines.number + (if is_some place then 1 else 0)) c.in-Ok-Some.field-0-is c.in-Ok-Some.ensures.number in
+    let step : c.next.new.self.passed ≡ c.lines.lines.passed + length c.next.new.self.line + (if c.next.new.self.line_ended then 1 else 0) =
+    subst (λ place. IfSome place (λ span. c.next.new.self.passed ≡ c.lines.lines.passed + length c.next.new.self.line + (if c.next.new.self.line_ended then 1 else 0))) c.in-Ok-Some.field-0-is c.in-Ok-Some.ensures.step in
     let size : length c.line.result.now ≡ length c.next.new.self.line = ap length c.line.ensures in
     record {
       input = ready.input ∙ (next.input ∙ held.input);
@@ -58,7 +60,7 @@ lines-preserved g c =
           (g.S.Store.left c.args.store.now) (g.S.Store.left c.lines.store) (g.S.Store.left c.next.new.store)
           (g.O.Sink.written c.args.out.now) (g.O.Sink.written c.lines.out) (g.O.Sink.written c.pass_on_piece.new.out)
           c.lines.buffer.items c.line-in-Ok-Some.new.output.items c.pass_on_piece.new.buffer.items c.next.result c.in-Ok-Some.span
-          held.reading held.input held.line_limit is (next.answer held.no_fault) (next.line held.no_fault) number
+          held.reading held.input held.line_limit is (next.answer held.no_fault) (next.line held.no_fault) step number
           (λ lines has. subst (λ line. g.T.LineTaker.has_taken c.line-in-Ok-Some.new.self (lines ++ line ∷ [])) c.line.ensures (taken.taken lines has))
           (λ lines has. subst (λ line. report.line_fault lines line ≡ None) c.line.ensures (subst (λ (r : Report). r.line_fault lines c.line.result.now ≡ None) held.report (taken.no_fault lines has)))
           (λ lines has. subst (λ line. c.line-in-Ok-Some.new.output.items ≡ c.lines.buffer.items ++ report.gains lines line) c.line.ensures
@@ -127,11 +129,13 @@ returns-in-Err-clause-run g c =
     let report : Report = g.T.LineTaker.report c.args.taker.now in
     let number : c.next.new.self.number ≡ c.lines.lines.number + 1 =
     subst (λ place. c.next.new.self.number ≡ c.lines.lines.number + (if is_some place then 1 else 0)) c.in-Ok-Some.field-0-is c.in-Ok-Some.ensures.number in
+    let step : c.next.new.self.passed ≡ c.lines.lines.passed + length c.next.new.self.line + (if c.next.new.self.line_ended then 1 else 0) =
+    subst (λ place. IfSome place (λ span. c.next.new.self.passed ≡ c.lines.lines.passed + length c.next.new.self.line + (if c.next.new.self.line_ended then 1 else 0))) c.in-Ok-Some.field-0-is c.in-Ok-Some.ensures.step in
     let reading = read_more (bounds_at c.args.lines.now) report (g.T.LineTaker.has_taken c.lines.taker) (g.T.LineTaker.has_taken c.line-in-Ok-Some.new.self) c.lines.lines c.next.new.self
     (g.S.Store.left c.args.store.now) (g.S.Store.left c.lines.store) (g.S.Store.left c.next.new.store)
     (g.O.Sink.written c.args.out.now) (g.O.Sink.written c.lines.out) (g.O.Sink.written c.lines.out)
     c.lines.buffer.items c.line-in-Ok-Some.new.output.items c.line-in-Ok-Some.new.output.items c.next.result c.in-Ok-Some.span
-    held.reading held.input held.line_limit is (next.answer held.no_fault) (next.line held.no_fault) number
+    held.reading held.input held.line_limit is (next.answer held.no_fault) (next.line held.no_fault) step number
     (λ lines has. subst (λ line. g.T.LineTaker.has_taken c.line-in-Ok-Some.new.self (lines ++ line ∷ [])) c.line.ensures (taken.taken lines has))
     (λ lines has. subst (λ line. report.line_fault lines line ≡ None) c.line.ensures (subst (λ (r : Report). r.line_fault lines c.line.result.now ≡ None) held.report (taken.no_fault lines has)))
     (λ lines has. subst (λ line. c.line-in-Ok-Some.new.output.items ≡ c.lines.buffer.items ++ report.gains lines line) c.line.ensures
@@ -159,6 +163,7 @@ pub returns-in-Ok-end-clause-run : goal.returns-in-Ok-end-clause-run
 returns-in-Ok-end-clause-run g c =
     let held = c.lines.invariant in
     let is : c.next.result ≡ Ok None = c.in-Ok-None.is ∙ ap Ok c.in-Ok-None.field-0-is in
+    let ended : c.ended.result ≡ c.lines.lines.line_ended = c.ended.ensures ∙ c.next.ensures.same_end (λ line. subst IsLine is line) in
     let report : Report = g.T.LineTaker.report c.args.taker.now in (
       held.reading.taken,
       (
@@ -168,7 +173,7 @@ returns-in-Ok-end-clause-run g c =
             told = read_end (bounds_at c.args.lines.now) report (g.T.LineTaker.has_taken c.lines.taker) c.lines.lines (g.S.Store.left c.args.store.now) (g.S.Store.left c.lines.store)
                 (g.O.Sink.written c.args.out.now) (g.O.Sink.written c.lines.out) c.lines.buffer.items c.next.result
                 held.reading held.input held.line_limit is (c.next.ensures.answer held.no_fault)
-                (λ lines has. subst (λ (r : Report). r.end_fault lines ≡ None) held.report (c.in-Ok-end.ensures.no_fault lines has));
+                (λ lines has. ap (report.end_fault lines) (sym ended) ∙ subst (λ (r : Report). r.end_fault lines c.ended.result ≡ None) held.report (c.in-Ok-end.ensures.no_fault lines has));
             gained = held.reading.gained;
           },
           held.reading.has_taken,
@@ -180,6 +185,7 @@ pub returns-in-Err-end-clause-run : goal.returns-in-Err-end-clause-run
 returns-in-Err-end-clause-run g c =
     let held = c.lines.invariant in
     let is : c.next.result ≡ Ok None = c.in-Ok-None.is ∙ ap Ok c.in-Ok-None.field-0-is in
+    let ended : c.ended.result ≡ c.lines.lines.line_ended = c.ended.ensures ∙ c.next.ensures.same_end (λ line. subst IsLine is line) in
     let report : Report = g.T.LineTaker.report c.args.taker.now in
     let told = g.T.Fault.Fault.told c.in-Err-end.fault in (
       held.reading.taken,
@@ -190,7 +196,7 @@ returns-in-Err-end-clause-run g c =
             told = read_end_fault (bounds_at c.args.lines.now) report (g.T.LineTaker.has_taken c.lines.taker) c.lines.lines (g.S.Store.left c.args.store.now) (g.S.Store.left c.lines.store)
                 (g.O.Sink.written c.args.out.now) (g.O.Sink.written c.lines.out) c.lines.buffer.items c.next.result _ told
                 held.reading held.input held.line_limit is (c.next.ensures.answer held.no_fault) (ap (λ n. n + 1) c.number-number.ensures.count)
-                (λ lines has. subst (λ (r : Report). r.end_fault lines ≡ Some told) held.report (c.in-Err-end.ensures.fault lines has));
+                (λ lines has. ap (report.end_fault lines) (sym ended) ∙ subst (λ (r : Report). r.end_fault lines c.ended.result ≡ Some told) held.report (c.in-Err-end.ensures.fault lines has));
             gained = held.reading.gained;
           },
           tt,
