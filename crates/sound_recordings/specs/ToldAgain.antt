@@ -2,7 +2,7 @@
 use Rattle.std.specs.Prelude.{◌≡◌, ℕ, List, [], None}
 use Rattle.hp_outside.specs.Lines.{lines_of}
 use Rattle.ht_print.specs.SummaryText as trace
-use Rattle.ht_print.specs.declared.summary.Summary as told_summary
+use Rattle.ht_print.specs.declared.summary.Summary.{Summary as TraceSummary}
 use Rattle.ht_trace.specs.Gathered.{gathered}
 use Rattle.ht_trace.specs.TraceEvents.{events}
 use Rattle.interpret.specs.InterpretedTrace.{AreInterpretable, interpreted_trace}
@@ -13,7 +13,7 @@ use Rattle.record_book.specs.SummaryText as recording
 use Rattle.record_scripts.specs.Turns.{Turn}
 
 -- the figures of a trace are those of a recording, whose summary tells nothing of temporary allocations nor of a moment
-pub record TellSame (told : told_summary.Summary) (own : Summary) : Type 0 where
+pub record TellSame (told : TraceSummary) (own : Summary) : Type 0 where
   pub events : told.totals.events ≡ own.events
   pub calls : told.totals.calls ≡ own.calls
   pub allocated : told.totals.allocated ≡ own.allocated
