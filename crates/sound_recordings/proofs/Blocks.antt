@@ -120,8 +120,7 @@ live-allocated said places blocks thread id size trace ips live left only = reco
         (cond b (Some (record { address = next_address (class_of size) (released thread id places); class = class_of size })) (entry_in places t i)) (cond b (Some size) (cond b None (size_in blocks t i)))
     by t i true p =
         let equal : (next_address (class_of size) (released thread id places) == next_address (class_of size) (released thread id places)) ≡ true = grind (arith, nat_tests) in
-        let block : RawBlock = record { place = length said; info = record { size = size; trace = trace } } in
-        (
+        let block : RawBlock = record { place = length said; info = record { size = size; trace = trace } } in (
           block,
           held-alloc said size trace (next_address (class_of size) (released thread id places)) (next_address (class_of size) (released thread id places)) ∙ own block _ equal,
           refl,

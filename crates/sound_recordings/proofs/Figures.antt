@@ -94,7 +94,7 @@ events-allocated events acts info node thread id size ips are none =
       allocated_are = omega (arith, sizes, are.allocated_are);
       bytes = omega (arith, sizes, gone, live, are.bytes);
       blocks = omega (arith, called, freed, few, are.blocks);
-      peak_is = peak-push events e acts _ are.peak_is now;
+      peak_is = peak-push events e acts (record { thread = thread; event = allocation id size ips }) are.peak_is now;
     }
 
 -- a free of a live block more
@@ -117,5 +117,5 @@ events-freed events acts info node thread id size rejoined are some =
       allocated_are = omega (arith, sizes, are.allocated_are);
       bytes = omega (arith, sizes, gone, live, are.bytes);
       blocks = omega (arith, called, freed, few, are.blocks);
-      peak_is = peak-push events e acts _ are.peak_is now;
+      peak_is = peak-push events e acts (record { thread = thread; event = free id rejoined }) are.peak_is now;
     }

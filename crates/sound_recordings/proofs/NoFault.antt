@@ -21,6 +21,7 @@ use Rattle.ht_trace.specs.VersionLines.{may_stand_first}
 use Rattle.stack_table.specs.Node.{Node}
 use Rattle.stack_table.specs.Stack.{frame_count}
 use Rattle.stack_table.proofs.Laws.{frame_count-newest, frame_count-older, frame_count-zero}
+use Rattle.interpret.specs.declared.infos.AllocationInfo.{AllocationInfo}
 use Rattle.interpret.specs.IpLists.{raw_node_in, raw_nodes}
 use Rattle.interpret.specs.RawContents.{contents, version_of}
 use Rattle.interpret.specs.RawFault.{content_fault, fault_in, raw_fault, reading_fault}
@@ -142,7 +143,7 @@ module _ (back : (n : ℕ) → n < 2 ^ 64 → parsed_hex (hexadecimal n) ≡ Som
   sound-harmless said known most c are readable harmless =
       let nodes : raw_nodes (said ++ c ∷ []) ≡ raw_nodes said =
       filter_map-push raw_node_in said c ∙ ap (λ (o : Option Node). raw_nodes said ++ option_to_list o) harmless.0 ∙ append-nil (raw_nodes said) in
-      let infos = ap length (filter_map-push info_in said c ∙ ap (λ o. filter_map info_in said ++ option_to_list o) harmless.1 ∙ append-nil (filter_map info_in said)) in
+      let infos = ap length (filter_map-push info_in said c ∙ ap (λ (o : Option AllocationInfo). filter_map info_in said ++ option_to_list o) harmless.1 ∙ append-nil (filter_map info_in said)) in
       sound-more said known known most most c are readable (harmless.2 (Some 2) (tables_of [] said)) (subst (AreShallow known) (sym nodes) are.shallow) (omega (arith, infos, are.few))
 
   pub sound-all : (said more : List Content) (known : List (List ℕ)) (most : ℕ) → AreSound said known most → AllByRecursion IsReadable more → AllByRecursion IsHarmless more → AreSound (said ++ more) known most

@@ -140,7 +140,7 @@ reached-trace symbols modules (action ∷ before) all played readable =
 
 -- what the summary of a trace of these events tells
 tell-same : (told : List TraceEvent) (scripts : List (List Turn)) (order : List ℕ) → AreEventsOf told (actions scripts order) → length order ≡ length (actions scripts order)
-    → TellSame (trace.summary_of told) (recording.summary_of scripts order)
+    → TellSame told scripts order
 unfolding trace.summary_of recording.summary_of
 tell-same told scripts order are count = record {
   events = are.count ∙ sym count;
@@ -179,7 +179,7 @@ module _ (back : (n : ℕ) → n < 2 ^ 64 → parsed_hex (hexadecimal n) ≡ Som
             let says : events (interpreted_trace symbols (lines_of bytes)) ≡ interpreted_events symbols said =
             reads symbols (lines_of bytes) may ∙ ap (interpreted_events symbols) (ap contents lines ∙ says-all back said (stacks_after acts) (length acts) sound) in
             let reached = reached-quiet symbols (trace_said modules acts) more acts quiet (reached-trace symbols modules acts all played readable) in
-            subst (λ (told : List TraceEvent). TellSame (trace.summary_of told) (recording.summary_of scripts order)) (sym says)
+            subst (λ (told : List TraceEvent). TellSame told scripts order) (sym says)
             (tell-same (interpreted_events symbols said) scripts order reached.figures count);
       }
 
