@@ -10,7 +10,7 @@ SCRIPTS = heapsuite-symbols heapsuite-compare heapsuite-budget
 BIN = $(DESTDIR)$(PREFIX)/bin
 SHARE = $(DESTDIR)$(PREFIX)/share
 
-.PHONY: demo build test install uninstall
+.PHONY: demo build test sweep install uninstall
 
 # A summary of an example.
 demo: build
@@ -31,6 +31,10 @@ $(PROGRAMS:%=bin/%):
 
 test:
 	rt ci
+
+# Fails each call of both programs once. It stands outside the gate.
+sweep: $(PROGRAMS:%=bin/%)
+	bench/sweep bin
 
 # Takes the programs that stand in bin/, and builds them only where they aren't there.
 install: $(PROGRAMS:%=bin/%)

@@ -4,7 +4,7 @@ pub mod AskedLemmas
 pub mod SilentLemmas
 pub mod GenLemmas
 pub mod KeepLemmas
-pub mod ViewLemmas
+pub mod DocumentLemmas
 pub mod LifeLemmas
 pub mod WordLemmas
 pub mod NameLemmas

@@ -1,4 +1,4 @@
--- What is told of each fault of an input.
+-- What is told of each fault of a trace and of a table of symbols.
 use Rattle.live_ledger.specs.declared.event.EventFault.{EventFault}
 use Rattle.live_ledger.specs.declared.event.EventFault.TheVariants as ledger
 use Rattle.live_ledger.specs.FaultText as ledger_text
@@ -10,10 +10,7 @@ use Rattle.command_frame.specs.declared.fault.FaultStatus.TheVariants.{Malformed
 use Rattle.command_frame.specs.Told.{Told}
 use Rattle.commands.specs.declared.fault.CommandFault.{CommandFault}
 use Rattle.interpret.specs.SymbolFaultText as symbol_text
-use Rattle.massif_file.specs.declared.fault.ProfileFault.{ProfileFault}
-use Rattle.massif_file.specs.declared.fault.ProfileFault.TheVariants as massif
-use Rattle.std.specs.Prelude.{ℕ, List, codes}
-use Rattle.commands.specs.declared.fault.CommandFault.TheVariants.{Line, Event as event, Symbol as symbol, Profile as profile}
+use Rattle.commands.specs.declared.fault.CommandFault.TheVariants.{Line, Event as event, Symbol as symbol}
 
 -- the kind of a line's fault; want of memory is no fault of a line, and never told as one
 abbrev pub line_status : LineError → FaultStatus
@@ -25,18 +22,7 @@ abbrev pub event_status : EventFault → FaultStatus
 event_status ledger.FreeOfNothing = Malformed
 event_status ledger.CostTooLarge = PastLimit
 
--- what the fault of a Massif file is called; want of memory is none, and never told as one
-abbrev pub profile_text : ProfileFault → List ℕ
-profile_text massif.BadHeader = codes "bad header"
-profile_text massif.BadSnapshot = codes "bad snapshot"
-profile_text massif.BadNumber = codes "bad number"
-profile_text massif.WrongOrder = codes "wrong order"
-profile_text massif.BadTree = codes "bad tree"
-profile_text massif.Truncated = codes "truncated"
-profile_text massif.NoMemory = codes "out of memory"
-
 abbrev pub told : CommandFault → Told
 told (Line error) = record { text = error_text error; status = line_status error }
 told (event fault) = record { text = ledger_text.fault_text fault; status = event_status fault }
 told (symbol fault) = record { text = symbol_text.fault_text fault; status = Malformed }
-told (profile fault) = record { text = profile_text fault; status = Malformed }

@@ -24,12 +24,16 @@ pub mod Silent
 pub mod InterpretKeeps
 pub mod HasRun
 pub mod ProfileFault
+pub mod KeyWords
 pub mod ViewWords
+pub mod DhatFileReport
 pub mod ViewReport
 pub mod DhatWords
 pub mod DhatReport
 pub mod ReadLives
 pub mod PageWords
+pub mod MassifFileFault
+pub mod MassifFileReport
 pub mod PageReport
 pub mod MassifSettings
 pub mod NameList

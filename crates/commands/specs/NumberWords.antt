@@ -1,6 +1,6 @@
 -- Numbers as values of options.
 use Rattle.std.specs.Prelude.{ℕ, ◌&&◌, nat_le, List, Option, Some, None, if◌then◌else◌}
-use Rattle.std.specs.Option.{option_and_then}
+use Rattle.std.specs.Option.{option_and_then, option_map}
 use Rattle.hp_num.specs.ParsedDec.{parsed_dec}
 use Rattle.hp_num.specs.ParsedPercent.{parsed_percent}
 
@@ -12,6 +12,11 @@ number_within least most text = option_and_then (λ number. if nat_le least numb
 unfoldable pub number_or : ℕ → ℕ → ℕ → Option (List ℕ) → Option ℕ
 number_or default least most None = Some default
 number_or default least most (Some text) = number_within least most text
+
+-- the number of an option that has no default: none where it isn't given
+unfoldable pub number_if_given : ℕ → ℕ → Option (List ℕ) → Option (Option ℕ)
+number_if_given least most None = Some None
+number_if_given least most (Some text) = option_map Some (number_within least most text)
 
 -- the percentage of an option, in hundredths: 1 percent where it isn't given
 unfoldable pub percent_or : Option (List ℕ) → Option ℕ

@@ -8,10 +8,8 @@ use Rattle.dhat_json.specs.declared.fault.DhatFault.TheVariants.{NotJson, WrongF
 use Rattle.dhat_json.specs.declared.figure.FigureKey.{FigureKey}
 use Rattle.dhat_json.specs.Figure.{figure_key}
 use Rattle.dhat_json.specs.KeyName.{key_name}
-use Rattle.dhat_view.specs.declared.fault.ViewFault.{ViewFault}
-use Rattle.dhat_view.specs.declared.fault.ViewFault.TheVariants as view
 use Rattle.commands.specs.declared.profile_fault.ProfileFault.{ProfileFault}
-use Rattle.commands.specs.declared.profile_fault.ProfileFault.TheVariants.{Document, View}
+use Rattle.commands.specs.declared.profile_fault.ProfileFault.TheVariants.{Document, NoFigures, TooLarge}
 
 -- the point of a fault, where it has one
 abbrev pub point_text : Option ℕ → List ℕ
@@ -37,17 +35,11 @@ abbrev pub document_status : DhatFault → FaultStatus
 document_status TooMany = PastLimit
 document_status _ = Malformed
 
--- why a profile has no view by the figures of a key
-abbrev pub view_text : FigureKey → ViewFault → List ℕ
-view_text key view.NoFigures = codes "no figures for " ++ key_name (figure_key key)
-view_text key view.TooLarge = codes "figures too large"
-view_text key view.NoMemory = codes "out of memory"
-
-abbrev pub view_status : ViewFault → FaultStatus
-view_status view.NoFigures = Malformed
-view_status view.TooLarge = PastLimit
-view_status view.NoMemory = Malformed
+-- figures of a key that a profile lacks
+abbrev pub figures_text : FigureKey → List ℕ
+figures_text key = codes "no figures for " ++ key_name (figure_key key)
 
 abbrev pub told : ProfileFault → Told
 told (Document fault) = record { text = document_text fault; status = document_status fault }
-told (View fault key) = record { text = view_text key fault; status = view_status fault }
+told (NoFigures key) = record { text = figures_text key; status = Malformed }
+told TooLarge = record { text = codes "figures too large"; status = PastLimit }

@@ -1,11 +1,10 @@
 -- The words of `dhat_view`.
-use Rattle.std.specs.Prelude.{ℕ, List, [], ◌∷◌, codes, true, Option, Some, None, if◌then◌else◌}
+use Rattle.std.specs.Prelude.{ℕ, List, [], ◌∷◌, codes, true, Option}
 use Rattle.std.specs.Option.{option_and_then, option_map}
-use Rattle.std.specs.Str.{bytes_eq}
 use Rattle.command_words.specs.TableApp.{Table}
 use Rattle.command_words.specs.WordsTaken.{only_file_in, value_in, words_taken}
 use Rattle.dhat_json.specs.declared.figure.FigureKey.{FigureKey}
-use Rattle.dhat_json.specs.declared.figure.FigureKey.TheVariants.{Tb, Tbk, Tl, Gb, Gbk, Eb, Ebk, Rb, Wb}
+use Rattle.commands.specs.KeyWords.{key_or}
 use Rattle.commands.specs.NumberWords.{number_or, percent_or}
 
 -- which profile, which figure of a point is its cost, the least share that is shown by itself, and how many frames deep
@@ -18,25 +17,6 @@ pub record ViewAsked : Type 0 where
 -- three options, and one file
 abbrev pub view_table : Table
 view_table = record { options = codes "sort" ∷ codes "threshold" ∷ codes "depth" ∷ []; flags = []; files = true }
-
--- the key of a name
-unfoldable pub key_named : List ℕ → Option FigureKey
-key_named name =
-    if bytes_eq name (codes "tb") then Some Tb
-    else if bytes_eq name (codes "tbk") then Some Tbk
-    else if bytes_eq name (codes "tl") then Some Tl
-    else if bytes_eq name (codes "gb") then Some Gb
-    else if bytes_eq name (codes "gbk") then Some Gbk
-    else if bytes_eq name (codes "eb") then Some Eb
-    else if bytes_eq name (codes "ebk") then Some Ebk
-    else if bytes_eq name (codes "rb") then Some Rb
-    else if bytes_eq name (codes "wb") then Some Wb
-    else None
-
--- the key of an option's value: bytes of all blocks where it isn't given
-abbrev pub key_or : Option (List ℕ) → Option FigureKey
-key_or None = Some Tb
-key_or (Some name) = key_named name
 
 -- the number of frames
 abbrev pub depth_or : Option (List ℕ) → Option ℕ

@@ -2,15 +2,16 @@
 //! `view_words`.
 ghost use Rattle.std.specs.Prelude.{◌≡◌, ◌^◌, ◌<◌, Err, IfOk, [], ◌∷◌, None, Some, map, string_bytes};
 ghost use Rattle.command_frame.specs.RunsTo.{RunsTo, Taken, shown};
-ghost use Rattle.commands.specs.ViewReport.{document_refusal, view_plan, view_refusal};
+ghost use Rattle.commands.specs.ViewReport.{view_plan, view_refusal};
 ghost use Rattle.commands.specs.Requests.{view_asked_by};
 ghost use Rattle.commands.specs.ViewWords.{view_asked};
 
+use crate::dhat_file::{DhatFileReport, run_dhat_file};
 use crate::profile_fault::ProfileFault;
 use crate::view_words::{WORDS, request_in};
-use command_frame::{Desk, DocumentReport, Halt, LineRefusal, run_document};
+use command_frame::{Desk, Halt, LineRefusal};
 use command_words::{WordsFault, take_words};
-use dhat_json::{DhatFault, FigureKey, read_profile};
+use dhat_json::{Dhat, FigureKey};
 use dhat_view::{ViewFault, ViewOptions, put_view};
 use hp_outside::Store;
 use std::alloc::Global;
@@ -30,20 +31,14 @@ pub struct ViewReport {
     options: ViewOptions,
 }
 
-impl DocumentReport for ViewReport {
+impl DhatFileReport for ViewReport {
     ghost use Rattle.commands.specs.ViewReport.{view_verdict};
-
-    type Fault = ProfileFault;
 
     ghost verdict = { λ report. view_verdict report.options.key report.options.threshold report.options.depth };
 
-    fn report(&self, alloc: Global, bytes: &[u8]) -> Result<Vec<u8>, LineRefusal<ProfileFault>> {
-        let dhat = match read_profile(alloc, bytes) {
-            Ok(dhat) => dhat,
-            Err(fault) => return Err(document_refusal(fault)),
-        };
+    fn report(&self, alloc: Global, dhat: &Dhat) -> Result<Vec<u8>, LineRefusal<ProfileFault>> {
         let mut view = Vec::new(alloc);
-        match put_view(alloc, &self.options, &dhat, &mut view) {
+        match put_view(alloc, &self.options, dhat, &mut view) {
             Ok(()) => Ok(view),
             Err(fault) => Err(view_refusal(fault, self.options.key)),
         }
@@ -77,22 +72,7 @@ impl<'a> DhatViewRequest<'a> {
         let report = ViewReport {
             options: self.options,
         };
-        run_document(desk, self.profile, &report, store)
-    }
-}
-
-/// The fault of a document as the refusal of it.
-fn document_refusal(fault: DhatFault) -> LineRefusal<ProfileFault>
-    ensures { result ≡ document_refusal fault }
-{
-    match fault {
-        DhatFault::NoMemory => LineRefusal::NoMemory,
-        DhatFault::NotJson
-        | DhatFault::WrongFileVersion
-        | DhatFault::MissingKey { .. }
-        | DhatFault::WrongKind { .. }
-        | DhatFault::FrameOutOfTable { .. }
-        | DhatFault::TooMany => LineRefusal::Fault(ProfileFault::Document(fault)),
+        run_dhat_file(desk, self.profile, report, store)
     }
 }
 
@@ -102,8 +82,7 @@ fn view_refusal(fault: ViewFault, key: FigureKey) -> LineRefusal<ProfileFault>
 {
     match fault {
         ViewFault::NoMemory => LineRefusal::NoMemory,
-        ViewFault::NoFigures | ViewFault::TooLarge => {
-            LineRefusal::Fault(ProfileFault::View(fault, key))
-        }
+        ViewFault::NoFigures => LineRefusal::Fault(ProfileFault::NoFigures(key)),
+        ViewFault::TooLarge => LineRefusal::Fault(ProfileFault::TooLarge),
     }
 }

@@ -1,14 +1,13 @@
-//! The faults of the commands' inputs, what they are called, and their kinds. When each comes is decided where the input is
-//! read.
+//! The faults of traces and of tables of symbols, what they are called, and their kinds. When each comes is decided where
+//! the input is read.
 ghost use Rattle.std.specs.Prelude.{◌≡◌};
-ghost use Rattle.commands.specs.CommandFault.{event_status, line_status, profile_text, told};
+ghost use Rattle.commands.specs.CommandFault.{event_status, line_status, told};
 
 use command_frame::{Fault, FaultStatus};
 use hp_num::{NoMemory, put_bytes};
 use ht_trace::LineError;
 use interpret::SymbolFault;
 use live_ledger::EventFault;
-use massif_file::ProfileFault;
 
 /// What is wrong with an input.
 #[derive(Clone, Copy, Debug, PartialEq, Eq)]
@@ -19,8 +18,6 @@ pub enum CommandFault {
     Event(EventFault),
     /// The line of a table of symbols can't follow the lines before it.
     Symbol(SymbolFault),
-    /// The line of a Massif file can't follow the lines before it, or the file can't end there.
-    Profile(ProfileFault),
 }
 
 impl CommandFault {
@@ -32,7 +29,6 @@ impl CommandFault {
             CommandFault::Line(error) => error.text(),
             CommandFault::Event(fault) => fault.text(),
             CommandFault::Symbol(fault) => fault.text(),
-            CommandFault::Profile(fault) => profile_text(fault),
         }
     }
 }
@@ -50,7 +46,7 @@ impl Fault for CommandFault {
         match self {
             CommandFault::Line(error) => line_kind(*error),
             CommandFault::Event(fault) => event_kind(*fault),
-            CommandFault::Symbol(_) | CommandFault::Profile(_) => FaultStatus::Malformed,
+            CommandFault::Symbol(_) => FaultStatus::Malformed,
         }
     }
 }
@@ -85,20 +81,5 @@ fn event_kind(fault: EventFault) -> FaultStatus
     match fault {
         EventFault::FreeOfNothing => FaultStatus::Malformed,
         EventFault::CostTooLarge => FaultStatus::PastLimit,
-    }
-}
-
-/// What the fault of a Massif file is called. Want of memory is none, and never told as one.
-fn profile_text(fault: ProfileFault) -> &'static str
-    ensures { result.now ≡ profile_text fault }
-{
-    match fault {
-        ProfileFault::BadHeader => "bad header",
-        ProfileFault::BadSnapshot => "bad snapshot",
-        ProfileFault::BadNumber => "bad number",
-        ProfileFault::WrongOrder => "wrong order",
-        ProfileFault::BadTree => "bad tree",
-        ProfileFault::Truncated => "truncated",
-        ProfileFault::NoMemory => "out of memory",
     }
 }

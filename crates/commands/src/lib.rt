@@ -34,19 +34,22 @@
 //! | `interpret_command.rt`, `interpret_reader.rt` | `interpret`; its two takers |
 //! | `massif_command.rt`, `massif_words.rt`, `massif_request.rt` | `massif`; its options; what it is to do |
 //! | `massif_reader.rt` | the taker of a trace whose snapshots are taken |
-//! | `page_command.rt`, `page_reader.rt`, `page_size.rt` | `ms_print`; the taker of a Massif file; how a page is made |
+//! | `page_command.rt`, `page_report.rt`, `page_size.rt` | `ms_print`; the page of a profile; how a page is made |
 //! | `dhat_command.rt`, `dhat_reader.rt` | `dhat`; the taker of a trace whose lifetimes are kept |
-//! | `dhat_view_command.rt`, `view_words.rt` | `dhat_view` and its document; its options |
+//! | `dhat_view_command.rt`, `view_words.rt` | `dhat_view`; its options |
 //! | `gen_command.rt`, `gen_summary.rt` | `gen`; the summary of the lines as they are made |
-//! | `number_words.rt`, `name_list.rt` | values of options: numbers and percentages; lists of names |
+//! | `number_words.rt`, `key_words.rt`, `name_list.rt` | values of options: numbers and percentages; keys of figures; lists of names |
 //! | `trace_writer.rt`, `trace_run.rt`, `trace_reader.rt` | commands over one trace: what is written, run, taker |
+//! | `massif_file_report.rt`, `massif_file_taker.rt` | commands over one Massif file: what is made of it; its taker and its run |
+//! | `dhat_file.rt` | commands over one DHAT profile: what is made of it, its document and its run |
 //! | `suppressions.rt`, `suppressed_trace.rt` | a suppressions file, and a trace behind it |
 //! | `read_trace.rt`, `batch.rt` | one line into tables and peaks; lines of events, many at a time |
-//! | `fault.rt`, `profile_fault.rt` | texts and statuses of the faults of lines, and of DHAT documents |
+//! | `fault.rt`, `massif_file_fault.rt`, `profile_fault.rt` | texts and statuses of the faults of traces and tables of symbols, of Massif files, of DHAT documents |
 #![tactic(auto)]
 
 mod batch;
 mod dhat_command;
+mod dhat_file;
 mod dhat_reader;
 mod dhat_view_command;
 mod fault;
@@ -55,14 +58,18 @@ mod gen_command;
 mod gen_summary;
 mod interpret_command;
 mod interpret_reader;
+mod key_words;
 mod massif_command;
+mod massif_file_fault;
+mod massif_file_report;
+mod massif_file_taker;
 mod massif_reader;
 mod massif_request;
 mod massif_words;
 mod name_list;
 mod number_words;
 mod page_command;
-mod page_reader;
+mod page_report;
 mod page_size;
 mod print_command;
 mod print_words;

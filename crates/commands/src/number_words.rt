@@ -1,6 +1,6 @@
 //! Numbers as values of options.
 ghost use Rattle.std.specs.Prelude.{◌≡◌, ◌≤◌, option_map, IfSome};
-ghost use Rattle.commands.specs.NumberWords.{number_or, number_within, percent_or};
+ghost use Rattle.commands.specs.NumberWords.{number_if_given, number_or, number_within, percent_or};
 
 use hp_num::{parse_dec, parse_percent};
 
@@ -34,6 +34,19 @@ pub fn number_or(default: u64, least: u64, most: u64, value: Option<&str>) -> Op
         Some(text) => number_within(least, most, text),
         None => Some(default),
     }
+}
+
+/// The number of an option's value, which has no default: `Some(None)` where the option isn't given.
+#[tactic(auto, unfolding(crate::specs::NumberWords::number_if_given))]
+pub fn number_if_given(least: u64, most: u64, value: Option<&str>) -> Option<Option<u64>>
+    ensures number { result ≡ number_if_given least most (option_map (λ text. text.now) value.entry) }
+    ensures most { IfSome result (λ given. IfSome given (λ number. number ≤ most)) }
+{
+    let Some(text) = value else {
+        return Some(None);
+    };
+    let number = number_within(least, most, text)?;
+    Some(Some(number))
 }
 
 /// The percentage of an option's value, in hundredths: 1 percent where the option isn't given.

@@ -7,13 +7,13 @@ ghost use Rattle.commands.specs.PageReport.{page_plan};
 ghost use Rattle.commands.specs.PageWords.{columns_or, page_asked, page_of, rows_or};
 ghost use Rattle.commands.specs.Requests.{page_asked_by};
 
+use crate::massif_file_taker::run_massif_file;
 use crate::number_words::{number_or, percent_or};
-use crate::page_reader::PageReader;
+use crate::page_report::PageReport;
 use crate::page_size::PageSize;
-use command_frame::{Desk, Halt, run_one_file};
+use command_frame::{Desk, Halt};
 use command_words::{TakenWords, WordTable, WordsFault, take_words};
 use hp_outside::{Sink, Store};
-use massif_file::ProfileReader;
 use std::alloc::Global;
 
 /// The option that says which share is shown by itself.
@@ -68,12 +68,11 @@ impl<'a> PageRequest<'a> {
             (page_plan (page_asked_by self.now))
             store.old store.new out.old out.new result }
     {
-        let mut taker = PageReader {
+        let report = PageReport {
             size: self.size,
             words: self.words,
-            reader: ProfileReader::new(desk.alloc),
         };
-        run_one_file(desk, self.file, &mut taker, store, out)
+        run_massif_file(desk, self.file, report, store, out)
     }
 }
 

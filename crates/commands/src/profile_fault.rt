@@ -1,12 +1,11 @@
-//! The faults of a DHAT profile, what they are called, and their kinds. When each comes is decided where the profile is read
-//! and where it is shown.
+//! The faults of a DHAT profile, what they are called, and their kinds. When each comes is decided where the profile is read,
+//! shown and converted.
 ghost use Rattle.std.specs.Prelude.{◌≡◌, ◌++◌, OnOk};
 ghost use Rattle.dhat_json.specs.KeyName.{key_name};
-ghost use Rattle.commands.specs.ProfileFault.{document_status, document_text, frame_text, point_text, view_status, view_text};
+ghost use Rattle.commands.specs.ProfileFault.{document_status, document_text, figures_text, frame_text, point_text};
 
 use command_frame::{Fault, FaultStatus};
 use dhat_json::{DhatFault, FigureKey, Key};
-use dhat_view::ViewFault;
 use hp_num::{NoMemory, put_bytes, put_dec};
 
 /// What is wrong with a DHAT profile.
@@ -14,8 +13,10 @@ use hp_num::{NoMemory, put_bytes, put_dec};
 pub enum ProfileFault {
     /// The document says no profile.
     Document(DhatFault),
-    /// The profile has no view by the figures of this key.
-    View(ViewFault, FigureKey),
+    /// The profile's points have no figures of this key.
+    NoFigures(FigureKey),
+    /// Figures of all points, or the time at the profile's end, are more than 2^62.
+    TooLarge,
 }
 
 impl Fault for ProfileFault {
@@ -26,14 +27,16 @@ impl Fault for ProfileFault {
     fn put_text(&self, out: &mut Vec<u8>) -> Result<(), NoMemory> {
         match self {
             ProfileFault::Document(fault) => put_document_fault(*fault, out),
-            ProfileFault::View(fault, key) => put_view_fault(*fault, *key, out),
+            ProfileFault::NoFigures(key) => put_no_figures(*key, out),
+            ProfileFault::TooLarge => put_bytes(out, b"figures too large"),
         }
     }
 
     fn status(&self) -> FaultStatus {
         match self {
             ProfileFault::Document(fault) => document_kind(*fault),
-            ProfileFault::View(fault, _) => view_kind(*fault),
+            ProfileFault::NoFigures(_) => FaultStatus::Malformed,
+            ProfileFault::TooLarge => FaultStatus::PastLimit,
         }
     }
 }
@@ -96,18 +99,12 @@ fn put_frame(frame: u64, out: &mut Vec<u8>) -> Result<(), NoMemory>
     put_bytes(out, b" out of table")
 }
 
-/// Appends why a profile has no view.
-fn put_view_fault(fault: ViewFault, key: FigureKey, out: &mut Vec<u8>) -> Result<(), NoMemory>
-    ensures { OnOk result (out.new.items ≡ out.old.items ++ view_text key fault) }
+/// Appends that a profile has no figures of this key.
+fn put_no_figures(key: FigureKey, out: &mut Vec<u8>) -> Result<(), NoMemory>
+    ensures { OnOk result (out.new.items ≡ out.old.items ++ figures_text key) }
 {
-    match fault {
-        ViewFault::NoFigures => {
-            put_bytes(out, b"no figures for ")?;
-            put_bytes(out, key.key().name().as_bytes())
-        }
-        ViewFault::TooLarge => put_bytes(out, b"figures too large"),
-        ViewFault::NoMemory => put_bytes(out, b"out of memory"),
-    }
+    put_bytes(out, b"no figures for ")?;
+    put_bytes(out, key.key().name().as_bytes())
 }
 
 /// The kind of a document's fault. Want of memory is no fault of a document, and never told as one.
@@ -122,15 +119,5 @@ fn document_kind(fault: DhatFault) -> FaultStatus
         | DhatFault::WrongKind { .. }
         | DhatFault::FrameOutOfTable { .. }
         | DhatFault::NoMemory => FaultStatus::Malformed,
-    }
-}
-
-/// The kind of a view's fault.
-fn view_kind(fault: ViewFault) -> FaultStatus
-    ensures { result ≡ view_status fault }
-{
-    match fault {
-        ViewFault::NoFigures | ViewFault::NoMemory => FaultStatus::Malformed,
-        ViewFault::TooLarge => FaultStatus::PastLimit,
     }
 }

@@ -1,14 +1,15 @@
 //! What the words of `dhat_view` say of a view. Which profile is shown so, and how, is no part of it.
 ghost use Rattle.std.specs.Prelude.{codes, option_map, ◌≡◌};
 ghost use Rattle.command_words.specs.WordsTaken.{only_file_in, rows_in, value_in};
+ghost use Rattle.commands.specs.KeyWords.{key_or};
 ghost use Rattle.commands.specs.NumberWords.{percent_or};
 ghost use Rattle.commands.specs.Requests.{view_asked_by};
-ghost use Rattle.commands.specs.ViewWords.{depth_or, key_named, key_or, view_of};
+ghost use Rattle.commands.specs.ViewWords.{depth_or, view_of};
 
 use crate::dhat_view_command::DhatViewRequest;
+use crate::key_words::key_or;
 use crate::number_words::{number_or, percent_or};
 use command_words::{TakenWords, WordTable};
-use dhat_json::FigureKey;
 use dhat_view::ViewOptions;
 
 /// The option that names the figure.
@@ -32,7 +33,7 @@ pub fn request_in<'a>(words: &TakenWords<'a>) -> Option<DhatViewRequest<'a>>
     ensures { option_map view_asked_by result ≡ view_of (only_file_in (rows_in words.now)) (key_or (value_in (rows_in words.now) (codes "sort"))) (percent_or (value_in (rows_in words.now) (codes "threshold"))) (depth_or (value_in (rows_in words.now) (codes "depth"))) }
 {
     let profile = words.only_file()?;
-    let key = key_in(words)?;
+    let key = key_or(words.value(SORT))?;
     let threshold = percent_or(words.value(THRESHOLD))?;
     let depth = depth_in(words)?;
     let options = ViewOptions {
@@ -41,35 +42,6 @@ pub fn request_in<'a>(words: &TakenWords<'a>) -> Option<DhatViewRequest<'a>>
         depth,
     };
     Some(DhatViewRequest { profile, options })
-}
-
-/// The figure that is a point's cost: bytes of all blocks where the words name none.
-fn key_in(words: &TakenWords) -> Option<FigureKey>
-    ensures { result ≡ key_or (value_in (rows_in words.now) (codes "sort")) }
-{
-    let Some(name) = words.value(SORT) else {
-        return Some(FigureKey::Tb);
-    };
-    key_named(name)
-}
-
-/// The figure of a name.
-#[tactic(auto, unfolding(crate::specs::ViewWords::key_named))]
-fn key_named(name: &str) -> Option<FigureKey>
-    ensures { result ≡ key_named name.now }
-{
-    match name {
-        "tb" => Some(FigureKey::Tb),
-        "tbk" => Some(FigureKey::Tbk),
-        "tl" => Some(FigureKey::Tl),
-        "gb" => Some(FigureKey::Gb),
-        "gbk" => Some(FigureKey::Gbk),
-        "eb" => Some(FigureKey::Eb),
-        "ebk" => Some(FigureKey::Ebk),
-        "rb" => Some(FigureKey::Rb),
-        "wb" => Some(FigureKey::Wb),
-        _ => None,
-    }
 }
 
 /// The most frames below each other: 30 where the words give no number.

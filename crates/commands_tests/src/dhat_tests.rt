@@ -29,8 +29,7 @@ $ dhat t
 heapsuite: t:3: free of nothing
 [1]
 $ dhat --sort=tb e
-usage: heapsuite COMMAND [OPTION]... [FILE]
-commands: summary print flame interpret massif ms_print dhat gen dhat_view
+(usage)
 [2]
 ";
 

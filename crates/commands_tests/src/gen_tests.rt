@@ -1,6 +1,6 @@
-//! `gen`: the worked trace of no events, the summary of one of four, and a write that fails.
+//! `gen`: the worked trace of no events, that of four, and its summary.
 
-use crate::transcript::{Setting, append_run, expect, sound};
+use crate::transcript::{expect, sound};
 use std::test::Fail;
 
 const GENERATED: &str = "$ gen --events=0 --stacks=1
@@ -38,17 +38,4 @@ leaked: 3326 in 2 blocks
 #[test]
 fn generates(rt: HostRuntime) -> Result<(), Fail> {
     expect(&rt, rt.alloc(), &sound(""), GENERATED)
-}
-
-#[test]
-fn failed_write(rt: HostRuntime) -> Result<(), Fail> {
-    let alloc = rt.alloc();
-    let setting = Setting {
-        failing_out_call: 1,
-        ..sound("")
-    };
-    let mut all = Vec::new(alloc);
-    append_run(alloc, &setting, b"", "gen --events=4 --stacks=1", &mut all)?;
-    assert_eq!(rt; all.as_slice(), "heapsuite: write failed\n[4]\n".as_bytes());
-    Ok(())
 }

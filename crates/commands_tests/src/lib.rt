@@ -5,6 +5,8 @@
 #[cfg(test)]
 mod dhat_tests;
 #[cfg(test)]
+mod failing_calls;
+#[cfg(test)]
 mod failure_tests;
 #[cfg(test)]
 mod flame_tests;

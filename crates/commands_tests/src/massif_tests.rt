@@ -1,6 +1,6 @@
 //! `massif` over the worked trace and over one that offers peaks, by lists of functions, and its refusals.
 
-use crate::transcript::{Setting, WORKED, append_run, expect, sound};
+use crate::transcript::{expect, sound};
 use std::test::Fail;
 
 const PROFILES: &str = "$ massif e
@@ -390,29 +390,4 @@ heapsuite: absent: no such file
 #[test]
 fn refusals(rt: HostRuntime) -> Result<(), Fail> {
     expect(&rt, rt.alloc(), &sound(""), REFUSALS)
-}
-
-// The three calls open the file, read all of it, and find its end.
-const FAILED: &str = "heapsuite: t: cannot open
-[3]
-heapsuite: t: cannot read
-[3]
-heapsuite: t: cannot read
-[3]
-";
-
-#[test]
-fn failing_calls(rt: HostRuntime) -> Result<(), Fail> {
-    let alloc = rt.alloc();
-    let mut all = Vec::new(alloc);
-    for failing_store_call in 1..4 {
-        let setting = Setting {
-            piece: 1000,
-            failing_store_call,
-            ..sound("")
-        };
-        append_run(alloc, &setting, WORKED.as_bytes(), "massif t", &mut all)?;
-    }
-    assert_eq!(rt; all.as_slice(), FAILED.as_bytes());
-    Ok(())
 }

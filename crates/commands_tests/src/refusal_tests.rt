@@ -1,6 +1,6 @@
 //! Refusals: of words, of a line of a trace or behind one, of lengths, and of a stack too deep.
 
-use crate::transcript::{Setting, USAGE, WORKED, append_run, expect, sound};
+use crate::transcript::{Setting, WORKED, append_run, expect, sound};
 use hp_num::{put_bytes, put_hex};
 use std::test::Fail;
 
@@ -69,8 +69,7 @@ fn words_that_are_not_taken(rt: HostRuntime) -> Result<(), Fail> {
     let mut wanted = Vec::new(alloc);
     for words in WORDS.split('\n') {
         append_run(alloc, &sound(""), b"v 10500 2\n", words, &mut all)?;
-        put_bytes(&mut wanted, USAGE.as_bytes())?;
-        put_bytes(&mut wanted, b"[2]\n")?;
+        put_bytes(&mut wanted, b"(usage)\n[2]\n")?;
     }
     assert_eq!(rt; all.as_slice(), wanted.as_slice());
     Ok(())

@@ -75,8 +75,7 @@ fn figures_of_traces(rt: HostRuntime) -> Result<(), Fail> {
 }
 
 const WORDS: &str = "$ --help
-usage: heapsuite COMMAND [OPTION]... [FILE]
-commands: summary print flame interpret massif ms_print dhat gen dhat_view
+(usage)
 [0]
 $ summary -- t
 events: 4

@@ -17,8 +17,65 @@ pub const TWO_SIZES: &str = "v 10500 2\na 64 0\na 20 0\n+ 0\n+ 1\n- 0\n+ 0\n";
 pub const WORKED: &str =
     "v 10500 2\nX demo\nI 1000 3e80\ns app\ns main\ns f\ns a.c\ni 400 1 2 4 14\ni 500 1 3 4 a\nt 1 0\nt 2 1\na 64 2\na 64 1\n+ 0\nc 5\nR 100\n- 0\n+ 1\n";
 
-/// How the program is called.
-pub const USAGE: &str =
+/// Its Massif file.
+pub const MASSIF: &str = "desc: heapsuite massif
+cmd: demo
+time_unit: B
+#-----------
+snapshot=0
+#-----------
+time=0
+mem_heap_B=0
+mem_heap_extra_B=0
+mem_stacks_B=0
+heap_tree=empty
+#-----------
+snapshot=1
+#-----------
+time=120
+mem_heap_B=100
+mem_heap_extra_B=20
+mem_stacks_B=0
+heap_tree=empty
+#-----------
+snapshot=2
+#-----------
+time=120
+mem_heap_B=100
+mem_heap_extra_B=20
+mem_stacks_B=0
+heap_tree=peak
+n1: 100 (heap allocation functions) malloc/new/new[], --alloc-fns, etc.
+ n1: 100 0x500: f (a.c:10)
+  n0: 100 0x400: main (a.c:20)
+#-----------
+snapshot=3
+#-----------
+time=240
+mem_heap_B=0
+mem_heap_extra_B=0
+mem_stacks_B=0
+heap_tree=empty
+#-----------
+snapshot=4
+#-----------
+time=360
+mem_heap_B=100
+mem_heap_extra_B=20
+mem_stacks_B=0
+heap_tree=empty
+";
+
+/// Its DHAT profile.
+pub const DEMO: &str =
+    "{\"Mtu\":\"Mevents\",\"bkacc\":false,\"bklt\":true,\"cmd\":\"demo\",\"dhatFileVersion\":2,\"ftbl\":[\"[root]\",\"0x400: main (a.c:20)\",\"0x500: f (a.c:10)\"],\"mode\":\"heap\",\"pid\":0,\"pps\":[{\"eb\":100,\"ebk\":1,\"fs\":[1],\"gb\":0,\"gbk\":0,\"mb\":100,\"mbk\":1,\"tb\":100,\"tbk\":1,\"tl\":0},{\"eb\":0,\"ebk\":0,\"fs\":[2,1],\"gb\":100,\"gbk\":1,\"mb\":100,\"mbk\":1,\"tb\":100,\"tbk\":1,\"tl\":1}],\"te\":3,\"tg\":1,\"tu\":\"events\",\"tuth\":500,\"verb\":\"Allocated\"}\n";
+
+/// A raw trace, whose symbols the folder has.
+pub const RAW: &str =
+    "v 10500 2\nx app\nm app 1000 0 1000\nt 1400 0\nt 1500 1\n+ 40 2 9000\n+ 40 2 9000\n- 9000\n- 9000\n";
+
+/// How the program is called. Transcripts show it as `(usage)`.
+const USAGE: &str =
     "usage: heapsuite COMMAND [OPTION]... [FILE]\ncommands: summary print flame interpret massif ms_print dhat gen dhat_view\n";
 
 /// How runs are made, and the front of the file `t` that they find. A call of number 0 never fails.
@@ -61,14 +118,18 @@ fn words_of(alloc: Global, text: &str) -> Result<Vec<String>, NoMemory> {
     Ok(list)
 }
 
-/// The folder that runs find: the file `t`, a worked trace `e`, suppressions `q`, and symbols `s`.
+/// The folder that runs find: the file `t`, a worked trace `e` with its Massif file `m` and its DHAT profile `d`,
+/// suppressions `q`, and a raw trace `r` with its symbols `s`.
 fn folder(alloc: Global, setting: &Setting, file: &[u8]) -> Result<MemStore, NoMemory>
     ensures unopened { IfOk result (λ store. store.store.opens ≡ 0) }
 {
     let mut store = MemStore::new(alloc, setting.piece.max(1));
     store.add("t", file)?;
     store.add("e", WORKED.as_bytes())?;
+    store.add("m", MASSIF.as_bytes())?;
+    store.add("d", DEMO.as_bytes())?;
     store.add("q", b"# a comment\nf (\n")?;
+    store.add("r", RAW.as_bytes())?;
     store.add("s", b"app\t400\t100\tmain\ta.c\t20\napp\t500\t10\tf\n")?;
     store.fail_at(setting.failing_store_call)?;
     Ok(store)
@@ -121,16 +182,46 @@ fn status_of(
     )
 }
 
-/// Appends what both outputs got and the status in brackets.
-fn put_answer(outputs: &Outputs, status: u8, all: &mut Vec<u8>) -> Result<(), NoMemory> {
-    put_bytes(all, outputs.out.bytes())?;
-    put_bytes(all, outputs.err.bytes())?;
-    put_bytes(all, b"[")?;
-    put_dec(all, u64::from(status))?;
-    put_bytes(all, b"]\n")
+/// Appends what an output got.
+fn put_got(got: &[u8], all: &mut Vec<u8>) -> Result<(), NoMemory> {
+    if got == USAGE.as_bytes() {
+        return put_bytes(all, b"(usage)\n");
+    }
+    put_bytes(all, got)
 }
 
-/// Runs the words, which stand between blanks, and appends what both outputs got and the status in brackets.
+/// What a run came to: its status, and what both outputs got.
+#[derive(Drop)]
+pub struct Ran {
+    pub status: u8,
+    pub out: Vec<u8>,
+    pub err: Vec<u8>,
+}
+
+/// What a run with this status came to.
+fn gathered(alloc: Global, status: u8, outputs: &Outputs) -> Result<Ran, NoMemory> {
+    let mut out = Vec::new(alloc);
+    put_bytes(&mut out, outputs.out.bytes())?;
+    let mut err = Vec::new(alloc);
+    put_bytes(&mut err, outputs.err.bytes())?;
+    Ok(Ran { status, out, err })
+}
+
+/// Runs the words, which stand between blanks, where `t` has these bytes.
+pub fn run_once(
+    alloc: Global,
+    setting: &Setting,
+    file: &[u8],
+    words: &str,
+) -> Result<Ran, NoMemory> {
+    let words = words_of(alloc, words)?;
+    let mut store = folder(alloc, setting, file)?;
+    let mut outputs = empty_outputs(alloc, setting)?;
+    let status = status_of(alloc, setting, &words, &mut store, &mut outputs);
+    gathered(alloc, status, &outputs)
+}
+
+/// Runs the words and appends what both outputs got and the status in brackets.
 pub fn append_run(
     alloc: Global,
     setting: &Setting,
@@ -138,11 +229,12 @@ pub fn append_run(
     words: &str,
     all: &mut Vec<u8>,
 ) -> Result<(), NoMemory> {
-    let words = words_of(alloc, words)?;
-    let mut store = folder(alloc, setting, file)?;
-    let mut outputs = empty_outputs(alloc, setting)?;
-    let status = status_of(alloc, setting, &words, &mut store, &mut outputs);
-    put_answer(&outputs, status, all)
+    let run = run_once(alloc, setting, file, words)?;
+    put_got(&run.out, all)?;
+    put_got(&run.err, all)?;
+    put_bytes(all, b"[")?;
+    put_dec(all, u64::from(run.status))?;
+    put_bytes(all, b"]\n")
 }
 
 /// Plays the lines of a transcript and gives what then stands there. A line behind `> ` is one more of `t`, up to the next

@@ -1,11 +1,7 @@
 //! `dhat_view` over worked profiles, its words, and the faults of a document.
 
-use crate::transcript::{expect, sound};
+use crate::transcript::{DEMO, expect, sound};
 use std::test::Fail;
-
-/// The profile of the worked trace.
-const DEMO: &str =
-    "{\"Mtu\":\"Mevents\",\"bkacc\":false,\"bklt\":true,\"cmd\":\"demo\",\"dhatFileVersion\":2,\"ftbl\":[\"[root]\",\"0x400: main (a.c:20)\",\"0x500: f (a.c:10)\"],\"mode\":\"heap\",\"pid\":0,\"pps\":[{\"eb\":100,\"ebk\":1,\"fs\":[1],\"gb\":0,\"gbk\":0,\"mb\":100,\"mbk\":1,\"tb\":100,\"tbk\":1,\"tl\":0},{\"eb\":0,\"ebk\":0,\"fs\":[2,1],\"gb\":100,\"gbk\":1,\"mb\":100,\"mbk\":1,\"tb\":100,\"tbk\":1,\"tl\":1}],\"te\":3,\"tg\":1,\"tu\":\"events\",\"tuth\":500,\"verb\":\"Allocated\"}\n";
 
 const VIEWS: &str = "$ dhat_view t
 command: demo

@@ -7,11 +7,14 @@
 //! | `worker_tests` | that the workers take the turns, beside each other, in numbered holds |
 //! | `run_tests` | runs whose text is the same whatever the threads do |
 //! | `thread_run_tests` | runs of two scripts by threads |
+//! | `failing_calls` | each call of a run that can fail, failed once |
 //! | `gates`, `runs`, `script_text` | what they share |
 #![tactic(auto)]
 
 #[cfg(test)]
 mod book_tests;
+#[cfg(test)]
+mod failing_calls;
 #[cfg(test)]
 mod gates;
 #[cfg(test)]

@@ -25,11 +25,33 @@ fn listed(alloc: Global, words: &str) -> Result<Vec<String>, Fail> {
     Ok(list)
 }
 
+/// How runs are made: how many events all scripts may have, and which calls fail. A call of number 0 never fails.
+#[derive(Clone, Copy)]
+pub struct Setting {
+    pub most_events: u16,
+    pub piece: usize,
+    pub failing_store_call: u64,
+    pub failing_out_call: u64,
+    pub failing_err_call: u64,
+}
+
+/// All calls are sound.
+pub const fn sound(most_events: u16) -> Setting {
+    Setting {
+        most_events,
+        piece: 16,
+        failing_store_call: 0,
+        failing_out_call: 0,
+        failing_err_call: 0,
+    }
+}
+
 /// A folder with the script `s`, the scripts `s0` and `s1`, and the modules file `m`.
-fn folder(alloc: Global, script: &[u8]) -> Result<MemStore, Fail>
+fn folder(alloc: Global, setting: &Setting, script: &[u8]) -> Result<MemStore, Fail>
     ensures unopened { IfOk result (λ store. store.store.opens ≡ 0) }
 {
-    let mut store = MemStore::new(alloc, 16);
+    let mut store = MemStore::new(alloc, setting.piece.max(1));
+    store.fail_at(setting.failing_store_call)?;
     store.add("s", script)?;
     store.add("s0", b"a 1 40 500 400\nf 1\n")?;
     store.add("s1", b"a 1 8 400\n")?;
@@ -58,6 +80,13 @@ fn status_of<R: Threads + Wait + Sync, G: Gate + Sync>(
     heaprec_run(rt, alloc, words, &limits, store, out, err, gate)
 }
 
+/// An output of whose calls one is to fail.
+fn sink(alloc: Global, failing_call: u64) -> Result<MemSink, NoMemory> {
+    let mut sink = MemSink::new(alloc, 10_000)?;
+    sink.fail_at(failing_call)?;
+    Ok(sink)
+}
+
 /// Appends what both outputs got and the status in brackets.
 fn put_run(out: &MemSink, err: &MemSink, status: u8, all: &mut Vec<u8>) -> Result<(), NoMemory> {
     put_bytes(all, out.bytes())?;
@@ -68,25 +97,25 @@ fn put_run(out: &MemSink, err: &MemSink, status: u8, all: &mut Vec<u8>) -> Resul
 }
 
 /// Runs the words and appends what both outputs got and the status in brackets. The folder has the script `s`, the scripts `s0` and
-/// `s1`, and the modules file `m`; all scripts may have so many events.
+/// `s1`, and the modules file `m`.
 pub fn append_run<R: Threads + Wait + Sync, G: Gate + Sync>(
     rt: &R,
     alloc: Global,
+    setting: &Setting,
     script: &[u8],
-    most_events: u16,
     words: &str,
     gate: &G,
     all: &mut Vec<u8>,
 ) -> Result<(), Fail> {
     let list = listed(alloc, words)?;
-    let mut store = folder(alloc, script)?;
-    let mut out = MemSink::new(alloc, 10_000)?;
-    let mut err = MemSink::new(alloc, 1000)?;
+    let mut store = folder(alloc, setting, script)?;
+    let mut out = sink(alloc, setting.failing_out_call)?;
+    let mut err = sink(alloc, setting.failing_err_call)?;
     let status = status_of(
         rt,
         alloc,
         &list,
-        most_events,
+        setting.most_events,
         &mut store,
         &mut out,
         &mut err,

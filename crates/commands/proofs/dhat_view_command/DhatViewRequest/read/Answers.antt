@@ -1,9 +1,10 @@
 use Rattle.std.proofs.Common.{◌∙◌, codes, ap, sym}
 use Rattle.std.specs.Option.{option_and_then, option_map}
 use Rattle.command_words.specs.WordsTaken.{only_file_in, value_in}
+use Rattle.commands.specs.KeyWords.{key_or}
 use Rattle.commands.specs.NumberWords.{percent_or}
 use Rattle.commands.specs.Requests.{view_asked_by}
-use Rattle.commands.specs.ViewWords.{depth_or, key_or, view_of}
+use Rattle.commands.specs.ViewWords.{depth_or, view_of}
 use Rattle.commands.proofs.dhat_view_command.DhatViewRequest.read.Goals as goal
 
 pub returns-in-Some-clause-taken : goal.returns-in-Some-clause-taken

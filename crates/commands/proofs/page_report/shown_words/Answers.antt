@@ -3,7 +3,7 @@ use Rattle.std.proofs.Math.ListN.{get_or-map, length-map}
 use Rattle.std.specs.Prelude.{string_bytes}
 use Rattle.commands.specs.PageWords.{before_word}
 use Rattle.commands.proofs.WordLemmas.{joined-next}
-use Rattle.commands.proofs.page_reader.shown_words.Goals as goal
+use Rattle.commands.proofs.page_report.shown_words.Goals as goal
 
 pub each_word-preserved : goal.each_word-preserved
 each_word-preserved c =

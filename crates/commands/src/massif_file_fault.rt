@@ -1,0 +1,47 @@
+//! The faults of a Massif file, what they are called, and their kinds. When each comes is decided where the file is read.
+ghost use Rattle.std.specs.Prelude.{◌≡◌};
+ghost use Rattle.commands.specs.MassifFileFault.{file_text};
+
+use command_frame::{Fault, FaultStatus};
+use hp_num::{NoMemory, put_bytes};
+use massif_file::ProfileFault;
+
+/// What is wrong with a Massif file.
+#[derive(Clone, Copy, Debug, PartialEq, Eq)]
+pub enum MassifFileFault {
+    /// A line can't follow the lines before it, or the file can't end there.
+    File(ProfileFault),
+}
+
+impl Fault for MassifFileFault {
+    ghost use Rattle.commands.specs.MassifFileFault.{told as told_of};
+
+    ghost told = { told_of };
+
+    fn put_text(&self, out: &mut Vec<u8>) -> Result<(), NoMemory> {
+        match self {
+            MassifFileFault::File(fault) => put_bytes(out, file_text(*fault).as_bytes()),
+        }
+    }
+
+    fn status(&self) -> FaultStatus {
+        match self {
+            MassifFileFault::File(_) => FaultStatus::Malformed,
+        }
+    }
+}
+
+/// What the fault of a Massif file is called. Want of memory is none, and never told as one.
+fn file_text(fault: ProfileFault) -> &'static str
+    ensures { result.now ≡ file_text fault }
+{
+    match fault {
+        ProfileFault::BadHeader => "bad header",
+        ProfileFault::BadSnapshot => "bad snapshot",
+        ProfileFault::BadNumber => "bad number",
+        ProfileFault::WrongOrder => "wrong order",
+        ProfileFault::BadTree => "bad tree",
+        ProfileFault::Truncated => "truncated",
+        ProfileFault::NoMemory => "out of memory",
+    }
+}

@@ -1,0 +1,169 @@
+//! Every call of a run that can fail, failed once: each call on the store, on standard output and on standard error.
+
+use crate::gates::Open;
+use crate::runs::{Setting, append_run, sound};
+use hp_num::{put_bytes, put_dec};
+use std::alloc::Global;
+use std::process::Abort;
+use std::sync::Wait;
+use std::test::Fail;
+use std::thread::Threads;
+
+/// On what a call fails.
+#[derive(Clone, Copy)]
+enum Place {
+    Store,
+    Out,
+    Err,
+}
+
+/// The call of this number at this place fails. Each file is read in one piece.
+fn failing_at(place: Place, call: u64) -> Setting {
+    let all_sound = Setting {
+        piece: 1000,
+        ..sound(100)
+    };
+    match place {
+        Place::Store => Setting {
+            failing_store_call: call,
+            ..all_sound
+        },
+        Place::Out => Setting {
+            failing_out_call: call,
+            ..all_sound
+        },
+        Place::Err => Setting {
+            failing_err_call: call,
+            ..all_sound
+        },
+    }
+}
+
+/// Appends what a run comes to where this call fails.
+fn append_failing_run<R: Threads + Wait + Sync>(
+    rt: &R,
+    alloc: Global,
+    words: &str,
+    place: Place,
+    call: u64,
+    all: &mut Vec<u8>,
+) -> Result<(), Fail> {
+    let setting = failing_at(place, call);
+    let script = b"a 1 40 500 400\nf 1\na 2 8 400\n";
+    append_run(rt, alloc, &setting, script, words, &Open, all)
+}
+
+/// Fails one call after another at this place, up to the first run that comes to what the sound one comes to, and appends
+/// what each comes to.
+fn put_failures<R: Threads + Wait + Sync>(
+    rt: &R,
+    alloc: Global,
+    words: &str,
+    place: Place,
+    name: &str,
+    all: &mut Vec<u8>,
+) -> Result<(), Fail> {
+    let mut whole = Vec::new(alloc);
+    append_failing_run(rt, alloc, words, place, 0, &mut whole)?;
+    for call in 1..100 {
+        let mut run = Vec::new(alloc);
+        append_failing_run(rt, alloc, words, place, call, &mut run)?;
+        if run.as_slice() == whole.as_slice() {
+            break;
+        }
+        put_bytes(all, name.as_bytes())?;
+        put_bytes(all, b" ")?;
+        put_dec(all, call)?;
+        put_bytes(all, b"\n")?;
+        put_bytes(all, &run)?;
+    }
+    Ok(())
+}
+
+/// Plays the rows of a table: behind `$ ` stand the words of a run, and below them what each failing call comes to.
+fn played<R: Threads + Wait + Sync>(rt: &R, alloc: Global, table: &str) -> Result<Vec<u8>, Fail> {
+    let mut all = Vec::new(alloc);
+    for line in table.split('\n') {
+        if let Some(words) = line.strip_prefix("$ ") {
+            put_bytes(&mut all, line.as_bytes())?;
+            put_bytes(&mut all, b"\n")?;
+            put_failures(rt, alloc, words, Place::Store, "store", &mut all)?;
+            put_failures(rt, alloc, words, Place::Out, "out", &mut all)?;
+            put_failures(rt, alloc, words, Place::Err, "err", &mut all)?;
+        }
+    }
+    Ok(all)
+}
+
+/// Plays a table and asserts that it is what came.
+fn expect<R: Threads + Wait + Sync + Abort>(
+    rt: &R,
+    alloc: Global,
+    table: &str,
+) -> Result<(), Fail> {
+    let all = played(rt, alloc, table)?;
+    assert_eq!(rt; all.as_slice(), table.as_bytes());
+    Ok(())
+}
+
+const RECORDING: &str = "$ --modules=m s
+store 1
+heaprec: m: cannot open
+[3]
+store 2
+heaprec: m: cannot read
+[3]
+store 3
+heaprec: m: cannot read
+[3]
+store 4
+heaprec: s: cannot open
+[3]
+store 5
+heaprec: s: cannot read
+[3]
+store 6
+heaprec: s: cannot read
+[3]
+out 1
+heaprec: write failed
+[4]
+out 2
+v 10500 2
+X heaprec
+m app 1000 0 1f00
+m -
+# thread 0
+t 400 0
+t 500 1
++ 40 2 10000
+- 10000
++ 8 1 10040
+[4]
+err 1
+v 10500 2
+X heaprec
+m app 1000 0 1f00
+m -
+# thread 0
+t 400 0
+t 500 1
++ 40 2 10000
+- 10000
++ 8 1 10040
+[4]
+$ --summary
+out 1
+usage: heaprec [--modules=FILE] [--summary] SCRIPT...
+[4]
+err 1
+[4]
+err 2
+usage: heaprec [--modules=FILE] [--summary] SCRIPT...
+[4]
+";
+
+#[test]
+fn failing_calls(rt: HostRuntime) -> Result<(), Fail> {
+    expect(&rt, rt.alloc(), RECORDING)
+}
