@@ -9,6 +9,7 @@ pub mod LifeLemmas
 pub mod WordLemmas
 pub mod NameLemmas
 pub mod MassifLemmas
+mod MassifFileLemmas
 pub mod SampleLemmas
 pub mod RunsLemmas
 pub mod HasRunLemmas

@@ -9,7 +9,7 @@ use crate::massif_file_fault::MassifFileFault;
 use crate::massif_file_report::MassifFileReport;
 use command_frame::{Desk, Halt, LineRefusal, LineReport, LineTaker, run_one_file};
 use hp_outside::{Sink, Store};
-use massif_file::{ProfileFault, ProfileReader};
+use massif_file::{ProfileFault, ProfileReader, massif_profiles};
 use std::alloc::Global;
 
 /// What was read of a Massif file, and what makes the output of its profile.
@@ -35,6 +35,7 @@ impl<R: MassifFileReport> LineTaker for MassifFileTaker<R> {
         line: &[u8],
         _output: &mut Vec<u8>,
     ) -> Result<(), LineRefusal<MassifFileFault>> {
+        massif_profiles();
         match self.reader.line(line) {
             Ok(()) => Ok(()),
             Err(ProfileFault::NoMemory) => Err(LineRefusal::NoMemory),

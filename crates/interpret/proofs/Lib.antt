@@ -21,3 +21,6 @@ mod OneLineLemmas
 mod GoodLemmas
 mod FreeLemmas
 mod NoFaultLemmas
+mod EventLemmas
+mod PlainLemmas
+pub mod Laws

@@ -118,16 +118,18 @@ pub some-is : {X : Type 0} (x y : X) → Some x ≡ Some y → x ≡ y
 some-is x y is = cc
 
 -- the block of an allocation behind the lines
-abbrev new_block : List Content → ℕ → ℕ → RawBlock
+abbrev pub new_block : List Content → ℕ → ℕ → RawBlock
 new_block said size trace = record { place = length said; info = record { size = size; trace = trace } }
 
-held-alloc : (said : List Content) (size trace named ptr : ℕ) → held (said ++ raw_allocation_line size trace named ∷ []) ptr ≡ cond {A = Option RawBlock} (named == ptr) (Some (new_block said size trace)) (held said ptr)
+-- what a pointer stands for behind an allocation, and behind a free
+pub held-alloc : (said : List Content) (size trace named ptr : ℕ)
+    → held (said ++ raw_allocation_line size trace named ∷ []) ptr ≡ cond {A = Option RawBlock} (named == ptr) (Some (new_block said size trace)) (held said ptr)
 unfolding held
 held-alloc said size trace named ptr =
     held-push said (raw_allocation_line size trace named) ptr
     ∙ ap (λ (n : ℕ). cond {A = Option RawBlock} (named == ptr) (Some (record { place = n; info = record { size = size; trace = trace } })) (held said ptr)) (length-reverse said)
 
-held-free : (said : List Content) (named ptr : ℕ) → held (said ++ raw_free_line named ∷ []) ptr ≡ cond {A = Option RawBlock} (named == ptr) None (held said ptr)
+pub held-free : (said : List Content) (named ptr : ℕ) → held (said ++ raw_free_line named ∷ []) ptr ≡ cond {A = Option RawBlock} (named == ptr) None (held said ptr)
 unfolding held
 held-free said named ptr = held-push said (raw_free_line named) ptr
 

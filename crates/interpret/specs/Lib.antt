@@ -12,6 +12,7 @@ pub mod FrameKept
 pub mod AddsNames
 pub mod RawTables
 pub mod RawBlocks
+pub mod Eventless
 pub mod Interpreted
 pub mod RawFault
 pub mod InterpretedSaid

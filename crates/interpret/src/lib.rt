@@ -40,7 +40,7 @@
 //! | `resolved.rt`, `symbol_frame.rt` | what stands at an address |
 //! | `symbols.rt`, `symbol_line.rt`, `start_index.rt` | a table's symbols; one line of it; their places |
 //! | `fault.rt` | why a line of a table of symbols is refused |
-//! | `laws.rt` | what the interpretation is when it is read again |
+//! | `read_again.rt` | what the interpretation is when it is read again |
 #![tactic(auto)]
 
 mod allocation_lines;
@@ -49,11 +49,11 @@ mod infos;
 mod instruction_lines;
 mod interpreter;
 mod known_ips;
-mod laws;
 mod modules;
 mod name_table;
 mod node_lines;
 mod pointers;
+mod read_again;
 mod resolved;
 mod start_index;
 mod symbol_frame;
@@ -62,5 +62,5 @@ mod symbols;
 
 pub use fault::SymbolFault;
 pub use interpreter::Interpreter;
-pub use laws::interpreted_traces;
+pub use read_again::interpreted_traces;
 pub use symbols::Symbols;

@@ -1,11 +1,13 @@
 //! The laws of Massif files, over whole lists of lines, for callers whose contracts speak of lists that they do
 //! not read themselves.
-ghost use Rattle.std.specs.Prelude.{◌≡◌, ◌⊎◌, ◌↔◌, ℕ, List, [], ◌∷◌, Ok, Err, All};
+ghost use Rattle.std.specs.Prelude.{◌≡◌, ◌⊎◌, ◌↔◌, ◌+◌, ℕ, List, [], ◌∷◌, length, Ok, Err, All};
 ghost use Rattle.massif_file.specs.declared.fault.ProfileFault.{ProfileFault};
 ghost use Rattle.massif_file.specs.declared.profile.Profile.{Profile};
 ghost use Rattle.massif_file.specs.IsProfile.{is_profile};
 ghost use Rattle.massif_file.specs.ProfileFault.{profile_fault};
-ghost use Rattle.massif_file.specs.ProfileOf.{profile_of};
+ghost use Rattle.massif_file.specs.ProfileOf.{at_line, profile_of};
+ghost use Rattle.massif_file.specs.Progress.{Progress, end_of};
+ghost use Rattle.massif_file.specs.StandsFor.{StandsFor};
 ghost use Rattle.massif_file.specs.IsWritable.{IsLine, IsWritable};
 ghost use Rattle.massif_file.specs.MassifText.{massif_lines, tree_lines};
 ghost use Rattle.massif_file.specs.TreeTexts.{tree_texts};
@@ -29,6 +31,10 @@ pub fn massif_profiles()
     ensures one_profile { (lines : List (List ℕ)) (p q : Profile) → is_profile lines p → is_profile lines q → p ≡ q }
     ensures not_both { (lines : List (List ℕ)) (profile : Profile) (number : ℕ) (fault : ProfileFault) →
         is_profile lines profile → profile_fault lines number fault → ⊥ }
+
+    // Lines that a reader took have no fault before their end.
+    ensures stands { (reader : Progress) (lines : List (List ℕ)) → StandsFor reader lines →
+        profile_of lines ≡ at_line (length lines + 1) (end_of reader) }
 {}
 
 /// What is written is read again, and what is read may be written. It does nothing.

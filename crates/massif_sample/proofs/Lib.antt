@@ -7,6 +7,7 @@ pub mod Making
 pub mod Costs
 pub mod Trees
 pub mod GrossSizes
+mod Rounding
 pub mod Standing
 pub mod Judging
 pub mod Agreeing

@@ -1,6 +1,7 @@
 pub mod Options
 pub mod FunctionNames
 pub mod Gross
+pub mod LeastMultiple
 pub mod Counted
 pub mod HeapTotals
 pub mod Times

@@ -1,9 +1,11 @@
-//! A law of what a sampler stands for, for the crates above, whose tables grow while the sampler is kept.
-ghost use Rattle.std.specs.Prelude.{Bool, List};
+//! Laws for the crates above: of what a sampler stands for, whose tables grow while it is kept, and of the sizes that it counts.
+ghost use Rattle.std.specs.Prelude.{◌≤◌, ℕ, Bool, List};
 ghost use Rattle.ht_trace.specs.Continues.{Continues};
 ghost use Rattle.ht_trace.specs.TableState.{TableState};
 ghost use Rattle.live_ledger.specs.declared.event.Event.{Event};
 ghost use Rattle.massif_sample.specs.FunctionNames.{FunctionNames};
+ghost use Rattle.massif_sample.specs.Gross.{rounded_up};
+ghost use Rattle.massif_sample.specs.LeastMultiple.{IsLeastMultiple};
 ghost use Rattle.massif_sample.specs.SamplesState.{SamplesState};
 ghost use Rattle.massif_sample.specs.StandsFor.{StandsFor};
 
@@ -12,4 +14,9 @@ ghost use Rattle.massif_sample.specs.StandsFor.{StandsFor};
 pub fn sampling_goes_on()
     ensures { (flags : List Bool) (samples : SamplesState) (names : FunctionNames) (before after : TableState) (events : List Event) →
         StandsFor flags samples names before events → Continues before after → StandsFor flags samples names after events }
+{}
+
+/// A size rounded up is the least multiple of the alignment that is no less than it. It does nothing.
+pub fn rounded_sizes()
+    ensures { (alignment size : ℕ) → 1 ≤ alignment → IsLeastMultiple alignment size (rounded_up alignment size) }
 {}

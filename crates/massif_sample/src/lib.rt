@@ -14,7 +14,8 @@
 //!   ledger's, and that the gross bytes or the time of a counted event pass 2^62 (`sample_fault`), and leave sampler
 //!   and ledger as they were.
 //! - The law `sampling_goes_on` says that a sampler stands for the same events when its tables have grown, so that a
-//!   caller may read a trace line by line beside it.
+//!   caller may read a trace line by line beside it, and the law `rounded_sizes` that a size that is rounded up is the
+//!   least multiple of the alignment that is no less than it.
 //!
 //! An event marks its stack. Where a detailed snapshot or a peak is due, the texts of the stacks are made that came
 //! since the last such one, and a `CostHistory` notes what the marked stacks cost. No tree is built while events pass:
@@ -29,7 +30,7 @@
 //! | `samples.rt`, `load.rt` | the snapshots that are kept and what their stacks cost; what each shows beside its time and its total |
 //! | `profile.rt`, `place_tree.rt` | the profile that the kept snapshots make; the tree of one of them |
 //! | `options.rt`, `fault.rt` | what is asked; why an event isn't taken |
-//! | `laws.rt` | the law |
+//! | `laws.rt` | the laws |
 #![tactic(auto)]
 
 mod fault;
@@ -44,6 +45,6 @@ mod samples;
 mod taking;
 
 pub use fault::SampleFault;
-pub use laws::sampling_goes_on;
+pub use laws::{rounded_sizes, sampling_goes_on};
 pub use options::MassifOptions;
 pub use sampler::Sampler;

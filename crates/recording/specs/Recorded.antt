@@ -6,6 +6,7 @@ use Rattle.record_book.specs.RecordedTrace.{recorded}
 use Rattle.record_book.specs.ScriptFigures.{HasScriptFigures}
 use Rattle.record_book.specs.SummaryText.{rec_summary}
 use Rattle.record_book.specs.Spelled.{spelled}
+use Rattle.sound_recordings.specs.ToldAgain.{IsToldAgain}
 
 -- the trace of a job in an order, and behind it the summary where that is asked for
 abbrev pub recording_text : Bool → List ℕ → Job → List ℕ
@@ -19,3 +20,5 @@ pub record IsRecorded (summary : Bool) (job : Job) (text : List ℕ) : Type 0 wh
   pub all : IsInterleaving job.scripts (spelled text)
   pub text_is : text ≡ recording_text summary (spelled text) job
   pub figures : HasScriptFigures job.scripts (spelled text)
+  -- and they are those that are told of the text itself, once it is interpreted
+  pub told : IsToldAgain text job.scripts (spelled text)

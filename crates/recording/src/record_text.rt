@@ -9,6 +9,7 @@ use hp_num::{NoMemory, put_bytes};
 use record_book::{Book, quiet_modules, spelled_orders};
 use record_scripts::Scripts;
 use recorder::{Gate, record_job};
+use sound_recordings::recorded_summaries;
 use std::alloc::Global;
 use std::sync::Wait;
 use std::thread::Threads;
@@ -38,6 +39,7 @@ fn book_text(alloc: Global, book: Book, summary: bool) -> Result<Vec<u8>, NoMemo
 {
     spelled_orders();
     quiet_modules();
+    recorded_summaries();
     let _threads = book.threads();
     if summary {
         let mut lines = Vec::new(alloc);

@@ -4,3 +4,4 @@ mod Figures
 mod Groups
 mod Events
 mod Trace
+pub mod Laws

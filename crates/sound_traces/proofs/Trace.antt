@@ -31,7 +31,7 @@ version_text =
     ∙ ap (λ front. front ++ codes "0") (hexadecimal_step 261 (omega arith) (omega arith)
     ∙ ap (λ front. front ++ codes "5") (hexadecimal_step 16 (omega arith) (omega arith) ∙ ap (λ front. front ++ codes "0") (hex_one_digit false 1 (omega arith)))))
 
-version_written : codes "v 10500 2" ≡ written 1 (version_line 66816 2)
+pub version_written : codes "v 10500 2" ≡ written 1 (version_line 66816 2)
 version_written =
     ap (λ file. codes "v 10500 " ++ file) (sym (hex_one_digit false 2 (omega arith)))
     ∙ ap (λ heaptrack. codes "v " ++ (heaptrack ++ (32 ∷ hexadecimal 2))) (sym version_text)

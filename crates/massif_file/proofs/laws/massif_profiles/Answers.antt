@@ -1,4 +1,5 @@
 use Rattle.massif_file.proofs.Profiles.{read_is, is_read, fault_is, is_fault, one_of, one_fault, one_profile, not_both}
+use Rattle.massif_file.proofs.ReadingLemmas.{at_end}
 use Rattle.massif_file.proofs.laws.massif_profiles.Goals as goal
 
 pub returns-clause-profile : goal.returns-clause-profile
@@ -18,3 +19,6 @@ returns-clause-not_both c = not_both
 
 pub returns-clause-one_fault : goal.returns-clause-one_fault
 returns-clause-one_fault c = one_fault
+
+pub returns-clause-stands : goal.returns-clause-stands
+returns-clause-stands c = at_end

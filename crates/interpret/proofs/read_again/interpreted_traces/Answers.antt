@@ -2,7 +2,7 @@ use Rattle.interpret.proofs.FreeLemmas.{event-fault-again, free-fault-again}
 use Rattle.interpret.proofs.NoFaultLemmas.{end-again, no-fault-again}
 use Rattle.interpret.proofs.OneLineLemmas.{all-one-line}
 use Rattle.interpret.proofs.ReadAgainLemmas.{events-again, ledger-again, said-again, version-again}
-use Rattle.interpret.proofs.laws.interpreted_traces.Goals as goal
+use Rattle.interpret.proofs.read_again.interpreted_traces.Goals as goal
 
 pub returns-clause-version : goal.returns-clause-version
 returns-clause-version c = version-again c.hexadecimal_texts.ensures.reads_back

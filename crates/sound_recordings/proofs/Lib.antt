@@ -1,0 +1,8 @@
+mod Said
+mod Readable
+mod Played
+mod Blocks
+mod Figures
+mod Turns
+mod NoFault
+mod ToldAgain
