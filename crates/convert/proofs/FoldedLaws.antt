@@ -1,9 +1,9 @@
 -- What folded lines are.
-use Rattle.std.proofs.Common.{◌≡◌, ◌≢◌, ℕ, zero, suc, ◌<◌, inl, inr, Bool, true, false, List, [], ◌∷◌, length, map, get_or, Some, refl, sym, ap, ◌∙◌, subst, arith, true≢false}
+use Rattle.std.proofs.Common.{◌≡◌, ℕ, zero, suc, ◌<◌, inl, inr, Bool, true, false, List, [], ◌∷◌, map, Some, refl, sym, ap, ◌∙◌, subst, arith}
 use Rattle.std.specs.Prelude.{slice_get}
 use Rattle.std.specs.List.{list_any}
 use Rattle.std.specs.Option.{option_map}
-use Rattle.std.proofs.lemmas.Bool.{cases_Bool, cases_order}
+use Rattle.std.proofs.lemmas.Bool.{cases_order}
 use Rattle.std.proofs.lemmas.Map.Views.{Contains-from_any}
 use Rattle.std.proofs.lemmas.Option.{none-some, same_Some, slice_get-get_or, slice_get-map, slice_get_within, get_or_from_slice_get}
 use Rattle.cost_tree.specs.Costed.{Costed}
@@ -33,15 +33,15 @@ from-line items n line at =
 pub are-folded : (items : List Costed) → AreFolded items (folded_sums items)
 unfolding folded_sums
 are-folded items = record {
-      sum = λ n line at. sym (from-line items n line at).1;
-      more_than_0 = λ n line at.
+  sum = λ n line at. sym (from-line items n line at).1;
+  more_than_0 = λ n line at.
       let from = from-line items n line at in
       let within = slice_get_within (folded_lists items) n line.texts from.0 in
       let some = lists-some items n line.texts within in
       let here = get_or_from_slice_get (folded_lists items) n line.texts line.texts from.0 in
       subst (λ (k : ℕ). 0 < k) (ap (λ (l : List (List ℕ)). own l items) here ∙ from.1) some;
-      all = λ list some. all list some (list_any (is_front list) (folded_lists items)) refl;
-      once = λ m n line other at_m at_n same.
+  all = λ list some. all list some (list_any (is_front list) (folded_lists items)) refl;
+  once = λ m n line other at_m at_n same.
       let F = folded_lists items in
       let m_is = (from-line items m line at_m).0 in
       let n_is = (from-line items n other at_n).0 in
@@ -56,7 +56,7 @@ are-folded items = record {
           | inr above ↦ absurd (lists-distinct items n m line.texts above m_in (n_list ∙ sym same ∙ sym m_list))
         ]
       ];
-    }
+}
   where
     all : (list : List (List ℕ)) → 0 < own list items → (b : Bool) → list_any (is_front list) (folded_lists items) ≡ b → (n : ℕ) × (slice_get (folded_sums items) n ≡ Some (line_of items list))
     all list some true held =

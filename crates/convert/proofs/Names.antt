@@ -1,7 +1,6 @@
 -- Lemmas on lists of texts and the numbers of their texts.
-use Rattle.std.proofs.Common.{◌≡◌, ℕ, zero, suc, ◌-◌, ◌<◌, ◌≤◌, inl, inr, ◌==◌, Bool, false, cond, List, [], ◌∷◌, ◌++◌, length, map, get_or, Option, None, refl, sym, ap, ◌∙◌, subst, arith}
+use Rattle.std.proofs.Common.{◌≡◌, ℕ, zero, suc, ◌-◌, ◌≤◌, inl, inr, ◌==◌, Bool, false, cond, List, [], ◌∷◌, ◌++◌, length, map, get_or, Option, None, refl, sym, ap, ◌∙◌, arith}
 use Rattle.std.specs.Prelude.{All, slice_get, unwrap_or}
-use Rattle.std.specs.Global.{Vec}
 use Rattle.std.specs.Str.{bytes_eq}
 use Rattle.std.proofs.lemmas.Bool.{cases_order, ne_eqb}
 use Rattle.std.proofs.lemmas.Bool.Decides.{same_from_decides}
@@ -63,9 +62,9 @@ same_test names ms ns distinct held_m held_n =
 pub kept : (old new : List (List ℕ)) → ((n : ℕ) → n ≤ length old → name_at new n ≡ name_at old n) → length old ≤ length new → (numbers : List ℕ) (texts : List (List ℕ)) → AreNumbers old numbers texts → AreNumbers new numbers texts
 unfolding texts_at
 kept old new stay none_lost numbers texts are = record {
-      held = All-weaker (IsNumber old) (IsNumber new) (λ n is. (is.0, omega arith)) numbers are.held;
-      texts_are = same numbers are.held ∙ are.texts_are;
-    }
+  held = All-weaker (IsNumber old) (IsNumber new) (λ n is. (is.0, omega arith)) numbers are.held;
+  texts_are = same numbers are.held ∙ are.texts_are;
+}
   where
     same : (ns : List ℕ) → All (IsNumber old) ns → texts_at new ns ≡ texts_at old ns
     same [] held = refl

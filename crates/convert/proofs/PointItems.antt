@@ -1,16 +1,17 @@
 -- Lemmas on the points of a profile and their items.
-use Rattle.std.proofs.Common.{◌≡◌, ℕ, zero, suc, ◌+◌, ◌<◌, ◌≤◌, List, [], ◌∷◌, ◌++◌, length, map, take, get_or, Some, refl, sym, ap, ◌∙◌, subst, arith}
-use Rattle.std.specs.Prelude.{All, slice_get, slice_index, slice_index_or, sum, sum_by}
+use Rattle.std.proofs.Common.{◌≡◌, ℕ, zero, suc, ◌+◌, ◌<◌, ◌≤◌, List, [], ◌∷◌, ◌++◌, length, map, take, get_or, Some, refl, sym, ap, ◌∙◌, arith}
+use Rattle.std.specs.Prelude.{All, slice_get, slice_index, sum, sum_by}
 use Rattle.std.specs.Option.{option_map}
 use Rattle.std.proofs.lemmas.List.{length-map, map_push, take_all}
-use Rattle.std.proofs.lemmas.List.Elements.{All-head, All-nil, All-cons, All-tail}
+use Rattle.std.proofs.lemmas.List.Elements.{All-head, All-nil, All-cons, All-tail, All-weaker}
 use Rattle.std.proofs.lemmas.List.Sums.{sum_by-take-le, sum_by_push}
 use Rattle.std.proofs.lemmas.Option.{slice_get-map}
-use Rattle.cost_tree.specs.Costed.{Costed, costed}
+use Rattle.cost_tree.specs.Costed.{Costed}
 use Rattle.cost_tree.proofs.Laws.{costed-count, costed-sum, take-next}
 use Rattle.dhat_json.specs.declared.figure.FigureKey.{FigureKey}
 use Rattle.dhat_json.specs.declared.profile.Dhat.{Dhat}
 use Rattle.dhat_json.specs.declared.profile.Point.{Point}
+use Rattle.dhat_json.specs.IsSound.{IsSound, IsSoundPoint}
 use Rattle.dhat_json.specs.Shown.{shown}
 use Rattle.dhat_view.specs.PointCosts.{point_cost, point_costs}
 use Rattle.dhat_view.specs.PointFronts.{point_fronts}
@@ -18,6 +19,7 @@ use Rattle.dhat_view.specs.PointFronts as points
 use Rattle.convert.specs.Items.{point_items}
 use Rattle.convert.specs.Numbers.{AreNumbers, IsNumber, text_at, texts_at}
 use Rattle.convert.proofs.LineTexts.{costed-at}
+use Rattle.convert.proofs.Lists.{held-by}
 
 -- one element more of a list that is mapped
 pub map-next : {X Y : Type 0} (f : X → Y) (xs : List X) (k : ℕ) (x : X) → slice_get xs k ≡ Some x → map f (take (k + 1) xs) ≡ map f (take k xs) ++ f x ∷ []
@@ -97,3 +99,16 @@ items-all key dhat place all =
 pub numbers-count : (names : List (List ℕ)) (numbers : List ℕ) (texts : List (List ℕ)) → AreNumbers names numbers texts → length numbers ≡ length texts
 unfolding texts_at
 numbers-count names numbers texts are = sym (length-map numbers (text_at names)) ∙ ap length are.texts_are
+
+-- the frames of a point have numbers
+pub frames-held : (dhat : Dhat) (names : List (List ℕ)) (numbers : List ℕ) (place : ℕ) (point : Point) → IsSound dhat → slice_get dhat.pps place ≡ Some point → AreNumbers names numbers (map shown dhat.ftbl)
+    → All (λ frame. frame < length numbers) point.fs
+frames-held dhat names numbers place point sound at are =
+    let is = held-by (IsSoundPoint dhat.bklt dhat.bkacc (length dhat.ftbl)) dhat.pps place point at sound.points in
+    let count = numbers-count names numbers (map shown dhat.ftbl) are in
+    let table = length-map dhat.ftbl shown in
+    All-weaker (λ frame. frame < length dhat.ftbl) (λ frame. frame < length numbers) (λ frame below. omega arith) point.fs is.in_table
+
+-- a point's numbers are those of its texts
+pub list-is : (numbers deref list other fs : List ℕ) → deref ≡ numbers → list ≡ map (λ frame. slice_index deref frame) fs → other ≡ list → other ≡ map (λ frame. slice_index numbers frame) fs
+list-is numbers deref list other fs deref_is list_is other_is = other_is ∙ list_is ∙ ap (λ (ns : List ℕ). map (λ (frame : ℕ). slice_index ns frame) fs) deref_is

@@ -13,7 +13,7 @@ use Rattle.cost_tree.specs.Inclusive.{is_front, own}
 use Rattle.indexmap.specs.IndexSet.{insert_key}
 use Rattle.intern_tables.specs.Distinct.{AreDistinct}
 use Rattle.convert.specs.Folded.{folded_lists}
-use Rattle.convert.specs.Numbers.{AreSums, IsNumber, lists_at, texts_at}
+use Rattle.convert.specs.Numbers.{AreSums, IsNumber, texts_at}
 use Rattle.convert.proofs.Folding.{is_front-Decides, lists-distinct, lists-more, lists-zero, own-gains, own-kept, own-more, own-none, own-within, own-zero, cost_of}
 use Rattle.convert.proofs.Lists.{any-map, place-map}
 use Rattle.convert.proofs.Names.{same_test}

@@ -1,5 +1,5 @@
 -- Which snapshot of a Massif file is folded.
-use Rattle.std.specs.Prelude.{ℕ, true, false, not, Bool, if◌then◌else◌, List, [], ◌∷◌, Option, Some, None, slice_get, option_and_then}
+use Rattle.std.specs.Prelude.{ℕ, true, false, Bool, if◌then◌else◌, List, [], ◌∷◌, Option, Some, None, slice_get, option_and_then}
 use Rattle.std.specs.Option.{option_map_or, option_or}
 use Rattle.cost_tree.specs.Costed.{Costed}
 use Rattle.massif_file.specs.declared.profile.HeapTree.{HeapTree}

@@ -1,5 +1,5 @@
 -- Why a profile can't be converted.
-use Rattle.std.specs.Prelude.{ℕ, ◌^◌, ◌||◌, nat_lt, Bool, if◌then◌else◌, List, Option, Some, None, sum, sum_by}
+use Rattle.std.specs.Prelude.{ℕ, ◌^◌, ◌||◌, nat_lt, Bool, if◌then◌else◌, Option, Some, None, sum, sum_by}
 use Rattle.cost_tree.specs.Costed.{Costed}
 use Rattle.dhat_json.specs.declared.figure.FigureKey.{FigureKey}
 use Rattle.dhat_json.specs.declared.figure.FigureKey.TheVariants.{Eb, Gb}

@@ -39,19 +39,19 @@ peak_time dhat = time dhat.tg
 -- a snapshot at this time: the sum of a figure, and the tree of the points by it
 abbrev pub snap_of : ℕ → HeapTree → FigureKey → Dhat → Snap
 snap_of time mark key dhat = record {
-      time = time;
-      heap = sum (point_costs key dhat);
-      extra = 0;
-      stacks = 0;
-      mark = mark;
-      tree = massif_tree whole_tree (sum (point_costs key dhat)) (point_items key dhat);
-    }
+  time = time;
+  heap = sum (point_costs key dhat);
+  extra = 0;
+  stacks = 0;
+  mark = mark;
+  tree = massif_tree whole_tree (sum (point_costs key dhat)) (point_items key dhat);
+}
 
 -- the profile: what was live at the peak, and what was live at the end
 unfoldable pub converted : Dhat → Profile
 converted dhat = record {
-      desc = codes "heapsuite convert";
-      cmd = command_of dhat.cmd;
-      unit = unit_of dhat.tu;
-      snaps = snap_of (peak_time dhat) Peak Gb dhat ∷ snap_of dhat.te Detailed Eb dhat ∷ [];
-    }
+  desc = codes "heapsuite convert";
+  cmd = command_of dhat.cmd;
+  unit = unit_of dhat.tu;
+  snaps = snap_of (peak_time dhat) Peak Gb dhat ∷ snap_of dhat.te Detailed Eb dhat ∷ [];
+}

@@ -1,7 +1,7 @@
 -- What a Massif tree has to fold: its lines by the labels above them, with the bytes that their children leave.
 -- Of trees side by side, whose lines follow one another, a line has the first so many of the trees behind it below itself
 -- as it has children, and the others beside itself.
-use Rattle.std.specs.Prelude.{ℕ, ◌-◌, List, [], ◌∷◌, ◌++◌, drop, flat_map, map, sum, take}
+use Rattle.std.specs.Prelude.{ℕ, ◌-◌, List, [], ◌∷◌, drop, flat_map, map, sum, take}
 use Rattle.cost_tree.specs.Costed.{Costed}
 use Rattle.dhat_json.specs.Shown.{shown}
 use Rattle.massif_file.specs.declared.profile.TreeLine.{TreeLine}

@@ -37,12 +37,7 @@ fn put_line_at(sums: &ListSums, place: usize, out: &mut Vec<u8>) -> Result<(), N
 }
 
 /// Appends the line of a list of numbers of names with its sum.
-fn put_line(
-    names: &Names,
-    list: &[usize],
-    sum: u64,
-    out: &mut Vec<u8>,
-) -> Result<(), NoMemory>
+fn put_line(names: &Names, list: &[usize], sum: u64, out: &mut Vec<u8>) -> Result<(), NoMemory>
     requires held { All (IsNumber names.now) list.now }
     ensures appended { OnOk result (out.new.items ≡ out.old.items ++ folded_line (record { texts = texts_at names.now list.now; cost = sum })) }
     ensures kept { Extends out.old.items out.new.items }

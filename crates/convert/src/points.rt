@@ -64,12 +64,7 @@ pub fn put_folded_dhat(
 }
 
 /// Appends the lines. On `NoMemory`, some of them may stand at the end of `out`.
-fn put_points(
-    alloc: Global,
-    key: FigureKey,
-    dhat: &Dhat,
-    out: &mut Vec<u8>,
-) -> Result<(), NoMemory>
+fn put_points(alloc: Global, key: FigureKey, dhat: &Dhat, out: &mut Vec<u8>) -> Result<(), NoMemory>
     requires sound { IsSound dhat.now }
     requires within { sum (point_costs key dhat.now) ≤ 2 ^ 62 }
     ensures appended { OnOk result (out.new.items ≡ out.old.items ++ folded_text (point_items key dhat.now)) }

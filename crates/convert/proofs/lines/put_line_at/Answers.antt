@@ -1,4 +1,4 @@
-use Rattle.std.proofs.Common.{◌≡◌, ℕ, List, ◌++◌, get_or, Some, ap, sym, ◌∙◌, subst, arith}
+use Rattle.std.proofs.Common.{◌≡◌, ℕ, List, ◌++◌, ap, sym, ◌∙◌, subst}
 use Rattle.std.specs.Prelude.{All}
 use Rattle.std.specs.Global.{Vec}
 use Rattle.std.proofs.lemmas.Option.{get_or_from_slice_get, none-some, same_Some}
@@ -30,7 +30,7 @@ returns-clause-appended c =
     let parts = line-parts sums.names sums.lists.keys sums.sums.items c.args.place line at in
     let key : c.in-Some.list.now ≡ parts.0 = same_Some c.in-Some.list.now parts.0 (c.in-Some.ensures.key ∙ parts.1) in
     let texts = ap (λ (ns : List ℕ). texts_at sums.names ns) (c.deref.ensures.value ∙ ap (λ (k : Vec ℕ). k.items) key) ∙ parts.3 in
-    let sum : c.index.result ≡ line.cost = c.index.ensures ∙ get_or_from_slice_get sums.sums.items c.args.place line.cost c.index.result parts.2 in
-    added ∙ ap (λ (ts : List (List ℕ)). c.args.out.now.items ++ folded_line (record { texts = ts; cost = c.index.result })) texts
+    let sum : c.index.result.now ≡ line.cost = c.index.ensures ∙ get_or_from_slice_get sums.sums.items c.args.place line.cost c.index.result.now parts.2 in
+    added ∙ ap (λ (ts : List (List ℕ)). c.args.out.now.items ++ folded_line (record { texts = ts; cost = c.index.result.now })) texts
     ∙ ap (λ (n : ℕ). c.args.out.now.items ++ folded_line (record { texts = line.texts; cost = n })) sum)
     c.put_line.ensures.appended
