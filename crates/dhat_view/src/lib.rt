@@ -26,4 +26,5 @@ mod view;
 pub use fault::ViewFault;
 pub use fronts::fronts_of;
 pub use options::ViewOptions;
+pub use sums::{figure_at, figures_sum};
 pub use view::put_view;

@@ -10,7 +10,7 @@ const MOST: u128 = 1 << 62;
 
 /// The sum of the points' figures of the key, which the profile must have. `None` where it is above 2^62. It takes no
 /// memory.
-pub(crate) fn figures_sum(key: FigureKey, dhat: &Dhat) -> Option<u64>
+pub fn figures_sum(key: FigureKey, dhat: &Dhat) -> Option<u64>
     requires few { length dhat.now.pps < 2 ^ 32 }
     ensures sum { IfSome result (λ total. total ≡ sum (point_costs key dhat.now)) }
     ensures within { IfSome result (λ total. total ≤ 2 ^ 62) }
@@ -27,7 +27,7 @@ pub(crate) fn figures_sum(key: FigureKey, dhat: &Dhat) -> Option<u64>
 }
 
 /// The figure of the point at this place, and 0 where the points have no figures of the key.
-pub(crate) fn figure_at(key: FigureKey, dhat: &Dhat, place: usize) -> u64
+pub fn figure_at(key: FigureKey, dhat: &Dhat, place: usize) -> u64
     requires held { place < length dhat.now.pps }
     ensures figure { slice_get (point_costs key dhat.now) place ≡ Some result }
 {

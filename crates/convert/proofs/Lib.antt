@@ -1,0 +1,9 @@
+mod Lists
+mod Names
+mod Folding
+mod Sums
+mod FoldedLaws
+mod LineTexts
+mod Appends
+mod PointItems
+mod Faults

@@ -1,0 +1,42 @@
+-- Why a profile can't be converted.
+use Rattle.std.specs.Prelude.{ℕ, ◌^◌, ◌||◌, nat_lt, Bool, if◌then◌else◌, Option, Some, None, sum, sum_by}
+use Rattle.cost_tree.specs.Costed.{Costed}
+use Rattle.dhat_json.specs.declared.figure.FigureKey.{FigureKey}
+use Rattle.dhat_json.specs.declared.figure.FigureKey.TheVariants.{Eb, Gb}
+use Rattle.dhat_json.specs.declared.profile.Dhat.{Dhat}
+use Rattle.dhat_json.specs.Figure.{has_figures}
+use Rattle.dhat_view.specs.PointCosts.{point_costs}
+use Rattle.massif_file.specs.declared.profile.Profile.{Profile}
+use Rattle.massif_file.specs.declared.profile.Snap.{Snap}
+use Rattle.convert.specs.declared.fault.ConvertFault.{ConvertFault}
+use Rattle.convert.specs.declared.fault.ConvertFault.TheVariants.{NoFigures, NoTree, TooLarge}
+use Rattle.convert.specs.Chosen.{chosen}
+use Rattle.convert.specs.TreeItems.{tree_items}
+
+-- a number above 2^62
+abbrev pub is_too_large : ℕ → Bool
+is_too_large number = nat_lt (2 ^ 62) number
+
+abbrev pub fault_if : Bool → Option ConvertFault
+fault_if too_large = if too_large then Some TooLarge else None
+
+-- what stands against the folded lines of a DHAT profile: its points have no figures of the key, or these sum to more than 2^62
+unfoldable pub folded_fault : FigureKey → Dhat → Option ConvertFault
+folded_fault key dhat = if has_figures key dhat then fault_if (is_too_large (sum (point_costs key dhat))) else Some NoFigures
+
+-- what stands against those of a snapshot's tree: the numbers of its items sum to more than 2^62
+abbrev pub tree_fault : Option Snap → Option ConvertFault
+tree_fault None = Some NoTree
+tree_fault (Some snap) = fault_if (is_too_large (sum_by (λ (item : Costed). item.cost) (tree_items snap.tree)))
+
+-- what stands against those of a Massif profile: no snapshot is chosen, or its tree has such a fault
+unfoldable pub folded_massif_fault : Option ℕ → Profile → Option ConvertFault
+folded_massif_fault number profile = tree_fault (chosen number profile)
+
+-- what stands against the Massif profile of a DHAT profile: its points tell of no lifetimes, or the time at its end, the bytes
+-- that were live at the peak or those that were live at the end are more than 2^62
+unfoldable pub converted_fault : Dhat → Option ConvertFault
+converted_fault dhat =
+    if dhat.bklt
+    then fault_if (is_too_large dhat.te || is_too_large (sum (point_costs Gb dhat)) || is_too_large (sum (point_costs Eb dhat)))
+    else Some NoFigures

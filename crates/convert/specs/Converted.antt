@@ -1,0 +1,57 @@
+-- The Massif profile of a DHAT profile.
+use Rattle.std.specs.Prelude.{ℕ, if◌then◌else◌, List, [], ◌∷◌, Option, Some, None, bytes_eq, codes, min, sum}
+use Rattle.dhat_json.specs.declared.figure.FigureKey.{FigureKey}
+use Rattle.dhat_json.specs.declared.figure.FigureKey.TheVariants.{Eb, Gb}
+use Rattle.dhat_json.specs.declared.profile.Dhat.{Dhat}
+use Rattle.dhat_json.specs.Shown.{shown}
+use Rattle.dhat_view.specs.PointCosts.{point_costs}
+use Rattle.massif_file.specs.declared.profile.HeapTree.{HeapTree}
+use Rattle.massif_file.specs.declared.profile.HeapTree.TheVariants.{Detailed, Peak}
+use Rattle.massif_file.specs.declared.profile.Profile.{Profile}
+use Rattle.massif_file.specs.declared.profile.Snap.{Snap}
+use Rattle.massif_file.specs.declared.profile.TimeUnit.{TimeUnit}
+use Rattle.massif_file.specs.declared.profile.TimeUnit.TheVariants.{Events, Instructions}
+use Rattle.massif_tree.specs.declared.options.TreeOptions.{TreeOptions}
+use Rattle.massif_tree.specs.MassifTree.{massif_tree}
+use Rattle.convert.specs.Items.{point_items}
+
+-- each place has a line of its own, to 200 frames below one another
+abbrev pub whole_tree : TreeOptions
+whole_tree = record { threshold = 0; depth = 200 }
+
+-- the shown command, and words of its own where it is empty
+abbrev pub command_of : List ℕ → List ℕ
+command_of [] = codes "(none)"
+command_of (byte ∷ more) = shown (byte ∷ more)
+
+-- instructions, where the profile's unit of time is called so, and else events
+abbrev pub unit_of : List ℕ → TimeUnit
+unit_of unit = if bytes_eq unit (codes "instrs") then Instructions else Events
+
+-- the time of the peak, which is not after the end; the end where it isn't known
+abbrev pub peak_time : Dhat → ℕ
+peak_time dhat = time dhat.tg
+  where
+    time : Option ℕ → ℕ
+    time None = dhat.te
+    time (Some tg) = min tg dhat.te
+
+-- a snapshot at this time: the sum of a figure, and the tree of the points by it
+abbrev pub snap_of : ℕ → HeapTree → FigureKey → Dhat → Snap
+snap_of time mark key dhat = record {
+  time = time;
+  heap = sum (point_costs key dhat);
+  extra = 0;
+  stacks = 0;
+  mark = mark;
+  tree = massif_tree whole_tree (sum (point_costs key dhat)) (point_items key dhat);
+}
+
+-- the profile: what was live at the peak, and what was live at the end
+unfoldable pub converted : Dhat → Profile
+converted dhat = record {
+  desc = codes "heapsuite convert";
+  cmd = command_of dhat.cmd;
+  unit = unit_of dhat.tu;
+  snaps = snap_of (peak_time dhat) Peak Gb dhat ∷ snap_of dhat.te Detailed Eb dhat ∷ [];
+}

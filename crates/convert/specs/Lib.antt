@@ -1,0 +1,9 @@
+pub mod Items
+pub mod TreeItems
+pub mod Folded
+pub mod AreFolded
+pub mod Chosen
+pub mod Converted
+pub mod ConvertFault
+pub mod AreTreeSums
+pub mod Numbers

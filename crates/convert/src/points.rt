@@ -1,0 +1,121 @@
+//! The folded lines of a DHAT profile: its points by the texts of their frames, with a figure.
+#![tactic(auto, using(hp_num::proofs::Laws::extends_same, hp_num::proofs::Laws::extends_more, hp_num::proofs::Laws::extends_trans))]
+
+ghost use Rattle.std.specs.Prelude.{◌≡◌, ◌≢◌, ◌<◌, ◌≤◌, ◌^◌, ◌++◌, All, List, length, map, slice_index, sum, Some, None, Err, IfErr, IfOk, OnErr, OnOk};
+ghost use Rattle.cost_tree.specs.Costed.{Costed};
+ghost use Rattle.dhat_json.specs.IsSound.{IsSound};
+ghost use Rattle.dhat_json.specs.Shown.{shown};
+ghost use Rattle.dhat_view.specs.PointCosts.{point_costs};
+ghost use Rattle.hp_num.specs.Extends.{Extends};
+ghost use Rattle.intern_tables.specs.Distinct.{AreDistinct};
+ghost use Rattle.convert.specs.AreFolded.{AreFolded};
+ghost use Rattle.convert.specs.ConvertFault.{folded_fault};
+ghost use Rattle.convert.specs.Folded.{folded_text, lines_text};
+ghost use Rattle.convert.specs.Items.{point_items};
+ghost use Rattle.convert.specs.Numbers.{AreNumbers, AreSums, IsNumber, texts_at};
+
+use crate::fault::ConvertFault;
+use crate::lines::put_lines;
+use crate::list_sums::ListSums;
+use crate::texts::ShownTexts;
+use dhat_json::{Dhat, FigureKey, FrameList, Texts};
+use dhat_view::{figure_at, figures_sum};
+use hp_num::NoMemory;
+use std::alloc::Global;
+
+/// Appends the folded lines of the profile: for each list of texts that some points have whose figures of the key have a
+/// sum other than 0, these texts from the outermost frame to the innermost with `;` between them, a blank, the sum and a
+/// line feed. A `;` within a text is written `:`, a point without frames is `(no stack)`, and the lines stand by the first
+/// point that has their list and a figure other than 0. Texts are shown as `put_shown` shows them.
+///
+/// The profile must be as `fronts_of` says. `NoFigures` comes exactly where the points have no figures of the key, and then
+/// `TooLarge` exactly where these sum to more than 2^62; both take no memory. On any fault, `out` holds what it held before.
+pub fn put_folded_dhat(
+    alloc: Global,
+    key: FigureKey,
+    dhat: &Dhat,
+    out: &mut Vec<u8>,
+) -> Result<(), ConvertFault>
+    requires sound { IsSound dhat.now }
+    ensures appended { OnOk result (out.new.items ≡ out.old.items ++ folded_text (point_items key dhat.now)) }
+
+    // For each list the lines have the sum of the points with that list, and a list whose sum is 0 has no line.
+    ensures sums { OnOk result ((lines : List Costed) × AreFolded (point_items key dhat.now) lines × (out.new.items ≡ out.old.items ++ lines_text lines)) }
+
+    ensures no_fault { OnOk result (folded_fault key dhat.now ≡ None) }
+    ensures fault { IfErr result (λ fault. fault ≢ ConvertFault.NoMemory → folded_fault key dhat.now ≡ Some fault) }
+    ensures refused { (fault : ConvertFault) → folded_fault key dhat.now ≡ Some fault → result ≡ Err fault }
+    ensures unchanged { OnErr result (out.new.items ≡ out.old.items) }
+{
+    if !dhat.has_figures(key) {
+        return Err(ConvertFault::NoFigures);
+    }
+    let Some(_total) = figures_sum(key, dhat) else {
+        return Err(ConvertFault::TooLarge);
+    };
+    let start = out.len();
+    match put_points(alloc, key, dhat, out) {
+        Ok(()) => Ok(()),
+        Err(NoMemory) => {
+            out.truncate(start);
+            Err(ConvertFault::NoMemory)
+        }
+    }
+}
+
+/// Appends the lines. On `NoMemory`, some of them may stand at the end of `out`.
+fn put_points(alloc: Global, key: FigureKey, dhat: &Dhat, out: &mut Vec<u8>) -> Result<(), NoMemory>
+    requires sound { IsSound dhat.now }
+    requires within { sum (point_costs key dhat.now) ≤ 2 ^ 62 }
+    ensures appended { OnOk result (out.new.items ≡ out.old.items ++ folded_text (point_items key dhat.now)) }
+    ensures kept { Extends out.old.items out.new.items }
+{
+    let sums = point_sums(alloc, key, dhat)?;
+    put_lines(&sums, out)
+}
+
+/// The sums of the points' figures by their lists.
+fn point_sums(alloc: Global, key: FigureKey, dhat: &Dhat) -> Result<ListSums, NoMemory>
+    requires sound { IsSound dhat.now }
+    requires within { sum (point_costs key dhat.now) ≤ 2 ^ 62 }
+    ensures sums { IfOk result (λ sums. AreSums sums.names sums.lists.keys sums.sums.items (point_items key dhat.now)) }
+{
+    let table = shown_table(alloc, &dhat.ftbl)?;
+    let ShownTexts { names, numbers, .. } = table;
+    let mut list = Vec::new(alloc);
+    let mut sums = ListSums::new(alloc, names);
+    'each_point: for place in 0..dhat.pps.len() {
+        number_frames(&numbers, &dhat.pps.at(place).fs, &mut list)?;
+        sums.add(&list, figure_at(key, dhat, place))?;
+    }
+    Ok(sums)
+}
+
+/// The shown texts of the table under numbers.
+fn shown_table(alloc: Global, table: &Texts) -> Result<ShownTexts, NoMemory>
+    ensures numbers { IfOk result (λ texts. AreNumbers texts.names texts.numbers.items (map shown table.now)) }
+    ensures distinct { IfOk result (λ texts. AreDistinct texts.names) }
+{
+    let mut texts = ShownTexts::new(alloc);
+    'each_text: for place in 0..table.len() {
+        texts.push(table.at(place).bytes())?;
+    }
+    Ok(texts)
+}
+
+/// Replaces `list` by the numbers of the frames' texts.
+fn number_frames(
+    numbers: &[usize],
+    frames: &FrameList,
+    list: &mut Vec<usize>,
+) -> Result<(), NoMemory>
+    requires in_table { All (λ frame. frame < length numbers.now) frames.now }
+    ensures numbered { OnOk result (list.new.items ≡ map (λ frame. slice_index numbers.now frame) frames.now) }
+{
+    list.clear();
+    'each_frame: for place in 0..frames.len() {
+        let frame = *frames.at(place);
+        list.push(numbers[frame as usize])?;
+    }
+    Ok(())
+}
