@@ -7,3 +7,4 @@ mod SpelledFronts
 mod LengthLemmas
 mod LinesLoop
 mod StepLemmas
+mod AnswerLemmas

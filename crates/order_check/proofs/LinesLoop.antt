@@ -1,12 +1,13 @@
 -- What holds while the lines of a file are compared.
-use Rattle.std.proofs.Common.{◌≡◌, ◌≢◌, ℕ, ◌+◌, Bool, true, false, List, [], ◌∷◌, ◌++◌, length, take, drop, min, Option, None, Some, Result, Ok, Err, refl, sym, ap, ◌∙◌, subst, arith, append_assoc, append-nil, add-one, length-append, true≢false}
+use Rattle.std.proofs.Common.{◌≡◌, ◌≢◌, ℕ, ◌+◌, ◌<◌, ◌≤◌, ◌==◌, Bool, true, false, cond, List, [], ◌∷◌, ◌++◌, length, take, drop, min, Option, None, Some, Result, Ok, Err, refl, sym, ap, ◌∙◌, subst, arith, append_assoc, append-nil, add-one, length-append, length-take, true≢false}
 use Rattle.std.specs.Prelude.{All, IfOk, IfSome, is_some}
+use Rattle.std.specs.List.{position_or_len}
 use Rattle.std.specs.Io.KnownBytes.{prepend_known}
 use Rattle.std.proofs.lemmas.List.{length_push, take-append-drop}
 use Rattle.std.proofs.Math.Seq.{take-append_seam}
 use Rattle.std.proofs.lemmas.List.Elements.{All-take}
 use Rattle.hp_outside.specs.LineReaderState.{LineReaderState}
-use Rattle.hp_outside.specs.Lines.{after_line, first_line, lines_of}
+use Rattle.hp_outside.specs.Lines.{after_line, first_line, is_line_feed, lines_of, put_first}
 use Rattle.hp_outside.specs.NextLine.{GivesLine, IsInputTooLong, IsLineTooLong, IsUndecided, NextAnswer, has_line_feed}
 use Rattle.hp_outside.specs.declared.span.LineFault.{LineFault}
 use Rattle.hp_outside.specs.declared.span.LineFault.TheVariants as reading
@@ -291,26 +292,51 @@ read-end input line check reader start left new_left result (Some events) number
     whole-at input line reader.passed reader.line_ended reader.kept bytes before.taken left check events spelling before.has_taken told none (sym (tells before.taken before.has_taken))
 
 -- a line's length has a fault
+some-line : (rest : List ℕ) → 0 < length rest → 0 < length (lines_of rest)
+some-line [] some = absurd (omega (arith, some))
+some-line (b ∷ rest) some = by (b == 10)
+  where
+    put : (lines : List (List ℕ)) → 0 < length (put_first b lines)
+    put [] = omega arith
+    put (line ∷ lines) = omega arith
+
+    by : (t : Bool) → 0 < length (cond t ([] ∷ lines_of rest) (put_first b (lines_of rest)))
+    by true = omega arith
+    by false = put (lines_of rest)
+
+line-there : (input line passed : ℕ) (line_ended : Bool) (kept bytes : List ℕ) (taken : List (List ℕ)) (left : Option (List ℕ)) → (before : ToldReading input line passed line_ended kept bytes taken left)
+    → 0 < length before.rest → length taken < length (lines_of bytes)
+line-there input line passed line_ended kept bytes taken left before some =
+    omega (arith, ap length before.lines_are, length-append taken (lines_of before.rest), some-line before.rest some)
+
 pub read-too-long : (input line : ℕ) (check : CheckState) (reader : LineReaderState) (start left new_left : Option (List ℕ)) (result : Result (Option Span) LineFault)
     → Reading input line check reader start left → IsSpelling check.job → reader.input ≡ input → reader.line_limit ≡ line → result ≡ Err reading.LineTooLong
     → Answers reader left result → WhereTold start (λ bytes. CheckAnswer input line check.job bytes new_left (Err LineTooLong))
 read-too-long input line check reader start left new_left result before spelling input_is line_is is answers bytes known =
     let told = before.told bytes known in
-    let long = answer-at input line reader told.rest result (Err reading.LineTooLong) input_is line_is is (answers told.rest told.rest_is) in (
+    let long = answer-at input line reader told.rest result (Err reading.LineTooLong) input_is line_is is (answers told.rest told.rest_is) in
+    let some : 0 < length told.rest = omega (arith, long.0, length-take (position_or_len is_line_feed told.rest) told.rest) in (
       length before.taken,
-      good-front input line reader.passed reader.line_ended reader.kept bytes before.taken left check spelling before.has_taken told,
-      (long-at input line reader.passed reader.line_ended reader.kept bytes before.taken left told).0 long,
+      record {
+        before = good-front input line reader.passed reader.line_ended reader.kept bytes before.taken left check spelling before.has_taken told;
+        there = line-there input line reader.passed reader.line_ended reader.kept bytes before.taken left told some;
+        fault = (long-at input line reader.passed reader.line_ended reader.kept bytes before.taken left told).0 long;
+      },
     )
 
 pub read-past : (input line : ℕ) (check : CheckState) (reader : LineReaderState) (start left new_left : Option (List ℕ)) (result : Result (Option Span) LineFault)
-    → Reading input line check reader start left → IsSpelling check.job → reader.input ≡ input → reader.line_limit ≡ line → result ≡ Err reading.InputTooLong
+    → Reading input line check reader start left → IsSpelling check.job → reader.input ≡ input → reader.line_limit ≡ line → reader.passed ≤ input → result ≡ Err reading.InputTooLong
     → Answers reader left result → WhereTold start (λ bytes. CheckAnswer input line check.job bytes new_left (Err InputTooLong))
-read-past input line check reader start left new_left result before spelling input_is line_is is answers bytes known =
+read-past input line check reader start left new_left result before spelling input_is line_is within is answers bytes known =
     let told = before.told bytes known in
-    let long = answer-at input line reader told.rest result (Err reading.InputTooLong) input_is line_is is (answers told.rest told.rest_is) in (
+    let long = answer-at input line reader told.rest result (Err reading.InputTooLong) input_is line_is is (answers told.rest told.rest_is) in
+    let some : 0 < length told.rest = omega (arith, long.0, within) in (
       length before.taken,
-      good-front input line reader.passed reader.line_ended reader.kept bytes before.taken left check spelling before.has_taken told,
-      (long-at input line reader.passed reader.line_ended reader.kept bytes before.taken left told).1 long,
+      record {
+        before = good-front input line reader.passed reader.line_ended reader.kept bytes before.taken left check spelling before.has_taken told;
+        there = line-there input line reader.passed reader.line_ended reader.kept bytes before.taken left told some;
+        fault = (long-at input line reader.passed reader.line_ended reader.kept bytes before.taken left told).1 long;
+      },
     )
 
 -- a read failed

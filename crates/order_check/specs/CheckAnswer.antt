@@ -30,6 +30,12 @@ pub record IsRefusedAt (input line : ℕ) (job : Job) (bytes : List ℕ) (count 
   pub no_front : count < length (lines_of bytes) → ¬ (IsFront job (take (count + 1) (lines_of bytes)))
   pub no_recording : ¬ (IsRecording job bytes)
 
+-- the line behind so many is the first with a fault of its length, and some recording begins with the lines before it
+pub record IsCutAt (input line : ℕ) (job : Job) (bytes : List ℕ) (count : ℕ) (Fault : Type 0) : Type 0 where
+  pub before : IsGoodFront input line job bytes count
+  pub there : count < length (lines_of bytes)
+  pub fault : Fault
+
 -- a read failed behind so many lines: the bytes that were taken before it show neither the next line nor a fault of its
 -- length
 pub record IsStoppedAt (input line : ℕ) (job : Job) (bytes : List ℕ) (left : Option (List ℕ)) (count : ℕ) : Type 0 where
@@ -44,7 +50,15 @@ pub record IsStoppedAt (input line : ℕ) (job : Job) (bytes : List ℕ) (left :
 abbrev pub CheckAnswer : ℕ → ℕ → Job → List ℕ → Option (List ℕ) → Result Verdict CheckFault → Type 0
 CheckAnswer input line job bytes left (Ok (Yes events)) = IsWhole input line job bytes events
 CheckAnswer input line job bytes left (Ok (No number)) = (count : ℕ) × (number ≡ count + 1) × IsRefusedAt input line job bytes count
-CheckAnswer input line job bytes left (Err LineTooLong) = (count : ℕ) × IsGoodFront input line job bytes count × LineTooLongAt input line bytes count
-CheckAnswer input line job bytes left (Err InputTooLong) = (count : ℕ) × IsGoodFront input line job bytes count × InputTooLongAt input line bytes count
+CheckAnswer input line job bytes left (Err LineTooLong) = (count : ℕ) × IsCutAt input line job bytes count (LineTooLongAt input line bytes count)
+CheckAnswer input line job bytes left (Err InputTooLong) = (count : ℕ) × IsCutAt input line job bytes count (InputTooLongAt input line bytes count)
 CheckAnswer input line job bytes left (Err ReadFailed) = (count : ℕ) × IsStoppedAt input line job bytes left count
 CheckAnswer input line job bytes left (Err NoMemory) = Unit {0}
+
+-- an answer that tells of the file: neither want of memory nor a failed read
+abbrev pub Tells : Result Verdict CheckFault → Type 0
+Tells (Ok verdict) = Unit {0}
+Tells (Err LineTooLong) = Unit {0}
+Tells (Err InputTooLong) = Unit {0}
+Tells (Err ReadFailed) = ⊥
+Tells (Err NoMemory) = ⊥

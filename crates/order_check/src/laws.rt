@@ -1,9 +1,12 @@
 //! The laws on what the contracts of a check speak of.
-ghost use Rattle.std.specs.Prelude.{◌≡◌, ◌≢◌, ◌↔◌, ℕ, ◌≤◌, Bool, true, false, List, Some, All, length};
+ghost use Rattle.std.specs.Prelude.{◌≡◌, ◌≢◌, ◌↔◌, ℕ, ◌≤◌, Bool, true, false, List, Option, Some, Result, All, length};
 ghost use Rattle.hp_outside.specs.Lines.{lines_of};
 ghost use Rattle.hp_outside.specs.WholeLines.{IsLineText, text_of_lines};
 ghost use Rattle.record_scripts.specs.Job.{Job};
 ghost use Rattle.record_book.specs.Spelled.{AreQuiet, spelled};
+ghost use Rattle.order_check.specs.declared.verdict.CheckFault.{CheckFault};
+ghost use Rattle.order_check.specs.declared.verdict.Verdict.{Verdict};
+ghost use Rattle.order_check.specs.CheckAnswer.{CheckAnswer, Tells};
 ghost use Rattle.order_check.specs.FewOrders.{BeginsAsSpelled};
 ghost use Rattle.order_check.specs.Following.{is_front, whole_events};
 ghost use Rattle.order_check.specs.Fronts.{IsFront, IsRecording};
@@ -28,3 +31,10 @@ pub fn front_laws()
 {
     decimal_texts();
 }
+
+/// A file has one answer, but for want of memory and a failed read: so each comes exactly where what it says holds. It does
+/// nothing.
+pub fn one_answer()
+    ensures { (input line : ℕ) (job : Job) (bytes : List ℕ) (left other_left : Option (List ℕ)) (result other : Result Verdict CheckFault) → Tells result → Tells other →
+        CheckAnswer input line job bytes left result → CheckAnswer input line job bytes other_left other → result ≡ other }
+{}

@@ -11,7 +11,8 @@
 //!   (`followed`, `is_front`, `whole_events`), which a caller's report can cite.
 //! - The law `front_laws` says what these functions mean: `is_front` holds exactly of fronts, and `whole_events` tells
 //!   exactly of recordings. It also says that a front is one of few orders: that which the lines spell, with at most two
-//!   entries of one thread more (`BeginsAsSpelled`).
+//!   entries of one thread more (`BeginsAsSpelled`). The law `one_answer` says that a file has one answer, so that each comes
+//!   exactly where what it says holds.
 //!
 //! Lines call for the turns: one that names a thread for that thread's next turn, any other for the next one of the thread
 //! before. So each line tells what has to come, and what was compared is let go.
@@ -32,6 +33,6 @@ mod order_check;
 mod verdict;
 
 pub use check::check_order;
-pub use laws::front_laws;
+pub use laws::{front_laws, one_answer};
 pub use order_check::OrderCheck;
 pub use verdict::{CheckFault, LineRefusal, Verdict};

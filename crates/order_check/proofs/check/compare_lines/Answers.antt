@@ -1,4 +1,4 @@
-use Rattle.std.proofs.Common.{◌≡◌, ◌+◌, ℕ, List, [], ◌∷◌, ◌++◌, Some, None, Ok, Err, Bool, false, ap, sym, subst, refl, ◌∙◌, arith}
+use Rattle.std.proofs.Common.{◌≡◌, ◌+◌, ◌≤◌, ℕ, List, [], ◌∷◌, ◌++◌, Some, None, Ok, Err, Bool, false, ap, sym, subst, refl, ◌∙◌, arith}
 use Rattle.std.specs.Prelude.{is_some, if◌then◌else◌}
 use Rattle.hp_outside.specs.declared.span.LineFault.TheVariants as reading
 use Rattle.hp_outside.specs.NextLine.{IsLine}
@@ -111,8 +111,11 @@ returns-in-Err-LineTooLong-clause-answer g c =
 pub returns-in-Err-InputTooLong-clause-answer : goal.returns-in-Err-InputTooLong-clause-answer
 returns-in-Err-InputTooLong-clause-answer g c =
     let held = c.lines.invariant in
+    let next = c.next.ensures in
     let is : c.next.result ≡ Err reading.InputTooLong = c.in-Err-InputTooLong.is ∙ ap Err c.in-Err-InputTooLong.field-0-is in
+    let unmoved = next.unmoved (λ line. subst IsLine is line) in
+    let within : c.lines.lines.passed ≤ c.args.lines.now.input = omega (arith, next.within, unmoved.0, next.input, held.input) in
     subst (λ (j : Job). WhereTold (g.S.Store.left c.args.store.now) (λ bytes. CheckAnswer c.args.lines.now.input c.args.lines.now.line_limit j bytes (g.S.Store.left c.next.new.store) (Err InputTooLong))) held.same_job
     (read-past c.args.lines.now.input c.args.lines.now.line_limit c.lines.check c.lines.lines
     (g.S.Store.left c.args.store.now) (g.S.Store.left c.lines.store) (g.S.Store.left c.next.new.store) c.next.result
-    held.reading (subst IsSpelling (sym held.same_job) c.requires.spelling) held.input held.line_limit is (c.next.ensures.answer held.no_fault))
+    held.reading (subst IsSpelling (sym held.same_job) c.requires.spelling) held.input held.line_limit within is (next.answer held.no_fault))
