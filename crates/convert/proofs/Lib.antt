@@ -7,3 +7,5 @@ mod LineTexts
 mod Appends
 mod PointItems
 mod Faults
+mod Walks
+mod LeftBytes

@@ -1,5 +1,5 @@
 -- Which snapshot of a Massif file is folded.
-use Rattle.std.specs.Prelude.{ℕ, true, false, Bool, if◌then◌else◌, List, [], ◌∷◌, Option, Some, None, slice_get, option_and_then}
+use Rattle.std.specs.Prelude.{ℕ, true, false, Bool, if◌then◌else◌, List, [], Option, Some, None, slice_get, find, option_and_then, reverse}
 use Rattle.std.specs.Option.{option_map_or, option_or}
 use Rattle.cost_tree.specs.Costed.{Costed}
 use Rattle.massif_file.specs.declared.profile.HeapTree.{HeapTree}
@@ -29,9 +29,8 @@ abbrev pub if_marked : (HeapTree → Bool) → Snap → Option Snap
 if_marked passes snap = if passes snap.mark then Some snap else None
 
 -- the last snapshot whose mark passes
-unfoldable pub last_marked : (HeapTree → Bool) → List Snap → Option Snap
-last_marked passes [] = None
-last_marked passes (snap ∷ snaps) = option_or (last_marked passes snaps) (if_marked passes snap)
+abbrev pub last_marked : (HeapTree → Bool) → List Snap → Option Snap
+last_marked passes snaps = find (λ snap. passes snap.mark) (reverse snaps)
 
 -- the snapshot with this number, where it has a tree; without a number the last peak, and where there is none the last detailed one
 abbrev pub chosen : Option ℕ → Profile → Option Snap

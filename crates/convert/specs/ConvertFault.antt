@@ -1,5 +1,5 @@
 -- Why a profile can't be converted.
-use Rattle.std.specs.Prelude.{ℕ, ◌^◌, ◌||◌, nat_lt, Bool, if◌then◌else◌, Option, Some, None, sum, sum_by}
+use Rattle.std.specs.Prelude.{ℕ, ◌^◌, ◌||◌, nat_lt, Bool, if◌then◌else◌, List, Option, Some, None, sum, sum_by}
 use Rattle.cost_tree.specs.Costed.{Costed}
 use Rattle.dhat_json.specs.declared.figure.FigureKey.{FigureKey}
 use Rattle.dhat_json.specs.declared.figure.FigureKey.TheVariants.{Eb, Gb}
@@ -24,14 +24,18 @@ fault_if too_large = if too_large then Some TooLarge else None
 unfoldable pub folded_fault : FigureKey → Dhat → Option ConvertFault
 folded_fault key dhat = if has_figures key dhat then fault_if (is_too_large (sum (point_costs key dhat))) else Some NoFigures
 
--- what stands against those of a snapshot's tree: the numbers of its items sum to more than 2^62
-abbrev pub tree_fault : Option Snap → Option ConvertFault
-tree_fault None = Some NoTree
-tree_fault (Some snap) = fault_if (is_too_large (sum_by (λ (item : Costed). item.cost) (tree_items snap.tree)))
+-- what stands against those of some items: their numbers sum to more than 2^62
+abbrev pub items_fault : List Costed → Option ConvertFault
+items_fault items = fault_if (is_too_large (sum_by (λ (item : Costed). item.cost) items))
 
--- what stands against those of a Massif profile: no snapshot is chosen, or its tree has such a fault
+-- what stands against those of a snapshot: there is none, or its tree has such items
+abbrev pub snap_fault : Option Snap → Option ConvertFault
+snap_fault None = Some NoTree
+snap_fault (Some snap) = items_fault (tree_items snap.tree)
+
+-- what stands against those of a Massif profile: no snapshot is chosen, or the chosen one has such a fault
 unfoldable pub folded_massif_fault : Option ℕ → Profile → Option ConvertFault
-folded_massif_fault number profile = tree_fault (chosen number profile)
+folded_massif_fault number profile = snap_fault (chosen number profile)
 
 -- what stands against the Massif profile of a DHAT profile: its points tell of no lifetimes, or the time at its end, the bytes
 -- that were live at the peak or those that were live at the end are more than 2^62

@@ -7,3 +7,4 @@ pub mod Converted
 pub mod ConvertFault
 pub mod AreTreeSums
 pub mod Numbers
+pub mod Levels

@@ -1,6 +1,6 @@
 -- Laws of what contracts of trees cite, for the crates above.
-use Rattle.std.proofs.Common.{◌≡◌, ℕ, ◌+◌, ◌-◌, ◌<◌, ◌≤◌, not, Bool, List, [], ◌∷◌, ◌++◌, length, map, filter, take, get_or, Some, refl, ap, ◌∙◌, arith}
-use Rattle.std.specs.Prelude.{All, slice_get, sum, sum_by}
+use Rattle.std.proofs.Common.{◌≡◌, ◌≢◌, ℕ, ◌+◌, ◌-◌, ◌<◌, ◌≤◌, not, Bool, List, [], ◌∷◌, ◌++◌, length, map, filter, take, get_or, Some, refl, ap, ◌∙◌, arith}
+use Rattle.std.specs.Prelude.{All, AllPairs, Contains, slice_get, sum, sum_by}
 use Rattle.std.specs.List.{range_with_len}
 use Rattle.std.proofs.lemmas.List.{length_push}
 use Rattle.std.proofs.lemmas.List.Elements.{All-filter}
@@ -21,6 +21,7 @@ use Rattle.cost_tree.proofs.Alike.{IsSameTo-map, IsTreeOf-same, first-alike}
 use Rattle.cost_tree.proofs.Brothers as brothers
 use Rattle.cost_tree.proofs.Lists as lists
 use Rattle.cost_tree.proofs.Needing as needing
+use Rattle.cost_tree.proofs.Nexts as nexts
 use Rattle.cost_tree.proofs.NextSums.{next-whole}
 use Rattle.cost_tree.proofs.Orders.{by_cost-permutation}
 use Rattle.cost_tree.proofs.Sums as sums
@@ -78,6 +79,31 @@ kept-all P scale stacks front all =
     let kept : List (List ℕ) → Bool = λ next. not (is_small scale (cost_of stacks next)) in
     All-permutation P (filter kept (next_fronts front stacks)) (kept_fronts scale stacks front) (by_cost-permutation (cost_of stacks) (filter kept (next_fronts front stacks)))
     (All-filter kept P (next_fronts front stacks) all)
+
+-- the fronts that are one text longer have the stacks' texts, and a longer front costs no more
+pub next-texts : (P : List ℕ → Type 0) (front : List (List ℕ)) (stacks : List Costed) → All (λ (stack : Costed). All P stack.texts) stacks → All (All P) (next_fronts front stacks)
+next-texts = nexts.next-texts
+
+pub inclusive-longer : (front more : List (List ℕ)) (stacks : List Costed) → inclusive (front ++ more) stacks ≤ inclusive front stacks
+inclusive-longer = nexts.inclusive-longer
+
+-- where the threshold is 0, all have lines of their own: each goes on by its last text and costs something, each front one text
+-- longer that costs something is among them, and no two are one
+pub small-none : (scale : Scale) (stacks : List Costed) (front : List (List ℕ)) → scale.threshold ≡ 0 → small_fronts scale stacks front ≡ []
+small-none = nexts.small-none
+
+pub kept-next : (scale : Scale) (stacks : List Costed) (front : List (List ℕ)) → scale.threshold ≡ 0 → All (λ next. next ≡ front ++ last_of next ∷ []) (kept_fronts scale stacks front)
+kept-next scale stacks front all k d within = (nexts.kept-longer scale stacks front all k d within).is
+
+pub kept-some : (scale : Scale) (stacks : List Costed) (front : List (List ℕ)) → scale.threshold ≡ 0 → All (λ next. 0 < inclusive next stacks) (kept_fronts scale stacks front)
+kept-some scale stacks front all k d within = (nexts.kept-longer scale stacks front all k d within).some
+
+pub kept-held : (scale : Scale) (stacks : List Costed) (front next : List (List ℕ)) (text : List ℕ) → scale.threshold ≡ 0 → next ≡ front ++ text ∷ [] → 0 < inclusive next stacks
+    → Contains (kept_fronts scale stacks front) next
+kept-held = nexts.kept-held
+
+pub kept-apart : (scale : Scale) (stacks : List Costed) (front : List (List ℕ)) → scale.threshold ≡ 0 → AllPairs (λ earlier later. earlier ≢ later) (kept_fronts scale stacks front)
+kept-apart = nexts.kept-apart
 
 -- there are no more lines below a front's than stacks
 pub lines-few : (scale : Scale) (stacks : List Costed) (front : List (List ℕ)) (level : ℕ) → length (kept_fronts scale stacks front) + length (gathered_lines stacks level (small_fronts scale stacks front)) ≤ length stacks

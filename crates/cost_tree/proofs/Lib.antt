@@ -16,6 +16,7 @@ mod Ascending
 mod Brothers
 mod NextSums
 mod Orders
+mod Nexts
 mod Sorting
 mod ChildNodes
 mod Pushing

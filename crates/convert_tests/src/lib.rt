@@ -1,0 +1,7 @@
+//! Tests of the public calls of `convert`, in a crate of their own: a crate that has tests is proved twice.
+#![tactic(auto)]
+
+#[cfg(test)]
+mod folded;
+#[cfg(test)]
+mod profiles;
