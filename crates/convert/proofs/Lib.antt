@@ -9,3 +9,5 @@ mod PointItems
 mod Faults
 mod Walks
 mod LeftBytes
+mod TreeSums
+mod Writable

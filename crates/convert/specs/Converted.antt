@@ -1,5 +1,6 @@
 -- The Massif profile of a DHAT profile.
-use Rattle.std.specs.Prelude.{ℕ, if◌then◌else◌, List, [], ◌∷◌, Option, Some, None, bytes_eq, codes, min, sum}
+use Rattle.std.specs.Prelude.{ℕ, if◌then◌else◌, List, [], ◌∷◌, bytes_eq, codes, min, sum}
+use Rattle.std.specs.Option.{option_map_or}
 use Rattle.dhat_json.specs.declared.figure.FigureKey.{FigureKey}
 use Rattle.dhat_json.specs.declared.figure.FigureKey.TheVariants.{Eb, Gb}
 use Rattle.dhat_json.specs.declared.profile.Dhat.{Dhat}
@@ -30,11 +31,7 @@ unit_of unit = if bytes_eq unit (codes "instrs") then Instructions else Events
 
 -- the time of the peak, which is not after the end; the end where it isn't known
 abbrev pub peak_time : Dhat → ℕ
-peak_time dhat = time dhat.tg
-  where
-    time : Option ℕ → ℕ
-    time None = dhat.te
-    time (Some tg) = min tg dhat.te
+peak_time dhat = option_map_or (λ time. min time dhat.te) dhat.tg dhat.te
 
 -- a snapshot at this time: the sum of a figure, and the tree of the points by it
 abbrev pub snap_of : ℕ → HeapTree → FigureKey → Dhat → Snap
