@@ -46,7 +46,7 @@ pub const fn sound(most_events: u16) -> Setting {
     }
 }
 
-/// A folder with the script `s`, the scripts `s0` and `s1`, and the modules file `m`.
+/// A folder with the file `s`, the scripts `s0`, `s1` and `r`, and the modules file `m`.
 fn folder(alloc: Global, setting: &Setting, script: &[u8]) -> Result<MemStore, Fail>
     ensures unopened { IfOk result (λ store. store.store.opens ≡ 0) }
 {
@@ -55,6 +55,7 @@ fn folder(alloc: Global, setting: &Setting, script: &[u8]) -> Result<MemStore, F
     store.add("s", script)?;
     store.add("s0", b"a 1 40 500 400\nf 1\n")?;
     store.add("s1", b"a 1 8 400\n")?;
+    store.add("r", b"a 1 10 1\nr 1 20 1\nr 1 20 2\n")?;
     store.add("m", MODULES.as_bytes())?;
     Ok(store)
 }
