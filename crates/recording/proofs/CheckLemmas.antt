@@ -44,7 +44,7 @@ passed_end texts name job (Refused taken number told) rest now last given zero g
 passed_end texts name job (Wanting taken) rest now last given zero goes = absurd (omega (arith, zero, ap (λ (a : Answer). a.status) goes.0))
 passed_end texts name job (Unwritten taken count) rest now last given zero goes = absurd (omega (arith, zero, ap (λ (a : Answer). a.status) goes.0))
 passed_end texts name job (Passed taken) rest now last given zero goes =
-    (taken, (refl, (goes.0, (goes.1.0 ∙ ap (λ bytes. after bytes goes.0) (nothing_written job taken), goes.1.1))))
+    (taken, (refl, (goes.0, (goes.1 ∙ ap (λ bytes. after bytes goes.0) (nothing_written job taken), goes.2))))
 
 -- what was made of the lines of a trace, with a status of 0
 verdict_says : (texts : Texts) (name : List ℕ) (found : Option ℕ) (answer : Answer) → answer.status ≡ 0
@@ -60,7 +60,7 @@ second_none None second is = is
 second_none (Some refusal) second is = absurd (cc)
 
 -- an end without a fault
-end_says : (found : Option ℕ) (number : ℕ) → option_map (λ told. record { number = number; told = told }) (end_told found) ≡ None → (events : ℕ) × (found ≡ Some events)
+end_says : (found : Option ℕ) (number : ℕ) → option_map {U = Refusal} (λ told. record { number = number; told = told }) (end_told found) ≡ None → (events : ℕ) × (found ≡ Some events)
 end_says None number is = absurd (cc)
 end_says (Some events) number is = (events, refl)
 

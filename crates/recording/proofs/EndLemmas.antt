@@ -1,5 +1,5 @@
 -- From the reading of files to the run of the words, and from there to all that is promised of a run.
-use Rattle.std.proofs.Common.{◌≡◌, ◌≢◌, ◌⊎◌, ℕ, ◌+◌, ◌≤◌, Bool, true, List, [], ◌++◌, length, Option, Some, None, Ok, Err, refl, ap, sym, subst, ◌∙◌, inl, inr, Vec, Result, arith}
+use Rattle.std.proofs.Common.{◌≡◌, ◌≢◌, ◌⊎◌, ℕ, ◌+◌, ◌≤◌, Bool, true, List, [], ◌∷◌, ◌++◌, length, option_to_list, Option, Some, None, Ok, Err, refl, ap, sym, subst, ◌∙◌, inl, inr, Vec, Result, arith}
 use Rattle.std.proofs.lemmas.Bool.Decides.{eqb_tells}
 use Rattle.std.specs.Io.KnownBytes.{append_known}
 use Rattle.hp_outside.specs.Faults.{Rose}
@@ -19,7 +19,7 @@ use Rattle.command_frame.specs.Moment.{Moment}
 use Rattle.command_frame.specs.Plan.{one_file}
 use Rattle.command_frame.specs.Run.{Ran}
 use Rattle.command_frame.specs.RunFacts.{NotRead}
-use Rattle.command_frame.specs.RunsTo.{RunsTo, Shown, Taken, rest_of}
+use Rattle.command_frame.specs.RunsTo.{RunsTo, Shown, Taken, rest_of, status_of}
 use Rattle.command_frame.specs.Texts.{Texts, texts_of}
 use Rattle.command_frame.proofs.Laws.{append_further, append_nothing, fronts_behind, fronts_later, run_facts, status_told}
 use Rattle.record_scripts.specs.Job.{Job}
