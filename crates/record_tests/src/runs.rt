@@ -97,8 +97,8 @@ fn put_run(out: &MemSink, err: &MemSink, status: u8, all: &mut Vec<u8>) -> Resul
     put_bytes(all, b"]\n")
 }
 
-/// Runs the words and appends what both outputs got and the status in brackets. The folder has the script `s`, the scripts `s0` and
-/// `s1`, and the modules file `m`.
+/// Runs the words and appends what both outputs got and the status in brackets. The folder has the file `s`, the scripts `s0`,
+/// `s1` and `r`, and the modules file `m`.
 pub fn append_run<R: Threads + Wait + Sync, G: Gate + Sync>(
     rt: &R,
     alloc: Global,
