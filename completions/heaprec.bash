@@ -1,7 +1,7 @@
 # Completion of heaprec for bash.
 
 _heaprec() {
-    local current=$2 previous=${COMP_WORDS[COMP_CWORD - 1]} words='--modules= --summary'
+    local current=$2 previous=${COMP_WORDS[COMP_CWORD - 1]} words='--modules= --summary --check='
     COMPREPLY=()
     # Readline parts `--NAME=VALUE` at the equals sign.
     if [ "$current" = '=' ]; then

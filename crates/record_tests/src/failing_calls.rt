@@ -152,14 +152,51 @@ t 500 1
 - 10000
 + 8 1 10040
 [4]
+$ --check=t s0 s1
+store 1
+heaprec: s0: cannot open
+[3]
+store 2
+heaprec: s0: cannot read
+[3]
+store 3
+heaprec: s0: cannot read
+[3]
+store 4
+heaprec: s1: cannot open
+[3]
+store 5
+heaprec: s1: cannot read
+[3]
+store 6
+heaprec: s1: cannot read
+[3]
+store 7
+heaprec: t: cannot open
+[3]
+store 8
+heaprec: t: cannot read
+[3]
+store 9
+heaprec: t: cannot read
+[3]
+out 1
+heaprec: write failed
+[4]
+out 2
+a recording of 3 events
+[4]
+err 1
+a recording of 3 events
+[4]
 $ --summary
 out 1
-usage: heaprec [--modules=FILE] [--summary] SCRIPT...
+usage: heaprec [--modules=FILE] [--summary] [--check=TRACE] SCRIPT...
 [4]
 err 1
 [4]
 err 2
-usage: heaprec [--modules=FILE] [--summary] SCRIPT...
+usage: heaprec [--modules=FILE] [--summary] [--check=TRACE] SCRIPT...
 [4]
 ";
 

@@ -6,6 +6,7 @@
 //! | `script_tests`, `book_tests` | lines of scripts, and the traces and summaries of small scripts |
 //! | `worker_tests` | that the workers take the turns, beside each other, in numbered holds |
 //! | `run_tests` | runs whose text is the same whatever the threads do |
+//! | `check_tests` | runs that check a trace |
 //! | `thread_run_tests` | runs of two scripts by threads |
 //! | `failing_calls` | each call of a run that can fail, failed once |
 //! | `gates`, `runs`, `script_text` | what they share |
@@ -13,6 +14,8 @@
 
 #[cfg(test)]
 mod book_tests;
+#[cfg(test)]
+mod check_tests;
 #[cfg(test)]
 mod failing_calls;
 #[cfg(test)]

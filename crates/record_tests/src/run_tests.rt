@@ -9,8 +9,8 @@ use std::sync::Wait;
 use std::test::Fail;
 use std::thread::Threads;
 
-/// Plays the lines of a transcript and gives what then stands there. A line behind `> ` is one more of the script `s`, up to the
-/// next run; the words behind `$ ` are run; all other lines are what a run wrote.
+/// Plays the lines of a transcript and gives what then stands there. A line behind `> ` is one more of the file `s`, up to the
+/// next run, and one behind `>. ` has no line feed; the words behind `$ ` are run; all other lines are what a run wrote.
 fn played<R: Threads + Wait + Sync>(
     rt: &R,
     alloc: Global,
@@ -25,6 +25,11 @@ fn played<R: Threads + Wait + Sync>(
             put_bytes(&mut all, b"\n")?;
             put_bytes(&mut script, more.as_bytes())?;
             put_bytes(&mut script, b"\n")?;
+        }
+        if let Some(last) = line.strip_prefix(">. ") {
+            put_bytes(&mut all, line.as_bytes())?;
+            put_bytes(&mut all, b"\n")?;
+            put_bytes(&mut script, last.as_bytes())?;
         }
         if let Some(words) = line.strip_prefix("$ ") {
             put_bytes(&mut all, line.as_bytes())?;
@@ -45,7 +50,7 @@ fn played<R: Threads + Wait + Sync>(
 }
 
 /// Plays a transcript and asserts that it is what was written.
-fn expect<R: Threads + Wait + Sync + Abort>(
+pub fn expect<R: Threads + Wait + Sync + Abort>(
     rt: &R,
     alloc: Global,
     most_events: u16,
@@ -101,13 +106,13 @@ v 10500 2
 X heaprec
 [0]
 $ 
-usage: heaprec [--modules=FILE] [--summary] SCRIPT...
+usage: heaprec [--modules=FILE] [--summary] [--check=TRACE] SCRIPT...
 [2]
 $ --help
-usage: heaprec [--modules=FILE] [--summary] SCRIPT...
+usage: heaprec [--modules=FILE] [--summary] [--check=TRACE] SCRIPT...
 [2]
 $ - -
-usage: heaprec [--modules=FILE] [--summary] SCRIPT...
+usage: heaprec [--modules=FILE] [--summary] [--check=TRACE] SCRIPT...
 [2]
 $ s0 none s1
 heaprec: none: no such file
@@ -125,16 +130,16 @@ $ --modules=m - s0
 heaprec: -: no such file
 [3]
 $ --modules - - s0
-usage: heaprec [--modules=FILE] [--summary] SCRIPT...
+usage: heaprec [--modules=FILE] [--summary] [--check=TRACE] SCRIPT...
 [2]
 $ --summary
-usage: heaprec [--modules=FILE] [--summary] SCRIPT...
+usage: heaprec [--modules=FILE] [--summary] [--check=TRACE] SCRIPT...
 [2]
 $ --modules=-
-usage: heaprec [--modules=FILE] [--summary] SCRIPT...
+usage: heaprec [--modules=FILE] [--summary] [--check=TRACE] SCRIPT...
 [2]
 $ --modules=m --modules=m s0
-usage: heaprec [--modules=FILE] [--summary] SCRIPT...
+usage: heaprec [--modules=FILE] [--summary] [--check=TRACE] SCRIPT...
 [2]
 $ -- --summary
 heaprec: --summary: no such file

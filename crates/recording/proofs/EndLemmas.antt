@@ -1,5 +1,5 @@
 -- From the reading of files to the run of the words, and from there to all that is promised of a run.
-use Rattle.std.proofs.Common.{◌≡◌, ◌≢◌, ◌⊎◌, ℕ, ◌+◌, ◌≤◌, Bool, true, List, [], ◌++◌, length, Option, Some, None, Ok, Err, refl, ap, sym, subst, ◌∙◌, inl, inr, append-nil, arith}
+use Rattle.std.proofs.Common.{◌≡◌, ◌≢◌, ◌⊎◌, ℕ, ◌+◌, ◌≤◌, Bool, true, List, [], ◌∷◌, ◌++◌, length, option_to_list, Option, Some, None, Ok, Err, refl, ap, sym, subst, ◌∙◌, inl, inr, Vec, Result, arith}
 use Rattle.std.proofs.lemmas.Bool.Decides.{eqb_tells}
 use Rattle.std.specs.Io.KnownBytes.{append_known}
 use Rattle.hp_outside.specs.Faults.{Rose}
@@ -10,40 +10,43 @@ use Rattle.command_frame.specs.declared.desk.Desk.{Desk}
 use Rattle.command_frame.specs.declared.halt.Halt.{Halt}
 use Rattle.command_frame.specs.declared.halt.Message.TheVariants.{OutOfMemory}
 use Rattle.command_frame.specs.declared.halt.Status.TheVariants.{NoMemory}
-use Rattle.command_frame.specs.Answer.{Answer, done, memory_answer, usage_answer}
+use Rattle.command_frame.specs.Answer.{Answer, after, done, memory_answer, usage_answer}
 use Rattle.command_frame.specs.Delivery.{Delivered, GainsFronts}
 use Rattle.command_frame.specs.FirstFault.{Bounds, bounds_of}
 use Rattle.command_frame.specs.Halts.{halt_answer}
 use Rattle.command_frame.specs.OutcomeAnswer.{outcome_answer}
 use Rattle.command_frame.specs.Moment.{Moment}
-use Rattle.command_frame.specs.Plan.{Ends}
-use Rattle.command_frame.specs.Report.{Writes}
+use Rattle.command_frame.specs.Plan.{one_file}
 use Rattle.command_frame.specs.Run.{Ran}
 use Rattle.command_frame.specs.RunFacts.{NotRead}
-use Rattle.command_frame.specs.RunsTo.{Shown, Taken}
+use Rattle.command_frame.specs.RunsTo.{RunsTo, Shown, Taken, rest_of, status_of}
 use Rattle.command_frame.specs.Texts.{Texts, texts_of}
-use Rattle.command_frame.proofs.Laws.{append_nothing, fronts_later, run_facts}
+use Rattle.command_frame.proofs.Laws.{append_further, append_nothing, fronts_behind, fronts_later, run_facts, status_told}
 use Rattle.record_scripts.specs.Job.{Job}
-use Rattle.recording.specs.Answer.{asked_answer, names_asked, record_plan}
+use Rattle.recording.specs.Answer.{asked_answer, names_asked, names_of, record_plan, task_plan, trace_asked}
+use Rattle.recording.specs.CheckReport.{check_report}
 use Rattle.recording.specs.FileLines.{no_job}
-use Rattle.recording.specs.FilesPlan.{files_front, files_named}
+use Rattle.recording.specs.FilesPlan.{files_front, job_in}
 use Rattle.recording.specs.FrontRead.{FrontRead}
 use Rattle.recording.specs.HeaprecRan.{HasDelivered, HeaprecRan, IsDelivered}
 use Rattle.recording.specs.Recorded.{IsRecorded}
-use Rattle.recording.specs.RecordWords.{RecordAsked}
-use Rattle.recording.specs.Run.{IsRecording, WordsRan, WordsRunTo}
+use Rattle.recording.specs.RecordWords.{Checks, RecordAsked, Records, Task, trace_of}
+use Rattle.recording.specs.Run.{IsDone, IsDoneBy, IsRecording, WordsRan, WordsRunTo}
 use Rattle.recording.specs.Texts.{heaprec_texts}
+use Rattle.recording.proofs.CheckLemmas.{WholeLaw, checked_run}
 use Rattle.recording.proofs.HaltLemmas.{code_isnt_zero}
-use Rattle.recording.proofs.SilentLemmas.{files_silent}
+use Rattle.recording.proofs.SilentLemmas.{files_silent, task_silent}
 
--- a run of what was asked, with the texts of the program and without the list of no further files
+-- a run of what was asked, with the texts of the program
 ran_asked : (desk : Desk) (limit : ℕ) (files : Option Folder) (asked : RecordAsked) (text : List ℕ) (before now : Moment) (answer : Texts → Answer) → texts_of desk.texts ≡ heaprec_texts
-    → Ran (texts_of desk.texts) (bounds_of desk.limits) files [] (files_named asked.modules asked.scripts ++ []) (record_plan limit text asked) before now (answer (texts_of desk.texts))
+    → Ran (texts_of desk.texts) (bounds_of desk.limits) files [] (names_of asked) (record_plan limit text asked) before now (answer (texts_of desk.texts))
     → WordsRan (bounds_of desk.limits) limit files text (Some asked) before now (answer heaprec_texts)
 ran_asked desk limit files asked text before now answer texts ran =
-    inr (subst (λ (t : Texts). Ran t (bounds_of desk.limits) files [] (files_named asked.modules asked.scripts) (record_plan limit text asked) before now (answer t)) texts
-    (subst (λ (names : List (List ℕ)). Ran (texts_of desk.texts) (bounds_of desk.limits) files [] names (record_plan limit text asked) before now (answer (texts_of desk.texts)))
-    (append-nil (files_named asked.modules asked.scripts)) ran))
+    inr (subst (λ (t : Texts). Ran t (bounds_of desk.limits) files [] (names_of asked) (record_plan limit text asked) before now (answer t)) texts ran)
+
+-- what is asked for, by its parts
+abbrev pub asks : Option (List ℕ) → List (List ℕ) → Task → RecordAsked
+asks modules scripts task = record { modules = modules; scripts = scripts; task = task }
 
 -- the files weren't read
 pub asked_halted : (may_write : Bool → Job → List ℕ → Type 0) (desk : Desk) (limit : ℕ) (asked : RecordAsked) (before now : Shown) (old new : Taken) (halt : Halt) → texts_of desk.texts ≡ heaprec_texts
@@ -51,47 +54,76 @@ pub asked_halted : (may_write : Bool → Job → List ℕ → Type 0) (desk : De
     → WordsRunTo may_write (bounds_of desk.limits) limit (Some asked) before now old new (halt_answer heaprec_texts halt)
 asked_halted may_write desk limit asked before now old new halt texts read = record {
   text = [];
-  ran = ran_asked desk limit before.files asked [] before.moment now.moment (λ t. halt_answer t halt) texts (read.goes_on [] [] (λ job. Ends (Writes [])));
-  recording = λ zero. absurd (code_isnt_zero halt.status zero);
-  silent = read.silent;
+  ran = ran_asked desk limit before.files asked [] before.moment now.moment (λ t. halt_answer t halt) texts (read.goes_on [] (option_to_list (trace_of asked.task)) (task_plan [] asked.task));
+  early = [];
+  written = read.silent ∙ sym (append_nothing old.written);
+  done = λ zero. absurd (code_isnt_zero halt.status zero);
   files = read.files;
   unwritten = read.unwritten;
   sound = read.sound;
 }
 
 -- the files were read, and what they say was recorded
-pub asked_done : (may_write : Bool → Job → List ℕ → Type 0) (desk : Desk) (limit : ℕ) (asked : RecordAsked) (before now : Shown) (old new : Taken) (job : Job) (text : List ℕ) → texts_of desk.texts ≡ heaprec_texts
-    → FrontRead desk (files_front asked.modules asked.scripts (no_job limit)) before now old new (Ok job)
-    → IsRecording may_write limit before.files (Some asked) text
-    → WordsRunTo may_write (bounds_of desk.limits) limit (Some asked) before now old new (done text)
-asked_done may_write desk limit asked before now old new job text texts read recording =
-    let leads = read.goes_on [] [] (λ job. Ends (Writes text)) in
+pub asked_done : (may_write : Bool → Job → List ℕ → Type 0) (desk : Desk) (limit : ℕ) (modules : Option (List ℕ)) (scripts : List (List ℕ)) (summary : Bool) (before now : Shown) (old new : Taken) (job : Job) (text : List ℕ) → texts_of desk.texts ≡ heaprec_texts
+    → FrontRead desk (files_front modules scripts (no_job limit)) before now old new (Ok job)
+    → IsRecording may_write limit before.files (Some (asks modules scripts (Records summary))) text
+    → WordsRunTo may_write (bounds_of desk.limits) limit (Some (asks modules scripts (Records summary))) before now old new (done text)
+asked_done may_write desk limit modules scripts summary before now old new job text texts read recording =
+    let leads = read.goes_on [] [] (task_plan text (Records summary)) in
     record {
       text = text;
-      ran = ran_asked desk limit before.files asked text before.moment now.moment (λ t. done text) texts (leads.1 now.moment (done text) (refl, inl refl));
-      recording = λ zero. recording;
-      silent = read.silent;
+      early = [];
+      written = read.silent ∙ sym (append_nothing old.written);
+      ran = ran_asked desk limit before.files (asks modules scripts (Records summary)) text before.moment now.moment (λ t. done text) texts (leads.1 now.moment (done text) (refl, inl refl));
+      done = λ zero. recording;
       files = read.files;
       unwritten = λ four. absurd (omega (arith, four));
       sound = λ other. read.sound (λ four. absurd (omega (arith, four)));
     }
 
 -- the files were read, and memory was wanting for a recording
-pub asked_wanting : (may_write : Bool → Job → List ℕ → Type 0) (desk : Desk) (limit : ℕ) (asked : RecordAsked) (before now : Shown) (old new : Taken) (job : Job) (halt : Halt) → texts_of desk.texts ≡ heaprec_texts
-    → FrontRead desk (files_front asked.modules asked.scripts (no_job limit)) before now old new (Ok job) → halt ≡ record { message = OutOfMemory; status = NoMemory }
-    → WordsRunTo may_write (bounds_of desk.limits) limit (Some asked) before now old new (halt_answer heaprec_texts halt)
-asked_wanting may_write desk limit asked before now old new job halt texts read is =
-    let leads = read.goes_on [] [] (λ job. Ends (Writes [])) in
+pub asked_wanting : (may_write : Bool → Job → List ℕ → Type 0) (desk : Desk) (limit : ℕ) (modules : Option (List ℕ)) (scripts : List (List ℕ)) (summary : Bool) (before now : Shown) (old new : Taken) (job : Job) (halt : Halt) → texts_of desk.texts ≡ heaprec_texts
+    → FrontRead desk (files_front modules scripts (no_job limit)) before now old new (Ok job) → halt ≡ record { message = OutOfMemory; status = NoMemory }
+    → WordsRunTo may_write (bounds_of desk.limits) limit (Some (asks modules scripts (Records summary))) before now old new (halt_answer heaprec_texts halt)
+asked_wanting may_write desk limit modules scripts summary before now old new job halt texts read is =
+    let leads = read.goes_on [] [] (task_plan [] (Records summary)) in
     let five : (halt_answer heaprec_texts halt).status ≡ 5 = ap (λ (h : Halt). (halt_answer heaprec_texts h).status) is in
     record {
       text = [];
-      ran = ran_asked desk limit before.files asked [] before.moment now.moment (λ t. halt_answer t halt) texts
+      early = [];
+      written = read.silent ∙ sym (append_nothing old.written);
+      ran = ran_asked desk limit before.files (asks modules scripts (Records summary)) [] before.moment now.moment (λ t. halt_answer t halt) texts
           (leads.1 now.moment (halt_answer (texts_of desk.texts) halt) (refl, inr (ap (halt_answer (texts_of desk.texts)) is)));
-      recording = λ zero. absurd (code_isnt_zero halt.status zero);
-      silent = read.silent;
+      done = λ zero. absurd (code_isnt_zero halt.status zero);
       files = read.files;
       unwritten = λ four. absurd (omega (arith, four, five));
       sound = λ other. read.sound (λ four. absurd (omega (arith, four)));
+    }
+
+-- the files were read, and a trace was run over
+pub asked_checked : {Z : Type 0} (may_write : Bool → Job → List ℕ → Type 0) (desk : Desk) (limit : ℕ) (modules : Option (List ℕ)) (scripts : List (List ℕ)) (trace : List ℕ) (before mid now : Shown) (old between new : Taken) (job : Job)
+    (result : Result (Vec ℕ Z) Halt) → texts_of desk.texts ≡ heaprec_texts → WholeLaw job → WhereTold before.files (λ folder. job ≡ job_in folder modules scripts limit)
+    → FrontRead desk (files_front modules scripts (no_job limit)) before mid old between (Ok job)
+    → RunsTo desk (trace ∷ []) (one_file trace (check_report job)) mid now between new result
+    → WordsRunTo may_write (bounds_of desk.limits) limit (Some (asks modules scripts (Checks trace))) before now old new (rest_of heaprec_texts result)
+asked_checked may_write desk limit modules scripts trace before mid now old between new job result texts law told read check =
+    let leads = read.goes_on [] (trace ∷ []) (task_plan [] (Checks trace)) in
+    let run = check.ran leads.0 in
+    let ran : Ran (texts_of desk.texts) (bounds_of desk.limits) before.files leads.0 (trace ∷ []) (one_file trace (check_report job)) mid.moment now.moment (after run.0 (rest_of (texts_of desk.texts) result)) =
+    subst (λ files. Ran (texts_of desk.texts) (bounds_of desk.limits) files leads.0 (trace ∷ []) (one_file trace (check_report job)) mid.moment now.moment (after run.0 (rest_of (texts_of desk.texts) result))) read.files run.1.1 in
+    let same : between.faults ≡ old.faults = read.sound (λ four. absurd (omega (arith, four))) in
+    let status : (rest_of heaprec_texts result).status ≡ status_of result = status_told heaprec_texts result in
+    record {
+      text = [];
+      early = run.0;
+      written = run.1.0 ∙ ap (λ o. append_known o run.0) read.silent;
+      ran = ran_asked desk limit before.files (asks modules scripts (Checks trace)) [] before.moment now.moment (λ t. after run.0 (rest_of t result)) texts
+          (leads.1 now.moment (after run.0 (rest_of (texts_of desk.texts) result)) ran);
+      done = λ zero. checked_run heaprec_texts (bounds_of desk.limits) limit before.files modules scripts leads.0 trace job mid.moment now.moment (after run.0 (rest_of heaprec_texts result)) law told
+          (subst (λ (t : Texts). Ran t (bounds_of desk.limits) before.files leads.0 (trace ∷ []) (one_file trace (check_report job)) mid.moment now.moment (after run.0 (rest_of t result))) texts ran) zero;
+      files = check.files ∙ read.files;
+      unwritten = λ four. subst (λ n. Rose n new.faults) same (check.unwritten (sym status ∙ four));
+      sound = λ other. check.sound (λ four. other (status ∙ four)) ∙ same;
     }
 
 -- what runs of a request come to, runs of the words that ask for it come to
@@ -108,9 +140,10 @@ words_not_run may_write bounds limit asking store out given (inl memory) =
     let five : given.status ≡ 5 = ap (λ (a : Answer). a.status) memory in
     record {
       text = [];
+      early = [];
+      written = sym (append_nothing out.written);
       ran = inl (refl, memory);
-      recording = λ zero. absurd (omega (arith, zero, five));
-      silent = refl;
+      done = λ zero. absurd (omega (arith, zero, five));
       files = refl;
       unwritten = λ four. absurd (omega (arith, four, five));
       sound = λ other. refl;
@@ -120,41 +153,45 @@ words_not_run may_write bounds limit asking store out given (inr usage) =
     record {
       text = [];
       ran = subst (λ (o : Option RecordAsked). WordsRan bounds limit store.files [] o store.moment store.moment given) (sym usage.1) (inr (refl, usage.0));
-      recording = λ zero. absurd (omega (arith, zero, two));
-      silent = refl;
+      early = [];
+      written = sym (append_nothing out.written);
+      done = λ zero. absurd (omega (arith, zero, two));
       files = refl;
       unwritten = λ four. absurd (omega (arith, four, two));
       sound = λ other. refl;
     }
 
--- an outcome was delivered where nothing was written before
-pub is_delivered : (outcome : Outcome) (texts : Texts) (status : ℕ) (old mid new err_old err_new : Taken) → texts ≡ heaprec_texts
-    → mid.written ≡ old.written → ((outcome_answer heaprec_texts outcome).status ≡ 4 → Rose old.faults mid.faults) → ((outcome_answer heaprec_texts outcome).status ≢ 4 → mid.faults ≡ old.faults)
+-- an outcome was delivered behind bytes that were written early
+pub is_delivered : (outcome : Outcome) (texts : Texts) (status : ℕ) (early : List ℕ) (old mid new err_old err_new : Taken) → texts ≡ heaprec_texts
+    → mid.written ≡ append_known old.written early → ((outcome_answer heaprec_texts outcome).status ≡ 4 → Rose old.faults mid.faults) → ((outcome_answer heaprec_texts outcome).status ≢ 4 → mid.faults ≡ old.faults)
     → (status ≢ 4 → Delivered (outcome_answer texts outcome) status mid.written new.written err_old.written err_new.written)
     → GainsFronts texts.write_failed (outcome_answer texts outcome) (Rose mid.faults new.faults) (Rose err_old.faults err_new.faults) mid.written new.written err_old.written err_new.written
     → ((bytes : List ℕ) → mid.written ≡ Some bytes → new.written ≡ append_known mid.written (outcome_answer texts outcome).output → GainsFront err_old.written err_new.written (outcome_answer texts outcome).message)
     → (status ≡ 4 → (outcome_answer texts outcome).status ≢ 4 → ¬ Rose mid.faults new.faults → Rose err_old.faults err_new.faults)
     → ((outcome_answer texts outcome).status ≡ 4 → status ≡ 4)
     → (status ≢ 4 → new.faults ≡ mid.faults) → (status ≢ 4 → err_new.faults ≡ err_old.faults) → mid.faults ≤ new.faults
-    → IsDelivered (outcome_answer heaprec_texts outcome) status old new err_old err_new
-is_delivered outcome texts status old mid new err_old err_new is same unwritten sound delivers gains own cause given out_sound err_sound out_faults =
+    → IsDelivered (after early (outcome_answer heaprec_texts outcome)) status old new err_old err_new
+is_delivered outcome texts status early old mid new err_old err_new is written unwritten sound delivers gains own cause given out_sound err_sound out_faults =
     let answer = outcome_answer heaprec_texts outcome in
+    let whole : append_known mid.written answer.output ≡ append_known old.written (early ++ answer.output) =
+    ap (λ o. append_known o answer.output) written ∙ append_further old.written early answer.output in
     let later : Rose mid.faults new.faults → Rose old.faults new.faults = λ rose. elim (eqb_tells answer.status 4) [
-      | inl four ↦ let early = unwritten four.1 in omega (arith, early, out_faults)
+      | inl four ↦ let before = unwritten four.1 in omega (arith, before, out_faults)
       | inr other ↦ subst (λ n. Rose n new.faults) (sound other.1) rose
     ] in
     record {
       whole = λ four.
-          subst (λ (o : Option (List ℕ)). Delivered answer status o new.written err_old.written err_new.written) same
-          (subst (λ (t : Texts). Delivered (outcome_answer t outcome) status mid.written new.written err_old.written err_new.written) is (delivers four));
-      fronts = subst (λ (o : Option (List ℕ)). GainsFronts heaprec_texts.write_failed answer (Rose old.faults new.faults) (Rose err_old.faults err_new.faults) o new.written err_old.written err_new.written) same
-          (fronts_later later (λ rose. rose) refl refl
+          let delivered : Delivered answer status mid.written new.written err_old.written err_new.written =
+          subst (λ (t : Texts). Delivered (outcome_answer t outcome) status mid.written new.written err_old.written err_new.written) is (delivers four) in
+          record { status_is = delivered.status_is; output = delivered.output ∙ whole; message = delivered.message };
+      fronts = fronts_behind heaprec_texts.write_failed early answer written (fronts_later later (λ rose. rose) refl refl
           (subst (λ (t : Texts). GainsFronts t.write_failed (outcome_answer t outcome) (Rose mid.faults new.faults) (Rose err_old.faults err_new.faults) mid.written new.written err_old.written err_new.written) is gains));
-      own_message = subst (λ (o : Option (List ℕ)). (bytes : List ℕ) → o ≡ Some bytes → new.written ≡ append_known o answer.output → GainsFront err_old.written err_new.written answer.message) same
-          (subst (λ (t : Texts). (bytes : List ℕ) → mid.written ≡ Some bytes → new.written ≡ append_known mid.written (outcome_answer t outcome).output → GainsFront err_old.written err_new.written (outcome_answer t outcome).message) is own);
-      unwritten = λ four. let early = unwritten four in omega (arith, early, out_faults);
+      own_message = λ bytes known all.
+          subst (λ (t : Texts). (bytes : List ℕ) → mid.written ≡ Some bytes → new.written ≡ append_known mid.written (outcome_answer t outcome).output → GainsFront err_old.written err_new.written (outcome_answer t outcome).message) is own
+          (bytes ++ early) (written ∙ ap (λ o. append_known o early) known) (all ∙ sym whole);
+      unwritten = λ four. let before = unwritten four in omega (arith, before, out_faults);
       write = λ four quiet. elim (eqb_tells answer.status 4) [
-        | inl failed ↦ let early = unwritten failed.1 in absurd (quiet (omega (arith, early, out_faults)))
+        | inl failed ↦ let before = unwritten failed.1 in absurd (quiet (omega (arith, before, out_faults)))
         | inr other ↦ subst (λ (t : Texts). status ≡ 4 → (outcome_answer t outcome).status ≢ 4 → ¬ Rose mid.faults new.faults → Rose err_old.faults err_new.faults) is cause four other.1 (λ rose. quiet (later rose))
       ];
       out_faults = λ other. out_sound other ∙ sound (λ four. other (subst (λ (t : Texts). (outcome_answer t outcome).status ≡ 4 → status ≡ 4) is given four));
@@ -222,7 +259,7 @@ asked_facts bounds limit files text None before now given (inr ran) =
       silent = λ some. ap (λ (a : Answer). a.output) ran.1;
     }
 asked_facts bounds limit files text (Some asked) before now given (inr ran) =
-    let facts = run_facts heaprec_texts bounds files [] (files_named asked.modules asked.scripts) (record_plan limit text asked) before now given ran in
+    let facts = run_facts heaprec_texts bounds files [] (names_of asked) (record_plan limit text asked) before now given ran in
     record {
       judged = facts.judged;
       quiet = facts.quiet;
@@ -236,7 +273,7 @@ asked_facts bounds limit files text (Some asked) before now given (inr ran) =
       bounded = facts.bounded;
       usage = λ none five. absurd (cc);
       only_usage = λ two. absurd (facts.not_usage two);
-      silent = facts.silent (files_silent asked.modules asked.scripts (no_job limit) (λ job. Ends (Writes text)) (λ read. tt));
+      silent = facts.silent (files_silent asked.modules asked.scripts (no_job limit) (task_plan text asked.task) (task_silent text asked.task));
     }
 
 -- one answer for another that is equal
@@ -255,14 +292,15 @@ heaprec_ran bounds limit asking before now out_old out_new err_old err_new statu
     let wrote : ¬ Rose out_old.faults out_new.faults → ¬ Rose err_old.faults err_new.faults → status ≢ 4 = λ out_quiet err_quiet four. err_quiet (run.delivered.write four out_quiet) in
     let defined : (folder : Folder) → before.files ≡ Some folder → ¬ Rose before.moment.faults now.moment.faults → ¬ Rose out_old.faults out_new.faults → ¬ Rose err_old.faults err_new.faults → status ≢ 5
     → (text : List ℕ) × (Delivered (asked_answer bounds limit folder text asking) status out_old.written out_new.written err_old.written err_new.written
-    × (status ≡ 0 → IsRecording IsRecorded limit before.files asking (asked_answer bounds limit folder text asking).output))
+    × (status ≡ 0 → IsDone IsRecorded limit before.files asking (asked_answer bounds limit folder text asking).output))
     = λ folder told quiet out_quiet err_quiet memory.
     let delivered = whole (wrote out_quiet err_quiet) in
     let same = facts.quiet folder told quiet (λ four. wrote out_quiet err_quiet (delivered.status_is ∙ four)) (λ five. memory (delivered.status_is ∙ five)) in
-    (run.text, (delivered_as same delivered, λ zero. subst (λ (a : Answer). IsRecording IsRecorded limit before.files asking a.output) same (run.recording (done_is zero)))) in
+    (run.text, (delivered_as same delivered, λ zero. subst (λ (a : Answer). IsDone IsRecorded limit before.files asking a.output) same (run.done (done_is zero)))) in
     record {
       run = run;
-      recorded = λ zero. (given.output, ((whole (λ four. omega (arith, zero, four))).output, run.recording (done_is zero)));
+      recorded = λ none zero. (given.output, ((whole (λ four. omega (arith, zero, four))).output, subst (λ t. IsDoneBy IsRecorded limit before.files asking given.output t) none (run.done (done_is zero))));
+      checked = λ trace is zero. (given.output, ((whole (λ four. omega (arith, zero, four))).output, subst (λ t. IsDoneBy IsRecorded limit before.files asking given.output t) is (run.done (done_is zero))));
       defined = defined;
       complete = λ folder told zero quiet out_quiet err_quiet memory.
           let all = defined folder told quiet out_quiet err_quiet memory in all.1.0.status_is ∙ zero all.0;

@@ -1,19 +1,31 @@
 -- What a run is to write and to answer, for its words, the files of a folder, and the text of the recording.
-use Rattle.std.specs.Prelude.{ℕ, List, [], Bool, false, Option, None, Some, length}
+use Rattle.std.specs.Prelude.{ℕ, List, [], ◌++◌, Bool, false, Option, None, Some, length}
+use Rattle.std.specs.Option.{option_to_list}
 use Rattle.hp_outside.specs.Folder.{Folder}
 use Rattle.command_frame.specs.Answer.{Answer, plan_answer, usage_answer}
 use Rattle.command_frame.specs.FirstFault.{Bounds}
-use Rattle.command_frame.specs.Plan.{Ends, Plan}
+use Rattle.command_frame.specs.Plan.{Ends, Plan, one_file}
 use Rattle.command_frame.specs.Report.{Writes}
 use Rattle.record_scripts.specs.Job.{Job}
+use Rattle.recording.specs.CheckReport.{check_report}
 use Rattle.recording.specs.FileLines.{no_job}
 use Rattle.recording.specs.FilesPlan.{files_named, files_plan, job_in}
-use Rattle.recording.specs.RecordWords.{RecordAsked, record_asked}
+use Rattle.recording.specs.RecordWords.{Checks, RecordAsked, Records, Task, record_asked, trace_of}
 use Rattle.recording.specs.Texts.{heaprec_texts}
 
--- what is done with the files: the text is written behind them, and says nothing of their faults
+-- what is done with the job that the files say: a text is written, which says nothing of their faults; or the trace that is
+-- checked is read
+abbrev pub task_plan : List ℕ → Task → Job → Plan
+task_plan text (Records summary) job = Ends (Writes text)
+task_plan text (Checks trace) job = one_file trace (check_report job)
+
+-- what is done with the files
 abbrev pub record_plan : ℕ → List ℕ → RecordAsked → Plan
-record_plan limit text asked = files_plan asked.modules asked.scripts (no_job limit) (λ job. Ends (Writes text))
+record_plan limit text asked = files_plan asked.modules asked.scripts (no_job limit) (task_plan text asked.task)
+
+-- the files that are read for it
+abbrev pub names_of : RecordAsked → List (List ℕ)
+names_of asked = files_named asked.modules asked.scripts ++ option_to_list (trace_of asked.task)
 
 -- the answer to what was asked, or to words that aren't taken
 abbrev pub asked_answer : Bounds → ℕ → Folder → List ℕ → Option RecordAsked → Answer
@@ -28,7 +40,7 @@ rec_answer words bounds limit folder text = asked_answer bounds limit folder tex
 -- the files that words name, where they are taken
 abbrev pub names_asked : Option RecordAsked → List (List ℕ)
 names_asked None = []
-names_asked (Some asked) = files_named asked.modules asked.scripts
+names_asked (Some asked) = names_of asked
 
 -- how many scripts they name
 abbrev pub count_asked : Option RecordAsked → ℕ
@@ -36,9 +48,18 @@ count_asked None = 0
 count_asked (Some asked) = length asked.scripts
 
 -- whether a summary is asked for
+abbrev pub has_summary : Task → Bool
+has_summary (Records summary) = summary
+has_summary (Checks trace) = false
+
 abbrev pub summary_asked : Option RecordAsked → Bool
 summary_asked None = false
-summary_asked (Some asked) = asked.summary
+summary_asked (Some asked) = has_summary asked.task
+
+-- the trace that is to be checked, if one is
+abbrev pub trace_asked : Option RecordAsked → Option (List ℕ)
+trace_asked None = None
+trace_asked (Some asked) = trace_of asked.task
 
 -- what the files of a folder say that words name
 abbrev pub job_asked : ℕ → Folder → Option RecordAsked → Job

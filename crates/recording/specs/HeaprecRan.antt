@@ -9,10 +9,10 @@ use Rattle.command_frame.specs.Delivery.{Delivered, GainsFronts}
 use Rattle.command_frame.specs.FirstFault.{Bounds}
 use Rattle.command_frame.specs.RunFacts.{NotRead}
 use Rattle.command_frame.specs.RunsTo.{Shown, Taken}
-use Rattle.recording.specs.Answer.{asked_answer, names_asked}
+use Rattle.recording.specs.Answer.{asked_answer, names_asked, trace_asked}
 use Rattle.recording.specs.Recorded.{IsRecorded}
 use Rattle.recording.specs.RecordWords.{RecordAsked}
-use Rattle.recording.specs.Run.{IsRecording, WordsRan}
+use Rattle.recording.specs.Run.{IsChecked, IsDone, IsRecording, WordsRan}
 use Rattle.recording.specs.Texts.{heaprec_texts}
 
 -- an answer was delivered: whole, or at status 4 in part. Status 4 comes only where an output failed, and `write failed` is told only
@@ -28,28 +28,32 @@ pub record IsDelivered (given : Answer) (status : ℕ) (out_old out_new err_old 
   pub err_faults : status ≢ 4 → err_new.faults ≡ err_old.faults
 
 -- whatever failed: one answer that the words and the files allow was delivered. Where that answer is done, its output is a
--- recording, so that at status 4 standard output has gained a front of one
+-- recording, so that at status 4 standard output has gained a front of one; or it says of a trace that it is one
 pub record HasDelivered (bounds : Bounds) (limit : ℕ) (asking : Option RecordAsked) (before now : Shown) (out_old out_new err_old err_new : Taken) (status : ℕ) : Type 0 where
   pub text : List ℕ
   pub given : Answer
   pub ran : WordsRan bounds limit before.files text asking before.moment now.moment given
-  pub recording : given.status ≡ 0 → IsRecording IsRecorded limit before.files asking given.output
+  pub done : given.status ≡ 0 → IsDone IsRecorded limit before.files asking given.output
   pub delivered : IsDelivered given status out_old out_new err_old err_new
 
 -- the same, and what follows
 pub record HeaprecRan (bounds : Bounds) (limit : ℕ) (asking : Option RecordAsked) (before now : Shown) (out_old out_new err_old err_new : Taken) (status : ℕ) : Type 0 where
   pub run : HasDelivered bounds limit asking before now out_old out_new err_old err_new status
-  -- the recording, at status 0: the order that the bytes written spell is an interleaving of the scripts, and the bytes are the trace
+  -- without a trace to check, the recording, at status 0: the order that the bytes written spell is an interleaving of the scripts, and the bytes are the trace
   -- of the scripts in this order, and behind it the summary where the words ask for it. Where the store tells its files, the scripts
   -- are what they say
-  pub recorded : status ≡ 0 → (output : List ℕ) × ((out_new.written ≡ append_known out_old.written output) × IsRecording IsRecorded limit before.files asking output)
+  pub recorded : trace_asked asking ≡ None → status ≡ 0 → (output : List ℕ) × ((out_new.written ≡ append_known out_old.written output) × IsRecording IsRecorded limit before.files asking output)
+  -- with one, at status 0: where the store tells its files, the order that the trace's bytes spell is an interleaving of the scripts,
+  -- the bytes are the trace of the scripts in this order, and what was written is the line with the number of its events
+  pub checked : (trace : List ℕ) → trace_asked asking ≡ Some trace → status ≡ 0
+      → (output : List ℕ) × ((out_new.written ≡ append_known out_old.written output) × IsChecked limit before.files asking trace output)
   -- the headline: over a store that tells its files, with no failed call and memory not wanting, output, message and status are the
-  -- defined ones, with a text that at status 0 is that of such an order
+  -- defined ones, with a text that at status 0 is that of such an order, unless a trace was to be checked
   pub defined : (folder : Folder) → before.files ≡ Some folder
       → ¬ Rose before.moment.faults now.moment.faults → ¬ Rose out_old.faults out_new.faults → ¬ Rose err_old.faults err_new.faults
       → status ≢ 5
       → (text : List ℕ) × (Delivered (asked_answer bounds limit folder text asking) status out_old.written out_new.written err_old.written err_new.written
-      × (status ≡ 0 → IsRecording IsRecorded limit before.files asking (asked_answer bounds limit folder text asking).output))
+      × (status ≡ 0 → IsDone IsRecorded limit before.files asking (asked_answer bounds limit folder text asking).output))
   -- completeness: where no file has a fault, the status is 0
   pub complete : (folder : Folder) → before.files ≡ Some folder
       → ((text : List ℕ) → (asked_answer bounds limit folder text asking).status ≡ 0)

@@ -5,6 +5,7 @@ pub mod FileLines
 pub mod FrontRead
 pub mod FilesPlan
 pub mod Texts
+pub mod CheckReport
 pub mod Answer
 pub mod Recorded
 pub mod Run

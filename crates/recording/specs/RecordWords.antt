@@ -1,19 +1,36 @@
 -- The words of the recorder.
-use Rattle.std.specs.Prelude.{ℕ, ◌+◌, List, [], ◌∷◌, Bool, true, ◌&&◌, codes, length, nat_le, Option, None, Some, if◌then◌else◌}
-use Rattle.std.specs.Option.{option_and_then}
+use Rattle.std.specs.Prelude.{ℕ, ◌+◌, List, [], ◌∷◌, Bool, true, false, ◌&&◌, codes, length, nat_le, Option, None, Some, if◌then◌else◌}
+use Rattle.std.specs.Option.{option_and_then, option_to_list}
 use Rattle.std.specs.Str.{bytes_eq}
 use Rattle.command_words.specs.TableApp.{Table}
 use Rattle.command_words.specs.WordsTaken.{files_in, flag_in, value_in, words_taken}
 
--- which modules file, if any, whether a summary is written, and which scripts, from thread 0 on
+-- what is done with the scripts: they are recorded, with a summary behind the trace or without one; or a trace is checked
+-- against them
+pub data Task : Type 0 where
+  Records : Bool → Task
+  Checks : List ℕ → Task
+
+-- which modules file, if any, which scripts, from thread 0 on, and what is done with them
 pub record RecordAsked : Type 0 where
   pub modules : Option (List ℕ)
-  pub summary : Bool
   pub scripts : List (List ℕ)
+  pub task : Task
 
--- one option, one flag, and files
+-- two options, one flag, and files
 abbrev pub record_table : Table
-record_table = record { options = codes "modules" ∷ []; flags = codes "summary" ∷ []; files = true }
+record_table = record { options = codes "modules" ∷ codes "check" ∷ []; flags = codes "summary" ∷ []; files = true }
+
+-- what the option that names a trace and the flag ask for: a trace that is checked has no summary
+abbrev pub task_given : Option (List ℕ) → Bool → Option Task
+task_given None summary = Some (Records summary)
+task_given (Some trace) false = Some (Checks trace)
+task_given (Some trace) true = None
+
+-- the trace that is read for it
+abbrev pub trace_of : Task → Option (List ℕ)
+trace_of (Records summary) = None
+trace_of (Checks trace) = Some trace
 
 -- how many names mean standard input
 abbrev pub inputs : List (List ℕ) → ℕ
@@ -21,23 +38,26 @@ inputs [] = 0
 inputs (name ∷ names) = (if bytes_eq name (codes "-") then 1 else 0) + inputs names
 
 -- the same of all names
-abbrev pub inputs_in : Option (List ℕ) → List (List ℕ) → ℕ
-inputs_in None scripts = inputs scripts
-inputs_in (Some modules) scripts = inputs (modules ∷ scripts)
+abbrev pub inputs_in : Option (List ℕ) → List (List ℕ) → Option (List ℕ) → ℕ
+inputs_in modules scripts trace = inputs (option_to_list modules) + (inputs scripts + inputs (option_to_list trace))
 
 -- 1 to 64 scripts; standard input can be read only once
-abbrev pub are_taken : Option (List ℕ) → List (List ℕ) → Bool
-are_taken modules scripts = nat_le 1 (length scripts) && nat_le (length scripts) 64 && nat_le (inputs_in modules scripts) 1
+abbrev pub are_taken : Option (List ℕ) → List (List ℕ) → Option (List ℕ) → Bool
+are_taken modules scripts trace =
+    nat_le 1 (length scripts) && nat_le (length scripts) 64 && nat_le (inputs_in modules scripts trace) 1
 
--- what the value of the option, the flag and the files ask for
-abbrev pub record_of : Option (List ℕ) → Bool → List (List ℕ) → Option RecordAsked
-record_of modules summary scripts =
-    if are_taken modules scripts then Some (record { modules = modules; summary = summary; scripts = scripts }) else None
+-- what the modules file, the scripts and the task ask for
+abbrev pub record_of : Option (List ℕ) → List (List ℕ) → Task → Option RecordAsked
+record_of modules scripts task =
+    if are_taken modules scripts (trace_of task) then Some (record { modules = modules; scripts = scripts; task = task }) else None
 
-abbrev pub record_given : Option (List ℕ) → Bool → Option (List (List ℕ)) → Option RecordAsked
-record_given modules summary None = None
-record_given modules summary (Some scripts) = record_of modules summary scripts
+-- what the values of the options, the flag and the files ask for
+abbrev pub record_given : Option (List ℕ) → Option (List ℕ) → Bool → Option (List (List ℕ)) → Option RecordAsked
+record_given modules trace summary None = None
+record_given modules trace summary (Some scripts) = option_and_then (record_of modules scripts) (task_given trace summary)
 
 -- what the words ask for
 unfoldable pub record_asked : List (List ℕ) → Option RecordAsked
-record_asked words = option_and_then (λ rows. record_given (value_in rows (codes "modules")) (flag_in rows (codes "summary")) (files_in rows)) (words_taken record_table words)
+record_asked words = option_and_then
+    (λ rows. record_given (value_in rows (codes "modules")) (value_in rows (codes "check")) (flag_in rows (codes "summary")) (files_in rows))
+    (words_taken record_table words)

@@ -1,24 +1,27 @@
 -- What a run may come to, whatever the store and the threads do.
-use Rattle.std.specs.Prelude.{◌≡◌, ◌≢◌, ◌⊎◌, ℕ, Bool, List, [], length, Option, None, Some}
+use Rattle.std.specs.Prelude.{◌≡◌, ◌≢◌, ◌⊎◌, ℕ, Bool, List, [], ◌++◌, length, Option, None, Some}
+use Rattle.std.specs.Io.KnownBytes.{append_known}
 use Rattle.hp_outside.specs.Faults.{Rose}
-use Rattle.hp_outside.specs.Folder.{Folder}
+use Rattle.hp_outside.specs.Folder.{Folder, file_of}
 use Rattle.hp_outside.specs.Taken.{WhereTold}
-use Rattle.command_frame.specs.Answer.{Answer, memory_answer, usage_answer}
+use Rattle.command_frame.specs.Answer.{Answer, after, memory_answer, usage_answer}
 use Rattle.command_frame.specs.FirstFault.{Bounds}
 use Rattle.command_frame.specs.Moment.{Moment}
 use Rattle.command_frame.specs.Run.{Ran}
 use Rattle.command_frame.specs.RunsTo.{Shown, Taken}
-use Rattle.recording.specs.FilesPlan.{files_named}
+use Rattle.order_check.specs.Fronts.{IsRecording as IsRecordingOf}
+use Rattle.record_book.specs.Spelled.{spelled}
 use Rattle.record_scripts.specs.Job.{Job}
+use Rattle.recording.specs.CheckReport.{checked_text}
 use Rattle.recording.specs.RecordWords.{RecordAsked}
-use Rattle.recording.specs.Answer.{count_asked, job_asked, record_plan, summary_asked}
+use Rattle.recording.specs.Answer.{count_asked, job_asked, names_of, record_plan, summary_asked, trace_asked}
 use Rattle.recording.specs.Texts.{heaprec_texts}
 
 -- a run of what was asked, or of words that aren't taken
 abbrev pub AskedRan : Bounds → ℕ → Option Folder → List ℕ → Option RecordAsked → Moment → Moment → Answer → Type 0
 AskedRan bounds limit files text None before now given = (now ≡ before) × (given ≡ usage_answer heaprec_texts)
 AskedRan bounds limit files text (Some asked) before now given =
-    Ran heaprec_texts bounds files [] (files_named asked.modules asked.scripts) (record_plan limit text asked) before now given
+    Ran heaprec_texts bounds files [] (names_of asked) (record_plan limit text asked) before now given
 
 -- the same, or memory was wanting for reading the words
 abbrev pub WordsRan : Bounds → ℕ → Option Folder → List ℕ → Option RecordAsked → Moment → Moment → Answer → Type 0
@@ -32,13 +35,35 @@ pub record IsRecording (may_write : Bool → Job → List ℕ → Type 0) (limit
   pub count : length job.scripts ≡ count_asked asking
   pub told : WhereTold files (λ folder. job ≡ job_asked limit folder asking)
 
--- the same, of what the store and the output show, with nothing written: where it is done, what is yet to be delivered is a
--- recording
-pub record WordsRunTo (may_write : Bool → Job → List ℕ → Type 0) (bounds : Bounds) (limit : ℕ) (asking : Option RecordAsked) (before now : Shown) (old new : Taken) (given : Answer) : Type 0 where
+-- a trace of a folder is a recording of a job, of so many events
+pub record IsFileOf (folder : Folder) (trace : List ℕ) (job : Job) (events : ℕ) : Type 0 where
+  pub bytes : List ℕ
+  pub file : file_of folder trace ≡ Some bytes
+  pub recording : IsRecordingOf job bytes
+  pub count : events ≡ length (spelled bytes)
+
+-- the output is the line that says of how many events a trace is a recording. Where the files are told, it is one of what they say
+pub record IsChecked (limit : ℕ) (files : Option Folder) (asking : Option RecordAsked) (trace output : List ℕ) : Type 0 where
+  pub events : ℕ
+  pub output_is : output ≡ checked_text events
+  pub told : WhereTold files (λ folder. IsFileOf folder trace (job_asked limit folder asking) events)
+
+-- what is said by the output of a run that is done: it is a recording, or says so of the trace that is checked
+abbrev pub IsDoneBy : (may_write : Bool → Job → List ℕ → Type 0) → ℕ → Option Folder → Option RecordAsked → List ℕ → Option (List ℕ) → Type 0
+IsDoneBy may_write limit files asking output None = IsRecording may_write limit files asking output
+IsDoneBy may_write limit files asking output (Some trace) = IsChecked limit files asking trace output
+
+abbrev pub IsDone : (may_write : Bool → Job → List ℕ → Type 0) → ℕ → Option Folder → Option RecordAsked → List ℕ → Type 0
+IsDone may_write limit files asking output = IsDoneBy may_write limit files asking output (trace_asked asking)
+
+-- the same, of what the store and the output show: some bytes were written early, and an answer is yet to be delivered behind them.
+-- Where it is done, both together are the output of a run that is done
+pub record WordsRunTo (may_write : Bool → Job → List ℕ → Type 0) (bounds : Bounds) (limit : ℕ) (asking : Option RecordAsked) (before now : Shown) (old new : Taken) (answer : Answer) : Type 0 where
   pub text : List ℕ
-  pub ran : WordsRan bounds limit before.files text asking before.moment now.moment given
-  pub recording : given.status ≡ 0 → IsRecording may_write limit before.files asking given.output
-  pub silent : new.written ≡ old.written
+  pub early : List ℕ
+  pub written : new.written ≡ append_known old.written early
+  pub ran : WordsRan bounds limit before.files text asking before.moment now.moment (after early answer)
+  pub done : answer.status ≡ 0 → IsDone may_write limit before.files asking (early ++ answer.output)
   pub files : now.files ≡ before.files
-  pub unwritten : given.status ≡ 4 → Rose old.faults new.faults
-  pub sound : given.status ≢ 4 → new.faults ≡ old.faults
+  pub unwritten : answer.status ≡ 4 → Rose old.faults new.faults
+  pub sound : answer.status ≢ 4 → new.faults ≡ old.faults

@@ -43,6 +43,7 @@ pub fn read_files<S: Store, O: Sink>(
         ≡ job_in folder (option_copied files.now.modules) (map (λ name. name.now) files.now.scripts.now) desk.now.limits.order)) }
     ensures count { IfOk result (λ job. length job.scripts ≡ length files.now.scripts.now) }
     ensures modules { IfOk result (λ job. AreModuleLines job.modules) }
+    ensures opens { IfOk result (λ job. S.opens store.new ≤ S.opens store.old + 65) }
 {
     let mut lines = match LineReader::new(desk.alloc, &desk.limits) {
         Ok(lines) => lines,
@@ -111,6 +112,7 @@ fn read_scripts<S: Store, O: Sink>(
         WhereTold (S.files store.old) (λ folder. job ≡ scripts_in folder (map (λ name. name.now) names.now) scripts)) }
     ensures count { IfOk result (λ job. length job.scripts ≡ length scripts.scripts + length names.now) }
     ensures modules { IfOk result (λ job. AreModuleLines job.modules) }
+    ensures opens { IfOk result (λ job. S.opens store.new ≡ S.opens store.old + length names.now) }
 {
     let mut scripts = scripts;
     'each_name: for name in names {

@@ -1,6 +1,6 @@
 //! Names of files that mean standard input.
 ghost use Rattle.std.specs.Prelude.{◌≡◌, ◌<◌, ◌≤◌, length, map};
-ghost use Rattle.std.specs.Option.{option_copied};
+ghost use Rattle.std.specs.Option.{option_copied, option_to_list};
 ghost use Rattle.recording.specs.RecordWords.{inputs, inputs_in};
 
 /// How many of the names are `-`.
@@ -17,14 +17,21 @@ fn inputs(names: &[&str]) -> usize
     count
 }
 
-/// How many of all names are `-`.
-pub fn inputs_in(modules: Option<&str>, scripts: &[&str]) -> usize
-    requires { length scripts.now ≤ 64 }
-    ensures { result ≡ inputs_in (option_copied modules.entry) (map (λ name. name.now) scripts.now) }
+/// The same of one name, if there is one.
+fn input(name: Option<&str>) -> usize
+    ensures count { result ≡ inputs (option_to_list (option_copied name.entry)) }
+    ensures within { result ≤ 1 }
 {
-    let count = inputs(scripts);
-    match modules {
-        Some(name) if name == "-" => count + 1,
-        _ => count,
+    match name {
+        Some(name) if name == "-" => 1,
+        _ => 0,
     }
+}
+
+/// How many of all names are `-`.
+pub fn inputs_in(modules: Option<&str>, scripts: &[&str], trace: Option<&str>) -> usize
+    requires { length scripts.now ≤ 64 }
+    ensures { result ≡ inputs_in (option_copied modules.entry) (map (λ name. name.now) scripts.now) (option_copied trace.entry) }
+{
+    input(modules) + (inputs(scripts) + input(trace))
 }

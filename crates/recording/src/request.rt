@@ -1,9 +1,9 @@
 //! What the words of the recorder ask for.
-ghost use Rattle.std.specs.Prelude.{◌≡◌, ◌≤◌, codes, length, Err, IfOk, None, Some, map, string_bytes};
+ghost use Rattle.std.specs.Prelude.{◌≡◌, ◌≤◌, codes, length, Err, IfOk, IfSome, IfNone, None, Some, map, string_bytes};
 ghost use Rattle.std.specs.Option.{option_copied};
 ghost use Rattle.command_words.specs.WordsTaken.{files_in, flag_in, rows_in, value_in};
-ghost use Rattle.recording.specs.RecordWords.{record_asked, record_given};
-ghost use Rattle.recording.specs.Requests.{asked_by};
+ghost use Rattle.recording.specs.RecordWords.{record_asked, record_given, task_given, trace_of};
+ghost use Rattle.recording.specs.Requests.{asked_by, task_by};
 
 use crate::inputs::inputs_in;
 use command_words::{TakenWords, WordTable, WordsFault, take_words};
@@ -12,12 +12,15 @@ use std::alloc::Global;
 /// The option that names a modules file.
 const MODULES: &str = "modules";
 
+/// The option that names a trace to check.
+const CHECK: &str = "check";
+
 /// The flag for a summary.
 const SUMMARY: &str = "summary";
 
-/// One option, one flag, and files.
+/// Two options, one flag, and files.
 const WORDS: WordTable<'static> = WordTable {
-    options: &[MODULES],
+    options: &[MODULES, CHECK],
     flags: &[SUMMARY],
     files: true,
 };
@@ -25,15 +28,36 @@ const WORDS: WordTable<'static> = WordTable {
 /// The greatest number of scripts.
 const MOST_SCRIPTS: usize = 64;
 
+/// What is done with the scripts.
+#[derive(Clone, Copy, Debug)]
+pub enum RecordTask<'a> {
+    /// They are recorded, and a summary is written behind the trace or isn't.
+    Record { summary: bool },
+    /// The trace of this name is checked against them.
+    Check { trace: &'a str },
+}
+
+impl<'a> RecordTask<'a> {
+    /// The name of the trace that is read, if there is one.
+    pub fn trace(&self) -> Option<&'a str>
+        ensures { option_copied result ≡ trace_of (task_by self.now) }
+    {
+        match self {
+            RecordTask::Record { .. } => None,
+            RecordTask::Check { trace } => Some(*trace),
+        }
+    }
+}
+
 /// What the recorder is to do.
 #[derive(Debug, Drop)]
 pub struct RecordRequest<'a> {
     /// The name of the modules file, if there is one.
     pub modules: Option<&'a str>,
-    /// Whether a summary is written behind the trace.
-    pub summary: bool,
     /// The names of the scripts, from thread 0 on.
     pub scripts: Vec<&'a str>,
+    /// What is done with them.
+    pub task: RecordTask<'a>,
 }
 
 impl<'a> RecordRequest<'a> {
@@ -49,28 +73,44 @@ impl<'a> RecordRequest<'a> {
     }
 }
 
+/// What a trace to check, if there is one, and the flag for a summary ask for; none where both are there.
+fn task_in<'a>(trace: Option<&'a str>, summary: bool) -> Option<RecordTask<'a>>
+    ensures some { IfSome result (λ task. task_given (option_copied trace.entry) summary ≡ Some (task_by task)) }
+    ensures none { IfNone result (task_given (option_copied trace.entry) summary ≡ None) }
+{
+    match trace {
+        None => Some(RecordTask::Record { summary }),
+        Some(_) if summary => None,
+        Some(trace) => Some(RecordTask::Check { trace }),
+    }
+}
+
 /// What taken words ask for.
 fn request_in<'a>(alloc: Global, words: &TakenWords<'a>) -> Result<RecordRequest<'a>, WordsFault>
-    ensures taken { IfOk result (λ request. record_given (value_in (rows_in words.now) (codes "modules")) (flag_in (rows_in words.now) (codes "summary")) (files_in (rows_in words.now)) ≡ Some (asked_by request)) }
-    ensures refused { result ≡ Err WordsFault.NotTaken → record_given (value_in (rows_in words.now) (codes "modules")) (flag_in (rows_in words.now) (codes "summary")) (files_in (rows_in words.now)) ≡ None }
+    ensures taken { IfOk result (λ request. record_given (value_in (rows_in words.now) (codes "modules")) (value_in (rows_in words.now) (codes "check")) (flag_in (rows_in words.now) (codes "summary")) (files_in (rows_in words.now)) ≡ Some (asked_by request)) }
+    ensures refused { result ≡ Err WordsFault.NotTaken → record_given (value_in (rows_in words.now) (codes "modules")) (value_in (rows_in words.now) (codes "check")) (flag_in (rows_in words.now) (codes "summary")) (files_in (rows_in words.now)) ≡ None }
     ensures some { IfOk result (λ request. 1 ≤ length request.scripts.items) }
     ensures few { IfOk result (λ request. length request.scripts.items ≤ 64) }
 {
     let Some(names) = words.files() else {
         return Err(WordsFault::NotTaken);
     };
+    let trace = words.value(CHECK);
+    let Some(task) = task_in(trace, words.has(SUMMARY)) else {
+        return Err(WordsFault::NotTaken);
+    };
     if names.is_empty() || names.len() > MOST_SCRIPTS {
         return Err(WordsFault::NotTaken);
     }
     let modules = words.value(MODULES);
-    if inputs_in(modules, names) > 1 {
+    if inputs_in(modules, names, task.trace()) > 1 {
         return Err(WordsFault::NotTaken);
     }
     let mut scripts = Vec::new(alloc);
     scripts.extend_from_slice(names)?;
     Ok(RecordRequest {
         modules,
-        summary: words.has(SUMMARY),
         scripts,
+        task,
     })
 }

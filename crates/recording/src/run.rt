@@ -1,4 +1,4 @@
-//! The public call of the program: words and files in, the trace of threads, messages and a status out.
+//! The public call of the program: words and files in, the trace of threads or what is said of one, messages and a status out.
 ghost use Rattle.std.specs.Prelude.{◌≡◌, ◌^◌, ◌<◌, map, string_bytes, IfErr, IfOk};
 ghost use Rattle.command_frame.specs.Answer.{memory_answer};
 ghost use Rattle.command_frame.specs.FirstFault.{bounds_of};
@@ -18,15 +18,17 @@ use std::alloc::Global;
 use std::sync::Wait;
 use std::thread::Threads;
 
-/// Runs `heaprec` with these words, which leave out the program's name: a modules file, whether a summary is written, and
-/// 1 to 64 scripts. A file named `-` is standard input.
+/// Runs `heaprec` with these words, which leave out the program's name: a modules file, whether a summary is written or a
+/// trace is checked, and 1 to 64 scripts. A file named `-` is standard input.
 ///
 /// Each script is a thread's, from thread 0 on. Standard output gets the trace of all of them, in an order that is an
-/// interleaving of the scripts; which one, is up to the threads and the gate. The answer is the status with which the
-/// program ends:
+/// interleaving of the scripts; which one, is up to the threads and the gate. With a trace to check no thread is started:
+/// standard output gets the line `a recording of N events` where the trace is such a one. The answer is the status with
+/// which the program ends:
 ///
-/// - 0: the trace was written, and each file was read to its end.
-/// - 1: a script or the modules file has a fault, the first of which the message names.
+/// - 0: the trace was written, or the one that was checked is a recording; and each file was read to its end.
+/// - 1: a script or the modules file has a fault, the first of which the message names; or the trace is no recording, and the
+///   message names the first line with which none goes on.
 /// - 2: the words aren't taken; the message is the usage text.
 /// - 3: a file is absent, or a call on the store failed. A fault of a line that was taken whole before the failed call
 ///   is told in its stead, and so is one of a line's length that the bytes taken show.

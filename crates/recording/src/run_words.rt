@@ -10,13 +10,16 @@ ghost use Rattle.recording.specs.Requests.{asked_by};
 ghost use Rattle.recording.specs.Run.{WordsRunTo};
 ghost use Rattle.recording.specs.Texts.{heaprec_texts};
 
+use crate::check_trace::check_trace;
 use crate::files::{ScriptFiles, read_files};
 use crate::record_text::record_text;
-use crate::request::RecordRequest;
+use crate::request::{RecordRequest, RecordTask};
 use command_frame::{Desk, Halt, Outcome};
 use command_words::WordsFault;
 use hp_num::NoMemory;
 use hp_outside::{Sink, Store};
+use order_check::front_laws;
+use record_book::quiet_modules;
 use recorder::Gate;
 use std::alloc::Global;
 use std::sync::Wait;
@@ -47,7 +50,7 @@ pub fn run_words<R: Threads + Wait + Sync, S: Store, O: Sink, G: Gate + Sync>(
     }
 }
 
-/// Runs a request: reads its files, and records what they say.
+/// Runs a request: reads its files, and records what they say or checks a trace against it.
 fn run_request<R: Threads + Wait + Sync, S: Store, O: Sink, G: Gate + Sync>(
     rt: &R,
     desk: &Desk,
@@ -72,8 +75,17 @@ fn run_request<R: Threads + Wait + Sync, S: Store, O: Sink, G: Gate + Sync>(
         Ok(scripts) => scripts,
         Err(halt) => return Err(halt),
     };
-    match record_text(rt, desk.alloc, scripts, request.summary, gate) {
-        Ok(text) => Ok(text),
-        Err(NoMemory) => Err(Halt::no_memory()),
+    match request.task {
+        RecordTask::Record { summary } => {
+            match record_text(rt, desk.alloc, scripts, summary, gate) {
+                Ok(text) => Ok(text),
+                Err(NoMemory) => Err(Halt::no_memory()),
+            }
+        }
+        RecordTask::Check { trace } => {
+            front_laws();
+            quiet_modules();
+            check_trace(desk, trace, scripts, store, out)
+        }
     }
 }

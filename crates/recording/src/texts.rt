@@ -11,7 +11,7 @@ pub fn heaprec_texts() -> ProgramTexts
 {
     ProgramTexts {
         name: "heaprec",
-        usage: b"usage: heaprec [--modules=FILE] [--summary] SCRIPT...\n",
+        usage: b"usage: heaprec [--modules=FILE] [--summary] [--check=TRACE] SCRIPT...\n",
         out_of_memory: b"heaprec: out of memory\n",
         write_failed: b"heaprec: write failed\n",
     }

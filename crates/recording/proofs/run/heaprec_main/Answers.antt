@@ -1,10 +1,11 @@
-use Rattle.std.proofs.Common.{◌≡◌, ◌^◌, ℕ, List, IfErr, IfOk, map, string_bytes, ap, refl, sym, subst, ◌∙◌, arith}
+use Rattle.std.proofs.Common.{◌≡◌, ◌^◌, ℕ, List, [], IfErr, IfOk, map, string_bytes, ap, refl, sym, subst, ◌∙◌, arith}
 use Rattle.command_frame.specs.declared.halt.Halt.{Halt}
 use Rattle.command_frame.specs.Answer.{Answer, memory_answer}
 use Rattle.command_frame.specs.Halts.{halt_answer}
 use Rattle.command_frame.specs.OutcomeAnswer.{outcome_answer}
 use Rattle.command_frame.specs.RunsTo.{shown, taken}
 use Rattle.command_frame.specs.Texts.{texts_of}
+use Rattle.command_frame.proofs.Laws.{append_nothing}
 use Rattle.recording.specs.HeaprecRan.{HeaprecRan, IsDelivered}
 use Rattle.recording.specs.RecordWords.{record_asked}
 use Rattle.recording.specs.Texts.{heaprec_texts}
@@ -30,6 +31,6 @@ returns-in-Err-clause-wanting g c =
     let wanting : outcome_answer heaprec_texts c.new-outcome.result ≡ memory_answer heaprec_texts = c.new-outcome.ensures heaprec_texts ∙ ap (λ (halt : Halt). halt_answer heaprec_texts halt) c.no_memory.ensures in
     subst (λ words. IfErr words (λ fault. IsDelivered (memory_answer heaprec_texts) c.deliver.result old new err_old err_new)) (sym c.in-Err.is)
     (subst (λ (answer : Answer). IsDelivered answer c.deliver.result old new err_old err_new) wanting
-    (is_delivered c.new-outcome.result (texts_of c.heaprec_texts.result) c.deliver.result old old new err_old err_new c.heaprec_texts.ensures
-    refl (λ four. absurd (omega (arith, four, ap (λ (a : Answer). a.status) wanting))) (λ other. refl) c.deliver.ensures.status c.deliver.ensures.fronts c.deliver.ensures.own_message
+    (is_delivered c.new-outcome.result (texts_of c.heaprec_texts.result) c.deliver.result [] old old new err_old err_new c.heaprec_texts.ensures
+    (sym (append_nothing old.written)) (λ four. absurd (omega (arith, four, ap (λ (a : Answer). a.status) wanting))) (λ other. refl) c.deliver.ensures.status c.deliver.ensures.fronts c.deliver.ensures.own_message
     c.deliver.ensures.cause c.deliver.ensures.given c.deliver.ensures.out_sound c.deliver.ensures.err_sound c.deliver.ensures.out_faults))

@@ -1,14 +1,21 @@
-use Rattle.std.proofs.Common.{◌≡◌, Bor, ℕ, List, Ok, Err, map, length, ap, sym, subst, ◌∙◌}
+use Rattle.std.proofs.Common.{◌≡◌, ◌≤◌, Bor, ℕ, List, Some, Ok, Err, map, length, ap, sym, subst, ◌∙◌, refl, arith}
 use Rattle.std.proofs.lemmas.List.{length-map}
 use Rattle.std.specs.Option.{option_copied}
+use Rattle.hp_outside.specs.Lines.{lines_of}
 use Rattle.hp_outside.specs.Taken.{WhereTold}
-use Rattle.command_frame.specs.RunsTo.{shown, taken}
+use Rattle.command_frame.specs.Answer.{done}
+use Rattle.command_frame.specs.FirstFault.{bounds_of}
+use Rattle.command_frame.specs.Halts.{halt_answer}
+use Rattle.command_frame.specs.RunsTo.{rest_of, shown, taken}
 use Rattle.recording.specs.FileLines.{no_job}
 use Rattle.recording.specs.FilesPlan.{files_front, job_in}
 use Rattle.recording.specs.FrontRead.{FrontRead}
 use Rattle.recording.specs.Recorded.{IsRecorded}
-use Rattle.recording.specs.Requests.{asked_by}
-use Rattle.recording.proofs.EndLemmas.{asked_done, asked_halted, asked_wanting}
+use Rattle.recording.specs.RecordWords.{Task}
+use Rattle.recording.specs.Requests.{asked_by, task_by}
+use Rattle.recording.specs.Run.{WordsRunTo}
+use Rattle.recording.specs.Texts.{heaprec_texts}
+use Rattle.recording.proofs.EndLemmas.{asked_checked, asked_done, asked_halted, asked_wanting, asks}
 use Rattle.recording.proofs.run_words.run_request.Goals as goal
 
 pub returns-in-Err : goal.returns-in-Err
@@ -25,28 +32,52 @@ returns-in-Err g c =
 pub returns-in-Ok-record_text : goal.returns-in-Ok-record_text
 returns-in-Ok-record_text g c =
     let modules = option_copied c.args.request.now.modules in
+    let scripts = map (λ name. name.now) c.args.request.now.scripts.items in
     let before = shown g.S.Store c.args.store.now in
     let now = shown g.S.Store c.read_files.new.store in
     let old = taken g.O.Sink c.args.out.now in
     let new = taken g.O.Sink c.read_files.new.out in
     let limit = c.args.desk.now.limits.order in
-    asked_done IsRecorded c.args.desk.now limit (asked_by c.args.request.now) before now old new c.in-Ok.scripts c.in-Ok-record_text.text.items c.requires.texts
+    subst (λ (task : Task). WordsRunTo IsRecorded (bounds_of c.args.desk.now.limits) limit (Some (asks modules scripts task)) before now old new (done c.in-Ok-record_text.text.items)) (sym (ap task_by c.in-Record.is))
+    (asked_done IsRecorded c.args.desk.now limit modules scripts c.in-Record.summary before now old new c.in-Ok.scripts c.in-Ok-record_text.text.items c.requires.texts
     (subst (λ (names : List (Bor (List ℕ))). FrontRead c.args.desk.now (files_front modules (map (λ name. name.now) names) (no_job limit)) before now old new (Ok c.in-Ok.scripts)) c.deref.ensures.value c.in-Ok.ensures.read)
     (record {
       job = c.in-Ok.scripts;
       may = c.in-Ok-record_text.ensures;
       count = c.in-Ok.ensures.count ∙ ap (λ (names : List (Bor (List ℕ))). length names) c.deref.ensures.value ∙ sym (length-map c.args.request.now.scripts.items (λ name. name.now));
       told = subst (λ (names : List (Bor (List ℕ))). WhereTold before.files (λ folder. c.in-Ok.scripts ≡ job_in folder modules (map (λ name. name.now) names) limit)) c.deref.ensures.value c.in-Ok.ensures.job;
-    })
+    }))
 
 pub returns-in-Err-record_text : goal.returns-in-Err-record_text
 returns-in-Err-record_text g c =
     let modules = option_copied c.args.request.now.modules in
+    let scripts = map (λ name. name.now) c.args.request.now.scripts.items in
     let before = shown g.S.Store c.args.store.now in
     let now = shown g.S.Store c.read_files.new.store in
     let old = taken g.O.Sink c.args.out.now in
     let new = taken g.O.Sink c.read_files.new.out in
     let limit = c.args.desk.now.limits.order in
-    asked_wanting IsRecorded c.args.desk.now limit (asked_by c.args.request.now) before now old new c.in-Ok.scripts c.no_memory.result c.requires.texts
+    subst (λ (task : Task). WordsRunTo IsRecorded (bounds_of c.args.desk.now.limits) limit (Some (asks modules scripts task)) before now old new (halt_answer heaprec_texts c.no_memory.result)) (sym (ap task_by c.in-Record.is))
+    (asked_wanting IsRecorded c.args.desk.now limit modules scripts c.in-Record.summary before now old new c.in-Ok.scripts c.no_memory.result c.requires.texts
     (subst (λ (names : List (Bor (List ℕ))). FrontRead c.args.desk.now (files_front modules (map (λ name. name.now) names) (no_job limit)) before now old new (Ok c.in-Ok.scripts)) c.deref.ensures.value c.in-Ok.ensures.read)
-    c.no_memory.ensures
+    c.no_memory.ensures)
+
+pub returns-in-Check : goal.returns-in-Check
+returns-in-Check g c =
+    let modules = option_copied c.args.request.now.modules in
+    let scripts = map (λ name. name.now) c.args.request.now.scripts.items in
+    let before = shown g.S.Store c.args.store.now in
+    let mid = shown g.S.Store c.read_files.new.store in
+    let now = shown g.S.Store c.check_trace.new.store in
+    let old = taken g.O.Sink c.args.out.now in
+    let between = taken g.O.Sink c.read_files.new.out in
+    let new = taken g.O.Sink c.check_trace.new.out in
+    let limit = c.args.desk.now.limits.order in
+    let job = c.in-Ok.scripts in
+    let few : length job.scripts ≤ 64 = omega (arith, c.in-Ok.ensures.count ∙ ap (λ (names : List (Bor (List ℕ))). length names) c.deref.ensures.value, c.requires.few) in
+    subst (λ (task : Task). WordsRunTo IsRecorded (bounds_of c.args.desk.now.limits) limit (Some (asks modules scripts task)) before now old new (rest_of heaprec_texts c.check_trace.result)) (sym (ap task_by c.in-Check.is))
+    (asked_checked IsRecorded c.args.desk.now limit modules scripts c.in-Check.trace.now before mid now old between new job c.check_trace.result c.requires.texts
+    (λ bytes ended events text is. c.front_laws.ensures.whole job (lines_of bytes) ended events bytes few (c.quiet_modules.ensures job.modules c.in-Ok.ensures.modules) refl text is)
+    (subst (λ (names : List (Bor (List ℕ))). WhereTold before.files (λ folder. job ≡ job_in folder modules (map (λ name. name.now) names) limit)) c.deref.ensures.value c.in-Ok.ensures.job)
+    (subst (λ (names : List (Bor (List ℕ))). FrontRead c.args.desk.now (files_front modules (map (λ name. name.now) names) (no_job limit)) before mid old between (Ok job)) c.deref.ensures.value c.in-Ok.ensures.read)
+    c.check_trace.ensures)

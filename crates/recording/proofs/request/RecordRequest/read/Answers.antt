@@ -10,17 +10,17 @@ use Rattle.recording.proofs.request.RecordRequest.read.Goals as goal
 pub returns-clause-taken : goal.returns-clause-taken
 unfolding record_asked
 returns-clause-taken c =
-    IfOk-weaker c.request_in.result _ _ (λ request is. ap (option_and_then (λ rows. record_given (value_in rows (codes "modules")) (flag_in rows (codes "summary")) (files_in rows))) c.in_ok-words.ensures.taken ∙ is)
+    IfOk-weaker c.request_in.result _ _ (λ request is. ap (option_and_then (λ rows. record_given (value_in rows (codes "modules")) (value_in rows (codes "check")) (flag_in rows (codes "summary")) (files_in rows))) c.in_ok-words.ensures.taken ∙ is)
     c.request_in.ensures.taken
 
 pub returns-clause-refused : goal.returns-clause-refused
 unfolding record_asked
 returns-clause-refused c =
-    λ refused. ap (option_and_then (λ rows. record_given (value_in rows (codes "modules")) (flag_in rows (codes "summary")) (files_in rows))) c.in_ok-words.ensures.taken ∙ c.request_in.ensures.refused refused
+    λ refused. ap (option_and_then (λ rows. record_given (value_in rows (codes "modules")) (value_in rows (codes "check")) (flag_in rows (codes "summary")) (files_in rows))) c.in_ok-words.ensures.taken ∙ c.request_in.ensures.refused refused
 
 pub returns-in_err-words-clause-refused : goal.returns-in_err-words-clause-refused
 unfolding record_asked
 returns-in_err-words-clause-refused c = λ refused.
     let passed = err_from_is_err_and c.from_residual.result c.from_residual.ensures.1 in
-    ap (option_and_then (λ rows. record_given (value_in rows (codes "modules")) (flag_in rows (codes "summary")) (files_in rows)))
+    ap (option_and_then (λ rows. record_given (value_in rows (codes "modules")) (value_in rows (codes "check")) (flag_in rows (codes "summary")) (files_in rows)))
     (c.in_err-words.ensures.refused (ap Err (sym passed.2 ∙ ap (λ answer. unwrap_or (result_err answer) NotTaken) (sym passed.1 ∙ refused))))
