@@ -12,8 +12,8 @@
 //! - Each fault comes exactly where its definition says (`folded_fault`, `folded_massif_fault`, `converted_fault`), unless
 //!   memory was wanting, and leaves the output as it was.
 //!
-//! A text of a table or a tree is hashed once, and a list by the numbers of its texts. The tests of these calls are in the
-//! crate `convert_tests`.
+//! For folded lines a text of a table or a tree is hashed once, and a list by the numbers of its texts. The tests of these
+//! calls are in the crate `convert_tests`.
 //!
 //! | File | Does |
 //! |---|---|

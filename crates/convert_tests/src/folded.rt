@@ -1,8 +1,8 @@
 //! Folded lines. Expected texts are worked out by hand.
 
-use crate::profiles::{DEMO, DETAILED, LARGE, PEAKS, PLACES, massif_of};
+use crate::profiles::{DEMO, DETAILED, LARGE, PEAKS, PLACES, dhat_of, massif_of};
 use convert::{ConvertFault, put_folded_dhat, put_folded_massif};
-use dhat_json::{FigureKey, read_profile};
+use dhat_json::FigureKey;
 use std::alloc::Global;
 use std::process::Abort;
 
@@ -14,7 +14,7 @@ fn fold_dhat(
     text: &str,
     out: &mut Vec<u8>,
 ) -> Option<ConvertFault> {
-    let dhat = read_profile(alloc, text.as_bytes()).expect(rt, "a profile");
+    let dhat = dhat_of(rt, alloc, text);
     put_folded_dhat(alloc, key, &dhat, out).err()
 }
 

@@ -4,4 +4,6 @@
 #[cfg(test)]
 mod folded;
 #[cfg(test)]
+mod massif_files;
+#[cfg(test)]
 mod profiles;
