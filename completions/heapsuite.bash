@@ -15,6 +15,7 @@ _heapsuite_options() {
         dhat) words='' ;;
         gen) words='--seed= --events= --stacks= --run' ;;
         dhat_view) words='--sort= --threshold= --depth=' ;;
+        convert) words='--from= --to= --key= --snapshot=' ;;
     esac
     echo "$words"
 }
@@ -32,6 +33,9 @@ _heapsuite_values() {
         flame:--flamegraph-cost-type) values='allocations temporary leaked peak' ;;
         massif:--time-unit) values='B ms e' ;;
         dhat_view:--sort) values='tb tbk tl gb gbk eb ebk rb wb' ;;
+        convert:--from) values='dhat massif' ;;
+        convert:--to) values='folded massif' ;;
+        convert:--key) values='tb tbk tl gb gbk eb ebk rb wb' ;;
     esac
     echo "$values"
 }
@@ -40,7 +44,7 @@ _heapsuite() {
     local current=$2 previous=${COMP_WORDS[COMP_CWORD - 1]} command=${COMP_WORDS[1]} option=
     COMPREPLY=()
     if [ "$COMP_CWORD" -eq 1 ]; then
-        COMPREPLY=($(compgen -W 'summary print flame interpret massif ms_print dhat gen dhat_view --help' -- "$current"))
+        COMPREPLY=($(compgen -W 'summary print flame interpret massif ms_print dhat gen dhat_view convert --help' -- "$current"))
         return
     fi
     # Readline parts `--NAME=VALUE` at the equals sign.

@@ -8,6 +8,7 @@ complete -c heapsuite -n __fish_use_subcommand -f -a ms_print -d "The page of a 
 complete -c heapsuite -n __fish_use_subcommand -f -a dhat -d "The DHAT profile of a trace"
 complete -c heapsuite -n __fish_use_subcommand -f -a gen -d "A trace from a seed"
 complete -c heapsuite -n __fish_use_subcommand -f -a dhat_view -d "A DHAT profile as a tree"
+complete -c heapsuite -n __fish_use_subcommand -f -a convert -d "A DHAT profile or a Massif file in another form"
 complete -c heapsuite -n __fish_use_subcommand -f -l help -d "How the program is called"
 
 complete -c heapsuite -n "__fish_seen_subcommand_from summary" -F
@@ -58,3 +59,9 @@ complete -c heapsuite -n "__fish_seen_subcommand_from dhat_view" -F
 complete -c heapsuite -n "__fish_seen_subcommand_from dhat_view" -l sort -x -a "tb tbk tl gb gbk eb ebk rb wb" -d "What a frame costs (default tb)"
 complete -c heapsuite -n "__fish_seen_subcommand_from dhat_view" -l threshold -x -d "Which frames have a line, in percent (default 1.0, 0 to 100)"
 complete -c heapsuite -n "__fish_seen_subcommand_from dhat_view" -l depth -x -d "How many frames stand below one another (default 30, 1 to 200)"
+
+complete -c heapsuite -n "__fish_seen_subcommand_from convert" -F
+complete -c heapsuite -n "__fish_seen_subcommand_from convert" -l from -x -a "dhat massif" -d "What the file is (default dhat)"
+complete -c heapsuite -n "__fish_seen_subcommand_from convert" -l to -x -a "folded massif" -d "What is written of it (default folded)"
+complete -c heapsuite -n "__fish_seen_subcommand_from convert" -l key -x -a "tb tbk tl gb gbk eb ebk rb wb" -d "The figure of a point that a line has (default tb)"
+complete -c heapsuite -n "__fish_seen_subcommand_from convert" -l snapshot -x -d "The number of the snapshot that is folded (default none, 0 to 1,000,000)"

@@ -122,13 +122,15 @@ unknown_asks_nothing (command ∷ words) is =
     let dhat : Bool = bytes_eq command (codes "dhat") in
     let gen : Bool = bytes_eq command (codes "gen") in
     let dhat_view : Bool = bytes_eq command (codes "dhat_view") in
-    let first = or_parts help (summary || (print || (flame || (interpret || (massif || (page || (dhat || (gen || dhat_view)))))))) is in
-    let second = or_parts summary (print || (flame || (interpret || (massif || (page || (dhat || (gen || dhat_view))))))) first.1 in
-    let third = or_parts print (flame || (interpret || (massif || (page || (dhat || (gen || dhat_view)))))) second.1 in
-    let fourth = or_parts flame (interpret || (massif || (page || (dhat || (gen || dhat_view))))) third.1 in
-    let fifth = or_parts interpret (massif || (page || (dhat || (gen || dhat_view)))) fourth.1 in
-    let sixth = or_parts massif (page || (dhat || (gen || dhat_view))) fifth.1 in
-    let seventh = or_parts page (dhat || (gen || dhat_view)) sixth.1 in
-    let eighth = or_parts dhat (gen || dhat_view) seventh.1 in
-    let ninth = or_parts gen dhat_view eighth.1 in
-    rw (first.0, second.0, third.0, fourth.0, fifth.0, sixth.0, seventh.0, eighth.0, ninth.0, ninth.1) refl
+    let convert : Bool = bytes_eq command (codes "convert") in
+    let first = or_parts help (summary || (print || (flame || (interpret || (massif || (page || (dhat || (gen || (dhat_view || convert))))))))) is in
+    let second = or_parts summary (print || (flame || (interpret || (massif || (page || (dhat || (gen || (dhat_view || convert)))))))) first.1 in
+    let third = or_parts print (flame || (interpret || (massif || (page || (dhat || (gen || (dhat_view || convert))))))) second.1 in
+    let fourth = or_parts flame (interpret || (massif || (page || (dhat || (gen || (dhat_view || convert)))))) third.1 in
+    let fifth = or_parts interpret (massif || (page || (dhat || (gen || (dhat_view || convert))))) fourth.1 in
+    let sixth = or_parts massif (page || (dhat || (gen || (dhat_view || convert)))) fifth.1 in
+    let seventh = or_parts page (dhat || (gen || (dhat_view || convert))) sixth.1 in
+    let eighth = or_parts dhat (gen || (dhat_view || convert)) seventh.1 in
+    let ninth = or_parts gen (dhat_view || convert) eighth.1 in
+    let tenth = or_parts dhat_view convert ninth.1 in
+    rw (first.0, second.0, third.0, fourth.0, fifth.0, sixth.0, seventh.0, eighth.0, ninth.0, tenth.0, tenth.1) refl

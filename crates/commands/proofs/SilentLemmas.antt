@@ -2,7 +2,11 @@
 use Rattle.std.proofs.Common.{ℕ, List, Option, Some, None, true, refl}
 use Rattle.command_frame.specs.Silent.{IsSilent}
 use Rattle.trace_gen.specs.Sizes.{Sizes}
-use Rattle.commands.specs.Asked.{Dhat, DhatView, Flame, Gen, Help, Massif, Page, Print, Summary}
+use Rattle.commands.specs.declared.convert_words.Conversion.{Conversion}
+use Rattle.commands.specs.declared.convert_words.Conversion.TheVariants.{FoldedDhat, FoldedMassif, MassifOfDhat}
+use Rattle.commands.specs.Asked.{Convert, Dhat, DhatView, Flame, Gen, Help, Massif, Page, Print, Summary}
+use Rattle.commands.specs.ConvertReport.{conversion_plan}
+use Rattle.commands.specs.ConvertWords.{ConvertAsked}
 use Rattle.commands.specs.FlameWords.{FlameAsked}
 use Rattle.commands.specs.MassifWords.{MassifAsked}
 use Rattle.commands.specs.PageWords.{PageAsked}
@@ -43,3 +47,11 @@ page_is_silent page = (λ earlier line. refl, λ lines. tt)
 
 pub massif_is_silent : (massif : MassifAsked) → IsSilentFor (Some (Massif massif))
 massif_is_silent massif = (λ earlier line. refl, λ lines. tt)
+
+conversion_is_silent : (file : List ℕ) (conversion : Conversion) → IsSilent (conversion_plan file conversion)
+conversion_is_silent file (FoldedDhat key) = λ bytes. tt
+conversion_is_silent file (FoldedMassif snapshot) = (λ earlier line. refl, λ lines. tt)
+conversion_is_silent file MassifOfDhat = λ bytes. tt
+
+pub convert_is_silent : (convert : ConvertAsked) → IsSilentFor (Some (Convert convert))
+convert_is_silent convert = conversion_is_silent convert.file convert.conversion

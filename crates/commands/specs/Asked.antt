@@ -4,6 +4,8 @@ use Rattle.std.specs.Option.{option_map}
 use Rattle.std.specs.Str.{bytes_eq}
 use Rattle.command_frame.specs.Plan.{Ends, Plan}
 use Rattle.command_frame.specs.Report.{Writes}
+use Rattle.commands.specs.ConvertReport.{convert_plan}
+use Rattle.commands.specs.ConvertWords.{ConvertAsked, convert_asked}
 use Rattle.commands.specs.DhatReport.{dhat_plan}
 use Rattle.commands.specs.DhatWords.{dhat_trace}
 use Rattle.commands.specs.FlameReport.{flame_plan}
@@ -46,6 +48,8 @@ pub data Asked : Type 0 where
   Gen : GenAsked → Asked
   -- the view of a named DHAT profile
   DhatView : ViewAsked → Asked
+  -- the conversion of a named DHAT profile or Massif file
+  Convert : ConvertAsked → Asked
 
 -- `--help` alone
 abbrev pub help_asked : List (List ℕ) → Option Asked
@@ -65,6 +69,7 @@ command_asked command words =
     else if bytes_eq command (codes "dhat") then option_map Dhat (dhat_trace words)
     else if bytes_eq command (codes "gen") then option_map Gen (gen_asked words)
     else if bytes_eq command (codes "dhat_view") then option_map DhatView (view_asked words)
+    else if bytes_eq command (codes "convert") then option_map Convert (convert_asked words)
     else None
 
 -- what words ask for, or nothing where they aren't taken
@@ -85,7 +90,8 @@ knows_first (command ∷ words) =
     (bytes_eq command (codes "ms_print") ||
     (bytes_eq command (codes "dhat") ||
     (bytes_eq command (codes "gen") ||
-    bytes_eq command (codes "dhat_view")))))))))
+    (bytes_eq command (codes "dhat_view") ||
+    bytes_eq command (codes "convert"))))))))))
 
 -- the files that are read for it, in order
 abbrev pub names_of : Asked → List (List ℕ)
@@ -99,6 +105,7 @@ names_of (Page page) = page.file ∷ []
 names_of (Dhat trace) = trace ∷ []
 names_of (Gen gen) = []
 names_of (DhatView view) = view.profile ∷ []
+names_of (Convert convert) = convert.file ∷ []
 
 -- what is done with them
 abbrev pub plan_of : Asked → Plan
@@ -112,6 +119,7 @@ plan_of (Page page) = page_plan page
 plan_of (Dhat trace) = dhat_plan trace
 plan_of (Gen gen) = gen_plan gen
 plan_of (DhatView view) = view_plan view
+plan_of (Convert convert) = convert_plan convert
 
 -- the files that words name, where they are taken
 abbrev pub names_asked : Option Asked → List (List ℕ)

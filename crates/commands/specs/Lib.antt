@@ -13,6 +13,8 @@ pub mod PrintWords
 pub mod PrintReport
 pub mod InterpretWords
 pub mod InterpretReport
+pub mod ConvertWords
+pub mod ConvertReport
 pub mod GenWords
 pub mod GenReport
 pub mod GenTaken

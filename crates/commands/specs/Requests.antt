@@ -2,6 +2,7 @@
 use Rattle.std.specs.Prelude.{map, string_bytes}
 use Rattle.std.specs.Option.{option_copied, option_map}
 use Rattle.trace_gen.specs.Sizes.{sizes_of}
+use Rattle.commands.specs.declared.convert_command.ConvertRequest.{ConvertRequest}
 use Rattle.commands.specs.declared.dhat_view_command.DhatViewRequest.{DhatViewRequest}
 use Rattle.commands.specs.declared.flame_command.FlameRequest.{FlameRequest}
 use Rattle.commands.specs.declared.gen_command.GenRequest.{GenRequest}
@@ -10,7 +11,8 @@ use Rattle.commands.specs.declared.page_command.PageRequest.{PageRequest}
 use Rattle.commands.specs.declared.print_command.PrintRequest.{PrintRequest}
 use Rattle.commands.specs.declared.words.Request.{Request}
 use Rattle.commands.specs.declared.words.Request.TheVariants as request
-use Rattle.commands.specs.Asked.{Asked, Dhat, DhatView, Flame, Gen, Help, Interpret, Massif, Page, Print, Summary}
+use Rattle.commands.specs.Asked.{Asked, Convert, Dhat, DhatView, Flame, Gen, Help, Interpret, Massif, Page, Print, Summary}
+use Rattle.commands.specs.ConvertWords.{ConvertAsked}
 use Rattle.commands.specs.FlameWords.{FlameAsked}
 use Rattle.commands.specs.GenWords.{GenAsked}
 use Rattle.commands.specs.MassifWords.{MassifAsked, settings_of}
@@ -49,6 +51,10 @@ page_asked_by page = record {
 abbrev pub gen_asked_by : GenRequest → GenAsked
 gen_asked_by gen = record { sizes = sizes_of gen.options; run = gen.run }
 
+-- what a request of `convert` asks for
+abbrev pub convert_asked_by : ConvertRequest → ConvertAsked
+convert_asked_by convert = record { file = convert.file.now; conversion = convert.conversion }
+
 abbrev pub asked_of : Request → Asked
 asked_of request.Help = Help
 asked_of (request.Summary summary) = Summary summary.trace.now
@@ -60,3 +66,4 @@ asked_of (request.Page page) = Page (page_asked_by page)
 asked_of (request.Dhat dhat) = Dhat dhat.trace.now
 asked_of (request.Gen gen) = Gen (gen_asked_by gen)
 asked_of (request.DhatView view) = DhatView (view_asked_by view)
+asked_of (request.Convert convert) = Convert (convert_asked_by convert)

@@ -15,6 +15,11 @@
 //! has `Lifetimes` beside that reader, which take each event that the peaks took. The lines of a suppressions file go
 //! into the tables of the trace that is read behind it, which so count patterns once (`SuppressedTrace`).
 //!
+//! Commands over one Massif file share the taker of its lines, and those over one DHAT profile the reading of its document.
+//! They differ in what they make of the profile: a report (`MassifFileReport`, `DhatFileReport`) gives the output, or a fault
+//! of the whole file, which is told at no line. `convert` has reports of both kinds, and its plan is by cases on what was
+//! asked.
+//!
 //! `massif` has a reader of its own, since a line's fault there is the sampler's too. Where memory is wanting for a
 //! snapshot, the event's line is taken, since it has no fault, and the sampler is let go: from then on a batch takes
 //! nothing, and a line that the tables take and the end of the file are refused for want of memory. So the reader's
@@ -37,6 +42,7 @@
 //! | `page_command.rt`, `page_report.rt`, `page_size.rt` | `ms_print`; the page of a profile; how a page is made |
 //! | `dhat_command.rt`, `dhat_reader.rt` | `dhat`; the taker of a trace whose lifetimes are kept |
 //! | `dhat_view_command.rt`, `view_words.rt` | `dhat_view`; its options |
+//! | `convert_command.rt`, `convert_words.rt`, `convert_reports.rt` | `convert`; its options; what it makes of profiles |
 //! | `gen_command.rt`, `gen_summary.rt` | `gen`; the summary of the lines as they are made |
 //! | `number_words.rt`, `key_words.rt`, `name_list.rt` | values of options: numbers and percentages; keys of figures; lists of names |
 //! | `trace_writer.rt`, `trace_run.rt`, `trace_reader.rt` | commands over one trace: what is written, run, taker |
@@ -48,6 +54,9 @@
 #![tactic(auto)]
 
 mod batch;
+mod convert_command;
+mod convert_reports;
+mod convert_words;
 mod dhat_command;
 mod dhat_file;
 mod dhat_reader;

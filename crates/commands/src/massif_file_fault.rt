@@ -11,6 +11,10 @@ use massif_file::ProfileFault;
 pub enum MassifFileFault {
     /// A line can't follow the lines before it, or the file can't end there.
     File(ProfileFault),
+    /// No snapshot with a tree is there to be converted, or not the one that is asked for.
+    NoTree,
+    /// The bytes that are to be converted sum to more than 2^62.
+    TooLarge,
 }
 
 impl Fault for MassifFileFault {
@@ -21,12 +25,15 @@ impl Fault for MassifFileFault {
     fn put_text(&self, out: &mut Vec<u8>) -> Result<(), NoMemory> {
         match self {
             MassifFileFault::File(fault) => put_bytes(out, file_text(*fault).as_bytes()),
+            MassifFileFault::NoTree => put_bytes(out, b"no tree"),
+            MassifFileFault::TooLarge => put_bytes(out, b"figures too large"),
         }
     }
 
     fn status(&self) -> FaultStatus {
         match self {
-            MassifFileFault::File(_) => FaultStatus::Malformed,
+            MassifFileFault::File(_) | MassifFileFault::NoTree => FaultStatus::Malformed,
+            MassifFileFault::TooLarge => FaultStatus::PastLimit,
         }
     }
 }

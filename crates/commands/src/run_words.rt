@@ -62,6 +62,7 @@ fn run_request<S: Store, O: Sink>(
         Request::Dhat(request) => request.run(desk, store, out),
         Request::Gen(request) => request.run(desk, out),
         Request::DhatView(request) => request.run(desk, store),
+        Request::Convert(request) => request.run(desk, store, out),
     }
 }
 

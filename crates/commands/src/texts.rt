@@ -11,7 +11,7 @@ pub fn heapsuite_texts() -> ProgramTexts
 {
     ProgramTexts {
         name: "heapsuite",
-        usage: b"usage: heapsuite COMMAND [OPTION]... [FILE]\ncommands: summary print flame interpret massif ms_print dhat gen dhat_view\n",
+        usage: b"usage: heapsuite COMMAND [OPTION]... [FILE]\ncommands: summary print flame interpret massif ms_print dhat gen dhat_view convert\n",
         out_of_memory: b"heapsuite: out of memory\n",
         write_failed: b"heapsuite: write failed\n",
     }

@@ -3,6 +3,7 @@ ghost use Rattle.std.specs.Prelude.{◌≡◌, ◌≢◌, Err, IfOk, None, Some,
 ghost use Rattle.commands.specs.Asked.{asked, help_asked, knows_first};
 ghost use Rattle.commands.specs.Requests.{asked_of};
 
+use crate::convert_command::ConvertRequest;
 use crate::dhat_command::DhatRequest;
 use crate::dhat_view_command::DhatViewRequest;
 use crate::flame_command::FlameRequest;
@@ -38,6 +39,8 @@ pub enum Request<'a> {
     Gen(GenRequest),
     /// The view of a DHAT profile.
     DhatView(DhatViewRequest<'a>),
+    /// The conversion of a DHAT profile or of a Massif file.
+    Convert(ConvertRequest<'a>),
 }
 
 /// What the words ask for. `NotTaken` exactly where they aren't taken, unless memory is wanting; none is taken for no
@@ -62,6 +65,7 @@ pub fn read_words<'a>(alloc: Global, words: &'a [String]) -> Result<Request<'a>,
         "dhat" => Ok(Request::Dhat(DhatRequest::read(alloc, words)?)),
         "gen" => Ok(Request::Gen(GenRequest::read(alloc, words)?)),
         "dhat_view" => Ok(Request::DhatView(DhatViewRequest::read(alloc, words)?)),
+        "convert" => Ok(Request::Convert(ConvertRequest::read(alloc, words)?)),
         _ => Err(WordsFault::NotTaken),
     }
 }

@@ -209,6 +209,27 @@ store 3: nothing [3] heapsuite: d: cannot read
 out 1: nothing [4] heapsuite: write failed
 out 2: all [4]
 err 1: all [4]
+$ convert d
+store 1: nothing [3] heapsuite: d: cannot open
+store 2: nothing [3] heapsuite: d: cannot read
+store 3: nothing [3] heapsuite: d: cannot read
+out 1: nothing [4] heapsuite: write failed
+out 2: all [4]
+err 1: all [4]
+$ convert --to=massif d
+store 1: nothing [3] heapsuite: d: cannot open
+store 2: nothing [3] heapsuite: d: cannot read
+store 3: nothing [3] heapsuite: d: cannot read
+out 1: nothing [4] heapsuite: write failed
+out 2: all [4]
+err 1: all [4]
+$ convert --from=massif m
+store 1: nothing [3] heapsuite: m: cannot open
+store 2: nothing [3] heapsuite: m: cannot read
+store 3: nothing [3] heapsuite: m: cannot read
+out 1: nothing [4] heapsuite: write failed
+out 2: all [4]
+err 1: all [4]
 $ gen --events=4 --stacks=1
 out 1: nothing [4] heapsuite: write failed
 out 2: all [4]

@@ -3,6 +3,8 @@
 #![tactic(auto)]
 
 #[cfg(test)]
+mod convert_tests;
+#[cfg(test)]
 mod dhat_tests;
 #[cfg(test)]
 mod failing_calls;

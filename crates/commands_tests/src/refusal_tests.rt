@@ -60,7 +60,22 @@ print --sub-peak-limit= t
 print --print-leaks=2 t
 print --histogram t
 print --merge-backtraces=true t
-print --suppressions=- -";
+print --suppressions=- -
+convert
+convert d e
+convert --from=massif --to=massif t
+convert --from=trace d
+convert --from= d
+convert --to=dhat d
+convert --to=Massif d
+convert --key=mb d
+convert --key= d
+convert --from=massif --key=mb t
+convert --snapshot=1000001 d
+convert --snapshot=-1 d
+convert --snapshot=1 --snapshot=1 d
+convert --snapshot d
+convert --folded d";
 
 #[test]
 fn words_that_are_not_taken(rt: HostRuntime) -> Result<(), Fail> {

@@ -76,7 +76,7 @@ pub const RAW: &str =
 
 /// How the program is called. Transcripts show it as `(usage)`.
 const USAGE: &str =
-    "usage: heapsuite COMMAND [OPTION]... [FILE]\ncommands: summary print flame interpret massif ms_print dhat gen dhat_view\n";
+    "usage: heapsuite COMMAND [OPTION]... [FILE]\ncommands: summary print flame interpret massif ms_print dhat gen dhat_view convert\n";
 
 /// How runs are made, and the front of the file `t` that they find. A call of number 0 never fails.
 #[derive(Clone, Copy)]

@@ -1,0 +1,139 @@
+//! What the words of `convert` say of a conversion. How it is made is no part of it.
+ghost use Rattle.std.specs.Prelude.{codes, option_map, ◌≡◌};
+ghost use Rattle.command_words.specs.WordsTaken.{only_file_in, rows_in, value_in};
+ghost use Rattle.commands.specs.ConvertWords.{conversion_given, convert_of, kind_named, kind_or, snapshot_or, target_named, target_or};
+ghost use Rattle.commands.specs.KeyWords.{key_or};
+ghost use Rattle.commands.specs.Requests.{convert_asked_by};
+
+use crate::convert_command::ConvertRequest;
+use crate::key_words::key_or;
+use crate::number_words::number_if_given;
+use command_words::{TakenWords, WordTable};
+use dhat_json::FigureKey;
+
+/// The option that says what kind of file is read.
+const FROM: &str = "from";
+
+/// The option that says what is written of it.
+const TO: &str = "to";
+
+/// The option that names the figure.
+const KEY: &str = "key";
+
+/// The option that chooses the snapshot.
+const SNAPSHOT: &str = "snapshot";
+
+/// Four options, and one file.
+pub const WORDS: WordTable<'static> = WordTable {
+    options: &[FROM, TO, KEY, SNAPSHOT],
+    flags: &[],
+    files: true,
+};
+
+/// What kind of file is read.
+#[derive(Clone, Copy, Debug)]
+pub enum FileKind {
+    Dhat,
+    Massif,
+}
+
+/// What is written of it.
+#[derive(Clone, Copy, Debug)]
+pub enum Target {
+    Folded,
+    Massif,
+}
+
+/// Which conversion is made, and by which of the options that have an effect on it.
+#[derive(Clone, Copy, Debug)]
+pub enum Conversion {
+    /// A DHAT profile as folded lines, by a figure of its points.
+    FoldedDhat(FigureKey),
+    /// A Massif file as folded lines: the snapshot with a number, or the last peak or detailed one.
+    FoldedMassif(Option<u32>),
+    /// A DHAT profile as a Massif file.
+    MassifOfDhat,
+}
+
+/// What taken words ask for.
+pub fn request_in<'a>(words: &TakenWords<'a>) -> Option<ConvertRequest<'a>>
+    ensures { option_map convert_asked_by result ≡ convert_of (only_file_in (rows_in words.now)) (kind_or (value_in (rows_in words.now) (codes "from"))) (target_or (value_in (rows_in words.now) (codes "to"))) (key_or (value_in (rows_in words.now) (codes "key"))) (snapshot_or (value_in (rows_in words.now) (codes "snapshot"))) }
+{
+    let file = words.only_file()?;
+    let from = kind_or(words.value(FROM))?;
+    let to = target_or(words.value(TO))?;
+    let key = key_or(words.value(KEY))?;
+    let snapshot = snapshot_or(words.value(SNAPSHOT))?;
+    let conversion = conversion_given(from, to, key, snapshot)?;
+    Some(ConvertRequest { file, conversion })
+}
+
+/// The conversion that is asked for: a Massif file isn't written of a Massif file.
+fn conversion_given(
+    from: FileKind,
+    to: Target,
+    key: FigureKey,
+    snapshot: Option<u32>,
+) -> Option<Conversion>
+    ensures { result ≡ conversion_given from to key snapshot }
+{
+    match (from, to) {
+        (FileKind::Dhat, Target::Folded) => Some(Conversion::FoldedDhat(key)),
+        (FileKind::Dhat, Target::Massif) => Some(Conversion::MassifOfDhat),
+        (FileKind::Massif, Target::Folded) => Some(Conversion::FoldedMassif(snapshot)),
+        (FileKind::Massif, Target::Massif) => None,
+    }
+}
+
+/// The kind of file that the words name: a DHAT profile where they name none.
+fn kind_or(value: Option<&str>) -> Option<FileKind>
+    ensures { result ≡ kind_or (option_map (λ text. text.now) value.entry) }
+{
+    match value {
+        Some(name) => kind_named(name),
+        None => Some(FileKind::Dhat),
+    }
+}
+
+/// The kind of file of a name.
+fn kind_named(name: &str) -> Option<FileKind>
+    ensures { result ≡ kind_named name.now }
+{
+    match name {
+        "dhat" => Some(FileKind::Dhat),
+        "massif" => Some(FileKind::Massif),
+        _ => None,
+    }
+}
+
+/// What the words ask to be written: folded lines where they name nothing.
+fn target_or(value: Option<&str>) -> Option<Target>
+    ensures { result ≡ target_or (option_map (λ text. text.now) value.entry) }
+{
+    match value {
+        Some(name) => target_named(name),
+        None => Some(Target::Folded),
+    }
+}
+
+/// What is to be written, by its name.
+fn target_named(name: &str) -> Option<Target>
+    ensures { result ≡ target_named name.now }
+{
+    match name {
+        "folded" => Some(Target::Folded),
+        "massif" => Some(Target::Massif),
+        _ => None,
+    }
+}
+
+/// The number of the snapshot, where the words give one.
+#[tactic(auto, unfolding(crate::specs::NumberWords::number_if_given))]
+fn snapshot_or(value: Option<&str>) -> Option<Option<u32>>
+    ensures { result ≡ snapshot_or (option_map (λ text. text.now) value.entry) }
+{
+    match number_if_given(0, 1_000_000, value)? {
+        Some(number) => Some(Some(number as u32)),
+        None => Some(None),
+    }
+}

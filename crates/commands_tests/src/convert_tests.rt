@@ -1,0 +1,231 @@
+//! `convert` over worked DHAT profiles and Massif files, its words, and what stands against a conversion.
+
+use crate::transcript::{MASSIF, expect, sound};
+use std::test::Fail;
+
+const DHAT: &str = "$ convert d
+0x400: main (a.c:20) 100
+0x400: main (a.c:20);0x500: f (a.c:10) 100
+[0]
+$ convert --key=eb --snapshot=7 d
+0x400: main (a.c:20) 100
+[0]
+$ convert --from=dhat --to folded --key gb -- d
+0x400: main (a.c:20);0x500: f (a.c:10) 100
+[0]
+$ convert --key=tl d
+0x400: main (a.c:20);0x500: f (a.c:10) 1
+[0]
+$ convert --key=rb d
+heapsuite: d: no figures for rb
+[1]
+$ convert --to=massif --key=rb d
+desc: heapsuite convert
+cmd: demo
+time_unit: e
+#-----------
+snapshot=0
+#-----------
+time=1
+mem_heap_B=100
+mem_heap_extra_B=0
+mem_stacks_B=0
+heap_tree=peak
+n1: 100 (heap allocation functions) malloc/new/new[], --alloc-fns, etc.
+ n1: 100 0x500: f (a.c:10)
+  n0: 100 0x400: main (a.c:20)
+#-----------
+snapshot=1
+#-----------
+time=3
+mem_heap_B=100
+mem_heap_extra_B=0
+mem_stacks_B=0
+heap_tree=detailed
+n1: 100 (heap allocation functions) malloc/new/new[], --alloc-fns, etc.
+ n0: 100 0x400: main (a.c:20)
+[0]
+$ convert n
+heapsuite: n: no such file
+[3]
+";
+
+#[test]
+fn dhat_profiles(rt: HostRuntime) -> Result<(), Fail> {
+    expect(&rt, rt.alloc(), &sound(""), DHAT)
+}
+
+/// A profile with one list twice, one with a semicolon, one of no text, and one whose bytes sum to 0. The time at its peak is
+/// after its end.
+const PROFILE_OF_LISTS: &str =
+    "{\"dhatFileVersion\":2,\"mode\":\"heap\",\"verb\":\"Allocated\",\"bklt\":true,\"bkacc\":true,\"tu\":\"instrs\",\"Mtu\":\"Minstr\",\"cmd\":\"\",\"pid\":7,\"te\":100,\"tg\":101,\"pps\":[{\"tb\":0,\"tbk\":1,\"tl\":0,\"mb\":0,\"mbk\":1,\"gb\":0,\"gbk\":0,\"eb\":0,\"ebk\":0,\"rb\":3,\"wb\":0,\"fs\":[2]},{\"tb\":5,\"tbk\":1,\"tl\":0,\"mb\":5,\"mbk\":1,\"gb\":5,\"gbk\":1,\"eb\":0,\"ebk\":0,\"rb\":0,\"wb\":0,\"fs\":[2,1]},{\"tb\":7,\"tbk\":1,\"tl\":0,\"mb\":7,\"mbk\":1,\"gb\":7,\"gbk\":1,\"eb\":0,\"ebk\":0,\"rb\":0,\"wb\":0,\"fs\":[]},{\"tb\":1,\"tbk\":1,\"tl\":0,\"mb\":1,\"mbk\":1,\"gb\":1,\"gbk\":1,\"eb\":0,\"ebk\":0,\"rb\":4,\"wb\":0,\"fs\":[2,1]}],\"ftbl\":[\"[root]\",\"main\",\" a;b\"]}\n";
+
+const LISTS: &str = "$ convert t
+main;?a:b 6
+(no stack) 7
+[0]
+$ convert --key=rb t
+?a:b 3
+main;?a:b 4
+[0]
+$ convert --to=massif t
+desc: heapsuite convert
+cmd: (none)
+time_unit: i
+#-----------
+snapshot=0
+#-----------
+time=100
+mem_heap_B=13
+mem_heap_extra_B=0
+mem_stacks_B=0
+heap_tree=peak
+n1: 13 (heap allocation functions) malloc/new/new[], --alloc-fns, etc.
+ n1: 6 ?a;b
+  n0: 6 main
+#-----------
+snapshot=1
+#-----------
+time=100
+mem_heap_B=0
+mem_heap_extra_B=0
+mem_stacks_B=0
+heap_tree=detailed
+n0: 0 (heap allocation functions) malloc/new/new[], --alloc-fns, etc.
+[0]
+";
+
+#[test]
+fn lists(rt: HostRuntime) -> Result<(), Fail> {
+    expect(&rt, rt.alloc(), &sound(PROFILE_OF_LISTS), LISTS)
+}
+
+const DOCUMENTS: &str =
+    "> {\"dhatFileVersion\":2,\"mode\":\"heap\",\"verb\":\"Allocated\",\"bklt\":false,\"bkacc\":false,\"tu\":\"instrs\",\"Mtu\":\"Minstr\",\"cmd\":\"./a\",\"pid\":7,\"te\":100,\"pps\":[{\"tb\":10,\"tbk\":1,\"fs\":[1]},{\"tb\":4611686018427387904,\"tbk\":1,\"fs\":[]}],\"ftbl\":[\"[root]\",\"main\"]}
+$ convert t
+heapsuite: t: figures too large
+[6]
+> {\"dhatFileVersion\":2,\"mode\":\"heap\",\"verb\":\"Allocated\",\"bklt\":false,\"bkacc\":false,\"tu\":\"instrs\",\"Mtu\":\"Minstr\",\"cmd\":\"./a\",\"pid\":7,\"te\":4611686018427387905,\"pps\":[],\"ftbl\":[]}
+$ convert --to=massif t
+heapsuite: t: no figures for gb
+[1]
+> {\"dhatFileVersion\":2,\"mode\":\"heap\",\"verb\":\"Allocated\",\"bklt\":true,\"bkacc\":false,\"tu\":\"instrs\",\"Mtu\":\"Minstr\",\"cmd\":\"./a\",\"pid\":7,\"te\":4611686018427387905,\"pps\":[],\"ftbl\":[]}
+$ convert --to=massif t
+heapsuite: t: figures too large
+[6]
+> {\"dhatFileVersion\":2,\"mode\":\"heap\",\"verb\":\"Allocated\",\"bklt\":true,\"bkacc\":false,\"tu\":\"instrs\",\"Mtu\":\"Minstr\",\"cmd\":\"./a\",\"pid\":7,\"te\":4611686018427387905,\"ftbl\":[]}
+$ convert --key=rb t
+heapsuite: t: missing key pps
+[1]
+> {
+$ convert --to=massif t
+heapsuite: t: not JSON
+[1]
+> cmd: a
+$ convert t
+heapsuite: t: not JSON
+[1]
+";
+
+#[test]
+fn documents(rt: HostRuntime) -> Result<(), Fail> {
+    expect(&rt, rt.alloc(), &sound(""), DOCUMENTS)
+}
+
+const WORKED_FILE: &str = "$ convert --from=massif m
+0x400: main (a.c:20);0x500: f (a.c:10) 100
+[0]
+$ convert --from massif m --key=rb --snapshot 2
+0x400: main (a.c:20);0x500: f (a.c:10) 100
+[0]
+$ convert --from=massif --snapshot=4 m
+heapsuite: m: no tree
+[1]
+$ convert --from=massif --snapshot=5 m
+heapsuite: m: no tree
+[1]
+> n0: 1 more
+$ convert --from=massif --snapshot=5 t
+heapsuite: t:47: bad snapshot
+[1]
+";
+
+#[test]
+fn worked_file(rt: HostRuntime) -> Result<(), Fail> {
+    expect(&rt, rt.alloc(), &sound(MASSIF), WORKED_FILE)
+}
+
+/// The second worked file up to its tree.
+const SECOND_FILE: &str =
+    "desc: (none)\ncmd: ./a.out\ntime_unit: i\n#-----------\nsnapshot=0\n#-----------\ntime=0\nmem_heap_B=0\nmem_heap_extra_B=0\nmem_stacks_B=0\nheap_tree=empty\n#-----------\nsnapshot=1\n#-----------\ntime=157300\nmem_heap_B=9000\nmem_heap_extra_B=72\nmem_stacks_B=0\nheap_tree=detailed\n";
+
+// A detailed snapshot, two peaks, a tree whose children have more bytes than their line, labels that are shown, and bytes that sum to
+// more than 2^62.
+const TREES: &str = "> n2: 9000 (heap allocation functions) malloc/new/new[], --alloc-fns, etc.
+>  n0: 8960 0x4005BB: main (a.c:10)
+>  n0: 40 in 3 places, all below massif's threshold (1.00%)
+$ convert --from=massif t
+0x4005BB: main (a.c:10) 8960
+in 3 places, all below massif's threshold (1.00%) 40
+[0]
+> n2: 9000 (heap allocation functions) malloc/new/new[], --alloc-fns, etc.
+>  n0: 8960 0x4005BB: main (a.c:10)
+>  n0: 40 in 3 places, all below massif's threshold (1.00%)
+$ convert --from=massif --snapshot=0 t
+heapsuite: t: no tree
+[1]
+> n2: 9000 (heap allocation functions) malloc/new/new[], --alloc-fns, etc.
+>  n0: 8960 0x4005BB: main (a.c:10)
+$ convert --from=massif --snapshot=0 t
+heapsuite: t:22: truncated
+[1]
+> n1: 9 root
+>  n0: 5
+> snapshot=2
+> time=157300
+> mem_heap_B=8
+> mem_heap_extra_B=0
+> mem_stacks_B=0
+> heap_tree=peak
+> n0: 8 root
+> snapshot=3
+> time=157300
+> mem_heap_B=8
+> mem_heap_extra_B=0
+> mem_stacks_B=0
+> heap_tree=peak
+> n2: 8 root
+>  n2: 5 a;b
+>   n0: 4 c
+>   n0: 2 c
+>  n1: 1 a;b
+>   n0: 1 c
+> snapshot=4
+> time=157300
+> mem_heap_B=8
+> mem_heap_extra_B=0
+> mem_stacks_B=0
+> heap_tree=detailed
+> n0: 1 root
+$ convert --from=massif t
+(no stack) 2
+c;a:b 7
+[0]
+> n1: 9 root
+>  n0: 5
+$ convert --from=massif t
+(no stack) 4
+? 5
+[0]
+> n2: 0 root
+>  n0: 4611686018427387904 a
+>  n0: 1 b
+$ convert --from=massif t
+heapsuite: t: figures too large
+[6]
+";
+
+#[test]
+fn trees(rt: HostRuntime) -> Result<(), Fail> {
+    expect(&rt, rt.alloc(), &sound(SECOND_FILE), TREES)
+}
