@@ -1,6 +1,8 @@
 //! The command `massif`: Massif's snapshots of a trace, as a Massif file. What the words say of them is read in
 //! `massif_words`.
 ghost use Rattle.std.specs.Prelude.{option_map, ◌≡◌, ◌^◌, ◌<◌, Err, IfOk, [], ◌∷◌, None, Some, map, string_bytes};
+ghost use Rattle.std.specs.Str.{bytes_eq};
+ghost use Rattle.intern_tables.specs.WithoutRepeats.{without_repeats};
 ghost use Rattle.command_frame.specs.RunsTo.{Runs};
 ghost use Rattle.command_words.specs.WordsTaken.{only_file_in, rows_in, value_in};
 ghost use Rattle.commands.specs.MassifReport.{massif_plan};
@@ -11,12 +13,13 @@ ghost use Rattle.commands.specs.Requests.{massif_asked_by};
 use crate::massif_reader::{MassifReader, Settled};
 use crate::massif_request::MassifRequest;
 use crate::massif_words::{ALLOC_FNS, IGNORE_FNS, WORDS, options_in};
-use crate::name_list::is_named;
+use crate::name_list::{is_named, names_of};
 use command_frame::{Desk, Halt, run_one_file};
 use command_words::{TakenWords, WordsFault, take_words};
 use cost_tree::FrameTest;
 use hp_num::NoMemory;
 use hp_outside::{Sink, Store};
+use intern_tables::Names;
 use std::alloc::Global;
 
 impl<'a> MassifRequest<'a> {
@@ -45,12 +48,12 @@ impl<'a> MassifRequest<'a> {
             (massif_plan (massif_asked_by self.now).settings self.now.trace.now)
             store.old store.new out.old out.new result }
     {
-        let (alloc_fns, ignore_fns) = match self.lists(desk.alloc) {
-            Ok(lists) => lists,
+        let (alloc_fns, ignore_fns) = match self.names(desk.alloc) {
+            Ok(names) => names,
             Err(NoMemory) => return Err(Halt::no_memory()),
         };
-        let alloc_test = FrameTest::new(move |name: &[u8]| is_named(alloc_fns.as_bytes(), name));
-        let ignore_test = FrameTest::new(move |name: &[u8]| is_named(ignore_fns.as_bytes(), name));
+        let alloc_test = FrameTest::new(move |name: &[u8]| is_named(&alloc_fns, name));
+        let ignore_test = FrameTest::new(move |name: &[u8]| is_named(&ignore_fns, name));
         let mut reader = MassifReader::new(
             desk.alloc,
             self.options,
@@ -61,13 +64,13 @@ impl<'a> MassifRequest<'a> {
         run_one_file(desk, self.trace, &mut reader, store, out)
     }
 
-    /// Both lists of functions, which the tests of names keep. `NoMemory` where memory is wanting.
-    fn lists(&self, alloc: Global) -> Result<(String, String), NoMemory>
-        ensures alloc_fns { IfOk result (λ lists. string_bytes lists.0 ≡ self.now.alloc_fns.now) }
-        ensures ignore_fns { IfOk result (λ lists. string_bytes lists.1 ≡ self.now.ignore_fns.now) }
+    /// The names of both lists of functions, which the tests of names keep. `NoMemory` where memory is wanting.
+    fn names(&self, alloc: Global) -> Result<(Names, Names), NoMemory>
+        ensures alloc_fns { IfOk result (λ names. names.0 ≡ without_repeats bytes_eq (names_in self.now.alloc_fns.now)) }
+        ensures ignore_fns { IfOk result (λ names. names.1 ≡ without_repeats bytes_eq (names_in self.now.ignore_fns.now)) }
     {
-        let alloc_fns = String::from_str(alloc, self.alloc_fns)?;
-        let ignore_fns = String::from_str(alloc, self.ignore_fns)?;
+        let alloc_fns = names_of(alloc, self.alloc_fns.as_bytes())?;
+        let ignore_fns = names_of(alloc, self.ignore_fns.as_bytes())?;
         Ok((alloc_fns, ignore_fns))
     }
 }

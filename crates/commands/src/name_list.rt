@@ -1,19 +1,41 @@
-//! Names as the value of an option.
-ghost use Rattle.std.specs.Prelude.{◌≡◌, ◌↔◌, Contains, IsTrue};
-ghost use Rattle.std.specs.List.{list_any, slice_split};
+//! Names as the value of an option, and whether a name is one of them.
+ghost use Rattle.std.specs.Prelude.{◌≡◌, ℕ, ◌↔◌, Contains, IsTrue, IfOk, List, ◌∷◌, ◌++◌, [], OnOk};
 ghost use Rattle.std.specs.Str.{bytes_eq};
-ghost use Rattle.commands.specs.NameList.{is_semicolon, names_in};
+ghost use Rattle.intern_tables.specs.WithoutRepeats.{without_repeats};
+ghost use Rattle.commands.specs.NameList.{names_in, with_text};
 
-/// Whether the name is one of a list's, whose names are its pieces between semicolons without the empty ones.
-pub fn is_named(list: &[u8], name: &[u8]) -> bool
-    ensures { IsTrue result ↔ Contains (names_in list.now) name.now }
+use hp_num::NoMemory;
+use intern_tables::Names;
+use std::alloc::Global;
+
+/// The names of a list, each once: its pieces between semicolons without the empty ones. They are looked up by a hash.
+/// `NoMemory` where memory is wanting.
+pub fn names_of(alloc: Global, list: &[u8]) -> Result<Names, NoMemory>
+    ensures { IfOk result (λ names. names ≡ without_repeats bytes_eq (names_in list.now)) }
 {
-    !name.is_empty() && is_piece(list, name)
+    let mut names = Names::new(alloc);
+    'pieces: for piece in list.split(|byte| *byte == b';') {
+        add_piece(&mut names, piece)?;
+    }
+    Ok(names)
 }
 
-/// Whether the name is a piece between semicolons.
-fn is_piece(list: &[u8], name: &[u8]) -> bool
-    ensures { result ≡ list_any (bytes_eq name.now) (slice_split is_semicolon list.now) }
+/// Adds a piece, unless it is empty.
+fn add_piece(names: &mut Names, piece: &[u8]) -> Result<(), NoMemory>
+    ensures { OnOk result ((came : List (List ℕ)) → names.old ≡ without_repeats bytes_eq (with_text came) →
+        names.new ≡ without_repeats bytes_eq (with_text (came ++ piece.now ∷ []))) }
 {
-    list.split(|byte| *byte == b';').any(|piece| name == piece)
+    if piece.is_empty() {
+        return Ok(());
+    }
+    names.intern(piece)?;
+    Ok(())
+}
+
+/// Whether the name is one of a list's.
+pub fn is_named(names: &Names, name: &[u8]) -> bool
+    ensures { (list : List ℕ) → names.now ≡ without_repeats bytes_eq (names_in list) →
+        IsTrue result ↔ Contains (names_in list) name.now }
+{
+    names.find(name).is_some()
 }

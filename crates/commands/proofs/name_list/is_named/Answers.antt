@@ -1,10 +1,13 @@
-use Rattle.std.proofs.Common.{not, ap, arith}
-use Rattle.std.proofs.lemmas.Bool.Decides.{nat_tests}
-use Rattle.commands.proofs.NameLemmas.{named-none, named-piece}
+use Rattle.std.proofs.Common.{◌≡◌, ℕ, ◌↔◌, List, sym, subst, rules, IsTrue, Contains}
+use Rattle.commands.specs.NameList.{names_in}
+use Rattle.commands.proofs.NameLemmas.{Contains-once}
 use Rattle.commands.proofs.name_list.is_named.Goals as goal
 
-pub returns-then-not-is_empty : goal.returns-then-not-is_empty
-returns-then-not-is_empty c = named-piece c.args.list.now c.args.name.now c.is_piece.result (grind (arith, nat_tests, c.if-not-is_empty.true, c.is_empty.ensures)) c.is_piece.ensures
-
-pub returns-else-not-is_empty : goal.returns-else-not-is_empty
-returns-else-not-is_empty c = named-none c.args.list.now c.args.name.now _ (grind (arith, nat_tests, c.if-not-is_empty.false, c.is_empty.ensures)) (ap not c.if-not-is_empty.false)
+pub returns : goal.returns
+returns c = λ list is.
+    let held : List (List ℕ) → Type 0 = λ names. Contains names c.args.name.now in
+    let found : IsTrue c.is_some.result ↔ held c.args.names.now = search rules in
+    let once = Contains-once (names_in list) c.args.name.now in (
+      (λ named. once.0 (subst held is (found.0 named))),
+      (λ named. found.1 (subst held (sym is) (once.1 named))),
+    )

@@ -24,3 +24,12 @@ returns-clause-sound g c =
         };
       },
     )
+
+pub returns-clause-read : goal.returns-clause-read
+returns-clause-read g c = (
+  c.new-tables.ensures.stands,
+  record {
+    ledger_of = c.in_ok-ledger.ensures.stands;
+    sampling = c.in_ok-sampler.ensures.stands (g.S.Settled.settings c.args.settings).names c.requires.stated;
+  },
+)
