@@ -1,4 +1,5 @@
 //! The profiles that are converted.
+ghost use Rattle.dhat_json.specs.IsSound.{IsSound};
 
 use dhat_json::{Dhat, read_profile};
 use massif_file::{Profile, ProfileFault, ProfileReader};
@@ -99,7 +100,9 @@ n2: 4611686018427387904 (root)
 ";
 
 /// The profile that a DHAT document says.
-pub(crate) fn dhat_of(rt: &impl Abort, alloc: Global, text: &str) -> Dhat {
+pub(crate) fn dhat_of(rt: &impl Abort, alloc: Global, text: &str) -> Dhat
+    ensures sound { IsSound result }
+{
     read_profile(alloc, text.as_bytes()).expect(rt, "a profile")
 }
 
