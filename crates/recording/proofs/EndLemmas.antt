@@ -179,19 +179,19 @@ heaprec_ran bounds limit asking before now status run files =
     record {
       run = run;
       recorded = λ none zero. (
-          run.given.output,
-          (
-            (whole (λ four. omega (arith, zero, four))).output,
-            subst (λ (o : Option (List ℕ)). IsDoneBy IsRecorded limit before.store.files asking run.given.output o) none (run.done (done_is zero)),
-          ),
-        );
+        run.given.output,
+        (
+          (whole (λ four. omega (arith, zero, four))).output,
+          subst (λ (o : Option (List ℕ)). IsDoneBy IsRecorded limit before.store.files asking run.given.output o) none (run.done (done_is zero)),
+        ),
+      );
       checked = λ trace is zero. (
-          run.given.output,
-          (
-            (whole (λ four. omega (arith, zero, four))).output,
-            subst (λ (o : Option (List ℕ)). IsDoneBy IsRecorded limit before.store.files asking run.given.output o) is (run.done (done_is zero)),
-          ),
-        );
+        run.given.output,
+        (
+          (whole (λ four. omega (arith, zero, four))).output,
+          subst (λ (o : Option (List ℕ)). IsDoneBy IsRecorded limit before.store.files asking run.given.output o) is (run.done (done_is zero)),
+        ),
+      );
       defined = λ folder known quiet out_quiet err_quiet five.
           let same = defined_by e folder known quiet (wrote e out_quiet err_quiet) five in
           (run.text, (gives_as before now status same (whole (wrote e out_quiet err_quiet)), λ zero. subst (λ (a : Answer). IsDone IsRecorded limit before.store.files asking a.output) same (run.done (done_is zero))));
