@@ -4,9 +4,9 @@ ghost use Rattle.std.specs.Prelude.{◌≡◌};
 ghost use Rattle.commands.specs.ConvertReport.{converted_verdict, dhat_refusal, folded_massif_verdict, folded_verdict, massif_refusal};
 
 use crate::dhat_file::DhatFileReport;
+use crate::document_fault::DocumentFault;
 use crate::massif_file_fault::MassifFileFault;
 use crate::massif_file_report::MassifFileReport;
-use crate::document_fault::DocumentFault;
 use command_frame::LineRefusal;
 use convert::{ConvertFault, massif_of_dhat, put_folded_dhat, put_folded_massif};
 use dhat_json::{Dhat, FigureKey};
