@@ -19,3 +19,5 @@ mod DocumentFactLemmas
 mod RunFactLemmas
 mod QuietLemmas
 mod RunsToLemmas
+mod WordsLemmas
+mod EndsLemmas

@@ -1,6 +1,9 @@
 -- A run that ended because a file is absent, or couldn't be opened or read: what its message says.
-use Rattle.std.proofs.Common.{◌≡◌, ◌≢◌, ℕ, suc, ◌+◌, true, false, List, ◌∷◌, codes, Option, Some, None, IsSome, ap, subst, ◌∙◌, inl, inr, arith}
+use Rattle.std.proofs.Common.{◌≡◌, ◌≢◌, ℕ, suc, ◌+◌, true, false, List, ◌∷◌, Option, Some, None, IsSome, ap, subst, ◌∙◌, inl, inr, arith}
 use Rattle.hp_outside.specs.Faults.{Rose}
+use Rattle.hp_outside.specs.FaultTexts.{line_text, open_text}
+use Rattle.hp_outside.specs.declared.span.LineFault.TheVariants as reading
+use Rattle.hp_outside.specs.declared.store.OpenFault.TheVariants as opening
 use Rattle.hp_outside.specs.Folder.{Folder, file_of}
 use Rattle.hp_outside.specs.Taken.{WhereTold}
 use Rattle.command_frame.specs.Texts.{Texts, at_file}
@@ -10,7 +13,7 @@ use Rattle.command_frame.specs.RunFacts.{NotRead}
 
 module _ (texts : Texts) (files : Option Folder) (name wanted : List ℕ) (names : List (List ℕ)) (before now : Moment) (given : Answer) where
   -- the first file is absent
-  pub absent_not_read : name ≡ wanted → given.message ≡ at_file texts wanted (codes "no such file") → Opened before now false
+  pub absent_not_read : name ≡ wanted → given.message ≡ at_file texts wanted (open_text opening.Absent) → Opened before now false
       → WhereTold files (λ folder. file_of folder wanted ≡ None) → (files ≡ None → Rose before.faults now.faults) → NotRead texts files (name ∷ names) before now given
   absent_not_read named message opened absent rose = record {
     place = 0;
@@ -26,7 +29,7 @@ module _ (texts : Texts) (files : Option Folder) (name wanted : List ℕ) (names
   }
 
   -- it couldn't be opened
-  pub closed_not_read : name ≡ wanted → given.message ≡ at_file texts wanted (codes "cannot open") → Opened before now false
+  pub closed_not_read : name ≡ wanted → given.message ≡ at_file texts wanted (open_text opening.Failed) → Opened before now false
       → WhereTold files (λ folder. file_of folder wanted ≢ None) → Rose before.faults now.faults → NotRead texts files (name ∷ names) before now given
   closed_not_read named message opened there rose = record {
     place = 0;
@@ -42,7 +45,7 @@ module _ (texts : Texts) (files : Option Folder) (name wanted : List ℕ) (names
   }
 
   -- it couldn't be read
-  pub unread_not_read : name ≡ wanted → given.message ≡ at_file texts wanted (codes "cannot read") → Opened before now true
+  pub unread_not_read : name ≡ wanted → given.message ≡ at_file texts wanted (line_text reading.ReadFailed) → Opened before now true
       → WhereTold files (λ folder. file_of folder wanted ≢ None) → Rose before.faults now.faults → NotRead texts files (name ∷ names) before now given
   unread_not_read named message opened there rose = record {
     place = 0;

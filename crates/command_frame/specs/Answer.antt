@@ -1,5 +1,8 @@
 -- What a run is to write and to answer, for its plan and the files of a folder.
-use Rattle.std.specs.Prelude.{ℕ, ◌-◌, List, [], ◌++◌, Option, Some, None, codes, take}
+use Rattle.std.specs.Prelude.{ℕ, ◌-◌, List, [], ◌++◌, Option, Some, None, take}
+use Rattle.hp_outside.specs.FaultTexts.{line_text, open_text}
+use Rattle.hp_outside.specs.declared.span.LineFault.TheVariants as reading
+use Rattle.hp_outside.specs.declared.store.OpenFault.TheVariants as opening
 use Rattle.hp_outside.specs.Folder.{Folder, file_of}
 use Rattle.hp_outside.specs.Lines.{lines_of}
 use Rattle.command_frame.specs.Told.{Told, code_of}
@@ -39,13 +42,13 @@ write_answer texts = refused texts.write_failed 4
 
 -- the answers where a file is absent, and where a call on it failed
 abbrev pub absent_answer : Texts → List ℕ → Answer
-absent_answer texts name = refused (at_file texts name (codes "no such file")) 3
+absent_answer texts name = refused (at_file texts name (open_text opening.Absent)) 3
 
 abbrev pub closed_answer : Texts → List ℕ → Answer
-closed_answer texts name = refused (at_file texts name (codes "cannot open")) 3
+closed_answer texts name = refused (at_file texts name (open_text opening.Failed)) 3
 
 abbrev pub unread_answer : Texts → List ℕ → Answer
-unread_answer texts name = refused (at_file texts name (codes "cannot read")) 3
+unread_answer texts name = refused (at_file texts name (line_text reading.ReadFailed)) 3
 
 -- the answer at a fault of a line, and at one of a whole file
 abbrev pub line_answer : Texts → List ℕ → ℕ → Told → Answer

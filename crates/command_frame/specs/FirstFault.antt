@@ -1,7 +1,9 @@
 -- The first fault of a file of lines.
-use Rattle.std.specs.Prelude.{ℕ, Bool, ◌+◌, ◌&&◌, nat_le, nat_lt, if◌then◌else◌, List, [], ◌∷◌, ◌++◌, codes, length, sum_by, Option, Some, None}
+use Rattle.std.specs.Prelude.{ℕ, Bool, ◌+◌, ◌&&◌, nat_le, nat_lt, if◌then◌else◌, List, [], ◌∷◌, ◌++◌, length, sum_by, Option, Some, None}
 use Rattle.std.specs.Option.{option_map, option_or}
+use Rattle.hp_outside.specs.FaultTexts.{line_text}
 use Rattle.hp_outside.specs.Lines.{lines_of}
+use Rattle.hp_outside.specs.declared.span.LineFault.TheVariants.{LineTooLong, InputTooLong}
 use Rattle.hp_outside.specs.declared.limits.Limits.{Limits}
 use Rattle.command_frame.specs.declared.fault.FaultStatus.TheVariants.{PastLimit}
 use Rattle.command_frame.specs.Told.{Told}
@@ -17,10 +19,10 @@ bounds_of limits = record { input = limits.input; line = limits.line }
 
 -- a line with more bytes than the limit, and a file
 abbrev pub line_too_long : Told
-line_too_long = record { text = codes "line too long"; status = PastLimit }
+line_too_long = record { text = line_text LineTooLong; status = PastLimit }
 
 abbrev pub input_too_long : Told
-input_too_long = record { text = codes "input too long"; status = PastLimit }
+input_too_long = record { text = line_text InputTooLong; status = PastLimit }
 
 -- the bytes of lines that each end with a line feed
 abbrev pub bytes_of_lines : List (List ℕ) → ℕ

@@ -19,3 +19,8 @@ pub mod Delivery
 pub mod RunFacts
 pub mod OutcomeAnswer
 pub mod RunsTo
+pub mod Delivers
+pub mod Outside
+pub mod Task
+pub mod WordsRan
+pub mod RunEnds

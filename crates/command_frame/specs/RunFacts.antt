@@ -1,6 +1,9 @@
 -- What follows for a run of a plan.
-use Rattle.std.specs.Prelude.{◌≡◌, ◌≢◌, ◌≤◌, ◌+◌, ◌⊎◌, ℕ, true, false, List, [], codes, length, slice_get, take, Option, Some, None, IsSome}
+use Rattle.std.specs.Prelude.{◌≡◌, ◌≢◌, ◌≤◌, ◌+◌, ◌⊎◌, ℕ, true, false, List, [], length, slice_get, take, Option, Some, None, IsSome}
 use Rattle.hp_outside.specs.Faults.{Rose}
+use Rattle.hp_outside.specs.FaultTexts.{line_text, open_text}
+use Rattle.hp_outside.specs.declared.span.LineFault.TheVariants as reading
+use Rattle.hp_outside.specs.declared.store.OpenFault.TheVariants as opening
 use Rattle.hp_outside.specs.Folder.{Folder, file_of}
 use Rattle.hp_outside.specs.Taken.{WhereTold}
 use Rattle.command_frame.specs.FirstFault.{Bounds}
@@ -11,16 +14,16 @@ use Rattle.command_frame.specs.Answer.{Answer, plan_answer}
 use Rattle.command_frame.specs.Moment.{Moment}
 
 -- a call of the store failed or a file is absent: the message names the file that was opened last, which is the one at a place
--- among those to be read, and says 'cannot read' where a file is current
+-- among those to be read, and says that it can't be read where a file is current
 pub record NotRead (texts : Texts) (files : Option Folder) (names : List (List ℕ)) (before now : Moment) (given : Answer) : Type 0 where
   pub place : ℕ
   pub name : List ℕ
   pub named : slice_get names place ≡ Some name
   pub opens : now.opens ≡ before.opens + (place + 1)
-  pub cannot_read : now.current ≡ true → given.message ≡ at_file texts name (codes "cannot read")
-  pub no_such_file : WhereTold files (λ folder. file_of folder name ≡ None → given.message ≡ at_file texts name (codes "no such file"))
-  pub cannot_open : WhereTold files (λ folder. IsSome (file_of folder name) → now.current ≡ false → given.message ≡ at_file texts name (codes "cannot open"))
-  pub untold : files ≡ None → now.current ≡ false → (given.message ≡ at_file texts name (codes "no such file")) ⊎ (given.message ≡ at_file texts name (codes "cannot open"))
+  pub cannot_read : now.current ≡ true → given.message ≡ at_file texts name (line_text reading.ReadFailed)
+  pub no_such_file : WhereTold files (λ folder. file_of folder name ≡ None → given.message ≡ at_file texts name (open_text opening.Absent))
+  pub cannot_open : WhereTold files (λ folder. IsSome (file_of folder name) → now.current ≡ false → given.message ≡ at_file texts name (open_text opening.Failed))
+  pub untold : files ≡ None → now.current ≡ false → (given.message ≡ at_file texts name (open_text opening.Absent)) ⊎ (given.message ≡ at_file texts name (open_text opening.Failed))
   pub cause_told : WhereTold files (λ folder. IsSome (file_of folder name) → Rose before.faults now.faults)
   pub cause_untold : files ≡ None → Rose before.faults now.faults
 

@@ -4,6 +4,7 @@ ghost use Rattle.std.specs.Prelude.{◌≡◌, ◌≢◌, ◌≤◌, ℕ, List, 
 ghost use Rattle.std.specs.Io.KnownBytes.{append_known};
 ghost use Rattle.hp_outside.specs.Faults.{Rose};
 ghost use Rattle.hp_outside.specs.Taken.{GainsFront};
+ghost use Rattle.command_frame.specs.Delivers.{Delivers};
 ghost use Rattle.command_frame.specs.Delivery.{Delivered, GainsFronts};
 ghost use Rattle.command_frame.specs.OutcomeAnswer.{outcome_answer};
 ghost use Rattle.command_frame.specs.RunsTo.{rest_of};
@@ -53,16 +54,8 @@ pub fn deliver<O: Sink, E: Sink>(
     out: &mut O,
     err: &mut E,
 ) -> u8
-    ensures status { result ≢ 4 → Delivered (outcome_answer (texts_of texts.now) outcome.now) result (O.written out.old) (O.written out.new) (E.written err.old) (E.written err.new) }
-    ensures fronts { GainsFronts texts.now.write_failed.now (outcome_answer (texts_of texts.now) outcome.now) (Rose (O.faults out.old) (O.faults out.new)) (Rose (E.faults err.old) (E.faults err.new))
-        (O.written out.old) (O.written out.new) (E.written err.old) (E.written err.new) }
-    ensures own_message { (bytes : List ℕ) → O.written out.old ≡ Some bytes → O.written out.new ≡ append_known (O.written out.old) (outcome_answer (texts_of texts.now) outcome.now).output
-        → GainsFront (E.written err.old) (E.written err.new) (outcome_answer (texts_of texts.now) outcome.now).message }
-    ensures cause { result ≡ 4 → (outcome_answer (texts_of texts.now) outcome.now).status ≢ 4 → ¬ Rose (O.faults out.old) (O.faults out.new) → Rose (E.faults err.old) (E.faults err.new) }
-    ensures given { (outcome_answer (texts_of texts.now) outcome.now).status ≡ 4 → result ≡ 4 }
-    ensures out_sound { result ≢ 4 → O.faults out.new ≡ O.faults out.old }
-    ensures err_sound { result ≢ 4 → E.faults err.new ≡ E.faults err.old }
-    ensures out_faults { O.faults out.old ≤ O.faults out.new }
+    ensures { Delivers O.Sink E.Sink texts.now.write_failed.now (outcome_answer (texts_of texts.now) outcome.now)
+        result out.old out.new err.old err.new }
 {
     match &outcome.halt {
         None => deliver_parts(&outcome.rest, &[], DONE, texts.write_failed, out, err),

@@ -42,7 +42,7 @@ impl Fault for TooLong {
     ghost told = { λ _. input_too_long };
 
     fn put_text(&self, out: &mut Vec<u8>) -> Result<(), NoMemory> {
-        put_bytes(out, b"input too long")
+        put_bytes(out, WholeFault::InputTooLong.text().as_bytes())
     }
 
     fn status(&self) -> FaultStatus {
@@ -57,7 +57,7 @@ fn unread(desk: &Desk, name: &str, fault: WholeFault) -> Halt
     ensures write { status_code result.status ≢ 4 }
 {
     match fault {
-        WholeFault::ReadFailed => Halt::unreadable(desk.alloc, &desk.texts, name, b"cannot read"),
+        WholeFault::ReadFailed => Halt::unreadable(desk.alloc, &desk.texts, name, fault.text()),
         WholeFault::InputTooLong => Halt::at_file(desk.alloc, &desk.texts, name, &TooLong),
         WholeFault::NoMemory => Halt::no_memory(),
     }

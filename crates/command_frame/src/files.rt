@@ -15,7 +15,7 @@ use crate::fault::Fault;
 use crate::halt::Halt;
 use crate::lines::{LinesStop, pass_on, read_through_buffer};
 use crate::taker::LineTaker;
-use hp_outside::{Failed, LineReader, OpenFault, Sink, Store};
+use hp_outside::{Failed, LineFault, LineReader, OpenFault, Sink, Store};
 use std::alloc::Global;
 
 /// Takes all lines of the current file, and writes all that they give to standard output.
@@ -63,11 +63,7 @@ impl Desk {
         ensures memory { status_code result.status ≡ 5 → halt_answer (texts_of self.now.texts) result ≡ memory_answer (texts_of self.now.texts) }
         ensures write { status_code result.status ≢ 4 }
     {
-        let text: &[u8] = match fault {
-            OpenFault::Absent => b"no such file",
-            OpenFault::Failed => b"cannot open",
-        };
-        Halt::unreadable(self.alloc, &self.texts, name, text)
+        Halt::unreadable(self.alloc, &self.texts, name, fault.text())
     }
 
     /// The halt where not all lines of a file were taken.
@@ -89,7 +85,7 @@ impl Desk {
                 self.alloc,
                 &self.texts,
                 name,
-                b"cannot read",
+                LineFault::ReadFailed.text(),
             ),
             LinesStop::WriteFailed => Halt::write_failed(),
             LinesStop::NoMemory => Halt::no_memory(),

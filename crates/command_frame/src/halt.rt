@@ -120,7 +120,7 @@ impl Halt {
 
     /// A file that is absent, or of which a call failed; or the halt for want of memory, where that is wanting for the
     /// message.
-    pub fn unreadable(alloc: Global, texts: &ProgramTexts, file: &str, text: &[u8]) -> Halt
+    pub fn unreadable(alloc: Global, texts: &ProgramTexts, file: &str, text: &str) -> Halt
         ensures answer { status_code result.status ≢ 5 → halt_answer (texts_of texts.now) result ≡ refused (at_file (texts_of texts.now) file.now text.now) 3 }
         ensures memory { status_code result.status ≡ 5 → halt_answer (texts_of texts.now) result ≡ memory_answer (texts_of texts.now) }
         ensures write { status_code result.status ≢ 4 }
@@ -198,13 +198,13 @@ fn text_message(
     alloc: Global,
     texts: &ProgramTexts,
     file: &str,
-    text: &[u8],
+    text: &str,
 ) -> Result<Vec<u8>, NoMemory>
     ensures { IfOk result (λ message. message.items ≡ at_file (texts_of texts.now) file.now text.now) }
 {
     let mut message = begin(alloc, texts, file)?;
     put_bytes(&mut message, b": ")?;
-    put_bytes(&mut message, text)?;
+    put_bytes(&mut message, text.as_bytes())?;
     put_bytes(&mut message, b"\n")?;
     Ok(message)
 }

@@ -30,8 +30,8 @@ impl<F: Fault> Fault for FileFault<F> {
 
     fn put_text(&self, out: &mut Vec<u8>) -> Result<(), NoMemory> {
         match self {
-            FileFault::LineTooLong => put_bytes(out, b"line too long"),
-            FileFault::InputTooLong => put_bytes(out, b"input too long"),
+            FileFault::LineTooLong => put_bytes(out, LineFault::LineTooLong.text().as_bytes()),
+            FileFault::InputTooLong => put_bytes(out, LineFault::InputTooLong.text().as_bytes()),
             FileFault::Taker(fault) => fault.put_text(out),
         }
     }

@@ -7,7 +7,7 @@ use Rattle.dhat_json.specs.declared.fault.DhatFault.TheVariants.{NotJson, WrongF
 use Rattle.dhat_json.specs.declared.profile.Dhat.{Dhat}
 use Rattle.dhat_json.specs.Reads.{UnlessNoMemory}
 use Rattle.commands.specs.DhatFileReport.{document_refusal, profile_verdict}
-use Rattle.commands.specs.ProfileFault.{told}
+use Rattle.commands.specs.DocumentFault.{told}
 
 -- the fault of a document is told, unless memory was wanting
 pub document_refused : (verdict : Dhat → Verdict) (fault : DhatFault) (found : Result Dhat DhatFault) → UnlessNoMemory fault (found ≡ Err fault)

@@ -39,8 +39,8 @@ use Rattle.command_frame.specs.declared.fault.FaultStatus.{FaultStatus}
 use Rattle.command_frame.specs.declared.fault.FaultStatus.TheVariants.{Malformed, PastLimit}
 use Rattle.commands.specs.Answer.{asked_answer}
 use Rattle.commands.specs.Asked.{Asked, Interpret}
-use Rattle.commands.specs.CommandFault as fault
-use Rattle.commands.specs.declared.fault.CommandFault.TheVariants.{Line}
+use Rattle.trace_reading.specs.TraceFault as fault
+use Rattle.trace_reading.specs.declared.fault.TraceFault.TheVariants.{Line}
 use Rattle.commands.specs.InterpretKeeps.{KeepsFronts, KeepsLedgerOf, KeepsTrace, lines_in, symbols_in}
 use Rattle.commands.specs.InterpretReport.{interpret_report, plan_with, symbols_report}
 use Rattle.commands.specs.Texts.{heapsuite_texts}

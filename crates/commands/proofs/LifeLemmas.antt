@@ -12,7 +12,7 @@ use Rattle.live_ledger.specs.declared.event.Event.{Event}
 use Rattle.live_ledger.specs.declared.event.Event.TheVariants.{Alloc, Free, Tick}
 use Rattle.peak_costs.specs.Peak.{StandsFor}
 use Rattle.commands.specs.declared.dhat_reader.DhatReader.{DhatReader}
-use Rattle.commands.specs.declared.read_trace.ReadTrace.{ReadTrace}
+use Rattle.trace_reading.specs.declared.read_trace.ReadTrace.{ReadTrace}
 use Rattle.commands.specs.ReadLives.{CanFollow, IsSoundReader, MayFollow}
 
 -- an event of a stack of the tables is one of a stack that the lifetimes hold

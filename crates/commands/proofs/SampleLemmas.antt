@@ -21,8 +21,8 @@ use Rattle.massif_sample.specs.SampleFault.{Tells, sample_fault}
 use Rattle.massif_sample.specs.Sampled.{sampled}
 use Rattle.command_frame.specs.Report.{Writes}
 use Rattle.command_frame.specs.Told.{Told}
-use Rattle.commands.specs.declared.fault.CommandFault.TheVariants.{Line, Event as event}
-use Rattle.commands.specs.CommandFault.{told}
+use Rattle.trace_reading.specs.declared.fault.TraceFault.TheVariants.{Line, Event as event}
+use Rattle.trace_reading.specs.TraceFault.{told}
 use Rattle.commands.specs.MassifReport.{command_in, fault_named, massif_fault, massif_written, sampler_fault}
 use Rattle.commands.specs.MassifSettings.{MassifSettings}
 

@@ -13,7 +13,7 @@ use Rattle.commands.specs.PageWords.{PageAsked}
 use Rattle.commands.specs.PrintReport.{report_written}
 use Rattle.commands.specs.PrintWords.{PrintAsked}
 use Rattle.commands.specs.Silent.{IsSilentFor}
-use Rattle.commands.specs.SuppressionsReport.{plan_behind}
+use Rattle.trace_reading.specs.SuppressionsReport.{plan_behind}
 use Rattle.commands.specs.ViewWords.{ViewAsked}
 
 pub help_is_silent : IsSilentFor (Some Help)

@@ -4,6 +4,7 @@ use Rattle.std.specs.Option.{option_map}
 use Rattle.std.specs.Str.{bytes_eq}
 use Rattle.command_frame.specs.Plan.{Ends, Plan}
 use Rattle.command_frame.specs.Report.{Writes}
+use Rattle.command_frame.specs.Task.{Task, task_names}
 use Rattle.commands.specs.ConvertReport.{convert_plan}
 use Rattle.commands.specs.ConvertWords.{ConvertAsked, convert_asked}
 use Rattle.commands.specs.DhatReport.{dhat_plan}
@@ -22,7 +23,7 @@ use Rattle.commands.specs.PrintReport.{print_plan}
 use Rattle.commands.specs.PrintWords.{PrintAsked, print_asked}
 use Rattle.commands.specs.SummaryReport.{summary_plan}
 use Rattle.commands.specs.SummaryWords.{summary_trace}
-use Rattle.commands.specs.SuppressionsReport.{names_behind}
+use Rattle.trace_reading.specs.SuppressionsReport.{names_behind}
 use Rattle.commands.specs.Texts.{heapsuite_texts}
 use Rattle.commands.specs.ViewReport.{view_plan}
 use Rattle.commands.specs.ViewWords.{ViewAsked, view_asked}
@@ -121,10 +122,13 @@ plan_of (Gen gen) = gen_plan gen
 plan_of (DhatView view) = view_plan view
 plan_of (Convert convert) = convert_plan convert
 
--- the files that words name, where they are taken
-abbrev pub names_asked : Option Asked → List (List ℕ)
-names_asked None = []
-names_asked (Some request) = names_of request
+-- what words ask for as the frame runs it: the files, and what is done with them
+abbrev pub task_of : Asked → Task
+task_of request = record { names = names_of request; plan = plan_of request }
 
+abbrev pub task_asked : Option Asked → Option Task
+task_asked asking = option_map task_of asking
+
+-- the files that words name, where they are taken
 abbrev pub files_asked : List (List ℕ) → List (List ℕ)
-files_asked words = names_asked (asked words)
+files_asked words = task_names (task_asked (asked words))

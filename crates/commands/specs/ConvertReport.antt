@@ -20,17 +20,17 @@ use Rattle.commands.specs.declared.convert_words.Conversion.{Conversion}
 use Rattle.commands.specs.declared.convert_words.Conversion.TheVariants.{FoldedDhat, FoldedMassif, MassifOfDhat}
 use Rattle.commands.specs.declared.massif_file_fault.MassifFileFault.{MassifFileFault}
 use Rattle.commands.specs.declared.massif_file_fault.MassifFileFault.TheVariants as massif
-use Rattle.commands.specs.declared.profile_fault.ProfileFault.{ProfileFault}
-use Rattle.commands.specs.declared.profile_fault.ProfileFault.TheVariants as dhat
+use Rattle.commands.specs.declared.document_fault.DocumentFault.{DocumentFault}
+use Rattle.commands.specs.declared.document_fault.DocumentFault.TheVariants as dhat
 use Rattle.commands.specs.ConvertWords.{ConvertAsked}
 use Rattle.commands.specs.DhatFileReport.{dhat_file_plan}
 use Rattle.commands.specs.MassifFileFault as massif_spec
 use Rattle.commands.specs.MassifFileReport.{massif_file_plan}
-use Rattle.commands.specs.ProfileFault as dhat_spec
+use Rattle.commands.specs.DocumentFault as dhat_spec
 
 -- why a DHAT profile can't be converted by the figures of a key: it has a snapshot, so a tree isn't what it lacks; want of
 -- memory is no fault of it, and never told as one
-abbrev pub dhat_fault : FigureKey → ConvertFault → ProfileFault
+abbrev pub dhat_fault : FigureKey → ConvertFault → DocumentFault
 dhat_fault key convert.TooLarge = dhat.TooLarge
 dhat_fault key _ = dhat.NoFigures key
 
@@ -49,7 +49,7 @@ of_massif None text = Writes text
 of_massif (Some fault) text = Refuses (massif_spec.told (massif_fault fault))
 
 -- the same faults as refusals of the file
-abbrev pub dhat_refusal : FigureKey → ConvertFault → LineRefusal ProfileFault
+abbrev pub dhat_refusal : FigureKey → ConvertFault → LineRefusal DocumentFault
 dhat_refusal key convert.NoMemory = NoMemory
 dhat_refusal key fault = Fault (dhat_fault key fault)
 

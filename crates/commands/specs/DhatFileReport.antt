@@ -8,9 +8,9 @@ use Rattle.dhat_json.specs.declared.fault.DhatFault.{DhatFault}
 use Rattle.dhat_json.specs.declared.fault.DhatFault.TheVariants as document
 use Rattle.dhat_json.specs.declared.profile.Dhat.{Dhat}
 use Rattle.dhat_json.specs.Document.{document_of}
-use Rattle.commands.specs.declared.profile_fault.ProfileFault.{ProfileFault}
-use Rattle.commands.specs.declared.profile_fault.ProfileFault.TheVariants.{Document}
-use Rattle.commands.specs.ProfileFault.{told}
+use Rattle.commands.specs.declared.document_fault.DocumentFault.{DocumentFault}
+use Rattle.commands.specs.declared.document_fault.DocumentFault.TheVariants.{Document}
+use Rattle.commands.specs.DocumentFault.{told}
 
 -- what is made of the profile, where a document says one
 abbrev pub profile_verdict : (Dhat → Verdict) → Result Dhat DhatFault → Verdict
@@ -21,7 +21,7 @@ unfoldable pub dhat_file_verdict : (Dhat → Verdict) → List ℕ → Verdict
 dhat_file_verdict verdict bytes = profile_verdict verdict (document_of bytes)
 
 -- the fault of a document as a refusal of it
-abbrev pub document_refusal : DhatFault → LineRefusal ProfileFault
+abbrev pub document_refusal : DhatFault → LineRefusal DocumentFault
 document_refusal document.NoMemory = NoMemory
 document_refusal fault = Fault (Document fault)
 

@@ -4,7 +4,7 @@ use Rattle.dhat_json.specs.DhatValue.{dhat_text}
 use Rattle.dhat_trace.specs.DhatOf.{dhat_of}
 use Rattle.ht_trace.specs.TraceEvents.{events}
 use Rattle.command_frame.specs.Plan.{Plan}
-use Rattle.commands.specs.TraceReport.{tables_behind, trace_plan}
+use Rattle.trace_reading.specs.TraceReport.{tables_behind, trace_plan}
 
 -- the profile of a trace with these lines, in a line
 unfoldable pub dhat_written : List (List ℕ) → List (List ℕ) → List ℕ

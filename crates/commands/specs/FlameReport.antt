@@ -5,7 +5,7 @@ use Rattle.ht_print.specs.declared.flame.FlameCost.{FlameCost}
 use Rattle.ht_print.specs.FlameText.{flame_of_trace}
 use Rattle.command_frame.specs.Plan.{Plan}
 use Rattle.commands.specs.FlameWords.{FlameAsked}
-use Rattle.commands.specs.TraceReport.{tables_behind, trace_plan}
+use Rattle.trace_reading.specs.TraceReport.{tables_behind, trace_plan}
 
 -- the flame stacks of a trace with these lines
 abbrev pub flame_written : FlameCost → List (List ℕ) → List (List ℕ) → List ℕ

@@ -3,8 +3,8 @@ use Rattle.std.specs.Prelude.{◌≡◌, ℕ, ◌+◌, ◌*◌, ◌^◌, ◌≤�
 use Rattle.trace_gen.specs.declared.generator.Generator.{Generator}
 use Rattle.trace_gen.specs.GeneratorState.{IsAt, lines_yet}
 use Rattle.sound_traces.specs.NoFault.{HasNoFault}
-use Rattle.commands.specs.declared.read_trace.ReadTrace.{ReadTrace}
-use Rattle.commands.specs.ReadTrace.{HasRead, IsSound}
+use Rattle.trace_reading.specs.declared.read_trace.ReadTrace.{ReadTrace}
+use Rattle.trace_reading.specs.ReadTrace.{HasRead, IsSound}
 
 -- some of these lines were read, and a generator has yet to make the others, which have no fault behind them
 pub record HasTaken (trace : ReadTrace) (generator : Generator) (lines : List (List ℕ)) : Type 0 where

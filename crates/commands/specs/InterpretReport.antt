@@ -7,8 +7,10 @@ use Rattle.interpret.specs.SymbolLine.{Symbol}
 use Rattle.interpret.specs.SymbolList.{symbol_fault, symbols_of}
 use Rattle.command_frame.specs.Plan.{Plan, one_file, two_files}
 use Rattle.command_frame.specs.Report.{Report, Writes}
-use Rattle.commands.specs.declared.fault.CommandFault.TheVariants.{Line, Symbol as symbol}
-use Rattle.commands.specs.CommandFault.{told}
+use Rattle.trace_reading.specs.declared.fault.TraceFault.TheVariants.{Line}
+use Rattle.trace_reading.specs.TraceFault as trace_fault
+use Rattle.commands.specs.declared.symbol_file_fault.SymbolFileFault.TheVariants.{Line as symbol}
+use Rattle.commands.specs.SymbolFileFault.{told}
 use Rattle.commands.specs.InterpretWords.{InterpretAsked}
 
 -- the lines of a table of symbols give nothing to standard output
@@ -23,8 +25,8 @@ symbols_report = record {
 -- with these symbols, each line of a raw trace gives its interpreted lines, and nothing is left for the end
 abbrev pub interpret_report : List Symbol → Report
 interpret_report symbols = record {
-  line_fault = λ earlier line. option_map (λ error. told (Line error)) (raw_fault symbols earlier line);
-  end_fault = λ lines ended. option_map (λ error. told (Line error)) (raw_end_fault lines);
+  line_fault = λ earlier line. option_map (λ error. trace_fault.told (Line error)) (raw_fault symbols earlier line);
+  end_fault = λ lines ended. option_map (λ error. trace_fault.told (Line error)) (raw_end_fault lines);
   gains = λ earlier line. text_of (interpreted_lines symbols earlier line);
   verdict = λ lines. Writes [];
 }

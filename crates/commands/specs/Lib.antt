@@ -1,9 +1,5 @@
-pub mod CommandFault
-pub mod TraceReport
-pub mod ReadTrace
-pub mod SuppressionsReport
+pub mod SymbolFileFault
 pub mod SummaryReport
-pub mod Batch
 pub mod Texts
 pub mod SummaryWords
 pub mod FlameWords
@@ -21,11 +17,10 @@ pub mod GenTaken
 pub mod Asked
 pub mod Requests
 pub mod Answer
-pub mod Run
 pub mod Silent
 pub mod InterpretKeeps
 pub mod HasRun
-pub mod ProfileFault
+pub mod DocumentFault
 pub mod KeyWords
 pub mod ViewWords
 pub mod DhatFileReport

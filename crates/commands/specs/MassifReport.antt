@@ -17,10 +17,10 @@ use Rattle.massif_sample.specs.Sampled.{sampled}
 use Rattle.command_frame.specs.Plan.{Plan, one_file}
 use Rattle.command_frame.specs.Report.{Report, Writes}
 use Rattle.command_frame.specs.Told.{Told}
-use Rattle.commands.specs.declared.fault.CommandFault.TheVariants.{Line, Event as event}
-use Rattle.commands.specs.CommandFault.{told}
+use Rattle.trace_reading.specs.declared.fault.TraceFault.TheVariants.{Line, Event as event}
+use Rattle.trace_reading.specs.TraceFault.{told}
 use Rattle.commands.specs.MassifSettings.{MassifSettings}
-use Rattle.commands.specs.TraceReport.{end_fault}
+use Rattle.trace_reading.specs.TraceReport.{end_fault}
 
 -- the command of a trace with these tables, and the empty text where it has none
 abbrev pub command_in : TableState → List ℕ

@@ -5,8 +5,8 @@ use Rattle.ht_print.specs.declared.options.PrintOptions.{PrintOptions}
 use Rattle.ht_print.specs.ReportText.{report_of_trace}
 use Rattle.command_frame.specs.Plan.{Plan}
 use Rattle.commands.specs.PrintWords.{PrintAsked}
-use Rattle.commands.specs.SuppressionsReport.{plan_behind}
-use Rattle.commands.specs.TraceReport.{tables_behind}
+use Rattle.trace_reading.specs.SuppressionsReport.{plan_behind}
+use Rattle.trace_reading.specs.TraceReport.{tables_behind}
 
 -- the report on a trace with these lines, whose patterns stand behind those that were given before
 abbrev pub report_written : PrintOptions → List (List ℕ) → List (List ℕ) → List ℕ

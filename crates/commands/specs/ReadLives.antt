@@ -10,7 +10,7 @@ use Rattle.live_ledger.specs.declared.event.Event.{Event}
 use Rattle.live_ledger.specs.Possible.{ArePossible}
 use Rattle.peak_costs.specs.Peak as peak_spec
 use Rattle.commands.specs.declared.dhat_reader.DhatReader.{DhatReader}
-use Rattle.commands.specs.ReadTrace.{HasRead, IsSound}
+use Rattle.trace_reading.specs.ReadTrace.{HasRead, IsSound}
 
 -- what the lines that were read take at least
 abbrev pub weight_of : DhatReader → ℕ

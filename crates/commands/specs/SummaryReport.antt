@@ -3,7 +3,7 @@ use Rattle.std.specs.Prelude.{ℕ, List, []}
 use Rattle.ht_trace.specs.TraceEvents.{events}
 use Rattle.ht_print.specs.SummaryText.{summary_text}
 use Rattle.command_frame.specs.Plan.{Plan}
-use Rattle.commands.specs.TraceReport.{trace_plan}
+use Rattle.trace_reading.specs.TraceReport.{trace_plan}
 
 -- the summary of a trace with these lines, whatever patterns were given before them
 abbrev pub summary_written : List (List ℕ) → List (List ℕ) → List ℕ

@@ -10,14 +10,14 @@ use Rattle.dhat_view.specs.declared.fault.ViewFault.{ViewFault}
 use Rattle.dhat_view.specs.declared.fault.ViewFault.TheVariants as view
 use Rattle.dhat_view.specs.ViewFault.{view_fault}
 use Rattle.dhat_view.specs.ViewText.{view_text}
-use Rattle.commands.specs.declared.profile_fault.ProfileFault.{ProfileFault}
-use Rattle.commands.specs.declared.profile_fault.ProfileFault.TheVariants.{NoFigures, TooLarge}
+use Rattle.commands.specs.declared.document_fault.DocumentFault.{DocumentFault}
+use Rattle.commands.specs.declared.document_fault.DocumentFault.TheVariants.{NoFigures, TooLarge}
 use Rattle.commands.specs.DhatFileReport.{dhat_file_plan}
-use Rattle.commands.specs.ProfileFault.{told}
+use Rattle.commands.specs.DocumentFault.{told}
 use Rattle.commands.specs.ViewWords.{ViewAsked}
 
 -- why a profile has no view by the figures of a key; want of memory is no fault of it, and never told as one
-abbrev pub fault_of_view : FigureKey → ViewFault → ProfileFault
+abbrev pub fault_of_view : FigureKey → ViewFault → DocumentFault
 fault_of_view key view.TooLarge = TooLarge
 fault_of_view key _ = NoFigures key
 
@@ -30,7 +30,7 @@ abbrev pub view_verdict : FigureKey → ℕ → ℕ → Dhat → Verdict
 view_verdict key threshold depth dhat = unless_fault key (view_fault key dhat) (view_text key threshold depth dhat)
 
 -- the same as a refusal of the profile
-abbrev pub view_refusal : FigureKey → ViewFault → LineRefusal ProfileFault
+abbrev pub view_refusal : FigureKey → ViewFault → LineRefusal DocumentFault
 view_refusal key view.NoMemory = NoMemory
 view_refusal key fault = Fault (fault_of_view key fault)
 

@@ -4,9 +4,9 @@ ghost use Rattle.std.specs.Prelude.{◌≡◌};
 ghost use Rattle.commands.specs.ConvertReport.{converted_verdict, dhat_refusal, folded_massif_verdict, folded_verdict, massif_refusal};
 
 use crate::dhat_file::DhatFileReport;
+use crate::document_fault::DocumentFault;
 use crate::massif_file_fault::MassifFileFault;
 use crate::massif_file_report::MassifFileReport;
-use crate::profile_fault::ProfileFault;
 use command_frame::LineRefusal;
 use convert::{ConvertFault, massif_of_dhat, put_folded_dhat, put_folded_massif};
 use dhat_json::{Dhat, FigureKey};
@@ -22,7 +22,7 @@ pub struct FoldedPoints {
 impl DhatFileReport for FoldedPoints {
     ghost verdict = { λ points. folded_verdict points.key };
 
-    fn report(&self, alloc: Global, dhat: &Dhat) -> Result<Vec<u8>, LineRefusal<ProfileFault>> {
+    fn report(&self, alloc: Global, dhat: &Dhat) -> Result<Vec<u8>, LineRefusal<DocumentFault>> {
         let mut folded = Vec::new(alloc);
         match put_folded_dhat(alloc, self.key, dhat, &mut folded) {
             Ok(()) => Ok(folded),
@@ -38,7 +38,7 @@ pub struct PointsOverTime;
 impl DhatFileReport for PointsOverTime {
     ghost verdict = { λ _. converted_verdict };
 
-    fn report(&self, alloc: Global, dhat: &Dhat) -> Result<Vec<u8>, LineRefusal<ProfileFault>> {
+    fn report(&self, alloc: Global, dhat: &Dhat) -> Result<Vec<u8>, LineRefusal<DocumentFault>> {
         let profile = match massif_of_dhat(alloc, dhat) {
             Ok(profile) => profile,
             Err(fault) => return Err(dhat_refusal(fault, FigureKey::Gb)),
@@ -72,14 +72,14 @@ impl MassifFileReport for FoldedSnapshot {
 }
 
 /// Why a DHAT profile can't be converted by the figures of a key, as the refusal of it. It never lacks a tree.
-fn dhat_refusal(fault: ConvertFault, key: FigureKey) -> LineRefusal<ProfileFault>
+fn dhat_refusal(fault: ConvertFault, key: FigureKey) -> LineRefusal<DocumentFault>
     ensures { result ≡ dhat_refusal key fault }
 {
     match fault {
         ConvertFault::NoMemory => LineRefusal::NoMemory,
-        ConvertFault::TooLarge => LineRefusal::Fault(ProfileFault::TooLarge),
+        ConvertFault::TooLarge => LineRefusal::Fault(DocumentFault::TooLarge),
         ConvertFault::NoFigures | ConvertFault::NoTree => {
-            LineRefusal::Fault(ProfileFault::NoFigures(key))
+            LineRefusal::Fault(DocumentFault::NoFigures(key))
         }
     }
 }

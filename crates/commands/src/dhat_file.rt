@@ -7,9 +7,9 @@ ghost use Rattle.command_frame.specs.Taker.{Refuses};
 ghost use Rattle.dhat_json.specs.declared.profile.Dhat.{Dhat};
 ghost use Rattle.dhat_json.specs.IsSound.{IsSound};
 ghost use Rattle.commands.specs.DhatFileReport.{dhat_file_plan, dhat_file_verdict, document_refusal};
-ghost use Rattle.commands.specs.ProfileFault.{told};
+ghost use Rattle.commands.specs.DocumentFault.{told};
 
-use crate::profile_fault::ProfileFault;
+use crate::document_fault::DocumentFault;
 use command_frame::{Desk, DocumentReport, Halt, LineRefusal, run_document};
 use dhat_json::{Dhat, DhatFault, read_profile};
 use hp_outside::Store;
@@ -21,7 +21,7 @@ pub trait DhatFileReport {
     ghost verdict: { Self → Dhat → Verdict };
 
     /// The whole output, or the fault of the profile. `NoMemory` where memory is wanting.
-    fn report(&self, alloc: Global, dhat: &Dhat) -> Result<Vec<u8>, LineRefusal<ProfileFault>>
+    fn report(&self, alloc: Global, dhat: &Dhat) -> Result<Vec<u8>, LineRefusal<DocumentFault>>
         requires { IsSound dhat.now }
         ensures output { IfOk result (λ output. verdict self.now dhat.now ≡ Writes output.items) }
         ensures fault { IfErr result (λ refusal. Refuses told refusal (verdict self.now dhat.now)) };
@@ -34,11 +34,11 @@ struct DhatFile<R> {
 }
 
 impl<R: DhatFileReport> DocumentReport for DhatFile<R> {
-    type Fault = ProfileFault;
+    type Fault = DocumentFault;
 
     ghost verdict = { λ file. dhat_file_verdict (R.verdict file.report) };
 
-    fn report(&self, alloc: Global, bytes: &[u8]) -> Result<Vec<u8>, LineRefusal<ProfileFault>> {
+    fn report(&self, alloc: Global, bytes: &[u8]) -> Result<Vec<u8>, LineRefusal<DocumentFault>> {
         match read_profile(alloc, bytes) {
             Ok(dhat) => self.report.report(alloc, &dhat),
             Err(fault) => Err(document_refusal(fault)),
@@ -62,7 +62,7 @@ pub fn run_dhat_file<R: DhatFileReport + Drop, S: Store>(
 }
 
 /// The fault of a document as the refusal of it.
-fn document_refusal(fault: DhatFault) -> LineRefusal<ProfileFault>
+fn document_refusal(fault: DhatFault) -> LineRefusal<DocumentFault>
     ensures { result ≡ document_refusal fault }
 {
     match fault {
@@ -72,6 +72,6 @@ fn document_refusal(fault: DhatFault) -> LineRefusal<ProfileFault>
         | DhatFault::MissingKey { .. }
         | DhatFault::WrongKind { .. }
         | DhatFault::FrameOutOfTable { .. }
-        | DhatFault::TooMany => LineRefusal::Fault(ProfileFault::Document(fault)),
+        | DhatFault::TooMany => LineRefusal::Fault(DocumentFault::Document(fault)),
     }
 }

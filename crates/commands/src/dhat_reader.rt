@@ -7,13 +7,11 @@ ghost use Rattle.ht_trace.specs.LedgerFits.{stacks_in};
 ghost use Rattle.ht_trace.specs.PassesEvents.{PassesEvents};
 ghost use Rattle.ht_trace.specs.StepOf.{event_of};
 ghost use Rattle.command_frame.specs.Batch.{HasTakenFront};
-ghost use Rattle.commands.specs.Batch.{HasTakenLine};
+ghost use Rattle.trace_reading.specs.Batch.{HasTakenLine};
 ghost use Rattle.commands.specs.DhatReport.{dhat_written};
 ghost use Rattle.commands.specs.ReadLives as lives_spec;
-ghost use Rattle.commands.specs.TraceReport.{trace_report};
+ghost use Rattle.trace_reading.specs.TraceReport.{trace_report};
 
-use crate::fault::CommandFault;
-use crate::read_trace::ReadTrace;
 use command_frame::{Batch, LineRefusal, LineReport, LineTaker};
 use dhat_json::profile_text;
 use dhat_metrics::Lifetimes;
@@ -21,6 +19,7 @@ use dhat_trace::trace_profile;
 use hp_num::NoMemory;
 use ht_trace::{Step, Tables};
 use std::alloc::Global;
+use trace_reading::{ReadTrace, TraceFault};
 
 /// What was read of a trace, and the lifetimes of its blocks, which are grown step by step together.
 #[derive(Debug, Drop)]
@@ -101,7 +100,7 @@ impl DhatReader {
 }
 
 impl LineTaker for DhatReader {
-    type Fault = CommandFault;
+    type Fault = TraceFault;
 
     ghost report = { λ _. trace_report [] (dhat_written []) };
 
@@ -111,11 +110,7 @@ impl LineTaker for DhatReader {
 
     ghost weight = { lives_spec.weight_of };
 
-    fn line(
-        &mut self,
-        line: &[u8],
-        _output: &mut Vec<u8>,
-    ) -> Result<(), LineRefusal<CommandFault>> {
+    fn line(&mut self, line: &[u8], _output: &mut Vec<u8>) -> Result<(), LineRefusal<TraceFault>> {
         match self.trace.read_step(line) {
             Ok(step) => {
                 follow(&mut self.lifetimes, step)?;
@@ -125,7 +120,7 @@ impl LineTaker for DhatReader {
         }
     }
 
-    fn end(&self, _ended: bool) -> Result<(), CommandFault> {
+    fn end(&self, _ended: bool) -> Result<(), TraceFault> {
         self.trace.end()
     }
 
@@ -138,7 +133,7 @@ impl LineTaker for DhatReader {
 }
 
 impl LineReport for DhatReader {
-    fn finish(&mut self, alloc: Global) -> Result<Vec<u8>, LineRefusal<CommandFault>> {
+    fn finish(&mut self, alloc: Global) -> Result<Vec<u8>, LineRefusal<TraceFault>> {
         let output = self.profile(alloc)?;
         Ok(output)
     }

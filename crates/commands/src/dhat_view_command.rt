@@ -7,7 +7,7 @@ ghost use Rattle.commands.specs.Requests.{view_asked_by};
 ghost use Rattle.commands.specs.ViewWords.{view_asked};
 
 use crate::dhat_file::{DhatFileReport, run_dhat_file};
-use crate::profile_fault::ProfileFault;
+use crate::document_fault::DocumentFault;
 use crate::view_words::{WORDS, request_in};
 use command_frame::{Desk, Halt, LineRefusal};
 use command_words::{WordsFault, take_words};
@@ -36,7 +36,7 @@ impl DhatFileReport for ViewReport {
 
     ghost verdict = { λ report. view_verdict report.options.key report.options.threshold report.options.depth };
 
-    fn report(&self, alloc: Global, dhat: &Dhat) -> Result<Vec<u8>, LineRefusal<ProfileFault>> {
+    fn report(&self, alloc: Global, dhat: &Dhat) -> Result<Vec<u8>, LineRefusal<DocumentFault>> {
         let mut view = Vec::new(alloc);
         match put_view(alloc, &self.options, dhat, &mut view) {
             Ok(()) => Ok(view),
@@ -77,12 +77,12 @@ impl<'a> DhatViewRequest<'a> {
 }
 
 /// Why a profile has no view, as the refusal of its document.
-fn view_refusal(fault: ViewFault, key: FigureKey) -> LineRefusal<ProfileFault>
+fn view_refusal(fault: ViewFault, key: FigureKey) -> LineRefusal<DocumentFault>
     ensures { result ≡ view_refusal key fault }
 {
     match fault {
         ViewFault::NoMemory => LineRefusal::NoMemory,
-        ViewFault::NoFigures => LineRefusal::Fault(ProfileFault::NoFigures(key)),
-        ViewFault::TooLarge => LineRefusal::Fault(ProfileFault::TooLarge),
+        ViewFault::NoFigures => LineRefusal::Fault(DocumentFault::NoFigures(key)),
+        ViewFault::TooLarge => LineRefusal::Fault(DocumentFault::TooLarge),
     }
 }

@@ -6,8 +6,6 @@ ghost use Rattle.commands.specs.FlameReport.{flame_plan};
 ghost use Rattle.commands.specs.FlameWords.{cost_named, cost_or, flame_asked, flame_of};
 ghost use Rattle.commands.specs.Requests.{flame_asked_by};
 
-use crate::trace_run::run_trace;
-use crate::trace_writer::TraceWriter;
 use command_frame::{Desk, Halt};
 use command_words::{TakenWords, WordTable, WordsFault, take_words};
 use hp_num::NoMemory;
@@ -16,6 +14,7 @@ use ht_print::{FlameCost, put_flame};
 use ht_trace::Tables;
 use peak_costs::Peaks;
 use std::alloc::Global;
+use trace_reading::{TraceWriter, run_trace};
 
 /// The option that names the cost.
 const COST: &str = "flamegraph-cost-type";

@@ -4,10 +4,9 @@ ghost use Rattle.trace_gen.specs.GeneratorState.{IsAt, lines_yet};
 ghost use Rattle.trace_gen.specs.Sizes.{sizes_of};
 ghost use Rattle.sound_traces.specs.NoFault.{HasNoFault};
 ghost use Rattle.commands.specs.GenReport.{gen_summary};
-ghost use Rattle.commands.specs.ReadTrace.{HasRead, IsSound};
+ghost use Rattle.trace_reading.specs.ReadTrace.{HasRead, IsSound};
 ghost use Rattle.commands.specs.SummaryReport.{summary_written};
 
-use crate::read_trace::ReadTrace;
 use command_frame::LineRefusal;
 use hp_num::NoMemory;
 use ht_print::put_summary;
@@ -15,6 +14,7 @@ use ht_trace::Tables;
 use sound_traces::generated_traces;
 use std::alloc::Global;
 use trace_gen::{Generator, GeneratorOptions};
+use trace_reading::ReadTrace;
 
 /// The summary of the trace that is generated from these numbers. `NoMemory` where memory is wanting.
 pub fn gen_summary(alloc: Global, options: &GeneratorOptions) -> Result<Vec<u8>, NoMemory>

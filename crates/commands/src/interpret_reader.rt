@@ -4,12 +4,13 @@ ghost use Rattle.interpret.specs.SymbolList.{symbols_of};
 ghost use Rattle.interpret.specs.InterpreterState.{StandsFor};
 ghost use Rattle.commands.specs.InterpretReport.{interpret_report, symbols_report};
 
-use crate::fault::CommandFault;
+use crate::symbol_file_fault::SymbolFileFault;
 use command_frame::{FilePair, LineRefusal, LineReport, LineTaker};
 use hp_num::NoMemory;
 use ht_trace::LineError;
 use interpret::{Interpreter, SymbolFault, Symbols};
 use std::alloc::Global;
+use trace_reading::TraceFault;
 
 /// What was read of a table of symbols.
 #[derive(Debug, Drop)]
@@ -18,7 +19,7 @@ pub struct SymbolReader {
 }
 
 impl LineTaker for SymbolReader {
-    type Fault = CommandFault;
+    type Fault = SymbolFileFault;
 
     ghost report = { λ _. symbols_report };
 
@@ -32,15 +33,15 @@ impl LineTaker for SymbolReader {
         &mut self,
         line: &[u8],
         _output: &mut Vec<u8>,
-    ) -> Result<(), LineRefusal<CommandFault>> {
+    ) -> Result<(), LineRefusal<SymbolFileFault>> {
         match self.symbols.line(line) {
             Ok(()) => Ok(()),
             Err(SymbolFault::NoMemory) => Err(LineRefusal::NoMemory),
-            Err(fault) => Err(LineRefusal::Fault(CommandFault::Symbol(fault))),
+            Err(fault) => Err(LineRefusal::Fault(SymbolFileFault::Line(fault))),
         }
     }
 
-    fn end(&self, _ended: bool) -> Result<(), CommandFault> {
+    fn end(&self, _ended: bool) -> Result<(), SymbolFileFault> {
         Ok(())
     }
 }
@@ -52,7 +53,7 @@ pub struct RawReader {
 }
 
 impl LineTaker for RawReader {
-    type Fault = CommandFault;
+    type Fault = TraceFault;
 
     ghost report = { λ reader. interpret_report reader.interpreter.symbols };
 
@@ -62,24 +63,24 @@ impl LineTaker for RawReader {
 
     ghost weight = { λ _. 0 };
 
-    fn line(&mut self, line: &[u8], output: &mut Vec<u8>) -> Result<(), LineRefusal<CommandFault>> {
+    fn line(&mut self, line: &[u8], output: &mut Vec<u8>) -> Result<(), LineRefusal<TraceFault>> {
         match self.interpreter.line(line, output) {
             Ok(()) => Ok(()),
             Err(LineError::NoMemory) => Err(LineRefusal::NoMemory),
-            Err(error) => Err(LineRefusal::Fault(CommandFault::Line(error))),
+            Err(error) => Err(LineRefusal::Fault(TraceFault::Line(error))),
         }
     }
 
-    fn end(&self, _ended: bool) -> Result<(), CommandFault> {
+    fn end(&self, _ended: bool) -> Result<(), TraceFault> {
         match self.interpreter.end() {
             Ok(()) => Ok(()),
-            Err(error) => Err(CommandFault::Line(error)),
+            Err(error) => Err(TraceFault::Line(error)),
         }
     }
 }
 
 impl LineReport for RawReader {
-    fn finish(&mut self, alloc: Global) -> Result<Vec<u8>, LineRefusal<CommandFault>> {
+    fn finish(&mut self, alloc: Global) -> Result<Vec<u8>, LineRefusal<TraceFault>> {
         Ok(Vec::new(alloc))
     }
 }

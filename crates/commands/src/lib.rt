@@ -8,12 +8,8 @@
 //! same chain: `Asked` and `Requests` with one module of words for each command, one module for its report, and `Answer`
 //! and `HasRun` for the whole.
 //!
-//! Every command over one trace has the same reader. `ReadTrace` keeps `Tables` and, grown step by step beside them,
-//! `Peaks`: the tables stand for the lines, behind the texts of suppressions that were given before, and the peaks for
-//! their events. What the commands differ in is a function of those patterns and lines, the ghost member `text` of a
-//! `TraceWriter`, and one method that appends it. The loop, a batch and a line are proved once for all of them. `dhat`
-//! has `Lifetimes` beside that reader, which take each event that the peaks took. The lines of a suppressions file go
-//! into the tables of the trace that is read behind it, which so count patterns once (`SuppressedTrace`).
+//! Traces are read by the crate `trace_reading`: a command over one trace is a `TraceWriter`. `dhat` has `Lifetimes` beside
+//! its `ReadTrace`, which take each event that the peaks took.
 //!
 //! Commands over one Massif file share the taker of its lines, and those over one DHAT profile the reading of its document.
 //! They differ in what they make of the profile: a report (`MassifFileReport`, `DhatFileReport`) gives the output, or a fault
@@ -45,15 +41,11 @@
 //! | `convert_command.rt`, `convert_words.rt`, `convert_reports.rt` | `convert`; its options; what it makes of profiles |
 //! | `gen_command.rt`, `gen_summary.rt` | `gen`; the summary of the lines as they are made |
 //! | `number_words.rt`, `key_words.rt`, `name_list.rt` | values of options: numbers and percentages; keys of figures; lists of names |
-//! | `trace_writer.rt`, `trace_run.rt`, `trace_reader.rt` | commands over one trace: what is written, run, taker |
 //! | `massif_file_report.rt`, `massif_file_taker.rt` | commands over one Massif file: what is made of it; its taker and its run |
 //! | `dhat_file.rt` | commands over one DHAT profile: what is made of it, its document and its run |
-//! | `suppressions.rt`, `suppressed_trace.rt` | a suppressions file, and a trace behind it |
-//! | `read_trace.rt`, `batch.rt` | one line into tables and peaks; lines of events, many at a time |
-//! | `fault.rt`, `massif_file_fault.rt`, `profile_fault.rt` | texts and statuses of the faults of traces and tables of symbols, of Massif files, of DHAT documents |
+//! | `symbol_file_fault.rt`, `massif_file_fault.rt`, `document_fault.rt` | faults of tables of symbols, of Massif files, of DHAT documents, as told |
 #![tactic(auto)]
 
-mod batch;
 mod convert_command;
 mod convert_reports;
 mod convert_words;
@@ -61,7 +53,7 @@ mod dhat_command;
 mod dhat_file;
 mod dhat_reader;
 mod dhat_view_command;
-mod fault;
+mod document_fault;
 mod flame_command;
 mod gen_command;
 mod gen_summary;
@@ -82,17 +74,11 @@ mod page_report;
 mod page_size;
 mod print_command;
 mod print_words;
-mod profile_fault;
-mod read_trace;
 mod run;
 mod run_words;
 mod summary_command;
-mod suppressed_trace;
-mod suppressions;
+mod symbol_file_fault;
 mod texts;
-mod trace_reader;
-mod trace_run;
-mod trace_writer;
 mod view_words;
 mod words;
 

@@ -13,14 +13,12 @@ ghost use Rattle.massif_sample.specs.Options.{AreInRange};
 ghost use Rattle.massif_sample.specs.StandsFor as sample_spec;
 ghost use Rattle.command_frame.specs.Batch.{HasTakenFront};
 ghost use Rattle.command_frame.specs.Taker.{Tells};
-ghost use Rattle.commands.specs.Batch.{HasTakenLine};
-ghost use Rattle.commands.specs.CommandFault.{told};
+ghost use Rattle.trace_reading.specs.Batch.{HasTakenLine};
+ghost use Rattle.trace_reading.specs.TraceFault.{told};
 ghost use Rattle.commands.specs.MassifReport.{command_in, massif_report, sampler_fault};
 ghost use Rattle.commands.specs.MassifSettings.{MassifSettings};
 ghost use Rattle.commands.specs.Sampling.{AreOfEvents, HasSampled, IsSoundSampling};
 
-use crate::batch::line_at_front;
-use crate::fault::CommandFault;
 use command_frame::{Batch, LineRefusal, LineReport, LineTaker};
 use cost_tree::FrameTest;
 use hp_num::NoMemory;
@@ -29,6 +27,7 @@ use live_ledger::{Event, EventFault, Ledger};
 use massif_file::put_profile;
 use massif_sample::{MassifOptions, SampleFault, Sampler, sampling_goes_on};
 use std::alloc::Global;
+use trace_reading::{TraceFault, line_at_front};
 
 /// What says which settings a profile is made with.
 pub trait Settled {
@@ -150,7 +149,7 @@ impl<A: Fn(&[u8]) -> bool, I: Fn(&[u8]) -> bool, S: Settled> MassifReader<A, I, 
 }
 
 impl<A: Fn(&[u8]) -> bool, I: Fn(&[u8]) -> bool, S: Settled> LineTaker for MassifReader<A, I, S> {
-    type Fault = CommandFault;
+    type Fault = TraceFault;
 
     ghost report = { λ reader. massif_report (S.settings reader.settings) };
 
@@ -162,17 +161,13 @@ impl<A: Fn(&[u8]) -> bool, I: Fn(&[u8]) -> bool, S: Settled> LineTaker for Massi
 
     ghost weight = { λ reader. 4 * reader.ledger.totals.events };
 
-    fn line(
-        &mut self,
-        line: &[u8],
-        _output: &mut Vec<u8>,
-    ) -> Result<(), LineRefusal<CommandFault>> {
+    fn line(&mut self, line: &[u8], _output: &mut Vec<u8>) -> Result<(), LineRefusal<TraceFault>> {
         // What the sampler stands for stays as the tables grow.
         sampling_goes_on();
         let step = match self.tables.line(line) {
             Ok(step) => step,
             Err(LineError::NoMemory) => return Err(LineRefusal::NoMemory),
-            Err(error) => return Err(LineRefusal::Fault(CommandFault::Line(error))),
+            Err(error) => return Err(LineRefusal::Fault(TraceFault::Line(error))),
         };
         match &mut self.sampler {
             Some(sampler) => match follow(sampler, &mut self.ledger, &self.tables, step) {
@@ -183,10 +178,10 @@ impl<A: Fn(&[u8]) -> bool, I: Fn(&[u8]) -> bool, S: Settled> LineTaker for Massi
         }
     }
 
-    fn end(&self, _ended: bool) -> Result<(), CommandFault> {
+    fn end(&self, _ended: bool) -> Result<(), TraceFault> {
         match self.tables.end() {
             Ok(()) => Ok(()),
-            Err(error) => Err(CommandFault::Line(error)),
+            Err(error) => Err(TraceFault::Line(error)),
         }
     }
 
@@ -199,7 +194,7 @@ impl<A: Fn(&[u8]) -> bool, I: Fn(&[u8]) -> bool, S: Settled> LineTaker for Massi
 }
 
 impl<A: Fn(&[u8]) -> bool, I: Fn(&[u8]) -> bool, S: Settled> LineReport for MassifReader<A, I, S> {
-    fn finish(&mut self, alloc: Global) -> Result<Vec<u8>, LineRefusal<CommandFault>> {
+    fn finish(&mut self, alloc: Global) -> Result<Vec<u8>, LineRefusal<TraceFault>> {
         let Some(sampler) = self.sampler.take() else {
             return Err(LineRefusal::NoMemory);
         };
@@ -226,7 +221,7 @@ fn follow<A: Fn(&[u8]) -> bool, I: Fn(&[u8]) -> bool>(
     ledger: &mut Ledger,
     tables: &Tables,
     step: Step,
-) -> Result<(), LineRefusal<CommandFault>>
+) -> Result<(), LineRefusal<TraceFault>>
     requires can { CanTake ledger.old step }
     requires stacks { length tables.now.nodes + 1 ≡ ledger.old.stacks + stacks_in step }
     requires judged { length sampler.old.judged.items ≡ ledger.old.stacks }
@@ -243,7 +238,7 @@ fn follow<A: Fn(&[u8]) -> bool, I: Fn(&[u8]) -> bool>(
         sampler_fault settings tables.now taken (event_of step) ≡ None) }
     ensures fault { IfErr result (λ refusal. (settings : MassifSettings) (taken : List Event) → sampler.old.samples.options ≡ settings.options →
         sample_spec.StandsFor sampler.old.judged.items sampler.old.samples settings.names tables.now taken → ledger_spec.StandsFor ledger.old taken →
-        Tells told refusal (option_map (λ fault. told (CommandFault.Event fault)) (sampler_fault settings tables.now taken (event_of step)))) }
+        Tells told refusal (option_map (λ fault. told (TraceFault.Event fault)) (sampler_fault settings tables.now taken (event_of step)))) }
     ensures judged { OnOk result (length sampler.new.judged.items ≡ ledger.new.stacks) }
     ensures stacks { OnOk result (ledger.new.stacks ≡ ledger.old.stacks + stacks_in step) }
     ensures infos { OnOk result (ledger.new.infos ≡ ledger.old.infos ++ infos_in step) }
@@ -265,10 +260,10 @@ fn follow<A: Fn(&[u8]) -> bool, I: Fn(&[u8]) -> bool>(
         }
         Step::Event { event } => match sampler.event(event, ledger, tables) {
             Ok(()) => Ok(()),
-            Err(SampleFault::FreeOfNothing) => Err(LineRefusal::Fault(CommandFault::Event(
+            Err(SampleFault::FreeOfNothing) => Err(LineRefusal::Fault(TraceFault::Event(
                 EventFault::FreeOfNothing,
             ))),
-            Err(SampleFault::CostTooLarge) => Err(LineRefusal::Fault(CommandFault::Event(
+            Err(SampleFault::CostTooLarge) => Err(LineRefusal::Fault(TraceFault::Event(
                 EventFault::CostTooLarge,
             ))),
             Err(SampleFault::NoMemory) => Err(LineRefusal::NoMemory),

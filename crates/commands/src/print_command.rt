@@ -7,12 +7,9 @@ ghost use Rattle.command_words.specs.WordsTaken.{only_file_in, rows_in, value_in
 ghost use Rattle.commands.specs.PrintReport.{print_plan};
 ghost use Rattle.commands.specs.Requests.{print_asked_by};
 ghost use Rattle.commands.specs.PrintWords.{print_asked, print_given, reads_input_twice};
-ghost use Rattle.commands.specs.SuppressionsReport.{names_behind};
+ghost use Rattle.trace_reading.specs.SuppressionsReport.{names_behind};
 
 use crate::print_words::{SUPPRESSIONS, WORDS, options_in};
-use crate::suppressed_trace::run_suppressed;
-use crate::trace_run::run_trace;
-use crate::trace_writer::TraceWriter;
 use command_frame::{Desk, Halt, PairNames};
 use command_words::{TakenWords, WordsFault, take_words};
 use hp_num::NoMemory;
@@ -21,6 +18,7 @@ use ht_print::{PrintOptions, Suppressed, put_report};
 use ht_trace::Tables;
 use peak_costs::Peaks;
 use std::alloc::Global;
+use trace_reading::{TraceWriter, run_suppressed, run_trace};
 
 /// What `print` is to do.
 #[derive(Clone, Copy, Debug)]

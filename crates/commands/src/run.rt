@@ -1,7 +1,8 @@
 //! The public call of the program: words and files in, output, message and status out.
 ghost use Rattle.std.specs.Prelude.{◌^◌, ◌<◌, map, string_bytes};
 ghost use Rattle.command_frame.specs.FirstFault.{bounds_of};
-ghost use Rattle.commands.specs.HasRun.{HasRun, outside};
+ghost use Rattle.command_frame.specs.Outside.{outside};
+ghost use Rattle.commands.specs.HasRun.{HasRun};
 
 use crate::run_words::run_words;
 use crate::texts::heapsuite_texts;

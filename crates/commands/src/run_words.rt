@@ -6,9 +6,9 @@ ghost use Rattle.command_frame.specs.Plan.{Ends};
 ghost use Rattle.command_frame.specs.Report.{Writes};
 ghost use Rattle.command_frame.specs.RunsTo.{Runs, RunsTo, Shown, Taken, shown, taken};
 ghost use Rattle.command_frame.specs.Texts.{texts_of};
-ghost use Rattle.commands.specs.Asked.{asked, knows_first, names_of, plan_of};
+ghost use Rattle.command_frame.specs.WordsRan.{WordsRunTo};
+ghost use Rattle.commands.specs.Asked.{asked, knows_first, names_of, plan_of, task_asked};
 ghost use Rattle.commands.specs.Requests.{asked_of};
-ghost use Rattle.commands.specs.Run.{WordsRunTo};
 ghost use Rattle.commands.specs.Texts.{heapsuite_texts};
 
 use crate::words::{Request, read_words};
@@ -27,7 +27,7 @@ pub fn run_words<S: Store, O: Sink>(
 ) -> Outcome
     requires opens { S.opens store.old < 2 ^ 63 }
     requires texts { texts_of desk.now.texts ≡ heapsuite_texts }
-    ensures ran { WordsRunTo (bounds_of desk.now.limits) (asked (map string_bytes words.now))
+    ensures ran { WordsRunTo heapsuite_texts (bounds_of desk.now.limits) (task_asked (asked (map string_bytes words.now)))
         (shown S.Store store.old) (shown S.Store store.new) (taken O.Sink out.old) (taken O.Sink out.new)
         (outcome_answer heapsuite_texts result) }
     ensures no_memory { knows_first (map string_bytes words.now) ≡ false → (outcome_answer heapsuite_texts result).status ≢ 5 }

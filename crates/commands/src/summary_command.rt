@@ -4,8 +4,6 @@ ghost use Rattle.command_frame.specs.RunsTo.{Runs};
 ghost use Rattle.commands.specs.SummaryReport.{summary_plan};
 ghost use Rattle.commands.specs.SummaryWords.{summary_trace};
 
-use crate::trace_run::run_trace;
-use crate::trace_writer::TraceWriter;
 use command_frame::{Desk, Halt};
 use command_words::{WordTable, WordsFault, take_words};
 use hp_num::NoMemory;
@@ -14,6 +12,7 @@ use ht_print::put_summary;
 use ht_trace::Tables;
 use peak_costs::Peaks;
 use std::alloc::Global;
+use trace_reading::{TraceWriter, run_trace};
 
 /// One file, and no option.
 const WORDS: WordTable<'static> = WordTable {

@@ -1,6 +1,9 @@
 //! A run with the limits of the program, whether its words could be had or not.
 ghost use Rattle.std.specs.Prelude.{◌^◌, ◌<◌, map, string_bytes, IfErr, IfOk};
-ghost use Rattle.commands.specs.HasRun.{HasNotBegun, HasRun, outside};
+ghost use Rattle.command_frame.specs.Outside.{outside};
+ghost use Rattle.command_frame.specs.RunEnds.{HasNotBegun};
+ghost use Rattle.commands.specs.HasRun.{HasRun};
+ghost use Rattle.commands.specs.Texts.{heapsuite_texts as the_texts};
 ghost use Rattle.heapsuite.specs.StandardBounds.{standard_bounds};
 
 use command_frame::{Halt, Outcome, deliver};
@@ -22,7 +25,7 @@ pub fn heapsuite_main<S: Store, O: Sink, E: Sink>(
     ensures run { IfOk words.now (λ words. HasRun standard_bounds (map string_bytes words.items)
         (outside S.Store O.Sink E.Sink store.old out.old err.old)
         (outside S.Store O.Sink E.Sink store.new out.new err.new) result) }
-    ensures wanting { IfErr words.now (λ fault. HasNotBegun
+    ensures wanting { IfErr words.now (λ fault. HasNotBegun the_texts
         (outside S.Store O.Sink E.Sink store.old out.old err.old)
         (outside S.Store O.Sink E.Sink store.new out.new err.new) result) }
 {

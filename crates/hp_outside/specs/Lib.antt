@@ -14,3 +14,4 @@ pub mod NextLine
 pub mod LineReaderState
 pub mod WholeLines
 pub mod WindowState
+pub mod FaultTexts

@@ -21,6 +21,7 @@
 //! - `MemStore`, `MemSink` fail exactly at the calls that were named; `SureStore`, `SureSink` never; `FsStore`,
 //!   `StdSink` are the system's and tell nothing.
 //! - `Limits`: their ranges are facts of the type.
+//! - `OpenFault`, `LineFault` and `WholeFault` have one text each, which the messages of programs use.
 //!
 //! The tests of these calls are the crate `hp_outside_tests`.
 //!
@@ -34,6 +35,7 @@
 //! | `line_reader.rt`, `line_end.rt`, `span.rt` | the lines of a file; what bytes tell of the next one |
 //! | `window.rt` | the buffer of a `LineReader` |
 //! | `limits.rt` | the numbers that bound an input |
+//! | `words.rt` | the words that a program was given |
 #![tactic(auto)]
 
 mod calls;
@@ -51,6 +53,7 @@ mod sure_sink;
 mod sure_store;
 mod whole;
 mod window;
+mod words;
 
 pub use fs_store::FsStore;
 pub use limits::Limits;
@@ -64,3 +67,4 @@ pub use store::{Failed, OpenFault, Store};
 pub use sure_sink::SureSink;
 pub use sure_store::SureStore;
 pub use whole::{Bytes, WholeFault, read_whole, write_whole};
+pub use words::given_words;

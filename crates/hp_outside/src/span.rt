@@ -1,4 +1,7 @@
 //! Where a line stands, and why there is no next one.
+ghost use Rattle.std.specs.Prelude.{◌≡◌};
+ghost use Rattle.hp_outside.specs.FaultTexts.{line_text};
+
 use thiserror::Error;
 
 /// Where a line stands in its reader, which hands out its bytes.
@@ -12,15 +15,26 @@ pub struct Span {
 
 /// Why there is no next line.
 #[derive(Clone, Copy, Debug, PartialEq, Eq, Error)]
+#[error("{}", self.text())]
 pub enum LineFault {
     /// A read failed.
-    #[error("a read failed")]
     ReadFailed,
     /// The line has more bytes than the limit of a line, within the limit of the file.
-    #[error("line too long")]
     LineTooLong,
     /// The file has more bytes than its limit, and the next line with its line feed is not within
     /// that.
-    #[error("input too long")]
     InputTooLong,
+}
+
+impl LineFault {
+    /// What the fault is called, in few words.
+    pub fn text(self) -> &'static str
+        ensures { result.now ≡ line_text self }
+    {
+        match self {
+            LineFault::ReadFailed => "cannot read",
+            LineFault::LineTooLong => "line too long",
+            LineFault::InputTooLong => "input too long",
+        }
+    }
 }

@@ -4,6 +4,7 @@ ghost use Rattle.std.specs.Prelude.{◌≡◌, ◌+◌, ◌-◌, ◌^◌, ◌<�
 ghost use Rattle.std.specs.Io.KnownBytes.{prepend_known};
 ghost use Rattle.hp_outside.specs.Folder.{Folder, file_of};
 ghost use Rattle.hp_outside.specs.Faults.{Rose};
+ghost use Rattle.hp_outside.specs.FaultTexts.{open_text};
 ghost use Rattle.hp_outside.specs.Taken.{WhereTold};
 
 use thiserror::Error;
@@ -14,13 +15,24 @@ pub struct Failed;
 
 /// Why a file was not opened.
 #[derive(Clone, Copy, Debug, PartialEq, Eq, Error)]
+#[error("{}", self.text())]
 pub enum OpenFault {
     /// The store has no file of that name.
-    #[error("no such file")]
     Absent,
     /// The file could not be opened.
-    #[error("cannot open")]
     Failed,
+}
+
+impl OpenFault {
+    /// What the fault is called, in few words.
+    pub fn text(self) -> &'static str
+        ensures { result.now ≡ open_text self }
+    {
+        match self {
+            OpenFault::Absent => "no such file",
+            OpenFault::Failed => "cannot open",
+        }
+    }
 }
 
 /// Named files, read one at a time from front to back.

@@ -3,12 +3,14 @@
 ghost use Rattle.std.specs.Prelude.{◌≡◌, ◌≢◌, ◌+◌, ◌^◌, ◌<◌, ◌≤◌, ℕ, List, [], IsTrue, IfOk, OnOk, OnErr, length, vec_len, take};
 ghost use Rattle.std.specs.Io.KnownBytes.{append_known, prepend_known};
 ghost use Rattle.hp_outside.specs.Faults.{Rose};
+ghost use Rattle.hp_outside.specs.FaultTexts.{whole_text};
 ghost use Rattle.hp_outside.specs.Taken.{WhereTold, LosesFront, GainsFront, GainsCutFront};
 ghost use Rattle.hp_outside.specs.Whole.{WholeAnswer};
 ghost use Rattle.hp_outside.specs.declared.whole.WholeFault.TheVariants.{NoMemory, ReadFailed};
 
 use crate::limits::Limits;
 use crate::sink::Sink;
+use crate::span::LineFault;
 use crate::store::{Failed, Store};
 use std::alloc::{AllocError, Global};
 use std::marker::Model;
@@ -37,16 +39,27 @@ impl Bytes {
 
 /// Why a file was not read whole.
 #[derive(Clone, Copy, Debug, PartialEq, Eq, Error)]
+#[error("{}", self.text())]
 pub enum WholeFault {
     /// A read failed.
-    #[error("a read failed")]
     ReadFailed,
     /// More bytes are left of the file than the limit.
-    #[error("the input is too long")]
     InputTooLong,
     /// Memory was wanting.
-    #[error("out of memory")]
     NoMemory,
+}
+
+impl WholeFault {
+    /// What the fault is called, in few words: that of reading as where lines are read.
+    pub fn text(self) -> &'static str
+        ensures { result.now ≡ whole_text self }
+    {
+        match self {
+            WholeFault::ReadFailed => LineFault::ReadFailed.text(),
+            WholeFault::InputTooLong => LineFault::InputTooLong.text(),
+            WholeFault::NoMemory => "out of memory",
+        }
+    }
 }
 
 impl From<AllocError> for WholeFault {

@@ -1,11 +1,12 @@
 -- What a run is to write and to answer, for its words, the files of a folder, and the text of the recording.
 use Rattle.std.specs.Prelude.{ℕ, List, [], ◌++◌, Bool, false, Option, None, Some, length}
-use Rattle.std.specs.Option.{option_to_list}
+use Rattle.std.specs.Option.{option_map, option_to_list}
 use Rattle.hp_outside.specs.Folder.{Folder}
-use Rattle.command_frame.specs.Answer.{Answer, plan_answer, usage_answer}
+use Rattle.command_frame.specs.Answer.{Answer}
 use Rattle.command_frame.specs.FirstFault.{Bounds}
 use Rattle.command_frame.specs.Plan.{Ends, Plan, one_file}
 use Rattle.command_frame.specs.Report.{Writes}
+use Rattle.command_frame.specs.Task.{Task as FilesTask, task_answer}
 use Rattle.record_scripts.specs.Job.{Job}
 use Rattle.recording.specs.CheckReport.{check_report}
 use Rattle.recording.specs.FileLines.{no_job}
@@ -27,10 +28,17 @@ record_plan limit text asked = files_plan asked.modules asked.scripts (no_job li
 abbrev pub names_of : RecordAsked → List (List ℕ)
 names_of asked = files_named asked.modules asked.scripts ++ option_to_list (trace_of asked.task)
 
+-- what words ask for as the frame runs it: the files, and what is done with them
+abbrev pub asked_task : ℕ → List ℕ → RecordAsked → FilesTask
+asked_task limit text asked = record { names = names_of asked; plan = record_plan limit text asked }
+
+abbrev pub task_asked : ℕ → List ℕ → Option RecordAsked → Option FilesTask
+task_asked limit text asking = option_map (asked_task limit text) asking
+
 -- the answer to what was asked, or to words that aren't taken
 abbrev pub asked_answer : Bounds → ℕ → Folder → List ℕ → Option RecordAsked → Answer
-asked_answer bounds limit folder text None = usage_answer heaprec_texts
-asked_answer bounds limit folder text (Some asked) = plan_answer heaprec_texts bounds folder [] (record_plan limit text asked)
+asked_answer bounds limit folder text asking =
+    task_answer heaprec_texts bounds folder (task_asked limit text asking)
 
 -- the answer to words, over a folder of files, of which none may have more bytes, nor longer lines, than the bounds, and which
 -- together may have so many events; this is the text of the recording, where there is one

@@ -1,32 +1,18 @@
 -- What a run may come to, whatever the store and the threads do.
-use Rattle.std.specs.Prelude.{◌≡◌, ◌≢◌, ◌⊎◌, ℕ, Bool, List, [], ◌++◌, length, Option, None, Some}
-use Rattle.std.specs.Io.KnownBytes.{append_known}
-use Rattle.hp_outside.specs.Faults.{Rose}
+use Rattle.std.specs.Prelude.{◌≡◌, ℕ, Bool, List, ◌++◌, length, Option, None, Some}
 use Rattle.hp_outside.specs.Folder.{Folder, file_of}
 use Rattle.hp_outside.specs.Taken.{WhereTold}
-use Rattle.command_frame.specs.Answer.{Answer, after, memory_answer, usage_answer}
+use Rattle.command_frame.specs.Answer.{Answer}
 use Rattle.command_frame.specs.FirstFault.{Bounds}
-use Rattle.command_frame.specs.Moment.{Moment}
-use Rattle.command_frame.specs.Run.{Ran}
 use Rattle.command_frame.specs.RunsTo.{Shown, Taken}
+use Rattle.command_frame.specs.WordsRan.{WordsRunTo}
 use Rattle.order_check.specs.Fronts.{IsRecording as IsRecordingOf}
 use Rattle.record_book.specs.Spelled.{spelled}
 use Rattle.record_scripts.specs.Job.{Job}
 use Rattle.recording.specs.CheckReport.{checked_text}
 use Rattle.recording.specs.RecordWords.{RecordAsked}
-use Rattle.recording.specs.Answer.{count_asked, job_asked, names_of, record_plan, summary_asked, trace_asked}
+use Rattle.recording.specs.Answer.{count_asked, job_asked, summary_asked, task_asked, trace_asked}
 use Rattle.recording.specs.Texts.{heaprec_texts}
-
--- a run of what was asked, or of words that aren't taken
-abbrev pub AskedRan : Bounds → ℕ → Option Folder → List ℕ → Option RecordAsked → Moment → Moment → Answer → Type 0
-AskedRan bounds limit files text None before now given = (now ≡ before) × (given ≡ usage_answer heaprec_texts)
-AskedRan bounds limit files text (Some asked) before now given =
-    Ran heaprec_texts bounds files [] (names_of asked) (record_plan limit text asked) before now given
-
--- the same, or memory was wanting for reading the words
-abbrev pub WordsRan : Bounds → ℕ → Option Folder → List ℕ → Option RecordAsked → Moment → Moment → Answer → Type 0
-WordsRan bounds limit files text asking before now given =
-    ((now ≡ before) × (given ≡ memory_answer heaprec_texts)) ⊎ AskedRan bounds limit files text asking before now given
 
 -- the output may be written of a job: one of as many scripts as are named, and where the files are told, what they say
 pub record IsRecording (may_write : Bool → Job → List ℕ → Type 0) (limit : ℕ) (files : Option Folder) (asking : Option RecordAsked) (output : List ℕ) : Type 0 where
@@ -56,14 +42,10 @@ IsDoneBy may_write limit files asking output (Some trace) = IsChecked limit file
 abbrev pub IsDone : (may_write : Bool → Job → List ℕ → Type 0) → ℕ → Option Folder → Option RecordAsked → List ℕ → Type 0
 IsDone may_write limit files asking output = IsDoneBy may_write limit files asking output (trace_asked asking)
 
--- the same, of what the store and the output show: some bytes were written early, and an answer is yet to be delivered behind them.
--- Where it is done, both together are the output of a run that is done
-pub record WordsRunTo (may_write : Bool → Job → List ℕ → Type 0) (bounds : Bounds) (limit : ℕ) (asking : Option RecordAsked) (before now : Shown) (old new : Taken) (answer : Answer) : Type 0 where
+-- the words were run with some text. Where that is done, what was written early and what is yet to be delivered are together the
+-- output of a run that is done
+pub record WordsRecord (may_write : Bool → Job → List ℕ → Type 0) (bounds : Bounds) (limit : ℕ)
+    (asking : Option RecordAsked) (before now : Shown) (old new : Taken) (answer : Answer) : Type 0 where
   pub text : List ℕ
-  pub early : List ℕ
-  pub written : new.written ≡ append_known old.written early
-  pub ran : WordsRan bounds limit before.files text asking before.moment now.moment (after early answer)
-  pub done : answer.status ≡ 0 → IsDone may_write limit before.files asking (early ++ answer.output)
-  pub files : now.files ≡ before.files
-  pub unwritten : answer.status ≡ 4 → Rose old.faults new.faults
-  pub sound : answer.status ≢ 4 → new.faults ≡ old.faults
+  pub run : WordsRunTo heaprec_texts bounds (task_asked limit text asking) before now old new answer
+  pub done : answer.status ≡ 0 → IsDone may_write limit before.files asking (run.early ++ answer.output)

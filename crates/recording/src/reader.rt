@@ -2,7 +2,7 @@
 ghost use Rattle.std.specs.Prelude.{◌≡◌, ◌<◌, length};
 ghost use Rattle.record_scripts.specs.Job.{Job};
 
-use crate::refusal::LineFault;
+use crate::refusal::RefusedLine;
 use crate::take_line::take_line;
 use command_frame::{LineRefusal, LineTaker};
 use record_scripts::{ScriptFault, Scripts};
@@ -50,7 +50,7 @@ impl<B: Start> LineTaker for FileReader<B> {
     ghost use Rattle.record_scripts.specs.ModuleLines.{AreModuleLines};
     ghost use Rattle.recording.specs.FileLines.{file_report, with_lines};
 
-    type Fault = LineFault;
+    type Fault = RefusedLine;
 
     ghost report = { λ _. file_report B.kind B.job };
 
@@ -60,15 +60,15 @@ impl<B: Start> LineTaker for FileReader<B> {
 
     ghost weight = { λ _. 0 };
 
-    fn line(&mut self, line: &[u8], _output: &mut Vec<u8>) -> Result<(), LineRefusal<LineFault>> {
+    fn line(&mut self, line: &[u8], _output: &mut Vec<u8>) -> Result<(), LineRefusal<RefusedLine>> {
         match take_line(self.kind, &mut self.scripts, line) {
             Ok(()) => Ok(()),
             Err(ScriptFault::NoMemory) => Err(LineRefusal::NoMemory),
-            Err(fault) => Err(LineRefusal::Fault(LineFault { fault })),
+            Err(fault) => Err(LineRefusal::Fault(RefusedLine { fault })),
         }
     }
 
-    fn end(&self, _ended: bool) -> Result<(), LineFault> {
+    fn end(&self, _ended: bool) -> Result<(), RefusedLine> {
         Ok(())
     }
 }

@@ -6,13 +6,13 @@ use command_frame::{Fault, FaultStatus};
 use hp_num::{NoMemory, put_bytes};
 use record_scripts::ScriptFault;
 
-/// Why a line is refused.
+/// A line that is refused.
 #[derive(Clone, Copy, Debug, PartialEq, Eq)]
-pub struct LineFault {
+pub struct RefusedLine {
     pub fault: ScriptFault,
 }
 
-impl Fault for LineFault {
+impl Fault for RefusedLine {
     ghost use Rattle.recording.specs.FaultTold.{told as told_of};
 
     ghost told = { λ refused. told_of refused.fault };

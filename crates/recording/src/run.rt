@@ -1,9 +1,9 @@
 //! The public call of the program: words and files in, the trace of threads or what is said of one, messages and a status out.
-ghost use Rattle.std.specs.Prelude.{◌≡◌, ◌^◌, ◌<◌, map, string_bytes, IfErr, IfOk};
-ghost use Rattle.command_frame.specs.Answer.{memory_answer};
+ghost use Rattle.std.specs.Prelude.{◌^◌, ◌<◌, map, string_bytes, IfErr, IfOk};
 ghost use Rattle.command_frame.specs.FirstFault.{bounds_of};
-ghost use Rattle.command_frame.specs.RunsTo.{shown, taken};
-ghost use Rattle.recording.specs.HeaprecRan.{HeaprecRan, IsDelivered};
+ghost use Rattle.command_frame.specs.Outside.{outside};
+ghost use Rattle.command_frame.specs.RunEnds.{HasNotBegun};
+ghost use Rattle.recording.specs.HeaprecRan.{HeaprecRan};
 ghost use Rattle.recording.specs.RecordWords.{record_asked};
 ghost use Rattle.recording.specs.Texts.{heaprec_texts as the_texts};
 
@@ -52,8 +52,8 @@ pub fn heaprec_run<R: Threads + Wait + Sync, S: Store, O: Sink, E: Sink, G: Gate
 ) -> u8
     requires { S.opens store.old < 2 ^ 63 }
     ensures { HeaprecRan (bounds_of limits.now) limits.now.order (record_asked (map string_bytes words.now))
-        (shown S.Store store.old) (shown S.Store store.new) (taken O.Sink out.old) (taken O.Sink out.new)
-        (taken E.Sink err.old) (taken E.Sink err.new) result }
+        (outside S.Store O.Sink E.Sink store.old out.old err.old)
+        (outside S.Store O.Sink E.Sink store.new out.new err.new) result }
 {
     let desk = Desk {
         alloc,
@@ -77,11 +77,11 @@ pub fn heaprec_main<R: Threads + Wait + Sync, S: Store, O: Sink, E: Sink>(
     requires { S.opens store.old < 2 ^ 63 }
     ensures run { IfOk words.now (λ words.
         HeaprecRan (record { input = 2 ^ 34; line = 1048576 }) 10000000 (record_asked (map string_bytes words.items))
-        (shown S.Store store.old) (shown S.Store store.new) (taken O.Sink out.old) (taken O.Sink out.new)
-        (taken E.Sink err.old) (taken E.Sink err.new) result) }
-    ensures wanting { IfErr words.now (λ fault. IsDelivered (memory_answer the_texts) result
-        (taken O.Sink out.old) (taken O.Sink out.new) (taken E.Sink err.old) (taken E.Sink err.new)) }
-    ensures unread { IfErr words.now (λ fault. shown S.Store store.new ≡ shown S.Store store.old) }
+        (outside S.Store O.Sink E.Sink store.old out.old err.old)
+        (outside S.Store O.Sink E.Sink store.new out.new err.new) result) }
+    ensures wanting { IfErr words.now (λ fault. HasNotBegun the_texts
+        (outside S.Store O.Sink E.Sink store.old out.old err.old)
+        (outside S.Store O.Sink E.Sink store.new out.new err.new) result) }
 {
     match words {
         Ok(words) => heaprec_run(

@@ -7,7 +7,7 @@ ghost use Rattle.command_frame.specs.Texts.{texts_of};
 ghost use Rattle.recording.specs.Recorded.{IsRecorded};
 ghost use Rattle.recording.specs.RecordWords.{record_asked};
 ghost use Rattle.recording.specs.Requests.{asked_by};
-ghost use Rattle.recording.specs.Run.{WordsRunTo};
+ghost use Rattle.recording.specs.Run.{WordsRecord};
 ghost use Rattle.recording.specs.Texts.{heaprec_texts};
 
 use crate::check_trace::check_trace;
@@ -36,7 +36,7 @@ pub fn run_words<R: Threads + Wait + Sync, S: Store, O: Sink, G: Gate + Sync>(
 ) -> Outcome
     requires opens { S.opens store.old < 2 ^ 63 }
     requires texts { texts_of desk.now.texts ≡ heaprec_texts }
-    ensures { WordsRunTo IsRecorded (bounds_of desk.now.limits) desk.now.limits.order
+    ensures { WordsRecord IsRecorded (bounds_of desk.now.limits) desk.now.limits.order
         (record_asked (map string_bytes words.now)) (shown S.Store store.old) (shown S.Store store.new)
         (taken O.Sink out.old) (taken O.Sink out.new) (outcome_answer heaprec_texts result) }
 {
@@ -63,7 +63,7 @@ fn run_request<R: Threads + Wait + Sync, S: Store, O: Sink, G: Gate + Sync>(
     requires texts { texts_of desk.now.texts ≡ heaprec_texts }
     requires some { 1 ≤ length request.now.scripts.items }
     requires few { length request.now.scripts.items ≤ 64 }
-    ensures { WordsRunTo IsRecorded (bounds_of desk.now.limits) desk.now.limits.order (Some (asked_by request.now))
+    ensures { WordsRecord IsRecorded (bounds_of desk.now.limits) desk.now.limits.order (Some (asked_by request.now))
         (shown S.Store store.old) (shown S.Store store.new) (taken O.Sink out.old) (taken O.Sink out.new)
         (rest_of heaprec_texts result) }
 {

@@ -1,11 +1,15 @@
 use Rattle.std.proofs.Common.{List, ℕ, map, string_bytes, arith, subst}
+use Rattle.command_frame.specs.Answer.{after}
+use Rattle.command_frame.specs.Delivers.{DeliversTo}
 use Rattle.command_frame.specs.FirstFault.{bounds_of}
 use Rattle.command_frame.specs.OutcomeAnswer.{outcome_answer}
-use Rattle.command_frame.specs.RunsTo.{taken}
+use Rattle.command_frame.specs.Outside.{outside}
+use Rattle.command_frame.specs.RunsTo.{shown, taken}
 use Rattle.command_frame.specs.Texts.{Texts}
-use Rattle.commands.specs.HasRun.{outside}
+use Rattle.command_frame.proofs.Laws.{is_delivered}
+use Rattle.commands.specs.Asked.{asked, task_asked}
 use Rattle.commands.specs.Texts.{heapsuite_texts}
-use Rattle.commands.proofs.HasRunLemmas.{Delivery, ended_run, has_run}
+use Rattle.commands.proofs.HasRunLemmas.{has_run}
 use Rattle.commands.proofs.KeepLemmas.{AreLaws}
 use Rattle.commands.proofs.run.heapsuite_run.Goals as goal
 
@@ -13,27 +17,25 @@ pub returns : goal.returns
 returns g c =
     let bounds = bounds_of c.args.limits.now in
     let words : List (List ℕ) = map string_bytes c.args.words.now in
-    let outcome = c.run_words-outcome.result in
+    let answer = outcome_answer heapsuite_texts c.run_words-outcome.result in
     let mid = taken g.O.Sink c.run_words-outcome.new.out in
     let out = taken g.O.Sink c.deliver.new.out in
     let old = taken g.E.Sink c.args.err.now in
     let err = taken g.E.Sink c.deliver.new.err in
-    let says = c.deliver.ensures in
+    let ran = c.run_words-outcome.ensures.ran in
     let laws : AreLaws = record {
       reads_back = c.interpreted_traces.ensures.reads_back;
       events = c.interpreted_traces.ensures.events;
       ledger = c.interpreted_traces.ensures.ledger;
       one_line = c.interpreted_traces.ensures.one_line;
     } in
-    let delivery = subst (λ (texts : Texts). Delivery texts.write_failed (outcome_answer texts outcome) c.deliver.result mid out old err) c.heapsuite_texts.ensures (record {
-      delivered = says.status;
-      fronts = says.fronts;
-      own_message = says.own_message;
-      cause = says.cause;
-      out_sound = says.out_sound;
-      err_sound = says.err_sound;
-      out_faults = says.out_faults;
-    }) in
+    let delivery : DeliversTo heapsuite_texts.write_failed answer c.deliver.result mid out old err =
+    subst (λ (texts : Texts). DeliversTo texts.write_failed (outcome_answer texts c.run_words-outcome.result) c.deliver.result mid out old err) c.heapsuite_texts.ensures c.deliver.ensures in
     has_run laws bounds words (outside g.S.Store g.O.Sink g.E.Sink c.args.store.now c.args.out.now c.args.err.now)
-    (outside g.S.Store g.O.Sink g.E.Sink c.run_words-outcome.new.store c.deliver.new.out c.deliver.new.err) c.deliver.result _ (omega (arith, c.args.limits.now.line_in_range))
-    (ended_run bounds words _ _ _ mid out old err c.deliver.result (outcome_answer heapsuite_texts outcome) c.run_words-outcome.ensures.ran c.run_words-outcome.ensures.no_memory delivery)
+    (outside g.S.Store g.O.Sink g.E.Sink c.run_words-outcome.new.store c.deliver.new.out c.deliver.new.err) c.deliver.result (after ran.early answer) (omega (arith, c.args.limits.now.line_in_range))
+    (record {
+      ran = ran.ran;
+      delivered = is_delivered heapsuite_texts bounds (task_asked (asked words)) (shown g.S.Store c.args.store.now) (shown g.S.Store c.run_words-outcome.new.store) (taken g.O.Sink c.args.out.now) mid out old err c.deliver.result answer ran delivery;
+      files = ran.files;
+    })
+    c.run_words-outcome.ensures.no_memory

@@ -1,14 +1,16 @@
-use Rattle.std.proofs.Common.{◌∙◌, sym}
+use Rattle.std.proofs.Common.{◌∙◌, ap, sym}
 use Rattle.std.proofs.lemmas.Option.{none-some}
 use Rattle.command_frame.specs.RunsTo.{taken}
+use Rattle.command_frame.proofs.Laws.{words_ran}
+use Rattle.commands.specs.Asked.{task_asked, task_of}
 use Rattle.commands.specs.Requests.{asked_of}
 use Rattle.commands.specs.Texts.{heapsuite_texts}
 use Rattle.commands.proofs.AskedLemmas.{unknown_asks_nothing}
-use Rattle.commands.proofs.RunsLemmas.{words_ran}
 use Rattle.commands.proofs.run_words.run_words.Goals as goal
 
 pub returns-in-Ok-clause-ran : goal.returns-in-Ok-clause-ran
-returns-in-Ok-clause-ran g c = words_ran _ (asked_of c.in-Ok.request) _ _ _ _ _ _ _ c.requires.texts c.in-Ok.ensures.taken (c.new.ensures heapsuite_texts) c.run_request.ensures
+returns-in-Ok-clause-ran g c =
+    words_ran _ heapsuite_texts (task_of (asked_of c.in-Ok.request)) _ _ _ _ _ _ _ c.requires.texts (ap task_asked c.in-Ok.ensures.taken) (c.new.ensures heapsuite_texts) c.run_request.ensures
 
 pub returns-in-Ok-clause-no_memory : goal.returns-in-Ok-clause-no_memory
 returns-in-Ok-clause-no_memory g c = λ unknown five. absurd (none-some _ (sym (unknown_asks_nothing _ unknown) ∙ c.in-Ok.ensures.taken))

@@ -1,6 +1,7 @@
 use Rattle.std.proofs.Common.{◌≡◌, ℕ, ap₂, map, string_bytes, subst, sym, IfOk}
 use Rattle.command_frame.specs.FirstFault.{Bounds}
-use Rattle.commands.specs.HasRun.{HasRun, outside}
+use Rattle.command_frame.specs.Outside.{outside}
+use Rattle.commands.specs.HasRun.{HasRun}
 use Rattle.heapsuite.specs.StandardBounds.{standard_bounds}
 use Rattle.heapsuite.proofs.run.heapsuite_main.Goals as goal
 

@@ -13,7 +13,7 @@ use Rattle.recording.specs.FrontRead.{FrontRead}
 use Rattle.recording.specs.Recorded.{IsRecorded}
 use Rattle.recording.specs.RecordWords.{Task}
 use Rattle.recording.specs.Requests.{asked_by, task_by}
-use Rattle.recording.specs.Run.{WordsRunTo}
+use Rattle.recording.specs.Run.{WordsRecord}
 use Rattle.recording.specs.Texts.{heaprec_texts}
 use Rattle.recording.proofs.EndLemmas.{asked_checked, asked_done, asked_halted, asked_wanting, asks}
 use Rattle.recording.proofs.run_words.run_request.Goals as goal
@@ -38,7 +38,7 @@ returns-in-Ok-record_text g c =
     let old = taken g.O.Sink c.args.out.now in
     let new = taken g.O.Sink c.read_files.new.out in
     let limit = c.args.desk.now.limits.order in
-    subst (λ (task : Task). WordsRunTo IsRecorded (bounds_of c.args.desk.now.limits) limit (Some (asks modules scripts task)) before now old new (done c.in-Ok-record_text.text.items)) (sym (ap task_by c.in-Record.is))
+    subst (λ (task : Task). WordsRecord IsRecorded (bounds_of c.args.desk.now.limits) limit (Some (asks modules scripts task)) before now old new (done c.in-Ok-record_text.text.items)) (sym (ap task_by c.in-Record.is))
     (asked_done IsRecorded c.args.desk.now limit modules scripts c.in-Record.summary before now old new c.in-Ok.scripts c.in-Ok-record_text.text.items c.requires.texts
     (subst (λ (names : List (Bor (List ℕ))). FrontRead c.args.desk.now (files_front modules (map (λ name. name.now) names) (no_job limit)) before now old new (Ok c.in-Ok.scripts)) c.deref.ensures.value c.in-Ok.ensures.read)
     (record {
@@ -57,7 +57,7 @@ returns-in-Err-record_text g c =
     let old = taken g.O.Sink c.args.out.now in
     let new = taken g.O.Sink c.read_files.new.out in
     let limit = c.args.desk.now.limits.order in
-    subst (λ (task : Task). WordsRunTo IsRecorded (bounds_of c.args.desk.now.limits) limit (Some (asks modules scripts task)) before now old new (halt_answer heaprec_texts c.no_memory.result)) (sym (ap task_by c.in-Record.is))
+    subst (λ (task : Task). WordsRecord IsRecorded (bounds_of c.args.desk.now.limits) limit (Some (asks modules scripts task)) before now old new (halt_answer heaprec_texts c.no_memory.result)) (sym (ap task_by c.in-Record.is))
     (asked_wanting IsRecorded c.args.desk.now limit modules scripts c.in-Record.summary before now old new c.in-Ok.scripts c.no_memory.result c.requires.texts
     (subst (λ (names : List (Bor (List ℕ))). FrontRead c.args.desk.now (files_front modules (map (λ name. name.now) names) (no_job limit)) before now old new (Ok c.in-Ok.scripts)) c.deref.ensures.value c.in-Ok.ensures.read)
     c.no_memory.ensures)
@@ -75,7 +75,7 @@ returns-in-Check g c =
     let limit = c.args.desk.now.limits.order in
     let job = c.in-Ok.scripts in
     let few : length job.scripts ≤ 64 = omega (arith, c.in-Ok.ensures.count ∙ ap (λ (names : List (Bor (List ℕ))). length names) c.deref.ensures.value, c.requires.few) in
-    subst (λ (task : Task). WordsRunTo IsRecorded (bounds_of c.args.desk.now.limits) limit (Some (asks modules scripts task)) before now old new (rest_of heaprec_texts c.check_trace.result)) (sym (ap task_by c.in-Check.is))
+    subst (λ (task : Task). WordsRecord IsRecorded (bounds_of c.args.desk.now.limits) limit (Some (asks modules scripts task)) before now old new (rest_of heaprec_texts c.check_trace.result)) (sym (ap task_by c.in-Check.is))
     (asked_checked IsRecorded c.args.desk.now limit modules scripts c.in-Check.trace.now before mid now old between new job c.check_trace.result c.requires.texts
     (λ bytes ended events text is. c.front_laws.ensures.whole job (lines_of bytes) ended events bytes few (c.quiet_modules.ensures job.modules c.in-Ok.ensures.modules) refl text is)
     (subst (λ (names : List (Bor (List ℕ))). WhereTold before.files (λ folder. job ≡ job_in folder modules (map (λ name. name.now) names) limit)) c.deref.ensures.value c.in-Ok.ensures.job)

@@ -5,9 +5,9 @@ use Rattle.command_frame.specs.Taker.{Refuses}
 use Rattle.dhat_json.specs.declared.fault.DhatFault.{DhatFault}
 use Rattle.dhat_json.specs.declared.profile.Dhat.{Dhat}
 use Rattle.dhat_json.specs.Document.{document_of}
-use Rattle.commands.specs.declared.profile_fault.ProfileFault.{ProfileFault}
+use Rattle.commands.specs.declared.document_fault.DocumentFault.{DocumentFault}
 use Rattle.commands.specs.DhatFileReport.{dhat_file_verdict, profile_verdict}
-use Rattle.commands.specs.ProfileFault.{told}
+use Rattle.commands.specs.DocumentFault.{told}
 use Rattle.commands.proofs.DocumentLemmas.{document_refused}
 use Rattle.commands.proofs.dhat_file.DhatFileDocumentReport.report.Goals as goal
 
@@ -30,6 +30,6 @@ returns-in-Err g c =
     let verdict = g.R.DhatFileReport.verdict c.args.self.now.report in
     record {
       output = tt;
-      fault = subst (λ (refusal : LineRefusal ProfileFault). Refuses told refusal (profile_verdict verdict found)) (sym c.document_refusal.ensures)
+      fault = subst (λ (refusal : LineRefusal DocumentFault). Refuses told refusal (profile_verdict verdict found)) (sym c.document_refusal.ensures)
           (document_refused verdict c.in-Err.fault found c.in-Err.ensures.exact);
     }

@@ -6,9 +6,9 @@ use Rattle.ht_trace.specs.TraceEvents.{events}
 use Rattle.ht_trace.specs.TraceLists as lists
 use Rattle.ht_trace.specs.Contents.{contents}
 use Rattle.commands.specs.DhatReport.{dhat_written}
-use Rattle.commands.specs.ReadTrace.{HasRead}
-use Rattle.commands.specs.TraceReport.{tables_behind}
-use Rattle.commands.specs.declared.read_trace.ReadTrace.{ReadTrace}
+use Rattle.trace_reading.specs.ReadTrace.{HasRead}
+use Rattle.trace_reading.specs.TraceReport.{tables_behind}
+use Rattle.trace_reading.specs.declared.read_trace.ReadTrace.{ReadTrace}
 use Rattle.commands.proofs.dhat_reader.DhatReader.profile.Goals as goal
 
 -- the tables are those of the lines

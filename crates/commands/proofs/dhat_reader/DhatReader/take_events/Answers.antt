@@ -3,11 +3,11 @@ use Rattle.std.proofs.lemmas.List.{take_all}
 use Rattle.ht_trace.specs.PassesEvents.{PassesEvents}
 use Rattle.command_frame.proofs.Laws.{nothing_taken}
 use Rattle.command_frame.specs.Report.{Report}
-use Rattle.commands.specs.Batch.{HasTakenLine}
+use Rattle.trace_reading.specs.Batch.{HasTakenLine}
 use Rattle.commands.specs.DhatReport.{dhat_written}
 use Rattle.commands.specs.ReadLives.{HasReadLives}
-use Rattle.commands.specs.TraceReport.{trace_report}
-use Rattle.commands.proofs.BatchLemmas.{line_more, line_within}
+use Rattle.trace_reading.specs.TraceReport.{trace_report}
+use Rattle.trace_reading.proofs.Laws.{line_more, line_within}
 use Rattle.commands.proofs.dhat_reader.DhatReader.take_events.Goals as goal
 
 -- what is made of the lines

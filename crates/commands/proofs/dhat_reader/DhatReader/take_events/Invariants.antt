@@ -4,7 +4,7 @@ use Rattle.ht_trace.specs.PassesEvents.{PassesEvents}
 use Rattle.command_frame.specs.Batch.{HasTakenFront}
 use Rattle.commands.specs.DhatReport.{dhat_written}
 use Rattle.commands.specs.ReadLives.{HasReadLives, IsSoundReader, weight_of}
-use Rattle.commands.specs.TraceReport.{trace_report}
+use Rattle.trace_reading.specs.TraceReport.{trace_report}
 use Rattle.commands.proofs.dhat_reader.DhatReader.take_events.Given as goal
 
 abbrev pub invariant-lines : goal.invariant-lines

@@ -2,7 +2,7 @@ use Rattle.std.proofs.Common.{[]}
 use Rattle.command_frame.proofs.Laws.{nothing_taken}
 use Rattle.commands.specs.DhatReport.{dhat_written}
 use Rattle.commands.specs.ReadLives.{HasReadLives}
-use Rattle.commands.specs.TraceReport.{trace_report}
+use Rattle.trace_reading.specs.TraceReport.{trace_report}
 use Rattle.commands.proofs.dhat_reader.DhatReaderLineTaker.batch.Goals as goal
 
 pub returns-in-Err-clause-taken : goal.returns-in-Err-clause-taken

@@ -4,7 +4,7 @@ use Rattle.live_ledger.specs.LedgerState.{LedgerState}
 use Rattle.ht_trace.specs.PassesEvents.{PassesEvents}
 use Rattle.command_frame.proofs.Laws.{nothing_taken}
 use Rattle.commands.specs.MassifReport.{massif_report}
-use Rattle.commands.proofs.BatchLemmas.{front_kept, line_more, line_within, same_line}
+use Rattle.trace_reading.proofs.Laws.{front_kept, line_more, line_within, same_line}
 use Rattle.commands.proofs.massif_reader.MassifReader.take_events.Goals as goal
 
 pub lines-init : goal.lines-init

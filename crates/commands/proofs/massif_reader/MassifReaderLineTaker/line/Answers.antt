@@ -9,7 +9,7 @@ use Rattle.live_ledger.specs.StandsFor as ledger_spec
 use Rattle.massif_sample.specs.StandsFor as sample_spec
 use Rattle.command_frame.specs.Taker.{Tells}
 use Rattle.command_frame.specs.Told.{Told}
-use Rattle.commands.specs.CommandFault.{told}
+use Rattle.trace_reading.specs.TraceFault.{told}
 use Rattle.commands.proofs.SampleLemmas.{at_some, event_told, refused_line, taken_line}
 use Rattle.commands.proofs.massif_reader.MassifReaderLineTaker.line.Goals as goal
 

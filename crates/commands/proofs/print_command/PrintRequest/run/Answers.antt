@@ -2,7 +2,7 @@ use Rattle.std.proofs.Common.{Bor, ℕ, List, Option, sym, subst}
 use Rattle.std.specs.Option.{option_map}
 use Rattle.command_frame.specs.RunsTo.{RunsTo, shown, taken}
 use Rattle.commands.specs.PrintReport.{report_written}
-use Rattle.commands.specs.SuppressionsReport.{names_behind, plan_behind}
+use Rattle.trace_reading.specs.SuppressionsReport.{names_behind, plan_behind}
 use Rattle.commands.proofs.print_command.PrintRequest.run.Goals as goal
 
 pub returns-in-None : goal.returns-in-None

@@ -1,0 +1,142 @@
+-- What a reader of a trace has read when it took lines of events at once.
+use Rattle.std.proofs.Common.{◌≡◌, ℕ, ◌+◌, ◌≤◌, List, [], ◌∷◌, ◌++◌, length, take, drop, slice_get, None, Some, refl, ap, sym, subst, ◌∙◌, append-nil, append_assoc, length-append, arith}
+use Rattle.std.proofs.lemmas.List.{length_push}
+use Rattle.std.proofs.lemmas.List.Elements.{All-append, All-nil, All-cons}
+use Rattle.std.proofs.Math.Seq.{take-add, take-append-add}
+use Rattle.std.specs.Option.{option_map, option_or}
+use Rattle.hp_outside.specs.WholeLines.{IsLineText, text_of_lines}
+use Rattle.live_ledger.specs.declared.event.Event.{Event}
+use Rattle.live_ledger.specs.Faults.{fault_of}
+use Rattle.live_ledger.specs.LedgerState.{HeldInfo, IsHeld, LedgerState}
+use Rattle.peak_costs.specs.Peak.{StandsFor}
+use Rattle.ht_lines.specs.declared.event.EventKind.{EventKind}
+use Rattle.ht_lines.specs.declared.event.EventKind.TheVariants.{Allocation, Free as FreeKind}
+use Rattle.ht_trace.specs.HeldStack.{HasHeldEvent}
+use Rattle.ht_trace.specs.LedgerFits.{least_length_of}
+use Rattle.ht_trace.specs.PassesEvents.{PassesLine, event_of_info}
+use Rattle.ht_trace.specs.StandsFor.{StandsAfter}
+use Rattle.ht_trace.specs.StepOf.{event_of, step_of}
+use Rattle.ht_trace.specs.TableState.{TableState}
+use Rattle.ht_trace.specs.TraceEvents.{events}
+use Rattle.command_frame.specs.Batch.{AreSilent, HasTakenFront, IsShortLine}
+use Rattle.command_frame.specs.Report.{Report}
+use Rattle.trace_reading.specs.declared.fault.TraceFault.TheVariants.{Line, Event as event_fault}
+use Rattle.trace_reading.specs.declared.read_trace.ReadTrace.{ReadTrace}
+use Rattle.trace_reading.specs.Batch.{HasReadLine, HasTakenLine}
+use Rattle.trace_reading.specs.TraceFault.{told}
+use Rattle.trace_reading.specs.ReadTrace.{HasRead}
+use Rattle.trace_reading.specs.TraceReport.{content_fault, ledger_fault, trace_report}
+use Rattle.trace_reading.proofs.ReadLemmas.{fault_behind}
+
+-- the line of an event that the tables pass and the ledger takes has no fault
+pub event_has_no_fault : (trace : ReadTrace) (line : List ℕ) (event : Event) → PassesLine trace.tables line event
+    → ((taken : List Event) → StandsFor trace.peaks taken → fault_of taken event ≡ None)
+    → (patterns earlier : List (List ℕ)) → HasRead trace patterns earlier → content_fault patterns earlier line ≡ None
+event_has_no_fault trace line event passes none patterns earlier has =
+    let brings : event_of (step_of earlier line) ≡ Some event = ap event_of (passes.brings has.given earlier has.tables_of) in
+    let in_ledger : ledger_fault (events earlier) (event_of (step_of earlier line)) ≡ None =
+    ap (ledger_fault (events earlier)) brings ∙ none (events earlier) has.peaks_of in
+    ap (λ found. option_or (option_map (λ error. told (Line error)) found) (option_map (λ fault. told (event_fault fault)) (ledger_fault (events earlier) (event_of (step_of earlier line)))))
+    (fault_behind trace patterns earlier line has ∙ passes.no_fault has.given earlier has.tables_of)
+    ∙ ap (option_map (λ fault. told (event_fault fault))) in_ledger
+
+-- it is then read
+pub event_is_read : (old new : ReadTrace) (line : List ℕ) (event : Event) → PassesLine old.tables line event → new.tables ≡ old.tables
+    → ((taken : List Event) → StandsFor old.peaks taken → StandsFor new.peaks (taken ++ event ∷ []))
+    → (patterns earlier : List (List ℕ)) → HasRead old patterns earlier → HasRead new patterns (earlier ++ line ∷ [])
+event_is_read old new line event passes same stands patterns earlier has =
+    let after : events (earlier ++ line ∷ []) ≡ events earlier ++ event ∷ [] = passes.events has.given earlier has.tables_of in
+    record {
+      given = has.given;
+      patterns_are = has.patterns_are;
+      tables_of = subst (λ tables. StandsAfter tables has.given (earlier ++ line ∷ [])) (sym same) (passes.stands has.given earlier has.tables_of);
+      peaks_of = subst (λ es. StandsFor new.peaks es) (sym after) (stands (events earlier) has.peaks_of);
+    }
+
+-- the stack of the event of an info is the info's
+pub event_is_held : (tables : TableState) (kind : EventKind) (info : ℕ) (held : HeldInfo) → held.stack ≤ length tables.nodes → HasHeldEvent tables (event_of_info kind info held)
+event_is_held tables Allocation info held few = few
+event_is_held tables FreeKind info held few = few
+
+-- the info is then the event's
+pub event_is_among : (ledger : LedgerState) (kind : EventKind) (info : ℕ) (held : HeldInfo) → slice_get ledger.infos info ≡ Some held → IsHeld ledger (event_of_info kind info held)
+event_is_among ledger Allocation info held found = found
+event_is_among ledger FreeKind info held found = found
+
+-- its line has at least three bytes
+pub least_of_event : (kind : EventKind) (info : ℕ) (held : HeldInfo) → least_length_of (event_of_info kind info held) ≡ 3
+least_of_event Allocation info held = refl
+least_of_event FreeKind info held = refl
+
+-- a line that was taken, by another name of the report and of the bytes
+pub same_line : (report same : Report) (old new : List (List ℕ) → Type 0) (ready part : List ℕ) (bytes : ℕ) → report ≡ same → part ≡ ready
+    → HasTakenLine report old new part bytes → HasTakenLine same old new ready bytes
+same_line report same old new ready part bytes renamed whole one =
+    subst (λ text. HasTakenLine same old new text bytes) whole (subst (λ made. HasTakenLine made old new part bytes) renamed one)
+
+-- where nothing more was taken, but what keeps it has changed
+pub front_kept : (report : Report) (initial old new : List (List ℕ) → Type 0) (ready : List ℕ) (bytes number : ℕ) → HasTakenFront report initial old ready bytes number
+    → ((lines : List (List ℕ)) → old lines → new lines) → HasTakenFront report initial new ready bytes number
+front_kept report initial old new ready bytes number front kept = record {
+  lines = front.lines;
+  texts = front.texts;
+  short = front.short;
+  text = front.text;
+  count = front.count;
+  silent = front.silent;
+  taken = λ earlier has. kept (earlier ++ front.lines) (front.taken earlier has);
+}
+
+-- the bytes of one line more
+text_of_lines-push : (lines : List (List ℕ)) (line : List ℕ) → text_of_lines (lines ++ line ∷ []) ≡ text_of_lines lines ++ (line ++ (10 ∷ []))
+text_of_lines-push [] line = refl
+text_of_lines-push (first ∷ lines) line =
+    ap (λ rest. first ++ (10 ∷ rest)) (text_of_lines-push lines line) ∙ sym (append_assoc first (10 ∷ text_of_lines lines) (line ++ (10 ∷ [])))
+
+-- one line more, without a fault and with nothing to give
+silent_more : (report : Report) (earlier lines : List (List ℕ)) (line : List ℕ) → AreSilent report earlier lines
+    → report.line_fault (earlier ++ lines) line ≡ None → report.gains (earlier ++ lines) line ≡ [] → AreSilent report earlier (lines ++ line ∷ [])
+silent_more report earlier [] line silent none nothing =
+    (ap (λ before. report.line_fault before line) (sym (append-nil earlier)) ∙ none, ap (λ before. report.gains before line) (sym (append-nil earlier)) ∙ nothing, tt)
+silent_more report earlier (first ∷ lines) line silent none nothing =
+    let same : (earlier ++ first ∷ []) ++ lines ≡ earlier ++ first ∷ lines = append_assoc earlier (first ∷ []) lines in (
+      silent.0,
+      silent.1,
+      silent_more report (earlier ++ first ∷ []) lines line silent.2 (ap (λ before. report.line_fault before line) same ∙ none) (ap (λ before. report.gains before line) same ∙ nothing),
+    )
+
+-- one line more was taken
+pub line_more : (report : Report) (initial old new : List (List ℕ) → Type 0) (ready : List ℕ) (bytes number more : ℕ)
+    → HasTakenFront report initial old ready bytes number → HasTakenLine report old new (drop bytes ready) more → HasTakenFront report initial new ready (bytes + more) (number + 1)
+line_more report initial old new ready bytes number more front one =
+    let line_text : take more (drop bytes ready) ≡ one.line ++ (10 ∷ []) =
+    ap (λ n. take n (drop bytes ready)) one.size ∙ (ap (take (length one.line + 1)) one.split ∙ take-append-add one.line (10 ∷ one.rest) 1) in
+    record {
+      lines = front.lines ++ one.line ∷ [];
+      texts = All-append IsLineText front.lines (one.line ∷ []) front.texts (All-cons IsLineText one.line [] one.one_line (All-nil IsLineText));
+      short = All-append IsShortLine front.lines (one.line ∷ []) front.short (All-cons IsShortLine one.line [] one.short (All-nil IsShortLine));
+      text = take-add bytes more ready ∙ (ap (λ front. front ++ take more (drop bytes ready)) front.text
+          ∙ (ap (λ last. text_of_lines front.lines ++ last) line_text ∙ sym (text_of_lines-push front.lines one.line)));
+      count = length_push front.lines one.line ∙ ap (λ n. n + 1) front.count;
+      silent = λ earlier has. silent_more report earlier front.lines one.line (front.silent earlier has) (one.no_fault (earlier ++ front.lines) (front.taken earlier has)) (one.no_gain (earlier ++ front.lines));
+      taken = λ earlier has. subst new (append_assoc earlier front.lines (one.line ∷ [])) (one.taken (earlier ++ front.lines) (front.taken earlier has));
+    }
+
+-- a line stands within the bytes
+pub line_within : (report : Report) (old new : List (List ℕ) → Type 0) (ready : List ℕ) (bytes : ℕ) → HasTakenLine report old new ready bytes → bytes ≤ length ready
+line_within report old new ready bytes one = omega (arith, one.size, ap length one.split, length-append one.line (10 ∷ one.rest))
+
+-- a line that was read is taken; no line of a trace gives a byte before the end
+pub read_is_taken : (old new : ReadTrace) (ready : List ℕ) (bytes : ℕ) (event : Event) → HasReadLine old new ready bytes event → (patterns : List (List ℕ)) (text : List (List ℕ) → List ℕ)
+    → HasTakenLine (trace_report patterns text) (HasRead old patterns) (HasRead new patterns) ready bytes
+read_is_taken old new ready bytes event one patterns text = record {
+  line = one.line;
+  one_line = one.one_line;
+  short = one.short;
+  rest = one.rest;
+  split = one.split;
+  size = one.size;
+  no_fault = one.no_fault patterns;
+  no_gain = λ earlier. refl;
+  taken = one.read patterns;
+}

@@ -1,0 +1,2 @@
+-- What the crates above may cite: lines that a reader has taken at once, one more of them, and where they stand.
+pub use Rattle.trace_reading.proofs.BatchLemmas.{front_kept, line_more, line_within, same_line}

@@ -1,0 +1,5 @@
+pub mod TraceFault
+pub mod TraceReport
+pub mod ReadTrace
+pub mod SuppressionsReport
+pub mod Batch
