@@ -166,10 +166,13 @@ text-more job done order trace new thread turn book at is grown =
     let old = trace.text.items in
     let more = drop (length old) new.text.items in
     let whole : new.text.items ≡ old ++ more = sym (take-append-drop (length old) new.text.items) ∙ ap (λ (front : List ℕ). front ++ more) grown.kept in
-    let means = actions-turn job.scripts order thread (done_at done thread) turn at (book.taken thread) in
-    (more, whole, ap (λ (acts : List Action). trace_text job.modules acts) means ∙ sym (is book.gone book.trace_is).text_is
-    ∙ ap (λ (text : List ℕ). book.gone ++ text) whole ∙ sym (append_assoc book.gone old more)
-    ∙ ap (λ (front : List ℕ). front ++ more) book.trace_is.text_is)
+    let means = actions-turn job.scripts order thread (done_at done thread) turn at (book.taken thread) in (
+      more,
+      whole,
+      ap (λ (acts : List Action). trace_text job.modules acts) means ∙ sym (is book.gone book.trace_is).text_is
+          ∙ ap (λ (text : List ℕ). book.gone ++ text) whole ∙ sym (append_assoc book.gone old more)
+          ∙ ap (λ (front : List ℕ). front ++ more) book.trace_is.text_is,
+    )
 
 -- an order under the scripts
 pub under-of : (job : Job) (done order : List ℕ) (trace : Trace) → IsStream job done order trace → IsUnder job.scripts order
@@ -237,9 +240,12 @@ complete-is job done order trace count events book count_is events_is = by (coun
     by true p =
         let same : count ≡ events = grind (arith, nat_tests, p) in
         (λ is. all-turns job done order trace book (sym count_is ∙ same ∙ events_is), λ all. refl)
-    by false p = (λ is. absurd (cc), λ all.
-        let same : count ≡ events = count_is ∙ all-entries job done order trace book all ∙ sym events_is in
-        absurd (grind (arith, nat_tests, p, same)))
+    by false p = (
+      λ is. absurd (cc),
+      λ all.
+          let same : count ≡ events = count_is ∙ all-entries job done order trace book all ∙ sym events_is in
+          absurd (grind (arith, nat_tests, p, same)),
+    )
 
 -- blocks that lie in places of their own are apart
 below-more : (blocks : List LiveBlock) (n m : ℕ) → n ≤ m → AllByRecursion (λ block. block.address + block.block.size ≤ n) blocks → AllByRecursion (λ block. block.address + block.block.size ≤ m) blocks

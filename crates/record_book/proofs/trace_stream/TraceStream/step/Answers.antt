@@ -135,9 +135,11 @@ returns-clause-text c =
     (λ gone before. c.in_ok-add.ensures.added gone job.modules (actions job.scripts book.order.items) before) in
     let order = c.in_ok-push_entries.ensures.pushed c.turn_into.new.ips.items ∙ ap (λ (entries : List ℕ). entries ++ entries_of c.args.thread said) c.in_ok-reserve.ensures.items in
     let found = text-more job book.done.items book.order.items book.trace new c.args.thread said c.self.invariant at is c.in_ok-add.ensures.kept in
-    let more = found.0 in
-    (more, found.1 ∙ ap (λ (r : Streamed). r.text ++ more) c.self.view_is,
-    ap (λ (entries : List ℕ). recorded job entries) order ∙ found.2 ∙ ap (λ (r : Streamed). recorded r.job r.order ++ more) c.self.view_is)
+    let more = found.0 in (
+      more,
+      found.1 ∙ ap (λ (r : Streamed). r.text ++ more) c.self.view_is,
+      ap (λ (entries : List ℕ). recorded job entries) order ∙ found.2 ∙ ap (λ (r : Streamed). recorded r.job r.order ++ more) c.self.view_is,
+    )
 
 pub returns-clause-more : goal.returns-clause-more
 returns-clause-more c =
