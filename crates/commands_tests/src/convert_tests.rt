@@ -1,25 +1,25 @@
 //! `convert` over worked DHAT profiles and Massif files, its words, and what stands against a conversion.
 
-use crate::transcript::{MASSIF, expect, sound};
+use crate::transcript::{DEMO, MASSIF, expect, sound};
 use std::test::Fail;
 
-const DHAT: &str = "$ convert d
+const DHAT: &str = "$ convert t
 0x400: main (a.c:20) 100
 0x400: main (a.c:20);0x500: f (a.c:10) 100
 [0]
-$ convert --key=eb --snapshot=7 d
+$ convert --key=eb --snapshot=7 t
 0x400: main (a.c:20) 100
 [0]
-$ convert --from=dhat --to folded --key gb -- d
+$ convert --from=dhat --to folded --key gb -- t
 0x400: main (a.c:20);0x500: f (a.c:10) 100
 [0]
-$ convert --key=tl d
+$ convert --key=tl t
 0x400: main (a.c:20);0x500: f (a.c:10) 1
 [0]
-$ convert --key=rb d
-heapsuite: d: no figures for rb
+$ convert --key=rb t
+heapsuite: t: no figures for rb
 [1]
-$ convert --to=massif --key=rb d
+$ convert --to=massif --key=rb t
 desc: heapsuite convert
 cmd: demo
 time_unit: e
@@ -52,7 +52,7 @@ heapsuite: n: no such file
 
 #[test]
 fn dhat_profiles(rt: HostRuntime) -> Result<(), Fail> {
-    expect(&rt, rt.alloc(), &sound(""), DHAT)
+    expect(&rt, rt.alloc(), &sound(DEMO), DHAT)
 }
 
 /// A profile with one list twice, one with a semicolon, one of no text, and one whose bytes sum to 0. The time at its peak is
@@ -132,17 +132,17 @@ fn documents(rt: HostRuntime) -> Result<(), Fail> {
     expect(&rt, rt.alloc(), &sound(""), DOCUMENTS)
 }
 
-const WORKED_FILE: &str = "$ convert --from=massif m
+const WORKED_FILE: &str = "$ convert --from=massif t
 0x400: main (a.c:20);0x500: f (a.c:10) 100
 [0]
-$ convert --from massif m --key=rb --snapshot 2
+$ convert --from massif t --key=rb --snapshot 2
 0x400: main (a.c:20);0x500: f (a.c:10) 100
 [0]
-$ convert --from=massif --snapshot=4 m
-heapsuite: m: no tree
+$ convert --from=massif --snapshot=4 t
+heapsuite: t: no tree
 [1]
-$ convert --from=massif --snapshot=5 m
-heapsuite: m: no tree
+$ convert --from=massif --snapshot=5 t
+heapsuite: t: no tree
 [1]
 > n0: 1 more
 $ convert --from=massif --snapshot=5 t

@@ -1,7 +1,7 @@
 //! Every call of a run that can fail, failed once: each call on the store, on standard output and on standard error, for
 //! each command.
 
-use crate::transcript::{Ran, Setting, run_once, sound};
+use crate::transcript::{DEMO, MASSIF, RAW, Ran, Setting, run_once, sound};
 use hp_num::{NoMemory, put_bytes, put_dec};
 use std::alloc::Global;
 use std::process::Abort;
@@ -103,14 +103,20 @@ fn are_same(run: &Ran, whole: &Ran) -> bool {
 /// Fails one call after another at this place, up to the first run without a failure.
 fn put_failures(
     alloc: Global,
+    file: &str,
     words: &str,
     piece: usize,
     place: Place,
     all: &mut Vec<u8>,
 ) -> Result<(), NoMemory> {
-    let whole = run_once(alloc, &place.failing_at(0, piece), b"", words)?;
+    let whole = run_once(alloc, &place.failing_at(0, piece), file.as_bytes(), words)?;
     for call in 1..100 {
-        let run = run_once(alloc, &place.failing_at(call, piece), b"", words)?;
+        let run = run_once(
+            alloc,
+            &place.failing_at(call, piece),
+            file.as_bytes(),
+            words,
+        )?;
         if are_same(&run, &whole) {
             break;
         }
@@ -119,24 +125,31 @@ fn put_failures(
     Ok(())
 }
 
-/// Plays the rows of a table: behind `$ ` stand the words of a run, and below them what each failing call comes to.
-fn played(alloc: Global, piece: usize, table: &str) -> Result<Vec<u8>, NoMemory> {
+/// Plays the rows of a table, over a file `t`: behind `$ ` stand the words of a run, and below them what each failing call
+/// comes to.
+fn played(alloc: Global, file: &str, piece: usize, table: &str) -> Result<Vec<u8>, NoMemory> {
     let mut all = Vec::new(alloc);
     for line in table.split('\n') {
         if let Some(words) = line.strip_prefix("$ ") {
             put_bytes(&mut all, line.as_bytes())?;
             put_bytes(&mut all, b"\n")?;
-            put_failures(alloc, words, piece, Place::Store, &mut all)?;
-            put_failures(alloc, words, piece, Place::Out, &mut all)?;
-            put_failures(alloc, words, piece, Place::Err, &mut all)?;
+            put_failures(alloc, file, words, piece, Place::Store, &mut all)?;
+            put_failures(alloc, file, words, piece, Place::Out, &mut all)?;
+            put_failures(alloc, file, words, piece, Place::Err, &mut all)?;
         }
     }
     Ok(all)
 }
 
 /// Plays a table and asserts that it is what came.
-fn expect(rt: &impl Abort, alloc: Global, piece: usize, table: &str) -> Result<(), Fail> {
-    let all = played(alloc, piece, table)?;
+fn expect(
+    rt: &impl Abort,
+    alloc: Global,
+    file: &str,
+    piece: usize,
+    table: &str,
+) -> Result<(), Fail> {
+    let all = played(alloc, file, piece, table)?;
     assert_eq!(rt; all.as_slice(), table.as_bytes());
     Ok(())
 }
@@ -188,45 +201,10 @@ store 3: nothing [3] heapsuite: e: cannot read
 out 1: nothing [4] heapsuite: write failed
 out 2: all [4]
 err 1: all [4]
-$ ms_print m
-store 1: nothing [3] heapsuite: m: cannot open
-store 2: nothing [3] heapsuite: m: cannot read
-store 3: nothing [3] heapsuite: m: cannot read
-out 1: nothing [4] heapsuite: write failed
-out 2: all [4]
-err 1: all [4]
 $ dhat e
 store 1: nothing [3] heapsuite: e: cannot open
 store 2: nothing [3] heapsuite: e: cannot read
 store 3: nothing [3] heapsuite: e: cannot read
-out 1: nothing [4] heapsuite: write failed
-out 2: all [4]
-err 1: all [4]
-$ dhat_view d
-store 1: nothing [3] heapsuite: d: cannot open
-store 2: nothing [3] heapsuite: d: cannot read
-store 3: nothing [3] heapsuite: d: cannot read
-out 1: nothing [4] heapsuite: write failed
-out 2: all [4]
-err 1: all [4]
-$ convert d
-store 1: nothing [3] heapsuite: d: cannot open
-store 2: nothing [3] heapsuite: d: cannot read
-store 3: nothing [3] heapsuite: d: cannot read
-out 1: nothing [4] heapsuite: write failed
-out 2: all [4]
-err 1: all [4]
-$ convert --to=massif d
-store 1: nothing [3] heapsuite: d: cannot open
-store 2: nothing [3] heapsuite: d: cannot read
-store 3: nothing [3] heapsuite: d: cannot read
-out 1: nothing [4] heapsuite: write failed
-out 2: all [4]
-err 1: all [4]
-$ convert --from=massif m
-store 1: nothing [3] heapsuite: m: cannot open
-store 2: nothing [3] heapsuite: m: cannot read
-store 3: nothing [3] heapsuite: m: cannot read
 out 1: nothing [4] heapsuite: write failed
 out 2: all [4]
 err 1: all [4]
@@ -242,19 +220,68 @@ err 1: all [4]
 
 #[test]
 fn failing_calls(rt: HostRuntime) -> Result<(), Fail> {
-    expect(&rt, rt.alloc(), 1000, COMMANDS)
+    expect(&rt, rt.alloc(), "", 1000, COMMANDS)
+}
+
+const OF_MASSIF_FILES: &str = "$ ms_print t
+store 1: nothing [3] heapsuite: t: cannot open
+store 2: nothing [3] heapsuite: t: cannot read
+store 3: nothing [3] heapsuite: t: cannot read
+out 1: nothing [4] heapsuite: write failed
+out 2: all [4]
+err 1: all [4]
+$ convert --from=massif t
+store 1: nothing [3] heapsuite: t: cannot open
+store 2: nothing [3] heapsuite: t: cannot read
+store 3: nothing [3] heapsuite: t: cannot read
+out 1: nothing [4] heapsuite: write failed
+out 2: all [4]
+err 1: all [4]
+";
+
+#[test]
+fn failing_calls_over_a_massif_file(rt: HostRuntime) -> Result<(), Fail> {
+    expect(&rt, rt.alloc(), MASSIF, 1000, OF_MASSIF_FILES)
+}
+
+const OF_PROFILES: &str = "$ dhat_view t
+store 1: nothing [3] heapsuite: t: cannot open
+store 2: nothing [3] heapsuite: t: cannot read
+store 3: nothing [3] heapsuite: t: cannot read
+out 1: nothing [4] heapsuite: write failed
+out 2: all [4]
+err 1: all [4]
+$ convert t
+store 1: nothing [3] heapsuite: t: cannot open
+store 2: nothing [3] heapsuite: t: cannot read
+store 3: nothing [3] heapsuite: t: cannot read
+out 1: nothing [4] heapsuite: write failed
+out 2: all [4]
+err 1: all [4]
+$ convert --to=massif t
+store 1: nothing [3] heapsuite: t: cannot open
+store 2: nothing [3] heapsuite: t: cannot read
+store 3: nothing [3] heapsuite: t: cannot read
+out 1: nothing [4] heapsuite: write failed
+out 2: all [4]
+err 1: all [4]
+";
+
+#[test]
+fn failing_calls_over_a_profile(rt: HostRuntime) -> Result<(), Fail> {
+    expect(&rt, rt.alloc(), DEMO, 1000, OF_PROFILES)
 }
 
 // Reads give 45 bytes at most: all of the symbols at once, and the raw trace in two pieces, of which the first has four whole
 // lines, which give seven.
-const INTERPRETED: &str = "$ interpret --symbols=s r
+const INTERPRETED: &str = "$ interpret --symbols=s t
 store 1: nothing [3] heapsuite: s: cannot open
 store 2: nothing [3] heapsuite: s: cannot read
 store 3: nothing [3] heapsuite: s: cannot read
-store 4: nothing [3] heapsuite: r: cannot open
-store 5: nothing [3] heapsuite: r: cannot read
-store 6: 7 lines [3] heapsuite: r: cannot read
-store 7: all [3] heapsuite: r: cannot read
+store 4: nothing [3] heapsuite: t: cannot open
+store 5: nothing [3] heapsuite: t: cannot read
+store 6: 7 lines [3] heapsuite: t: cannot read
+store 7: all [3] heapsuite: t: cannot read
 out 1: nothing [4] heapsuite: write failed
 out 2: all [4]
 err 1: all [4]
@@ -262,5 +289,5 @@ err 1: all [4]
 
 #[test]
 fn failing_calls_of_an_interpretation(rt: HostRuntime) -> Result<(), Fail> {
-    expect(&rt, rt.alloc(), 45, INTERPRETED)
+    expect(&rt, rt.alloc(), RAW, 45, INTERPRETED)
 }

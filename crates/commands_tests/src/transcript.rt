@@ -118,18 +118,14 @@ fn words_of(alloc: Global, text: &str) -> Result<Vec<String>, NoMemory> {
     Ok(list)
 }
 
-/// The folder that runs find: the file `t`, a worked trace `e` with its Massif file `m` and its DHAT profile `d`,
-/// suppressions `q`, and a raw trace `r` with its symbols `s`.
+/// The folder that runs find: the file `t`, a worked trace `e`, suppressions `q`, and symbols `s`.
 fn folder(alloc: Global, setting: &Setting, file: &[u8]) -> Result<MemStore, NoMemory>
     ensures unopened { IfOk result (λ store. store.store.opens ≡ 0) }
 {
     let mut store = MemStore::new(alloc, setting.piece.max(1));
     store.add("t", file)?;
     store.add("e", WORKED.as_bytes())?;
-    store.add("m", MASSIF.as_bytes())?;
-    store.add("d", DEMO.as_bytes())?;
     store.add("q", b"# a comment\nf (\n")?;
-    store.add("r", RAW.as_bytes())?;
     store.add("s", b"app\t400\t100\tmain\ta.c\t20\napp\t500\t10\tf\n")?;
     store.fail_at(setting.failing_store_call)?;
     Ok(store)

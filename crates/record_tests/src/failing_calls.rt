@@ -43,14 +43,14 @@ fn failing_at(place: Place, call: u64) -> Setting {
 fn append_failing_run<R: Threads + Wait + Sync>(
     rt: &R,
     alloc: Global,
+    file: &str,
     words: &str,
     place: Place,
     call: u64,
     all: &mut Vec<u8>,
 ) -> Result<(), Fail> {
     let setting = failing_at(place, call);
-    let script = b"a 1 40 500 400\nf 1\na 2 8 400\n";
-    append_run(rt, alloc, &setting, script, words, &Open, all)
+    append_run(rt, alloc, &setting, file.as_bytes(), words, &Open, all)
 }
 
 /// Fails one call after another at this place, up to the first run that comes to what the sound one comes to, and appends
@@ -58,16 +58,17 @@ fn append_failing_run<R: Threads + Wait + Sync>(
 fn put_failures<R: Threads + Wait + Sync>(
     rt: &R,
     alloc: Global,
+    file: &str,
     words: &str,
     place: Place,
     name: &str,
     all: &mut Vec<u8>,
 ) -> Result<(), Fail> {
     let mut whole = Vec::new(alloc);
-    append_failing_run(rt, alloc, words, place, 0, &mut whole)?;
+    append_failing_run(rt, alloc, file, words, place, 0, &mut whole)?;
     for call in 1..100 {
         let mut run = Vec::new(alloc);
-        append_failing_run(rt, alloc, words, place, call, &mut run)?;
+        append_failing_run(rt, alloc, file, words, place, call, &mut run)?;
         if run.as_slice() == whole.as_slice() {
             break;
         }
@@ -80,16 +81,22 @@ fn put_failures<R: Threads + Wait + Sync>(
     Ok(())
 }
 
-/// Plays the rows of a table: behind `$ ` stand the words of a run, and below them what each failing call comes to.
-fn played<R: Threads + Wait + Sync>(rt: &R, alloc: Global, table: &str) -> Result<Vec<u8>, Fail> {
+/// Plays the rows of a table, over a file `s`: behind `$ ` stand the words of a run, and below them what each failing call
+/// comes to.
+fn played<R: Threads + Wait + Sync>(
+    rt: &R,
+    alloc: Global,
+    file: &str,
+    table: &str,
+) -> Result<Vec<u8>, Fail> {
     let mut all = Vec::new(alloc);
     for line in table.split('\n') {
         if let Some(words) = line.strip_prefix("$ ") {
             put_bytes(&mut all, line.as_bytes())?;
             put_bytes(&mut all, b"\n")?;
-            put_failures(rt, alloc, words, Place::Store, "store", &mut all)?;
-            put_failures(rt, alloc, words, Place::Out, "out", &mut all)?;
-            put_failures(rt, alloc, words, Place::Err, "err", &mut all)?;
+            put_failures(rt, alloc, file, words, Place::Store, "store", &mut all)?;
+            put_failures(rt, alloc, file, words, Place::Out, "out", &mut all)?;
+            put_failures(rt, alloc, file, words, Place::Err, "err", &mut all)?;
         }
     }
     Ok(all)
@@ -99,12 +106,15 @@ fn played<R: Threads + Wait + Sync>(rt: &R, alloc: Global, table: &str) -> Resul
 fn expect<R: Threads + Wait + Sync + Abort>(
     rt: &R,
     alloc: Global,
+    file: &str,
     table: &str,
 ) -> Result<(), Fail> {
-    let all = played(rt, alloc, table)?;
+    let all = played(rt, alloc, file, table)?;
     assert_eq!(rt; all.as_slice(), table.as_bytes());
     Ok(())
 }
+
+const SCRIPT: &str = "a 1 40 500 400\nf 1\na 2 8 400\n";
 
 const RECORDING: &str = "$ --modules=m s
 store 1
@@ -152,7 +162,36 @@ t 500 1
 - 10000
 + 8 1 10040
 [4]
-$ --check=t s0 s1
+$ --summary
+out 1
+usage: heaprec [--modules=FILE] [--summary] [--check=TRACE] SCRIPT...
+[4]
+err 1
+[4]
+err 2
+usage: heaprec [--modules=FILE] [--summary] [--check=TRACE] SCRIPT...
+[4]
+";
+
+#[test]
+fn failing_calls(rt: HostRuntime) -> Result<(), Fail> {
+    expect(&rt, rt.alloc(), SCRIPT, RECORDING)
+}
+
+/// A recording of the scripts `s0` and `s1`.
+const TRACE: &str = "v 10500 2
+X heaprec
+# thread 0
+t 400 0
+t 500 1
++ 40 2 10000
+# thread 1
++ 8 1 10040
+# thread 0
+- 10000
+";
+
+const CHECK: &str = "$ --check=s s0 s1
 store 1
 heaprec: s0: cannot open
 [3]
@@ -172,13 +211,13 @@ store 6
 heaprec: s1: cannot read
 [3]
 store 7
-heaprec: t: cannot open
+heaprec: s: cannot open
 [3]
 store 8
-heaprec: t: cannot read
+heaprec: s: cannot read
 [3]
 store 9
-heaprec: t: cannot read
+heaprec: s: cannot read
 [3]
 out 1
 heaprec: write failed
@@ -189,18 +228,9 @@ a recording of 3 events
 err 1
 a recording of 3 events
 [4]
-$ --summary
-out 1
-usage: heaprec [--modules=FILE] [--summary] [--check=TRACE] SCRIPT...
-[4]
-err 1
-[4]
-err 2
-usage: heaprec [--modules=FILE] [--summary] [--check=TRACE] SCRIPT...
-[4]
 ";
 
 #[test]
-fn failing_calls(rt: HostRuntime) -> Result<(), Fail> {
-    expect(&rt, rt.alloc(), RECORDING)
+fn failing_calls_of_a_check(rt: HostRuntime) -> Result<(), Fail> {
+    expect(&rt, rt.alloc(), TRACE, CHECK)
 }

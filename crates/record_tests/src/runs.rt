@@ -13,19 +13,6 @@ use std::thread::Threads;
 /// A modules file.
 const MODULES: &str = "# modules\nm app  01000 0 1F00\nm -\n";
 
-/// A recording of the scripts `s0` and `s1`.
-const TRACE: &str = "v 10500 2
-X heaprec
-# thread 0
-t 400 0
-t 500 1
-+ 40 2 10000
-# thread 1
-+ 8 1 10040
-# thread 0
-- 10000
-";
-
 /// The words, which stand between blanks.
 fn listed(alloc: Global, words: &str) -> Result<Vec<String>, Fail> {
     let mut list = Vec::new(alloc);
@@ -59,18 +46,17 @@ pub const fn sound(most_events: u16) -> Setting {
     }
 }
 
-/// A folder with the file `s`, the scripts `s0`, `s1` and `r`, the modules file `m`, and a recording `t` of `s0` and `s1`.
+/// A folder with the file `s`, the scripts `s0`, `s1` and `r`, and the modules file `m`.
 fn folder(alloc: Global, setting: &Setting, script: &[u8]) -> Result<MemStore, Fail>
     ensures unopened { IfOk result (λ store. store.store.opens ≡ 0) }
 {
     let mut store = MemStore::new(alloc, setting.piece.max(1));
-    store.fail_at(setting.failing_store_call)?;
     store.add("s", script)?;
     store.add("s0", b"a 1 40 500 400\nf 1\n")?;
     store.add("s1", b"a 1 8 400\n")?;
     store.add("r", b"a 1 10 1\nr 1 20 1\nr 1 20 2\n")?;
     store.add("m", MODULES.as_bytes())?;
-    store.add("t", TRACE.as_bytes())?;
+    store.fail_at(setting.failing_store_call)?;
     Ok(store)
 }
 
@@ -112,7 +98,7 @@ fn put_run(out: &MemSink, err: &MemSink, status: u8, all: &mut Vec<u8>) -> Resul
 }
 
 /// Runs the words and appends what both outputs got and the status in brackets. The folder has the file `s`, the scripts `s0`,
-/// `s1` and `r`, the modules file `m`, and a recording `t` of `s0` and `s1`.
+/// `s1` and `r`, and the modules file `m`.
 pub fn append_run<R: Threads + Wait + Sync, G: Gate + Sync>(
     rt: &R,
     alloc: Global,
