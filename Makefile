@@ -16,11 +16,12 @@ SHARE = $(DESTDIR)$(PREFIX)/share
 demo: build
 	bin/heapsuite summary examples/two-sizes.trace
 
-# Proves all crates side by side, and builds bin/heapsuite and bin/heaprec over what was proved. All but two crates wait for
-# hp_num, so that it is proved first, by all processors.
+# Proves what the two programs stand on side by side, and builds bin/heapsuite and bin/heaprec over it. All but two crates wait
+# for hp_num, so that it is proved first, by all processors; then comes the program with the longest chain of crates below it.
 build:
 	cd crates/hp_num && rt lib --jobs $(JOBS)
-	rt all check --jobs $(JOBS)
+	cd crates/heapsuite && rt all check --jobs $(JOBS)
+	cd crates/heaprec && rt all check --jobs $(JOBS)
 	cd crates/heapsuite && rt run -- summary ../../examples/two-sizes.trace > /dev/null
 	cd crates/heaprec && rt run -- data/s > /dev/null
 	mkdir -p bin

@@ -7,7 +7,7 @@ use Rattle.std.specs.Io.KnownBytes.{prepend_known}
 use Rattle.hp_outside.specs.LineReaderState.{LineReaderState}
 use Rattle.hp_outside.specs.Lines.{after_line, first_line, lines_of}
 use Rattle.hp_outside.specs.WholeLines.{IsLineText, text_of_lines}
-use Rattle.command_frame.specs.Batch.{AreSilent, HasTakenFront, HasTakenKept, IsShortLine}
+use Rattle.command_frame.specs.Batch.{AreGood, HasGivenFront, HasTakenFront, HasTakenKept, IsShortLine}
 use Rattle.command_frame.specs.FirstFault.{Bounds, bytes_of_lines}
 use Rattle.command_frame.specs.LinesRun.{Gained}
 use Rattle.command_frame.specs.Report.{Report, gains_from, written}
@@ -16,19 +16,34 @@ use Rattle.command_frame.proofs.LineLemmas.{after_before, first_before, lines_of
 use Rattle.command_frame.proofs.LinesLoop.{Reading, ToldReading, left_behind, told_more}
 
 -- nothing was taken
-pub nothing_taken : (report : Report) (has : List (List ℕ) → Type 0) (ready : List ℕ) → HasTakenFront report has has ready 0 0
-nothing_taken report has ready = record {
+pub nothing_taken : {output : List ℕ} (report : Report) (has : List (List ℕ) → Type 0) (ready : List ℕ) → HasGivenFront report has has ready 0 0 output output
+nothing_taken {output} report has ready = record {
   lines = [];
   texts = All-nil IsLineText;
   short = All-nil IsShortLine;
   text = refl;
   count = refl;
-  silent = λ earlier old. tt;
+  good = λ earlier old. tt;
+  gained = λ earlier old. sym (append-nil output);
   taken = λ earlier old. subst has (sym (append-nil earlier)) old;
 }
 
+-- lines that give nothing leave any output as it was
+pub gives_no_more : {output : List ℕ} (report : Report) (old new : List (List ℕ) → Type 0) (ready : List ℕ) (bytes number : ℕ) → HasTakenFront report old new ready bytes number
+    → HasGivenFront report old new ready bytes number output output
+gives_no_more {output} report old new ready bytes number front = record {
+  lines = front.lines;
+  texts = front.texts;
+  short = front.short;
+  text = front.text;
+  count = front.count;
+  good = front.good;
+  gained = λ earlier has. sym (append-nil output) ∙ ap (λ l. output ++ l) (front.gained earlier has);
+  taken = front.taken;
+}
+
 -- where nothing is kept that may be taken, nothing was taken of it
-pub nothing_kept : (report : Report) (has : List (List ℕ) → Type 0) (reader : LineReaderState) → reader.passed ≤ reader.input → HasTakenKept report has has reader reader
+pub nothing_kept : {output : List ℕ} (report : Report) (has : List (List ℕ) → Type 0) (reader : LineReaderState) → reader.passed ≤ reader.input → HasTakenKept report has has reader reader output output
 nothing_kept report has reader within = record {
   bytes = 0;
   lines = 0;
@@ -99,40 +114,41 @@ told_line bounds report reader bytes taken left line more told kept text short w
 
 -- all of them were taken
 told_batch : (bounds : Bounds) (report : Report) (reader : LineReaderState) (bytes : List ℕ) (taken lines : List (List ℕ)) (left : Option (List ℕ)) (more : List ℕ) → ToldReading bounds report reader bytes taken left
-    → reader.kept ≡ text_of_lines lines ++ more → All IsLineText lines → All IsShortLine lines → (0 < length (text_of_lines lines) → 16 ≤ bounds.line)
-    → reader.passed + length (text_of_lines lines) ≤ bounds.input → AreSilent report taken lines
+    → reader.kept ≡ text_of_lines lines ++ more → All IsLineText lines → All IsShortLine lines → (0 < length (text_of_lines lines) → 64 ≤ bounds.line)
+    → reader.passed + length (text_of_lines lines) ≤ bounds.input → AreGood report taken lines
     → ToldReading bounds report (moved reader (reader.passed + length (text_of_lines lines)) more) bytes (taken ++ lines) left
-told_batch bounds report reader bytes taken [] left more told kept texts short long within silent =
+told_batch bounds report reader bytes taken [] left more told kept texts short long within good =
     told_as bounds report reader (moved reader (reader.passed + 0) more) bytes taken (taken ++ []) left told kept (omega arith) refl (sym (append-nil taken))
-told_batch bounds report reader bytes taken (line ∷ lines) left more told kept texts short long within silent =
+told_batch bounds report reader bytes taken (line ∷ lines) left more told kept texts short long within good =
     let size : length (text_of_lines (line ∷ lines)) ≡ length line + 1 + length (text_of_lines lines) = length-append line (10 ∷ text_of_lines lines) ∙ omega arith in
-    let few : length line < 16 = All-head IsShortLine line lines short in
-    let line_bound : 16 ≤ bounds.line = long (omega (arith, size)) in
+    let few : length line < 64 = All-head IsShortLine line lines short in
+    let line_bound : 64 ≤ bounds.line = long (omega (arith, size)) in
     let next : LineReaderState = moved reader (reader.passed + length line + 1) (text_of_lines lines ++ more) in
     let one : ToldReading bounds report next bytes (taken ++ line ∷ []) left =
     told_line bounds report reader bytes taken left line (text_of_lines lines ++ more) told (kept ∙ append_assoc line (10 ∷ text_of_lines lines) more)
-    (All-head IsLineText line lines texts) (omega (arith, few, line_bound)) (omega (arith, size, within)) silent.0 in
+    (All-head IsLineText line lines texts) (omega (arith, few, line_bound)) (omega (arith, size, within)) good.0 in
     told_as bounds report (moved next (next.passed + length (text_of_lines lines)) more) (moved reader (reader.passed + length (text_of_lines (line ∷ lines))) more) bytes
     ((taken ++ line ∷ []) ++ lines) (taken ++ line ∷ lines) left
     (told_batch bounds report next bytes (taken ++ line ∷ []) lines left more one refl (All-tail IsLineText line lines texts) (All-tail IsShortLine line lines short)
-    (λ some. line_bound) (omega (arith, size, within)) silent.2)
+    (λ some. line_bound) (omega (arith, size, within)) good.1)
     refl (omega (arith, size)) refl (append_assoc taken (line ∷ []) lines)
 
--- they give nothing
-silent_gains : (report : Report) (earlier lines : List (List ℕ)) → AreSilent report earlier lines → gains_from report earlier lines ≡ []
-silent_gains report earlier [] silent = refl
-silent_gains report earlier (line ∷ lines) silent = ap₂ (λ first rest. first ++ rest) silent.1 (silent_gains report (earlier ++ line ∷ []) lines silent.2)
-
-silent_written : (report : Report) (taken lines : List (List ℕ)) → AreSilent report taken lines → written report (taken ++ lines) ≡ written report taken
-silent_written report taken lines silent =
-    gains_append report [] taken lines ∙ (ap (λ more. written report taken ++ more) (silent_gains report taken lines silent) ∙ append-nil (written report taken))
+-- what they give is kept back
+gained_batch : (report : Report) (taken lines : List (List ℕ)) (old now : Option (List ℕ)) (kept_back after : List ℕ) → Gained old now kept_back (written report taken)
+    → after ≡ kept_back ++ gains_from report taken lines → Gained old now after (written report (taken ++ lines))
+gained_batch report taken lines old now kept_back after before more = record {
+  early = before.early;
+  written = before.written;
+  all = ap (λ l. before.early ++ l) more ∙ (sym (append_assoc before.early kept_back (gains_from report taken lines))
+      ∙ (ap (λ l. l ++ gains_from report taken lines) before.all ∙ sym (gains_append report [] taken lines)));
+}
 
 -- the lines that were taken at once, behind those before
-pub read_batch : (bounds : Bounds) (report : Report) (has new_has : List (List ℕ) → Type 0) (reader next : LineReaderState) (start left old now : Option (List ℕ)) (kept_back : List ℕ) → Reading bounds report has reader start left old now kept_back
-    → reader.input ≡ bounds.input → reader.line_limit ≡ bounds.line → HasTakenKept report has new_has reader next → Reading bounds report new_has next start left old now kept_back
-read_batch bounds report has new_has reader next start left old now kept_back before input line_limit more =
+pub read_batch : (bounds : Bounds) (report : Report) (has new_has : List (List ℕ) → Type 0) (reader next : LineReaderState) (start left old now : Option (List ℕ)) (kept_back after : List ℕ) → Reading bounds report has reader start left old now kept_back
+    → reader.input ≡ bounds.input → reader.line_limit ≡ bounds.line → HasTakenKept report has new_has reader next kept_back after → Reading bounds report new_has next start left old now after
+read_batch bounds report has new_has reader next start left old now kept_back after before input line_limit more =
     let front = more.front in
-    let silent : AreSilent report before.taken front.lines = front.silent before.taken before.has_taken in
+    let good : AreGood report before.taken front.lines = front.good before.taken before.has_taken in
     let text : reader.kept ≡ text_of_lines front.lines ++ next.kept =
     sym (take-append-drop more.bytes reader.kept) ∙ (ap (λ l. l ++ drop more.bytes reader.kept) front.text ∙ ap (λ l. text_of_lines front.lines ++ l) (sym more.kept)) in
     let size : length (text_of_lines front.lines) ≡ more.bytes = ap length (sym front.text) ∙ (length-take more.bytes reader.kept ∙ omega (arith, more.held)) in
@@ -143,7 +159,7 @@ read_batch bounds report has new_has reader next start left old now kept_back be
       told = λ bytes known.
           told_as bounds report (moved reader (reader.passed + length (text_of_lines front.lines)) next.kept) next bytes (before.taken ++ front.lines) (before.taken ++ front.lines) left
           (told_batch bounds report reader bytes before.taken front.lines left next.kept (before.told bytes known) text front.texts front.short
-          (λ some. omega (arith, more.short (omega (arith, some, size)), line_limit)) (omega (arith, size, more.within, input)) silent)
+          (λ some. omega (arith, more.short (omega (arith, some, size)), line_limit)) (omega (arith, size, more.within, input)) good)
           refl (omega (arith, size, more.passed)) (sym more.line_ended) refl;
-      gained = subst (λ bytes. Gained old now kept_back bytes) (sym (silent_written report before.taken front.lines silent)) before.gained;
+      gained = gained_batch report before.taken front.lines old now kept_back after before.gained (front.gained before.taken before.has_taken);
     }

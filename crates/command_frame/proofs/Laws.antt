@@ -1,5 +1,5 @@
 -- The laws on what the contracts speak of, for the crates above. All else here is private.
-pub use Rattle.command_frame.proofs.BatchLemmas.{nothing_taken}
+pub use Rattle.command_frame.proofs.BatchLemmas.{gives_no_more, nothing_taken}
 pub use Rattle.command_frame.proofs.EndedLemmas.{ended_text, text_ended}
 pub use Rattle.command_frame.proofs.EndsLemmas.{TaskEnded, defined_by, front_by, gives_as, is_delivered, judged_by, run_ends, silent_by, task_quiet, told_by, wrote}
 pub use Rattle.command_frame.proofs.FaultLemmas.{bytes_of_lines-push}

@@ -52,7 +52,8 @@ unread_answer texts name = refused (at_file texts name (line_text reading.ReadFa
 
 -- the answer at a fault of a line, and at one of a whole file
 abbrev pub line_answer : Texts → List ℕ → ℕ → Told → Answer
-line_answer texts name number told = refused (at_line texts name number told.text) (code_of told.status)
+line_answer texts name number told = refused (at_line texts name number told.text)
+    (code_of told.status)
 
 abbrev pub file_answer : Texts → List ℕ → Told → Answer
 file_answer texts name told = refused (at_file texts name told.text) (code_of told.status)
@@ -65,14 +66,17 @@ verdict_answer texts last (Refuses told) = file_answer texts last told
 -- the answer to a file with these lines: at its refusal, the lines before the refused one have given their bytes
 abbrev pub lines_answer : Texts → List ℕ → Report → List (List ℕ) → Option Refusal → Answer → Answer
 lines_answer texts name report lines (Some refusal) rest =
-    after (written report (take (refusal.number - 1) lines)) (line_answer texts name refusal.number refusal.told)
+    after (written report (take (refusal.number - 1) lines))
+    (line_answer texts name refusal.number refusal.told)
 lines_answer texts name report lines None rest = after (written report lines) rest
 
 -- the answer to a named file, which the folder may lack
-abbrev pub named_answer : Texts → Bounds → List ℕ → Report → Option (List ℕ) → (List (List ℕ) → Answer) → Answer
+abbrev pub named_answer : Texts → Bounds → List ℕ → Report → Option (List ℕ)
+    → (List (List ℕ) → Answer) → Answer
 named_answer texts bounds name report None rest = absent_answer texts name
 named_answer texts bounds name report (Some bytes) rest =
-    lines_answer texts name report (lines_of bytes) (file_fault bounds report bytes) (rest (lines_of bytes))
+    lines_answer texts name report (lines_of bytes) (file_fault bounds report bytes)
+    (rest (lines_of bytes))
 
 -- the answer to a file that is read whole: at its fault, nothing is made of its bytes
 abbrev pub whole_answer : Texts → List ℕ → Option Told → Answer → Answer
@@ -82,13 +86,16 @@ whole_answer texts name None rest = rest
 -- the answer to a named document, which the folder may lack
 abbrev pub document_answer : Texts → Bounds → List ℕ → Option (List ℕ) → (List ℕ → Answer) → Answer
 document_answer texts bounds name None rest = absent_answer texts name
-document_answer texts bounds name (Some bytes) rest = whole_answer texts name (whole_fault bounds bytes) (rest bytes)
+document_answer texts bounds name (Some bytes) rest = whole_answer texts name
+    (whole_fault bounds bytes) (rest bytes)
 
 -- the answer to a plan over a folder of files, of which none may have more bytes, nor longer lines, than the bounds
 abbrev pub plan_answer : Texts → Bounds → Folder → List ℕ → Plan → Answer
 plan_answer texts bounds folder last (Ends verdict) = verdict_answer texts last verdict
 plan_answer texts bounds folder last (Pieces text) = done text
 plan_answer texts bounds folder last (Lines name report next) =
-    named_answer texts bounds name report (file_of folder name) (λ lines. plan_answer texts bounds folder name (next lines))
+    named_answer texts bounds name report (file_of folder name)
+    (λ lines. plan_answer texts bounds folder name (next lines))
 plan_answer texts bounds folder last (Document name next) =
-    document_answer texts bounds name (file_of folder name) (λ bytes. plan_answer texts bounds folder name (next bytes))
+    document_answer texts bounds name (file_of folder name)
+    (λ bytes. plan_answer texts bounds folder name (next bytes))

@@ -41,15 +41,18 @@ EndsWhere bounds None _ = ⊥
 -- than that it is too long only where its end was read
 abbrev pub DocumentCalls : Option Folder → Moment → Moment → DocumentEnd → Type 0
 DocumentCalls files before now Unopened = now ≡ before
-DocumentCalls files before now Absent = Opened before now false × (files ≡ None → Rose before.faults now.faults)
+DocumentCalls files before now Absent = Opened before now false
+    × (files ≡ None → Rose before.faults now.faults)
 DocumentCalls files before now CannotOpen = Opened before now false × Rose before.faults now.faults
 DocumentCalls files before now CannotRead = Opened before now true × Rose before.faults now.faults
 DocumentCalls files before now TooLong = Opened before now true × (now.faults ≡ before.faults)
 DocumentCalls files before now Wanting = now.opens ≡ before.opens + 1
-DocumentCalls files before now (Whole taken) = Opened before now true × (now.faults ≡ before.faults) × WhereTold now.left (λ left. left ≡ [])
+DocumentCalls files before now (Whole taken) = Opened before now true × (now.faults ≡ before.faults)
+    × WhereTold now.left (λ left. left ≡ [])
 
 -- how reading a named file as a whole ended
-pub record DocumentRead (bounds : Bounds) (files : Option Folder) (name : List ℕ) (before now : Moment) (end : DocumentEnd) : Type 0 where
+pub record DocumentRead (bounds : Bounds) (files : Option Folder) (name : List ℕ)
+    (before now : Moment) (end : DocumentEnd) : Type 0 where
   pub told : WhereTold files (λ folder. EndsWhere bounds (file_of folder name) end)
   pub calls : DocumentCalls files before now end
 

@@ -29,7 +29,8 @@ pub data FileEnd : Type 0 where
   Passed : List (List ℕ) → FileEnd
 
 -- lines that stand at the front of the file and have no fault
-pub record GoodFront (bounds : Bounds) (report : Report) (bytes : List ℕ) (taken : List (List ℕ)) : Type 0 where
+pub record GoodFront (bounds : Bounds) (report : Report) (bytes : List ℕ)
+    (taken : List (List ℕ)) : Type 0 where
   pub more : List (List ℕ)
   pub lines_are : lines_of bytes ≡ taken ++ more
   pub no_fault : first_fault 1 (line_faults bounds report (length bytes) [] taken) ≡ None
@@ -37,7 +38,8 @@ pub record GoodFront (bounds : Bounds) (report : Report) (bytes : List ℕ) (tak
 -- a failed read came before any fault: the lines that were taken whole before it, each with its line feed, have none,
 -- and the bytes taken after them, which are kept, show no fault of the next line's length. The lines taken, each with
 -- a line feed, reach to the bytes that are kept, so that the line feed before those isn't left out
-pub record StoppedBefore (bounds : Bounds) (report : Report) (bytes : List ℕ) (left : Option (List ℕ)) (taken : List (List ℕ)) : Type 0 where
+pub record StoppedBefore (bounds : Bounds) (report : Report) (bytes : List ℕ)
+    (left : Option (List ℕ)) (taken : List (List ℕ)) : Type 0 where
   pub kept : List ℕ
   pub unread : List ℕ
   pub left_is : left ≡ Some unread
@@ -47,13 +49,15 @@ pub record StoppedBefore (bounds : Bounds) (report : Report) (bytes : List ℕ) 
   pub undecided : IsUndecided bounds.input bounds.line (length bytes - length (kept ++ unread)) kept
 
 -- a file whose lines before that of the number are these, and whose first fault stands at that line
-pub record RefusedAt (bounds : Bounds) (report : Report) (bytes : List ℕ) (taken : List (List ℕ)) (number : ℕ) (told : Told) : Type 0 where
+pub record RefusedAt (bounds : Bounds) (report : Report) (bytes : List ℕ) (taken : List (List ℕ))
+    (number : ℕ) (told : Told) : Type 0 where
   pub refusal : file_fault bounds report bytes ≡ Some (record { number = number; told = told })
   pub before : taken ≡ take (number - 1) (lines_of bytes)
   pub front : GoodFront bounds report bytes taken
 
 -- a file of these lines without a fault
-pub record PassedWhole (bounds : Bounds) (report : Report) (bytes : List ℕ) (taken : List (List ℕ)) : Type 0 where
+pub record PassedWhole (bounds : Bounds) (report : Report) (bytes : List ℕ)
+    (taken : List (List ℕ)) : Type 0 where
   pub no_fault : file_fault bounds report bytes ≡ None
   pub lines_are : taken ≡ lines_of bytes
 
@@ -63,7 +67,8 @@ EndsAt bounds report bytes left Unopened = Unit {0}
 EndsAt bounds report bytes left Absent = ⊥
 EndsAt bounds report bytes left CannotOpen = Unit {0}
 EndsAt bounds report bytes left (CannotRead taken) = StoppedBefore bounds report bytes left taken
-EndsAt bounds report bytes left (Refused taken number told) = RefusedAt bounds report bytes taken number told
+EndsAt bounds report bytes left (Refused taken number told) = RefusedAt bounds report bytes taken
+    number told
 EndsAt bounds report bytes left (Wanting taken) = GoodFront bounds report bytes taken
 EndsAt bounds report bytes left (Unwritten taken count) = GoodFront bounds report bytes taken
 EndsAt bounds report bytes left (Passed taken) = PassedWhole bounds report bytes taken
@@ -80,16 +85,20 @@ EndsIn bounds report None left _ = ⊥
 -- a call failed
 abbrev pub Calls : Option Folder → Moment → Moment → FileEnd → Type 0
 Calls files before now Unopened = now ≡ before
-Calls files before now Absent = Opened before now false × (files ≡ None → Rose before.faults now.faults)
+Calls files before now Absent = Opened before now false
+    × (files ≡ None → Rose before.faults now.faults)
 Calls files before now CannotOpen = Opened before now false × Rose before.faults now.faults
 Calls files before now (CannotRead taken) = Opened before now true × Rose before.faults now.faults
-Calls files before now (Refused taken number told) = Opened before now true × (now.faults ≡ before.faults)
+Calls files before now (Refused taken number told) = Opened before now true
+    × (now.faults ≡ before.faults)
 Calls files before now (Wanting taken) = now.opens ≡ before.opens + 1
 Calls files before now (Unwritten taken count) = now.opens ≡ before.opens + 1
-Calls files before now (Passed taken) = Opened before now true × (now.faults ≡ before.faults) × WhereTold now.left (λ left. left ≡ [])
+Calls files before now (Passed taken) = Opened before now true × (now.faults ≡ before.faults)
+    × WhereTold now.left (λ left. left ≡ [])
 
 -- how reading a named file by lines ended
-pub record FileRead (bounds : Bounds) (files : Option Folder) (name : List ℕ) (report : Report) (before now : Moment) (end : FileEnd) : Type 0 where
+pub record FileRead (bounds : Bounds) (files : Option Folder) (name : List ℕ) (report : Report)
+    (before now : Moment) (end : FileEnd) : Type 0 where
   pub told : WhereTold files (λ folder. EndsIn bounds report (file_of folder name) now.left end)
   pub calls : Calls files before now end
 

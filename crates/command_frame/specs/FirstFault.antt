@@ -33,20 +33,24 @@ bytes_of_lines lines = sum_by (λ line. length line + 1) lines
 -- and the line with its line feed doesn't end within them
 abbrev pub length_fault : Bounds → ℕ → ℕ → ℕ → Option Told
 length_fault bounds total before line =
-    if nat_lt bounds.line line && nat_le (before + bounds.line + 1) bounds.input then Some line_too_long
-    else if nat_lt bounds.input total && nat_le bounds.input (before + line) then Some input_too_long
+    if nat_lt bounds.line line && nat_le (before + bounds.line + 1) bounds.input
+    then Some line_too_long
+    else if nat_lt bounds.input total && nat_le bounds.input (before + line)
+    then Some input_too_long
     else None
 
 -- the fault of a line after earlier lines, in a file of so many bytes, if it has one: the length is judged first
 abbrev pub line_fault : Bounds → Report → ℕ → List (List ℕ) → List ℕ → Option Told
 line_fault bounds report total earlier line =
-    option_or (length_fault bounds total (bytes_of_lines earlier) (length line)) (report.line_fault earlier line)
+    option_or (length_fault bounds total (bytes_of_lines earlier) (length line))
+    (report.line_fault earlier line)
 
 -- the fault of each line after those before it
 abbrev pub line_faults : Bounds → Report → ℕ → List (List ℕ) → List (List ℕ) → List (Option Told)
 line_faults bounds report total earlier [] = []
 line_faults bounds report total earlier (line ∷ lines) =
-    line_fault bounds report total earlier line ∷ line_faults bounds report total (earlier ++ line ∷ []) lines
+    line_fault bounds report total earlier line
+    ∷ line_faults bounds report total (earlier ++ line ∷ []) lines
 
 -- a fault at the line of a number, from 1
 pub record Refusal : Type 0 where
@@ -66,12 +70,14 @@ is_ended total lines = nat_le (bytes_of_lines lines) total
 -- the fault of the end of a file of so many bytes with these lines, which stands at the line after the last
 abbrev pub end_refusal : Report → ℕ → List (List ℕ) → Option Refusal
 end_refusal report total lines =
-    option_map (λ told. record { number = length lines + 1; told = told }) (report.end_fault lines (is_ended total lines))
+    option_map (λ told. record { number = length lines + 1; told = told })
+    (report.end_fault lines (is_ended total lines))
 
 -- the refusal of a file of so many bytes with these lines: that of its first faulty line, or of its end
 abbrev pub refusal_of_lines : Bounds → Report → ℕ → List (List ℕ) → Option Refusal
 refusal_of_lines bounds report total lines =
-    option_or (first_fault 1 (line_faults bounds report total [] lines)) (end_refusal report total lines)
+    option_or (first_fault 1 (line_faults bounds report total [] lines))
+    (end_refusal report total lines)
 
 -- the refusal of a file of these bytes, if it has a fault
 abbrev pub file_fault : Bounds → Report → List ℕ → Option Refusal

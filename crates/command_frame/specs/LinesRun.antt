@@ -19,7 +19,8 @@ told_of told InputTooLong = input_too_long
 told_of told (Taker fault) = told fault
 
 -- the end that a result is, with the lines that were taken and, where a write failed, with the number of bytes written
-abbrev pub end_of : {F : Type 0} → (F → Told) → Result (Unit {0}) (LinesStop F) → List (List ℕ) → ℕ → FileEnd
+abbrev pub end_of : {F : Type 0} → (F → Told) → Result (Unit {0}) (LinesStop F) → List (List ℕ) → ℕ
+    → FileEnd
 end_of told (Ok all) taken count = Passed taken
 end_of told (Err (AtLine number fault)) taken count = Refused taken number (told_of told fault)
 end_of told (Err ReadFailed) taken count = CannotRead taken
@@ -33,7 +34,8 @@ pub record Gained (old now : Option (List ℕ)) (kept_back bytes : List ℕ) : T
   pub all : early ++ kept_back ≡ bytes
 
 -- how taking lines ended: what the end says of the file, and what the output has gained
-pub record LinesRun (bounds : Bounds) (report : Report) (start left old now : Option (List ℕ)) (kept_back : List ℕ) (end : FileEnd) : Type 0 where
+pub record LinesRun (bounds : Bounds) (report : Report) (start left old now : Option (List ℕ))
+    (kept_back : List ℕ) (end : FileEnd) : Type 0 where
   pub told : WhereTold start (λ bytes. EndsAt bounds report bytes left end)
   pub gained : Gained old now kept_back (end_output report end)
 

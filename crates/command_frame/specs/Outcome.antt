@@ -14,7 +14,8 @@ use Rattle.command_frame.specs.DocumentRead as document
 
 -- a moment of a store
 abbrev pub moment : ℕ → Bool → Option (List ℕ) → ℕ → Moment
-moment opens current left faults = record { opens = opens; current = current; left = left; faults = faults }
+moment opens current left faults
+    = record { opens = opens; current = current; left = left; faults = faults }
 
 -- a file that wasn't opened
 abbrev pub end_of_open : OpenFault → FileEnd
@@ -39,9 +40,11 @@ IsStop (Passed taken) = ⊥
 IsStop _ = Unit {0}
 
 -- the result of reading a file that ended so
-abbrev pub HaltsAt : Texts → List ℕ → (List (List ℕ) → Type 0) → FileEnd → Result (Unit {0}) Halt → Type 0
+abbrev pub HaltsAt : Texts → List ℕ → (List (List ℕ) → Type 0) → FileEnd → Result (Unit {0}) Halt
+    → Type 0
 HaltsAt texts name has end (Ok all) = (taken : List (List ℕ)) × ((end ≡ Passed taken) × has taken)
-HaltsAt texts name has end (Err halt) = IsStop end × (halt_answer texts halt ≡ end_answer texts name end)
+HaltsAt texts name has end (Err halt) = IsStop end
+    × (halt_answer texts halt ≡ end_answer texts name end)
 
 -- a document's bytes weren't given
 abbrev pub IsUnread : DocumentEnd → Type 0
@@ -52,4 +55,5 @@ IsUnread _ = Unit {0}
 -- the result of reading a document that ended so
 abbrev pub GivesWhole : Texts → List ℕ → DocumentEnd → Result (List ℕ) Halt → Type 0
 GivesWhole texts name end (Ok bytes) = end ≡ document.Whole bytes
-GivesWhole texts name end (Err halt) = IsUnread end × (halt_answer texts halt ≡ document_end_answer texts name end)
+GivesWhole texts name end (Err halt) = IsUnread end
+    × (halt_answer texts halt ≡ document_end_answer texts name end)

@@ -12,7 +12,8 @@ pub record Outside : Type 0 where
   pub out : Taken
   pub err : Taken
 
-abbrev pub outside : {S O E : Type 0} → store.Ghosts S → sink.Ghosts O → sink.Ghosts E → S → O → E → Outside
+abbrev pub outside : {S O E : Type 0} → store.Ghosts S → sink.Ghosts O → sink.Ghosts E → S → O → E
+    → Outside
 outside s o e store out err = record { store = shown s store; out = taken o out; err = taken e err }
 
 -- a call failed

@@ -20,7 +20,8 @@ pub record Report : Type 0 where
 -- the bytes that lines after earlier lines give
 abbrev pub gains_from : Report → List (List ℕ) → List (List ℕ) → List ℕ
 gains_from report earlier [] = []
-gains_from report earlier (line ∷ lines) = report.gains earlier line ++ gains_from report (earlier ++ line ∷ []) lines
+gains_from report earlier (line ∷ lines) = report.gains earlier line
+    ++ gains_from report (earlier ++ line ∷ []) lines
 
 -- the bytes that lines give
 abbrev pub written : Report → List (List ℕ) → List ℕ

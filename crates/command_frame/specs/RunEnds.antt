@@ -11,7 +11,8 @@ use Rattle.command_frame.specs.Texts.{Texts}
 
 -- an answer was delivered: whole, or at status 4 in part. `write failed` is told only where standard output lacks bytes of it, and
 -- is the answer's own message only where standard output failed
-pub record IsDelivered (texts : Texts) (given : Answer) (status : ℕ) (before now : Outside) : Type 0 where
+pub record IsDelivered (texts : Texts) (given : Answer) (status : ℕ) (before now : Outside) : Type
+    0 where
   pub whole : status ≢ 4 → Gives before now given status
   pub fronts : GainsFronts texts.write_failed given (OutRose before now) (ErrRose before now)
       before.out.written now.out.written before.err.written now.err.written
@@ -26,7 +27,8 @@ pub record IsDelivered (texts : Texts) (given : Answer) (status : ℕ) (before n
   pub err_faults : status ≢ 4 → now.err.faults ≡ before.err.faults
 
 -- what every run promises, of files with these names; the words may not be taken
-pub record RunEnds (texts : Texts) (untaken : Type 0) (names : List (List ℕ)) (before now : Outside) (status : ℕ)
+pub record RunEnds (texts : Texts) (untaken : Type 0) (names : List (List ℕ)) (before now : Outside)
+    (status : ℕ)
     : Type 0 where
   pub statuses : status ≤ 6
   -- Status 0: each file that the words name was opened once, and the last was read to its end.
@@ -45,7 +47,8 @@ pub record RunEnds (texts : Texts) (untaken : Type 0) (names : List (List ℕ)) 
   -- Status 5: the message for it.
   pub no_memory : status ≡ 5 → now.err.written ≡ append_known before.err.written texts.out_of_memory
   -- A call of the store that failed is not passed over in silence.
-  pub store_faults : status ≢ 3 → status ≢ 4 → status ≢ 5 → now.store.moment.faults ≡ before.store.moment.faults
+  pub store_faults : status ≢ 3 → status ≢ 4 → status ≢ 5
+      → now.store.moment.faults ≡ before.store.moment.faults
 
 -- memory was wanting for the words themselves: nothing was read, and that was told
 pub record HasNotBegun (texts : Texts) (before now : Outside) (status : ℕ) : Type 0 where

@@ -15,24 +15,40 @@ use Rattle.command_frame.specs.Moment.{Moment}
 
 -- a call of the store failed or a file is absent: the message names the file that was opened last, which is the one at a place
 -- among those to be read, and says that it can't be read where a file is current
-pub record NotRead (texts : Texts) (files : Option Folder) (names : List (List ℕ)) (before now : Moment) (given : Answer) : Type 0 where
+pub record NotRead (texts : Texts) (files : Option Folder) (names : List (List ℕ))
+    (before now : Moment) (given : Answer) : Type 0 where
   pub place : ℕ
   pub name : List ℕ
   pub named : slice_get names place ≡ Some name
   pub opens : now.opens ≡ before.opens + (place + 1)
-  pub cannot_read : now.current ≡ true → given.message ≡ at_file texts name (line_text reading.ReadFailed)
-  pub no_such_file : WhereTold files (λ folder. file_of folder name ≡ None → given.message ≡ at_file texts name (open_text opening.Absent))
-  pub cannot_open : WhereTold files (λ folder. IsSome (file_of folder name) → now.current ≡ false → given.message ≡ at_file texts name (open_text opening.Failed))
-  pub untold : files ≡ None → now.current ≡ false → (given.message ≡ at_file texts name (open_text opening.Absent)) ⊎ (given.message ≡ at_file texts name (open_text opening.Failed))
-  pub cause_told : WhereTold files (λ folder. IsSome (file_of folder name) → Rose before.faults now.faults)
+  pub cannot_read : now.current ≡ true
+      → given.message ≡ at_file texts name (line_text reading.ReadFailed)
+  pub no_such_file : WhereTold files
+      (λ folder. file_of folder name ≡ None
+      → given.message ≡ at_file texts name (open_text opening.Absent))
+  pub cannot_open : WhereTold files
+      (λ folder. IsSome (file_of folder name) → now.current ≡ false
+      → given.message ≡ at_file texts name (open_text opening.Failed))
+  pub untold : files ≡ None → now.current ≡ false
+      → (given.message ≡ at_file texts name (open_text opening.Absent))
+      ⊎ (given.message ≡ at_file texts name (open_text opening.Failed))
+  pub cause_told : WhereTold files
+      (λ folder. IsSome (file_of folder name) → Rose before.faults now.faults)
   pub cause_untold : files ≡ None → Rose before.faults now.faults
 
-pub record RunFacts (texts : Texts) (bounds : Bounds) (files : Option Folder) (last : List ℕ) (names : List (List ℕ)) (plan : Plan) (before now : Moment) (given : Answer) : Type 0 where
+pub record RunFacts (texts : Texts) (bounds : Bounds) (files : Option Folder) (last : List ℕ)
+    (names : List (List ℕ)) (plan : Plan) (before now : Moment) (given : Answer) : Type 0 where
   -- the answer is the plan's, unless the store failed, a write failed or memory was wanting
-  pub judged : WhereTold files (λ folder. given.status ≢ 3 → given.status ≢ 4 → given.status ≢ 5 → given ≡ plan_answer texts bounds folder last plan)
-  pub quiet : WhereTold files (λ folder. ¬ Rose before.faults now.faults → given.status ≢ 4 → given.status ≢ 5 → given ≡ plan_answer texts bounds folder last plan)
+  pub judged : WhereTold files
+      (λ folder. given.status ≢ 3 → given.status ≢ 4 → given.status ≢ 5
+      → given ≡ plan_answer texts bounds folder last plan)
+  pub quiet : WhereTold files
+      (λ folder. ¬ Rose before.faults now.faults → given.status ≢ 4 → given.status ≢ 5
+      → given ≡ plan_answer texts bounds folder last plan)
   -- whatever failed, the output is a front of the plan's
-  pub front : WhereTold files (λ folder. (count : ℕ) × (given.output ≡ take count (plan_answer texts bounds folder last plan).output))
+  pub front : WhereTold files
+      (λ folder. (count : ℕ)
+      × (given.output ≡ take count (plan_answer texts bounds folder last plan).output))
   -- no file, no call of the store
   pub unread : names ≡ [] → now ≡ before
   pub opens_at_least : before.opens ≤ now.opens

@@ -27,7 +27,12 @@ pub record Shown : Type 0 where
 abbrev pub shown : {S : Type 0} → store.Ghosts S → S → Shown
 shown g s = record {
   files = g.files s;
-  moment = record { opens = g.opens s; current = g.current s; left = g.left s; faults = g.faults s };
+  moment = record {
+    opens = g.opens s;
+    current = g.current s;
+    left = g.left s;
+    faults = g.faults s;
+  };
 }
 
 -- what an output shows
@@ -48,7 +53,8 @@ rest_of texts (Ok rest) = done rest.items
 rest_of texts (Err halt) = halt_answer texts halt
 
 -- a named file was read by lines: how that ended, and that writes failed exactly where the status says so
-pub record ReadsTo (desk : Desk) (name : List ℕ) (report : Report) (has_taken : List (List ℕ) → Type 0)
+pub record ReadsTo (desk : Desk) (name : List ℕ) (report : Report)
+    (has_taken : List (List ℕ) → Type 0)
     (before now : Shown) (old new : Taken) (result : Result (Unit {0}) Halt) : Type 0 where
   pub end : FileEnd
   pub read : FileRead (bounds_of desk.limits) before.files name report before.moment now.moment end
@@ -59,7 +65,8 @@ pub record ReadsTo (desk : Desk) (name : List ℕ) (report : Report) (has_taken 
   pub sound : status_of result ≢ 4 → new.faults ≡ old.faults
 
 -- a named file was read as a whole
-pub record WholeReadTo (desk : Desk) (name : List ℕ) (before now : Shown) (result : Result (List ℕ) Halt)
+pub record WholeReadTo (desk : Desk) (name : List ℕ) (before now : Shown)
+    (result : Result (List ℕ) Halt)
     : Type 0 where
   pub end : DocumentEnd
   pub read : DocumentRead (bounds_of desk.limits) before.files name before.moment now.moment end
@@ -68,9 +75,11 @@ pub record WholeReadTo (desk : Desk) (name : List ℕ) (before now : Shown) (res
   pub no_write : status_of result ≢ 4
 
 -- a plan was run over files of these names, whatever file was read last before it
-pub record RunsTo {Z : Type 0} (desk : Desk) (names : List (List ℕ)) (plan : Plan) (before now : Shown)
+pub record RunsTo {Z : Type 0} (desk : Desk) (names : List (List ℕ)) (plan : Plan)
+    (before now : Shown)
     (old new : Taken) (result : Result (Vec ℕ Z) Halt) : Type 0 where
-  pub ran : (last : List ℕ) → RanTo (texts_of desk.texts) (bounds_of desk.limits) before.files last names plan
+  pub ran : (last : List ℕ)
+      → RanTo (texts_of desk.texts) (bounds_of desk.limits) before.files last names plan
       before.moment now.moment old.written new.written (rest_of (texts_of desk.texts) result)
   pub files : now.files ≡ before.files
   pub unwritten : status_of result ≡ 4 → Rose old.faults new.faults
@@ -80,10 +89,13 @@ pub record RunsTo {Z : Type 0} (desk : Desk) (names : List (List ℕ)) (plan : P
 abbrev pub Reads : {S O : Type 0} → store.Ghosts S → sink.Ghosts O → Desk → List ℕ → Report
     → (List (List ℕ) → Type 0) → S → S → O → O → Result (Unit {0}) Halt → Type 0
 Reads s o desk name report has_taken before now old new result =
-    ReadsTo desk name report has_taken (shown s before) (shown s now) (taken o old) (taken o new) result
+    ReadsTo desk name report has_taken (shown s before) (shown s now) (taken o old) (taken o new)
+    result
 
-abbrev pub ReadsWhole : {S : Type 0} → store.Ghosts S → Desk → List ℕ → S → S → Result (List ℕ) Halt → Type 0
-ReadsWhole s desk name before now result = WholeReadTo desk name (shown s before) (shown s now) result
+abbrev pub ReadsWhole : {S : Type 0} → store.Ghosts S → Desk → List ℕ → S → S → Result (List ℕ) Halt
+    → Type 0
+ReadsWhole s desk name before now result = WholeReadTo desk name (shown s before) (shown s now)
+    result
 
 abbrev pub Runs : {S O Z : Type 0} → store.Ghosts S → sink.Ghosts O → Desk → List (List ℕ) → Plan
     → S → S → O → O → Result (Vec ℕ Z) Halt → Type 0

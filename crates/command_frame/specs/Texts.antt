@@ -21,9 +21,11 @@ texts_of texts = record {
 
 -- a fault of a file
 abbrev pub at_file : Texts → List ℕ → List ℕ → List ℕ
-at_file texts file fault = texts.name ++ (codes ": " ++ (file ++ (codes ": " ++ (fault ++ codes "\n"))))
+at_file texts file fault = texts.name
+    ++ (codes ": " ++ (file ++ (codes ": " ++ (fault ++ codes "\n"))))
 
 -- a fault at a line of a file, the lines being numbered from 1
 abbrev pub at_line : Texts → List ℕ → ℕ → List ℕ → List ℕ
 at_line texts file number fault =
-    texts.name ++ (codes ": " ++ (file ++ (codes ":" ++ (decimal number ++ (codes ": " ++ (fault ++ codes "\n"))))))
+    texts.name ++ (codes ": "
+    ++ (file ++ (codes ":" ++ (decimal number ++ (codes ": " ++ (fault ++ codes "\n"))))))

@@ -12,19 +12,23 @@ use Rattle.command_frame.specs.Task.{Task}
 use Rattle.command_frame.specs.Texts.{Texts}
 
 -- a run of what was asked for, or of words that aren't taken
-abbrev pub TaskRan : Texts → Bounds → Option Folder → Option Task → Moment → Moment → Answer → Type 0
+abbrev pub TaskRan : Texts → Bounds → Option Folder → Option Task → Moment → Moment → Answer
+    → Type 0
 TaskRan texts bounds files None before now given = (now ≡ before) × (given ≡ usage_answer texts)
 TaskRan texts bounds files (Some task) before now given =
     Ran texts bounds files [] task.names task.plan before now given
 
 -- the same, or memory was wanting for reading the words
-abbrev pub WordsRan : Texts → Bounds → Option Folder → Option Task → Moment → Moment → Answer → Type 0
+abbrev pub WordsRan : Texts → Bounds → Option Folder → Option Task → Moment → Moment → Answer
+    → Type 0
 WordsRan texts bounds files task before now given =
-    ((now ≡ before) × (given ≡ memory_answer texts)) ⊎ TaskRan texts bounds files task before now given
+    ((now ≡ before) × (given ≡ memory_answer texts))
+    ⊎ TaskRan texts bounds files task before now given
 
 -- the same, of what the store and the output show: some bytes were written early, and an answer is yet to be delivered
 -- behind them
-pub record WordsRunTo (texts : Texts) (bounds : Bounds) (task : Option Task) (before now : Shown) (old new : Taken)
+pub record WordsRunTo (texts : Texts) (bounds : Bounds) (task : Option Task) (before now : Shown)
+    (old new : Taken)
     (answer : Answer) : Type 0 where
   pub early : List ℕ
   pub written : new.written ≡ append_known old.written early

@@ -54,7 +54,8 @@ pub fn deliver<O: Sink, E: Sink>(
     out: &mut O,
     err: &mut E,
 ) -> u8
-    ensures { Delivers O.Sink E.Sink texts.now.write_failed.now (outcome_answer (texts_of texts.now) outcome.now)
+    ensures { Delivers O.Sink E.Sink texts.now.write_failed.now
+        (outcome_answer (texts_of texts.now) outcome.now)
         result out.old out.new err.old err.new }
 {
     match &outcome.halt {
@@ -82,11 +83,18 @@ fn deliver_parts<O: Sink, E: Sink>(
     out: &mut O,
     err: &mut E,
 ) -> u8
-    ensures status { result ≢ 4 → Delivered (record { output = rest.now; message = message.now; status = status }) result (O.written out.old) (O.written out.new) (E.written err.old) (E.written err.new) }
-    ensures fronts { GainsFronts write_failed.now (record { output = rest.now; message = message.now; status = status }) (Rose (O.faults out.old) (O.faults out.new)) (Rose (E.faults err.old) (E.faults err.new))
+    ensures status { result ≢ 4
+        → Delivered (record { output = rest.now; message = message.now; status = status }) result
         (O.written out.old) (O.written out.new) (E.written err.old) (E.written err.new) }
-    ensures own_message { (bytes : List ℕ) → O.written out.old ≡ Some bytes → O.written out.new ≡ append_known (O.written out.old) rest.now → GainsFront (E.written err.old) (E.written err.new) message.now }
-    ensures cause { result ≡ 4 → status ≢ 4 → ¬ Rose (O.faults out.old) (O.faults out.new) → Rose (E.faults err.old) (E.faults err.new) }
+    ensures fronts { GainsFronts write_failed.now
+        (record { output = rest.now; message = message.now; status = status })
+        (Rose (O.faults out.old) (O.faults out.new)) (Rose (E.faults err.old) (E.faults err.new))
+        (O.written out.old) (O.written out.new) (E.written err.old) (E.written err.new) }
+    ensures own_message { (bytes : List ℕ) → O.written out.old ≡ Some bytes
+        → O.written out.new ≡ append_known (O.written out.old) rest.now
+        → GainsFront (E.written err.old) (E.written err.new) message.now }
+    ensures cause { result ≡ 4 → status ≢ 4 → ¬ Rose (O.faults out.old) (O.faults out.new)
+        → Rose (E.faults err.old) (E.faults err.new) }
     ensures given { status ≡ 4 → result ≡ 4 }
     ensures out_sound { result ≢ 4 → O.faults out.new ≡ O.faults out.old }
     ensures err_sound { result ≢ 4 → E.faults err.new ≡ E.faults err.old }
@@ -111,15 +119,23 @@ fn write_both<O: Sink, E: Sink>(
     err: &mut E,
 ) -> Result<(), Failed>
     ensures output { OnOk result (O.written out.new ≡ append_known (O.written out.old) rest.now) }
-    ensures message { OnOk result (E.written err.new ≡ append_known (E.written err.old) message.now) }
-    ensures fronts { (status : ℕ) → GainsFronts write_failed.now (record { output = rest.now; message = message.now; status = status }) (Rose (O.faults out.old) (O.faults out.new)) (Rose (E.faults err.old) (E.faults err.new))
+    ensures message { OnOk result
+        (E.written err.new ≡ append_known (E.written err.old) message.now) }
+    ensures fronts { (status : ℕ)
+        → GainsFronts write_failed.now
+        (record { output = rest.now; message = message.now; status = status })
+        (Rose (O.faults out.old) (O.faults out.new)) (Rose (E.faults err.old) (E.faults err.new))
         (O.written out.old) (O.written out.new) (E.written err.old) (E.written err.new) }
     ensures out_faults { O.faults out.old ≤ O.faults out.new }
     ensures err_faults { E.faults err.old ≤ E.faults err.new }
     ensures out_sound { OnOk result (O.faults out.new ≡ O.faults out.old) }
     ensures err_sound { OnOk result (E.faults err.new ≡ E.faults err.old) }
-    ensures own_message { (bytes : List ℕ) → O.written out.old ≡ Some bytes → O.written out.new ≡ append_known (O.written out.old) rest.now → GainsFront (E.written err.old) (E.written err.new) message.now }
-    ensures cause { OnErr result (¬ Rose (O.faults out.old) (O.faults out.new) → Rose (E.faults err.old) (E.faults err.new)) }
+    ensures own_message { (bytes : List ℕ) → O.written out.old ≡ Some bytes
+        → O.written out.new ≡ append_known (O.written out.old) rest.now
+        → GainsFront (E.written err.old) (E.written err.new) message.now }
+    ensures cause { OnErr result
+        (¬ Rose (O.faults out.old) (O.faults out.new)
+        → Rose (E.faults err.old) (E.faults err.new)) }
 {
     match write_whole(out, rest) {
         Ok(()) => write_whole(err, message),

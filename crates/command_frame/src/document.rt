@@ -29,7 +29,8 @@ pub trait DocumentReport {
     fn report(&self, alloc: Global, bytes: &[u8]) -> Result<Vec<u8>, LineRefusal<Self::Fault>>
         requires { length bytes.now ≤ 2 ^ 34 }
         ensures output { IfOk result (λ output. verdict self.now bytes.now ≡ Writes output.items) }
-        ensures fault { IfErr result (λ refusal. Refuses Self.Fault.told refusal (verdict self.now bytes.now)) };
+        ensures fault { IfErr result
+            (λ refusal. Refuses Self.Fault.told refusal (verdict self.now bytes.now)) };
 }
 
 /// The file has more bytes than the limit.
@@ -52,8 +53,11 @@ impl Fault for TooLong {
 
 /// The halt where the bytes of an open file weren't given.
 fn unread(desk: &Desk, name: &str, fault: WholeFault) -> Halt
-    ensures answer { status_code result.status ≢ 5 → halt_answer (texts_of desk.now.texts) result ≡ document_end_answer (texts_of desk.now.texts) name.now (end_of_whole fault) }
-    ensures memory { status_code result.status ≡ 5 → halt_answer (texts_of desk.now.texts) result ≡ memory_answer (texts_of desk.now.texts) }
+    ensures answer { status_code result.status ≢ 5
+        → halt_answer (texts_of desk.now.texts) result
+        ≡ document_end_answer (texts_of desk.now.texts) name.now (end_of_whole fault) }
+    ensures memory { status_code result.status ≡ 5
+        → halt_answer (texts_of desk.now.texts) result ≡ memory_answer (texts_of desk.now.texts) }
     ensures write { status_code result.status ≢ 4 }
 {
     match fault {

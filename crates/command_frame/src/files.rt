@@ -33,17 +33,24 @@ fn read_current_file<T: LineTaker, S: Store, O: Sink>(
     requires sound { T.is_sound taker.old }
     requires new_taker { T.has_taken taker.old [] }
     requires no_weight { T.weight taker.old ≡ 0 }
-    ensures run { (taken : List (List ℕ)) × ((count : ℕ) × (LinesRun (record { input = lines.old.input; line = lines.old.line_limit }) (T.report taker.old) (S.left store.old) (S.left store.new)
-        (O.written out.old) (O.written out.new) [] (end_of T.Fault.told result taken count) × OnOk result (T.has_taken taker.new taken))) }
+    ensures run { (taken : List (List ℕ))
+        × ((count : ℕ) × (LinesRun (record { input = lines.old.input; line = lines.old.line_limit })
+        (T.report taker.old) (S.left store.old) (S.left store.new)
+        (O.written out.old) (O.written out.new) [] (end_of T.Fault.told result taken count)
+        × OnOk result (T.has_taken taker.new taken))) }
     ensures input { lines.new.input ≡ lines.old.input }
     ensures line { lines.new.line_limit ≡ lines.old.line_limit }
     ensures report { T.report taker.new ≡ T.report taker.old }
     ensures sound_taker { OnOk result (T.is_sound taker.new) }
     ensures ended { OnOk result (WhereTold (S.left store.new) (λ left. left ≡ [])) }
-    ensures failed { result ≡ Err LinesStop.ReadFailed → Rose (S.faults store.old) (S.faults store.new) }
-    ensures sound_reads { result ≢ Err LinesStop.ReadFailed → result ≢ Err LinesStop.WriteFailed → S.faults store.new ≡ S.faults store.old }
-    ensures write_failed { result ≡ Err LinesStop.WriteFailed → Rose (O.faults out.old) (O.faults out.new) }
-    ensures sound_writes { result ≢ Err LinesStop.WriteFailed → O.faults out.new ≡ O.faults out.old }
+    ensures failed { result ≡ Err LinesStop.ReadFailed
+        → Rose (S.faults store.old) (S.faults store.new) }
+    ensures sound_reads { result ≢ Err LinesStop.ReadFailed → result ≢ Err LinesStop.WriteFailed
+        → S.faults store.new ≡ S.faults store.old }
+    ensures write_failed { result ≡ Err LinesStop.WriteFailed
+        → Rose (O.faults out.old) (O.faults out.new) }
+    ensures sound_writes { result ≢ Err LinesStop.WriteFailed
+        → O.faults out.new ≡ O.faults out.old }
     ensures files { S.files store.new ≡ S.files store.old }
     ensures current { S.current store.new ≡ S.current store.old }
     ensures opens { S.opens store.new ≡ S.opens store.old }
@@ -59,8 +66,12 @@ fn read_current_file<T: LineTaker, S: Store, O: Sink>(
 impl Desk {
     /// The halt where a file wasn't opened.
     pub(crate) fn unopened(&self, name: &str, fault: OpenFault) -> Halt
-        ensures answer { status_code result.status ≢ 5 → halt_answer (texts_of self.now.texts) result ≡ end_answer (texts_of self.now.texts) name.now (end_of_open fault) }
-        ensures memory { status_code result.status ≡ 5 → halt_answer (texts_of self.now.texts) result ≡ memory_answer (texts_of self.now.texts) }
+        ensures answer { status_code result.status ≢ 5
+            → halt_answer (texts_of self.now.texts) result
+            ≡ end_answer (texts_of self.now.texts) name.now (end_of_open fault) }
+        ensures memory { status_code result.status ≡ 5
+            → halt_answer (texts_of self.now.texts) result
+            ≡ memory_answer (texts_of self.now.texts) }
         ensures write { status_code result.status ≢ 4 }
     {
         Halt::unreadable(self.alloc, &self.texts, name, fault.text())
@@ -68,8 +79,12 @@ impl Desk {
 
     /// The halt where not all lines of a file were taken.
     fn stopped<F: Fault>(&self, name: &str, stop: LinesStop<F>) -> Halt
-        ensures answer { status_code result.status ≢ 5 → (taken : List (List ℕ)) (count : ℕ) → halt_answer (texts_of self.now.texts) result ≡ end_answer (texts_of self.now.texts) name.now (end_of F.told (Err stop) taken count) }
-        ensures memory { status_code result.status ≡ 5 → halt_answer (texts_of self.now.texts) result ≡ memory_answer (texts_of self.now.texts) }
+        ensures answer { status_code result.status ≢ 5 → (taken : List (List ℕ)) (count : ℕ)
+            → halt_answer (texts_of self.now.texts) result
+            ≡ end_answer (texts_of self.now.texts) name.now (end_of F.told (Err stop) taken count) }
+        ensures memory { status_code result.status ≡ 5
+            → halt_answer (texts_of self.now.texts) result
+            ≡ memory_answer (texts_of self.now.texts) }
         ensures unwritten { status_code result.status ≡ 4 → stop ≡ LinesStop.WriteFailed }
         ensures write { stop ≡ LinesStop.WriteFailed → status_code result.status ≡ 4 }
     {
@@ -108,7 +123,8 @@ pub fn read_named_file<T: LineTaker, S: Store, O: Sink>(
     requires sound { T.is_sound taker.old }
     requires new_taker { T.has_taken taker.old [] }
     requires no_weight { T.weight taker.old ≡ 0 }
-    ensures read { Reads S.Store O.Sink desk.now name.now (T.report taker.old) (T.has_taken taker.new)
+    ensures read { Reads S.Store O.Sink desk.now name.now (T.report taker.old)
+        (T.has_taken taker.new)
         store.old store.new out.old out.new result }
     ensures input { lines.new.input ≡ lines.old.input }
     ensures line { lines.new.line_limit ≡ lines.old.line_limit }

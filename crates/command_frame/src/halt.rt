@@ -121,8 +121,11 @@ impl Halt {
     /// A file that is absent, or of which a call failed; or the halt for want of memory, where that is wanting for the
     /// message.
     pub fn unreadable(alloc: Global, texts: &ProgramTexts, file: &str, text: &str) -> Halt
-        ensures answer { status_code result.status ≢ 5 → halt_answer (texts_of texts.now) result ≡ refused (at_file (texts_of texts.now) file.now text.now) 3 }
-        ensures memory { status_code result.status ≡ 5 → halt_answer (texts_of texts.now) result ≡ memory_answer (texts_of texts.now) }
+        ensures answer { status_code result.status ≢ 5
+            → halt_answer (texts_of texts.now) result
+            ≡ refused (at_file (texts_of texts.now) file.now text.now) 3 }
+        ensures memory { status_code result.status ≡ 5
+            → halt_answer (texts_of texts.now) result ≡ memory_answer (texts_of texts.now) }
         ensures write { status_code result.status ≢ 4 }
     {
         match text_message(alloc, texts, file, text) {
@@ -136,8 +139,11 @@ impl Halt {
 
     /// A fault of a file, at no line; or the halt for want of memory.
     pub fn at_file<F: Fault>(alloc: Global, texts: &ProgramTexts, file: &str, fault: &F) -> Halt
-        ensures answer { status_code result.status ≢ 5 → halt_answer (texts_of texts.now) result ≡ file_answer (texts_of texts.now) file.now (F.told fault.now) }
-        ensures memory { status_code result.status ≡ 5 → halt_answer (texts_of texts.now) result ≡ memory_answer (texts_of texts.now) }
+        ensures answer { status_code result.status ≢ 5
+            → halt_answer (texts_of texts.now) result
+            ≡ file_answer (texts_of texts.now) file.now (F.told fault.now) }
+        ensures memory { status_code result.status ≡ 5
+            → halt_answer (texts_of texts.now) result ≡ memory_answer (texts_of texts.now) }
         ensures write { status_code result.status ≢ 4 }
     {
         match file_message(alloc, texts, file, fault) {
@@ -157,8 +163,11 @@ impl Halt {
         number: u64,
         fault: &F,
     ) -> Halt
-        ensures answer { status_code result.status ≢ 5 → halt_answer (texts_of texts.now) result ≡ line_answer (texts_of texts.now) file.now number (F.told fault.now) }
-        ensures memory { status_code result.status ≡ 5 → halt_answer (texts_of texts.now) result ≡ memory_answer (texts_of texts.now) }
+        ensures answer { status_code result.status ≢ 5
+            → halt_answer (texts_of texts.now) result
+            ≡ line_answer (texts_of texts.now) file.now number (F.told fault.now) }
+        ensures memory { status_code result.status ≡ 5
+            → halt_answer (texts_of texts.now) result ≡ memory_answer (texts_of texts.now) }
         ensures write { status_code result.status ≢ 4 }
     {
         match line_message(alloc, texts, file, number, fault) {
@@ -184,7 +193,8 @@ impl From<NoMemory> for Halt {
 
 /// The front of a message that names a file.
 fn begin(alloc: Global, texts: &ProgramTexts, file: &str) -> Result<Vec<u8>, NoMemory>
-    ensures { IfOk result (λ message. message.items ≡ texts.now.name.now ++ (codes ": " ++ file.now)) }
+    ensures { IfOk result
+        (λ message. message.items ≡ texts.now.name.now ++ (codes ": " ++ file.now)) }
 {
     let mut message = Vec::new(alloc);
     put_bytes(&mut message, texts.name.as_bytes())?;
@@ -200,7 +210,8 @@ fn text_message(
     file: &str,
     text: &str,
 ) -> Result<Vec<u8>, NoMemory>
-    ensures { IfOk result (λ message. message.items ≡ at_file (texts_of texts.now) file.now text.now) }
+    ensures { IfOk result
+        (λ message. message.items ≡ at_file (texts_of texts.now) file.now text.now) }
 {
     let mut message = begin(alloc, texts, file)?;
     put_bytes(&mut message, b": ")?;
@@ -216,7 +227,8 @@ fn file_message<F: Fault>(
     file: &str,
     fault: &F,
 ) -> Result<Vec<u8>, NoMemory>
-    ensures { IfOk result (λ message. message.items ≡ at_file (texts_of texts.now) file.now (F.told fault.now).text) }
+    ensures { IfOk result
+        (λ message. message.items ≡ at_file (texts_of texts.now) file.now (F.told fault.now).text) }
 {
     let mut message = begin(alloc, texts, file)?;
     put_bytes(&mut message, b": ")?;
@@ -233,7 +245,9 @@ fn line_message<F: Fault>(
     number: u64,
     fault: &F,
 ) -> Result<Vec<u8>, NoMemory>
-    ensures { IfOk result (λ message. message.items ≡ at_line (texts_of texts.now) file.now number (F.told fault.now).text) }
+    ensures { IfOk result
+        (λ message. message.items
+        ≡ at_line (texts_of texts.now) file.now number (F.told fault.now).text) }
 {
     let mut message = begin(alloc, texts, file)?;
     put_bytes(&mut message, b":")?;

@@ -11,8 +11,8 @@
 //!   status 4. `read_named_file` and `read_document`, of which they are made, come to `Reads` and `ReadsWhole`.
 //! - `LineTaker`: what takes the lines of a file. Its ghost `report` says what the lines mean: their faults, and what
 //!   each gives to standard output. `line` takes one line, `end` judges the end of the file, and `batch` takes whole
-//!   short lines at the front of bytes, which have no fault and give nothing; a taker that takes none at once leaves
-//!   `batch` out. `LineReport` makes the rest of the output of all lines.
+//!   short lines at the front of bytes, which have no fault, and gives what they give; a taker that takes none at once
+//!   leaves `batch` out. `LineReport` makes the rest of the output of all lines.
 //! - `FilePair`: two files by lines, where the taker of the second is made of that of the first, and what the second
 //!   means depends on the lines of the first.
 //! - `DocumentReport`: what makes the output of a file's bytes, or finds their first fault, which the message tells at

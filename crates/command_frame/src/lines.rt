@@ -57,8 +57,11 @@ pub enum LinesStop<F> {
     NoMemory,
 }
 
-/// Bytes of output that are kept back at most before they are written.
+/// Bytes of output that are kept back at most before they are written, but for what lines that are taken at once give.
 const PIECE: usize = 65_536;
+
+/// A line must be allowed so many bytes where lines are taken at once, since their lengths aren't judged.
+const LONGEST_AT_ONCE: u32 = 64;
 
 /// Takes all lines of the current file. What they give to standard output is written but for what `buffer` then holds.
 pub fn read_through_buffer<T: LineTaker, S: Store, O: Sink>(
@@ -76,17 +79,24 @@ pub fn read_through_buffer<T: LineTaker, S: Store, O: Sink>(
     requires new_taker { T.has_taken taker.old [] }
     requires no_weight { T.weight taker.old ≡ 0 }
     requires no_output { buffer.old.items ≡ [] }
-    ensures run { (taken : List (List ℕ)) × ((count : ℕ) × (LinesRun (record { input = lines.old.input; line = lines.old.line_limit }) (T.report taker.old) (S.left store.old) (S.left store.new)
-        (O.written out.old) (O.written out.new) buffer.new.items (end_of T.Fault.told result taken count) × OnOk result (T.has_taken taker.new taken))) }
+    ensures run { (taken : List (List ℕ))
+        × ((count : ℕ) × (LinesRun (record { input = lines.old.input; line = lines.old.line_limit })
+        (T.report taker.old) (S.left store.old) (S.left store.new)
+        (O.written out.old) (O.written out.new) buffer.new.items
+        (end_of T.Fault.told result taken count) × OnOk result (T.has_taken taker.new taken))) }
     ensures input { lines.new.input ≡ lines.old.input }
     ensures line { lines.new.line_limit ≡ lines.old.line_limit }
     ensures report { T.report taker.new ≡ T.report taker.old }
     ensures sound_taker { OnOk result (T.is_sound taker.new) }
     ensures ended { OnOk result (WhereTold (S.left store.new) (λ left. left ≡ [])) }
-    ensures failed { result ≡ Err LinesStop.ReadFailed → Rose (S.faults store.old) (S.faults store.new) }
-    ensures sound_reads { result ≢ Err LinesStop.ReadFailed → S.faults store.new ≡ S.faults store.old }
-    ensures write_failed { result ≡ Err LinesStop.WriteFailed → Rose (O.faults out.old) (O.faults out.new) }
-    ensures sound_writes { result ≢ Err LinesStop.WriteFailed → O.faults out.new ≡ O.faults out.old }
+    ensures failed { result ≡ Err LinesStop.ReadFailed
+        → Rose (S.faults store.old) (S.faults store.new) }
+    ensures sound_reads { result ≢ Err LinesStop.ReadFailed
+        → S.faults store.new ≡ S.faults store.old }
+    ensures write_failed { result ≡ Err LinesStop.WriteFailed
+        → Rose (O.faults out.old) (O.faults out.new) }
+    ensures sound_writes { result ≢ Err LinesStop.WriteFailed
+        → O.faults out.new ≡ O.faults out.old }
     ensures files { S.files store.new ≡ S.files store.old }
     ensures current { S.current store.new ≡ S.current store.old }
     ensures opens { S.opens store.new ≡ S.opens store.old }
@@ -96,7 +106,7 @@ pub fn read_through_buffer<T: LineTaker, S: Store, O: Sink>(
         match lines.next(store) {
             Ok(Some(span)) => match taker.line(lines.line(&span), buffer) {
                 Ok(()) => match pass_on_piece(buffer, out) {
-                    Ok(()) => take_ready(lines, taker),
+                    Ok(()) => take_ready(lines, taker, buffer),
                     Err(Failed) => return Err(LinesStop::WriteFailed),
                 },
                 Err(LineRefusal::Fault(fault)) => {
@@ -127,14 +137,16 @@ pub fn read_through_buffer<T: LineTaker, S: Store, O: Sink>(
     }
 }
 
-/// Takes the lines that the reader of lines holds already, as many as the taker takes at once.
+/// Takes the lines that the reader of lines holds already, as many as the taker takes at once. What they give to standard
+/// output stands at the end of the buffer.
 #[inline(always)]
-fn take_ready<T: LineTaker>(lines: &mut LineReader, taker: &mut T)
+fn take_ready<T: LineTaker>(lines: &mut LineReader, taker: &mut T, buffer: &mut Vec<u8>)
     requires bounds { lines.old.input ≤ 2 ^ 34 }
     requires given { lines.old.given ≤ lines.old.input + 1 }
     requires sound { T.is_sound taker.old }
     requires weight { T.weight taker.old ≤ lines.old.given }
-    ensures taken { HasTakenKept (T.report taker.old) (T.has_taken taker.old) (T.has_taken taker.new) lines.old lines.new }
+    ensures taken { HasTakenKept (T.report taker.old) (T.has_taken taker.old)
+        (T.has_taken taker.new) lines.old lines.new buffer.old.items buffer.new.items }
     ensures sound { T.is_sound taker.new }
     ensures weight { T.weight taker.new ≤ lines.new.given }
     ensures report { T.report taker.new ≡ T.report taker.old }
@@ -149,14 +161,20 @@ fn take_ready<T: LineTaker>(lines: &mut LineReader, taker: &mut T)
     if ready.is_empty() {
         return;
     }
-    let batch = taker.batch(ready);
+    if lines.line_limit() < LONGEST_AT_ONCE {
+        return;
+    }
+    let batch = taker.batch(ready, buffer);
     lines.pass(batch.bytes, batch.lines);
 }
 
 /// Writes what is kept back, where it is a piece or more.
 pub fn pass_on_piece<O: Sink>(buffer: &mut Vec<u8>, out: &mut O) -> Result<(), Failed>
-    ensures passed { OnOk result ((early : List ℕ) × ((O.written out.new ≡ append_known (O.written out.old) early) × (early ++ buffer.new.items ≡ buffer.old.items))) }
-    ensures front { OnErr result (GainsFront (O.written out.old) (O.written out.new) buffer.old.items) }
+    ensures passed { OnOk result
+        ((early : List ℕ) × ((O.written out.new ≡ append_known (O.written out.old) early)
+        × (early ++ buffer.new.items ≡ buffer.old.items))) }
+    ensures front { OnErr result
+        (GainsFront (O.written out.old) (O.written out.new) buffer.old.items) }
     ensures emptied { OnErr result (buffer.new.items ≡ []) }
     ensures sound { OnOk result (O.faults out.new ≡ O.faults out.old) }
     ensures failed { OnErr result (Rose (O.faults out.old) (O.faults out.new)) }
@@ -169,7 +187,8 @@ pub fn pass_on_piece<O: Sink>(buffer: &mut Vec<u8>, out: &mut O) -> Result<(), F
 
 /// Writes all that is kept back.
 pub fn pass_on<O: Sink>(buffer: &mut Vec<u8>, out: &mut O) -> Result<(), Failed>
-    ensures passed { OnOk result (O.written out.new ≡ append_known (O.written out.old) buffer.old.items) }
+    ensures passed { OnOk result
+        (O.written out.new ≡ append_known (O.written out.old) buffer.old.items) }
     ensures front { GainsFront (O.written out.old) (O.written out.new) buffer.old.items }
     ensures emptied { buffer.new.items ≡ [] }
     ensures sound { OnOk result (O.faults out.new ≡ O.faults out.old) }

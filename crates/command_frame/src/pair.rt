@@ -32,7 +32,9 @@ pub trait FilePair {
         ensures sound { IfOk result (λ second. Self.Second.is_sound second) }
         ensures new_taker { IfOk result (λ second. Self.Second.has_taken second []) }
         ensures no_weight { IfOk result (λ second. Self.Second.weight second ≡ 0) }
-        ensures report { IfOk result (λ second. (lines : List (List ℕ)) → Self.First.has_taken first lines → Self.Second.report second ≡ second_report self.now lines) };
+        ensures report { IfOk result
+            (λ second. (lines : List (List ℕ)) → Self.First.has_taken first lines
+            → Self.Second.report second ≡ second_report self.now lines) };
 }
 
 /// The names of two files.

@@ -12,6 +12,10 @@ pub trait LineReport: LineTaker {
     /// The taker may give away what it has kept, and is of no use then.
     fn finish(&mut self, alloc: Global) -> Result<Vec<u8>, LineRefusal<Self::Fault>>
         requires sound { Self.is_sound self.old }
-        ensures output { IfOk result (λ output. (lines : List (List ℕ)) → Self.has_taken self.old lines → (Self.report self.old).verdict lines ≡ Writes output.items) }
-        ensures fault { IfErr result (λ refusal. (lines : List (List ℕ)) → Self.has_taken self.old lines → Refuses Self.Fault.told refusal ((Self.report self.old).verdict lines)) };
+        ensures output { IfOk result
+            (λ output. (lines : List (List ℕ)) → Self.has_taken self.old lines
+            → (Self.report self.old).verdict lines ≡ Writes output.items) }
+        ensures fault { IfErr result
+            (λ refusal. (lines : List (List ℕ)) → Self.has_taken self.old lines
+            → Refuses Self.Fault.told refusal ((Self.report self.old).verdict lines)) };
 }

@@ -1,7 +1,7 @@
 //! What takes the lines of a file, one after another. What the lines mean is the business of the commands.
 ghost use Rattle.std.specs.Prelude.{◌≡◌, ℕ, ◌+◌, ◌^◌, ◌<◌, ◌≤◌, List, [], ◌∷◌, ◌++◌, None, Some, length, OnOk, OnErr, IfErr};
 ghost use Rattle.hp_outside.specs.WholeLines.{IsLineText};
-ghost use Rattle.command_frame.specs.Batch.{HasTakenFront};
+ghost use Rattle.command_frame.specs.Batch.{HasGivenFront};
 ghost use Rattle.command_frame.specs.Report.{Report};
 ghost use Rattle.command_frame.specs.Taker.{Tells};
 
@@ -59,10 +59,18 @@ pub trait LineTaker {
         requires short { length line.now < 2 ^ 32 }
         requires room { weight self.old + length line.now ≤ 2 ^ 34 }
         ensures sound { OnOk result (is_sound self.new) }
-        ensures taken { OnOk result ((lines : List (List ℕ)) → has_taken self.old lines → has_taken self.new (lines ++ line.now ∷ [])) }
-        ensures no_fault { OnOk result ((lines : List (List ℕ)) → has_taken self.old lines → (report self.old).line_fault lines line.now ≡ None) }
-        ensures fault { IfErr result (λ refusal. (lines : List (List ℕ)) → has_taken self.old lines → Tells Self.Fault.told refusal ((report self.old).line_fault lines line.now)) }
-        ensures output { OnOk result ((lines : List (List ℕ)) → has_taken self.old lines → output.new.items ≡ output.old.items ++ (report self.old).gains lines line.now) }
+        ensures taken { OnOk result
+            ((lines : List (List ℕ)) → has_taken self.old lines
+            → has_taken self.new (lines ++ line.now ∷ [])) }
+        ensures no_fault { OnOk result
+            ((lines : List (List ℕ)) → has_taken self.old lines
+            → (report self.old).line_fault lines line.now ≡ None) }
+        ensures fault { IfErr result
+            (λ refusal. (lines : List (List ℕ)) → has_taken self.old lines
+            → Tells Self.Fault.told refusal ((report self.old).line_fault lines line.now)) }
+        ensures output { OnOk result
+            ((lines : List (List ℕ)) → has_taken self.old lines
+            → output.new.items ≡ output.old.items ++ (report self.old).gains lines line.now) }
         ensures no_output { OnErr result (output.new.items ≡ output.old.items) }
         ensures weight { OnOk result (weight self.new ≤ weight self.old + length line.now + 1) }
         ensures report { report self.new ≡ report self.old };
@@ -70,16 +78,22 @@ pub trait LineTaker {
     /// Whether the file may end here: the fault of its end, if it has one. `ended` says whether the last line ended with
     /// its line feed; it is true where there is no line.
     fn end(&self, ended: bool) -> Result<(), Self::Fault>
-        ensures no_fault { OnOk result ((lines : List (List ℕ)) → has_taken self.now lines → (report self.now).end_fault lines ended ≡ None) }
-        ensures fault { IfErr result (λ fault. (lines : List (List ℕ)) → has_taken self.now lines → (report self.now).end_fault lines ended ≡ Some (Self.Fault.told fault)) };
+        ensures no_fault { OnOk result
+            ((lines : List (List ℕ)) → has_taken self.now lines
+            → (report self.now).end_fault lines ended ≡ None) }
+        ensures fault { IfErr result
+            (λ fault. (lines : List (List ℕ)) → has_taken self.now lines
+            → (report self.now).end_fault lines ended ≡ Some (Self.Fault.told fault)) };
 
-    /// Takes whole lines at the front of the bytes, as `line` would, as long as each has fewer than 16 bytes, no fault,
-    /// and nothing to give to standard output. It may stop before any line. Where memory is wanting, a later call tells it.
-    fn batch(&mut self, ready: &[u8]) -> Batch
+    /// Takes whole lines at the front of the bytes, as `line` would, as long as each has fewer than 64 bytes and no fault,
+    /// and appends what they give to standard output. It may stop before any line. Where memory is wanting, a later call
+    /// tells it.
+    fn batch(&mut self, ready: &[u8], output: &mut Vec<u8>) -> Batch
         requires sound { is_sound self.old }
         requires room { weight self.old + length ready.now ≤ 2 ^ 34 }
         ensures sound { is_sound self.new }
-        ensures taken { HasTakenFront (report self.old) (has_taken self.old) (has_taken self.new) ready.now result.bytes result.lines }
+        ensures taken { HasGivenFront (report self.old) (has_taken self.old) (has_taken self.new)
+            ready.now result.bytes result.lines output.old.items output.new.items }
         ensures held { result.bytes ≤ length ready.now }
         ensures weight { weight self.new ≤ weight self.old + result.bytes }
         ensures report { report self.new ≡ report self.old }

@@ -25,7 +25,8 @@ pub trait TextMaker {
     fn piece(&mut self, output: &mut Vec<u8>) -> Result<bool, NoMemory>
         requires sound { is_sound self.old }
         ensures sound { OnOk result (is_sound self.new) }
-        ensures made { OnOk result (output.new.items ++ rest self.new ≡ output.old.items ++ rest self.old) }
+        ensures made { OnOk result
+            (output.new.items ++ rest self.new ≡ output.old.items ++ rest self.old) }
         ensures fewer { result ≡ Ok true → pieces self.new < pieces self.old }
         ensures all { result ≡ Ok false → rest self.new ≡ [] };
 }

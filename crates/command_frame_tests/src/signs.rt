@@ -53,7 +53,7 @@ impl LineTaker for Signs {
         Ok(())
     }
 
-    fn batch(&mut self, ready: &[u8]) -> Batch {
+    fn batch(&mut self, ready: &[u8], _output: &mut Vec<u8>) -> Batch {
         if self.at_once && begins_with_signs(ready) {
             self.taken += 2;
             return Batch { bytes: 4, lines: 2 };

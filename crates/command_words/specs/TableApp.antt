@@ -33,12 +33,14 @@ files_rule = record (new_rule files_name) { action = Some Append }
 
 abbrev pub rules_for : Table → List Rule
 rules_for table =
-    map option_rule table.options ++ (map flag_rule table.flags ++ (if table.files then files_rule ∷ [] else []))
+    map option_rule table.options
+    ++ (map flag_rule table.flags ++ (if table.files then files_rule ∷ [] else []))
 
 -- a command of these rules without a program's name among its words, and without a help of its own
 abbrev pub app_with : List Rule → App
 app_with rules = record {
-  top = record (new_app (codes "command")).top { rules = rules; no_binary_name = true; disable_help_flag = true };
+  top = record (new_app (codes "command")).top
+      { rules = rules; no_binary_name = true; disable_help_flag = true };
   subs = [];
 }
 

@@ -32,7 +32,8 @@ value_in rows option = first_of option rows
 
 -- whether a flag was given
 abbrev pub flag_in : List Row → Text → Bool
-flag_in rows flag = option_map_or (λ value. bytes_eq value (codes "true")) (first_of flag rows) false
+flag_in rows flag = option_map_or (λ value. bytes_eq value (codes "true")) (first_of flag rows)
+    false
 
 -- the names of files, in the order of the words, where there is one
 abbrev pub files_in : List Row → Option (List Text)

@@ -41,8 +41,11 @@ pub fn take_words<'a>(
     table: &WordTable<'a>,
     words: &'a [String],
 ) -> Result<TakenWords<'a>, WordsFault>
-    ensures taken { IfOk result (λ taken. words_taken (table_of table.now) (map string_bytes words.entry.now) ≡ Some (rows_in taken)) }
-    ensures refused { result ≡ Err WordsFault.NotTaken → words_taken (table_of table.now) (map string_bytes words.entry.now) ≡ None }
+    ensures taken { IfOk result
+        (λ taken. words_taken (table_of table.now) (map string_bytes words.entry.now)
+        ≡ Some (rows_in taken)) }
+    ensures refused { result ≡ Err WordsFault.NotTaken
+        → words_taken (table_of table.now) (map string_bytes words.entry.now) ≡ None }
 {
     let command = command_for(alloc, table)?;
     match command.try_get_matches_from(words) {
@@ -81,7 +84,8 @@ impl<'a> TakenWords<'a> {
 
     /// The names of files, in the order of the words. `None` where there is none.
     pub fn files(&self) -> Option<&[&'a str]>
-        ensures { option_map (λ names. map (λ name. name.now) names.now) result ≡ files_in (rows_in self.now) }
+        ensures { option_map (λ names. map (λ name. name.now) names.now) result
+            ≡ files_in (rows_in self.now) }
     {
         self.matches.get_strs(FILES)
     }

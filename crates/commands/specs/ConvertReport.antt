@@ -62,7 +62,8 @@ abbrev pub folded_verdict : FigureKey → Dhat → Verdict
 folded_verdict key dhat = of_dhat key (folded_fault key dhat) (folded_text (point_items key dhat))
 
 abbrev pub folded_massif_verdict : Option ℕ → Profile → Verdict
-folded_massif_verdict snapshot profile = of_massif (folded_massif_fault snapshot profile) (folded_text (chosen_items snapshot profile))
+folded_massif_verdict snapshot profile = of_massif (folded_massif_fault snapshot profile)
+    (folded_text (chosen_items snapshot profile))
 
 -- the Massif file of a DHAT profile; what is missing for it are the bytes at the peak
 abbrev pub converted_verdict : Dhat → Verdict
@@ -71,7 +72,8 @@ converted_verdict dhat = of_dhat Gb (converted_fault dhat) (massif_text (convert
 -- one file is read, by lines or whole as its kind says
 abbrev pub conversion_plan : List ℕ → Conversion → Plan
 conversion_plan file (FoldedDhat key) = dhat_file_plan file (folded_verdict key)
-conversion_plan file (FoldedMassif snapshot) = massif_file_plan file (folded_massif_verdict snapshot)
+conversion_plan file (FoldedMassif snapshot) = massif_file_plan file
+    (folded_massif_verdict snapshot)
 conversion_plan file MassifOfDhat = dhat_file_plan file converted_verdict
 
 abbrev pub convert_plan : ConvertAsked → Plan

@@ -21,7 +21,11 @@ pub record ConvertAsked : Type 0 where
 
 -- four options, and one file
 abbrev pub convert_table : Table
-convert_table = record { options = codes "from" ∷ codes "to" ∷ codes "key" ∷ codes "snapshot" ∷ []; flags = []; files = true }
+convert_table = record {
+  options = codes "from" ∷ codes "to" ∷ codes "key" ∷ codes "snapshot" ∷ [];
+  flags = [];
+  files = true;
+}
 
 -- the kind of file of a name
 abbrev pub kind_named : List ℕ → Option FileKind
@@ -59,14 +63,21 @@ conversion_given from.Massif to.Folded key snapshot = Some (FoldedMassif snapsho
 conversion_given from.Massif to.Massif key snapshot = None
 
 -- what a file and the options' values say
-abbrev pub convert_of : Option (List ℕ) → Option FileKind → Option Target → Option FigureKey → Option (Option ℕ) → Option ConvertAsked
+abbrev pub convert_of : Option (List ℕ) → Option FileKind → Option Target → Option FigureKey
+    → Option (Option ℕ) → Option ConvertAsked
 convert_of file kind target key snapshot =
-    option_and_then (λ file. option_and_then (λ kind. option_and_then (λ target. option_and_then (λ key. option_and_then (λ snapshot.
-    option_map (λ conversion. record { file = file; conversion = conversion }) (conversion_given kind target key snapshot))
+    option_and_then (λ file.
+    option_and_then (λ kind.
+    option_and_then (λ target. option_and_then (λ key. option_and_then (λ snapshot.
+    option_map (λ conversion. record { file = file; conversion = conversion })
+    (conversion_given kind target key snapshot))
     snapshot) key) target) kind) file
 
 -- what the words ask for
 abbrev pub convert_asked : List (List ℕ) → Option ConvertAsked
 convert_asked words =
-    option_and_then (λ rows. convert_of (only_file_in rows) (kind_or (value_in rows (codes "from"))) (target_or (value_in rows (codes "to"))) (key_or (value_in rows (codes "key"))) (snapshot_or (value_in rows (codes "snapshot"))))
+    option_and_then (λ rows.
+    convert_of (only_file_in rows) (kind_or (value_in rows (codes "from")))
+    (target_or (value_in rows (codes "to"))) (key_or (value_in rows (codes "key")))
+    (snapshot_or (value_in rows (codes "snapshot"))))
     (words_taken convert_table words)

@@ -8,7 +8,8 @@ use Rattle.trace_reading.specs.TraceReport.{tables_behind, trace_plan}
 
 -- the profile of a trace with these lines, in a line
 unfoldable pub dhat_written : List (List ℕ) → List (List ℕ) → List ℕ
-dhat_written patterns lines = dhat_text (dhat_of (tables_behind patterns lines) (events lines)) ++ codes "\n"
+dhat_written patterns lines = dhat_text (dhat_of (tables_behind patterns lines) (events lines))
+    ++ codes "\n"
 
 -- the profile is written once all lines were read
 abbrev pub dhat_plan : List ℕ → Plan

@@ -9,7 +9,8 @@ use Rattle.trace_reading.specs.TraceReport.{tables_behind, trace_plan}
 
 -- the flame stacks of a trace with these lines
 abbrev pub flame_written : FlameCost → List (List ℕ) → List (List ℕ) → List ℕ
-flame_written cost patterns lines = flame_of_trace cost (tables_behind patterns lines) (events lines)
+flame_written cost patterns lines = flame_of_trace cost (tables_behind patterns lines)
+    (events lines)
 
 -- flame stacks are written once all lines were read
 abbrev pub flame_plan : FlameAsked → Plan

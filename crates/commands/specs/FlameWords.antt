@@ -32,8 +32,11 @@ cost_or (Some name) = cost_named name
 
 -- what a file and the option's value say
 abbrev pub flame_of : Option (List ℕ) → Option (List ℕ) → Option FlameAsked
-flame_of file name = option_and_then (λ trace. option_map (λ cost. record { trace = trace; cost = cost }) (cost_or name)) file
+flame_of file name = option_and_then
+    (λ trace. option_map (λ cost. record { trace = trace; cost = cost }) (cost_or name)) file
 
 -- what the words ask for
 abbrev pub flame_asked : List (List ℕ) → Option FlameAsked
-flame_asked words = option_and_then (λ rows. flame_of (only_file_in rows) (value_in rows (codes "flamegraph-cost-type"))) (words_taken flame_table words)
+flame_asked words = option_and_then
+    (λ rows. flame_of (only_file_in rows) (value_in rows (codes "flamegraph-cost-type")))
+    (words_taken flame_table words)

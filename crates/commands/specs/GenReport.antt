@@ -13,4 +13,5 @@ gen_summary sizes = summary_written [] (generated_lines sizes)
 
 -- the trace is written while it is made, or its summary once all of it was
 abbrev pub gen_plan : GenAsked → Plan
-gen_plan asked = if asked.run then Ends (Writes (gen_summary asked.sizes)) else Pieces (generated_text asked.sizes)
+gen_plan asked = if asked.run then Ends (Writes (gen_summary asked.sizes))
+    else Pieces (generated_text asked.sizes)

@@ -7,7 +7,8 @@ use Rattle.trace_reading.specs.declared.read_trace.ReadTrace.{ReadTrace}
 use Rattle.trace_reading.specs.ReadTrace.{HasRead, IsSound}
 
 -- some of these lines were read, and a generator has yet to make the others, which have no fault behind them
-pub record HasTaken (trace : ReadTrace) (generator : Generator) (lines : List (List ℕ)) : Type 0 where
+pub record HasTaken (trace : ReadTrace) (generator : Generator) (lines : List (List ℕ)) : Type
+    0 where
   pub at : IsAt generator
   pub sound : IsSound trace
   pub taken : List (List ℕ)

@@ -13,7 +13,11 @@ pub record GenAsked : Type 0 where
 
 -- three options and a flag, and no file
 abbrev pub gen_table : Table
-gen_table = record { options = codes "seed" ∷ codes "events" ∷ codes "stacks" ∷ []; flags = codes "run" ∷ []; files = false }
+gen_table = record {
+  options = codes "seed" ∷ codes "events" ∷ codes "stacks" ∷ [];
+  flags = codes "run" ∷ [];
+  files = false;
+}
 
 -- the number of each option
 abbrev pub seed_number : Option (List ℕ) → Option ℕ
@@ -28,10 +32,17 @@ stacks_number value = number_or 10 1 4000 value
 -- what numbers and the flag say
 abbrev pub gen_of : Option ℕ → Option ℕ → Option ℕ → Bool → Option GenAsked
 gen_of seed events stacks run =
-    option_and_then (λ seed. option_and_then (λ events. option_map (λ stacks. record { sizes = record { seed = seed; stacks = stacks; events = events }; run = run }) stacks) events) seed
+    option_and_then (λ seed.
+    option_and_then (λ events.
+    option_map (λ stacks.
+    record { sizes = record { seed = seed; stacks = stacks; events = events }; run = run }) stacks)
+    events) seed
 
 -- what the words ask for
 abbrev pub gen_asked : List (List ℕ) → Option GenAsked
 gen_asked words =
-    option_and_then (λ rows. gen_of (seed_number (value_in rows (codes "seed"))) (events_number (value_in rows (codes "events"))) (stacks_number (value_in rows (codes "stacks"))) (flag_in rows (codes "run")))
+    option_and_then (λ rows.
+    gen_of (seed_number (value_in rows (codes "seed")))
+    (events_number (value_in rows (codes "events")))
+    (stacks_number (value_in rows (codes "stacks"))) (flag_in rows (codes "run")))
     (words_taken gen_table words)

@@ -21,23 +21,27 @@ pub record HasGiven (bounds : Bounds) (words : List (List ℕ)) (before now : Ou
       before.store.moment now.store.moment given
   pub delivered : IsDelivered the_texts given status before now
 
-pub record HasRun (bounds : Bounds) (words : List (List ℕ)) (before now : Outside) (status : ℕ) : Type 0 where
+pub record HasRun (bounds : Bounds) (words : List (List ℕ)) (before now : Outside)
+    (status : ℕ) : Type 0 where
   -- The headline: over a store that tells its files, with no failed call and memory not wanting, output, message and
   -- status are the defined ones.
   pub defined : (folder : Folder) → before.store.files ≡ Some folder
       → ¬ StoreRose before now → ¬ OutRose before now → ¬ ErrRose before now → status ≢ 5
       → Gives before now (answer words bounds folder) status
   -- Completeness: where the defined answer has no fault, it is given.
-  pub complete : (folder : Folder) → before.store.files ≡ Some folder → (answer words bounds folder).status ≡ 0
+  pub complete : (folder : Folder) → before.store.files ≡ Some folder
+      → (answer words bounds folder).status ≡ 0
       → ¬ StoreRose before now → ¬ OutRose before now → ¬ ErrRose before now → status ≢ 5
-      → (status ≡ 0) × (now.out.written ≡ append_known before.out.written (answer words bounds folder).output)
+      → (status ≡ 0) × (now.out.written
+      ≡ append_known before.out.written (answer words bounds folder).output)
       × (now.err.written ≡ before.err.written)
   -- Whatever failed: one answer that the words and the files allow was delivered.
   pub run : (given : Answer) × HasGiven bounds words before now status given
   pub front : (folder : Folder) → before.store.files ≡ Some folder
       → GainsFront before.out.written now.out.written (answer words bounds folder).output
   -- Statuses 0, 1 and 6: exactly where the words and the files define them.
-  pub judged : (folder : Folder) → before.store.files ≡ Some folder → status ≢ 3 → status ≢ 4 → status ≢ 5
+  pub judged : (folder : Folder) → before.store.files ≡ Some folder → status ≢ 3 → status ≢ 4
+      → status ≢ 5
       → Gives before now (answer words bounds folder) status
   pub malformed : (folder : Folder) → before.store.files ≡ Some folder → ¬ StoreRose before now
       → (answer words bounds folder).status ≡ 1 → status ≢ 4 → status ≢ 5 → status ≡ 1
@@ -48,7 +52,8 @@ pub record HasRun (bounds : Bounds) (words : List (List ℕ)) (before now : Outs
       → (output : List ℕ) × (now.out.written ≡ append_known before.out.written output)
       × KeepsLedgerOf folder (asked words) output
   -- Unless the status is 0 or 4, a command that writes nothing while it reads has written nothing.
-  pub silent : IsSilentFor (asked words) → status ≢ 0 → status ≢ 4 → now.out.written ≡ before.out.written
+  pub silent : IsSilentFor (asked words) → status ≢ 0 → status ≢ 4
+      → now.out.written ≡ before.out.written
   -- No words and an unknown first word take no memory.
   pub unknown : knows_first words ≡ false → status ≢ 5
   -- What every run promises: the files that were opened, what statuses 2, 3 and 5 say, and that no failed call of the store is

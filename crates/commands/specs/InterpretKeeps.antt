@@ -25,16 +25,24 @@ symbols_in folder (Some name) = symbols_of (lines_in folder name)
 
 -- the output is the interpretation of raw lines with these symbols; read as an interpreted trace, it leaves at every node the
 -- bytes and the blocks live that the raw lines do, and every node has the instruction pointers outwards that it has there
-pub record KeepsTrace (symbols : List Symbol) (lines : List (List ℕ)) (output : List ℕ) : Type 0 where
+pub record KeepsTrace (symbols : List Symbol) (lines : List (List ℕ)) (output : List ℕ) : Type
+    0 where
   pub text : output ≡ text_of (interpreted_trace symbols lines)
   pub read : lines_of output ≡ interpreted_trace symbols lines
   pub ledger : KeepsLedger symbols (contents lines)
-  pub bytes : (node : ℕ) → live_in node (events (lines_of output)) ≡ sum_by (bytes_of node) (live_blocks (contents lines))
-  pub blocks : (node : ℕ) → blocks_in node (events (lines_of output)) ≡ count_by (is_of node) (live_blocks (contents lines))
-  pub stacks : (node : ℕ) → interpreted_ips (trace.contents (lines_of output)) node ≡ map Some (raw_ips (contents lines) node)
+  pub bytes : (node : ℕ)
+      → live_in node (events (lines_of output))
+      ≡ sum_by (bytes_of node) (live_blocks (contents lines))
+  pub blocks : (node : ℕ)
+      → blocks_in node (events (lines_of output))
+      ≡ count_by (is_of node) (live_blocks (contents lines))
+  pub stacks : (node : ℕ)
+      → interpreted_ips (trace.contents (lines_of output)) node
+      ≡ map Some (raw_ips (contents lines) node)
 
 -- the same of every front of the lines, of which a front of the output is the interpretation
-pub record KeepsFronts (symbols : List Symbol) (lines : List (List ℕ)) (output : List ℕ) : Type 0 where
+pub record KeepsFronts (symbols : List Symbol) (lines : List (List ℕ)) (output : List ℕ) : Type
+    0 where
   pub whole : KeepsTrace symbols lines output
   pub fronts : (count : ℕ) → (text : List ℕ) × ((rest : List ℕ) × ((output ≡ text ++ rest)
       × KeepsTrace symbols (take count lines) text))

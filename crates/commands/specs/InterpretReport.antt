@@ -16,7 +16,8 @@ use Rattle.commands.specs.InterpretWords.{InterpretAsked}
 -- the lines of a table of symbols give nothing to standard output
 abbrev pub symbols_report : Report
 symbols_report = record {
-  line_fault = λ earlier line. option_map (λ fault. told (symbol fault)) (symbol_fault (symbols_of earlier) line);
+  line_fault = λ earlier line.
+      option_map (λ fault. told (symbol fault)) (symbol_fault (symbols_of earlier) line);
   end_fault = λ lines ended. None;
   gains = λ earlier line. [];
   verdict = λ lines. Writes [];
@@ -25,8 +26,10 @@ symbols_report = record {
 -- with these symbols, each line of a raw trace gives its interpreted lines, and nothing is left for the end
 abbrev pub interpret_report : List Symbol → Report
 interpret_report symbols = record {
-  line_fault = λ earlier line. option_map (λ error. trace_fault.told (Line error)) (raw_fault symbols earlier line);
-  end_fault = λ lines ended. option_map (λ error. trace_fault.told (Line error)) (raw_end_fault lines);
+  line_fault = λ earlier line.
+      option_map (λ error. trace_fault.told (Line error)) (raw_fault symbols earlier line);
+  end_fault = λ lines ended.
+      option_map (λ error. trace_fault.told (Line error)) (raw_end_fault lines);
   gains = λ earlier line. text_of (interpreted_lines symbols earlier line);
   verdict = λ lines. Writes [];
 }
@@ -34,7 +37,8 @@ interpret_report symbols = record {
 -- the trace is read behind the table of symbols, or alone and then without symbols
 abbrev pub plan_with : Option (List ℕ) → List ℕ → Plan
 plan_with None trace = one_file trace (interpret_report [])
-plan_with (Some symbols) trace = two_files symbols symbols_report trace (λ lines. interpret_report (symbols_of lines))
+plan_with (Some symbols) trace = two_files symbols symbols_report trace
+    (λ lines. interpret_report (symbols_of lines))
 
 abbrev pub interpret_plan : InterpretAsked → Plan
 interpret_plan asked = plan_with asked.symbols asked.trace

@@ -20,7 +20,8 @@ both_are_input None trace = false
 both_are_input (Some symbols) trace = bytes_eq symbols (codes "-") && bytes_eq trace (codes "-")
 
 abbrev pub apart : Option (List ℕ) → List ℕ → Option InterpretAsked
-apart symbols trace = if both_are_input symbols trace then None else Some (record { symbols = symbols; trace = trace })
+apart symbols trace = if both_are_input symbols trace then None
+    else Some (record { symbols = symbols; trace = trace })
 
 -- what a file and the option's value say
 abbrev pub interpret_of : Option (List ℕ) → Option (List ℕ) → Option InterpretAsked
@@ -28,4 +29,6 @@ interpret_of file symbols = option_and_then (apart symbols) file
 
 -- what the words ask for
 abbrev pub interpret_asked : List (List ℕ) → Option InterpretAsked
-interpret_asked words = option_and_then (λ rows. interpret_of (only_file_in rows) (value_in rows (codes "symbols"))) (words_taken interpret_table words)
+interpret_asked words = option_and_then
+    (λ rows. interpret_of (only_file_in rows) (value_in rows (codes "symbols")))
+    (words_taken interpret_table words)

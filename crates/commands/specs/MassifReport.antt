@@ -28,7 +28,9 @@ command_in tables = unwrap_or tables.command []
 
 -- the profile of a trace with these lines, as a Massif file
 unfoldable pub massif_written : MassifSettings → List (List ℕ) → List ℕ
-massif_written settings lines = massif_text (sampled settings.options settings.names (tables_of lines) (events lines) (command_in (tables_of lines)))
+massif_written settings lines = massif_text
+    (sampled settings.options settings.names (tables_of lines) (events lines)
+    (command_in (tables_of lines)))
 
 -- an event's fault as the ledger names it; want of memory is none
 abbrev pub fault_named : SampleFault → Option EventFault
@@ -37,17 +39,21 @@ fault_named sample.CostTooLarge = Some ledger.CostTooLarge
 fault_named sample.NoMemory = None
 
 -- the fault of an event after earlier ones: that of the ledger, or else that its gross bytes or its time are too many
-abbrev pub sampler_fault : MassifSettings → TableState → List Event → Option Event → Option EventFault
+abbrev pub sampler_fault : MassifSettings → TableState → List Event → Option Event
+    → Option EventFault
 sampler_fault settings tables earlier None = None
 sampler_fault settings tables earlier (Some taken) =
-    option_and_then fault_named (sample_fault settings.options (ignores tables settings.names) earlier taken)
+    option_and_then fault_named
+    (sample_fault settings.options (ignores tables settings.names) earlier taken)
 
 -- the fault of what a line of a trace says after earlier lines: the tables judge first, and then, by the tables with it, the
 -- sampler
 unfoldable pub massif_fault : MassifSettings → List (List ℕ) → List ℕ → Option Told
 massif_fault settings earlier line =
     option_or (option_map (λ error. told (Line error)) (tables.line_fault earlier line))
-    (option_map (λ fault. told (event fault)) (sampler_fault settings (tables_of (earlier ++ line ∷ [])) (events earlier) (event_of (step_of earlier line))))
+    (option_map (λ fault. told (event fault))
+    (sampler_fault settings (tables_of (earlier ++ line ∷ [])) (events earlier)
+    (event_of (step_of earlier line))))
 
 -- the profile is written once all lines were read
 abbrev pub massif_report : MassifSettings → Report

@@ -21,8 +21,10 @@ pub record MassifAsked : Type 0 where
 -- ten options, and one file
 abbrev pub massif_table : Table
 massif_table = record {
-  options = codes "threshold" ∷ codes "peak-inaccuracy" ∷ codes "detailed-freq" ∷ codes "max-snapshots" ∷ codes "depth"
-      ∷ codes "heap-admin" ∷ codes "alignment" ∷ codes "time-unit" ∷ codes "alloc-fns" ∷ codes "ignore-fns" ∷ [];
+  options = codes "threshold" ∷ codes "peak-inaccuracy" ∷ codes "detailed-freq"
+      ∷ codes "max-snapshots" ∷ codes "depth"
+      ∷ codes "heap-admin" ∷ codes "alignment" ∷ codes "time-unit" ∷ codes "alloc-fns"
+      ∷ codes "ignore-fns" ∷ [];
   flags = [];
   files = true;
 }
@@ -90,15 +92,24 @@ names_or list = names_in (unwrap_or list [])
 
 -- what options and two lists of names settle
 abbrev pub settings_of : MassifOptions → List (List ℕ) → List (List ℕ) → MassifSettings
-settings_of options alloc_fns ignore_fns = record { options = options; names = record { alloc_fns = alloc_fns; ignore_fns = ignore_fns } }
+settings_of options alloc_fns ignore_fns
+    = record {
+      options = options;
+      names = record { alloc_fns = alloc_fns; ignore_fns = ignore_fns };
+    }
 
 -- what a file and the values of the options ask for
 abbrev pub massif_given : Option (List ℕ) → (List ℕ → Option (List ℕ)) → Option MassifAsked
 massif_given file value =
     option_and_then (λ trace. option_map
-    (λ options. record { trace = trace; settings = settings_of options (names_or (value (codes "alloc-fns"))) (names_or (value (codes "ignore-fns"))) })
+    (λ options. record {
+      trace = trace;
+      settings = settings_of options (names_or (value (codes "alloc-fns")))
+          (names_or (value (codes "ignore-fns")));
+    })
     (options_given value)) file
 
 -- what the words ask for
 unfoldable pub massif_asked : List (List ℕ) → Option MassifAsked
-massif_asked words = option_and_then (λ rows. massif_given (only_file_in rows) (value_in rows)) (words_taken massif_table words)
+massif_asked words = option_and_then (λ rows. massif_given (only_file_in rows) (value_in rows))
+    (words_taken massif_table words)

@@ -6,7 +6,9 @@ use Rattle.hp_num.specs.ParsedPercent.{parsed_percent}
 
 -- the number that decimal digits write, where it is within a range
 abbrev pub number_within : ℕ → ℕ → List ℕ → Option ℕ
-number_within least most text = option_and_then (λ number. if nat_le least number && nat_le number most then Some number else None) (parsed_dec text)
+number_within least most text = option_and_then
+    (λ number. if nat_le least number && nat_le number most then Some number else None)
+    (parsed_dec text)
 
 -- the number of an option: a default where it isn't given
 unfoldable pub number_or : ℕ → ℕ → ℕ → Option (List ℕ) → Option ℕ

@@ -12,4 +12,5 @@ abbrev pub page_verdict : ℕ → ℕ → ℕ → List ℕ → Profile → Verdi
 page_verdict threshold x y words profile = Writes (page_text threshold x y words profile)
 
 abbrev pub page_plan : PageAsked → Plan
-page_plan asked = massif_file_plan asked.file (page_verdict asked.threshold asked.x asked.y (shown_words asked.words))
+page_plan asked = massif_file_plan asked.file
+    (page_verdict asked.threshold asked.x asked.y (shown_words asked.words))

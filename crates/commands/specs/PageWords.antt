@@ -16,7 +16,11 @@ pub record PageAsked : Type 0 where
 
 -- three options, and one file
 abbrev pub page_table : Table
-page_table = record { options = codes "threshold" ∷ codes "x" ∷ codes "y" ∷ []; flags = []; files = true }
+page_table = record {
+  options = codes "threshold" ∷ codes "x" ∷ codes "y" ∷ [];
+  flags = [];
+  files = true;
+}
 
 -- the columns and the rows of the graph
 abbrev pub columns_or : Option (List ℕ) → Option ℕ
@@ -26,14 +30,21 @@ abbrev pub rows_or : Option (List ℕ) → Option ℕ
 rows_or value = number_or 20 4 1000 value
 
 -- what a file and the options' values say
-abbrev pub page_of : List (List ℕ) → Option (List ℕ) → Option ℕ → Option ℕ → Option ℕ → Option PageAsked
+abbrev pub page_of : List (List ℕ) → Option (List ℕ) → Option ℕ → Option ℕ → Option ℕ
+    → Option PageAsked
 page_of words file threshold x y =
-    option_and_then (λ file. option_and_then (λ threshold. option_and_then (λ x. option_map (λ y. record { file = file; threshold = threshold; x = x; y = y; words = words }) y) x) threshold) file
+    option_and_then (λ file.
+    option_and_then (λ threshold.
+    option_and_then (λ x.
+    option_map (λ y. record { file = file; threshold = threshold; x = x; y = y; words = words }) y)
+    x) threshold) file
 
 -- what the words ask for
 abbrev pub page_asked : List (List ℕ) → Option PageAsked
 page_asked words =
-    option_and_then (λ rows. page_of words (only_file_in rows) (percent_or (value_in rows (codes "threshold"))) (columns_or (value_in rows (codes "x"))) (rows_or (value_in rows (codes "y"))))
+    option_and_then (λ rows.
+    page_of words (only_file_in rows) (percent_or (value_in rows (codes "threshold")))
+    (columns_or (value_in rows (codes "x"))) (rows_or (value_in rows (codes "y"))))
     (words_taken page_table words)
 
 -- a blank stands before each word but the first

@@ -10,7 +10,8 @@ use Rattle.trace_reading.specs.TraceReport.{tables_behind}
 
 -- the report on a trace with these lines, whose patterns stand behind those that were given before
 abbrev pub report_written : PrintOptions → List (List ℕ) → List (List ℕ) → List ℕ
-report_written options patterns lines = report_of_trace options (tables_behind patterns lines) (events lines)
+report_written options patterns lines = report_of_trace options (tables_behind patterns lines)
+    (events lines)
 
 -- a report is written once all lines were read
 abbrev pub print_plan : PrintAsked → Plan

@@ -16,7 +16,8 @@ pub record PrintAsked : Type 0 where
 -- nine options, and one file
 abbrev pub print_table : Table
 print_table = record {
-  options = codes "print-allocators" ∷ codes "print-peaks" ∷ codes "print-leaks" ∷ codes "print-temporary" ∷ codes "merge-backtraces"
+  options = codes "print-allocators" ∷ codes "print-peaks" ∷ codes "print-leaks"
+      ∷ codes "print-temporary" ∷ codes "merge-backtraces"
       ∷ codes "histogram" ∷ codes "peak-limit" ∷ codes "sub-peak-limit" ∷ codes "suppressions" ∷ [];
   flags = [];
   files = true;
@@ -71,7 +72,8 @@ options_given value =
 -- both files are standard input, which can be read only once
 abbrev pub reads_input_twice : Option (List ℕ) → List ℕ → Bool
 reads_input_twice None trace = false
-reads_input_twice (Some suppressions) trace = bytes_eq suppressions (codes "-") && bytes_eq trace (codes "-")
+reads_input_twice (Some suppressions) trace = bytes_eq suppressions (codes "-")
+    && bytes_eq trace (codes "-")
 
 -- what two files, the first of which may be absent, and the options ask for
 abbrev pub print_of : Option (List ℕ) → PrintOptions → List ℕ → Option PrintAsked
@@ -82,8 +84,11 @@ print_of suppressions options trace =
 -- what a file and the values of the options ask for
 abbrev pub print_given : Option (List ℕ) → (List ℕ → Option (List ℕ)) → Option PrintAsked
 print_given file value =
-    option_and_then (λ trace. option_and_then (λ options. print_of (value (codes "suppressions")) options trace) (options_given value)) file
+    option_and_then (λ trace.
+    option_and_then (λ options. print_of (value (codes "suppressions")) options trace)
+    (options_given value)) file
 
 -- what the words ask for
 unfoldable pub print_asked : List (List ℕ) → Option PrintAsked
-print_asked words = option_and_then (λ rows. print_given (only_file_in rows) (value_in rows)) (words_taken print_table words)
+print_asked words = option_and_then (λ rows. print_given (only_file_in rows) (value_in rows))
+    (words_taken print_table words)

@@ -23,15 +23,30 @@ use Rattle.commands.specs.ViewWords.{ViewAsked}
 
 -- what a request of `print` asks for
 abbrev pub print_asked_by : PrintRequest → PrintAsked
-print_asked_by print = record { trace = print.trace.now; suppressions = option_map (λ name. name.now) print.suppressions; options = print.options }
+print_asked_by print
+    = record {
+      trace = print.trace.now;
+      suppressions = option_map (λ name. name.now) print.suppressions;
+      options = print.options;
+    }
 
 -- what a request of `massif` asks for
 abbrev pub massif_asked_by : MassifRequest → MassifAsked
-massif_asked_by massif = record { trace = massif.trace.now; settings = settings_of massif.options (names_in massif.alloc_fns.now) (names_in massif.ignore_fns.now) }
+massif_asked_by massif
+    = record {
+      trace = massif.trace.now;
+      settings = settings_of massif.options (names_in massif.alloc_fns.now)
+          (names_in massif.ignore_fns.now);
+    }
 
 -- what a request of `dhat_view` asks for
 abbrev pub view_asked_by : DhatViewRequest → ViewAsked
-view_asked_by view = record { profile = view.profile.now; key = view.options.key; threshold = view.options.threshold; depth = view.options.depth }
+view_asked_by view = record {
+  profile = view.profile.now;
+  key = view.options.key;
+  threshold = view.options.threshold;
+  depth = view.options.depth;
+}
 
 -- what a request of `flame` asks for
 abbrev pub flame_asked_by : FlameRequest → FlameAsked
@@ -60,7 +75,8 @@ asked_of request.Help = Help
 asked_of (request.Summary summary) = Summary summary.trace.now
 asked_of (request.Print print) = Print (print_asked_by print)
 asked_of (request.Flame flame) = Flame (flame_asked_by flame)
-asked_of (request.Interpret interpret) = Interpret (record { symbols = option_copied interpret.symbols; trace = interpret.trace.now })
+asked_of (request.Interpret interpret) = Interpret
+    (record { symbols = option_copied interpret.symbols; trace = interpret.trace.now })
 asked_of (request.Massif massif) = Massif (massif_asked_by massif)
 asked_of (request.Page page) = Page (page_asked_by page)
 asked_of (request.Dhat dhat) = Dhat dhat.trace.now

@@ -27,7 +27,8 @@ unless_fault key None text = Writes text
 unless_fault key (Some fault) text = Refuses (told (fault_of_view key fault))
 
 abbrev pub view_verdict : FigureKey → ℕ → ℕ → Dhat → Verdict
-view_verdict key threshold depth dhat = unless_fault key (view_fault key dhat) (view_text key threshold depth dhat)
+view_verdict key threshold depth dhat = unless_fault key (view_fault key dhat)
+    (view_text key threshold depth dhat)
 
 -- the same as a refusal of the profile
 abbrev pub view_refusal : FigureKey → ViewFault → LineRefusal DocumentFault

@@ -16,7 +16,11 @@ pub record ViewAsked : Type 0 where
 
 -- three options, and one file
 abbrev pub view_table : Table
-view_table = record { options = codes "sort" ∷ codes "threshold" ∷ codes "depth" ∷ []; flags = []; files = true }
+view_table = record {
+  options = codes "sort" ∷ codes "threshold" ∷ codes "depth" ∷ [];
+  flags = [];
+  files = true;
+}
 
 -- the number of frames
 abbrev pub depth_or : Option (List ℕ) → Option ℕ
@@ -25,11 +29,17 @@ depth_or value = number_or 30 1 200 value
 -- what a file and the options' values say
 abbrev pub view_of : Option (List ℕ) → Option FigureKey → Option ℕ → Option ℕ → Option ViewAsked
 view_of file key threshold depth =
-    option_and_then (λ profile. option_and_then (λ key. option_and_then (λ threshold. option_map (λ depth. record { profile = profile; key = key; threshold = threshold; depth = depth })
+    option_and_then (λ profile.
+    option_and_then (λ key.
+    option_and_then (λ threshold.
+    option_map (λ depth.
+    record { profile = profile; key = key; threshold = threshold; depth = depth })
     depth) threshold) key) file
 
 -- what the words ask for
 abbrev pub view_asked : List (List ℕ) → Option ViewAsked
 view_asked words =
-    option_and_then (λ rows. view_of (only_file_in rows) (key_or (value_in rows (codes "sort"))) (percent_or (value_in rows (codes "threshold"))) (depth_or (value_in rows (codes "depth"))))
+    option_and_then (λ rows.
+    view_of (only_file_in rows) (key_or (value_in rows (codes "sort")))
+    (percent_or (value_in rows (codes "threshold"))) (depth_or (value_in rows (codes "depth"))))
     (words_taken view_table words)

@@ -28,8 +28,11 @@ impl<'a> ConvertRequest<'a> {
     /// The request that the words behind `convert` make. `NotTaken` exactly where they aren't taken, unless memory is
     /// wanting.
     pub fn read(alloc: Global, words: &'a [String]) -> Result<ConvertRequest<'a>, WordsFault>
-        ensures taken { IfOk result (λ request. convert_asked (map string_bytes words.entry.now) ≡ Some (convert_asked_by request)) }
-        ensures refused { result ≡ Err WordsFault.NotTaken → convert_asked (map string_bytes words.entry.now) ≡ None }
+        ensures taken { IfOk result
+            (λ request. convert_asked (map string_bytes words.entry.now)
+            ≡ Some (convert_asked_by request)) }
+        ensures refused { result ≡ Err WordsFault.NotTaken
+            → convert_asked (map string_bytes words.entry.now) ≡ None }
     {
         let words = match take_words(alloc, &WORDS, words) {
             Ok(words) => words,

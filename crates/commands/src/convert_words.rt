@@ -57,7 +57,12 @@ pub enum Conversion {
 
 /// What taken words ask for.
 pub fn request_in<'a>(words: &TakenWords<'a>) -> Option<ConvertRequest<'a>>
-    ensures { option_map convert_asked_by result ≡ convert_of (only_file_in (rows_in words.now)) (kind_or (value_in (rows_in words.now) (codes "from"))) (target_or (value_in (rows_in words.now) (codes "to"))) (key_or (value_in (rows_in words.now) (codes "key"))) (snapshot_or (value_in (rows_in words.now) (codes "snapshot"))) }
+    ensures { option_map convert_asked_by result
+        ≡ convert_of (only_file_in (rows_in words.now))
+        (kind_or (value_in (rows_in words.now) (codes "from")))
+        (target_or (value_in (rows_in words.now) (codes "to")))
+        (key_or (value_in (rows_in words.now) (codes "key")))
+        (snapshot_or (value_in (rows_in words.now) (codes "snapshot"))) }
 {
     let file = words.only_file()?;
     let from = kind_or(words.value(FROM))?;

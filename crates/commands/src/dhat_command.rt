@@ -27,8 +27,10 @@ pub struct DhatRequest<'a> {
 impl<'a> DhatRequest<'a> {
     /// The request that the words behind `dhat` make. `NotTaken` exactly where they aren't taken, unless memory is wanting.
     pub fn read(alloc: Global, words: &'a [String]) -> Result<DhatRequest<'a>, WordsFault>
-        ensures taken { IfOk result (λ request. dhat_trace (map string_bytes words.entry.now) ≡ Some request.trace.now) }
-        ensures refused { result ≡ Err WordsFault.NotTaken → dhat_trace (map string_bytes words.entry.now) ≡ None }
+        ensures taken { IfOk result
+            (λ request. dhat_trace (map string_bytes words.entry.now) ≡ Some request.trace.now) }
+        ensures refused { result ≡ Err WordsFault.NotTaken
+            → dhat_trace (map string_bytes words.entry.now) ≡ None }
     {
         let words = take_words(alloc, &WORDS, words)?;
         match words.only_file() {
@@ -45,7 +47,8 @@ impl<'a> DhatRequest<'a> {
         out: &mut O,
     ) -> Result<Vec<u8>, Halt>
         requires { S.opens store.old < 2 ^ 63 }
-        ensures { Runs S.Store O.Sink desk.now (self.now.trace.now ∷ []) (dhat_plan self.now.trace.now)
+        ensures { Runs S.Store O.Sink desk.now (self.now.trace.now ∷ [])
+            (dhat_plan self.now.trace.now)
             store.old store.new out.old out.new result }
     {
         let mut reader = DhatReader::new(desk.alloc)?;

@@ -24,7 +24,8 @@ pub trait DhatFileReport {
     fn report(&self, alloc: Global, dhat: &Dhat) -> Result<Vec<u8>, LineRefusal<DocumentFault>>
         requires { IsSound dhat.now }
         ensures output { IfOk result (λ output. verdict self.now dhat.now ≡ Writes output.items) }
-        ensures fault { IfErr result (λ refusal. Refuses told refusal (verdict self.now dhat.now)) };
+        ensures fault { IfErr result
+            (λ refusal. Refuses told refusal (verdict self.now dhat.now)) };
 }
 
 /// The document of a profile, and what makes the output of it.
@@ -54,7 +55,8 @@ pub fn run_dhat_file<R: DhatFileReport + Drop, S: Store>(
     store: &mut S,
 ) -> Result<Vec<u8>, Halt>
     requires { S.opens store.old < 2 ^ 63 }
-    ensures { (out : Taken) → RunsTo desk.now (name.now ∷ []) (dhat_file_plan name.now (R.verdict report))
+    ensures { (out : Taken)
+        → RunsTo desk.now (name.now ∷ []) (dhat_file_plan name.now (R.verdict report))
         (shown S.Store store.old) (shown S.Store store.new) out out result }
 {
     let file = DhatFile { report };

@@ -46,9 +46,12 @@ impl DhatReader {
         requires passes { PassesEvents self.old.trace.tables }
         requires room { lives_spec.weight_of self.old + length ready.now ≤ 2 ^ 34 }
         ensures sound { lives_spec.IsSoundReader self.new }
-        ensures taken { HasTakenFront (trace_report [] (dhat_written [])) (lives_spec.HasReadLives self.old) (lives_spec.HasReadLives self.new) ready.now result.bytes result.lines }
+        ensures taken { HasTakenFront (trace_report [] (dhat_written []))
+            (lives_spec.HasReadLives self.old) (lives_spec.HasReadLives self.new) ready.now
+            result.bytes result.lines }
         ensures held { result.bytes ≤ length ready.now }
-        ensures weight { lives_spec.weight_of self.new ≤ lives_spec.weight_of self.old + result.bytes }
+        ensures weight { lives_spec.weight_of self.new
+            ≤ lives_spec.weight_of self.old + result.bytes }
     {
         let mut bytes = 0;
         let mut lines = 0;
@@ -70,10 +73,13 @@ impl DhatReader {
         requires room { lives_spec.weight_of self.old + length ready.now ≤ 2 ^ 34 }
         ensures tables { self.new.trace.tables ≡ self.old.trace.tables }
         ensures sound { lives_spec.IsSoundReader self.new }
-        ensures taken { IfSome result (λ bytes. HasTakenLine (trace_report [] (dhat_written [])) (lives_spec.HasReadLives self.old) (lives_spec.HasReadLives self.new) ready.now bytes) }
+        ensures taken { IfSome result
+            (λ bytes. HasTakenLine (trace_report [] (dhat_written []))
+            (lives_spec.HasReadLives self.old) (lives_spec.HasReadLives self.new) ready.now bytes) }
         ensures some { IfSome result (λ bytes. 0 < bytes) }
         ensures held { IfSome result (λ bytes. bytes ≤ length ready.now) }
-        ensures weight { IfSome result (λ bytes. lives_spec.weight_of self.new ≤ lives_spec.weight_of self.old + bytes) }
+        ensures weight { IfSome result
+            (λ bytes. lives_spec.weight_of self.new ≤ lives_spec.weight_of self.old + bytes) }
         ensures untaken { IfNone result (self.new ≡ self.old) }
     {
         let line = self.trace.take_front(ready)?;
@@ -84,7 +90,9 @@ impl DhatReader {
     /// The profile of what was read, and a line feed. `NoMemory` where memory is wanting.
     fn profile(&self, alloc: Global) -> Result<Vec<u8>, NoMemory>
         requires sound { lives_spec.IsSoundReader self.now }
-        ensures { IfOk result (λ output. (lines : List (List ℕ)) → lives_spec.HasReadLives self.now lines → output.items ≡ dhat_written [] lines) }
+        ensures { IfOk result
+            (λ output. (lines : List (List ℕ)) → lives_spec.HasReadLives self.now lines
+            → output.items ≡ dhat_written [] lines) }
     {
         let dhat = trace_profile(
             alloc,
@@ -124,7 +132,7 @@ impl LineTaker for DhatReader {
         self.trace.end()
     }
 
-    fn batch(&mut self, ready: &[u8]) -> Batch {
+    fn batch(&mut self, ready: &[u8], _output: &mut Vec<u8>) -> Batch {
         match self.trace.end() {
             Ok(()) => self.take_events(ready),
             Err(_) => Batch { bytes: 0, lines: 0 },
@@ -142,8 +150,11 @@ impl LineReport for DhatReader {
 /// Takes what a line brings into the lifetimes.
 fn follow(lifetimes: &mut Lifetimes, step: Step) -> Result<(), NoMemory>
     requires can { lives_spec.CanFollow lifetimes.old step }
-    ensures stands { OnOk result ((taken : List Event) → life_spec.StandsFor lifetimes.old taken → life_spec.StandsFor lifetimes.new (taken ++ option_to_list (event_of step))) }
-    ensures stacks { OnOk result (length lifetimes.new.figures ≡ length lifetimes.old.figures + stacks_in step) }
+    ensures stands { OnOk result
+        ((taken : List Event) → life_spec.StandsFor lifetimes.old taken
+        → life_spec.StandsFor lifetimes.new (taken ++ option_to_list (event_of step))) }
+    ensures stacks { OnOk result
+        (length lifetimes.new.figures ≡ length lifetimes.old.figures + stacks_in step) }
 {
     match step {
         Step::Stack => {

@@ -34,7 +34,8 @@ pub struct ViewReport {
 impl DhatFileReport for ViewReport {
     ghost use Rattle.commands.specs.ViewReport.{view_verdict};
 
-    ghost verdict = { λ report. view_verdict report.options.key report.options.threshold report.options.depth };
+    ghost verdict = { λ report.
+        view_verdict report.options.key report.options.threshold report.options.depth };
 
     fn report(&self, alloc: Global, dhat: &Dhat) -> Result<Vec<u8>, LineRefusal<DocumentFault>> {
         let mut view = Vec::new(alloc);
@@ -49,8 +50,11 @@ impl<'a> DhatViewRequest<'a> {
     /// The request that the words behind `dhat_view` make. `NotTaken` exactly where they aren't taken, unless memory is
     /// wanting.
     pub fn read(alloc: Global, words: &'a [String]) -> Result<DhatViewRequest<'a>, WordsFault>
-        ensures taken { IfOk result (λ request. view_asked (map string_bytes words.entry.now) ≡ Some (view_asked_by request)) }
-        ensures refused { result ≡ Err WordsFault.NotTaken → view_asked (map string_bytes words.entry.now) ≡ None }
+        ensures taken { IfOk result
+            (λ request. view_asked (map string_bytes words.entry.now)
+            ≡ Some (view_asked_by request)) }
+        ensures refused { result ≡ Err WordsFault.NotTaken
+            → view_asked (map string_bytes words.entry.now) ≡ None }
     {
         let words = match take_words(alloc, &WORDS, words) {
             Ok(words) => words,

@@ -55,8 +55,11 @@ impl TraceWriter for FlameWriter {
 impl<'a> FlameRequest<'a> {
     /// The request that the words behind `flame` make. `NotTaken` exactly where they aren't taken, unless memory is wanting.
     pub fn read(alloc: Global, words: &'a [String]) -> Result<FlameRequest<'a>, WordsFault>
-        ensures taken { IfOk result (λ request. flame_asked (map string_bytes words.entry.now) ≡ Some (flame_asked_by request)) }
-        ensures refused { result ≡ Err WordsFault.NotTaken → flame_asked (map string_bytes words.entry.now) ≡ None }
+        ensures taken { IfOk result
+            (λ request. flame_asked (map string_bytes words.entry.now)
+            ≡ Some (flame_asked_by request)) }
+        ensures refused { result ≡ Err WordsFault.NotTaken
+            → flame_asked (map string_bytes words.entry.now) ≡ None }
     {
         let words = take_words(alloc, &WORDS, words)?;
         match request_in(&words) {
@@ -87,7 +90,9 @@ impl<'a> FlameRequest<'a> {
 
 /// What taken words ask for.
 fn request_in<'a>(words: &TakenWords<'a>) -> Option<FlameRequest<'a>>
-    ensures { option_map flame_asked_by result ≡ flame_of (only_file_in (rows_in words.now)) (value_in (rows_in words.now) (codes "flamegraph-cost-type")) }
+    ensures { option_map flame_asked_by result
+        ≡ flame_of (only_file_in (rows_in words.now))
+        (value_in (rows_in words.now) (codes "flamegraph-cost-type")) }
 {
     let trace = words.only_file()?;
     let cost = cost_in(words)?;

@@ -49,8 +49,10 @@ pub struct GenRequest {
 impl GenRequest {
     /// The request that the words behind `gen` make. `NotTaken` exactly where they aren't taken, unless memory is wanting.
     pub fn read(alloc: Global, words: &[String]) -> Result<GenRequest, WordsFault>
-        ensures taken { IfOk result (λ request. gen_asked (map string_bytes words.now) ≡ Some (gen_asked_by request)) }
-        ensures refused { result ≡ Err WordsFault.NotTaken → gen_asked (map string_bytes words.now) ≡ None }
+        ensures taken { IfOk result
+            (λ request. gen_asked (map string_bytes words.now) ≡ Some (gen_asked_by request)) }
+        ensures refused { result ≡ Err WordsFault.NotTaken
+            → gen_asked (map string_bytes words.now) ≡ None }
     {
         let words = match take_words(alloc, &WORDS, words) {
             Ok(words) => words,
@@ -77,7 +79,11 @@ impl GenRequest {
 
 /// What taken words ask for.
 fn request_in(words: &TakenWords) -> Option<GenRequest>
-    ensures { option_map gen_asked_by result ≡ gen_of (seed_number (value_in (rows_in words.now) (codes "seed"))) (events_number (value_in (rows_in words.now) (codes "events"))) (stacks_number (value_in (rows_in words.now) (codes "stacks"))) (flag_in (rows_in words.now) (codes "run")) }
+    ensures { option_map gen_asked_by result
+        ≡ gen_of (seed_number (value_in (rows_in words.now) (codes "seed")))
+        (events_number (value_in (rows_in words.now) (codes "events")))
+        (stacks_number (value_in (rows_in words.now) (codes "stacks")))
+        (flag_in (rows_in words.now) (codes "run")) }
 {
     let seed = number_or(1, 0, 2_147_483_647, words.value(SEED))?;
     let events = number_or(1000, 0, 10_000_000, words.value(EVENTS))?;

@@ -38,7 +38,8 @@ fn summarize(
     requires sound { IsSound trace.old }
     requires new_trace { HasRead trace.old [] [] }
     requires no_events { trace.old.peaks.ledger.totals.events ≡ 0 }
-    ensures { IfOk result (λ summary. summary.items ≡ summary_written [] (lines_yet generator.old)) }
+    ensures { IfOk result
+        (λ summary. summary.items ≡ summary_written [] (lines_yet generator.old)) }
 {
     read_lines(alloc, generator, trace)?;
     let mut summary = Vec::new(alloc);

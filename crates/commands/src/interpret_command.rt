@@ -38,8 +38,14 @@ impl<'a> InterpretRequest<'a> {
     /// The request that the words behind `interpret` make. `NotTaken` exactly where they aren't taken, unless memory is
     /// wanting.
     pub fn read(alloc: Global, words: &'a [String]) -> Result<InterpretRequest<'a>, WordsFault>
-        ensures taken { IfOk result (λ request. interpret_asked (map string_bytes words.entry.now) ≡ Some (record { symbols = option_copied request.symbols; trace = request.trace.now })) }
-        ensures refused { result ≡ Err WordsFault.NotTaken → interpret_asked (map string_bytes words.entry.now) ≡ None }
+        ensures taken { IfOk result
+            (λ request. interpret_asked (map string_bytes words.entry.now)
+            ≡ Some (record {
+              symbols = option_copied request.symbols;
+              trace = request.trace.now;
+            })) }
+        ensures refused { result ≡ Err WordsFault.NotTaken
+            → interpret_asked (map string_bytes words.entry.now) ≡ None }
     {
         let words = take_words(alloc, &WORDS, words)?;
         match request_in(&words) {
@@ -78,7 +84,8 @@ fn run_with<S: Store, O: Sink>(
 ) -> Result<Vec<u8>, Halt>
     requires { S.opens store.old < 2 ^ 63 }
     ensures { Runs S.Store O.Sink desk.now (symbols.now ∷ trace.now ∷ [])
-        (two_files symbols.now symbols_report trace.now (λ lines. interpret_report (symbols_of lines)))
+        (two_files symbols.now symbols_report trace.now
+        (λ lines. interpret_report (symbols_of lines)))
         store.old store.new out.old out.new result }
 {
     let names = PairNames {
@@ -99,7 +106,8 @@ fn run_alone<S: Store, O: Sink>(
     out: &mut O,
 ) -> Result<Vec<u8>, Halt>
     requires { S.opens store.old < 2 ^ 63 }
-    ensures { Runs S.Store O.Sink desk.now (trace.now ∷ []) (one_file trace.now (interpret_report []))
+    ensures { Runs S.Store O.Sink desk.now (trace.now ∷ [])
+        (one_file trace.now (interpret_report []))
         store.old store.new out.old out.new result }
 {
     let mut reader = RawReader {
@@ -110,7 +118,10 @@ fn run_alone<S: Store, O: Sink>(
 
 /// What taken words ask for.
 fn request_in<'a>(words: &TakenWords<'a>) -> Option<InterpretRequest<'a>>
-    ensures { option_map (λ request. record { symbols = option_copied request.symbols; trace = request.trace.now }) result ≡ interpret_of (only_file_in (rows_in words.now)) (value_in (rows_in words.now) (codes "symbols")) }
+    ensures { option_map
+        (λ request. record { symbols = option_copied request.symbols; trace = request.trace.now })
+        result ≡ interpret_of (only_file_in (rows_in words.now))
+        (value_in (rows_in words.now) (codes "symbols")) }
 {
     let trace = words.only_file()?;
     let symbols = words.value(SYMBOLS);

@@ -1,11 +1,12 @@
 //! The readers of a table of symbols and of a raw trace, whose interpreted lines are written while it is read.
-ghost use Rattle.std.specs.Prelude.{◌≡◌, ℕ, List, []};
+ghost use Rattle.std.specs.Prelude.{◌≡◌, ◌≤◌, ℕ, List, [], length};
+ghost use Rattle.command_frame.specs.Batch.{HasGivenFront};
 ghost use Rattle.interpret.specs.SymbolList.{symbols_of};
 ghost use Rattle.interpret.specs.InterpreterState.{StandsFor};
 ghost use Rattle.commands.specs.InterpretReport.{interpret_report, symbols_report};
 
 use crate::symbol_file_fault::SymbolFileFault;
-use command_frame::{FilePair, LineRefusal, LineReport, LineTaker};
+use command_frame::{Batch, FilePair, LineRefusal, LineReport, LineTaker};
 use hp_num::NoMemory;
 use ht_trace::LineError;
 use interpret::{Interpreter, SymbolFault, Symbols};
@@ -76,6 +77,30 @@ impl LineTaker for RawReader {
             Ok(()) => Ok(()),
             Err(error) => Err(TraceFault::Line(error)),
         }
+    }
+
+    fn batch(&mut self, ready: &[u8], output: &mut Vec<u8>) -> Batch {
+        take_lines(&mut self.interpreter, ready, output)
+    }
+}
+
+/// Takes lines of a raw trace at the front of the bytes, as long as `take_front` takes them.
+fn take_lines(interpreter: &mut Interpreter, ready: &[u8], output: &mut Vec<u8>) -> Batch
+    ensures taken { HasGivenFront (interpret_report interpreter.old.symbols)
+        (StandsFor interpreter.old interpreter.old.symbols)
+        (StandsFor interpreter.new interpreter.new.symbols) ready.now result.bytes result.lines
+        output.old.items output.new.items }
+    ensures held { result.bytes ≤ length ready.now }
+    ensures symbols { interpreter.new.symbols ≡ interpreter.old.symbols }
+{
+    let mut bytes = 0;
+    let mut lines = 0;
+    'lines: loop {
+        let Some(taken) = interpreter.take_front(&ready[bytes..], output) else {
+            return Batch { bytes, lines };
+        };
+        bytes += taken;
+        lines += 1;
     }
 }
 

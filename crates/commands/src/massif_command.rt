@@ -26,8 +26,11 @@ impl<'a> MassifRequest<'a> {
     /// The request that the words behind `massif` make. `NotTaken` exactly where they aren't taken, unless memory is
     /// wanting.
     pub fn read(alloc: Global, words: &'a [String]) -> Result<MassifRequest<'a>, WordsFault>
-        ensures taken { IfOk result (λ request. massif_asked (map string_bytes words.entry.now) ≡ Some (massif_asked_by request)) }
-        ensures refused { result ≡ Err WordsFault.NotTaken → massif_asked (map string_bytes words.entry.now) ≡ None }
+        ensures taken { IfOk result
+            (λ request. massif_asked (map string_bytes words.entry.now)
+            ≡ Some (massif_asked_by request)) }
+        ensures refused { result ≡ Err WordsFault.NotTaken
+            → massif_asked (map string_bytes words.entry.now) ≡ None }
     {
         let words = take_words(alloc, &WORDS, words)?;
         match request_in(&words) {
@@ -66,8 +69,10 @@ impl<'a> MassifRequest<'a> {
 
     /// The names of both lists of functions, which the tests of names keep. `NoMemory` where memory is wanting.
     fn names(&self, alloc: Global) -> Result<(Names, Names), NoMemory>
-        ensures alloc_fns { IfOk result (λ names. names.0 ≡ without_repeats bytes_eq (names_in self.now.alloc_fns.now)) }
-        ensures ignore_fns { IfOk result (λ names. names.1 ≡ without_repeats bytes_eq (names_in self.now.ignore_fns.now)) }
+        ensures alloc_fns { IfOk result
+            (λ names. names.0 ≡ without_repeats bytes_eq (names_in self.now.alloc_fns.now)) }
+        ensures ignore_fns { IfOk result
+            (λ names. names.1 ≡ without_repeats bytes_eq (names_in self.now.ignore_fns.now)) }
     {
         let alloc_fns = names_of(alloc, self.alloc_fns.as_bytes())?;
         let ignore_fns = names_of(alloc, self.ignore_fns.as_bytes())?;
@@ -81,7 +86,8 @@ impl Settled for MassifRequest<'_> {
 
 /// What taken words ask for.
 fn request_in<'a>(words: &TakenWords<'a>) -> Option<MassifRequest<'a>>
-    ensures { option_map massif_asked_by result ≡ massif_given (only_file_in (rows_in words.now)) (value_in (rows_in words.now)) }
+    ensures { option_map massif_asked_by result
+        ≡ massif_given (only_file_in (rows_in words.now)) (value_in (rows_in words.now)) }
 {
     let trace = words.only_file()?;
     let options = options_in(words)?;

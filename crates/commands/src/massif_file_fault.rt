@@ -1,6 +1,5 @@
-//! The faults of a Massif file, what they are called, and their kinds. When each comes is decided where the file is read.
+//! The faults of a Massif file as messages tell them, and their kinds. When each comes is decided where the file is read.
 ghost use Rattle.std.specs.Prelude.{◌≡◌};
-ghost use Rattle.commands.specs.MassifFileFault.{file_text};
 
 use command_frame::{Fault, FaultStatus};
 use hp_num::{NoMemory, put_bytes};
@@ -24,7 +23,7 @@ impl Fault for MassifFileFault {
 
     fn put_text(&self, out: &mut Vec<u8>) -> Result<(), NoMemory> {
         match self {
-            MassifFileFault::File(fault) => put_bytes(out, file_text(*fault).as_bytes()),
+            MassifFileFault::File(fault) => put_bytes(out, fault.text().as_bytes()),
             MassifFileFault::NoTree => put_bytes(out, b"no tree"),
             MassifFileFault::TooLarge => put_bytes(out, b"figures too large"),
         }
@@ -35,20 +34,5 @@ impl Fault for MassifFileFault {
             MassifFileFault::File(_) | MassifFileFault::NoTree => FaultStatus::Malformed,
             MassifFileFault::TooLarge => FaultStatus::PastLimit,
         }
-    }
-}
-
-/// What the fault of a Massif file is called. Want of memory is none, and never told as one.
-fn file_text(fault: ProfileFault) -> &'static str
-    ensures { result.now ≡ file_text fault }
-{
-    match fault {
-        ProfileFault::BadHeader => "bad header",
-        ProfileFault::BadSnapshot => "bad snapshot",
-        ProfileFault::BadNumber => "bad number",
-        ProfileFault::WrongOrder => "wrong order",
-        ProfileFault::BadTree => "bad tree",
-        ProfileFault::Truncated => "truncated",
-        ProfileFault::NoMemory => "out of memory",
     }
 }

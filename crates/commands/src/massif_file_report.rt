@@ -24,6 +24,8 @@ pub trait MassifFileReport {
         profile: &Profile,
     ) -> Result<Vec<u8>, LineRefusal<MassifFileFault>>
         requires { IsWritable profile.now }
-        ensures output { IfOk result (λ output. verdict self.now profile.now ≡ Writes output.items) }
-        ensures fault { IfErr result (λ refusal. Refuses told refusal (verdict self.now profile.now)) };
+        ensures output { IfOk result
+            (λ output. verdict self.now profile.now ≡ Writes output.items) }
+        ensures fault { IfErr result
+            (λ refusal. Refuses told refusal (verdict self.now profile.now)) };
 }

@@ -26,7 +26,8 @@ impl<R: MassifFileReport> LineTaker for MassifFileTaker<R> {
 
     ghost has_taken = { λ taker lines. StandsFor taker.reader lines × All IsLine lines };
 
-    ghost is_sound = { λ taker. (lines : List (List ℕ)) × StandsFor taker.reader lines × All IsLine lines };
+    ghost is_sound = { λ taker.
+        (lines : List (List ℕ)) × StandsFor taker.reader lines × All IsLine lines };
 
     ghost weight = { λ _. 0 };
 
@@ -69,7 +70,8 @@ pub fn run_massif_file<R: MassifFileReport + Drop, S: Store, O: Sink>(
     out: &mut O,
 ) -> Result<Vec<u8>, Halt>
     requires { S.opens store.old < 2 ^ 63 }
-    ensures { Runs S.Store O.Sink desk.now (name.now ∷ []) (massif_file_plan name.now (R.verdict report))
+    ensures { Runs S.Store O.Sink desk.now (name.now ∷ [])
+        (massif_file_plan name.now (R.verdict report))
         store.old store.new out.old out.new result }
 {
     let mut taker = MassifFileTaker {

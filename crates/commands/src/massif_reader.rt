@@ -59,12 +59,20 @@ impl<A: Fn(&[u8]) -> bool, I: Fn(&[u8]) -> bool, S: Settled + Drop> MassifReader
         requires settled { (S.settings settings).options ≡ options }
         requires alloc_callable { A.IsAlwaysCallable alloc_fns.test }
         requires ignore_callable { I.IsAlwaysCallable ignore_fns.test }
-        requires stated { AreStated (FnReturnsAt A.Fn alloc_fns.test) (FnReturnsAt I.Fn ignore_fns.test) (S.settings settings).names }
+        requires stated { AreStated (FnReturnsAt A.Fn alloc_fns.test)
+            (FnReturnsAt I.Fn ignore_fns.test) (S.settings settings).names }
         ensures sampler { IfOk result (λ reader. IsSome reader.sampler) }
-        ensures sound { IfOk result (λ reader. IfSome reader.sampler (λ sampler. A.IsAlwaysCallable sampler.alloc_fns.test × I.IsAlwaysCallable sampler.ignore_fns.test
-            × IsSoundSampling (FnReturnsAt A.Fn sampler.alloc_fns.test) (FnReturnsAt I.Fn sampler.ignore_fns.test) (S.settings reader.settings) reader.tables reader.ledger sampler.judged.items sampler.samples)) }
-        ensures read { IfOk result (λ reader. trace_spec.StandsFor reader.tables [] × IfSome reader.sampler (λ sampler.
-            HasSampled (S.settings reader.settings) reader.tables reader.ledger sampler.judged.items sampler.samples [])) }
+        ensures sound { IfOk result
+            (λ reader. IfSome reader.sampler
+            (λ sampler. A.IsAlwaysCallable sampler.alloc_fns.test
+            × I.IsAlwaysCallable sampler.ignore_fns.test
+            × IsSoundSampling (FnReturnsAt A.Fn sampler.alloc_fns.test)
+            (FnReturnsAt I.Fn sampler.ignore_fns.test) (S.settings reader.settings) reader.tables
+            reader.ledger sampler.judged.items sampler.samples)) }
+        ensures read { IfOk result
+            (λ reader. trace_spec.StandsFor reader.tables [] × IfSome reader.sampler (λ sampler.
+            HasSampled (S.settings reader.settings) reader.tables reader.ledger sampler.judged.items
+            sampler.samples [])) }
         ensures events { IfOk result (λ reader. reader.ledger.totals.events ≡ 0) }
         ensures settings { IfOk result (λ reader. reader.settings ≡ settings) }
     {
@@ -84,17 +92,32 @@ impl<A: Fn(&[u8]) -> bool, I: Fn(&[u8]) -> bool, S: Settled> MassifReader<A, I, 
     /// Takes lines of events at the front of the bytes, as long as no memory is wanting and `take_front` takes them. A version
     /// line was read before.
     fn take_events(&mut self, ready: &[u8]) -> Batch
-        requires sound { IfSome self.old.sampler (λ sampler. A.IsAlwaysCallable sampler.alloc_fns.test × I.IsAlwaysCallable sampler.ignore_fns.test
-            × IsSoundSampling (FnReturnsAt A.Fn sampler.alloc_fns.test) (FnReturnsAt I.Fn sampler.ignore_fns.test) (S.settings self.old.settings) self.old.tables self.old.ledger sampler.judged.items sampler.samples) }
+        requires sound { IfSome self.old.sampler
+            (λ sampler. A.IsAlwaysCallable sampler.alloc_fns.test
+            × I.IsAlwaysCallable sampler.ignore_fns.test
+            × IsSoundSampling (FnReturnsAt A.Fn sampler.alloc_fns.test)
+            (FnReturnsAt I.Fn sampler.ignore_fns.test) (S.settings self.old.settings)
+            self.old.tables self.old.ledger sampler.judged.items sampler.samples) }
         requires passes { PassesEvents self.old.tables }
         requires room { 4 * self.old.ledger.totals.events + length ready.now ≤ 2 ^ 34 }
-        ensures sound { IfSome self.new.sampler (λ sampler. A.IsAlwaysCallable sampler.alloc_fns.test × I.IsAlwaysCallable sampler.ignore_fns.test
-            × IsSoundSampling (FnReturnsAt A.Fn sampler.alloc_fns.test) (FnReturnsAt I.Fn sampler.ignore_fns.test) (S.settings self.new.settings) self.new.tables self.new.ledger sampler.judged.items sampler.samples) }
-        ensures taken { HasTakenFront (massif_report (S.settings self.old.settings)) (λ lines. trace_spec.StandsFor self.old.tables lines × IfSome self.old.sampler (λ sampler.
-            HasSampled (S.settings self.old.settings) self.old.tables self.old.ledger sampler.judged.items sampler.samples lines)) (λ lines. trace_spec.StandsFor self.new.tables lines × IfSome self.new.sampler (λ sampler.
-            HasSampled (S.settings self.new.settings) self.new.tables self.new.ledger sampler.judged.items sampler.samples lines)) ready.now result.bytes result.lines }
+        ensures sound { IfSome self.new.sampler
+            (λ sampler. A.IsAlwaysCallable sampler.alloc_fns.test
+            × I.IsAlwaysCallable sampler.ignore_fns.test
+            × IsSoundSampling (FnReturnsAt A.Fn sampler.alloc_fns.test)
+            (FnReturnsAt I.Fn sampler.ignore_fns.test) (S.settings self.new.settings)
+            self.new.tables self.new.ledger sampler.judged.items sampler.samples) }
+        ensures taken { HasTakenFront (massif_report (S.settings self.old.settings))
+            (λ lines. trace_spec.StandsFor self.old.tables lines
+            × IfSome self.old.sampler (λ sampler.
+            HasSampled (S.settings self.old.settings) self.old.tables self.old.ledger
+            sampler.judged.items sampler.samples lines))
+            (λ lines. trace_spec.StandsFor self.new.tables lines
+            × IfSome self.new.sampler (λ sampler.
+            HasSampled (S.settings self.new.settings) self.new.tables self.new.ledger
+            sampler.judged.items sampler.samples lines)) ready.now result.bytes result.lines }
         ensures held { result.bytes ≤ length ready.now }
-        ensures weight { 4 * self.new.ledger.totals.events ≤ 4 * self.old.ledger.totals.events + result.bytes }
+        ensures weight { 4 * self.new.ledger.totals.events
+            ≤ 4 * self.old.ledger.totals.events + result.bytes }
         ensures settings { self.new.settings ≡ self.old.settings }
     {
         let mut bytes = 0;
@@ -113,23 +136,45 @@ impl<A: Fn(&[u8]) -> bool, I: Fn(&[u8]) -> bool, S: Settled> MassifReader<A, I, 
     /// so that nothing more is taken and no profile is given.
     #[inline(always)]
     fn take_front(&mut self, ready: &[u8]) -> Option<usize>
-        requires sound { IfSome self.old.sampler (λ sampler. A.IsAlwaysCallable sampler.alloc_fns.test × I.IsAlwaysCallable sampler.ignore_fns.test
-            × IsSoundSampling (FnReturnsAt A.Fn sampler.alloc_fns.test) (FnReturnsAt I.Fn sampler.ignore_fns.test) (S.settings self.old.settings) self.old.tables self.old.ledger sampler.judged.items sampler.samples) }
+        requires sound { IfSome self.old.sampler
+            (λ sampler. A.IsAlwaysCallable sampler.alloc_fns.test
+            × I.IsAlwaysCallable sampler.ignore_fns.test
+            × IsSoundSampling (FnReturnsAt A.Fn sampler.alloc_fns.test)
+            (FnReturnsAt I.Fn sampler.ignore_fns.test) (S.settings self.old.settings)
+            self.old.tables self.old.ledger sampler.judged.items sampler.samples) }
         requires passes { PassesEvents self.old.tables }
         requires room { 4 * self.old.ledger.totals.events + length ready.now ≤ 2 ^ 34 }
         ensures tables { self.new.tables ≡ self.old.tables }
         ensures settings { self.new.settings ≡ self.old.settings }
-        ensures sound { IfSome self.new.sampler (λ sampler. A.IsAlwaysCallable sampler.alloc_fns.test × I.IsAlwaysCallable sampler.ignore_fns.test
-            × IsSoundSampling (FnReturnsAt A.Fn sampler.alloc_fns.test) (FnReturnsAt I.Fn sampler.ignore_fns.test) (S.settings self.new.settings) self.new.tables self.new.ledger sampler.judged.items sampler.samples) }
-        ensures taken { IfSome result (λ bytes. HasTakenLine (massif_report (S.settings self.old.settings)) (λ lines. trace_spec.StandsFor self.old.tables lines × IfSome self.old.sampler (λ sampler.
-            HasSampled (S.settings self.old.settings) self.old.tables self.old.ledger sampler.judged.items sampler.samples lines)) (λ lines. trace_spec.StandsFor self.new.tables lines × IfSome self.new.sampler (λ sampler.
-            HasSampled (S.settings self.new.settings) self.new.tables self.new.ledger sampler.judged.items sampler.samples lines)) ready.now bytes) }
+        ensures sound { IfSome self.new.sampler
+            (λ sampler. A.IsAlwaysCallable sampler.alloc_fns.test
+            × I.IsAlwaysCallable sampler.ignore_fns.test
+            × IsSoundSampling (FnReturnsAt A.Fn sampler.alloc_fns.test)
+            (FnReturnsAt I.Fn sampler.ignore_fns.test) (S.settings self.new.settings)
+            self.new.tables self.new.ledger sampler.judged.items sampler.samples) }
+        ensures taken { IfSome result
+            (λ bytes. HasTakenLine (massif_report (S.settings self.old.settings))
+            (λ lines. trace_spec.StandsFor self.old.tables lines
+            × IfSome self.old.sampler (λ sampler.
+            HasSampled (S.settings self.old.settings) self.old.tables self.old.ledger
+            sampler.judged.items sampler.samples lines))
+            (λ lines. trace_spec.StandsFor self.new.tables lines
+            × IfSome self.new.sampler (λ sampler.
+            HasSampled (S.settings self.new.settings) self.new.tables self.new.ledger
+            sampler.judged.items sampler.samples lines)) ready.now bytes) }
         ensures some { IfSome result (λ bytes. 0 < bytes) }
         ensures held { IfSome result (λ bytes. bytes ≤ length ready.now) }
-        ensures weight { IfSome result (λ bytes. 4 * self.new.ledger.totals.events ≤ 4 * self.old.ledger.totals.events + bytes) }
-        ensures untaken { IfNone result ((lines : List (List ℕ)) → trace_spec.StandsFor self.old.tables lines × IfSome self.old.sampler (λ sampler.
-            HasSampled (S.settings self.old.settings) self.old.tables self.old.ledger sampler.judged.items sampler.samples lines) → trace_spec.StandsFor self.new.tables lines × IfSome self.new.sampler (λ sampler.
-            HasSampled (S.settings self.new.settings) self.new.tables self.new.ledger sampler.judged.items sampler.samples lines)) }
+        ensures weight { IfSome result
+            (λ bytes. 4 * self.new.ledger.totals.events
+            ≤ 4 * self.old.ledger.totals.events + bytes) }
+        ensures untaken { IfNone result
+            ((lines : List (List ℕ))
+            → trace_spec.StandsFor self.old.tables lines × IfSome self.old.sampler (λ sampler.
+            HasSampled (S.settings self.old.settings) self.old.tables self.old.ledger
+            sampler.judged.items sampler.samples lines)
+            → trace_spec.StandsFor self.new.tables lines × IfSome self.new.sampler (λ sampler.
+            HasSampled (S.settings self.new.settings) self.new.tables self.new.ledger
+            sampler.judged.items sampler.samples lines)) }
         ensures unmoved { IfNone result (self.new.ledger ≡ self.old.ledger) }
     {
         let Some(sampler) = &mut self.sampler else {
@@ -153,11 +198,18 @@ impl<A: Fn(&[u8]) -> bool, I: Fn(&[u8]) -> bool, S: Settled> LineTaker for Massi
 
     ghost report = { λ reader. massif_report (S.settings reader.settings) };
 
-    ghost has_taken = { λ reader lines. trace_spec.StandsFor reader.tables lines × IfSome reader.sampler (λ sampler.
-        HasSampled (S.settings reader.settings) reader.tables reader.ledger sampler.judged.items sampler.samples lines) };
+    ghost has_taken = { λ reader lines.
+        trace_spec.StandsFor reader.tables lines × IfSome reader.sampler (λ sampler.
+        HasSampled (S.settings reader.settings) reader.tables reader.ledger sampler.judged.items
+        sampler.samples lines) };
 
-    ghost is_sound = { λ reader. IfSome reader.sampler (λ sampler. A.IsAlwaysCallable sampler.alloc_fns.test × I.IsAlwaysCallable sampler.ignore_fns.test
-        × IsSoundSampling (FnReturnsAt A.Fn sampler.alloc_fns.test) (FnReturnsAt I.Fn sampler.ignore_fns.test) (S.settings reader.settings) reader.tables reader.ledger sampler.judged.items sampler.samples) };
+    ghost is_sound = { λ reader.
+        IfSome reader.sampler
+        (λ sampler. A.IsAlwaysCallable sampler.alloc_fns.test
+        × I.IsAlwaysCallable sampler.ignore_fns.test
+        × IsSoundSampling (FnReturnsAt A.Fn sampler.alloc_fns.test)
+        (FnReturnsAt I.Fn sampler.ignore_fns.test) (S.settings reader.settings) reader.tables
+        reader.ledger sampler.judged.items sampler.samples) };
 
     ghost weight = { λ reader. 4 * reader.ledger.totals.events };
 
@@ -185,7 +237,7 @@ impl<A: Fn(&[u8]) -> bool, I: Fn(&[u8]) -> bool, S: Settled> LineTaker for Massi
         }
     }
 
-    fn batch(&mut self, ready: &[u8]) -> Batch {
+    fn batch(&mut self, ready: &[u8], _output: &mut Vec<u8>) -> Batch {
         match self.tables.end() {
             Ok(()) => self.take_events(ready),
             Err(_) => Batch { bytes: 0, lines: 0 },
@@ -228,24 +280,40 @@ fn follow<A: Fn(&[u8]) -> bool, I: Fn(&[u8]) -> bool>(
     requires few { 4 * ledger.old.totals.events + least_length step ≤ 2 ^ 34 }
     requires alloc_callable { A.IsAlwaysCallable sampler.old.alloc_fns.test }
     requires ignore_callable { I.IsAlwaysCallable sampler.old.ignore_fns.test }
-    requires of_events { (names : FunctionNames) × AreOfEvents sampler.old.judged.items sampler.old.samples names tables.now ledger.old }
-    ensures sampling { OnOk result ((names : FunctionNames) (taken : List Event) → AreStated (FnReturnsAt A.Fn sampler.old.alloc_fns.test) (FnReturnsAt I.Fn sampler.old.ignore_fns.test) names →
-        sample_spec.StandsFor sampler.old.judged.items sampler.old.samples names tables.now taken → ledger_spec.StandsFor ledger.old taken →
-        sample_spec.StandsFor sampler.new.judged.items sampler.new.samples names tables.now (taken ++ option_to_list (event_of step))) }
-    ensures figures { OnOk result ((taken : List Event) → ledger_spec.StandsFor ledger.old taken → ledger_spec.StandsFor ledger.new (taken ++ option_to_list (event_of step))) }
-    ensures no_fault { OnOk result ((settings : MassifSettings) (taken : List Event) → sampler.old.samples.options ≡ settings.options →
-        sample_spec.StandsFor sampler.old.judged.items sampler.old.samples settings.names tables.now taken → ledger_spec.StandsFor ledger.old taken →
+    requires of_events { (names : FunctionNames)
+        × AreOfEvents sampler.old.judged.items sampler.old.samples names tables.now ledger.old }
+    ensures sampling { OnOk result
+        ((names : FunctionNames) (taken : List Event)
+        → AreStated (FnReturnsAt A.Fn sampler.old.alloc_fns.test)
+        (FnReturnsAt I.Fn sampler.old.ignore_fns.test) names →
+        sample_spec.StandsFor sampler.old.judged.items sampler.old.samples names tables.now taken
+        → ledger_spec.StandsFor ledger.old taken →
+        sample_spec.StandsFor sampler.new.judged.items sampler.new.samples names tables.now
+        (taken ++ option_to_list (event_of step))) }
+    ensures figures { OnOk result
+        ((taken : List Event) → ledger_spec.StandsFor ledger.old taken
+        → ledger_spec.StandsFor ledger.new (taken ++ option_to_list (event_of step))) }
+    ensures no_fault { OnOk result
+        ((settings : MassifSettings) (taken : List Event)
+        → sampler.old.samples.options ≡ settings.options →
+        sample_spec.StandsFor sampler.old.judged.items sampler.old.samples settings.names tables.now
+        taken → ledger_spec.StandsFor ledger.old taken →
         sampler_fault settings tables.now taken (event_of step) ≡ None) }
-    ensures fault { IfErr result (λ refusal. (settings : MassifSettings) (taken : List Event) → sampler.old.samples.options ≡ settings.options →
-        sample_spec.StandsFor sampler.old.judged.items sampler.old.samples settings.names tables.now taken → ledger_spec.StandsFor ledger.old taken →
-        Tells told refusal (option_map (λ fault. told (TraceFault.Event fault)) (sampler_fault settings tables.now taken (event_of step)))) }
+    ensures fault { IfErr result
+        (λ refusal. (settings : MassifSettings) (taken : List Event)
+        → sampler.old.samples.options ≡ settings.options →
+        sample_spec.StandsFor sampler.old.judged.items sampler.old.samples settings.names tables.now
+        taken → ledger_spec.StandsFor ledger.old taken →
+        Tells told refusal (option_map (λ fault. told (TraceFault.Event fault))
+        (sampler_fault settings tables.now taken (event_of step)))) }
     ensures judged { OnOk result (length sampler.new.judged.items ≡ ledger.new.stacks) }
     ensures stacks { OnOk result (ledger.new.stacks ≡ ledger.old.stacks + stacks_in step) }
     ensures infos { OnOk result (ledger.new.infos ≡ ledger.old.infos ++ infos_in step) }
     ensures options { OnOk result (sampler.new.samples.options ≡ sampler.old.samples.options) }
     ensures alloc_fns { OnOk result (sampler.new.alloc_fns ≡ sampler.old.alloc_fns) }
     ensures ignore_fns { OnOk result (sampler.new.ignore_fns ≡ sampler.old.ignore_fns) }
-    ensures weight { OnOk result (4 * ledger.new.totals.events ≤ 4 * ledger.old.totals.events + least_length step + 1) }
+    ensures weight { OnOk result
+        (4 * ledger.new.totals.events ≤ 4 * ledger.old.totals.events + least_length step + 1) }
 {
     match step {
         Step::Nothing => Ok(()),

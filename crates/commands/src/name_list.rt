@@ -22,7 +22,8 @@ pub fn names_of(alloc: Global, list: &[u8]) -> Result<Names, NoMemory>
 
 /// Adds a piece, unless it is empty.
 fn add_piece(names: &mut Names, piece: &[u8]) -> Result<(), NoMemory>
-    ensures { OnOk result ((came : List (List ℕ)) → names.old ≡ without_repeats bytes_eq (with_text came) →
+    ensures { OnOk result
+        ((came : List (List ℕ)) → names.old ≡ without_repeats bytes_eq (with_text came) →
         names.new ≡ without_repeats bytes_eq (with_text (came ++ piece.now ∷ []))) }
 {
     if piece.is_empty() {

@@ -26,7 +26,8 @@ fn number_within(least: u64, most: u64, text: &str) -> Option<u64>
 pub fn number_or(default: u64, least: u64, most: u64, value: Option<&str>) -> Option<u64>
     requires least { least ≤ default }
     requires most { default ≤ most }
-    ensures number { result ≡ number_or default least most (option_map (λ text. text.now) value.entry) }
+    ensures number { result
+        ≡ number_or default least most (option_map (λ text. text.now) value.entry) }
     ensures least { IfSome result (λ number. least ≤ number) }
     ensures most { IfSome result (λ number. number ≤ most) }
 {
@@ -39,7 +40,8 @@ pub fn number_or(default: u64, least: u64, most: u64, value: Option<&str>) -> Op
 /// The number of an option's value, which has no default: `Some(None)` where the option isn't given.
 #[tactic(auto, unfolding(crate::specs::NumberWords::number_if_given))]
 pub fn number_if_given(least: u64, most: u64, value: Option<&str>) -> Option<Option<u64>>
-    ensures number { result ≡ number_if_given least most (option_map (λ text. text.now) value.entry) }
+    ensures number { result
+        ≡ number_if_given least most (option_map (λ text. text.now) value.entry) }
     ensures most { IfSome result (λ given. IfSome given (λ number. number ≤ most)) }
 {
     let Some(text) = value else {

@@ -46,8 +46,11 @@ impl<'a> PageRequest<'a> {
     /// The request that the words behind `ms_print` make. `NotTaken` exactly where they aren't taken, unless memory is
     /// wanting.
     pub fn read(alloc: Global, words: &'a [String]) -> Result<PageRequest<'a>, WordsFault>
-        ensures taken { IfOk result (λ request. page_asked (map string_bytes words.entry.now) ≡ Some (page_asked_by request)) }
-        ensures refused { result ≡ Err WordsFault.NotTaken → page_asked (map string_bytes words.entry.now) ≡ None }
+        ensures taken { IfOk result
+            (λ request. page_asked (map string_bytes words.entry.now)
+            ≡ Some (page_asked_by request)) }
+        ensures refused { result ≡ Err WordsFault.NotTaken
+            → page_asked (map string_bytes words.entry.now) ≡ None }
     {
         let taken = take_words(alloc, &WORDS, words)?;
         match request_in(words, &taken) {
@@ -79,7 +82,10 @@ impl<'a> PageRequest<'a> {
 /// What taken words ask for.
 fn request_in<'a>(words: &'a [String], taken: &TakenWords<'a>) -> Option<PageRequest<'a>>
     ensures { option_map page_asked_by result
-        ≡ page_of (map string_bytes words.entry.now) (only_file_in (rows_in taken.now)) (percent_or (value_in (rows_in taken.now) (codes "threshold"))) (columns_or (value_in (rows_in taken.now) (codes "x"))) (rows_or (value_in (rows_in taken.now) (codes "y"))) }
+        ≡ page_of (map string_bytes words.entry.now) (only_file_in (rows_in taken.now))
+        (percent_or (value_in (rows_in taken.now) (codes "threshold")))
+        (columns_or (value_in (rows_in taken.now) (codes "x")))
+        (rows_or (value_in (rows_in taken.now) (codes "y"))) }
 {
     let file = taken.only_file()?;
     let threshold = percent_or(taken.value(THRESHOLD))?;

@@ -21,7 +21,9 @@ pub struct PageReport<'a> {
 }
 
 impl MassifFileReport for PageReport<'_> {
-    ghost verdict = { λ page. page_verdict page.size.threshold page.size.x page.size.y (shown_words (map string_bytes page.words.now)) };
+    ghost verdict = { λ page.
+        page_verdict page.size.threshold page.size.x page.size.y
+        (shown_words (map string_bytes page.words.now)) };
 
     fn report(
         &self,

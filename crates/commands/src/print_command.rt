@@ -52,8 +52,11 @@ impl TraceWriter for PrintWriter {
 impl<'a> PrintRequest<'a> {
     /// The request that the words behind `print` make. `NotTaken` exactly where they aren't taken, unless memory is wanting.
     pub fn read(alloc: Global, words: &'a [String]) -> Result<PrintRequest<'a>, WordsFault>
-        ensures taken { IfOk result (λ request. print_asked (map string_bytes words.entry.now) ≡ Some (print_asked_by request)) }
-        ensures refused { result ≡ Err WordsFault.NotTaken → print_asked (map string_bytes words.entry.now) ≡ None }
+        ensures taken { IfOk result
+            (λ request. print_asked (map string_bytes words.entry.now)
+            ≡ Some (print_asked_by request)) }
+        ensures refused { result ≡ Err WordsFault.NotTaken
+            → print_asked (map string_bytes words.entry.now) ≡ None }
     {
         let words = take_words(alloc, &WORDS, words)?;
         match request_in(&words) {
@@ -94,7 +97,8 @@ impl<'a> PrintRequest<'a> {
 
 /// What taken words ask for.
 fn request_in<'a>(words: &TakenWords<'a>) -> Option<PrintRequest<'a>>
-    ensures { option_map print_asked_by result ≡ print_given (only_file_in (rows_in words.now)) (value_in (rows_in words.now)) }
+    ensures { option_map print_asked_by result
+        ≡ print_given (only_file_in (rows_in words.now)) (value_in (rows_in words.now)) }
 {
     let trace = words.only_file()?;
     let options = options_in(words)?;
@@ -111,7 +115,8 @@ fn request_in<'a>(words: &TakenWords<'a>) -> Option<PrintRequest<'a>>
 
 /// Whether both files are standard input, which can be read only once.
 fn reads_input_twice(suppressions: Option<&str>, trace: &str) -> bool
-    ensures { result ≡ reads_input_twice (option_map (λ name. name.now) suppressions.entry) trace.now }
+    ensures { result ≡ reads_input_twice (option_map (λ name. name.now) suppressions.entry)
+        trace.now }
 {
     match suppressions {
         Some(suppressions) => suppressions == "-" && trace == "-",

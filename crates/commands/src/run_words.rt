@@ -27,10 +27,13 @@ pub fn run_words<S: Store, O: Sink>(
 ) -> Outcome
     requires opens { S.opens store.old < 2 ^ 63 }
     requires texts { texts_of desk.now.texts ≡ heapsuite_texts }
-    ensures ran { WordsRunTo heapsuite_texts (bounds_of desk.now.limits) (task_asked (asked (map string_bytes words.now)))
-        (shown S.Store store.old) (shown S.Store store.new) (taken O.Sink out.old) (taken O.Sink out.new)
+    ensures ran { WordsRunTo heapsuite_texts (bounds_of desk.now.limits)
+        (task_asked (asked (map string_bytes words.now)))
+        (shown S.Store store.old) (shown S.Store store.new) (taken O.Sink out.old)
+        (taken O.Sink out.new)
         (outcome_answer heapsuite_texts result) }
-    ensures no_memory { knows_first (map string_bytes words.now) ≡ false → (outcome_answer heapsuite_texts result).status ≢ 5 }
+    ensures no_memory { knows_first (map string_bytes words.now) ≡ false
+        → (outcome_answer heapsuite_texts result).status ≢ 5 }
 {
     match read_words(desk.alloc, words) {
         Ok(request) => Outcome::new(desk.alloc, run_request(desk, &request, store, out)),
@@ -48,7 +51,8 @@ fn run_request<S: Store, O: Sink>(
 ) -> Result<Vec<u8>, Halt>
     requires opens { S.opens store.old < 2 ^ 63 }
     requires texts { texts_of desk.now.texts ≡ heapsuite_texts }
-    ensures { Runs S.Store O.Sink desk.now (names_of (asked_of request.now)) (plan_of (asked_of request.now))
+    ensures { Runs S.Store O.Sink desk.now (names_of (asked_of request.now))
+        (plan_of (asked_of request.now))
         store.old store.new out.old out.new result }
 {
     match request {

@@ -46,8 +46,10 @@ impl<'a> SummaryRequest<'a> {
     /// The request that the words behind `summary` make. `NotTaken` exactly where they aren't taken, unless memory is
     /// wanting.
     pub fn read(alloc: Global, words: &'a [String]) -> Result<SummaryRequest<'a>, WordsFault>
-        ensures taken { IfOk result (λ request. summary_trace (map string_bytes words.entry.now) ≡ Some request.trace.now) }
-        ensures refused { result ≡ Err WordsFault.NotTaken → summary_trace (map string_bytes words.entry.now) ≡ None }
+        ensures taken { IfOk result
+            (λ request. summary_trace (map string_bytes words.entry.now) ≡ Some request.trace.now) }
+        ensures refused { result ≡ Err WordsFault.NotTaken
+            → summary_trace (map string_bytes words.entry.now) ≡ None }
     {
         let words = take_words(alloc, &WORDS, words)?;
         match words.only_file() {
@@ -64,7 +66,8 @@ impl<'a> SummaryRequest<'a> {
         out: &mut O,
     ) -> Result<Vec<u8>, Halt>
         requires { S.opens store.old < 2 ^ 63 }
-        ensures { Runs S.Store O.Sink desk.now (self.now.trace.now ∷ []) (summary_plan self.now.trace.now)
+        ensures { Runs S.Store O.Sink desk.now (self.now.trace.now ∷ [])
+            (summary_plan self.now.trace.now)
             store.old store.new out.old out.new result }
     {
         run_trace(desk, self.trace, SummaryWriter, store, out)

@@ -30,7 +30,11 @@ pub const WORDS: WordTable<'static> = WordTable {
 
 /// What taken words ask for.
 pub fn request_in<'a>(words: &TakenWords<'a>) -> Option<DhatViewRequest<'a>>
-    ensures { option_map view_asked_by result ≡ view_of (only_file_in (rows_in words.now)) (key_or (value_in (rows_in words.now) (codes "sort"))) (percent_or (value_in (rows_in words.now) (codes "threshold"))) (depth_or (value_in (rows_in words.now) (codes "depth"))) }
+    ensures { option_map view_asked_by result
+        ≡ view_of (only_file_in (rows_in words.now))
+        (key_or (value_in (rows_in words.now) (codes "sort")))
+        (percent_or (value_in (rows_in words.now) (codes "threshold")))
+        (depth_or (value_in (rows_in words.now) (codes "depth"))) }
 {
     let profile = words.only_file()?;
     let key = key_or(words.value(SORT))?;

@@ -47,9 +47,12 @@ pub enum Request<'a> {
 /// words at all, or where the first is unknown.
 #[tactic(auto, unfolding(crate::specs::Asked::command_asked, crate::specs::Asked::knows_first))]
 pub fn read_words<'a>(alloc: Global, words: &'a [String]) -> Result<Request<'a>, WordsFault>
-    ensures taken { IfOk result (λ request. asked (map string_bytes words.entry.now) ≡ Some (asked_of request)) }
-    ensures refused { result ≡ Err WordsFault.NotTaken → asked (map string_bytes words.entry.now) ≡ None }
-    ensures no_memory { knows_first (map string_bytes words.entry.now) ≡ false → result ≢ Err WordsFault.NoMemory }
+    ensures taken { IfOk result
+        (λ request. asked (map string_bytes words.entry.now) ≡ Some (asked_of request)) }
+    ensures refused { result ≡ Err WordsFault.NotTaken
+        → asked (map string_bytes words.entry.now) ≡ None }
+    ensures no_memory { knows_first (map string_bytes words.entry.now) ≡ false
+        → result ≢ Err WordsFault.NoMemory }
 {
     let [command, words @ ..] = words else {
         return Err(WordsFault::NotTaken);
@@ -72,8 +75,10 @@ pub fn read_words<'a>(alloc: Global, words: &'a [String]) -> Result<Request<'a>,
 
 /// `--help` alone.
 fn help<'a>(words: &'a [String]) -> Result<Request<'a>, WordsFault>
-    ensures taken { IfOk result (λ request. help_asked (map string_bytes words.entry.now) ≡ Some (asked_of request)) }
-    ensures refused { result ≡ Err WordsFault.NotTaken → help_asked (map string_bytes words.entry.now) ≡ None }
+    ensures taken { IfOk result
+        (λ request. help_asked (map string_bytes words.entry.now) ≡ Some (asked_of request)) }
+    ensures refused { result ≡ Err WordsFault.NotTaken
+        → help_asked (map string_bytes words.entry.now) ≡ None }
     ensures no_memory { result ≢ Err WordsFault.NoMemory }
 {
     if words.is_empty() {

@@ -1,6 +1,6 @@
 //! `convert` over worked DHAT profiles and Massif files, its words, and what stands against a conversion.
 
-use crate::transcript::{DEMO, MASSIF, expect, sound};
+use crate::transcript::{DEMO, MASSIF, SECOND_FILE, expect, sound};
 use std::test::Fail;
 
 const DHAT: &str = "$ convert t
@@ -23,25 +23,11 @@ $ convert --to=massif --key=rb t
 desc: heapsuite convert
 cmd: demo
 time_unit: e
-#-----------
-snapshot=0
-#-----------
-time=1
-mem_heap_B=100
-mem_heap_extra_B=0
-mem_stacks_B=0
-heap_tree=peak
+snapshot=0 time=1 mem_heap_B=100 mem_heap_extra_B=0 mem_stacks_B=0 heap_tree=peak
 n1: 100 (heap allocation functions) malloc/new/new[], --alloc-fns, etc.
  n1: 100 0x500: f (a.c:10)
   n0: 100 0x400: main (a.c:20)
-#-----------
-snapshot=1
-#-----------
-time=3
-mem_heap_B=100
-mem_heap_extra_B=0
-mem_stacks_B=0
-heap_tree=detailed
+snapshot=1 time=3 mem_heap_B=100 mem_heap_extra_B=0 mem_stacks_B=0 heap_tree=detailed
 n1: 100 (heap allocation functions) malloc/new/new[], --alloc-fns, etc.
  n0: 100 0x400: main (a.c:20)
 [0]
@@ -72,25 +58,11 @@ $ convert --to=massif t
 desc: heapsuite convert
 cmd: (none)
 time_unit: i
-#-----------
-snapshot=0
-#-----------
-time=100
-mem_heap_B=13
-mem_heap_extra_B=0
-mem_stacks_B=0
-heap_tree=peak
+snapshot=0 time=100 mem_heap_B=13 mem_heap_extra_B=0 mem_stacks_B=0 heap_tree=peak
 n1: 13 (heap allocation functions) malloc/new/new[], --alloc-fns, etc.
  n1: 6 ?a;b
   n0: 6 main
-#-----------
-snapshot=1
-#-----------
-time=100
-mem_heap_B=0
-mem_heap_extra_B=0
-mem_stacks_B=0
-heap_tree=detailed
+snapshot=1 time=100 mem_heap_B=0 mem_heap_extra_B=0 mem_stacks_B=0 heap_tree=detailed
 n0: 0 (heap allocation functions) malloc/new/new[], --alloc-fns, etc.
 [0]
 ";
@@ -154,10 +126,6 @@ heapsuite: t:47: bad snapshot
 fn worked_file(rt: HostRuntime) -> Result<(), Fail> {
     expect(&rt, rt.alloc(), &sound(MASSIF), WORKED_FILE)
 }
-
-/// The second worked file up to its tree.
-const SECOND_FILE: &str =
-    "desc: (none)\ncmd: ./a.out\ntime_unit: i\n#-----------\nsnapshot=0\n#-----------\ntime=0\nmem_heap_B=0\nmem_heap_extra_B=0\nmem_stacks_B=0\nheap_tree=empty\n#-----------\nsnapshot=1\n#-----------\ntime=157300\nmem_heap_B=9000\nmem_heap_extra_B=72\nmem_stacks_B=0\nheap_tree=detailed\n";
 
 // A detailed snapshot, two peaks, a tree whose children have more bytes than their line, labels that are shown, and bytes that sum to
 // more than 2^62.

@@ -125,17 +125,35 @@ fn put_failures(
     Ok(())
 }
 
+/// What each failing call of a run comes to.
+fn failures(alloc: Global, file: &str, words: &str, piece: usize) -> Result<Vec<u8>, NoMemory> {
+    let mut all = Vec::new(alloc);
+    put_failures(alloc, file, words, piece, Place::Store, &mut all)?;
+    put_failures(alloc, file, words, piece, Place::Out, &mut all)?;
+    put_failures(alloc, file, words, piece, Place::Err, &mut all)?;
+    Ok(all)
+}
+
+/// Appends what the failing calls of a run came to, or that it is the same as of the run before.
+fn put_outcome(failures: &[u8], last: &[u8], all: &mut Vec<u8>) -> Result<(), NoMemory> {
+    if failures == last {
+        return put_bytes(all, b"(the same)\n");
+    }
+    put_bytes(all, failures)
+}
+
 /// Plays the rows of a table, over a file `t`: behind `$ ` stand the words of a run, and below them what each failing call
 /// comes to.
 fn played(alloc: Global, file: &str, piece: usize, table: &str) -> Result<Vec<u8>, NoMemory> {
     let mut all = Vec::new(alloc);
+    let mut last = Vec::new(alloc);
     for line in table.split('\n') {
         if let Some(words) = line.strip_prefix("$ ") {
             put_bytes(&mut all, line.as_bytes())?;
             put_bytes(&mut all, b"\n")?;
-            put_failures(alloc, file, words, piece, Place::Store, &mut all)?;
-            put_failures(alloc, file, words, piece, Place::Out, &mut all)?;
-            put_failures(alloc, file, words, piece, Place::Err, &mut all)?;
+            let failures = failures(alloc, file, words, piece)?;
+            put_outcome(&failures, &last, &mut all)?;
+            last = failures;
         }
     }
     Ok(all)
@@ -171,12 +189,13 @@ out 1: nothing [4] heapsuite: write failed
 out 2: all [4]
 err 1: all [4]
 $ print e
-store 1: nothing [3] heapsuite: e: cannot open
-store 2: nothing [3] heapsuite: e: cannot read
-store 3: nothing [3] heapsuite: e: cannot read
-out 1: nothing [4] heapsuite: write failed
-out 2: all [4]
-err 1: all [4]
+(the same)
+$ flame e
+(the same)
+$ massif e
+(the same)
+$ dhat e
+(the same)
 $ print --suppressions=q e
 store 1: nothing [3] heapsuite: q: cannot open
 store 2: nothing [3] heapsuite: q: cannot read
@@ -187,35 +206,12 @@ store 6: nothing [3] heapsuite: e: cannot read
 out 1: nothing [4] heapsuite: write failed
 out 2: all [4]
 err 1: all [4]
-$ flame e
-store 1: nothing [3] heapsuite: e: cannot open
-store 2: nothing [3] heapsuite: e: cannot read
-store 3: nothing [3] heapsuite: e: cannot read
-out 1: nothing [4] heapsuite: write failed
-out 2: all [4]
-err 1: all [4]
-$ massif e
-store 1: nothing [3] heapsuite: e: cannot open
-store 2: nothing [3] heapsuite: e: cannot read
-store 3: nothing [3] heapsuite: e: cannot read
-out 1: nothing [4] heapsuite: write failed
-out 2: all [4]
-err 1: all [4]
-$ dhat e
-store 1: nothing [3] heapsuite: e: cannot open
-store 2: nothing [3] heapsuite: e: cannot read
-store 3: nothing [3] heapsuite: e: cannot read
-out 1: nothing [4] heapsuite: write failed
-out 2: all [4]
-err 1: all [4]
 $ gen --events=4 --stacks=1
 out 1: nothing [4] heapsuite: write failed
 out 2: all [4]
 err 1: all [4]
 $ gen --run --events=4 --stacks=1
-out 1: nothing [4] heapsuite: write failed
-out 2: all [4]
-err 1: all [4]
+(the same)
 ";
 
 #[test]
@@ -231,12 +227,7 @@ out 1: nothing [4] heapsuite: write failed
 out 2: all [4]
 err 1: all [4]
 $ convert --from=massif t
-store 1: nothing [3] heapsuite: t: cannot open
-store 2: nothing [3] heapsuite: t: cannot read
-store 3: nothing [3] heapsuite: t: cannot read
-out 1: nothing [4] heapsuite: write failed
-out 2: all [4]
-err 1: all [4]
+(the same)
 ";
 
 #[test]
@@ -252,19 +243,9 @@ out 1: nothing [4] heapsuite: write failed
 out 2: all [4]
 err 1: all [4]
 $ convert t
-store 1: nothing [3] heapsuite: t: cannot open
-store 2: nothing [3] heapsuite: t: cannot read
-store 3: nothing [3] heapsuite: t: cannot read
-out 1: nothing [4] heapsuite: write failed
-out 2: all [4]
-err 1: all [4]
+(the same)
 $ convert --to=massif t
-store 1: nothing [3] heapsuite: t: cannot open
-store 2: nothing [3] heapsuite: t: cannot read
-store 3: nothing [3] heapsuite: t: cannot read
-out 1: nothing [4] heapsuite: write failed
-out 2: all [4]
-err 1: all [4]
+(the same)
 ";
 
 #[test]

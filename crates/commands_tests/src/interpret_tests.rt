@@ -29,6 +29,30 @@ a 40 2
 - 0
 [0]
 > v 10500 2
+> t 1400 0
+> + 40 1 9000
+> + 40 1 9010
+> - 9000
+> - 9000
+> + 40 1 9000
+> t 1400 1
+> + 41 2 9000
+> # many lines of this trace are taken at a time, so that this one is long
+$ interpret t
+v 10500 2
+i 1400 0
+t 1 0
+a 40 1
++ 0
++ 0
+- 0
++ 0
+t 1 1
+a 41 2
++ 1
+# many lines of this trace are taken at a time, so that this one is long
+[0]
+> v 10500 2
 > m app 1000 0 1000
 > t 1400 0
 > s f

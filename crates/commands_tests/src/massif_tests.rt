@@ -4,52 +4,7 @@ use crate::transcript::{expect, sound};
 use std::test::Fail;
 
 const PROFILES: &str = "$ massif e
-desc: heapsuite massif
-cmd: demo
-time_unit: B
-#-----------
-snapshot=0
-#-----------
-time=0
-mem_heap_B=0
-mem_heap_extra_B=0
-mem_stacks_B=0
-heap_tree=empty
-#-----------
-snapshot=1
-#-----------
-time=120
-mem_heap_B=100
-mem_heap_extra_B=20
-mem_stacks_B=0
-heap_tree=empty
-#-----------
-snapshot=2
-#-----------
-time=120
-mem_heap_B=100
-mem_heap_extra_B=20
-mem_stacks_B=0
-heap_tree=peak
-n1: 100 (heap allocation functions) malloc/new/new[], --alloc-fns, etc.
- n1: 100 0x500: f (a.c:10)
-  n0: 100 0x400: main (a.c:20)
-#-----------
-snapshot=3
-#-----------
-time=240
-mem_heap_B=0
-mem_heap_extra_B=0
-mem_stacks_B=0
-heap_tree=empty
-#-----------
-snapshot=4
-#-----------
-time=360
-mem_heap_B=100
-mem_heap_extra_B=20
-mem_stacks_B=0
-heap_tree=empty
+(profile)
 [0]
 > v 10500 2
 > a 64 0
@@ -60,30 +15,9 @@ $ massif t
 desc: heapsuite massif
 cmd: (none)
 time_unit: B
-#-----------
-snapshot=0
-#-----------
-time=0
-mem_heap_B=0
-mem_heap_extra_B=0
-mem_stacks_B=0
-heap_tree=empty
-#-----------
-snapshot=1
-#-----------
-time=120
-mem_heap_B=100
-mem_heap_extra_B=20
-mem_stacks_B=0
-heap_tree=empty
-#-----------
-snapshot=2
-#-----------
-time=160
-mem_heap_B=132
-mem_heap_extra_B=28
-mem_stacks_B=0
-heap_tree=empty
+snapshot=0 time=0 mem_heap_B=0 mem_heap_extra_B=0 mem_stacks_B=0 heap_tree=empty
+snapshot=1 time=120 mem_heap_B=100 mem_heap_extra_B=20 mem_stacks_B=0 heap_tree=empty
+snapshot=2 time=160 mem_heap_B=132 mem_heap_extra_B=28 mem_stacks_B=0 heap_tree=empty
 [0]
 ";
 
@@ -109,96 +43,19 @@ $ massif --heap-admin=0 --alignment=1 t
 desc: heapsuite massif
 cmd: (none)
 time_unit: B
-#-----------
-snapshot=0
-#-----------
-time=0
-mem_heap_B=0
-mem_heap_extra_B=0
-mem_stacks_B=0
-heap_tree=empty
-#-----------
-snapshot=1
-#-----------
-time=1000
-mem_heap_B=1000
-mem_heap_extra_B=0
-mem_stacks_B=0
-heap_tree=empty
-#-----------
-snapshot=2
-#-----------
-time=1000
-mem_heap_B=1000
-mem_heap_extra_B=0
-mem_stacks_B=0
-heap_tree=empty
-#-----------
-snapshot=3
-#-----------
-time=2000
-mem_heap_B=0
-mem_heap_extra_B=0
-mem_stacks_B=0
-heap_tree=empty
-#-----------
-snapshot=4
-#-----------
-time=3000
-mem_heap_B=1000
-mem_heap_extra_B=0
-mem_stacks_B=0
-heap_tree=empty
-#-----------
-snapshot=5
-#-----------
-time=3010
-mem_heap_B=1010
-mem_heap_extra_B=0
-mem_stacks_B=0
-heap_tree=empty
-#-----------
-snapshot=6
-#-----------
-time=3020
-mem_heap_B=1000
-mem_heap_extra_B=0
-mem_stacks_B=0
-heap_tree=empty
-#-----------
-snapshot=7
-#-----------
-time=3030
-mem_heap_B=1010
-mem_heap_extra_B=0
-mem_stacks_B=0
-heap_tree=empty
-#-----------
-snapshot=8
-#-----------
-time=3031
-mem_heap_B=1011
-mem_heap_extra_B=0
-mem_stacks_B=0
-heap_tree=empty
-#-----------
-snapshot=9
-#-----------
-time=3031
-mem_heap_B=1011
-mem_heap_extra_B=0
-mem_stacks_B=0
-heap_tree=peak
+snapshot=0 time=0 mem_heap_B=0 mem_heap_extra_B=0 mem_stacks_B=0 heap_tree=empty
+snapshot=1 time=1000 mem_heap_B=1000 mem_heap_extra_B=0 mem_stacks_B=0 heap_tree=empty
+snapshot=2 time=1000 mem_heap_B=1000 mem_heap_extra_B=0 mem_stacks_B=0 heap_tree=empty
+snapshot=3 time=2000 mem_heap_B=0 mem_heap_extra_B=0 mem_stacks_B=0 heap_tree=empty
+snapshot=4 time=3000 mem_heap_B=1000 mem_heap_extra_B=0 mem_stacks_B=0 heap_tree=empty
+snapshot=5 time=3010 mem_heap_B=1010 mem_heap_extra_B=0 mem_stacks_B=0 heap_tree=empty
+snapshot=6 time=3020 mem_heap_B=1000 mem_heap_extra_B=0 mem_stacks_B=0 heap_tree=empty
+snapshot=7 time=3030 mem_heap_B=1010 mem_heap_extra_B=0 mem_stacks_B=0 heap_tree=empty
+snapshot=8 time=3031 mem_heap_B=1011 mem_heap_extra_B=0 mem_stacks_B=0 heap_tree=empty
+snapshot=9 time=3031 mem_heap_B=1011 mem_heap_extra_B=0 mem_stacks_B=0 heap_tree=peak
 n1: 1011 (heap allocation functions) malloc/new/new[], --alloc-fns, etc.
  n0: 1011 (no stack)
-#-----------
-snapshot=10
-#-----------
-time=3032
-mem_heap_B=1010
-mem_heap_extra_B=0
-mem_stacks_B=0
-heap_tree=empty
+snapshot=10 time=3032 mem_heap_B=1010 mem_heap_extra_B=0 mem_stacks_B=0 heap_tree=empty
 [0]
 ";
 
@@ -212,130 +69,29 @@ const FUNCTIONS: &str = "$ massif --alloc-fns=f e
 desc: heapsuite massif
 cmd: demo
 time_unit: B
-#-----------
-snapshot=0
-#-----------
-time=0
-mem_heap_B=0
-mem_heap_extra_B=0
-mem_stacks_B=0
-heap_tree=empty
-#-----------
-snapshot=1
-#-----------
-time=120
-mem_heap_B=100
-mem_heap_extra_B=20
-mem_stacks_B=0
-heap_tree=empty
-#-----------
-snapshot=2
-#-----------
-time=120
-mem_heap_B=100
-mem_heap_extra_B=20
-mem_stacks_B=0
-heap_tree=peak
+snapshot=0 time=0 mem_heap_B=0 mem_heap_extra_B=0 mem_stacks_B=0 heap_tree=empty
+snapshot=1 time=120 mem_heap_B=100 mem_heap_extra_B=20 mem_stacks_B=0 heap_tree=empty
+snapshot=2 time=120 mem_heap_B=100 mem_heap_extra_B=20 mem_stacks_B=0 heap_tree=peak
 n1: 100 (heap allocation functions) malloc/new/new[], --alloc-fns, etc.
  n0: 100 0x400: main (a.c:20)
-#-----------
-snapshot=3
-#-----------
-time=240
-mem_heap_B=0
-mem_heap_extra_B=0
-mem_stacks_B=0
-heap_tree=empty
-#-----------
-snapshot=4
-#-----------
-time=360
-mem_heap_B=100
-mem_heap_extra_B=20
-mem_stacks_B=0
-heap_tree=empty
+snapshot=3 time=240 mem_heap_B=0 mem_heap_extra_B=0 mem_stacks_B=0 heap_tree=empty
+snapshot=4 time=360 mem_heap_B=100 mem_heap_extra_B=20 mem_stacks_B=0 heap_tree=empty
 [0]
 $ massif --ignore-fns=;f; e
 desc: heapsuite massif
 cmd: demo
 time_unit: B
-#-----------
-snapshot=0
-#-----------
-time=0
-mem_heap_B=0
-mem_heap_extra_B=0
-mem_stacks_B=0
-heap_tree=empty
-#-----------
-snapshot=1
-#-----------
-time=120
-mem_heap_B=100
-mem_heap_extra_B=20
-mem_stacks_B=0
-heap_tree=empty
+snapshot=0 time=0 mem_heap_B=0 mem_heap_extra_B=0 mem_stacks_B=0 heap_tree=empty
+snapshot=1 time=120 mem_heap_B=100 mem_heap_extra_B=20 mem_stacks_B=0 heap_tree=empty
 [0]
 $ massif --alloc-fns=f --ignore-fns=main e
 desc: heapsuite massif
 cmd: demo
 time_unit: B
-#-----------
-snapshot=0
-#-----------
-time=0
-mem_heap_B=0
-mem_heap_extra_B=0
-mem_stacks_B=0
-heap_tree=empty
+snapshot=0 time=0 mem_heap_B=0 mem_heap_extra_B=0 mem_stacks_B=0 heap_tree=empty
 [0]
 $ massif --alloc-fns=ff;;;m --ignore-fns=;; e
-desc: heapsuite massif
-cmd: demo
-time_unit: B
-#-----------
-snapshot=0
-#-----------
-time=0
-mem_heap_B=0
-mem_heap_extra_B=0
-mem_stacks_B=0
-heap_tree=empty
-#-----------
-snapshot=1
-#-----------
-time=120
-mem_heap_B=100
-mem_heap_extra_B=20
-mem_stacks_B=0
-heap_tree=empty
-#-----------
-snapshot=2
-#-----------
-time=120
-mem_heap_B=100
-mem_heap_extra_B=20
-mem_stacks_B=0
-heap_tree=peak
-n1: 100 (heap allocation functions) malloc/new/new[], --alloc-fns, etc.
- n1: 100 0x500: f (a.c:10)
-  n0: 100 0x400: main (a.c:20)
-#-----------
-snapshot=3
-#-----------
-time=240
-mem_heap_B=0
-mem_heap_extra_B=0
-mem_stacks_B=0
-heap_tree=empty
-#-----------
-snapshot=4
-#-----------
-time=360
-mem_heap_B=100
-mem_heap_extra_B=20
-mem_stacks_B=0
-heap_tree=empty
+(profile)
 [0]
 ";
 
@@ -373,14 +129,7 @@ $ massif t
 desc: heapsuite massif
 cmd: (none)
 time_unit: B
-#-----------
-snapshot=0
-#-----------
-time=0
-mem_heap_B=0
-mem_heap_extra_B=0
-mem_stacks_B=0
-heap_tree=empty
+snapshot=0 time=0 mem_heap_B=0 mem_heap_extra_B=0 mem_stacks_B=0 heap_tree=empty
 [0]
 $ massif absent
 heapsuite: absent: no such file

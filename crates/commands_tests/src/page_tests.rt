@@ -1,55 +1,11 @@
 //! `ms_print` over the worked Massif file, and the faults of files.
 
-use crate::transcript::{expect, sound};
+use crate::transcript::{MASSIF, SECOND_FILE, append_run, expect, sound};
+use hp_num::{NoMemory, put_bytes};
+use std::alloc::Global;
 use std::test::Fail;
 
-const PAGES: &str = "> desc: heapsuite massif
-> cmd: demo
-> time_unit: B
-> #-----------
-> snapshot=0
-> #-----------
-> time=0
-> mem_heap_B=0
-> mem_heap_extra_B=0
-> mem_stacks_B=0
-> heap_tree=empty
-> #-----------
-> snapshot=1
-> #-----------
-> time=120
-> mem_heap_B=100
-> mem_heap_extra_B=20
-> mem_stacks_B=0
-> heap_tree=empty
-> #-----------
-> snapshot=2
-> #-----------
-> time=120
-> mem_heap_B=100
-> mem_heap_extra_B=20
-> mem_stacks_B=0
-> heap_tree=peak
-> n1: 100 (heap allocation functions) malloc/new/new[], --alloc-fns, etc.
->  n1: 100 0x500: f (a.c:10)
->   n0: 100 0x400: main (a.c:20)
-> #-----------
-> snapshot=3
-> #-----------
-> time=240
-> mem_heap_B=0
-> mem_heap_extra_B=0
-> mem_stacks_B=0
-> heap_tree=empty
-> #-----------
-> snapshot=4
-> #-----------
-> time=360
-> mem_heap_B=100
-> mem_heap_extra_B=20
-> mem_stacks_B=0
-> heap_tree=empty
-$ ms_print --x=8 --y=4 t
+const PAGE: &str = "$ ms_print --x=8 --y=4 t
 --------------------------------------------------------------------------------
 Command:            demo
 Massif arguments:   heapsuite massif
@@ -85,7 +41,14 @@ Number of snapshots: 5
   3            240                0                0             0            0
   4            360              120              100            20            0
 [0]
-$ ms_print t
+";
+
+#[test]
+fn page(rt: HostRuntime) -> Result<(), Fail> {
+    expect(&rt, rt.alloc(), &sound(MASSIF), PAGE)
+}
+
+const FRONTS: &str = "$ ms_print t
 heapsuite: t:1: truncated
 [1]
 > cmd: a
@@ -93,108 +56,65 @@ heapsuite: t:1: truncated
 $ ms_print t
 heapsuite: t:2: bad header
 [1]
-> desc: (none)
-> cmd: ./a.out
-> time_unit: i
-> #-----------
-> snapshot=0
-> #-----------
-> time=0
-> mem_heap_B=0
-> mem_heap_extra_B=0
-> mem_stacks_B=0
-> heap_tree=empty
-> #-----------
-> snapshot=2
-> #-----------
-> time=157300
-> mem_heap_B=9000
-> mem_heap_extra_B=72
-> mem_stacks_B=0
-> heap_tree=detailed
-> n2: 9000 (heap allocation functions) malloc/new/new[], --alloc-fns, etc.
->  n0: 8960 0x4005BB: main (a.c:10)
->  n0: 40 in 3 places, all below massif's threshold (1.00%)
-$ ms_print t
+";
+
+#[test]
+fn fronts(rt: HostRuntime) -> Result<(), Fail> {
+    expect(&rt, rt.alloc(), &sound(""), FRONTS)
+}
+
+/// The tree of the second Massif file.
+const TREE: &str = "n2: 9000 (heap allocation functions) malloc/new/new[], --alloc-fns, etc.
+ n0: 8960 0x4005BB: main (a.c:10)
+ n0: 40 in 3 places, all below massif's threshold (1.00%)
+";
+
+/// Appends lines with another one in the place of each that is one line, or without it where the other is empty.
+fn put_exchanged(lines: &str, line: &str, other: &str, file: &mut Vec<u8>) -> Result<(), NoMemory> {
+    for text in lines.split('\n') {
+        let text = if text == line { other } else { text };
+        if !text.is_empty() {
+            put_bytes(file, text.as_bytes())?;
+            put_bytes(file, b"\n")?;
+        }
+    }
+    Ok(())
+}
+
+/// Plays the rows of a table: behind a line of the second file and `=>` stands what takes its place, and below them what
+/// `ms_print` then says.
+fn played(alloc: Global, table: &str) -> Result<Vec<u8>, NoMemory> {
+    let mut all = Vec::new(alloc);
+    for row in table.split('\n') {
+        if let Some((line, other)) = row.split_once("=>") {
+            put_bytes(&mut all, row.as_bytes())?;
+            put_bytes(&mut all, b"\n")?;
+            let mut file = Vec::new(alloc);
+            put_exchanged(SECOND_FILE, line, other, &mut file)?;
+            put_exchanged(TREE, line, other, &mut file)?;
+            append_run(alloc, &sound(""), &file, "ms_print t", &mut all)?;
+        }
+    }
+    Ok(all)
+}
+
+const EXCHANGED: &str = "snapshot=1=>snapshot=2
 heapsuite: t:13: wrong order
 [1]
-> desc: (none)
-> cmd: ./a.out
-> time_unit: i
-> #-----------
-> snapshot=0
-> #-----------
-> time=0
-> mem_heap_B=0
-> mem_heap_extra_B=0
-> mem_stacks_B=0
-> heap_tree=empty
-> #-----------
-> snapshot=1
-> #-----------
-> time=-1
-> mem_heap_B=9000
-> mem_heap_extra_B=72
-> mem_stacks_B=0
-> heap_tree=detailed
-> n2: 9000 (heap allocation functions) malloc/new/new[], --alloc-fns, etc.
->  n0: 8960 0x4005BB: main (a.c:10)
->  n0: 40 in 3 places, all below massif's threshold (1.00%)
-$ ms_print t
+time=157300=>time=-1
 heapsuite: t:15: bad number
 [1]
-> desc: (none)
-> cmd: ./a.out
-> time_unit: i
-> #-----------
-> snapshot=0
-> #-----------
-> time=0
-> mem_heap_B=0
-> mem_heap_extra_B=0
-> mem_stacks_B=0
-> heap_tree=empty
-> #-----------
-> snapshot=1
-> #-----------
-> time=157300
-> mem_heap_B=9000
-> mem_heap_extra_B=72
-> mem_stacks_B=0
-> heap_tree=detailed
-> n3: 9000 (heap allocation functions) malloc/new/new[], --alloc-fns, etc.
->  n0: 8960 0x4005BB: main (a.c:10)
->  n0: 40 in 3 places, all below massif's threshold (1.00%)
-$ ms_print t
+n2: 9000 (heap allocation functions) malloc/new/new[], --alloc-fns, etc.=>n3: 9000 a
 heapsuite: t:23: truncated
 [1]
-> desc: (none)
-> cmd: ./a.out
-> time_unit: i
-> #-----------
-> snapshot=0
-> #-----------
-> time=0
-> mem_heap_B=0
-> mem_heap_extra_B=0
-> mem_stacks_B=0
-> heap_tree=empty
-> #-----------
-> snapshot=1
-> #-----------
-> time=157300
-> mem_heap_B=9000
-> mem_heap_extra_B=72
-> mem_stacks_B=0
-> heap_tree=detailed
-> n2: 9000 (heap allocation functions) malloc/new/new[], --alloc-fns, etc.
->  n0: 8960 0x4005BB: main (a.c:10)
-$ ms_print t
+ n0: 40 in 3 places, all below massif's threshold (1.00%)=>
 heapsuite: t:22: truncated
 [1]
 ";
 
 #[test]
-fn pages(rt: HostRuntime) -> Result<(), Fail> {
-    expect(&rt, rt.alloc(), &sound(""), PAGES)
+fn exchanged_lines(rt: HostRuntime) -> Result<(), Fail> {
+    let all = played(rt.alloc(), EXCHANGED)?;
+    assert_eq!(&rt; all.as_slice(), EXCHANGED.as_bytes());
+    Ok(())
 }

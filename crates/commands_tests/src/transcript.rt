@@ -17,7 +17,7 @@ pub const TWO_SIZES: &str = "v 10500 2\na 64 0\na 20 0\n+ 0\n+ 1\n- 0\n+ 0\n";
 pub const WORKED: &str =
     "v 10500 2\nX demo\nI 1000 3e80\ns app\ns main\ns f\ns a.c\ni 400 1 2 4 14\ni 500 1 3 4 a\nt 1 0\nt 2 1\na 64 2\na 64 1\n+ 0\nc 5\nR 100\n- 0\n+ 1\n";
 
-/// Its Massif file.
+/// Its Massif file. Transcripts show it as `(profile)`.
 pub const MASSIF: &str = "desc: heapsuite massif
 cmd: demo
 time_unit: B
@@ -66,7 +66,11 @@ mem_stacks_B=0
 heap_tree=empty
 ";
 
-/// Its DHAT profile.
+/// A second Massif file up to its tree.
+pub const SECOND_FILE: &str =
+    "desc: (none)\ncmd: ./a.out\ntime_unit: i\n#-----------\nsnapshot=0\n#-----------\ntime=0\nmem_heap_B=0\nmem_heap_extra_B=0\nmem_stacks_B=0\nheap_tree=empty\n#-----------\nsnapshot=1\n#-----------\ntime=157300\nmem_heap_B=9000\nmem_heap_extra_B=72\nmem_stacks_B=0\nheap_tree=detailed\n";
+
+/// The worked trace's DHAT profile.
 pub const DEMO: &str =
     "{\"Mtu\":\"Mevents\",\"bkacc\":false,\"bklt\":true,\"cmd\":\"demo\",\"dhatFileVersion\":2,\"ftbl\":[\"[root]\",\"0x400: main (a.c:20)\",\"0x500: f (a.c:10)\"],\"mode\":\"heap\",\"pid\":0,\"pps\":[{\"eb\":100,\"ebk\":1,\"fs\":[1],\"gb\":0,\"gbk\":0,\"mb\":100,\"mbk\":1,\"tb\":100,\"tbk\":1,\"tl\":0},{\"eb\":0,\"ebk\":0,\"fs\":[2,1],\"gb\":100,\"gbk\":1,\"mb\":100,\"mbk\":1,\"tb\":100,\"tbk\":1,\"tl\":1}],\"te\":3,\"tg\":1,\"tu\":\"events\",\"tuth\":500,\"verb\":\"Allocated\"}\n";
 
@@ -178,10 +182,39 @@ fn status_of(
     )
 }
 
-/// Appends what an output got.
+/// Appends a Massif file, each snapshot on one line: without what stands between snapshots and their values.
+fn put_snapshots(file: &[u8], all: &mut Vec<u8>) -> Result<(), NoMemory> {
+    for line in file.split(|byte| *byte == b'\n') {
+        if line != b"#-----------".as_slice() {
+            put_beside(line, all)?;
+        }
+    }
+    Ok(())
+}
+
+/// Appends a line of a Massif file: behind the line before it where it is a value of a snapshot, else on a line of its own.
+fn put_beside(line: &[u8], all: &mut Vec<u8>) -> Result<(), NoMemory> {
+    let is_value = line.starts_with(b"time=")
+        || line.starts_with(b"mem_")
+        || line.starts_with(b"heap_tree=");
+    if is_value {
+        put_bytes(all, b" ")?;
+    } else if all.last() != Some(&b'\n') {
+        put_bytes(all, b"\n")?;
+    }
+    put_bytes(all, line)
+}
+
+/// Appends what an output got. Of a Massif file each snapshot stands on one line.
 fn put_got(got: &[u8], all: &mut Vec<u8>) -> Result<(), NoMemory> {
     if got == USAGE.as_bytes() {
         return put_bytes(all, b"(usage)\n");
+    }
+    if got == MASSIF.as_bytes() {
+        return put_bytes(all, b"(profile)\n");
+    }
+    if got.starts_with(b"desc: ") {
+        return put_snapshots(got, all);
     }
     put_bytes(all, got)
 }

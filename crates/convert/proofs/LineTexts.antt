@@ -12,46 +12,43 @@ use Rattle.cost_tree.specs.Inclusive.{own}
 use Rattle.cost_tree.proofs.Laws.{costed-count, take-next}
 use Rattle.convert.specs.Folded.{folded_line, folded_lists, folded_name, folded_path, folded_sums, folded_text, lines_text}
 use Rattle.convert.proofs.Sums.{sums-count}
-use Rattle.convert.specs.Numbers.{AreSums, lines_at, lists_at, text_at, texts_at}
+use Rattle.cost_tree.specs.Texts.{text_of, texts_of}
+use Rattle.convert.specs.Numbers.{AreSums, lines_at, lists_at}
 
 -- texts from the last to the first, each behind a semicolon
 abbrev pub later_texts : List (List ℕ) → List ℕ → List ℕ
-later_texts names numbers = flat_map (λ text. codes ";" ++ folded_name text) (reverse (texts_at names numbers))
+later_texts names numbers = flat_map (λ text. codes ";" ++ folded_name text) (reverse (texts_of names numbers))
 
 pub later-none : (names : List (List ℕ)) (numbers : List ℕ) → later_texts names (drop (length numbers) numbers) ≡ []
-unfolding texts_at
 later-none names [] = refl
 later-none names (n ∷ ns) = later-none names ns
 
 pub later-more : (names : List (List ℕ)) (numbers : List ℕ) (place : ℕ) → 0 < place → place ≤ length numbers
-    → later_texts names (drop (place - 1) numbers) ≡ later_texts names (drop place numbers) ++ (codes ";" ++ folded_name (text_at names (get_or numbers (place - 1) 0)))
-unfolding texts_at
+    → later_texts names (drop (place - 1) numbers) ≡ later_texts names (drop place numbers) ++ (codes ";" ++ folded_name (text_of names (get_or numbers (place - 1) 0)))
 later-more names numbers zero some within = absurd (omega arith)
 later-more names numbers (suc place) some within =
     let back : suc place - 1 ≡ place = omega arith in
-    let text : List ℕ = text_at names (get_or numbers place 0) in
-    let rest : List (List ℕ) = map (text_at names) (drop (suc place) numbers) in
+    let text : List ℕ = text_of names (get_or numbers place 0) in
+    let rest : List (List ℕ) = map (text_of names) (drop (suc place) numbers) in
     let name : List ℕ → List ℕ = λ t. codes ";" ++ folded_name t in
     ap (λ (k : ℕ). later_texts names (drop k numbers)) back
     ∙ ap (λ (ns : List ℕ). later_texts names ns) (drop-cons numbers place 0 (omega arith))
     ∙ ap (λ (ts : List (List ℕ)). flat_map name ts) (reverse-append (text ∷ []) rest)
     ∙ flat_map-append name (reverse rest) (text ∷ [])
     ∙ ap (λ (bs : List ℕ). flat_map name (reverse rest) ++ bs) (append-nil (name text))
-    ∙ ap (λ (k : ℕ). later_texts names (drop (suc place) numbers) ++ (codes ";" ++ folded_name (text_at names (get_or numbers k 0)))) (sym back)
+    ∙ ap (λ (k : ℕ). later_texts names (drop (suc place) numbers) ++ (codes ";" ++ folded_name (text_of names (get_or numbers k 0)))) (sym back)
 
 -- the path of no text, and of a last one behind others
-pub path-none : (names : List (List ℕ)) (numbers : List ℕ) → length numbers ≡ 0 → folded_path (texts_at names numbers) ≡ codes "(no stack)"
-unfolding texts_at
+pub path-none : (names : List (List ℕ)) (numbers : List ℕ) → length numbers ≡ 0 → folded_path (texts_of names numbers) ≡ codes "(no stack)"
 path-none names [] none = refl
 path-none names (n ∷ ns) none = absurd (omega arith)
 
-pub path-last : (names : List (List ℕ)) (numbers before : List ℕ) (last : ℕ) → numbers ≡ before ++ last ∷ [] → folded_path (texts_at names numbers) ≡ folded_name (text_at names last) ++ later_texts names before
-unfolding texts_at
+pub path-last : (names : List (List ℕ)) (numbers before : List ℕ) (last : ℕ) → numbers ≡ before ++ last ∷ [] → folded_path (texts_of names numbers) ≡ folded_name (text_of names last) ++ later_texts names before
 path-last names numbers before last is =
-    ap (λ (ns : List ℕ). folded_path (texts_at names ns)) is
-    ∙ ap (λ (ts : List (List ℕ)). folded_path ts) (map-append (text_at names) before (last ∷ []))
-    ∙ joined (map (text_at names) before) (text_at names last)
-    ∙ ap (λ (ts : List (List ℕ)). join_by folded_name (codes ";") ts) (reverse-append (map (text_at names) before) (text_at names last ∷ []))
+    ap (λ (ns : List ℕ). folded_path (texts_of names ns)) is
+    ∙ ap (λ (ts : List (List ℕ)). folded_path ts) (map-append (text_of names) before (last ∷ []))
+    ∙ joined (map (text_of names) before) (text_of names last)
+    ∙ ap (λ (ts : List (List ℕ)). join_by folded_name (codes ";") ts) (reverse-append (map (text_of names) before) (text_of names last ∷ []))
   where
     joined : (ts : List (List ℕ)) (t : List ℕ) → folded_path (ts ++ t ∷ []) ≡ join_by folded_name (codes ";") (reverse (ts ++ t ∷ []))
     joined [] t = refl
@@ -67,12 +64,12 @@ costed-at (l ∷ ls) (c ∷ cs) (suc k) list cost list_is cost_is = costed-at ls
 
 -- what a line is made of
 pub line-parts : (names : List (List ℕ)) (keys : List (Vec ℕ)) (sums : List ℕ) (place : ℕ) (line : Costed) → slice_get (lines_at names keys sums) place ≡ Some line
-    → (key : Vec ℕ) × (slice_get keys place ≡ Some key) × (slice_get sums place ≡ Some line.cost) × (texts_at names key.items ≡ line.texts)
+    → (key : Vec ℕ) × (slice_get keys place ≡ Some key) × (slice_get sums place ≡ Some line.cost) × (texts_of names key.items ≡ line.texts)
 unfolding costed
 line-parts names [] sums place line at = absurd (none-some line at)
 line-parts names (key ∷ keys) [] place line at = absurd (none-some line at)
 line-parts names (key ∷ keys) (sum ∷ sums) zero line at =
-    let same = same_Some (record { texts = texts_at names key.items; cost = sum }) line at in
+    let same = same_Some (record { texts = texts_of names key.items; cost = sum }) line at in
     (key, refl, ap (λ (l : Costed). Some l.cost) same, ap (λ (l : Costed). l.texts) same)
 line-parts names (key ∷ keys) (sum ∷ sums) (suc place) line at = line-parts names keys sums place line at
 
@@ -107,5 +104,5 @@ lines-all names keys sums items place are all =
 pub lines-count : (names : List (List ℕ)) (keys : List (Vec ℕ)) (sums : List ℕ) (items : List Costed) → AreSums names keys sums items → length (lines_at names keys sums) ≡ length sums
 lines-count names keys sums items are =
     let count = sums-count names keys sums items are in
-    let lists = length-map keys (λ (key : Vec ℕ). texts_at names key.items) in
+    let lists = length-map keys (λ (key : Vec ℕ). texts_of names key.items) in
     costed-count (lists_at names keys) sums (omega arith) ∙ lists ∙ sym count

@@ -1,9 +1,9 @@
 -- Lemmas on the points of a profile and their items.
-use Rattle.std.proofs.Common.{◌≡◌, ℕ, zero, suc, ◌+◌, ◌<◌, ◌≤◌, List, [], ◌∷◌, ◌++◌, length, map, take, get_or, Some, refl, sym, ap, ◌∙◌, arith}
+use Rattle.std.proofs.Common.{◌≡◌, ℕ, ◌+◌, ◌<◌, ◌≤◌, List, [], ◌∷◌, ◌++◌, length, map, take, Some, ap, ◌∙◌, arith}
 use Rattle.std.specs.Prelude.{All, slice_get, slice_index, sum, sum_by}
 use Rattle.std.specs.Option.{option_map}
 use Rattle.std.proofs.lemmas.List.{length-map, map_push, take_all}
-use Rattle.std.proofs.lemmas.List.Elements.{All-head, All-nil, All-cons, All-tail, All-weaker}
+use Rattle.std.proofs.lemmas.List.Elements.{All-weaker}
 use Rattle.std.proofs.lemmas.List.Sums.{sum_by-take-le, sum_by_push}
 use Rattle.std.proofs.lemmas.Option.{slice_get-map}
 use Rattle.cost_tree.specs.Costed.{Costed}
@@ -17,7 +17,8 @@ use Rattle.dhat_view.specs.PointCosts.{point_cost, point_costs}
 use Rattle.dhat_view.specs.PointFronts.{point_fronts}
 use Rattle.dhat_view.specs.PointFronts as points
 use Rattle.convert.specs.Items.{point_items}
-use Rattle.convert.specs.Numbers.{AreNumbers, IsNumber, text_at, texts_at}
+use Rattle.dhat_view.specs.Numbers.{AreNumbers}
+use Rattle.dhat_view.proofs.Laws.{numbers-count}
 use Rattle.convert.proofs.LineTexts.{costed-at}
 use Rattle.convert.proofs.Lists.{held-by}
 
@@ -37,35 +38,6 @@ costs-count key dhat = length-map dhat.pps (point_cost key)
 -- the items' numbers sum to what the figures sum to
 pub items-sum : (key : FigureKey) (dhat : Dhat) → sum_by (λ (item : Costed). item.cost) (point_items key dhat) ≡ sum (point_costs key dhat)
 items-sum key dhat = costed-sum (point_fronts dhat) (point_costs key dhat) (let lists = lists-count dhat in let costs = costs-count key dhat in omega arith)
-
--- the numbers of frames are those of their texts
-numbers-held : (names : List (List ℕ)) (numbers frames : List ℕ) → All (IsNumber names) numbers → All (λ frame. frame < length numbers) frames → All (IsNumber names) (map (λ frame. slice_index numbers frame) frames)
-numbers-held names numbers [] held within = All-nil (IsNumber names)
-numbers-held names numbers (frame ∷ frames) held within =
-    All-cons (IsNumber names) (slice_index numbers frame) (map (λ f. slice_index numbers f) frames)
-    (held frame 0 (All-head (λ f. f < length numbers) frame frames within))
-    (numbers-held names numbers frames held (All-tail (λ f. f < length numbers) frame frames within))
-
-one-text : (names : List (List ℕ)) (numbers : List ℕ) (frame : ℕ) → frame < length numbers → text_at names (get_or numbers frame 0) ≡ get_or (map (text_at names) numbers) frame []
-one-text names [] frame within = absurd (omega arith)
-one-text names (n ∷ ns) zero within = refl
-one-text names (n ∷ ns) (suc frame) within = one-text names ns frame (omega arith)
-
-frame-texts : (names : List (List ℕ)) (numbers frames : List ℕ) (texts : List (List ℕ)) → map (text_at names) numbers ≡ texts → All (λ frame. frame < length numbers) frames
-    → map (text_at names) (map (λ frame. slice_index numbers frame) frames) ≡ points.texts_at texts frames
-frame-texts names numbers [] texts are within = refl
-frame-texts names numbers (frame ∷ frames) texts are within =
-    let first = one-text names numbers frame (All-head (λ f. f < length numbers) frame frames within) ∙ ap (λ (ts : List (List ℕ)). get_or ts frame []) are in
-    let rest = frame-texts names numbers frames texts are (All-tail (λ f. f < length numbers) frame frames within) in
-    ap (λ (t : List ℕ). t ∷ map (text_at names) (map (λ f. slice_index numbers f) frames)) first ∙ ap (λ (ts : List (List ℕ)). get_or texts frame [] ∷ ts) rest
-
-pub numbered : (names : List (List ℕ)) (numbers frames : List ℕ) (texts : List (List ℕ)) → AreNumbers names numbers texts → All (λ frame. frame < length numbers) frames
-    → AreNumbers names (map (λ frame. slice_index numbers frame) frames) (points.texts_at texts frames)
-unfolding texts_at
-numbered names numbers frames texts are within = record {
-  held = numbers-held names numbers frames are.held within;
-  texts_are = frame-texts names numbers frames texts are.texts_are within;
-}
 
 -- the item of a point
 pub item-at : (key : FigureKey) (dhat : Dhat) (place : ℕ) (point : Point) (figure : ℕ) → slice_get dhat.pps place ≡ Some point → slice_get (point_costs key dhat) place ≡ Some figure
@@ -94,11 +66,6 @@ items-all key dhat place all =
     let costs = costs-count key dhat in
     let count = costed-count (point_fronts dhat) (point_costs key dhat) (omega arith) in
     take_all place (point_items key dhat) (omega arith)
-
--- as many numbers as texts
-pub numbers-count : (names : List (List ℕ)) (numbers : List ℕ) (texts : List (List ℕ)) → AreNumbers names numbers texts → length numbers ≡ length texts
-unfolding texts_at
-numbers-count names numbers texts are = sym (length-map numbers (text_at names)) ∙ ap length are.texts_are
 
 -- the frames of a point have numbers
 pub frames-held : (dhat : Dhat) (names : List (List ℕ)) (numbers : List ℕ) (place : ℕ) (point : Point) → IsSound dhat → slice_get dhat.pps place ≡ Some point → AreNumbers names numbers (map shown dhat.ftbl)

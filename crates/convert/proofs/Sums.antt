@@ -13,31 +13,32 @@ use Rattle.cost_tree.specs.Inclusive.{is_front, own}
 use Rattle.indexmap.specs.IndexSet.{insert_key}
 use Rattle.intern_tables.specs.Distinct.{AreDistinct}
 use Rattle.convert.specs.Folded.{folded_lists}
-use Rattle.convert.specs.Numbers.{AreSums, IsNumber, texts_at}
+use Rattle.cost_tree.specs.Texts.{IsText, texts_of}
+use Rattle.convert.specs.Numbers.{AreSums}
 use Rattle.convert.proofs.Folding.{is_front-Decides, lists-distinct, lists-more, lists-zero, own-gains, own-kept, own-more, own-none, own-within, own-zero, cost_of}
 use Rattle.convert.proofs.Lists.{any-map, place-map}
 use Rattle.convert.proofs.Names.{same_test}
 
 -- the item of a list of numbers
 abbrev pub item_at : List (List ℕ) → List ℕ → ℕ → Costed
-item_at names list number = record { texts = texts_at names list; cost = number }
+item_at names list number = record { texts = texts_of names list; cost = number }
 
 -- the test that finds a list among the keys
 abbrev pub is_key : List ℕ → Vec ℕ → Bool
 is_key list key = bytes_eq list key.items
 
 -- it answers as that of the texts
-pub key-any : (names : List (List ℕ)) (keys : List (Vec ℕ)) (sums : List ℕ) (items : List Costed) (list : List ℕ) → AreSums names keys sums items → All (IsNumber names) list
-    → list_any (is_key list) keys ≡ list_any (is_front (texts_at names list)) (folded_lists items)
+pub key-any : (names : List (List ℕ)) (keys : List (Vec ℕ)) (sums : List ℕ) (items : List Costed) (list : List ℕ) → AreSums names keys sums items → All (IsText names) list
+    → list_any (is_key list) keys ≡ list_any (is_front (texts_of names list)) (folded_lists items)
 key-any names keys sums items list are held =
-    any-map (is_key list) (is_front (texts_at names list)) (λ key. texts_at names key.items) keys (λ k d within. same_test names list (get_or keys k d).items are.distinct held (are.held k d within))
-    ∙ ap (λ (ls : List (List (List ℕ))). list_any (is_front (texts_at names list)) ls) are.lists
+    any-map (is_key list) (is_front (texts_of names list)) (λ key. texts_of names key.items) keys (λ k d within. same_test names list (get_or keys k d).items are.distinct held (are.held k d within))
+    ∙ ap (λ (ls : List (List (List ℕ))). list_any (is_front (texts_of names list)) ls) are.lists
 
-key-place : (names : List (List ℕ)) (keys : List (Vec ℕ)) (sums : List ℕ) (items : List Costed) (list : List ℕ) → AreSums names keys sums items → All (IsNumber names) list
-    → position_or_len (is_key list) keys ≡ position_or_len (is_front (texts_at names list)) (folded_lists items)
+key-place : (names : List (List ℕ)) (keys : List (Vec ℕ)) (sums : List ℕ) (items : List Costed) (list : List ℕ) → AreSums names keys sums items → All (IsText names) list
+    → position_or_len (is_key list) keys ≡ position_or_len (is_front (texts_of names list)) (folded_lists items)
 key-place names keys sums items list are held =
-    place-map (is_key list) (is_front (texts_at names list)) (λ key. texts_at names key.items) keys (λ k d within. same_test names list (get_or keys k d).items are.distinct held (are.held k d within))
-    ∙ ap (λ (ls : List (List (List ℕ))). position_or_len (is_front (texts_at names list)) ls) are.lists
+    place-map (is_key list) (is_front (texts_of names list)) (λ key. texts_of names key.items) keys (λ k d within. same_test names list (get_or keys k d).items are.distinct held (are.held k d within))
+    ∙ ap (λ (ls : List (List (List ℕ))). position_or_len (is_front (texts_of names list)) ls) are.lists
 
 -- the number 0 changes nothing
 pub zero-added : (names : List (List ℕ)) (keys : List (Vec ℕ)) (sums : List ℕ) (items : List Costed) (list : List ℕ) → AreSums names keys sums items → AreSums names keys sums (items ++ item_at names list 0 ∷ [])
@@ -55,7 +56,7 @@ zero-added names keys sums items list are =
     same (l ∷ ls) = ap (λ (n : ℕ). n ∷ map (λ l. own l items) ls) (sym (own-zero l items (item_at names list 0) refl)) ∙ ap (λ (ns : List ℕ). own l (items ++ item_at names list 0 ∷ []) ∷ ns) (same ls)
 
 -- a list that is new goes behind the others
-pub new-added : (names : List (List ℕ)) (keys : List (Vec ℕ)) (sums : List ℕ) (items : List Costed) (key : Vec ℕ) (list : List ℕ) (number : ℕ) → AreSums names keys sums items → All (IsNumber names) list
+pub new-added : (names : List (List ℕ)) (keys : List (Vec ℕ)) (sums : List ℕ) (items : List Costed) (key : Vec ℕ) (list : List ℕ) (number : ℕ) → AreSums names keys sums items → All (IsText names) list
     → key.items ≡ list → 0 < number → list_any (is_key list) keys ≡ false → AreSums names (keys ++ key ∷ []) (sums ++ number ∷ []) (items ++ item_at names list number ∷ [])
 new-added names keys sums items key list number are held copied some absent =
     let item : Costed = item_at names list number in
@@ -67,10 +68,10 @@ new-added names keys sums items key list number are held copied some absent =
     let sum : own item.texts (items ++ item ∷ []) ≡ number = omega arith in
     record {
       distinct = are.distinct;
-      held = All-push (λ (k : Vec ℕ). All (IsNumber names) k.items) keys key are.held (subst (All (IsNumber names)) (sym copied) held);
+      held = All-push (λ (k : Vec ℕ). All (IsText names) k.items) keys key are.held (subst (All (IsText names)) (sym copied) held);
       lists =
-          map-append (λ (k : Vec ℕ). texts_at names k.items) keys (key ∷ []) ∙ ap (λ (ls : List (List (List ℕ))). ls ++ texts_at names key.items ∷ []) are.lists
-          ∙ ap (λ (ns : List ℕ). F ++ texts_at names ns ∷ []) copied ∙ sym lists_are;
+          map-append (λ (k : Vec ℕ). texts_of names k.items) keys (key ∷ []) ∙ ap (λ (ls : List (List (List ℕ))). ls ++ texts_of names key.items ∷ []) are.lists
+          ∙ ap (λ (ns : List ℕ). F ++ texts_of names ns ∷ []) copied ∙ sym lists_are;
       sums_are =
           ap (λ (ns : List ℕ). ns ++ number ∷ []) (are.sums_are ∙ sym (own-kept items item F none))
           ∙ ap (λ (n : ℕ). map (λ l. own l (items ++ item ∷ [])) F ++ n ∷ []) (sym sum)
@@ -79,7 +80,7 @@ new-added names keys sums items key list number are held copied some absent =
     }
 
 -- one that was there gains the number
-pub old-added : (names : List (List ℕ)) (keys : List (Vec ℕ)) (sums new_sums : List ℕ) (items : List Costed) (list : List ℕ) (number : ℕ) → AreSums names keys sums items → All (IsNumber names) list → 0 < number
+pub old-added : (names : List (List ℕ)) (keys : List (Vec ℕ)) (sums new_sums : List ℕ) (items : List Costed) (list : List ℕ) (number : ℕ) → AreSums names keys sums items → All (IsText names) list → 0 < number
     → list_any (is_key list) keys ≡ true → new_sums ≡ set sums (position_or_len (is_key list) keys) (get_or sums (position_or_len (is_key list) keys) 0 + number) → AreSums names keys new_sums (items ++ item_at names list number ∷ [])
 old-added names keys sums new_sums items list number are held some present new_is =
     let item : Costed = item_at names list number in
@@ -111,7 +112,7 @@ none-added names distinct = record {
 -- there is a sum for each key
 pub sums-count : (names : List (List ℕ)) (keys : List (Vec ℕ)) (sums : List ℕ) (items : List Costed) → AreSums names keys sums items → length sums ≡ length keys
 sums-count names keys sums items are =
-    ap length are.sums_are ∙ length-map (folded_lists items) (λ l. own l items) ∙ ap length (sym are.lists) ∙ length-map keys (λ key. texts_at names key.items)
+    ap length are.sums_are ∙ length-map (folded_lists items) (λ l. own l items) ∙ ap length (sym are.lists) ∙ length-map keys (λ key. texts_of names key.items)
 
 -- and none is more than all items together
 pub sum-within : (names : List (List ℕ)) (keys : List (Vec ℕ)) (sums : List ℕ) (items : List Costed) (place : ℕ) → AreSums names keys sums items → get_or sums place 0 ≤ sum_by cost_of items
@@ -133,7 +134,7 @@ place-within {X} p (x ∷ xs) held = by (λ rest. place-within p xs rest) (p x) 
     by later false is = let rest = later (sym (ap (λ (b : Bool). b || list_any p xs) is) ∙ held) in omega arith
 
 -- what was inserted, where the key is new
-pub new-taken : (names : List (List ℕ)) (keys new_keys : List (Vec ℕ)) (sums new_sums : List ℕ) (items : List Costed) (key : Vec ℕ) (list : List ℕ) (number : ℕ) → AreSums names keys sums items → All (IsNumber names) list
+pub new-taken : (names : List (List ℕ)) (keys new_keys : List (Vec ℕ)) (sums new_sums : List ℕ) (items : List Costed) (key : Vec ℕ) (list : List ℕ) (number : ℕ) → AreSums names keys sums items → All (IsText names) list
     → key.items ≡ list → 0 < number → list_any (is_key key.items) keys ≡ false → new_keys ≡ insert_key (λ (x y : Vec ℕ). bytes_eq x.items y.items) keys key → new_sums ≡ sums ++ number ∷ []
     → AreSums names new_keys new_sums (items ++ item_at names list number ∷ [])
 new-taken names keys new_keys sums new_sums items key list number are held copied some absent keys_are sums_are =
@@ -151,7 +152,7 @@ old-sum names keys sums items list place now are present place_is now_is =
     now_is ∙ get_or_default_zero sums place now (omega arith)
 
 -- and where it was there
-pub old-taken : (names : List (List ℕ)) (keys new_keys : List (Vec ℕ)) (sums new_sums : List ℕ) (items : List Costed) (key : Vec ℕ) (list : List ℕ) (number place now : ℕ) → AreSums names keys sums items → All (IsNumber names) list
+pub old-taken : (names : List (List ℕ)) (keys new_keys : List (Vec ℕ)) (sums new_sums : List ℕ) (items : List Costed) (key : Vec ℕ) (list : List ℕ) (number place now : ℕ) → AreSums names keys sums items → All (IsText names) list
     → key.items ≡ list → 0 < number → list_any (is_key key.items) keys ≡ true → new_keys ≡ insert_key (λ (x y : Vec ℕ). bytes_eq x.items y.items) keys key
     → place ≡ position_or_len (is_key key.items) keys → now ≡ get_or sums place now → new_sums ≡ set sums place (now + number)
     → AreSums names new_keys new_sums (items ++ item_at names list number ∷ [])

@@ -7,7 +7,7 @@ use Rattle.std.proofs.lemmas.List.Elements.{All-append, All-cons, All-head, All-
 use Rattle.std.proofs.lemmas.Option.{slice_get-get_or, slice_get_within, get_or_from_slice_get}
 use Rattle.cost_tree.specs.declared.scale.Scale.{Scale}
 use Rattle.cost_tree.specs.Costed.{Costed}
-use Rattle.cost_tree.specs.CostLines.{FrontLine, Shown, a_front, gathered, cost_lines, cost_of, front_line, front_lines, gathered_lines, kept_fronts, last_of, small_fronts}
+use Rattle.cost_tree.specs.CostLines.{FrontLine, Shown, a_front, gathered, cost_lines, front_line, front_lines, gathered_lines, kept_fronts, last_of}
 use Rattle.cost_tree.specs.Inclusive.{inclusive}
 use Rattle.cost_tree.proofs.Laws.{inclusive-longer, kept-all, kept-apart, kept-held, kept-next, kept-some, next-texts, small-none}
 use Rattle.dhat_json.specs.Shown.{shown}

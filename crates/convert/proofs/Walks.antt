@@ -12,7 +12,8 @@ use Rattle.dhat_json.specs.Shown.{shown}
 use Rattle.massif_file.specs.declared.profile.TreeLine.{TreeLine}
 use Rattle.convert.specs.declared.path.Level.{Level}
 use Rattle.convert.specs.Levels.{entered, if_open, items_left, left_in, level_at, one_less, path_of, under, without_done}
-use Rattle.convert.specs.Numbers.{AreNumbers, IsNumber, text_at, texts_at}
+use Rattle.cost_tree.specs.Texts.{IsText, text_of, texts_of}
+use Rattle.dhat_view.specs.Numbers.{AreNumbers}
 use Rattle.convert.specs.TreeItems.{all_items, below, forest_items, left_bytes, tree_items, without_root}
 use Rattle.convert.proofs.PointItems.{items-within}
 
@@ -105,27 +106,26 @@ open-after (level ∷ outer) = by (open-after outer) level.to_come
     by ended (suc n) = a_level level.label n outer refl
 
 -- the text of the innermost level stands at the end of the path
-path-more : (names : List (List ℕ)) (label n : ℕ) (levels : List Level) → path_of names (level_at label n ∷ levels) ≡ path_of names levels ++ text_at names label ∷ []
-unfolding texts_at
+path-more : (names : List (List ℕ)) (label n : ℕ) (levels : List Level) → path_of names (level_at label n ∷ levels) ≡ path_of names levels ++ text_of names label ∷ []
 path-more names label n levels =
     let labels : List ℕ = map (λ (level : Level). level.label) levels in
-    ap (λ (ns : List ℕ). map (text_at names) ns) (reverse-append (label ∷ []) labels)
-    ∙ map-append (text_at names) (reverse labels) (label ∷ [])
+    ap (λ (ns : List ℕ). map (text_of names) ns) (reverse-append (label ∷ []) labels)
+    ∙ map-append (text_of names) (reverse labels) (label ∷ [])
 
 -- the item of a line with this path
 abbrev pub item_on : List (List ℕ) → List Level → TreeLine → List TreeLine → Costed
 item_on names levels line lines = record { texts = path_of names levels; cost = left_bytes line lines }
 
 -- a line is the first item that was left, and leaves those behind it
-enter-none : (names : List (List ℕ)) (label : ℕ) (line : TreeLine) (lines : List TreeLine) → text_at names label ≡ shown line.label
+enter-none : (names : List (List ℕ)) (label : ℕ) (line : TreeLine) (lines : List TreeLine) → text_of names label ≡ shown line.label
     → items_left names [] (forest_items (line ∷ lines)) ≡ item_on names (level_at label line.children ∷ []) line lines ∷ items_left names (level_at label line.children ∷ []) (forest_items lines)
-unfolding items_left forest_items texts_at
+unfolding items_left forest_items
 enter-none names label line lines text =
     let inside : List Costed = all_items (take line.children (forest_items lines)) in
     let beside : List Costed = all_items (drop line.children (forest_items lines)) in
     ap (λ (t : List ℕ). record { texts = t ∷ []; cost = left_bytes line lines } ∷ (map (below t) inside ++ beside)) (sym text)
 
-enter-one : (names : List (List ℕ)) (label : ℕ) (line : TreeLine) (lines : List TreeLine) (above n : ℕ) (outer : List Level) → text_at names label ≡ shown line.label
+enter-one : (names : List (List ℕ)) (label : ℕ) (line : TreeLine) (lines : List TreeLine) (above n : ℕ) (outer : List Level) → text_of names label ≡ shown line.label
     → items_left names (level_at above (suc n) ∷ outer) (forest_items (line ∷ lines))
     ≡ item_on names (level_at label line.children ∷ level_at above n ∷ outer) line lines ∷ items_left names (level_at label line.children ∷ level_at above n ∷ outer) (forest_items lines)
 unfolding items_left forest_items
@@ -143,7 +143,7 @@ enter-one names label line lines above n outer text =
     ∙ ap (λ (items : List Costed). under P one ∷ (items ++ (map (under P) next ++ rest))) (under-below P t inside)
     ∙ ap (λ (path : List (List ℕ)). record { texts = path; cost = left_bytes line lines } ∷ (map (under path) inside ++ (map (under P) next ++ rest))) whole
 
-pub enter-line : (names : List (List ℕ)) (levels : List Level) (label : ℕ) (line : TreeLine) (lines : List TreeLine) → text_at names label ≡ shown line.label
+pub enter-line : (names : List (List ℕ)) (levels : List Level) (label : ℕ) (line : TreeLine) (lines : List TreeLine) → text_of names label ≡ shown line.label
     → items_left names levels (forest_items (line ∷ lines)) ≡ item_on names (entered label line.children levels) line lines ∷ items_left names (entered label line.children levels) (forest_items lines)
 enter-line names levels label line lines text =
     sym (left-done names levels (forest_items (line ∷ lines))) ∙ by (without_done levels) (open-after levels)
@@ -175,15 +175,15 @@ levels-held P (level ∷ outer) all = by (levels-held P outer (All-tail P level 
     by ended zero is = ended
     by ended (suc n) is = subst (λ (k : ℕ). All P (level_at level.label k ∷ outer)) is all
 
-pub entered-held : (names : List (List ℕ)) (label children : ℕ) (levels : List Level) → IsNumber names label → All (λ level. IsNumber names level.label) levels → All (λ level. IsNumber names level.label) (entered label children levels)
+pub entered-held : (names : List (List ℕ)) (label children : ℕ) (levels : List Level) → IsText names label → All (λ level. IsText names level.label) levels → All (λ level. IsText names level.label) (entered label children levels)
 entered-held names label children levels is all =
-    let P : Level → Type 0 = λ level. IsNumber names level.label in
+    let P : Level → Type 0 = λ level. IsText names level.label in
     All-cons P (level_at label children) (one_less (without_done levels)) is (less (without_done levels) (levels-held P levels all))
   where
-    less : (ls : List Level) → All (λ (level : Level). IsNumber names level.label) ls → All (λ (level : Level). IsNumber names level.label) (one_less ls)
+    less : (ls : List Level) → All (λ (level : Level). IsText names level.label) ls → All (λ (level : Level). IsText names level.label) (one_less ls)
     less [] held = held
     less (level ∷ outer) held =
-        let P : Level → Type 0 = λ l. IsNumber names l.label in
+        let P : Level → Type 0 = λ l. IsText names l.label in
         All-cons P (level_at level.label (level.to_come - 1)) outer (All-head P level outer held) (All-tail P level outer held)
 
 -- a list the other way round
@@ -196,21 +196,20 @@ all-reverse : {X : Type 0} (P : X → Type 0) (xs : List X) → All P xs → All
 all-reverse P [] all = all
 all-reverse P (x ∷ xs) all = subst (All P) (sym (reverse-append (x ∷ []) xs)) (All-push P (reverse xs) x (all-reverse P xs (All-tail P x xs all)) (All-head P x xs all))
 
-pub path-is : (names : List (List ℕ)) (levels : List Level) → path_of names (reverse levels) ≡ texts_at names (map (λ level. level.label) levels)
+pub path-is : (names : List (List ℕ)) (levels : List Level) → path_of names (reverse levels) ≡ texts_of names (map (λ level. level.label) levels)
 path-is names levels =
     let label : Level → ℕ = λ level. level.label in
-    ap (λ (ns : List ℕ). texts_at names ns) (rev-map label (reverse levels) ∙ ap (λ (ls : List Level). map label ls) (reverse-reverse levels))
+    ap (λ (ns : List ℕ). texts_of names ns) (rev-map label (reverse levels) ∙ ap (λ (ls : List Level). map label ls) (reverse-reverse levels))
 
 -- the labels below the root have numbers, and are the item's texts
-pub labels-held : (names : List (List ℕ)) (levels : List Level) → All (λ level. IsNumber names level.label) (reverse levels) → All (IsNumber names) (drop 1 (map (λ level. level.label) levels))
+pub labels-held : (names : List (List ℕ)) (levels : List Level) → All (λ level. IsText names level.label) (reverse levels) → All (IsText names) (drop 1 (map (λ level. level.label) levels))
 labels-held names levels all =
-    let P : Level → Type 0 = λ level. IsNumber names level.label in
-    All-drop (IsNumber names) 1 (map (λ (level : Level). level.label) levels)
-    (All-map (IsNumber names) (λ (level : Level). level.label) levels (subst (All P) (reverse-reverse levels) (all-reverse P (reverse levels) all)))
+    let P : Level → Type 0 = λ level. IsText names level.label in
+    All-drop (IsText names) 1 (map (λ (level : Level). level.label) levels)
+    (All-map (IsText names) (λ (level : Level). level.label) levels (subst (All P) (reverse-reverse levels) (all-reverse P (reverse levels) all)))
 
-texts-below : (names : List (List ℕ)) (numbers : List ℕ) → texts_at names (drop 1 numbers) ≡ drop 1 (texts_at names numbers)
-unfolding texts_at
-texts-below names numbers = sym (drop-map (text_at names) 1 numbers)
+texts-below : (names : List (List ℕ)) (numbers : List ℕ) → texts_of names (drop 1 numbers) ≡ drop 1 (texts_of names numbers)
+texts-below names numbers = sym (drop-map (text_of names) 1 numbers)
 
 drop-here : {X : Type 0} (xs : List X) (k : ℕ) (x : X) → slice_get xs k ≡ Some x → drop k xs ≡ x ∷ drop (suc k) xs
 drop-here [] k x at = absurd (none-some x at)
@@ -223,22 +222,22 @@ drop-at xs k x at = let next : suc k ≡ k + 1 = omega arith in drop-here xs k x
 -- where a walk stands: the items of the levels that are open are those from a place on
 pub record IsAt (names : List (List ℕ)) (lines : List TreeLine) (levels : List Level) (place : ℕ) : Type 0 where
   pub left : items_left names (reverse levels) (forest_items (drop place lines)) ≡ drop place (all_items (forest_items lines))
-  pub held : All (λ level. IsNumber names level.label) (reverse levels)
+  pub held : All (λ level. IsText names level.label) (reverse levels)
 
 pub at-begin : (names : List (List ℕ)) (lines : List TreeLine) (levels : List Level) → levels ≡ [] → IsAt names lines levels 0
 unfolding items_left
 at-begin names lines levels none =
     let P : List Level → Type 0 = λ ls. IsAt names lines ls 0 in
-    subst P (sym none) (record { left = refl; held = All-nil (λ (level : Level). IsNumber names level.label) })
+    subst P (sym none) (record { left = refl; held = All-nil (λ (level : Level). IsText names level.label) })
 
 -- one line more
 pub record IsNext (names : List (List ℕ)) (lines : List TreeLine) (levels : List Level) (place number : ℕ) : Type 0 where
   pub at : IsAt names lines levels (place + 1)
-  pub item : slice_get (tree_items lines) place ≡ Some (record { texts = texts_at names (drop 1 (map (λ (level : Level). level.label) levels)); cost = number })
-  pub held : All (IsNumber names) (drop 1 (map (λ (level : Level). level.label) levels))
+  pub item : slice_get (tree_items lines) place ≡ Some (record { texts = texts_of names (drop 1 (map (λ (level : Level). level.label) levels)); cost = number })
+  pub held : All (IsText names) (drop 1 (map (λ (level : Level). level.label) levels))
 
 pub at-next : (names : List (List ℕ)) (lines : List TreeLine) (old new : List Level) (place label number : ℕ) (line : TreeLine) → IsAt names lines old place → slice_get lines place ≡ Some line
-    → reverse new ≡ entered label line.children (reverse old) → IsNumber names label → text_at names label ≡ shown line.label → slice_get (left_in lines) place ≡ Some number → IsNext names lines new place number
+    → reverse new ≡ entered label line.children (reverse old) → IsText names label → text_of names label ≡ shown line.label → slice_get (left_in lines) place ≡ Some number → IsNext names lines new place number
 unfolding tree_items
 at-next names lines old new place label number line at line_is new_is is text number_is =
     let rest : List TreeLine = drop (place + 1) lines in
@@ -249,7 +248,7 @@ at-next names lines old new place label number line at line_is new_is is text nu
     let cost : Costed → ℕ = λ i. i.cost in
     let step = drop-step all place item (items_left names levels (forest_items rest))
     (sym at.left ∙ ap (λ (ls : List TreeLine). items_left names (reverse old) (forest_items ls)) (drop-at lines place line line_is) ∙ enter-line names (reverse old) label line rest text) in
-    let path : drop 1 item.texts ≡ texts_at names (drop 1 numbers) =
+    let path : drop 1 item.texts ≡ texts_of names (drop 1 numbers) =
     ap (λ (ls : List Level). drop 1 (path_of names ls)) (sym new_is) ∙ ap (λ (ts : List (List ℕ)). drop 1 ts) (path-is names new) ∙ sym (texts-below names numbers) in
     let found : slice_get (map without_root all) place ≡ Some (without_root item) = slice_get-map without_root all place ∙ ap (option_map without_root) step.0 in
     let same : item.cost ≡ number = same_Some item.cost number (
@@ -258,10 +257,10 @@ at-next names lines old new place label number line at line_is new_is is text nu
     record {
       at = record {
         left = ap (λ (ls : List Level). items_left names ls (forest_items rest)) new_is ∙ sym step.1 ∙ ap (λ (n : ℕ). drop n all) next;
-        held = subst (All (λ (level : Level). IsNumber names level.label)) (sym new_is) (entered-held names label line.children (reverse old) is at.held);
+        held = subst (All (λ (level : Level). IsText names level.label)) (sym new_is) (entered-held names label line.children (reverse old) is at.held);
       };
-      item = found ∙ ap (λ (ts : List (List ℕ)). Some (record { texts = ts; cost = item.cost })) path ∙ ap (λ (n : ℕ). Some (record { texts = texts_at names (drop 1 numbers); cost = n })) same;
-      held = labels-held names new (subst (All (λ (level : Level). IsNumber names level.label)) (sym new_is) (entered-held names label line.children (reverse old) is at.held));
+      item = found ∙ ap (λ (ts : List (List ℕ)). Some (record { texts = ts; cost = item.cost })) path ∙ ap (λ (n : ℕ). Some (record { texts = texts_of names (drop 1 numbers); cost = n })) same;
+      held = labels-held names new (subst (All (λ (level : Level). IsText names level.label)) (sym new_is) (entered-held names label line.children (reverse old) is at.held));
     }
 
 -- there is an item for each line
@@ -269,14 +268,13 @@ pub items-count : (lines : List TreeLine) → length (tree_items lines) ≡ leng
 items-count lines = sym (length-map (tree_items lines) (λ (item : Costed). item.cost)) ∙ ap length (costs-of-tree lines) ∙ left-count lines
 
 -- the number at a place is that of the line's label
-one-text : (names : List (List ℕ)) (numbers : List ℕ) (k : ℕ) → k < length numbers → text_at names (get_or numbers k 0) ≡ get_or (map (text_at names) numbers) k []
+one-text : (names : List (List ℕ)) (numbers : List ℕ) (k : ℕ) → k < length numbers → text_of names (get_or numbers k 0) ≡ get_or (map (text_of names) numbers) k []
 one-text names [] k within = absurd (omega arith)
 one-text names (n ∷ ns) zero within = refl
 one-text names (n ∷ ns) (suc k) within = one-text names ns k (omega arith)
 
 pub label-text : (names : List (List ℕ)) (numbers : List ℕ) (lines : List TreeLine) (place : ℕ) (line : TreeLine) → AreNumbers names numbers (map (λ (l : TreeLine). shown l.label) lines) → place < length numbers
-    → slice_get lines place ≡ Some line → text_at names (get_or numbers place 0) ≡ shown line.label
-unfolding texts_at
+    → slice_get lines place ≡ Some line → text_of names (get_or numbers place 0) ≡ shown line.label
 label-text names numbers lines place line are within at =
     let label : TreeLine → List ℕ = λ l. shown l.label in
     one-text names numbers place within
@@ -298,4 +296,4 @@ pub next-within : (names : List (List ℕ)) (lines : List TreeLine) (left : List
 next-within names lines left levels place number most next left_is within =
     let total = tree-sum lines in
     let same = ap sum left_is in
-    items-within (tree_items lines) place (record { texts = texts_at names (drop 1 (map (λ (level : Level). level.label) levels)); cost = number }) most next.item (omega arith)
+    items-within (tree_items lines) place (record { texts = texts_of names (drop 1 (map (λ (level : Level). level.label) levels)); cost = number }) most next.item (omega arith)

@@ -1,5 +1,5 @@
 -- Lemmas on the profile of a DHAT profile, which may be written.
-use Rattle.std.proofs.Common.{◌≡◌, ◌≢◌, ℕ, zero, suc, ◌^◌, ◌<◌, ◌≤◌, List, [], ◌∷◌, length, map, get_or, Option, None, Some, refl, sym, ap, ◌∙◌, subst, arith, min}
+use Rattle.std.proofs.Common.{◌≡◌, ◌≢◌, ℕ, zero, suc, ◌^◌, ◌<◌, ◌≤◌, List, [], ◌∷◌, length, map, Option, None, Some, refl, subst, arith, min}
 use Rattle.std.specs.Prelude.{All, codes, slice_get, slice_index_or, sum, sum_by}
 use Rattle.std.specs.Option.{option_map_or}
 use Rattle.std.proofs.lemmas.List.Elements.{All-cons, All-head, All-nil, All-tail, All-weaker}
@@ -15,10 +15,8 @@ use Rattle.dhat_view.specs.PointCosts.{point_costs}
 use Rattle.dhat_view.specs.PointFronts.{lists_in, point_fronts, texts_at}
 use Rattle.massif_file.specs.declared.profile.HeapTree.{HeapTree}
 use Rattle.massif_file.specs.declared.profile.HeapTree.TheVariants.{Detailed, Peak}
-use Rattle.massif_file.specs.declared.profile.Profile.{Profile}
 use Rattle.massif_file.specs.declared.profile.Snap.{Snap}
-use Rattle.massif_file.specs.IsRight.{AreRight}
-use Rattle.massif_file.specs.IsWritable.{IsLine, IsText, IsWritable, IsWritableLine, IsWritableSnap}
+use Rattle.massif_file.specs.IsWritable.{IsText, IsWritable, IsWritableLine, IsWritableSnap}
 use Rattle.massif_file.specs.Trees.{IsTree}
 use Rattle.massif_tree.specs.declared.options.TreeOptions.{TreeOptions}
 use Rattle.massif_tree.specs.MassifTree.{massif_tree}

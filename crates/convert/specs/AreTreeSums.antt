@@ -17,14 +17,22 @@ line_fronts lines = map (λ item. item.texts) (tree_items lines)
 -- other than 0; each such front whose sum isn't 0, and the empty one, has a line, and no two lines have one front
 pub record AreTreeSums (depth : ℕ) (items : List Costed) (lines : List TreeLine) : Type 0 where
   pub count : length (line_fronts lines) ≡ length lines
-  pub sum : (n : ℕ) (front : List (List ℕ)) (line : TreeLine) → slice_get (line_fronts lines) n ≡ Some front → slice_get lines n ≡ Some line → line.bytes ≡ inclusive front items
-  pub short : (n : ℕ) (front : List (List ℕ)) → slice_get (line_fronts lines) n ≡ Some front → length front ≤ depth
-  pub more_than_0 : (n : ℕ) (front : List (List ℕ)) → slice_get (line_fronts lines) n ≡ Some front → front ≢ [] → 0 < inclusive front items
+  pub sum : (n : ℕ) (front : List (List ℕ)) (line : TreeLine)
+      → slice_get (line_fronts lines) n ≡ Some front → slice_get lines n ≡ Some line
+      → line.bytes ≡ inclusive front items
+  pub short : (n : ℕ) (front : List (List ℕ)) → slice_get (line_fronts lines) n ≡ Some front
+      → length front ≤ depth
+  pub more_than_0 : (n : ℕ) (front : List (List ℕ)) → slice_get (line_fronts lines) n ≡ Some front
+      → front ≢ [] → 0 < inclusive front items
   pub root : slice_get (line_fronts lines) 0 ≡ Some []
-  pub all : (front : List (List ℕ)) → length front ≤ depth → 0 < inclusive front items → (n : ℕ) × (slice_get (line_fronts lines) n ≡ Some front)
-  pub once : (m n : ℕ) (front : List (List ℕ)) → slice_get (line_fronts lines) m ≡ Some front → slice_get (line_fronts lines) n ≡ Some front → m ≡ n
+  pub all : (front : List (List ℕ)) → length front ≤ depth → 0 < inclusive front items
+      → (n : ℕ) × (slice_get (line_fronts lines) n ≡ Some front)
+  pub once : (m n : ℕ) (front : List (List ℕ)) → slice_get (line_fronts lines) m ≡ Some front
+      → slice_get (line_fronts lines) n ≡ Some front → m ≡ n
 
 -- the tree of the peak has the sums of what was live at the peak, and the last one those of what was live at the end
 pub record HaveTreeSums (dhat : Dhat) (profile : Profile) : Type 0 where
-  pub at_peak : IfSome (slice_get profile.snaps 0) (λ snap. AreTreeSums 200 (point_items Gb dhat) snap.tree)
-  pub at_end : IfSome (slice_get profile.snaps 1) (λ snap. AreTreeSums 200 (point_items Eb dhat) snap.tree)
+  pub at_peak : IfSome (slice_get profile.snaps 0)
+      (λ snap. AreTreeSums 200 (point_items Gb dhat) snap.tree)
+  pub at_end : IfSome (slice_get profile.snaps 1)
+      (λ snap. AreTreeSums 200 (point_items Eb dhat) snap.tree)

@@ -35,8 +35,10 @@ last_marked passes snaps = find (λ snap. passes snap.mark) (reverse snaps)
 -- the snapshot with this number, where it has a tree; without a number the last peak, and where there is none the last detailed one
 abbrev pub chosen : Option ℕ → Profile → Option Snap
 chosen (Some number) profile = option_and_then (if_marked has_tree) (slice_get profile.snaps number)
-chosen None profile = option_or (last_marked is_peak profile.snaps) (last_marked is_detailed profile.snaps)
+chosen None profile = option_or (last_marked is_peak profile.snaps)
+    (last_marked is_detailed profile.snaps)
 
 -- the items of its tree
 abbrev pub chosen_items : Option ℕ → Profile → List Costed
-chosen_items number profile = option_map_or (λ snap. tree_items snap.tree) (chosen number profile) []
+chosen_items number profile = option_map_or (λ snap. tree_items snap.tree) (chosen number profile)
+    []

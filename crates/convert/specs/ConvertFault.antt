@@ -22,7 +22,8 @@ fault_if too_large = if too_large then Some TooLarge else None
 
 -- what stands against the folded lines of a DHAT profile: its points have no figures of the key, or these sum to more than 2^62
 unfoldable pub folded_fault : FigureKey → Dhat → Option ConvertFault
-folded_fault key dhat = if has_figures key dhat then fault_if (is_too_large (sum (point_costs key dhat))) else Some NoFigures
+folded_fault key dhat = if has_figures key dhat
+    then fault_if (is_too_large (sum (point_costs key dhat))) else Some NoFigures
 
 -- what stands against those of some items: their numbers sum to more than 2^62
 abbrev pub items_fault : List Costed → Option ConvertFault
@@ -42,5 +43,6 @@ folded_massif_fault number profile = snap_fault (chosen number profile)
 unfoldable pub converted_fault : Dhat → Option ConvertFault
 converted_fault dhat =
     if dhat.bklt
-    then fault_if (is_too_large dhat.te || is_too_large (sum (point_costs Gb dhat)) || is_too_large (sum (point_costs Eb dhat)))
+    then fault_if (is_too_large dhat.te || is_too_large (sum (point_costs Gb dhat))
+    || is_too_large (sum (point_costs Eb dhat)))
     else Some NoFigures

@@ -15,7 +15,8 @@ folded_lists items = insert_all is_front [] (map (λ item. item.texts) (counting
 
 -- each of these lists with the sum of the numbers of all items that have it
 unfoldable pub folded_sums : List Costed → List Costed
-folded_sums items = map (λ list. record { texts = list; cost = own list items }) (folded_lists items)
+folded_sums items = map (λ list. record { texts = list; cost = own list items })
+    (folded_lists items)
 
 -- a colon for a semicolon, since semicolons stand between texts
 abbrev pub folded_byte : ℕ → ℕ

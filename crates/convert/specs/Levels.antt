@@ -3,7 +3,7 @@ use Rattle.std.specs.Prelude.{ℕ, zero, suc, ◌-◌, List, [], ◌∷◌, ◌+
 use Rattle.cost_tree.specs.Costed.{Costed}
 use Rattle.massif_file.specs.declared.profile.TreeLine.{TreeLine}
 use Rattle.convert.specs.declared.path.Level.{Level}
-use Rattle.convert.specs.Numbers.{texts_at}
+use Rattle.cost_tree.specs.Texts.{texts_of}
 use Rattle.convert.specs.TreeItems.{all_items, left_bytes}
 
 -- what the children of each line leave of its bytes
@@ -34,7 +34,7 @@ entered label children levels = level_at label children ∷ one_less (without_do
 
 -- the texts from the outermost level inwards
 abbrev pub path_of : List (List ℕ) → List Level → List (List ℕ)
-path_of names levels = texts_at names (reverse (map (λ level. level.label) levels))
+path_of names levels = texts_of names (reverse (map (λ level. level.label) levels))
 
 -- an item below these texts
 abbrev pub under : List (List ℕ) → Costed → Costed
@@ -43,4 +43,5 @@ under path item = record { texts = path ++ item.texts; cost = item.cost }
 -- the items of the trees that are still to come: at each level as many as it waits for, and what is left stands beside all
 unfoldable pub items_left : List (List ℕ) → List Level → List (List Costed) → List Costed
 items_left names [] trees = all_items trees
-items_left names (level ∷ outer) trees = map (under (path_of names (level ∷ outer))) (all_items (take level.to_come trees)) ++ items_left names outer (drop level.to_come trees)
+items_left names (level ∷ outer) trees = map (under (path_of names (level ∷ outer)))
+    (all_items (take level.to_come trees)) ++ items_left names outer (drop level.to_come trees)

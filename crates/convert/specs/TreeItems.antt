@@ -28,7 +28,8 @@ all_items trees = flat_map (λ items. items) trees
 unfoldable pub forest_items : List TreeLine → List (List Costed)
 forest_items [] = []
 forest_items (line ∷ lines) =
-    (record { texts = shown line.label ∷ []; cost = left_bytes line lines } ∷ map (below (shown line.label)) (all_items (take line.children (forest_items lines))))
+    (record { texts = shown line.label ∷ []; cost = left_bytes line lines }
+    ∷ map (below (shown line.label)) (all_items (take line.children (forest_items lines))))
     ∷ drop line.children (forest_items lines)
 
 -- without the root's label: the list of the root is empty

@@ -19,7 +19,8 @@ pub(crate) fn chosen_snap(number: Option<u32>, profile: &Profile) -> Option<&Sna
 
 /// The snapshot with this number, where it is there and has a tree.
 fn with_tree(snaps: &[Snap], number: usize) -> Option<&Snap>
-    ensures { option_copied result ≡ option_and_then (if_marked has_tree) (slice_get snaps.now number) }
+    ensures { option_copied result
+        ≡ option_and_then (if_marked has_tree) (slice_get snaps.now number) }
 {
     let snap = snaps.get(number)?;
     if has_tree(snap.mark) {
@@ -31,7 +32,8 @@ fn with_tree(snaps: &[Snap], number: usize) -> Option<&Snap>
 
 /// The last peak, and where there is none the last detailed snapshot.
 fn last_with_tree(snaps: &[Snap]) -> Option<&Snap>
-    ensures { option_copied result ≡ option_or (last_marked is_peak snaps.now) (last_marked is_detailed snaps.now) }
+    ensures { option_copied result
+        ≡ option_or (last_marked is_peak snaps.now) (last_marked is_detailed snaps.now) }
 {
     match last_peak(snaps) {
         Some(snap) => Some(snap),

@@ -46,8 +46,10 @@ pub fn massif_of_dhat(alloc: Global, dhat: &Dhat) -> Result<Profile, ConvertFaul
     ensures sums { IfOk result (λ profile. HaveTreeSums dhat.now profile) }
 
     ensures no_fault { OnOk result (converted_fault dhat.now ≡ None) }
-    ensures fault { IfErr result (λ fault. fault ≢ ConvertFault.NoMemory → converted_fault dhat.now ≡ Some fault) }
-    ensures refused { (fault : ConvertFault) → converted_fault dhat.now ≡ Some fault → result ≡ Err fault }
+    ensures fault { IfErr result
+        (λ fault. fault ≢ ConvertFault.NoMemory → converted_fault dhat.now ≡ Some fault) }
+    ensures refused { (fault : ConvertFault) → converted_fault dhat.now ≡ Some fault
+        → result ≡ Err fault }
 {
     // What holds of the trees of a profile, and of shown texts.
     massif_trees();
@@ -120,7 +122,9 @@ fn live_snaps(alloc: Global, dhat: &Dhat, at_peak: u64, at_end: u64) -> Result<S
     requires at_end { at_end ≡ sum (point_costs Eb dhat.now) }
     requires peak_within { at_peak ≤ 2 ^ 62 }
     requires end_within { at_end ≤ 2 ^ 62 }
-    ensures snaps { IfOk result (λ snaps. snaps ≡ snap_of (peak_time dhat.now) Peak Gb dhat.now ∷ snap_of dhat.now.te Detailed Eb dhat.now ∷ []) }
+    ensures snaps { IfOk result
+        (λ snaps. snaps ≡ snap_of (peak_time dhat.now) Peak Gb dhat.now
+        ∷ snap_of dhat.now.te Detailed Eb dhat.now ∷ []) }
 {
     let fronts = fronts_of(alloc, dhat)?;
     let peak_tree = live_tree(alloc, dhat, &fronts, FigureKey::Gb, at_peak)?;
@@ -145,7 +149,14 @@ fn time_of_peak(dhat: &Dhat) -> u64
 
 /// A snapshot with so many live bytes.
 fn live_snap(time: u64, heap: u64, mark: HeapTree, tree: Tree) -> Snap
-    ensures { result ≡ record { time = time; heap = heap; extra = 0; stacks = 0; mark = mark; tree = tree } }
+    ensures { result ≡ record {
+      time = time;
+      heap = heap;
+      extra = 0;
+      stacks = 0;
+      mark = mark;
+      tree = tree;
+    } }
 {
     Snap {
         time,
@@ -169,7 +180,9 @@ fn live_tree(
     requires few { length dhat.now.pps < 2 ^ 32 }
     requires total { total ≡ sum (point_costs key dhat.now) }
     requires within { total ≤ 2 ^ 62 }
-    ensures tree { IfOk result (λ tree. tree ≡ massif_tree whole_tree (sum (point_costs key dhat.now)) (point_items key dhat.now)) }
+    ensures tree { IfOk result
+        (λ tree. tree ≡ massif_tree whole_tree (sum (point_costs key dhat.now))
+        (point_items key dhat.now)) }
 {
     let tree = points_tree(alloc, dhat, fronts, key)?;
     let options = TreeOptions {
@@ -180,12 +193,12 @@ fn live_tree(
 }
 
 /// The tree of costs of these fronts.
-fn points_tree(
+fn points_tree<'a>(
     alloc: Global,
     dhat: &Dhat,
-    fronts: &Fronts,
+    fronts: &'a Fronts,
     key: FigureKey,
-) -> Result<CostTree, NoMemory>
+) -> Result<CostTree<'a>, NoMemory>
     requires fronts { fronts.now ≡ point_fronts dhat.now }
     requires within { sum (point_costs key dhat.now) ≤ 2 ^ 62 }
     ensures tree { IfOk result (λ tree. IsTreeOf tree (point_items key dhat.now) 200) }

@@ -25,8 +25,11 @@ pub(crate) fn left_bytes(alloc: Global, tree: &Tree) -> Result<Vec<u64>, NoMemor
 
 /// What the line's children leave of its bytes. They are the last roots; the line takes their place.
 fn take_line(line: &TreeLine, roots: &mut Vec<u64>) -> Result<u64, NoMemory>
-    ensures left { IfOk result (λ left. left ≡ line.now.bytes - sum (take line.now.children (reverse roots.old.items))) }
-    ensures roots { OnOk result (reverse roots.new.items ≡ line.now.bytes ∷ drop line.now.children (reverse roots.old.items)) }
+    ensures left { IfOk result
+        (λ left. left ≡ line.now.bytes - sum (take line.now.children (reverse roots.old.items))) }
+    ensures roots { OnOk result
+        (reverse roots.new.items
+        ≡ line.now.bytes ∷ drop line.now.children (reverse roots.old.items)) }
 {
     let mut left = line.bytes;
     'each_child: for _ in 0..line.children {

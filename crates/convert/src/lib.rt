@@ -18,7 +18,7 @@
 //! | File | Does |
 //! |---|---|
 //! | `points.rt`, `massif.rt`, `converted.rt` | the three conversions |
-//! | `texts.rt`, `list_sums.rt`, `lines.rt` | shown texts under numbers; sums by lists of them; their lines |
+//! | `list_sums.rt`, `lines.rt` | sums by lists of shown texts under numbers; their lines |
 //! | `chosen.rt` | which snapshot is folded |
 //! | `left_bytes.rt`, `path.rt` | what children leave of a line's bytes; the labels from the root down to a line |
 //! | `fault.rt` | why there is no conversion |
@@ -33,7 +33,6 @@ mod list_sums;
 mod massif;
 mod path;
 mod points;
-mod texts;
 
 pub use converted::massif_of_dhat;
 pub use fault::ConvertFault;

@@ -5,7 +5,8 @@ ghost use Rattle.std.specs.Prelude.{◌≡◌, ◌<◌, ◌++◌, All, List, OnO
 ghost use Rattle.cost_tree.specs.Costed.{Costed};
 ghost use Rattle.hp_num.specs.Extends.{Extends};
 ghost use Rattle.convert.specs.Folded.{folded_byte, folded_line, folded_name, folded_path, folded_text};
-ghost use Rattle.convert.specs.Numbers.{AreSums, IsNumber, lines_at, text_at, texts_at};
+ghost use Rattle.cost_tree.specs.Texts.{IsText, text_of, texts_of};
+ghost use Rattle.convert.specs.Numbers.{AreSums, lines_at};
 
 use crate::list_sums::ListSums;
 use hp_num::{NoMemory, put_bytes, put_dec};
@@ -13,8 +14,12 @@ use intern_tables::Names;
 
 /// Appends the lines of all lists, in their order.
 pub(crate) fn put_lines(sums: &ListSums, out: &mut Vec<u8>) -> Result<(), NoMemory>
-    requires sums { (items : List Costed) × AreSums sums.now.names sums.now.lists.keys sums.now.sums.items items }
-    ensures appended { OnOk result ((items : List Costed) → AreSums sums.now.names sums.now.lists.keys sums.now.sums.items items → out.new.items ≡ out.old.items ++ folded_text items) }
+    requires sums { (items : List Costed)
+        × AreSums sums.now.names sums.now.lists.keys sums.now.sums.items items }
+    ensures appended { OnOk result
+        ((items : List Costed)
+        → AreSums sums.now.names sums.now.lists.keys sums.now.sums.items items
+        → out.new.items ≡ out.old.items ++ folded_text items) }
     ensures kept { Extends out.old.items out.new.items }
 {
     'each_list: for place in 0..sums.sums.len() {
@@ -25,9 +30,12 @@ pub(crate) fn put_lines(sums: &ListSums, out: &mut Vec<u8>) -> Result<(), NoMemo
 
 /// Appends the line of the list at this place.
 fn put_line_at(sums: &ListSums, place: usize, out: &mut Vec<u8>) -> Result<(), NoMemory>
-    requires held { All (λ key. All (IsNumber sums.now.names) key.items) sums.now.lists.keys }
+    requires held { All (λ key. All (IsText sums.now.names) key.items) sums.now.lists.keys }
     requires place { place < length sums.now.sums.items }
-    ensures appended { OnOk result ((line : Costed) → slice_get (lines_at sums.now.names sums.now.lists.keys sums.now.sums.items) place ≡ Some line → out.new.items ≡ out.old.items ++ folded_line line) }
+    ensures appended { OnOk result
+        ((line : Costed) → slice_get
+        (lines_at sums.now.names sums.now.lists.keys sums.now.sums.items) place ≡ Some line
+        → out.new.items ≡ out.old.items ++ folded_line line) }
     ensures kept { Extends out.old.items out.new.items }
 {
     let Some(list) = sums.lists.get_index(place) else {
@@ -38,8 +46,10 @@ fn put_line_at(sums: &ListSums, place: usize, out: &mut Vec<u8>) -> Result<(), N
 
 /// Appends the line of a list of numbers of names with its sum.
 fn put_line(names: &Names, list: &[usize], sum: u64, out: &mut Vec<u8>) -> Result<(), NoMemory>
-    requires held { All (IsNumber names.now) list.now }
-    ensures appended { OnOk result (out.new.items ≡ out.old.items ++ folded_line (record { texts = texts_at names.now list.now; cost = sum })) }
+    requires held { All (IsText names.now) list.now }
+    ensures appended { OnOk result
+        (out.new.items ≡ out.old.items
+        ++ folded_line (record { texts = texts_of names.now list.now; cost = sum })) }
     ensures kept { Extends out.old.items out.new.items }
 {
     put_path(names, list, out)?;
@@ -50,8 +60,9 @@ fn put_line(names: &Names, list: &[usize], sum: u64, out: &mut Vec<u8>) -> Resul
 
 /// Appends the texts from the last to the first.
 fn put_path(names: &Names, list: &[usize], out: &mut Vec<u8>) -> Result<(), NoMemory>
-    requires held { All (IsNumber names.now) list.now }
-    ensures appended { OnOk result (out.new.items ≡ out.old.items ++ folded_path (texts_at names.now list.now)) }
+    requires held { All (IsText names.now) list.now }
+    ensures appended { OnOk result
+        (out.new.items ≡ out.old.items ++ folded_path (texts_of names.now list.now)) }
     ensures kept { Extends out.old.items out.new.items }
 {
     let Some((last, before)) = list.split_last() else {
@@ -63,8 +74,11 @@ fn put_path(names: &Names, list: &[usize], out: &mut Vec<u8>) -> Result<(), NoMe
 
 /// Appends the texts from the last to the first, each behind a semicolon.
 fn put_before(names: &Names, before: &[usize], out: &mut Vec<u8>) -> Result<(), NoMemory>
-    requires held { All (IsNumber names.now) before.now }
-    ensures appended { OnOk result (out.new.items ≡ out.old.items ++ flat_map (λ text. codes ";" ++ folded_name text) (reverse (texts_at names.now before.now))) }
+    requires held { All (IsText names.now) before.now }
+    ensures appended { OnOk result
+        (out.new.items ≡ out.old.items
+        ++ flat_map (λ text. codes ";" ++ folded_name text)
+        (reverse (texts_of names.now before.now))) }
     ensures kept { Extends out.old.items out.new.items }
 {
     'each_text: for place in (0..before.len()).rev() {
@@ -76,8 +90,9 @@ fn put_before(names: &Names, before: &[usize], out: &mut Vec<u8>) -> Result<(), 
 
 /// Appends a text with a colon for each semicolon.
 fn put_name(names: &Names, number: usize, out: &mut Vec<u8>) -> Result<(), NoMemory>
-    requires held { IsNumber names.now number }
-    ensures appended { OnOk result (out.new.items ≡ out.old.items ++ folded_name (text_at names.now number)) }
+    requires held { IsText names.now number }
+    ensures appended { OnOk result
+        (out.new.items ≡ out.old.items ++ folded_name (text_of names.now number)) }
     ensures kept { Extends out.old.items out.new.items }
 {
     let Some(text) = names.name(number) else {

@@ -3,7 +3,8 @@
 ghost use Rattle.std.specs.Prelude.{◌≡◌, ◌+◌, ◌≤◌, ◌^◌, ◌++◌, [], ◌∷◌, All, List, OnOk, sum_by};
 ghost use Rattle.cost_tree.specs.Costed.{Costed};
 ghost use Rattle.intern_tables.specs.Distinct.{AreDistinct};
-ghost use Rattle.convert.specs.Numbers.{AreSums, IsNumber, texts_at};
+ghost use Rattle.cost_tree.specs.Texts.{IsText, texts_of};
+ghost use Rattle.convert.specs.Numbers.{AreSums};
 
 use hp_num::NoMemory;
 use indexmap::IndexSet;
@@ -34,11 +35,16 @@ impl ListSums {
 
     /// Adds a number to the sum of a list, given by the numbers of its texts. On `NoMemory` the sums are unfit for use.
     pub(crate) fn add(&mut self, list: &[usize], number: u64) -> Result<(), NoMemory>
-        requires sums { (items : List Costed) × AreSums self.old.names self.old.lists.keys self.old.sums.items items × (sum_by (λ (item : Costed). item.cost) items + number ≤ 2 ^ 62) }
-        requires held { All (IsNumber self.old.names) list.now }
+        requires sums { (items : List Costed)
+            × AreSums self.old.names self.old.lists.keys self.old.sums.items items
+            × (sum_by (λ (item : Costed). item.cost) items + number ≤ 2 ^ 62) }
+        requires held { All (IsText self.old.names) list.now }
         ensures names { self.new.names ≡ self.old.names }
-        ensures added { OnOk result ((items : List Costed) → AreSums self.old.names self.old.lists.keys self.old.sums.items items →
-            AreSums self.new.names self.new.lists.keys self.new.sums.items (items ++ record { texts = texts_at self.old.names list.now; cost = number } ∷ [])) }
+        ensures added { OnOk result
+            ((items : List Costed)
+            → AreSums self.old.names self.old.lists.keys self.old.sums.items items →
+            AreSums self.new.names self.new.lists.keys self.new.sums.items
+            (items ++ record { texts = texts_of self.old.names list.now; cost = number } ∷ [])) }
     {
         if number == 0 {
             return Ok(());

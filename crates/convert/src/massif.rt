@@ -14,7 +14,8 @@ ghost use Rattle.convert.specs.Chosen.{chosen, chosen_items};
 ghost use Rattle.convert.specs.ConvertFault.{folded_massif_fault, items_fault};
 ghost use Rattle.convert.specs.Folded.{folded_text, lines_text};
 ghost use Rattle.convert.specs.Levels.{left_in};
-ghost use Rattle.convert.specs.Numbers.{AreNumbers, AreSums};
+ghost use Rattle.dhat_view.specs.Numbers.{AreNumbers};
+ghost use Rattle.convert.specs.Numbers.{AreSums};
 ghost use Rattle.convert.specs.TreeItems.{tree_items};
 
 use crate::chosen::chosen_snap;
@@ -23,7 +24,7 @@ use crate::left_bytes::{left_bytes, sum_is_too_large};
 use crate::lines::put_lines;
 use crate::list_sums::ListSums;
 use crate::path::{Level, enter, labels_into};
-use crate::texts::ShownTexts;
+use dhat_view::ShownTexts;
 use hp_num::NoMemory;
 use massif_file::{Profile, Tree};
 use std::alloc::Global;
@@ -43,13 +44,18 @@ pub fn put_folded_massif(
     profile: &Profile,
     out: &mut Vec<u8>,
 ) -> Result<(), ConvertFault>
-    ensures appended { OnOk result (out.new.items ≡ out.old.items ++ folded_text (chosen_items snapshot profile.now)) }
+    ensures appended { OnOk result
+        (out.new.items ≡ out.old.items ++ folded_text (chosen_items snapshot profile.now)) }
 
     // For each list the lines have the sum of the items with that list, and a list whose sum is 0 has no line.
-    ensures sums { OnOk result ((lines : List Costed) × AreFolded (chosen_items snapshot profile.now) lines × (out.new.items ≡ out.old.items ++ lines_text lines)) }
+    ensures sums { OnOk result
+        ((lines : List Costed) × AreFolded (chosen_items snapshot profile.now) lines
+        × (out.new.items ≡ out.old.items ++ lines_text lines)) }
 
     ensures no_fault { OnOk result (folded_massif_fault snapshot profile.now ≡ None) }
-    ensures fault { IfErr result (λ fault. fault ≢ ConvertFault.NoMemory → folded_massif_fault snapshot profile.now ≡ Some fault) }
+    ensures fault { IfErr result
+        (λ fault. fault ≢ ConvertFault.NoMemory
+        → folded_massif_fault snapshot profile.now ≡ Some fault) }
     ensures no_tree { chosen snapshot profile.now ≡ None → result ≡ Err NoTree }
     ensures unchanged { OnErr result (out.new.items ≡ out.old.items) }
 {
@@ -68,9 +74,11 @@ pub fn put_folded_massif(
 
 /// Appends the lines of a tree. On a fault, some of them may stand at the end of `out`.
 fn put_tree(alloc: Global, tree: &Tree, out: &mut Vec<u8>) -> Result<(), ConvertFault>
-    ensures appended { OnOk result (out.new.items ≡ out.old.items ++ folded_text (tree_items tree.now)) }
+    ensures appended { OnOk result
+        (out.new.items ≡ out.old.items ++ folded_text (tree_items tree.now)) }
     ensures no_fault { OnOk result (items_fault (tree_items tree.now) ≡ None) }
-    ensures fault { IfErr result (λ fault. fault ≢ ConvertFault.NoMemory → items_fault (tree_items tree.now) ≡ Some fault) }
+    ensures fault { IfErr result
+        (λ fault. fault ≢ ConvertFault.NoMemory → items_fault (tree_items tree.now) ≡ Some fault) }
     ensures not_no_tree { IfErr result (λ fault. fault ≢ ConvertFault.NoTree) }
     ensures kept { Extends out.old.items out.new.items }
 {
@@ -87,7 +95,8 @@ fn put_tree(alloc: Global, tree: &Tree, out: &mut Vec<u8>) -> Result<(), Convert
 fn tree_sums(alloc: Global, tree: &Tree, left: &[u64]) -> Result<ListSums, NoMemory>
     requires left { left.now ≡ left_in tree.now }
     requires within { sum left.now ≤ 2 ^ 62 }
-    ensures sums { IfOk result (λ sums. AreSums sums.names sums.lists.keys sums.sums.items (tree_items tree.now)) }
+    ensures sums { IfOk result
+        (λ sums. AreSums sums.names sums.lists.keys sums.sums.items (tree_items tree.now)) }
 {
     let texts = shown_labels(alloc, tree)?;
     let ShownTexts { names, numbers, .. } = texts;
@@ -120,9 +129,11 @@ fn add_lines(
     requires left_count { length left.now ≡ length tree.now }
     requires count { length numbers.now ≡ length tree.now }
     requires begun { walk.old.levels.items ≡ [] }
-    requires numbers { AreNumbers sums.old.names numbers.now (map (λ line. shown line.label) tree.now) }
+    requires numbers { AreNumbers sums.old.names numbers.now
+        (map (λ line. shown line.label) tree.now) }
     requires sums { AreSums sums.old.names sums.old.lists.keys sums.old.sums.items [] }
-    ensures sums { OnOk result (AreSums sums.new.names sums.new.lists.keys sums.new.sums.items (tree_items tree.now)) }
+    ensures sums { OnOk result
+        (AreSums sums.new.names sums.new.lists.keys sums.new.sums.items (tree_items tree.now)) }
 {
     'each_line: for place in 0..tree.len() {
         enter(&mut walk.levels, numbers[place], tree.at(place).children)?;
@@ -134,7 +145,9 @@ fn add_lines(
 
 /// The shown labels of the lines under numbers.
 fn shown_labels(alloc: Global, tree: &Tree) -> Result<ShownTexts, NoMemory>
-    ensures numbers { IfOk result (λ texts. AreNumbers texts.names texts.numbers.items (map (λ line. shown line.label) tree.now)) }
+    ensures numbers { IfOk result
+        (λ texts. AreNumbers texts.names texts.numbers.items
+        (map (λ line. shown line.label) tree.now)) }
     ensures distinct { IfOk result (λ texts. AreDistinct texts.names) }
 {
     let mut texts = ShownTexts::new(alloc);

@@ -12,14 +12,15 @@ ghost use Rattle.convert.specs.AreFolded.{AreFolded};
 ghost use Rattle.convert.specs.ConvertFault.{folded_fault};
 ghost use Rattle.convert.specs.Folded.{folded_text, lines_text};
 ghost use Rattle.convert.specs.Items.{point_items};
-ghost use Rattle.convert.specs.Numbers.{AreNumbers, AreSums, IsNumber, texts_at};
+ghost use Rattle.cost_tree.specs.Texts.{IsText, texts_of};
+ghost use Rattle.dhat_view.specs.Numbers.{AreNumbers};
+ghost use Rattle.convert.specs.Numbers.{AreSums};
 
 use crate::fault::ConvertFault;
 use crate::lines::put_lines;
 use crate::list_sums::ListSums;
-use crate::texts::ShownTexts;
 use dhat_json::{Dhat, FigureKey, FrameList, Texts};
-use dhat_view::{figure_at, figures_sum};
+use dhat_view::{ShownTexts, figure_at, figures_sum, shown_table};
 use hp_num::NoMemory;
 use std::alloc::Global;
 
@@ -37,14 +38,19 @@ pub fn put_folded_dhat(
     out: &mut Vec<u8>,
 ) -> Result<(), ConvertFault>
     requires sound { IsSound dhat.now }
-    ensures appended { OnOk result (out.new.items ≡ out.old.items ++ folded_text (point_items key dhat.now)) }
+    ensures appended { OnOk result
+        (out.new.items ≡ out.old.items ++ folded_text (point_items key dhat.now)) }
 
     // For each list the lines have the sum of the points with that list, and a list whose sum is 0 has no line.
-    ensures sums { OnOk result ((lines : List Costed) × AreFolded (point_items key dhat.now) lines × (out.new.items ≡ out.old.items ++ lines_text lines)) }
+    ensures sums { OnOk result
+        ((lines : List Costed) × AreFolded (point_items key dhat.now) lines
+        × (out.new.items ≡ out.old.items ++ lines_text lines)) }
 
     ensures no_fault { OnOk result (folded_fault key dhat.now ≡ None) }
-    ensures fault { IfErr result (λ fault. fault ≢ ConvertFault.NoMemory → folded_fault key dhat.now ≡ Some fault) }
-    ensures refused { (fault : ConvertFault) → folded_fault key dhat.now ≡ Some fault → result ≡ Err fault }
+    ensures fault { IfErr result
+        (λ fault. fault ≢ ConvertFault.NoMemory → folded_fault key dhat.now ≡ Some fault) }
+    ensures refused { (fault : ConvertFault) → folded_fault key dhat.now ≡ Some fault
+        → result ≡ Err fault }
     ensures unchanged { OnErr result (out.new.items ≡ out.old.items) }
 {
     if !dhat.has_figures(key) {
@@ -67,7 +73,8 @@ pub fn put_folded_dhat(
 fn put_points(alloc: Global, key: FigureKey, dhat: &Dhat, out: &mut Vec<u8>) -> Result<(), NoMemory>
     requires sound { IsSound dhat.now }
     requires within { sum (point_costs key dhat.now) ≤ 2 ^ 62 }
-    ensures appended { OnOk result (out.new.items ≡ out.old.items ++ folded_text (point_items key dhat.now)) }
+    ensures appended { OnOk result
+        (out.new.items ≡ out.old.items ++ folded_text (point_items key dhat.now)) }
     ensures kept { Extends out.old.items out.new.items }
 {
     let sums = point_sums(alloc, key, dhat)?;
@@ -78,7 +85,8 @@ fn put_points(alloc: Global, key: FigureKey, dhat: &Dhat, out: &mut Vec<u8>) -> 
 fn point_sums(alloc: Global, key: FigureKey, dhat: &Dhat) -> Result<ListSums, NoMemory>
     requires sound { IsSound dhat.now }
     requires within { sum (point_costs key dhat.now) ≤ 2 ^ 62 }
-    ensures sums { IfOk result (λ sums. AreSums sums.names sums.lists.keys sums.sums.items (point_items key dhat.now)) }
+    ensures sums { IfOk result
+        (λ sums. AreSums sums.names sums.lists.keys sums.sums.items (point_items key dhat.now)) }
 {
     let table = shown_table(alloc, &dhat.ftbl)?;
     let ShownTexts { names, numbers, .. } = table;
@@ -91,18 +99,6 @@ fn point_sums(alloc: Global, key: FigureKey, dhat: &Dhat) -> Result<ListSums, No
     Ok(sums)
 }
 
-/// The shown texts of the table under numbers.
-fn shown_table(alloc: Global, table: &Texts) -> Result<ShownTexts, NoMemory>
-    ensures numbers { IfOk result (λ texts. AreNumbers texts.names texts.numbers.items (map shown table.now)) }
-    ensures distinct { IfOk result (λ texts. AreDistinct texts.names) }
-{
-    let mut texts = ShownTexts::new(alloc);
-    'each_text: for place in 0..table.len() {
-        texts.push(table.at(place).bytes())?;
-    }
-    Ok(texts)
-}
-
 /// Replaces `list` by the numbers of the frames' texts.
 fn number_frames(
     numbers: &[usize],
@@ -110,7 +106,8 @@ fn number_frames(
     list: &mut Vec<usize>,
 ) -> Result<(), NoMemory>
     requires in_table { All (λ frame. frame < length numbers.now) frames.now }
-    ensures numbered { OnOk result (list.new.items ≡ map (λ frame. slice_index numbers.now frame) frames.now) }
+    ensures numbered { OnOk result
+        (list.new.items ≡ map (λ frame. slice_index numbers.now frame) frames.now) }
 {
     list.clear();
     'each_frame: for place in 0..frames.len() {

@@ -9,7 +9,8 @@ says change place stack = nat_le change.place place && (change.stack == stack)
 -- what the stack costs at the place: what the last change up to it says, and so much where none does
 abbrev pub cost_behind : ℕ → List Change → ℕ → ℕ → ℕ
 cost_behind before [] place stack = before
-cost_behind before (change ∷ changes) place stack = cost_behind (if says change place stack then change.cost else before) changes place stack
+cost_behind before (change ∷ changes) place stack = cost_behind
+    (if says change place stack then change.cost else before) changes place stack
 
 -- what the stack costs at the place, and 0 where no change says
 abbrev pub cost_at : List Change → ℕ → ℕ → ℕ
@@ -18,7 +19,8 @@ cost_at changes place stack = cost_behind 0 changes place stack
 -- the changes are of so many stacks, and their places ascend between the two
 abbrev pub IsBetween : ℕ → ℕ → List Change → ℕ → Type 0
 IsBetween stacks low [] last = low ≤ last
-IsBetween stacks low (change ∷ changes) last = (change.stack < stacks) × (low ≤ change.place) × IsBetween stacks change.place changes last
+IsBetween stacks low (change ∷ changes) last = (change.stack < stacks) × (low ≤ change.place)
+    × IsBetween stacks change.place changes last
 
 -- the place is one that is kept, or none of the changes is behind it
 abbrev pub IsAsked : List ℕ → ℕ → ℕ → Type 0
@@ -33,4 +35,5 @@ pub record IsParting (kept : List ℕ) (earlier later : Change) : Type 0 where
 
 -- between any two changes of one stack a kept place stands
 pub record AreParted (kept : List ℕ) (changes : List Change) : Type 0 where
-  pub each : AllPairs (λ earlier later. earlier.stack ≡ later.stack → IsParting kept earlier later) changes
+  pub each : AllPairs (λ earlier later. earlier.stack ≡ later.stack → IsParting kept earlier later)
+      changes

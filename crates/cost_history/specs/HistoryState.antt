@@ -20,7 +20,8 @@ no_history = record { marks = no_marks; stacks = 0; changes = []; left = 0; last
 -- the changes to these costs at the place, of those of the list that are below the number of stacks
 abbrev pub changes_to : ℕ → ℕ → (ℕ → ℕ) → List ℕ → List Change
 changes_to stacks place costs list =
-    map (λ (stack : ℕ). record { place = place; stack = stack; cost = costs stack }) (filter (λ stack. nat_lt stack stacks) list)
+    map (λ (stack : ℕ). record { place = place; stack = stack; cost = costs stack })
+    (filter (λ stack. nat_lt stack stacks) list)
 
 -- no more changes than twice those that were left the last time, and one more for each stack
 abbrev pub IsRoomy : HistoryState → Type 0
@@ -28,7 +29,8 @@ IsRoomy state = length state.changes ≤ state.left + state.left + state.stacks
 
 -- each stack that isn't marked costs now what the history says from its last place on
 pub record TellsNow (state : HistoryState) (costs : ℕ → ℕ) : Type 0 where
-  pub unmarked : (stack place : ℕ) → is_marked state.marks stack ≡ false → state.last ≤ place → cost_at state.changes place stack ≡ costs stack
+  pub unmarked : (stack place : ℕ) → is_marked state.marks stack ≡ false → state.last ≤ place
+      → cost_at state.changes place stack ≡ costs stack
 
 -- the answers of a closure for so many stacks are these costs, and other stacks cost nothing
 pub record AreSaid (answers : ℕ → ℕ → Type 0) (stacks : ℕ) (costs : ℕ → ℕ) : Type 0 where

@@ -7,7 +7,8 @@ use Rattle.cost_history.specs.HistoryState.{HistoryState}
 
 -- there is a cell for each stack
 abbrev pub history_of : MarksState → List Change → List ℕ → ℕ → ℕ → HistoryState
-history_of marks changes cells left last = record { marks = marks; stacks = length cells; changes = changes; left = left; last = last }
+history_of marks changes cells left last
+    = record { marks = marks; stacks = length cells; changes = changes; left = left; last = last }
 
 -- the changes are of these stacks and in the order of their places
 pub record IsKept (changes : List Change) (cells : List ℕ) (last : ℕ) : Type 0 where

@@ -30,7 +30,8 @@ pub record RoomyMarks : Type 0 where
 
 -- the marks with that of the stack, and no other
 abbrev pub with_mark : MarksState → ℕ → MarksState
-with_mark marks stack = if has marks.listed stack then marks else record marks { listed = marks.listed ++ stack ∷ [] }
+with_mark marks stack = if has marks.listed stack then marks
+    else record marks { listed = marks.listed ++ stack ∷ [] }
 
 -- where there is no room to list it, all are marked
 abbrev pub marked_with : RoomyMarks → ℕ → RoomyMarks

@@ -17,5 +17,6 @@ pub record ArePlaced (order places : List ℕ) (count : ℕ) : Type 0 where
   pub as_many : length places ≡ length order
   pub stack_held : (i : ℕ) → i < length order → slice_index order i < length order
   pub place_held : (stack : ℕ) → stack < length order → slice_index places stack < length order
-  pub stack_at : (stack : ℕ) → stack < length order → slice_index order (slice_index places stack) ≡ stack
+  pub stack_at : (stack : ℕ) → stack < length order
+      → slice_index order (slice_index places stack) ≡ stack
   pub place_of : (i : ℕ) → i < length order → slice_index places (slice_index order i) ≡ i

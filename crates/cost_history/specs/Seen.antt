@@ -5,7 +5,8 @@ use Rattle.cost_history.specs.Changes.{says}
 
 -- the places ascend
 abbrev pub AreAscending : List ℕ → Type 0
-AreAscending places = (i j : ℕ) → i ≤ j → j < length places → slice_index places i ≤ slice_index places j
+AreAscending places = (i j : ℕ) → i ≤ j → j < length places
+    → slice_index places i ≤ slice_index places j
 
 -- one of the changes is of the stack, and is made at the place or before
 abbrev pub Has : List Change → ℕ → ℕ → Type 0
@@ -14,7 +15,8 @@ Has (change ∷ changes) place stack = (says change place stack ≡ true) ⊎ Ha
 
 -- beside each stack stands a place at which one of its changes is made, or the greatest number
 abbrev pub AreSeen : List ℕ → List Change → Type 0
-AreSeen seen changes = (stack : ℕ) → stack < length seen → slice_index seen stack < 2 ^ 64 - 1 → Has changes (slice_index seen stack) stack
+AreSeen seen changes = (stack : ℕ) → stack < length seen → slice_index seen stack < 2 ^ 64 - 1
+    → Has changes (slice_index seen stack) stack
 
 -- and none of its changes is made before
 abbrev pub AreFirst : List ℕ → List Change → Type 0

@@ -33,7 +33,9 @@ impl Model for CostHistory {
 
     ghost Value = { HistoryState };
 
-    ghost view = { λ history. history_of history.marks.marks history.changes.items history.cells.items history.left history.last };
+    ghost view = { λ history.
+        history_of history.marks.marks history.changes.items history.cells.items history.left
+        history.last };
 
     ghost invariant = { λ history. IsKept history.changes.items history.cells.items history.last };
 }
@@ -92,7 +94,8 @@ impl CostHistory {
             self.old.stacks ≤ stacks → TellsNow self.old costs →
             (seer stack : ℕ) → place ≤ seer → cost_at self.new.changes seer stack ≡ costs stack) }
         ensures most { OnOk result
-            (length self.new.changes ≤ length self.old.changes + length (candidates self.old.marks stacks)) }
+            (length self.new.changes
+            ≤ length self.old.changes + length (candidates self.old.marks stacks)) }
         ensures marks { OnOk result (self.new.marks ≡ no_marks) }
         ensures left { OnOk result (self.new.left ≡ self.old.left) }
         ensures last { OnOk result (self.new.last ≡ place) }
@@ -123,9 +126,11 @@ impl CostHistory {
     /// takes no memory.
     pub fn thin(&mut self, kept: &mut Vec<u64>)
         ensures costs { (place : ℕ) → IsAsked kept.old.items self.old.last place →
-            (stack : ℕ) → cost_at self.new.changes place stack ≡ cost_at self.old.changes place stack }
+            (stack : ℕ) → cost_at self.new.changes place stack
+            ≡ cost_at self.old.changes place stack }
         ensures parted { AreParted kept.old.items self.new.changes }
-        ensures rest { self.new ≡ record self.old { changes = self.new.changes; left = length self.new.changes } }
+        ensures rest { self.new
+            ≡ record self.old { changes = self.new.changes; left = length self.new.changes } }
         ensures tells { (costs : ℕ → ℕ) → TellsNow self.old costs → TellsNow self.new costs }
     {
         thin(&mut self.changes, &mut self.cells, kept, self.last);
@@ -169,7 +174,8 @@ fn push_changes<F: Fn(u32) -> u64>(
         changes.new.items ≡
         changes.old.items ++ changes_to stacks place costs (candidates marks.now.marks stacks)) }
     ensures most { OnOk result
-        (length changes.new.items ≤ length changes.old.items + length (candidates marks.now.marks stacks)) }
+        (length changes.new.items
+        ≤ length changes.old.items + length (candidates marks.now.marks stacks)) }
     ensures between { OnOk result ((all last : ℕ) → stacks ≤ all → last ≤ place →
         IsBetween all 0 changes.old.items last → IsBetween all 0 changes.new.items place) }
     ensures unchanged { OnErr result (changes.new.items ≡ changes.old.items) }

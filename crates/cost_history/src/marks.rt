@@ -137,7 +137,8 @@ fn exchange(
     requires stack { stack < length places.old.items }
     requires other { other < length places.old.items }
     ensures order { order.new.items ≡ slice_set (slice_set order.old.items place other) end stack }
-    ensures places { places.new.items ≡ slice_set (slice_set places.old.items other place) stack end }
+    ensures places { places.new.items
+        ≡ slice_set (slice_set places.old.items other place) stack end }
 {
     order[place as usize] = other;
     order[end as usize] = stack;

@@ -20,9 +20,15 @@ impl Model for Replay {
 
     ghost Value = { ReplayState };
 
-    ghost view = { λ replay. record { changes = replay.changes.items; costs = replay.costs.items; reached = replay.reached } };
+    ghost view = { λ replay.
+        record {
+          changes = replay.changes.items;
+          costs = replay.costs.items;
+          reached = replay.reached;
+        } };
 
-    ghost invariant = { λ replay. IsReplay replay.changes.items replay.costs.items replay.next replay.reached };
+    ghost invariant = { λ replay.
+        IsReplay replay.changes.items replay.costs.items replay.next replay.reached };
 }
 
 impl Replay {

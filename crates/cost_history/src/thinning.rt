@@ -16,7 +16,8 @@ pub(crate) fn thin(changes: &mut Vec<Change>, seen: &mut Vec<u64>, kept: &mut Ve
     ensures between { IsBetween (length seen.new.items) 0 changes.new.items last }
     ensures seen { length seen.new.items ≡ length seen.old.items }
     ensures costs { (place : ℕ) → IsAsked kept.old.items last place →
-        (stack : ℕ) → cost_at changes.new.items place stack ≡ cost_at changes.old.items place stack }
+        (stack : ℕ) → cost_at changes.new.items place stack
+        ≡ cost_at changes.old.items place stack }
     ensures parted { AreParted kept.old.items changes.new.items }
 {
     kept.sort_unstable();
@@ -45,7 +46,8 @@ fn sift(changes: &mut Vec<Change>, seen: &mut Vec<u64>, kept: &[u64], last: u64)
     ensures between { IsBetween (length seen.new.items) 0 (drop result changes.new.items) last }
     ensures seen { length seen.new.items ≡ length seen.old.items }
     ensures costs { (place : ℕ) → IsAsked kept.now last place → (stack : ℕ) →
-        cost_at (drop result changes.new.items) place stack ≡ cost_at changes.old.items place stack }
+        cost_at (drop result changes.new.items) place stack
+        ≡ cost_at changes.old.items place stack }
     ensures parted { AreParted kept.now (drop result changes.new.items) }
 {
     let mut left = changes.len();

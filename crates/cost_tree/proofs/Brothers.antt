@@ -13,9 +13,9 @@ use Rattle.cost_tree.specs.declared.node.CostNode.{CostNode}
 use Rattle.cost_tree.specs.Children.{children_of}
 use Rattle.cost_tree.specs.Costed.{Costed}
 use Rattle.cost_tree.specs.Inclusive.{has_front, inclusive, least}
-use Rattle.cost_tree.specs.IsTreeOf.{IsTreeOf}
 use Rattle.cost_tree.specs.NextFronts.{longer_front, next_fronts, opens, texts_at}
 use Rattle.cost_tree.specs.TreeState.{TreeState}
+use Rattle.cost_tree.proofs.Forests.{IsForest}
 use Rattle.cost_tree.proofs.Ascending.{ascending-same, mapped-from, mapped-pairs, mapped-same, mapped-to}
 use Rattle.cost_tree.proofs.Linking.{children_of-all, children_of-only, children_of-ordered, contains_ranged, no_node, ordered, ranged}
 use Rattle.cost_tree.proofs.Prefixes.{has_front-Decides}
@@ -99,7 +99,7 @@ record IsChildOf (tree : TreeState) (stacks : List Costed) (front : List (List �
   pub some : 0 < inclusive (get_or tree.fronts m []) stacks
   pub first : (get_or tree.nodes m no_node).first ≡ least (get_or tree.fronts m []) stacks
 
-child-is : (tree : TreeState) (stacks : List Costed) (depth n : ℕ) (front : List (List ℕ)) → IsTreeOf tree stacks depth → slice_get tree.fronts n ≡ Some front
+child-is : (tree : TreeState) (stacks : List Costed) (depth n : ℕ) (front : List (List ℕ)) → IsForest tree stacks depth → slice_get tree.fronts n ≡ Some front
     → (m : ℕ) → Contains (children_of tree.nodes n) m → IsChildOf tree stacks front m
 child-is tree stacks depth n front is at m held =
     let child = children_of-only tree.nodes n m held in
@@ -111,17 +111,16 @@ child-is tree stacks depth n front is at m held =
     let front_at = slice_get-get_or tree.fronts m [] (omega (arith, is.count)) in
     let below = is.below m (get_or tree.fronts m []) node above front_at node_at in
     let some = is.only m (get_or tree.fronts m []) above front_at in
-    let figures = is.figures m (get_or tree.fronts m []) node front_at node_at in
     let same : below.parent_front ≡ front = same_Some below.parent_front front (sym below.parent ∙ ap (λ (k : ℕ). slice_get tree.fronts k) parent ∙ at) in
     record {
       text = below.text;
       longer = below.longer ∙ ap (λ (xs : List (List ℕ)). xs ++ below.text ∷ []) same;
       some = some;
-      first = ap (λ (x : CostNode). x.first) (get_or_from_slice_get tree.nodes m node no_node node_at) ∙ figures.first some;
+      first = ap (λ (x : CostNode). x.first) (get_or_from_slice_get tree.nodes m node no_node node_at) ∙ is.firsts m (get_or tree.fronts m []) node front_at node_at some;
     }
 
 -- the child that a stack opens
-child-opened : (tree : TreeState) (stacks : List Costed) (depth n : ℕ) (front : List (List ℕ)) → IsTreeOf tree stacks depth → slice_get tree.fronts n ≡ Some front → length front < depth
+child-opened : (tree : TreeState) (stacks : List Costed) (depth n : ℕ) (front : List (List ℕ)) → IsForest tree stacks depth → slice_get tree.fronts n ≡ Some front → length front < depth
     → (s : ℕ) → Opens front stacks s → (m : ℕ) × Contains (children_of tree.nodes n) m × ((get_or tree.nodes m no_node).first ≡ s)
 child-opened tree stacks depth n front is at shorter s opened =
     let longer : List (List ℕ) = longer_front front stacks s in
@@ -138,7 +137,6 @@ child-opened tree stacks depth n front is at shorter s opened =
       | inr other ↦ omega arith
     ] in
     let below = is.below m longer node above found.1 node_at in
-    let figures = is.figures m longer node found.1 node_at in
     let push = ap (λ (xs : List (List ℕ)). length xs) below.longer ∙ length_push below.parent_front below.text in
     let cut : take (length front) longer ≡ below.parent_front =
     ap (λ (xs : List (List ℕ)). take (length front) xs) below.longer
@@ -146,9 +144,9 @@ child-opened tree stacks depth n front is at shorter s opened =
     ∙ take_all (length front) below.parent_front (omega arith) in
     let same : below.parent_front ≡ front = sym (opened.begins ∙ cut) in
     let parent = is.distinct node.parent n front (below.parent ∙ ap (λ (xs : List (List ℕ)). Some xs) same) at in
-    (m, children_of-all tree.nodes n m node above node_at parent, figures.first opened.some ∙ opened.least_is)
+    (m, children_of-all tree.nodes n m node above node_at parent, is.firsts m longer node found.1 node_at opened.some ∙ opened.least_is)
 
-pub children-next : (tree : TreeState) (stacks : List Costed) (depth n : ℕ) (front : List (List ℕ)) → IsTreeOf tree stacks depth → slice_get tree.fronts n ≡ Some front → length front < depth
+pub children-next : (tree : TreeState) (stacks : List Costed) (depth n : ℕ) (front : List (List ℕ)) → IsForest tree stacks depth → slice_get tree.fronts n ≡ Some front → length front < depth
     → map (λ m. get_or tree.fronts m []) (children_of tree.nodes n) ≡ next_fronts front stacks
 unfolding next_fronts
 children-next tree stacks depth n front is at shorter =
@@ -198,7 +196,7 @@ children-next tree stacks depth n front is at shorter =
         subst P child.2 (mapped-to (λ m. (get_or tree.nodes m no_node).first) (children_of tree.nodes n) child.0 child.1)
 
 -- a node of a front of the greatest length has no child
-pub children-none : (tree : TreeState) (stacks : List Costed) (depth n : ℕ) (front : List (List ℕ)) → IsTreeOf tree stacks depth → slice_get tree.fronts n ≡ Some front → depth ≤ length front
+pub children-none : (tree : TreeState) (stacks : List Costed) (depth n : ℕ) (front : List (List ℕ)) → IsForest tree stacks depth → slice_get tree.fronts n ≡ Some front → depth ≤ length front
     → children_of tree.nodes n ≡ []
 children-none tree stacks depth n front is at longest = none_held (children_of tree.nodes n) (λ m held. childless m held)
   where

@@ -2,15 +2,14 @@
 use Rattle.std.proofs.Common.{◌≡◌, ◌≢◌, ℕ, inl, inr, Bool, true, false, ◌==◌, ◌&&◌, List, [], ◌∷◌, ◌++◌, get_or, Some, sym, ap, ◌∙◌, true≢false}
 use Rattle.std.specs.Prelude.{slice_get}
 use Rattle.std.specs.List.{list_any}
-use Rattle.std.proofs.lemmas.Bool.{cond-true, cond-false, and_parts, and_from, eqb-true, eq-eqb}
+use Rattle.std.proofs.lemmas.Bool.{cases_Bool, cond-true, cond-false, and_parts, and_from, eqb-true, eq-eqb}
 use Rattle.std.proofs.lemmas.List.Folds.{list_any_at}
 use Rattle.std.proofs.lemmas.Option.{slice_get_within, get_or_from_slice_get}
 use Rattle.indexmap.specs.IndexSet.{insert_key}
-use Rattle.cost_tree.specs.declared.branches.Edge.{Edge}
-use Rattle.cost_tree.specs.declared.node.CostNode.{CostNode}
-use Rattle.cost_tree.specs.Growth.{IsChild}
+use Rattle.cost_tree.specs.declared.edge.Edge.{Edge}
+use Rattle.cost_tree.specs.Shapes.{IsChild}
 use Rattle.cost_tree.proofs.Lists.{get-push_cases}
-use Rattle.cost_tree.proofs.Branching.{same_edge}
+use Rattle.cost_tree.proofs.Steps.{same_edge}
 
 -- whether two edges are equal
 abbrev pub edge_eq : Edge → Edge → Bool
@@ -30,26 +29,22 @@ no_place edges edge none k found =
     let same = sym (get_or_from_slice_get edges k edge edge found) in
     true≢false (sym (list_any_at (edge_eq edge) edges k edge (slice_get_within edges k edge found) (edge_eq-from edge (get_or edges k edge) same)) ∙ none)
 
--- an edge that was there
-pub IsChild-found :
-    (edges new_edges : List Edge) (nodes new_nodes : List CostNode) (edge key : Edge) (stack place : ℕ)
-    → list_any (edge_eq edge) edges ≡ true → new_edges ≡ insert_key edge_eq edges edge → slice_get new_edges place ≡ Some key → edge_eq edge key ≡ true → new_nodes ≡ nodes
-    → IsChild edges nodes new_edges new_nodes edge stack place
-IsChild-found edges new_edges nodes new_nodes edge key stack place there inserted stored same kept =
-    let same_edges : new_edges ≡ edges = inserted ∙ cond-true (list_any (edge_eq edge) edges) edges (edges ++ edge ∷ []) there in
-    inl (same_edges, kept, ap (λ (xs : List Edge). slice_get xs place) (sym same_edges) ∙ stored ∙ ap (λ (e : Edge). Some e) (sym (edge_eq-is edge key same)))
-
--- an edge that is new
-pub IsChild-made :
-    (edges new_edges : List Edge) (nodes new_nodes : List CostNode) (edge key : Edge) (stack place : ℕ)
-    → list_any (edge_eq edge) edges ≡ false → new_edges ≡ insert_key edge_eq edges edge → slice_get new_edges place ≡ Some key → edge_eq edge key ≡ true
-    → new_nodes ≡ nodes ++ record { parent = edge.parent; cost = 0; own = 0; first = stack } ∷ []
-    → IsChild edges nodes new_edges new_nodes edge stack place
-IsChild-made edges new_edges nodes new_nodes edge key stack place absent inserted stored same made =
-    let more : new_edges ≡ edges ++ edge ∷ [] = inserted ∙ cond-false (list_any (edge_eq edge) edges) edges (edges ++ edge ∷ []) absent in
-    let none = no_place edges edge absent in
-    let found : slice_get (edges ++ edge ∷ []) place ≡ Some edge = ap (λ (xs : List Edge). slice_get xs place) (sym more) ∙ stored ∙ ap (λ (e : Edge). Some e) (sym (edge_eq-is edge key same)) in
-    elim (get-push_cases edges edge place edge found) [
-      | inl old ↦ absurd (none place old)
-      | inr new ↦ inr (none, new.0, more, made)
+-- an edge that was there, or is new
+pub IsChild-is :
+    (edges new_edges : List Edge) (edge key : Edge) (place : ℕ)
+    → new_edges ≡ insert_key edge_eq edges edge → slice_get new_edges place ≡ Some key → edge_eq edge key ≡ true
+    → IsChild edges new_edges edge place
+IsChild-is edges new_edges edge key place inserted stored same =
+    let is : slice_get new_edges place ≡ Some edge = stored ∙ ap (λ (e : Edge). Some e) (sym (edge_eq-is edge key same)) in
+    elim (cases_Bool (list_any (edge_eq edge) edges)) [
+      | inl there ↦
+          let kept : new_edges ≡ edges = inserted ∙ cond-true (list_any (edge_eq edge) edges) edges (edges ++ edge ∷ []) there in
+          inl (kept, ap (λ (xs : List Edge). slice_get xs place) (sym kept) ∙ is)
+      | inr absent ↦
+          let more : new_edges ≡ edges ++ edge ∷ [] = inserted ∙ cond-false (list_any (edge_eq edge) edges) edges (edges ++ edge ∷ []) absent in
+          let none = no_place edges edge absent in
+          elim (get-push_cases edges edge place edge (ap (λ (xs : List Edge). slice_get xs place) (sym more) ∙ is)) [
+            | inl old ↦ absurd (none place old)
+            | inr new ↦ inr (none, new.0, more)
+          ]
     ]

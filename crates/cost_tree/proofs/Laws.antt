@@ -8,6 +8,7 @@ use Rattle.std.proofs.lemmas.List.Filters.{length-filter_both, sum_by-filter_bot
 use Rattle.std.proofs.lemmas.List.Sorted.{All-permutation, length_permutation}
 use Rattle.std.proofs.lemmas.List.Sums.{sum_by-cons}
 use Rattle.std.proofs.lemmas.Option.{get_or_from_slice_get}
+use Rattle.intern_tables.specs.Distinct.{AreDistinct}
 use Rattle.cost_tree.specs.declared.scale.Scale.{Scale}
 use Rattle.cost_tree.specs.Children.{children_of}
 use Rattle.cost_tree.specs.Costed.{Costed, costed}
@@ -15,15 +16,18 @@ use Rattle.cost_tree.specs.CostLines.{cost_of, gathered_lines, is_small, kept_fr
 use Rattle.cost_tree.specs.Inclusive.{inclusive}
 use Rattle.cost_tree.specs.IsTreeOf.{IsTreeOf}
 use Rattle.cost_tree.specs.NextFronts.{next_fronts}
+use Rattle.cost_tree.specs.Texts.{IsText, texts_of}
 use Rattle.cost_tree.specs.TreeLines.{front_at}
 use Rattle.cost_tree.specs.TreeState.{TreeState}
 use Rattle.cost_tree.proofs.Alike.{IsSameTo-map, IsTreeOf-same, first-alike}
 use Rattle.cost_tree.proofs.Brothers as brothers
+use Rattle.cost_tree.proofs.Forests.{IsForest-tree}
 use Rattle.cost_tree.proofs.Lists as lists
 use Rattle.cost_tree.proofs.Needing as needing
 use Rattle.cost_tree.proofs.Nexts as nexts
 use Rattle.cost_tree.proofs.NextSums.{next-whole}
 use Rattle.cost_tree.proofs.Orders.{by_cost-permutation}
+use Rattle.cost_tree.proofs.Steps as steps
 use Rattle.cost_tree.proofs.Sums as sums
 use Rattle.cost_tree.proofs.Walks.{next-few}
 
@@ -37,12 +41,12 @@ inclusive-within = sums.inclusive-within
 -- the children of a node stand for the fronts that are one text longer than the node's, in the order of these
 pub children-next : (tree : TreeState) (stacks : List Costed) (depth n : ℕ) (front : List (List ℕ)) → IsTreeOf tree stacks depth → slice_get tree.fronts n ≡ Some front → length front < depth
     → map (front_at tree) (children_of tree.nodes n) ≡ next_fronts front stacks
-children-next = brothers.children-next
+children-next tree stacks depth n front is at shorter = brothers.children-next tree stacks depth n front (IsForest-tree tree stacks depth is) at shorter
 
 -- a node of a front of the greatest length has none
 pub children-none : (tree : TreeState) (stacks : List Costed) (depth n : ℕ) (front : List (List ℕ)) → IsTreeOf tree stacks depth → slice_get tree.fronts n ≡ Some front → depth ≤ length front
     → children_of tree.nodes n ≡ []
-children-none = brothers.children-none
+children-none tree stacks depth n front is at longest = brothers.children-none tree stacks depth n front (IsForest-tree tree stacks depth is) at longest
 
 -- a tree needs of a list its first texts, one more than its fronts may have
 pub first-texts : (tree : TreeState) (depth : ℕ) (texts : ℕ → List (List ℕ)) (ns costs : List ℕ)
@@ -85,7 +89,7 @@ pub next-texts : (P : List ℕ → Type 0) (front : List (List ℕ)) (stacks : L
 next-texts = nexts.next-texts
 
 pub inclusive-longer : (front more : List (List ℕ)) (stacks : List Costed) → inclusive (front ++ more) stacks ≤ inclusive front stacks
-inclusive-longer = nexts.inclusive-longer
+inclusive-longer = sums.inclusive-longer
 
 -- where the threshold is 0, all have lines of their own: each goes on by its last text and costs something, each front one text
 -- longer that costs something is among them, and no two are one
@@ -149,3 +153,7 @@ costed-sum (list ∷ lists) (cost ∷ costs) same =
     let two = sum_by-cons (λ (n : ℕ). n) cost costs in
     let rest = costed-sum lists costs (omega arith) in
     omega arith
+
+-- lists of numbers with the same texts are equal
+pub texts-same : (names : List (List ℕ)) (xs ys : List ℕ) → AreDistinct names → All (IsText names) xs → All (IsText names) ys → texts_of names xs ≡ texts_of names ys → xs ≡ ys
+texts-same = steps.texts-same

@@ -2,14 +2,17 @@ mod Lists
 mod Prefixes
 mod Sums
 mod Naming
-mod Branching
-mod Counting
+mod Steps
 mod Edges
-mod Stages
-mod Linking
-mod Trees
-mod Copying
+mod ShapeLists
 mod Listing
+mod Ascents
+mod Growing
+mod Stages
+mod Adding
+mod Linking
+mod Forests
+mod Trees
 mod Needing
 mod Alike
 mod Ascending
@@ -19,6 +22,7 @@ mod Orders
 mod Nexts
 mod Sorting
 mod ChildNodes
+mod Totals
 mod Pushing
 mod Walks
 pub mod Laws

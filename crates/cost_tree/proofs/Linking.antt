@@ -13,18 +13,18 @@ use Rattle.cost_tree.specs.declared.node.CostNode.{CostNode}
 use Rattle.cost_tree.specs.Children.{has_parent, children_from, children_of, chain, IsLink, AreLinksFrom}
 
 -- a node that is there, and whether its parent is n
-has_parent-at : (nodes : List CostNode) (n m : ℕ) (node : CostNode) → slice_get nodes m ≡ Some node → has_parent nodes n m ≡ (node.parent == n)
+pub has_parent-at : (nodes : List CostNode) (n m : ℕ) (node : CostNode) → slice_get nodes m ≡ Some node → has_parent nodes n m ≡ (node.parent == n)
 has_parent-at nodes n m node at = ap (λ found. option_map_or (λ (x : CostNode). x.parent == n) found false) at
 
 -- from a node on: that node where it is a child, and those after it
-children_from-step : (nodes : List CostNode) (n m : ℕ) → m < length nodes → children_from nodes n m ≡ cond (has_parent nodes n m) (m ∷ children_from nodes n (m + 1)) (children_from nodes n (m + 1))
+pub children_from-step : (nodes : List CostNode) (n m : ℕ) → m < length nodes → children_from nodes n m ≡ cond (has_parent nodes n m) (m ∷ children_from nodes n (m + 1)) (children_from nodes n (m + 1))
 unfolding children_from
 children_from-step nodes n m within =
     let left : length nodes - m ≡ suc (length nodes - (m + 1)) = omega arith in
     ap (λ (k : ℕ). filter (has_parent nodes n) (range_with_len m k)) left
 
 -- past the last node there are none
-children_from-end : (nodes : List CostNode) (n m : ℕ) → length nodes ≤ m → children_from nodes n m ≡ []
+pub children_from-end : (nodes : List CostNode) (n m : ℕ) → length nodes ≤ m → children_from nodes n m ≡ []
 unfolding children_from
 children_from-end nodes n m past =
     let left : length nodes - m ≡ 0 = omega arith in

@@ -28,6 +28,14 @@ get-set_same [] m x y at = absurd (none-some x at)
 get-set_same (z ∷ zs) zero x y at = refl
 get-set_same (z ∷ zs) (suc m) x y at = get-set_same zs m x y at
 
+-- an element elsewhere stays
+pub get-set_other : {X : Type 0} (xs : List X) (m n : ℕ) (y : X) → n ≢ m → slice_get (set xs m y) n ≡ slice_get xs n
+get-set_other [] m n y other = refl
+get-set_other (z ∷ zs) zero zero y other = absurd (other refl)
+get-set_other (z ∷ zs) zero (suc n) y other = refl
+get-set_other (z ∷ zs) (suc m) zero y other = refl
+get-set_other (z ∷ zs) (suc m) (suc n) y other = get-set_other zs m n y (λ same. other (ap (λ (k : ℕ). suc k) same))
+
 -- an element is the one that was put there, or stands elsewhere and stood there before
 pub get-set_cases : {X : Type 0} (xs : List X) (m : ℕ) (y : X) (n : ℕ) (x : X) → slice_get (set xs m y) n ≡ Some x → ((n ≡ m) × (x ≡ y)) ⊎ ((n ≢ m) × (slice_get xs n ≡ Some x))
 get-set_cases [] m y n x at = absurd (none-some x at)

@@ -1,21 +1,24 @@
 -- Lemmas on the lists that a tree needs.
-use Rattle.std.proofs.Common.{◌≡◌, ℕ, ◌+◌, ◌<◌, eqb, false, List, [], ◌∷◌, ◌++◌, length, map, take, get_or, reverse, Some, refl, sym, ap, ◌∙◌, subst, arith}
+use Rattle.std.proofs.Common.{◌≡◌, ◌≢◌, ℕ, zero, suc, ◌+◌, ◌<◌, ◌==◌, if◌then◌else◌, eqb, false, List, [], ◌∷◌, ◌++◌, length, map, take, get_or, reverse, Some, refl, sym, ap, ◌∙◌, subst, arith}
 use Rattle.std.specs.Prelude.{slice_get, slice_index}
 use Rattle.std.specs.List.{range_with_len}
 use Rattle.std.proofs.lemmas.Bool.{cond-false}
 use Rattle.std.proofs.lemmas.Bool.Decides.{nat_tests}
 use Rattle.std.proofs.lemmas.List.{map-append, reverse-append, take-map}
-use Rattle.std.proofs.lemmas.List.FromFn.{get_or-range_with_len, length-map-range_with_len, length-range_with_len, map-range_with_len_more}
+use Rattle.std.proofs.lemmas.List.FromFn.{get_or-map-range_with_len, get_or-range_with_len, length-map-range_with_len, length-range_with_len, map-range_with_len_more}
 use Rattle.std.proofs.lemmas.Option.{get_or_from_slice_get, slice_get_within}
 use Rattle.cost_tree.specs.declared.direction.Direction.{Direction}
 use Rattle.cost_tree.specs.declared.direction.Direction.TheVariants.{FromAllocation, FromRoot}
 use Rattle.cost_tree.specs.Costed.{costed}
 use Rattle.cost_tree.specs.Inclusive.{has_front, is_front}
 use Rattle.cost_tree.specs.IsTreeOf.{IsTreeOf}
-use Rattle.cost_tree.specs.Needed.{needed, needed_list, needed_lists}
+use Rattle.cost_tree.specs.Needed.{Begins, LastGains, StandFor, needed, needed_list, needed_lists}
 use Rattle.cost_tree.specs.StackTexts.{lists_towards, stack_texts, towards}
 use Rattle.cost_tree.specs.TreeState.{TreeState}
 use Rattle.ht_trace.specs.declared.frame.Style.{Style}
+use Rattle.ht_trace.specs.declared.frame.FrameAt.{FrameAt}
+use Rattle.ht_trace.specs.FrameText.{frame_text}
+use Rattle.ht_trace.specs.StackFrames.{outer_frames, stack_frames}
 use Rattle.ht_trace.specs.TableState.{TableState}
 use Rattle.cost_tree.proofs.Alike.{AreAlike, IsSameTo-map, IsTreeOf-same, first-alike}
 
@@ -92,3 +95,49 @@ needed_lists-all direction style tables most costs n lists all are =
 pub needed_lists-count : (direction : Direction) (style : Style) (tables : TableState) (most : ℕ) (costs : List ℕ) → length (needed_lists direction style tables most costs) ≡ length tables.nodes + 1
 unfolding needed_lists
 needed_lists-count direction style tables most costs = length-map-range_with_len (needed_list direction style tables most costs) 0 (length tables.nodes + 1)
+
+-- what a list begins with from the root, in texts
+outer-texts : (text : FrameAt → List ℕ) (tables : TableState) (stack caller : ℕ) (old : List (List (List ℕ))) → old ≡ map (λ n. reverse (map text (stack_frames tables.instructions tables.nodes n))) (range_with_len 0 stack) → (caller ≢ 0 → caller < stack)
+    → (if caller == 0 then [] else get_or old caller []) ≡ map text (reverse (outer_frames tables.instructions tables.nodes caller))
+outer-texts text tables stack zero old are lower = refl
+outer-texts text tables stack (suc k) old are lower =
+    let f : ℕ → List (List ℕ) = λ n. reverse (map text (stack_frames tables.instructions tables.nodes n)) in
+    let above : eqb (suc k) 0 ≡ false = grind (arith, nat_tests) in
+    let within = lower (λ none. absurd (omega arith)) in
+    cond-false (eqb (suc k) 0) [] (get_or old (suc k) []) above
+    ∙ ap (λ (ls : List (List (List ℕ))). get_or ls (suc k) []) are
+    ∙ get_or-map-range_with_len f 0 stack (suc k) (suc k) [] within (omega arith)
+    ∙ sym (map-reverse text (stack_frames tables.instructions tables.nodes (suc k)))
+    ∙ ap (λ (fs : List FrameAt). map text (reverse fs)) (sym (cond-false (eqb (suc k) 0) [] (stack_frames tables.instructions tables.nodes (suc k)) above))
+
+-- the list of one stack more from the root
+pub root-more : (style : Style) (tables : TableState) (stack : ℕ) (own : List FrameAt) (old begun new : List (List (List ℕ))) → old ≡ map (λ n. reverse (stack_texts style tables n)) (range_with_len 0 stack) → Begins tables stack own old begun
+    → LastGains begun (map (frame_text style tables) (reverse own)) new → new ≡ map (λ n. reverse (stack_texts style tables n)) (range_with_len 0 (stack + 1))
+root-more style tables stack own old begun new are begins gains =
+    let text : FrameAt → List ℕ = frame_text style tables in
+    let outer : List FrameAt = outer_frames tables.instructions tables.nodes begins.caller in
+    let start : List (List ℕ) = if begins.caller == 0 then [] else get_or old begins.caller [] in
+    let start_is : start ≡ map text (reverse outer) = outer-texts text tables stack begins.caller old are begins.lower in
+    let whole : reverse (stack_texts style tables stack) ≡ map text (reverse outer) ++ map text (reverse own) =
+    ap (λ (fs : List FrameAt). reverse (map text fs)) begins.frames
+    ∙ sym (map-reverse text (own ++ outer))
+    ∙ ap (λ (fs : List FrameAt). map text fs) (reverse-append own outer)
+    ∙ map-append text (reverse outer) (reverse own) in
+    listed-more (λ n. reverse (stack_texts style tables n)) stack old new are
+    (gains old start begins.begun ∙ ap (λ (ts : List (List ℕ)). old ++ ts ∷ []) (ap (λ (ts : List (List ℕ)). ts ++ map text (reverse own)) start_is ∙ sym whole))
+
+-- a tree of either lists is that of the stacks
+pub StandFor-needed : (style : Style) (tables : TableState) (costs : List ℕ) (depth : ℕ) (fronts : List (List (List ℕ))) → length costs ≡ length tables.nodes + 1 → fronts ≡ needed_lists FromAllocation style tables (depth + 1) costs
+    → StandFor FromAllocation style tables costs depth fronts
+StandFor-needed style tables costs depth fronts as_many is = record {
+  count = ap (λ (ls : List (List (List ℕ))). length ls) is ∙ needed_lists-count FromAllocation style tables (depth + 1) costs ∙ sym as_many;
+  tree = λ tree tree_of. IsTreeOf-needed tree FromAllocation style tables depth costs (subst (λ (ls : List (List (List ℕ))). IsTreeOf tree (costed ls costs) depth) is tree_of);
+}
+
+pub StandFor-root : (style : Style) (tables : TableState) (costs : List ℕ) (depth : ℕ) (fronts : List (List (List ℕ))) → length costs ≡ length tables.nodes + 1 → fronts ≡ lists_towards FromRoot style tables
+    → StandFor FromRoot style tables costs depth fronts
+unfolding lists_towards
+StandFor-root style tables costs depth fronts as_many is = record {
+  count = ap (λ (ls : List (List (List ℕ))). length ls) is ∙ length-map-range_with_len (λ n. reverse (stack_texts style tables n)) 0 (length tables.nodes + 1) ∙ sym as_many;
+  tree = λ tree tree_of. subst (λ (ls : List (List (List ℕ))). IsTreeOf tree (costed ls costs) depth) is tree_of;
+}

@@ -1,17 +1,15 @@
 -- A front costs its own cost and what the fronts one text longer cost.
-use Rattle.std.proofs.Common.{◌≡◌, ◌≢◌, ℕ, zero, suc, ◌+◌, ◌<◌, ◌≤◌, inl, inr, true, false, if◌then◌else◌, List, [], ◌∷◌, ◌++◌, length, map, filter, take, get_or, refl, sym, ap, ◌∙◌, subst, arith}
+use Rattle.std.proofs.Common.{◌≡◌, ◌≢◌, ℕ, zero, suc, ◌+◌, ◌<◌, ◌≤◌, inl, inr, true, false, if◌then◌else◌, List, [], ◌∷◌, ◌++◌, length, take, get_or, refl, sym, ap, ◌∙◌, arith}
 use Rattle.std.specs.Prelude.{All, AllPairs, Contains, sum_by}
-use Rattle.std.specs.List.{range_with_len}
 use Rattle.std.proofs.lemmas.Bool.{true≢false, cases_Bool, cases_lt, false_from_ne_true, cond-true, cond-false}
-use Rattle.std.proofs.lemmas.List.{get_or-map, length-map, length-take, take-take, take_all, take_more}
-use Rattle.std.proofs.lemmas.List.Elements.{All-head, All-map, All-tail, All-weaker}
+use Rattle.std.proofs.lemmas.List.{length-take, length_push, take-append-le, take-take, take_all, take_more}
+use Rattle.std.proofs.lemmas.List.Elements.{All-head, All-tail, All-weaker}
 use Rattle.std.proofs.lemmas.List.Sums.{get_or-le-sum_by, sum_by-cons}
 use Rattle.cost_tree.specs.Costed.{Costed}
-use Rattle.cost_tree.specs.Inclusive.{has_front, inclusive, is_front, least, own}
-use Rattle.cost_tree.specs.NextFronts.{longer_front, next_fronts, opens}
-use Rattle.cost_tree.proofs.Ascending.{mapped-to}
-use Rattle.cost_tree.proofs.Brothers.{Opens, opened-is, opens-is}
-use Rattle.cost_tree.proofs.Linking.{contains_ranged, ordered, ranged}
+use Rattle.cost_tree.specs.Inclusive.{has_front, inclusive, is_front, own}
+use Rattle.cost_tree.specs.CostLines.{last_of}
+use Rattle.cost_tree.specs.NextFronts.{next_fronts}
+use Rattle.cost_tree.proofs.Nexts.{IsLonger, next-all, next-apart, next-longer}
 use Rattle.cost_tree.proofs.Prefixes.{has_front-Decides, is_front-Decides, is_front-has}
 use Rattle.cost_tree.proofs.Sums.{inclusive-some}
 
@@ -178,42 +176,25 @@ nexts-whole front nexts (stack ∷ stacks) all apart covered =
     omega arith
 
 pub next-whole : (front : List (List ℕ)) (stacks : List Costed) → inclusive front stacks ≡ own front stacks + sum_by (λ next. inclusive next stacks) (next_fronts front stacks)
-unfolding next_fronts
-next-whole front stacks = nexts-whole front (next_fronts front stacks) stacks are apart covered
+next-whole front stacks = nexts-whole front (next_fronts front stacks) stacks are (next-apart front stacks) covered
   where
-    opened : All (Opens front stacks) (filter (opens front stacks) (range_with_len 0 (length stacks)))
-    opened =
-        All-weaker (λ n. (0 ≤ n) × ((n < 0 + length stacks) × (opens front stacks n ≡ true))) (Opens front stacks)
-        (λ n passes. opens-is front stacks n (omega (arith, passes.1.0)) passes.1.1) (filter (opens front stacks) (range_with_len 0 (length stacks)))
-        (ranged (opens front stacks) 0 (length stacks))
+    longer : (next : List (List ℕ)) → IsLonger front stacks next → IsNext front next
+    longer next is =
+        let text : List ℕ = last_of next in
+        record {
+          count = ap (λ (xs : List (List ℕ)). length xs) is.is ∙ length_push front text;
+          begins = sym (take_all (length front) front (omega arith))
+              ∙ sym (take-append-le (length front) front (text ∷ []) (omega arith))
+              ∙ ap (λ (xs : List (List ℕ)). take (length front) xs) (sym is.is);
+        }
 
-    are : All (IsNext front) (map (longer_front front stacks) (filter (opens front stacks) (range_with_len 0 (length stacks))))
-    are =
-        All-map (IsNext front) (longer_front front stacks) (filter (opens front stacks) (range_with_len 0 (length stacks)))
-        (All-weaker (Opens front stacks) (λ n. IsNext front (longer_front front stacks n)) (λ n is. record { count = is.count; begins = is.begins }) (filter (opens front stacks) (range_with_len 0 (length stacks))) opened)
+    are : All (IsNext front) (next_fronts front stacks)
+    are = All-weaker (IsLonger front stacks) (IsNext front) (λ next is. longer next is) (next_fronts front stacks) (next-longer front stacks)
 
-    apart : AllPairs (λ earlier later. earlier ≢ later) (map (longer_front front stacks) (filter (opens front stacks) (range_with_len 0 (length stacks))))
-    apart i j d before within = λ same.
-        let ns : List ℕ = filter (opens front stacks) (range_with_len 0 (length stacks)) in
-        let count = length-map ns (longer_front front stacks) in
-        let one = get_or-map (longer_front front stacks) ns i 0 d (omega arith) in
-        let two = get_or-map (longer_front front stacks) ns j 0 d (omega arith) in
-        let up = ordered (opens front stacks) 0 (length stacks) i j 0 before (omega arith) in
-        let first = (opened i 0 (omega arith)).least_is in
-        let second = (opened j 0 (omega arith)).least_is in
-        let equal : least (longer_front front stacks (get_or ns i 0)) stacks ≡ least (longer_front front stacks (get_or ns j 0)) stacks =
-        ap (λ (xs : List (List ℕ)). least xs stacks) (sym one ∙ same ∙ two) in
-        omega arith
-
-    covered : All (Covers front (map (longer_front front stacks) (filter (opens front stacks) (range_with_len 0 (length stacks))))) stacks
+    covered : All (Covers front (next_fronts front stacks)) stacks
     covered k d within above has goes_on =
-        let opening : List ℕ = filter (opens front stacks) (range_with_len 0 (length stacks)) in
         let texts : List (List ℕ) = (get_or stacks k d).texts in
         let text : List ℕ = get_or texts (length front) [] in
         let next : List (List ℕ) = take (length front + 1) texts in
         let is : next ≡ front ++ text ∷ [] = take_more texts (length front) [] goes_on ∙ ap (λ (xs : List (List ℕ)). xs ++ text ∷ []) (sym ((has_front-Decides front texts).0 has)) in
-        let some = inclusive-some next stacks k d within above (has_next front texts goes_on) in
-        let opened = opened-is front next text stacks is some in
-        let held = contains_ranged (opens front stacks) 0 (length stacks) (least next stacks) (omega arith) (omega (arith, opened.within)) opened.opened in
-        let P : List (List ℕ) → Type 0 = λ xs. Contains (map (longer_front front stacks) opening) xs in
-        subst P opened.is (mapped-to (longer_front front stacks) opening (least next stacks) held)
+        next-all front next text stacks is (inclusive-some next stacks k d within above (has_next front texts goes_on))

@@ -1,24 +1,23 @@
 -- The fronts that are one text longer than a front: what each is, that no two are one, and that all are there.
 use Rattle.std.proofs.Common.{◌≡◌, ◌≢◌, ℕ, zero, suc, ◌+◌, ◌-◌, ◌*◌, ◌<◌, ◌≤◌, true, false, inl, inr, not, Bool, List, [], ◌∷◌, ◌++◌, length, map, filter, take, get_or, cond, refl, sym, ap, ◌∙◌, subst, arith, IsPermutation}
-use Rattle.std.specs.Prelude.{All, AllPairs, Contains, nat_lt, sum_by}
+use Rattle.std.specs.Prelude.{All, AllPairs, Contains, nat_lt}
 use Rattle.std.specs.List.{range_with_len}
-use Rattle.std.proofs.lemmas.Bool.{cases_Bool, cond-true, cond-false, false_from_ne_true, both_ways}
+use Rattle.std.proofs.lemmas.Bool.{cases_Bool, false_from_ne_true, both_ways}
 use Rattle.std.proofs.lemmas.Bool.Decides.{nat_tests}
-use Rattle.std.proofs.lemmas.List.{get_or-map, length-map, length_push, take-append-le, take-take, take_all, take_more}
+use Rattle.std.proofs.lemmas.List.{get_or-map, length-map, take_all, take_more}
 use Rattle.std.proofs.lemmas.List.Elements.{All-head, All-map, All-nil, All-tail, All-take, All-weaker}
 use Rattle.std.proofs.lemmas.List.Sorted.{All-permutation, Contains-permutation}
-use Rattle.std.proofs.lemmas.List.Sums.{sum_by-cons}
 use Rattle.std.proofs.lemmas.Map.Keys.{IsDistinct-IsPermutation, IsDistinct-from_apart, apart_from_distinct}
 use Rattle.cost_tree.specs.declared.scale.Scale.{Scale}
 use Rattle.cost_tree.specs.Costed.{Costed}
 use Rattle.cost_tree.specs.CostLines.{cost_of, is_small, kept_fronts, last_of, small_fronts}
-use Rattle.cost_tree.specs.Inclusive.{has_front, inclusive, is_front, least}
+use Rattle.cost_tree.specs.Inclusive.{inclusive, is_front, least}
 use Rattle.cost_tree.specs.NextFronts.{longer_front, next_fronts, opens, texts_at}
 use Rattle.cost_tree.proofs.Ascending.{mapped-to}
 use Rattle.cost_tree.proofs.Brothers.{Opens, opened-is, opens-is}
 use Rattle.cost_tree.proofs.Linking.{contains_ranged, ordered, ranged}
 use Rattle.cost_tree.proofs.Orders.{by_cost-permutation}
-use Rattle.cost_tree.proofs.Prefixes.{has_front-Decides, is_front-Decides}
+use Rattle.cost_tree.proofs.Prefixes.{is_front-Decides}
 
 -- a front that goes on from another by one text, and costs something
 pub record IsLonger (front : List (List ℕ)) (stacks : List Costed) (next : List (List ℕ)) : Type 0 where
@@ -83,36 +82,6 @@ next-texts P front stacks all =
     let places : List ℕ = filter (opens front stacks) (range_with_len 0 (length stacks)) in
     All-map (All P) (longer_front front stacks) places
     (λ k d within. All-take P (length front + 1) (texts_at stacks (get_or places k d)) (stack-texts P stacks (get_or places k d) all))
-
--- a list that begins with a longer front begins with the front
-begins-shorter : (front more texts : List (List ℕ)) → has_front (front ++ more) texts ≡ true → has_front front texts ≡ true
-begins-shorter front more texts has =
-    let long = length-append' front more in
-    (has_front-Decides front texts).1
-    (sym (take_all (length front) front (omega arith))
-    ∙ sym (take-append-le (length front) front more (omega arith))
-    ∙ ap (λ (xs : List (List ℕ)). take (length front) xs) ((has_front-Decides (front ++ more) texts).0 has)
-    ∙ take-take (length front) (length (front ++ more)) texts (omega arith))
-  where
-    length-append' : (xs ys : List (List ℕ)) → length xs ≤ length (xs ++ ys)
-    length-append' [] ys = omega arith
-    length-append' (x ∷ xs) ys = let rest = length-append' xs ys in omega arith
-
--- a longer front costs no more
-pub inclusive-longer : (front more : List (List ℕ)) (stacks : List Costed) → inclusive (front ++ more) stacks ≤ inclusive front stacks
-unfolding inclusive
-inclusive-longer front more [] = omega arith
-inclusive-longer front more (stack ∷ stacks) =
-    let rest = inclusive-longer front more stacks in
-    let one = sum_by-cons (λ (s : Costed). cond {A = ℕ} (has_front (front ++ more) s.texts) s.cost 0) stack stacks in
-    let two = sum_by-cons (λ (s : Costed). cond {A = ℕ} (has_front front s.texts) s.cost 0) stack stacks in
-    elim (cases_Bool (has_front (front ++ more) stack.texts)) [
-      | inl has ↦
-          let here = cond-true (has_front (front ++ more) stack.texts) stack.cost 0 has in
-          let whole = cond-true (has_front front stack.texts) stack.cost 0 (begins-shorter front more stack.texts has) in
-          omega arith
-      | inr other ↦ let none = cond-false (has_front (front ++ more) stack.texts) stack.cost 0 other in omega arith
-    ]
 
 -- where the threshold is 0, none is too small
 none-small : (scale : Scale) (cost : ℕ) → scale.threshold ≡ 0 → is_small scale cost ≡ false

@@ -1,9 +1,9 @@
 -- Lemmas on what stacks cost, as they become more or one becomes longer.
-use Rattle.std.proofs.Common.{◌≡◌, ◌≢◌, ℕ, ◌+◌, ◌<◌, ◌≤◌, min, ◌⊎◌, inl, inr, Bool, true, false, ◌&&◌, not, cond, List, [], ◌∷◌, ◌++◌, length, take, get_or, refl, sym, ap, ◌∙◌, subst, arith}
+use Rattle.std.proofs.Common.{◌≡◌, ◌≢◌, ℕ, ◌+◌, ◌<◌, ◌≤◌, ◌⊎◌, inl, inr, Bool, true, false, ◌&&◌, not, cond, List, [], ◌∷◌, ◌++◌, drop, length, take, get_or, refl, sym, ap, ◌∙◌, subst, arith}
 use Rattle.std.specs.Prelude.{sum_by, nat_lt, nat_eq}
 use Rattle.std.proofs.lemmas.Bool.{cases_Bool, cases_lt, cond-true, cond-false, lt-ltb, and_right, and_from, false_from_ne_true}
 use Rattle.std.proofs.lemmas.Bool.Decides.{nat_tests}
-use Rattle.std.proofs.lemmas.List.{length-take, take_all}
+use Rattle.std.proofs.lemmas.List.{length-take, take-append-drop, take-append-le, take-take, take_all}
 use Rattle.std.proofs.lemmas.List.Sums.{get_or-le-sum_by, sum_by-cons, sum_by_push, sum_by-le-sum_by}
 use Rattle.std.proofs.lemmas.List.Folds.{position_or_len_push}
 use Rattle.cost_tree.specs.Costed.{Costed}
@@ -11,7 +11,7 @@ use Rattle.cost_tree.specs.Inclusive.{has_front, is_front, inclusive, own, least
 use Rattle.cost_tree.proofs.Prefixes.{has_front-Decides, has_front-take, has_front-longer, has_front-itself, has_front-more, is_front-has, is_front-Decides, same_or_not}
 
 -- what one stack adds to a front's cost
-pub part : List (List ℕ) → Costed → ℕ
+unfoldable pub part : List (List ℕ) → Costed → ℕ
 part front stack = cond (has_front front stack.texts) stack.cost 0
 
 -- what one stack adds to a front's own cost
@@ -41,7 +41,7 @@ unfolding inclusive part
 inclusive-cons front stack stacks = sum_by-cons (λ s. cond (has_front front s.texts) s.cost 0) stack stacks
 
 -- what a stack adds
-part-has : (front : List (List ℕ)) (stack : Costed) → has_front front stack.texts ≡ true → part front stack ≡ stack.cost
+pub part-has : (front : List (List ℕ)) (stack : Costed) → has_front front stack.texts ≡ true → part front stack ≡ stack.cost
 unfolding part
 part-has front stack has = cond-true (has_front front stack.texts) stack.cost 0 has
 
@@ -53,7 +53,7 @@ part-same : (front texts others : List (List ℕ)) (cost : ℕ) → has_front fr
 unfolding part
 part-same front texts others cost same = ap (λ (b : Bool). cond b cost 0) same
 
-part-le : (front : List (List ℕ)) (stack : Costed) → part front stack ≤ stack.cost
+pub part-le : (front : List (List ℕ)) (stack : Costed) → part front stack ≤ stack.cost
 part-le front stack =
     elim (cases_Bool (has_front front stack.texts)) [
       | inl has ↦ let e = part-has front stack has in omega arith
@@ -235,30 +235,20 @@ pub record SameTo (depth : ℕ) (old new : List Costed) : Type 0 where
 
 -- a stack's texts beyond the depth are in no front
 pub SameTo-end : (stacks : List Costed) (texts : List (List ℕ)) (cost depth : ℕ)
-    → SameTo depth (stacks ++ record { texts = take (min (length texts) depth) texts; cost = cost } ∷ []) (stacks ++ record { texts = texts; cost = cost } ∷ [])
+    → SameTo depth (stacks ++ record { texts = take depth texts; cost = cost } ∷ []) (stacks ++ record { texts = texts; cost = cost } ∷ [])
 SameTo-end stacks texts cost depth =
-    let before : Costed = record { texts = take (min (length texts) depth) texts; cost = cost } in
+    let before : Costed = record { texts = take depth texts; cost = cost } in
     let after : Costed = record { texts = texts; cost = cost } in
     record {
       sum = λ front short. let old = inclusive-push front stacks before in let new = inclusive-push front stacks after in let same = same_part front short in omega arith;
       kept = λ front short some. least-instead front stacks before after (λ has. let same = same_part front short in omega arith) some;
     }
   where
-    same_has : (front : List (List ℕ)) → length front ≤ depth → has_front front texts ≡ has_front front (take (min (length texts) depth) texts)
-    same_has front short =
-        elim (cases_lt depth (length texts)) [
-          | inl longer ↦
-              let P : ℕ → Type 0 = λ n. has_front front texts ≡ has_front front (take n texts) in
-              let cut : depth ≡ min (length texts) depth = omega arith in
-              subst P cut (sym (has_front-take front texts depth short))
-          | inr whole ↦ ap (λ (xs : List (List ℕ)). has_front front xs) (sym (take_all (min (length texts) depth) texts (omega arith)))
-        ]
-
-    same_part : (front : List (List ℕ)) → length front ≤ depth → part front (record { texts = texts; cost = cost }) ≡ part front (record { texts = take (min (length texts) depth) texts; cost = cost })
-    same_part front short = part-same front texts (take (min (length texts) depth) texts) cost (same_has front short)
+    same_part : (front : List (List ℕ)) → length front ≤ depth → part front (record { texts = texts; cost = cost }) ≡ part front (record { texts = take depth texts; cost = cost })
+    same_part front short = part-same front texts (take depth texts) cost (sym (has_front-take front texts depth short))
 
 -- a stack that costs nothing changes nothing
-part-free : (front texts : List (List ℕ)) → part front (record { texts = texts; cost = 0 }) ≡ 0
+pub part-free : (front texts : List (List ℕ)) → part front (record { texts = texts; cost = 0 }) ≡ 0
 part-free front texts = let most = part-le front (record { texts = texts; cost = 0 }) in omega arith
 
 pub SameTo-free : (stacks : List Costed) (texts : List (List ℕ)) (depth : ℕ) → SameTo depth stacks (stacks ++ record { texts = texts; cost = 0 } ∷ [])
@@ -303,3 +293,43 @@ inclusive-all (stack ∷ stacks) =
 pub inclusive-within : (front : List (List ℕ)) (stacks : List Costed) → inclusive front stacks ≤ sum_by (λ (s : Costed). s.cost) stacks
 unfolding total
 inclusive-within front stacks = inclusive-le-total front stacks
+
+-- a list that begins with a longer front begins with the front
+begins-shorter : (front more texts : List (List ℕ)) → has_front (front ++ more) texts ≡ true → has_front front texts ≡ true
+begins-shorter front more texts has =
+    let long = length-append' front more in
+    (has_front-Decides front texts).1
+    (sym (take_all (length front) front (omega arith))
+    ∙ sym (take-append-le (length front) front more (omega arith))
+    ∙ ap (λ (xs : List (List ℕ)). take (length front) xs) ((has_front-Decides (front ++ more) texts).0 has)
+    ∙ take-take (length front) (length (front ++ more)) texts (omega arith))
+  where
+    length-append' : (xs ys : List (List ℕ)) → length xs ≤ length (xs ++ ys)
+    length-append' [] ys = omega arith
+    length-append' (x ∷ xs) ys = let rest = length-append' xs ys in omega arith
+
+-- a longer front costs no more
+pub inclusive-longer : (front more : List (List ℕ)) (stacks : List Costed) → inclusive (front ++ more) stacks ≤ inclusive front stacks
+unfolding inclusive
+inclusive-longer front more [] = omega arith
+inclusive-longer front more (stack ∷ stacks) =
+    let rest = inclusive-longer front more stacks in
+    let one = sum_by-cons (λ (s : Costed). cond {A = ℕ} (has_front (front ++ more) s.texts) s.cost 0) stack stacks in
+    let two = sum_by-cons (λ (s : Costed). cond {A = ℕ} (has_front front s.texts) s.cost 0) stack stacks in
+    elim (cases_Bool (has_front (front ++ more) stack.texts)) [
+      | inl has ↦
+          let here = cond-true (has_front (front ++ more) stack.texts) stack.cost 0 has in
+          let whole = cond-true (has_front front stack.texts) stack.cost 0 (begins-shorter front more stack.texts has) in
+          omega arith
+      | inr other ↦ let none = cond-false (has_front (front ++ more) stack.texts) stack.cost 0 other in omega arith
+    ]
+
+-- a front of a front that costs something costs something
+pub inclusive-shorter : (front longer : List (List ℕ)) (stacks : List Costed) → has_front front longer ≡ true → 0 < inclusive longer stacks → 0 < inclusive front stacks
+inclusive-shorter front longer stacks has some =
+    let rest : List (List ℕ) = drop (length front) longer in
+    let is : front ++ rest ≡ longer = ap (λ (xs : List (List ℕ)). xs ++ rest) ((has_front-Decides front longer).0 has) ∙ take-append-drop (length front) longer in
+    let most = inclusive-longer front rest stacks in
+    let P : List (List ℕ) → Type 0 = λ xs. 0 < inclusive xs stacks in
+    let here : 0 < inclusive (front ++ rest) stacks = subst P (sym is) some in
+    omega arith

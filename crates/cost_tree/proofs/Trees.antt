@@ -1,4 +1,4 @@
--- A tree that has grown is the tree of its stacks.
+-- A tree that has grown, but for its costs: its fronts, their order, and its texts.
 use Rattle.std.proofs.Common.{◌≡◌, ℕ, zero, suc, ◌+◌, ◌-◌, ◌<◌, inl, inr, true, ◌&&◌, List, [], ◌∷◌, ◌++◌, length, take, get_or, Option, None, Some, Bor, sym, ap, ◌∙◌, subst, arith}
 use Rattle.std.specs.Prelude.{IfSome, IsSome, slice_get, nat_lt, unwrap_or}
 use Rattle.std.proofs.lemmas.Bool.{cases_eq, and_parts, false≢true}
@@ -6,13 +6,15 @@ use Rattle.std.proofs.lemmas.List.{length_push}
 use Rattle.std.proofs.lemmas.List.Sums.{passes_at_first}
 use Rattle.std.proofs.lemmas.Option.{same_Some, slice_get_within, slice_get-get_or, get_or_from_slice_get}
 use Rattle.intern_tables.specs.Numbers.{name_at}
-use Rattle.cost_tree.specs.declared.branches.Edge.{Edge}
+use Rattle.cost_tree.specs.declared.edge.Edge.{Edge}
 use Rattle.cost_tree.specs.declared.node.CostNode.{CostNode}
 use Rattle.cost_tree.specs.Costed.{Costed}
 use Rattle.cost_tree.specs.Growth.{AreBranches, HasGrown}
 use Rattle.cost_tree.specs.Inclusive.{has_front, inclusive, least}
-use Rattle.cost_tree.specs.IsTreeOf.{HasFigures, IsTreeOf}
-use Rattle.cost_tree.specs.Texts.{IsText, text_of, next_front, fronts_of}
+use Rattle.cost_tree.specs.IsTreeOf.{IsBelow}
+use Rattle.cost_tree.specs.Shapes.{next_front}
+use Rattle.cost_tree.specs.Texts.{IsText, text_of, fronts_of}
+use Rattle.cost_tree.proofs.Forests.{IsForest}
 use Rattle.cost_tree.proofs.Prefixes.{has_front-Decides}
 use Rattle.cost_tree.proofs.Sums.{least-within}
 
@@ -48,65 +50,57 @@ pub HasEdge-is : (names : List (List ℕ)) (edges : List Edge) (nodes : List Cos
 HasEdge-is names edges nodes fronts zero node are above at = absurd (omega arith)
 HasEdge-is names edges nodes fronts (suc place) node are above at =
     let inside = slice_get_within nodes (suc place) node at in
+    let count = are.steps.count in
     let no_edge : Edge = record { parent = 0; text = 0 } in
     let edge : Edge = get_or edges place no_edge in
     let edge_at = slice_get-get_or edges place no_edge (omega (arith, are.nodes_count)) in
-    let branch = are.branch place edge edge_at in
+    let step = are.steps.step place edge edge_at in
     let next : place + 1 ≡ suc place = omega arith in
     let back : place ≡ suc place - 1 = omega arith in
     let N : ℕ → Type 0 = λ k. slice_get nodes k ≡ Some node in
-    let F : ℕ → Type 0 = λ k. slice_get fronts k ≡ Some (next_front names fronts edge) in
+    let F : ℕ → Type 0 = λ k. slice_get fronts k ≡ Some (next_front (text_of names) fronts edge) in
     let E : ℕ → Type 0 = λ k. slice_get edges k ≡ Some edge in
     let parent = are.parent place edge node edge_at (subst N (sym next) at) in
     let P : ℕ → Type 0 = λ k. slice_get fronts k ≡ Some (get_or fronts edge.parent []) in
     record {
       edge = edge;
       at = subst E back edge_at;
-      lower = omega (arith, branch.earlier);
+      lower = omega (arith, step.earlier);
       parent_front = get_or fronts edge.parent [];
-      parent = subst P (sym parent) (slice_get-get_or fronts edge.parent [] (omega (arith, branch.earlier, are.fronts_count)));
-      front = subst F next branch.front;
+      parent = subst P (sym parent) (slice_get-get_or fronts edge.parent [] (omega (arith, step.earlier)));
+      front = subst F next step.front;
     }
 
-pub IsTreeOf-grown : (names : List (List ℕ)) (edges : List Edge) (nodes : List CostNode) (stacks : List Costed) (depth : ℕ) → HasGrown names edges nodes stacks stacks depth → IsTreeOf (record { fronts = fronts_of names edges; nodes = nodes }) stacks depth
-IsTreeOf-grown names edges nodes stacks depth has =
+-- a node stands below its parent
+pub below-is : (names : List (List ℕ)) (edges : List Edge) (nodes : List CostNode) (n : ℕ) (front : List (List ℕ)) (node : CostNode) → AreBranches names edges nodes (fronts_of names edges)
+    → 0 < n → slice_get (fronts_of names edges) n ≡ Some front → slice_get nodes n ≡ Some node → IsBelow (record { fronts = fronts_of names edges; nodes = nodes }) n front node
+below-is names edges nodes n front node are above front_at node_at =
     let fronts : List (List (List ℕ)) = fronts_of names edges in
+    let edge = HasEdge-is names edges nodes fronts n node are above node_at in
+    record {
+      lower = edge.lower;
+      text = text_of names edge.edge.text;
+      parent_front = edge.parent_front;
+      parent = edge.parent;
+      longer = sym (get_or_from_slice_get fronts n front [] front_at) ∙ get_or_from_slice_get fronts n (edge.parent_front ++ text_of names edge.edge.text ∷ []) [] edge.front;
+    }
+
+pub IsForest-grown : (names : List (List ℕ)) (edges : List Edge) (nodes : List CostNode) (stacks : List Costed) (depth : ℕ) → HasGrown names edges nodes stacks depth → IsForest (record { fronts = fronts_of names edges; nodes = nodes }) stacks depth
+IsForest-grown names edges nodes stacks depth has =
     let are = has.branches in
     let grown = has.grown in
     record {
-      root = are.root;
-      count = are.nodes_count ∙ sym are.fronts_count;
-      distinct = are.distinct;
+      root = are.steps.root;
+      count = are.nodes_count ∙ sym are.steps.count;
+      distinct = are.steps.distinct;
       complete = grown.complete;
-      only = λ n front above at. grown.only n front above (λ is. absurd (omega arith)) at;
+      only = grown.only;
       short = grown.short;
-      figures = λ n front node front_at node_at. figures_of n front node front_at node_at;
-      below = λ n front node above front_at node_at.
-          let edge = HasEdge-is names edges nodes fronts n node are above node_at in
-          record {
-            lower = edge.lower;
-            text = text_of names edge.edge.text;
-            parent_front = edge.parent_front;
-            parent = edge.parent;
-            longer = sym (get_or_from_slice_get fronts n front [] front_at) ∙ get_or_from_slice_get fronts n (edge.parent_front ++ text_of names edge.edge.text ∷ []) [] edge.front;
-          };
-      root_parent = are.root_parent;
+      firsts = grown.firsts;
+      below = λ n front node above front_at node_at. below-is names edges nodes n front node are above front_at node_at;
       brothers = λ m n older younger above later older_at younger_at same. brothers_of m n older younger above later older_at younger_at same;
     }
   where
-    figures_of : (n : ℕ) (front : List (List ℕ)) (node : CostNode) → slice_get (fronts_of names edges) n ≡ Some front → slice_get nodes n ≡ Some node → HasFigures stacks front node
-    figures_of n front node front_at node_at =
-        let is = has.grown.figures n front node front_at node_at in
-        record {
-          cost = is.cost;
-          own = is.own;
-          first = is.first;
-          first_of_none = λ none. elim (cases_eq n 0) [
-            | inl root ↦ has.grown.empty node (ap (λ (k : ℕ). slice_get nodes k) (sym root) ∙ node_at) (is.cost ∙ none)
-            | inr other ↦ let some = has.grown.only n front (omega arith) other front_at in absurd (omega arith)
-          ];
-        }
-
     brothers_of : (m n : ℕ) (older younger : CostNode) → 0 < m → m < n → slice_get nodes m ≡ Some older → slice_get nodes n ≡ Some younger → older.parent ≡ younger.parent → older.first < younger.first
     brothers_of m n older younger above later older_at younger_at same =
         let fronts : List (List (List ℕ)) = fronts_of names edges in
@@ -120,25 +114,18 @@ IsTreeOf-grown names edges nodes stacks depth has =
         let parent_lengths = ap (λ (xs : List (List ℕ)). length xs) parents in
         let length_m = length_push edge_m.parent_front (text_of names edge_m.edge.text) in
         let length_n = length_push edge_n.parent_front (text_of names edge_n.edge.text) in
-        let some_m = has.grown.only m front_m above (λ is. absurd (omega arith)) edge_m.front in
-        let some_n = has.grown.only n front_n (omega arith) (λ is. absurd (omega arith)) edge_n.front in
-        let first_m = (has.grown.figures m front_m older edge_m.front older_at).first some_m in
-        let first_n = (has.grown.figures n front_n younger edge_n.front younger_at).first some_n in
+        let some_m = has.grown.only m front_m above edge_m.front in
+        let some_n = has.grown.only n front_n (omega arith) edge_n.front in
+        let first_m = has.grown.firsts m front_m older edge_m.front older_at some_m in
+        let first_n = has.grown.firsts n front_n younger edge_n.front younger_at some_n in
         let order = has.grown.order m n older younger above (omega arith) older_at younger_at in
         elim (cases_eq older.first younger.first) [
           | inl equal ↦
               let fronts_same = same_least front_m front_n stacks some_m some_n (omega arith) (sym first_m ∙ equal ∙ first_n) in
-              let places = are.distinct m n front_n (edge_m.front ∙ ap (λ (xs : List (List ℕ)). Some xs) fronts_same) edge_n.front in
+              let places = are.steps.distinct m n front_n (edge_m.front ∙ ap (λ (xs : List (List ℕ)). Some xs) fronts_same) edge_n.front in
               absurd (omega arith)
           | inr apart ↦ omega arith
         ]
-
--- each node but node 0 stands behind its parent
-pub parents-lower : (names : List (List ℕ)) (edges : List Edge) (nodes read : List CostNode) (stacks : List Costed) (depth : ℕ) → HasGrown names edges nodes stacks stacks depth → read ≡ nodes
-    → (n : ℕ) (node : CostNode) → 0 < n → slice_get read n ≡ Some node → node.parent < n
-parents-lower names edges nodes read stacks depth has same n node above at =
-    let edge = HasEdge-is names edges nodes (fronts_of names edges) n node has.branches above (ap (λ (xs : List CostNode). slice_get xs n) (sym same) ∙ at) in
-    edge.lower
 
 -- the text that a look-up of a number gives
 pub text-found : (names : List (List ℕ)) (number : ℕ) (found : Option (Bor (List ℕ))) (other : Bor (List ℕ)) → IsSome found → IfSome found (λ name. name_at names number ≡ Some name.now) → (unwrap_or found other).now ≡ text_of names number
@@ -158,7 +145,7 @@ last-text names edges nodes n place edge text are above within back found is =
 
 -- the number of an edge's text is one of a name
 pub edge-text : (names : List (List ℕ)) (edges : List Edge) (nodes : List CostNode) (fronts : List (List (List ℕ))) (place : ℕ) (edge : Edge) → AreBranches names edges nodes fronts → Some edge ≡ slice_get edges place → IsText names edge.text
-edge-text names edges nodes fronts place edge are found = (are.branch place edge (sym found)).text
+edge-text names edges nodes fronts place edge are found = are.texts place edge (sym found)
 
 -- and the front is the parent's and that text
 pub text-below : (names : List (List ℕ)) (edges : List Edge) (nodes : List CostNode) (n place : ℕ) (edge : Edge) (text : List ℕ) (node : CostNode) (front : List (List ℕ))

@@ -27,6 +27,7 @@ use Rattle.cost_tree.specs.Shares.{cost_at, gathered_in, is_kept_at, is_small_at
 use Rattle.cost_tree.specs.TreeLines.{HasLines, IsLineOf, front_at, line_at}
 use Rattle.cost_tree.specs.TreeState.{TreeState}
 use Rattle.cost_tree.proofs.Brothers.{children-next, children-none}
+use Rattle.cost_tree.proofs.Forests.{IsForest-tree}
 use Rattle.cost_tree.proofs.ChildNodes.{IsChildOf, children-are, children-within, cost-is, kept-are, small-are, sum-mapped, sum-same}
 use Rattle.cost_tree.proofs.NextSums.{next-whole}
 use Rattle.cost_tree.proofs.Orders.{by_cost-permutation}
@@ -333,8 +334,8 @@ step-is scale tree stacks depth (Below level n) is pending =
     let level_is = pending.1 in
     let held = slice_get-get_or tree.fronts n [] (omega arith) in
     let all = children-are tree stacks depth n tree_of in
-    let next = children-next tree stacks depth n (front_at tree n) tree_of held in
-    let longest = children-none tree stacks depth n (front_at tree n) tree_of held in
+    let next = children-next tree stacks depth n (front_at tree n) (IsForest-tree tree stacks depth tree_of) held in
+    let longest = children-none tree stacks depth n (front_at tree n) (IsForest-tree tree stacks depth tree_of) held in
     let most = inclusive-within (front_at tree n) stacks in
     let sums = next-whole (front_at tree n) stacks in
     let cost = cost-is tree stacks depth n tree_of inside in

@@ -35,28 +35,44 @@ last_of front = slice_index_or front (length front - 1) []
 -- the fronts that are one text longer and have lines of their own, in the order of their lines: by descending cost, and of
 -- equal costs that of the lower stack first
 unfoldable pub kept_fronts : Scale → List Costed → List (List ℕ) → List (List (List ℕ))
-kept_fronts scale stacks front = by_cost (cost_of stacks) (filter (λ next. not (is_small scale (cost_of stacks next))) (next_fronts front stacks))
+kept_fronts scale stacks front = by_cost (cost_of stacks)
+    (filter (λ next. not (is_small scale (cost_of stacks next))) (next_fronts front stacks))
 
 -- those that are too small
 unfoldable pub small_fronts : Scale → List Costed → List (List ℕ) → List (List (List ℕ))
-small_fronts scale stacks front = filter (λ next. is_small scale (cost_of stacks next)) (next_fronts front stacks)
+small_fronts scale stacks front = filter (λ next. is_small scale (cost_of stacks next))
+    (next_fronts front stacks)
 
 -- the one line of fronts that are gathered, where there are some: how many they are, and what they cost together
 unfoldable pub gathered_lines : List Costed → ℕ → List (List (List ℕ)) → List FrontLine
 gathered_lines stacks level [] = []
 gathered_lines stacks level (next ∷ more) =
-    record { level = level; children = 0; cost = sum_by (cost_of stacks) (next ∷ more); shown = gathered (length (next ∷ more)) } ∷ []
+    record {
+      level = level;
+      children = 0;
+      cost = sum_by (cost_of stacks) (next ∷ more);
+      shown = gathered (length (next ∷ more));
+    } ∷ []
 
 -- the line of a front with so many lines below it
 abbrev pub front_line : ℕ → List Costed → List (List ℕ) → FrontLine
-front_line children stacks front = record { level = length front; children = children; cost = cost_of stacks front; shown = a_front front }
+front_line children stacks front
+    = record {
+      level = length front;
+      children = children;
+      cost = cost_of stacks front;
+      shown = a_front front;
+    }
 
 -- the line of a front, and those of the fronts that begin with it and have up to so many texts more
 unfoldable pub front_lines : ℕ → Scale → List Costed → List (List ℕ) → List FrontLine
 front_lines zero scale stacks front = front_line 0 stacks front ∷ []
 front_lines (suc more) scale stacks front =
-    front_line (length (kept_fronts scale stacks front) + length (gathered_lines stacks (length front + 1) (small_fronts scale stacks front))) stacks front
-    ∷ (flat_map (front_lines more scale stacks) (kept_fronts scale stacks front) ++ gathered_lines stacks (length front + 1) (small_fronts scale stacks front))
+    front_line (length (kept_fronts scale stacks front)
+    + length (gathered_lines stacks (length front + 1) (small_fronts scale stacks front))) stacks
+    front
+    ∷ (flat_map (front_lines more scale stacks) (kept_fronts scale stacks front)
+    ++ gathered_lines stacks (length front + 1) (small_fronts scale stacks front))
 
 -- the lines of the stacks, to fronts of at most so many texts
 unfoldable pub cost_lines : ℕ → Scale → List Costed → List FrontLine

@@ -3,8 +3,10 @@ use Rattle.std.specs.Prelude.{◌≡◌, ℕ, ◌^◌, ◌<◌, ◌≤◌, List,
 
 -- a closure with these predicates may be called on each stack below the number of stacks, and answers the stack's
 -- place in the list of costs; the costs sum to at most 2^62
-pub record AreCosts (may_call : ℕ → Type 0) (answers : ℕ → ℕ → Type 0) (stacks : ℕ) (costs : List ℕ) : Type 0 where
+pub record AreCosts (may_call : ℕ → Type 0) (answers : ℕ → ℕ → Type 0) (stacks : ℕ)
+    (costs : List ℕ) : Type 0 where
   pub count : length costs ≡ stacks
   pub bound : sum costs ≤ 2 ^ 62
   pub callable : (stack : ℕ) → stack < stacks → may_call stack
-  pub cost : (stack : ℕ) (cost : ℕ) → stack < stacks → answers stack cost → slice_get costs stack ≡ Some cost
+  pub cost : (stack : ℕ) (cost : ℕ) → stack < stacks → answers stack cost
+      → slice_get costs stack ≡ Some cost

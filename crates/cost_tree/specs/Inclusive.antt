@@ -15,7 +15,8 @@ is_front front texts = pointwise bytes_eq front texts
 
 -- the sum of the costs of the stacks that begin with the front
 unfoldable pub inclusive : List (List ℕ) → List Costed → ℕ
-inclusive front stacks = sum_by (λ stack. if has_front front stack.texts then stack.cost else 0) stacks
+inclusive front stacks = sum_by (λ stack. if has_front front stack.texts then stack.cost else 0)
+    stacks
 
 -- the sum of the costs of the stacks that are the front
 unfoldable pub own : List (List ℕ) → List Costed → ℕ
@@ -23,4 +24,5 @@ own front stacks = sum_by (λ stack. if is_front front stack.texts then stack.co
 
 -- the least stack that begins with the front and has a cost other than 0; the number of stacks where there is none
 unfoldable pub least : List (List ℕ) → List Costed → ℕ
-least front stacks = position_or_len (λ stack. nat_lt 0 stack.cost && has_front front stack.texts) stacks
+least front stacks = position_or_len (λ stack. nat_lt 0 stack.cost && has_front front stack.texts)
+    stacks

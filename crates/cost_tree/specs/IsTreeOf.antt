@@ -6,14 +6,16 @@ use Rattle.cost_tree.specs.Inclusive.{inclusive, own, least}
 use Rattle.cost_tree.specs.TreeState.{TreeState}
 
 -- a node's figures are those of its front
-pub record HasFigures (stacks : List Costed) (front : List (List ℕ)) (node : CostNode) : Type 0 where
+pub record HasFigures (stacks : List Costed) (front : List (List ℕ)) (node : CostNode) : Type
+    0 where
   pub cost : node.cost ≡ inclusive front stacks
   pub own : node.own ≡ own front stacks
   pub first : 0 < inclusive front stacks → node.first ≡ least front stacks
   pub first_of_none : inclusive front stacks ≡ 0 → node.first ≡ 0
 
 -- a node stands behind its parent, whose front is the node's without the last text
-pub record IsBelow (tree : TreeState) (n : ℕ) (front : List (List ℕ)) (node : CostNode) : Type 0 where
+pub record IsBelow (tree : TreeState) (n : ℕ) (front : List (List ℕ)) (node : CostNode) : Type
+    0 where
   pub lower : node.parent < n
   pub text : List ℕ
   pub parent_front : List (List ℕ)
@@ -25,14 +27,23 @@ pub record IsTreeOf (tree : TreeState) (stacks : List Costed) (depth : ℕ) : Ty
   -- the nodes
   pub root : slice_get tree.fronts 0 ≡ Some []
   pub count : length tree.nodes ≡ length tree.fronts
-  pub distinct : (m n : ℕ) (front : List (List ℕ)) → slice_get tree.fronts m ≡ Some front → slice_get tree.fronts n ≡ Some front → m ≡ n
-  pub complete : (front : List (List ℕ)) → length front ≤ depth → 0 < inclusive front stacks → (n : ℕ) × (slice_get tree.fronts n ≡ Some front)
-  pub only : (n : ℕ) (front : List (List ℕ)) → 0 < n → slice_get tree.fronts n ≡ Some front → 0 < inclusive front stacks
-  pub short : (n : ℕ) (front : List (List ℕ)) → slice_get tree.fronts n ≡ Some front → length front ≤ depth
+  pub distinct : (m n : ℕ) (front : List (List ℕ)) → slice_get tree.fronts m ≡ Some front
+      → slice_get tree.fronts n ≡ Some front → m ≡ n
+  pub complete : (front : List (List ℕ)) → length front ≤ depth → 0 < inclusive front stacks
+      → (n : ℕ) × (slice_get tree.fronts n ≡ Some front)
+  pub only : (n : ℕ) (front : List (List ℕ)) → 0 < n → slice_get tree.fronts n ≡ Some front
+      → 0 < inclusive front stacks
+  pub short : (n : ℕ) (front : List (List ℕ)) → slice_get tree.fronts n ≡ Some front
+      → length front ≤ depth
   -- what they say
-  pub figures : (n : ℕ) (front : List (List ℕ)) (node : CostNode) → slice_get tree.fronts n ≡ Some front → slice_get tree.nodes n ≡ Some node → HasFigures stacks front node
-  pub below : (n : ℕ) (front : List (List ℕ)) (node : CostNode) → 0 < n → slice_get tree.fronts n ≡ Some front → slice_get tree.nodes n ≡ Some node → IsBelow tree n front node
+  pub figures : (n : ℕ) (front : List (List ℕ)) (node : CostNode)
+      → slice_get tree.fronts n ≡ Some front → slice_get tree.nodes n ≡ Some node
+      → HasFigures stacks front node
+  pub below : (n : ℕ) (front : List (List ℕ)) (node : CostNode) → 0 < n
+      → slice_get tree.fronts n ≡ Some front → slice_get tree.nodes n ≡ Some node
+      → IsBelow tree n front node
   pub root_parent : (node : CostNode) → slice_get tree.nodes 0 ≡ Some node → node.parent ≡ 0
   -- the children of a node, in the order of their numbers, stand by ascending `first`
-  pub brothers : (m n : ℕ) (older younger : CostNode) → 0 < m → m < n → slice_get tree.nodes m ≡ Some older → slice_get tree.nodes n ≡ Some younger
+  pub brothers : (m n : ℕ) (older younger : CostNode) → 0 < m → m < n
+      → slice_get tree.nodes m ≡ Some older → slice_get tree.nodes n ≡ Some younger
       → older.parent ≡ younger.parent → older.first < younger.first

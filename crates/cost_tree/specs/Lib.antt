@@ -1,8 +1,14 @@
 pub mod Costed
+pub mod Shapes
+pub mod Texts
 pub mod Growth
+pub mod Ways
+pub mod Building
+pub mod Summed
+pub mod TreeParts
+pub mod HeldNames
 pub mod Costs
 pub mod FrameTexts
-pub mod Texts
 pub mod Inclusive
 pub mod Children
 pub mod TreeState

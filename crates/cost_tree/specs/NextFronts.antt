@@ -16,8 +16,10 @@ longer_front front stacks n = take (length front + 1) (texts_at stacks n)
 -- whether the stack begins with this front, goes on, and is the least stack of the front that is one text longer
 abbrev pub opens : List (List ℕ) → List Costed → ℕ → Bool
 opens front stacks n =
-    has_front front (texts_at stacks n) && nat_lt (length front) (length (texts_at stacks n)) && least (longer_front front stacks n) stacks == n
+    has_front front (texts_at stacks n) && nat_lt (length front) (length (texts_at stacks n))
+    && least (longer_front front stacks n) stacks == n
 
 -- the fronts one text longer than this front whose cost isn't 0, by ascending least stack
 unfoldable pub next_fronts : List (List ℕ) → List Costed → List (List (List ℕ))
-next_fronts front stacks = map (longer_front front stacks) (filter (opens front stacks) (range_with_len 0 (length stacks)))
+next_fronts front stacks = map (longer_front front stacks)
+    (filter (opens front stacks) (range_with_len 0 (length stacks)))

@@ -16,7 +16,8 @@ use Rattle.cost_tree.specs.TreeState.{TreeState}
 
 -- a node is held, and stands on the level of its front, which fits
 abbrev pub IsPending : TreeState → Pending → Type 0
-IsPending tree (Below level node) = (node < length tree.nodes) × (level ≡ length (front_at tree node)) × (level < 2 ^ 32)
+IsPending tree (Below level node) = (node < length tree.nodes)
+    × (level ≡ length (front_at tree node)) × (level < 2 ^ 32)
 IsPending tree (Line line) = Unit {0}
 
 -- a line that is whole is one of the tree
@@ -26,7 +27,8 @@ IsLeft tree stacks depth (Line line) = IsLineOf tree stacks depth line
 
 -- the line of nodes that are gathered
 abbrev pub gathered_line : ℕ → several.Gathered → CostLine
-gathered_line level few = record { level = level; children = 0; cost = few.cost; place = Gathered few.places }
+gathered_line level few
+    = record { level = level; children = 0; cost = few.cost; place = Gathered few.places }
 
 -- where there are some
 abbrev pub pending_gathered : ℕ → several.Gathered → List Pending
@@ -38,20 +40,24 @@ pending_child level child = Below level child.node
 -- the children of a node, which stand on this level, the first one last
 abbrev pub pending_children : Scale → TreeState → ℕ → ℕ → List Pending
 pending_children scale tree level n =
-    pending_gathered level (gathered_in tree (small_children scale tree n)) ++ reverse (map (Below level) (kept_children scale tree n))
+    pending_gathered level (gathered_in tree (small_children scale tree n))
+    ++ reverse (map (Below level) (kept_children scale tree n))
 
 -- the line of a node with so many children
 abbrev pub node_line : TreeState → ℕ → ℕ → ℕ → CostLine
-node_line tree level n children = record { level = level; children = children; cost = cost_at tree n; place = Node n }
+node_line tree level n children
+    = record { level = level; children = children; cost = cost_at tree n; place = Node n }
 
 -- the line that is made next
 abbrev pub pending_line : Scale → TreeState → Pending → CostLine
-pending_line scale tree (Below level node) = node_line tree level node (length (pending_children scale tree (level + 1) node))
+pending_line scale tree (Below level node) = node_line tree level node
+    (length (pending_children scale tree (level + 1) node))
 pending_line scale tree (Line line) = line
 
 -- it, and the lines below it
 abbrev pub pending_lines : ℕ → Scale → TreeState → List Costed → Pending → List FrontLine
-pending_lines depth scale tree stacks (Below level node) = front_lines (depth - length (front_at tree node)) scale stacks (front_at tree node)
+pending_lines depth scale tree stacks (Below level node) = front_lines
+    (depth - length (front_at tree node)) scale stacks (front_at tree node)
 pending_lines depth scale tree stacks (Line line) = line_at tree line ∷ []
 
 -- what stands below the line of what is pending, the first one last

@@ -28,7 +28,8 @@ gathered_in tree nodes = record { places = length nodes; cost = sum_by (cost_at 
 
 -- the children of a node that have lines of their own, in the order of their lines
 unfoldable pub kept_children : Scale → TreeState → ℕ → List ℕ
-kept_children scale tree n = by_cost (cost_at tree) (filter (is_kept_at scale tree) (children_of tree.nodes n))
+kept_children scale tree n = by_cost (cost_at tree)
+    (filter (is_kept_at scale tree) (children_of tree.nodes n))
 
 unfoldable pub small_children : Scale → TreeState → ℕ → List ℕ
 small_children scale tree n = filter (is_small_at scale tree) (children_of tree.nodes n)

@@ -10,7 +10,8 @@ use Rattle.ht_trace.specs.TableState.{TableState}
 
 -- the texts of the frames of a stack, from the innermost on
 abbrev pub stack_texts : Style → TableState → ℕ → List (List ℕ)
-stack_texts style tables stack = map (frame_text style tables) (stack_frames tables.instructions tables.nodes stack)
+stack_texts style tables stack = map (frame_text style tables)
+    (stack_frames tables.instructions tables.nodes stack)
 
 -- a list that begins at the innermost frame, in this direction
 abbrev pub towards : {X : Type 0} → Direction → List X → List X
@@ -20,4 +21,5 @@ towards FromRoot xs = reverse xs
 -- the texts of each stack in this direction, by the stacks' numbers
 unfoldable pub lists_towards : Direction → Style → TableState → List (List (List ℕ))
 lists_towards direction style tables =
-    map (λ stack. towards direction (stack_texts style tables stack)) (range_with_len 0 (length tables.nodes + 1))
+    map (λ stack. towards direction (stack_texts style tables stack))
+    (range_with_len 0 (length tables.nodes + 1))

@@ -1,8 +1,9 @@
 -- How lists of texts are kept: each text once, and the lists as numbers of texts.
-use Rattle.std.specs.Prelude.{◌≡◌, ℕ, ◌-◌, ◌^◌, ◌<◌, ◌≤◌, List, [], ◌∷◌, ◌++◌, length, map, fold, Some, All, slice_get, slice_index_or, slice_set, unwrap_or}
-use Rattle.std.specs.Global.{Vec}
+use Rattle.std.specs.Prelude.{◌≡◌, ℕ, ◌≤◌, List, [], All, Some, length, map, slice_get, unwrap_or}
+use Rattle.intern_tables.specs.Distinct.{AreDistinct}
 use Rattle.intern_tables.specs.Numbers.{name_at}
-use Rattle.cost_tree.specs.declared.branches.Edge.{Edge}
+use Rattle.cost_tree.specs.declared.edge.Edge.{Edge}
+use Rattle.cost_tree.specs.Shapes.{paths}
 
 -- the text with the number
 unfoldable pub text_of : List (List ℕ) → ℕ → List ℕ
@@ -16,25 +17,19 @@ IsText names number = (1 ≤ number) × (number ≤ length names)
 abbrev pub texts_of : List (List ℕ) → List ℕ → List (List ℕ)
 texts_of names numbers = map (text_of names) numbers
 
--- the lists of texts that the vectors of numbers stand for
-abbrev pub lists_of : List (List ℕ) → List (Vec ℕ) → List (List (List ℕ))
-lists_of names lists = map (λ list. texts_of names list.items) lists
+-- the lists of texts that lists of numbers stand for
+abbrev pub lists_of : List (List ℕ) → List (List ℕ) → List (List (List ℕ))
+lists_of names lists = map (texts_of names) lists
 
--- each number is one of a text, and the lists' numbers fit
-pub record AreLists (names : List (List ℕ)) (lists : List (Vec ℕ)) : Type 0 where
-  pub texts : All (λ list. All (IsText names) list.items) lists
-  pub few : length lists < 2 ^ 32
+-- each number of a list is one of a text
+abbrev pub AreTexts : List (List ℕ) → List (List ℕ) → Type 0
+AreTexts names lists = All (All (IsText names)) lists
 
--- the last vector has these numbers too
-abbrev pub LastBecomes : List (Vec ℕ) → List ℕ → List (Vec ℕ) → Type 0
-LastBecomes old numbers new =
-    (last : Vec ℕ) → slice_get old (length old - 1) ≡ Some last
-    → (now : Vec ℕ) × (now.items ≡ last.items ++ numbers) × (new ≡ slice_set old (length old - 1) now)
+-- the fronts of the nodes
+abbrev pub fronts_of : List (List ℕ) → List Edge → List (List (List ℕ))
+fronts_of names edges = paths (text_of names) edges
 
--- the front that an edge adds: that of the node where it begins, and its text
-abbrev pub next_front : List (List ℕ) → List (List (List ℕ)) → Edge → List (List ℕ)
-next_front names fronts edge = slice_index_or fronts edge.parent [] ++ text_of names edge.text ∷ []
-
--- the fronts of the nodes: the empty one, and one for each edge
-unfoldable pub fronts_of : List (List ℕ) → List Edge → List (List (List ℕ))
-fronts_of names edges = fold (λ fronts edge. fronts ++ next_front names fronts edge ∷ []) ([] ∷ []) edges
+-- no two names are equal, and each edge has one of them
+pub record AreNames (names : List (List ℕ)) (edges : List Edge) : Type 0 where
+  pub distinct : AreDistinct names
+  pub texts : (place : ℕ) (edge : Edge) → slice_get edges place ≡ Some edge → IsText names edge.text

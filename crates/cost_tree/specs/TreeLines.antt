@@ -19,7 +19,12 @@ shown_at tree (Gathered places) = gathered places
 
 -- the line of fronts that a line stands for
 abbrev pub line_at : TreeState → CostLine → FrontLine
-line_at tree line = record { level = line.level; children = line.children; cost = line.cost; shown = shown_at tree line.place }
+line_at tree line = record {
+  level = line.level;
+  children = line.children;
+  cost = line.cost;
+  shown = shown_at tree line.place;
+}
 
 -- a node that is shown is held
 abbrev pub IsPlace : TreeState → Place → Type 0
@@ -34,7 +39,8 @@ pub record HasLines (tree : TreeState) (stacks : List Costed) (depth : ℕ) : Ty
   pub shallow : depth < 2 ^ 32
 
 -- a line's node is held, its front is no longer than the tree's, and it costs no more than all stacks
-pub record IsLineOf (tree : TreeState) (stacks : List Costed) (depth : ℕ) (line : CostLine) : Type 0 where
+pub record IsLineOf (tree : TreeState) (stacks : List Costed) (depth : ℕ) (line : CostLine) : Type
+    0 where
   pub place : IsPlace tree line.place
   pub level : line.level ≤ depth
   pub within : line.cost ≤ sum_by (λ (stack : Costed). stack.cost) stacks

@@ -1,59 +1,110 @@
-//! A tree that grows by one stack after another: a child is found by its parent and the number of its text.
-//! The order of a node's children, and what callers see of a tree, are made when it is whole.
-ghost use Rattle.std.specs.Prelude.{◌≡◌, ℕ, ◌+◌, ◌^◌, ◌<◌, [], length, IfOk, OnOk, slice_index};
+//! A tree that grows along a shape, by one list after another: each list's way up to a node that the tree has, and then
+//! the nodes that are missing, downwards. What nodes cost with those below them is summed up when all lists are in.
+ghost use Rattle.std.specs.Prelude.{◌≡◌, ℕ, ◌*◌, ◌+◌, ◌-◌, ◌^◌, ◌<◌, ◌≤◌, List, [], ◌∷◌, ◌++◌, length, IfOk, OnOk, Some, slice_get, slice_index, slice_set, sum, sum_by};
+ghost use Rattle.cost_tree.specs.declared.edge.Edge.{Edge};
+ghost use Rattle.cost_tree.specs.declared.node.CostNode.{CostNode};
+ghost use Rattle.cost_tree.specs.Building.{AreReached, GrowsBy, IsBuilt, IsMade, IsStarted};
 ghost use Rattle.cost_tree.specs.Costed.{costed};
-ghost use Rattle.cost_tree.specs.Growth.{AreStacks, HasGrown, IsChild, IsStage, counted, numbers_at, stacks_before};
-ghost use Rattle.cost_tree.specs.Texts.{texts_of, lists_of};
+ghost use Rattle.cost_tree.specs.Growth.{HasGrown, counted, ended, weight};
+ghost use Rattle.cost_tree.specs.Shapes.{AreSteps, numbers_of};
+ghost use Rattle.cost_tree.specs.Texts.{AreTexts, lists_of};
+ghost use Rattle.cost_tree.specs.TreeParts.{IsTree};
+ghost use Rattle.cost_tree.specs.Ways.{IsWayUp};
+ghost use Rattle.intern_tables.specs.Distinct.{AreDistinct};
 
+use crate::edge::{Edge, edge_of};
 use crate::node::CostNode;
+use crate::shape::Shape;
+use crate::summing::sum_up;
 use hp_num::NoMemory;
 use indexmap::IndexSet;
-use intern_tables::Names;
 use std::alloc::Global;
 
-/// A node from its parent: the parent's number, and the number of the text that the node's front ends with.
-#[derive(Clone, Copy, Debug, PartialEq, Eq, Hash)]
-pub(crate) struct Edge {
-    pub(crate) parent: usize,
-    pub(crate) text: usize,
-}
-
-/// The nodes so far. Node 0 has no edge, and node n has edge n - 1.
+/// The nodes so far, and which nodes of a shape they are. Node 0 has no edge, and node n has edge n - 1.
 #[derive(Debug, Drop)]
 pub(crate) struct Branches {
-    pub(crate) names: Names,
-    pub(crate) edges: IndexSet<Edge>,
+    pub(crate) edges: Vec<Edge>,
     pub(crate) nodes: Vec<CostNode>,
+    /// How many texts a node's front has.
+    pub(crate) levels: Vec<usize>,
+    /// For each node of the shape one more than its node's number, and 0 where it has none.
+    pub(crate) numbered: Vec<usize>,
+    /// What a list still needs of the shape's nodes, the next one last.
+    pub(crate) path: Vec<usize>,
 }
 
 impl Branches {
-    /// The nodes of the fronts of at most `depth` texts of the stacks with these lists of numbers of names and these
-    /// costs, or `NoMemory`.
+    /// The nodes of the fronts of at most `depth` numbers of the shape's lists with these costs, or `NoMemory`.
     pub(crate) fn of(
         alloc: Global,
-        names: Names,
-        lists: &[Vec<usize>],
+        shape: &Shape,
         costs: &[u64],
         depth: usize,
     ) -> Result<Branches, NoMemory>
-        requires stacks { AreStacks names lists.now costs.now }
-        ensures names { IfOk result (λ branches. branches.names ≡ names) }
-        ensures grown { IfOk result (λ branches. HasGrown branches.names branches.edges.keys branches.nodes.items (costed (lists_of branches.names lists.now) costs.now) (costed (lists_of branches.names lists.now) costs.now) depth) }
+        requires as_many { length costs.now ≡ length shape.now }
+        requires bound { sum costs.now ≤ 2 ^ 62 }
+        ensures tree { IfOk result
+            (λ branches. (names : List (List ℕ))
+            → AreDistinct names
+            → AreTexts names shape.now
+            → IsTree names branches.edges.items branches.nodes.items
+            (costed (lists_of names shape.now) costs.now) depth) }
+        ensures some { IfOk result (λ branches. 0 < length branches.nodes.items) }
+        ensures lower { IfOk result
+            (λ branches. (n : ℕ) (node : CostNode)
+            → 0 < n
+            → slice_get branches.nodes.items n ≡ Some node
+            → node.parent < n) }
     {
-        let mut branches = Branches::new(alloc, names)?;
-        'each_stack: for stack in 0..costs.len() {
-            if costs[stack] == 0 {
+        let mut branches = Branches::grown(alloc, shape, costs, depth)?;
+        sum_up(&mut branches.nodes);
+        Ok(branches)
+    }
+
+    /// The nodes with what the lists cost that end at each or are cut there, and node 0 with what all cost.
+    fn grown(
+        alloc: Global,
+        shape: &Shape,
+        costs: &[u64],
+        depth: usize,
+    ) -> Result<Branches, NoMemory>
+        requires as_many { length costs.now ≡ length shape.now }
+        requires bound { sum costs.now ≤ 2 ^ 62 }
+        ensures grown { IfOk result
+            (λ branches. (names : List (List ℕ))
+            → AreDistinct names
+            → AreTexts names shape.now
+            → HasGrown names branches.edges.items branches.nodes.items
+            (costed (lists_of names shape.now) costs.now) depth) }
+        ensures some { IfOk result (λ branches. 0 < length branches.nodes.items) }
+        ensures lower { IfOk result
+            (λ branches. (n : ℕ) (node : CostNode)
+            → 0 < n
+            → slice_get branches.nodes.items n ≡ Some node
+            → node.parent < n) }
+        ensures within { IfOk result
+            (λ branches. sum_by weight branches.nodes.items ≤ 3 * 2 ^ 62) }
+    {
+        let mut branches = Branches::new(alloc, shape.edges.len())?;
+        'each_list: for list in 0..costs.len() {
+            if costs[list] == 0 {
                 continue;
             }
-            branches.add(lists, costs, stack, depth)?;
+            branches.add(
+                &shape.edges,
+                shape.ends[list],
+                list as u32,
+                costs[list],
+                depth,
+            )?;
         }
         Ok(branches)
     }
 
-    /// Node 0 alone, for lists of numbers of these names, or `NoMemory`.
-    fn new(alloc: Global, names: Names) -> Result<Branches, NoMemory>
-        ensures names { IfOk result (λ branches. branches.names ≡ names) }
-        ensures grown { IfOk result (λ branches. (depth : ℕ) → HasGrown branches.names branches.edges.keys branches.nodes.items [] [] depth) }
+    /// Node 0 alone, along a shape with so many edges, or `NoMemory`.
+    fn new(alloc: Global, edges: usize) -> Result<Branches, NoMemory>
+        requires few { edges < 2 ^ 63 }
+        ensures started { IfOk result (λ branches. IsStarted edges branches) }
     {
         let root = CostNode {
             parent: 0,
@@ -62,95 +113,155 @@ impl Branches {
             first: 0,
         };
         let nodes = Vec::from_slice(alloc, &[root])?;
+        let levels = Vec::from_slice(alloc, &[0])?;
+        let mut numbered = vec![in alloc; 0; edges + 1]?;
+        numbered[0] = 1;
         Ok(Branches {
-            names,
-            edges: IndexSet::new(alloc),
+            edges: Vec::new(alloc),
             nodes,
+            levels,
+            numbered,
+            path: Vec::new(alloc),
         })
     }
 
-    /// Adds the stack, which costs something: its cost to each front of its texts of at most `depth`, and to its own.
-    /// `NoMemory` leaves the tree unfit for use.
+    /// Adds the list that ends at a node of the shape and costs something: its cost to node 0, to the node of its first
+    /// `depth` numbers, and to that node's own cost where it has no more. `NoMemory` leaves the tree unfit for use.
     fn add(
         &mut self,
-        lists: &[Vec<usize>],
-        costs: &[u64],
-        stack: usize,
+        edges: &IndexSet<Edge>,
+        end: usize,
+        list: u32,
+        cost: u64,
         depth: usize,
     ) -> Result<(), NoMemory>
-        requires stacks { AreStacks self.old.names lists.now costs.now }
-        requires held { stack < length lists.now }
-        requires cost { 0 < slice_index costs.now stack }
-        requires grown { HasGrown self.old.names self.old.edges.keys self.old.nodes.items (stacks_before self.old.names lists.now costs.now stack) (stacks_before self.old.names lists.now costs.now stack) depth }
-        ensures names { self.new.names ≡ self.old.names }
-        ensures grown { OnOk result (HasGrown self.new.names self.new.edges.keys self.new.nodes.items (stacks_before self.new.names lists.now costs.now (stack + 1)) (stacks_before self.new.names lists.now costs.now (stack + 1)) depth) }
+        requires steps { AreSteps (λ number. number) edges.now.keys (numbers_of edges.now.keys) }
+        requires end { end ≤ length edges.now.keys }
+        requires cost { 0 < cost }
+        requires built { IsBuilt edges.now.keys self.old }
+        requires room { sum_by weight self.old.nodes.items + 3 * cost < 2 ^ 64 }
+        ensures built { OnOk result (IsBuilt edges.now.keys self.new) }
+        ensures weight { OnOk result
+            (sum_by weight self.new.nodes.items ≤ sum_by weight self.old.nodes.items + 3 * cost) }
+        ensures grown { OnOk result
+            (GrowsBy edges.now.keys end list cost depth self.old self.new) }
     {
-        let texts = lists[stack].len();
-        count(&mut self.nodes[0], stack as u32, costs[stack]);
-        let mut node = 0;
-        'each_text: for place in 0..texts.min(depth) {
-            node = self.extend(lists, costs, stack, depth, node, place)?;
-        }
-        if texts <= depth {
-            self.nodes[node].own += costs[stack];
-        }
+        count(&mut self.nodes[0], list, cost);
+        let node = self.number(edges, end, list, depth)?;
+        let is_whole = self.path.is_empty();
+        end_at(&mut self.nodes[node], node, is_whole, cost);
         Ok(())
     }
 
-    /// Adds the stack's cost to the front of its texts up to the one at `place`, the node of the texts before being
-    /// `node`, and answers its node.
-    fn extend(
+    /// The node of the first `depth` numbers of the list that ends at a node of the shape. It is made where there is none
+    /// yet, and so are those above it. What is left of `path` is beyond it.
+    fn number(
         &mut self,
-        lists: &[Vec<usize>],
-        costs: &[u64],
-        stack: usize,
+        edges: &IndexSet<Edge>,
+        end: usize,
+        list: u32,
         depth: usize,
-        node: usize,
-        place: usize,
     ) -> Result<usize, NoMemory>
-        requires stacks { AreStacks self.old.names lists.now costs.now }
-        requires held { stack < length lists.now }
-        requires cost { 0 < slice_index costs.now stack }
-        requires place { place < length (numbers_at lists.now stack) }
-        requires depth { place < depth }
-        requires stage { IsStage self.old.names self.old.edges.keys self.old.nodes.items (stacks_before self.old.names lists.now costs.now stack) (texts_of self.old.names (numbers_at lists.now stack)) (slice_index costs.now stack) depth node place }
-        ensures names { self.new.names ≡ self.old.names }
-        ensures stage { IfOk result (λ n. IsStage self.new.names self.new.edges.keys self.new.nodes.items (stacks_before self.new.names lists.now costs.now stack) (texts_of self.new.names (numbers_at lists.now stack)) (slice_index costs.now stack) depth n (place + 1)) }
+        requires steps { AreSteps (λ number. number) edges.now.keys (numbers_of edges.now.keys) }
+        requires end { end ≤ length edges.now.keys }
+        requires built { IsBuilt edges.now.keys self.old }
+        ensures built { OnOk result (IsBuilt edges.now.keys self.new) }
+        ensures held { IfOk result (λ n. n < length self.new.nodes.items) }
+        ensures weight { OnOk result
+            (sum_by weight self.new.nodes.items ≡ sum_by weight self.old.nodes.items) }
+        ensures reached { IfOk result
+            (λ n. AreReached edges.now.keys end list depth self.old self.new n) }
     {
-        let list = &lists[stack];
-        let next = self.child(node, list[place], stack as u32)?;
-        count(&mut self.nodes[next], stack as u32, costs[stack]);
-        Ok(next)
+        let mut node = climb(edges, &self.numbered, end, &mut self.path)?;
+        'each_node: while self.levels[node] < depth {
+            let Some(place) = self.path.pop() else {
+                return Ok(node);
+            };
+            node = self.make(edges, node, place, list)?;
+        }
+        Ok(node)
     }
 
-    /// The child of the node by the text, which is made where there is none yet.
-    fn child(&mut self, parent: usize, text: usize, stack: u32) -> Result<usize, NoMemory>
-        requires beside { length self.old.nodes.items ≡ length self.old.edges.keys + 1 }
-        ensures names { self.new.names ≡ self.old.names }
-        ensures child { IfOk result (λ n. (place : ℕ) × (n ≡ place + 1)
-            × IsChild self.old.edges.keys self.old.nodes.items self.new.edges.keys self.new.nodes.items (record { parent = parent; text = text }) stack place) }
+    /// The node of a node of the shape that has none yet, below the node of the shape's node above it.
+    fn make(
+        &mut self,
+        edges: &IndexSet<Edge>,
+        parent: usize,
+        place: usize,
+        list: u32,
+    ) -> Result<usize, NoMemory>
+        requires place { 0 < place }
+        requires within { place ≤ length edges.now.keys }
+        requires parent { parent < length self.old.nodes.items }
+        requires level { slice_index self.old.levels.items parent < 2 ^ 64 - 1 }
+        requires built { IsBuilt edges.now.keys self.old }
+        ensures made { IfOk result
+            (λ n. IsMade edges.now.keys parent place list self.old self.new n) }
+        ensures built { OnOk result (IsBuilt edges.now.keys self.new) }
+        ensures weight { OnOk result
+            (sum_by weight self.new.nodes.items ≡ sum_by weight self.old.nodes.items) }
     {
-        let (place, is_new) = self.edges.insert_full(Edge { parent, text })?;
-        if !is_new {
-            return Ok(place + 1);
-        }
+        let text = edge_of(edges, place).text;
+        let level = self.levels[parent] + 1;
+        self.edges.push(Edge { parent, text })?;
         self.nodes.push(CostNode {
             parent,
             cost: 0,
             own: 0,
-            first: stack,
+            first: list,
         })?;
-        Ok(place + 1)
+        self.levels.push(level)?;
+        let node = self.edges.len();
+        self.numbered[place] = node + 1;
+        Ok(node)
     }
 }
 
-/// Adds the cost of the stack to that of a node.
-fn count(node: &mut CostNode, stack: u32, cost: u64)
-    requires { node.old.cost + cost < 2 ^ 64 }
-    ensures { node.new ≡ counted node.old stack cost }
+/// Replaces `path` by the nodes of the shape from the end up to the first that has a node of the tree, without this one,
+/// and answers its node.
+fn climb(
+    edges: &IndexSet<Edge>,
+    numbered: &[usize],
+    end: usize,
+    path: &mut Vec<usize>,
+) -> Result<usize, NoMemory>
+    requires steps { AreSteps (λ number. number) edges.now.keys (numbers_of edges.now.keys) }
+    requires end { end ≤ length edges.now.keys }
+    requires count { length numbered.now ≡ length edges.now.keys + 1 }
+    requires root { slice_index numbered.now 0 ≡ 1 }
+    ensures way { IfOk result
+        (λ n. IsWayUp edges.now.keys numbered.now end path.new.items n) }
 {
-    if node.cost == 0 {
-        node.first = stack;
+    path.clear();
+    let mut place = end;
+    'each_node: while numbered[place] == 0 {
+        path.push(place)?;
+        place = edge_of(edges, place).parent;
     }
-    node.cost += cost;
+    Ok(numbered[place] - 1)
+}
+
+/// Adds the cost of the list to that of node 0.
+fn count(root: &mut CostNode, list: u32, cost: u64)
+    requires { root.old.cost + cost < 2 ^ 64 }
+    ensures { root.new ≡ counted root.old list cost }
+{
+    if root.cost == 0 {
+        root.first = list;
+    }
+    root.cost += cost;
+}
+
+/// Adds the cost of a list that ends at a node or is cut there. Node 0 has it in its cost already.
+fn end_at(node: &mut CostNode, n: usize, is_whole: bool, cost: u64)
+    requires cost { node.old.cost + cost < 2 ^ 64 }
+    requires own { node.old.own + cost < 2 ^ 64 }
+    ensures { node.new ≡ ended n is_whole cost node.old }
+{
+    if n > 0 {
+        node.cost += cost;
+    }
+    if is_whole {
+        node.own += cost;
+    }
 }

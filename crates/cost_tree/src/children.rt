@@ -34,8 +34,12 @@ pub(crate) fn split_children(
     requires held { All (λ m. m < length tree.now.nodes) nodes.now }
     requires few { length nodes.now < 2 ^ 64 }
     requires within { sum_by (cost_at tree.now) nodes.now ≤ 2 ^ 62 }
-    ensures kept { OnOk result (kept.new.items ≡ kept.old.items ++ map (child_at tree.now) (filter (is_kept_at scale tree.now) nodes.now)) }
-    ensures gathered { IfOk result (λ gathered. gathered ≡ gathered_in tree.now (filter (is_small_at scale tree.now) nodes.now)) }
+    ensures kept { OnOk result
+        (kept.new.items ≡ kept.old.items
+        ++ map (child_at tree.now) (filter (is_kept_at scale tree.now) nodes.now)) }
+    ensures gathered { IfOk result
+        (λ gathered. gathered
+        ≡ gathered_in tree.now (filter (is_small_at scale tree.now) nodes.now)) }
 {
     let mut gathered = Gathered { places: 0, cost: 0 };
     'each_node: for node in nodes {

@@ -19,7 +19,8 @@ impl<F: Fn(u32) -> u64> Costing<F> {
         requires stated { (costs : List ℕ) × AreCosts (F.pre cost) (F.post cost) stacks costs }
         ensures stacks { result.stacks ≡ stacks }
         ensures closure { result.cost ≡ cost }
-        ensures stated { (costs : List ℕ) → AreCosts (F.pre cost) (F.post cost) stacks costs → AreCosts (F.pre result.cost) (F.post result.cost) result.stacks costs }
+        ensures stated { (costs : List ℕ) → AreCosts (F.pre cost) (F.post cost) stacks costs
+            → AreCosts (F.pre result.cost) (F.post result.cost) result.stacks costs }
     {
         Costing { stacks, cost }
     }
@@ -33,17 +34,24 @@ impl<F: Fn(u32) -> u64> Costing<F> {
 
     /// The cost of the stack, which must be below `stacks`.
     pub fn of(&self, stack: u32) -> u64
-        requires stated { (costs : List ℕ) × AreCosts (F.pre self.now.cost) (F.post self.now.cost) self.now.stacks costs }
+        requires stated { (costs : List ℕ)
+            × AreCosts (F.pre self.now.cost) (F.post self.now.cost) self.now.stacks costs }
         requires below { stack < self.now.stacks }
-        ensures cost { (costs : List ℕ) → AreCosts (F.pre self.now.cost) (F.post self.now.cost) self.now.stacks costs → slice_get costs stack ≡ Some result }
+        ensures cost { (costs : List ℕ)
+            → AreCosts (F.pre self.now.cost) (F.post self.now.cost) self.now.stacks costs
+            → slice_get costs stack ≡ Some result }
     {
         (self.cost)(stack)
     }
 
     /// The costs of all stacks, in their order, or `NoMemory`.
     pub(crate) fn list(&self, alloc: Global) -> Result<Vec<u64>, NoMemory>
-        requires stated { (costs : List ℕ) × AreCosts (F.pre self.now.cost) (F.post self.now.cost) self.now.stacks costs }
-        ensures costs { IfOk result (λ list. (costs : List ℕ) → AreCosts (F.pre self.now.cost) (F.post self.now.cost) self.now.stacks costs → list.items ≡ costs) }
+        requires stated { (costs : List ℕ)
+            × AreCosts (F.pre self.now.cost) (F.post self.now.cost) self.now.stacks costs }
+        ensures costs { IfOk result
+            (λ list. (costs : List ℕ)
+            → AreCosts (F.pre self.now.cost) (F.post self.now.cost) self.now.stacks costs
+            → list.items ≡ costs) }
     {
         let mut costs = Vec::with_capacity(alloc, self.stacks as usize)?;
         for stack in 0..self.stacks {

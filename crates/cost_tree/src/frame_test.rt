@@ -16,7 +16,8 @@ impl<F: Fn(&[u8]) -> bool> FrameTest<F> {
         requires stated { (texts : List (List ℕ)) × AreTexts (FnReturnsAt F.Fn test) texts }
         ensures closure { result.test ≡ test }
         ensures callable { F.IsAlwaysCallable result.test }
-        ensures stated { (texts : List (List ℕ)) → AreTexts (FnReturnsAt F.Fn test) texts → AreTexts (FnReturnsAt F.Fn result.test) texts }
+        ensures stated { (texts : List (List ℕ)) → AreTexts (FnReturnsAt F.Fn test) texts
+            → AreTexts (FnReturnsAt F.Fn result.test) texts }
     {
         FrameTest { test }
     }
@@ -24,7 +25,8 @@ impl<F: Fn(&[u8]) -> bool> FrameTest<F> {
     /// Whether the name is one of the list's.
     pub fn of(&self, name: &[u8]) -> bool
         requires { F.IsAlwaysCallable self.now.test }
-        ensures listed { (texts : List (List ℕ)) → AreTexts (FnReturnsAt F.Fn self.now.test) texts → IsTrue result ↔ Contains texts name.now }
+        ensures listed { (texts : List (List ℕ)) → AreTexts (FnReturnsAt F.Fn self.now.test) texts
+            → IsTrue result ↔ Contains texts name.now }
     {
         (self.test)(name)
     }

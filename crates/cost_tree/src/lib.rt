@@ -3,27 +3,33 @@
 //!
 //! What it promises:
 //!
-//! - `Fronts` is seen as a list of lists of texts, and keeps each distinct text once. `Costing` and `FrameTest` keep a
-//!   closure, and what it is to answer is said at each call that uses it.
+//! - `Shape` is seen as a list of lists of numbers, and keeps each front of them once; `Fronts` as a list of lists of texts,
+//!   and keeps each distinct text once. A list can be one that came before (`repeat`), and lists of texts can be made of names
+//!   and a shape of their numbers (`from_parts`). `Costing` and `FrameTest` keep a closure, and what it is to answer is said at
+//!   each call that uses it.
 //! - `CostTree::of_fronts` gives the tree of the lists with their costs (`IsTreeOf`): one node for each front of at
 //!   most `depth` texts whose cost isn't 0, and node 0 for the empty one.
 //! - `CostTree::build` gives it for the stacks of a trace, whose lists are the texts of their frames in a style and
-//!   from one end (`lists_towards`). It makes no text of a stack that costs nothing, and of each other stack one text
-//!   more than `depth` at most.
+//!   from one end (`lists_towards`). From the root it makes the texts of each node once, and its memory goes by nodes. From
+//!   the allocation it makes no text of a stack that costs nothing, and of each other stack one text more than `depth` at
+//!   most.
 //! - A node says its parent, which stands before it, its cost, its own cost and the first stack. `text` is its front's
 //!   last text, and `children_into` gives all its children by ascending number, which is also by ascending first stack.
 //! - `cost_lines` gives the lines of a tree above a threshold, as a list over fronts (`CostLines`): costly fronts first,
 //!   and one line for the others of a node.
 //!
-//! A text is compared with others once, when it is pushed; a child is found by its parent and the number of its text. The
-//! crates above may cite its `proofs/Laws`. The tests of these calls are the crate `cost_tree_tests`.
+//! A text is compared with others once, when it is pushed, and a front once, when its last number is; a tree hashes nothing and
+//! copies no text. The crates above may cite its `proofs/Laws`. The tests of these calls are the crate `cost_tree_tests`.
 //!
 //! | File | Does |
 //! |---|---|
-//! | `fronts.rt`, `stack_lists.rt`, `direction.rt` | lists of texts; those of a trace's stacks; from which end |
+//! | `shape.rt`, `edge.rt` | lists of numbers that share their fronts; how a node goes on from another |
+//! | `fronts.rt` | lists of texts |
+//! | `trace_lists.rt`, `stack_lists.rt`, `root_lists.rt`, `direction.rt` | those of a trace's stacks; from the allocation, and from the root; from which end |
 //! | `costing.rt`, `frame_test.rt` | what each stack costs, and which names are meant, by closures |
-//! | `branches.rt`, `links.rt` | a tree that grows; the children of each node |
-//! | `tree.rt`, `node.rt` | the tree, and one node |
+//! | `branches.rt`, `summing.rt` | a tree that grows along a shape; what its nodes cost with those below them |
+//! | `linked.rt`, `links.rt` | its nodes with the links to their children |
+//! | `tree.rt`, `node.rt`, `held_names.rt` | the tree, one node, and whose names it has |
 //! | `scale.rt`, `line.rt` | what costs are measured by; a line |
 //! | `children.rt`, `lines.rt` | which children of a node have lines of their own; the walk that gives the lines |
 #![tactic(auto)]
@@ -32,14 +38,21 @@ mod branches;
 mod children;
 mod costing;
 mod direction;
+mod edge;
 mod frame_test;
 mod fronts;
+mod held_names;
 mod line;
 mod lines;
+mod linked;
 mod links;
 mod node;
+mod root_lists;
 mod scale;
+mod shape;
 mod stack_lists;
+mod summing;
+mod trace_lists;
 mod tree;
 
 pub use costing::Costing;
@@ -50,4 +63,5 @@ pub use line::{CostLine, Place};
 pub use lines::cost_lines;
 pub use node::CostNode;
 pub use scale::Scale;
+pub use shape::Shape;
 pub use tree::CostTree;

@@ -37,9 +37,11 @@ struct Children {
 /// The tree must be one of fewer than 2^32 stacks, which cost at most 2^62 together.
 pub fn cost_lines(alloc: Global, tree: &CostTree, scale: Scale) -> Result<Vec<CostLine>, NoMemory>
     requires tree { (stacks : List Costed) × (depth : ℕ) × HasLines tree.now stacks depth }
-    ensures lines { IfOk result (λ lines. (stacks : List Costed) (depth : ℕ) → HasLines tree.now stacks depth →
+    ensures lines { IfOk result
+        (λ lines. (stacks : List Costed) (depth : ℕ) → HasLines tree.now stacks depth →
         map (line_at tree.now) lines.items ≡ cost_lines depth scale stacks) }
-    ensures each { IfOk result (λ lines. (stacks : List Costed) (depth : ℕ) → HasLines tree.now stacks depth →
+    ensures each { IfOk result
+        (λ lines. (stacks : List Costed) (depth : ℕ) → HasLines tree.now stacks depth →
         All (IsLineOf tree.now stacks depth) lines.items) }
 {
     let mut children = Children {
@@ -67,7 +69,8 @@ fn take_pending(
     requires within { sum_by (cost_at tree.now) (children_below tree.now next) ≤ 2 ^ 62 }
     requires few { length (children_below tree.now next) < 2 ^ 32 }
     ensures line { IfOk result (λ line. line ≡ pending_line scale tree.now next) }
-    ensures below { OnOk result (pending.new.items ≡ pending.old.items ++ pending_below scale tree.now next) }
+    ensures below { OnOk result
+        (pending.new.items ≡ pending.old.items ++ pending_below scale tree.now next) }
 {
     match next {
         Pending::Below { level, node } => {
@@ -96,8 +99,10 @@ fn push_children(
     requires held { node < length tree.now.nodes }
     requires within { sum_by (cost_at tree.now) (children_of tree.now.nodes node) ≤ 2 ^ 62 }
     requires few { length (children_of tree.now.nodes node) < 2 ^ 32 }
-    ensures appended { OnOk result (pending.new.items ≡ pending.old.items ++ pending_children scale tree.now level node) }
-    ensures count { IfOk result (λ count. count ≡ length (pending_children scale tree.now level node)) }
+    ensures appended { OnOk result
+        (pending.new.items ≡ pending.old.items ++ pending_children scale tree.now level node) }
+    ensures count { IfOk result
+        (λ count. count ≡ length (pending_children scale tree.now level node)) }
 {
     let before = pending.len();
     push_shown(tree, scale, level, node, children, pending)?;
@@ -115,7 +120,8 @@ fn push_shown(
 ) -> Result<(), NoMemory>
     requires held { node < length tree.now.nodes }
     requires within { sum_by (cost_at tree.now) (children_of tree.now.nodes node) ≤ 2 ^ 62 }
-    ensures appended { OnOk result (pending.new.items ≡ pending.old.items ++ pending_children scale tree.now level node) }
+    ensures appended { OnOk result
+        (pending.new.items ≡ pending.old.items ++ pending_children scale tree.now level node) }
 {
     tree.children_into(node, &mut children.nodes)?;
     children.kept.clear();
@@ -131,7 +137,8 @@ fn push_gathered(
     gathered: Gathered,
     pending: &mut Vec<Pending>,
 ) -> Result<(), NoMemory>
-    ensures appended { OnOk result (pending.new.items ≡ pending.old.items ++ pending_gathered level gathered) }
+    ensures appended { OnOk result
+        (pending.new.items ≡ pending.old.items ++ pending_gathered level gathered) }
 {
     if gathered.places > 0 {
         let line = CostLine {
@@ -153,7 +160,9 @@ fn push_kept(
     kept: &mut Vec<Child>,
     pending: &mut Vec<Pending>,
 ) -> Result<(), NoMemory>
-    ensures appended { OnOk result (pending.new.items ≡ pending.old.items ++ reverse (map (pending_child level) kept.old.items)) }
+    ensures appended { OnOk result
+        (pending.new.items ≡ pending.old.items
+        ++ reverse (map (pending_child level) kept.old.items)) }
 {
     'each_child: while let Some(child) = kept.pop() {
         pending.push(Pending::Below {

@@ -18,8 +18,10 @@ impl Links {
     /// The links of the nodes, each of which stands behind its parent, or `NoMemory`.
     pub(crate) fn of(alloc: Global, nodes: &[CostNode]) -> Result<Links, NoMemory>
         requires some { 0 < length nodes.now }
-        requires lower { (n : ℕ) (node : CostNode) → 0 < n → slice_get nodes.now n ≡ Some node → node.parent < n }
-        ensures links { IfOk result (λ links. AreLinks nodes.now links.first_children.items links.next_brothers.items) }
+        requires lower { (n : ℕ) (node : CostNode) → 0 < n → slice_get nodes.now n ≡ Some node
+            → node.parent < n }
+        ensures links { IfOk result
+            (λ links. AreLinks nodes.now links.first_children.items links.next_brothers.items) }
     {
         let mut first_children = vec![in alloc; 0; nodes.len()]?;
         let mut next_brothers = vec![in alloc; 0; nodes.len()]?;

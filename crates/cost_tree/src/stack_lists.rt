@@ -1,21 +1,20 @@
-//! The lists of texts of a trace's stacks, as far as a tree needs them.
+//! The lists of texts of a trace's stacks from their innermost frames on, as far as a tree needs them.
 //! What the tree says of them is no part of it.
 ghost use Rattle.std.specs.Prelude.{◌≡◌, ◌+◌, ◌-◌, ◌^◌, ◌<◌, ◌≤◌, All, [], ◌∷◌, ◌++◌, length, map, take, IfOk, OnOk};
+ghost use Rattle.cost_tree.specs.declared.direction.Direction.TheVariants.{FromAllocation};
 ghost use Rattle.cost_tree.specs.Needed.{LastGains, needed, needed_lists};
 ghost use Rattle.cost_tree.specs.StackTexts.{stack_texts, towards};
 ghost use Rattle.ht_trace.specs.FrameText.{frame_text};
 ghost use Rattle.ht_trace.specs.IsFrame.{IsFrame};
 
-use crate::direction::Direction;
 use crate::fronts::Fronts;
 use hp_num::NoMemory;
 use ht_trace::{FrameAt, Style, Tables};
 use std::alloc::Global;
 
-/// How a stack's list is made: from which end, in which style, and of how many texts at most.
+/// How a stack's list is made: in which style, and of how many texts at most.
 #[derive(Clone, Copy, Debug)]
 pub(crate) struct ListForm {
-    pub(crate) direction: Direction,
     pub(crate) style: Style,
     pub(crate) most: usize,
 }
@@ -29,7 +28,8 @@ pub(crate) fn stack_lists(
     form: ListForm,
 ) -> Result<Fronts, NoMemory>
     requires as_many { length costs.now ≡ length tables.now.nodes + 1 }
-    ensures lists { IfOk result (λ fronts. fronts ≡ needed_lists form.direction form.style tables.now form.most costs.now) }
+    ensures lists { IfOk result
+        (λ fronts. fronts ≡ needed_lists FromAllocation form.style tables.now form.most costs.now) }
 {
     let mut fronts = Fronts::new(alloc);
     let mut frames = Vec::new(alloc);
@@ -61,7 +61,10 @@ fn add_stack(
 ) -> Result<(), NoMemory>
     requires held { stack ≤ length tables.now.nodes }
     requires few { length fronts.old < 2 ^ 32 - 1 }
-    ensures added { OnOk result (fronts.new ≡ fronts.old ++ needed form.most cost (towards form.direction (stack_texts form.style tables.now stack)) ∷ []) }
+    ensures added { OnOk result
+        (fronts.new ≡ fronts.old
+        ++ needed form.most cost (towards FromAllocation (stack_texts form.style tables.now stack))
+        ∷ []) }
 {
     fronts.begin()?;
     if cost == 0 {
@@ -81,26 +84,18 @@ fn push_stack(
 ) -> Result<(), NoMemory>
     requires held { stack ≤ length tables.now.nodes }
     requires begun { 0 < length fronts.old }
-    ensures gained { OnOk result (LastGains fronts.old (take form.most (towards form.direction (stack_texts form.style tables.now stack))) fronts.new) }
+    ensures gained { OnOk result
+        (LastGains fronts.old
+        (take form.most (towards FromAllocation (stack_texts form.style tables.now stack)))
+        fronts.new) }
 {
     tables.frames_into(stack, frames)?;
-    turn(frames, form.direction);
     frames.truncate(form.most);
     push_texts(tables, frames, form.style, fronts, text)
 }
 
-/// Turns a list that begins at the innermost frame into this direction.
-fn turn(frames: &mut Vec<FrameAt>, direction: Direction)
-    ensures { frames.new.items ≡ towards direction frames.old.items }
-{
-    match direction {
-        Direction::FromAllocation => {}
-        Direction::FromRoot => frames.reverse(),
-    }
-}
-
 /// Appends the texts of the frames to the last list, of which there must be one. `text` is a buffer.
-fn push_texts(
+pub(crate) fn push_texts(
     tables: &Tables,
     frames: &[FrameAt],
     style: Style,
@@ -109,7 +104,8 @@ fn push_texts(
 ) -> Result<(), NoMemory>
     requires frames { All (λ at. IsFrame tables.now at) frames.now }
     requires begun { 0 < length fronts.old }
-    ensures gained { OnOk result (LastGains fronts.old (map (frame_text style tables.now) frames.now) fronts.new) }
+    ensures gained { OnOk result
+        (LastGains fronts.old (map (frame_text style tables.now) frames.now) fronts.new) }
 {
     'each_frame: for at in frames {
         text.clear();

@@ -1,40 +1,39 @@
 //! The tree of inclusive costs, and what its nodes say.
-//! How it grows is in `branches`, and the order of its children in `links`.
+//! How its nodes are made is in `linked`.
 ghost use Rattle.std.specs.Prelude.{◌≡◌, ◌≢◌, ℕ, ◌+◌, ◌^◌, ◌<◌, ◌≤◌, ◌↔◌, List, [], ◌∷◌, ◌++◌, length, sum, Some, IfOk, OnOk, OnErr, IsOk, AllPairs, Contains, slice_get, vec_capacity};
-ghost use Rattle.intern_tables.specs.Distinct.{AreDistinct};
 ghost use Rattle.cost_tree.specs.declared.node.CostNode.{CostNode};
 ghost use Rattle.cost_tree.specs.Children.{children_of};
 ghost use Rattle.cost_tree.specs.Costed.{costed};
 ghost use Rattle.cost_tree.specs.Costs.{AreCosts};
 ghost use Rattle.cost_tree.specs.IsTreeOf.{IsTreeOf};
 ghost use Rattle.cost_tree.specs.StackTexts.{lists_towards};
-ghost use Rattle.cost_tree.specs.Texts.{AreLists, lists_of};
 ghost use Rattle.cost_tree.specs.TreeLines.{HasLines};
 
-use crate::branches::{Branches, Edge};
 use crate::costing::Costing;
 use crate::direction::Direction;
+use crate::edge::Edge;
 use crate::fronts::Fronts;
+use crate::held_names::HeldNames;
+use crate::linked::Linked;
 use crate::links::Links;
 use crate::node::CostNode;
-use crate::stack_lists::{ListForm, stack_lists};
+use crate::trace_lists::trace_lists;
 use hp_num::NoMemory;
 use ht_trace::{Style, Tables};
-use indexmap::IndexSet;
-use intern_tables::Names;
 use std::alloc::Global;
 use std::marker::Model;
 
-/// The fronts of some stacks' texts, each with what the stacks cost that begin with it.
+/// The fronts of some stacks' texts, each with what the stacks cost that begin with it. Its texts are those of the lists that
+/// it was made of, or its own where it was built of a trace.
 #[derive(Debug, Drop)]
-pub struct CostTree {
-    names: Names,
-    edges: IndexSet<Edge>,
+pub struct CostTree<'a> {
+    names: HeldNames<'a>,
+    edges: Vec<Edge>,
     nodes: Vec<CostNode>,
     links: Links,
 }
 
-impl Model for CostTree {
+impl<'a> Model for CostTree<'a> {
     ghost use Rattle.cost_tree.specs.TreeState.{TreeState};
 
     ghost Value = { TreeState };
@@ -46,19 +45,26 @@ impl Model for CostTree {
     ghost invariant = { IsWhole };
 }
 
-impl CostTree {
+impl<'a> CostTree<'a> {
     /// The tree of the lists with these costs, to fronts of at most `depth` texts, or `NoMemory`. It has lines, as
     /// `cost_lines` gives them.
     pub fn of_fronts<F: Fn(u32) -> u64>(
         alloc: Global,
-        fronts: &Fronts,
+        fronts: &'a Fronts,
         costing: &Costing<F>,
         depth: u32,
-    ) -> Result<CostTree, NoMemory>
+    ) -> Result<CostTree<'a>, NoMemory>
         requires as_many { costing.now.stacks ≡ length fronts.now }
-        requires stated { (costs : List ℕ) × AreCosts (F.pre costing.now.cost) (F.post costing.now.cost) costing.now.stacks costs }
-        ensures tree { IfOk result (λ tree. (costs : List ℕ) → AreCosts (F.pre costing.now.cost) (F.post costing.now.cost) costing.now.stacks costs → IsTreeOf tree (costed fronts.now costs) depth) }
-        ensures lines { IfOk result (λ tree. (costs : List ℕ) → AreCosts (F.pre costing.now.cost) (F.post costing.now.cost) costing.now.stacks costs → HasLines tree (costed fronts.now costs) depth) }
+        requires stated { (costs : List ℕ)
+            × AreCosts (F.pre costing.now.cost) (F.post costing.now.cost) costing.now.stacks costs }
+        ensures tree { IfOk result
+            (λ tree. (costs : List ℕ)
+            → AreCosts (F.pre costing.now.cost) (F.post costing.now.cost) costing.now.stacks costs
+            → IsTreeOf tree (costed fronts.now costs) depth) }
+        ensures lines { IfOk result
+            (λ tree. (costs : List ℕ)
+            → AreCosts (F.pre costing.now.cost) (F.post costing.now.cost) costing.now.stacks costs
+            → HasLines tree (costed fronts.now costs) depth) }
     {
         let costs = costing.list(alloc)?;
         CostTree::of_costs(alloc, fronts, &costs, depth)
@@ -73,10 +79,14 @@ impl CostTree {
         direction: Direction,
         style: Style,
         depth: u32,
-    ) -> Result<CostTree, NoMemory>
+    ) -> Result<CostTree<'a>, NoMemory>
         requires as_many { costing.now.stacks ≡ length tables.now.nodes + 1 }
-        requires stated { (costs : List ℕ) × AreCosts (F.pre costing.now.cost) (F.post costing.now.cost) costing.now.stacks costs }
-        ensures tree { IfOk result (λ tree. (costs : List ℕ) → AreCosts (F.pre costing.now.cost) (F.post costing.now.cost) costing.now.stacks costs → IsTreeOf tree (costed (lists_towards direction style tables.now) costs) depth) }
+        requires stated { (costs : List ℕ)
+            × AreCosts (F.pre costing.now.cost) (F.post costing.now.cost) costing.now.stacks costs }
+        ensures tree { IfOk result
+            (λ tree. (costs : List ℕ)
+            → AreCosts (F.pre costing.now.cost) (F.post costing.now.cost) costing.now.stacks costs
+            → IsTreeOf tree (costed (lists_towards direction style tables.now) costs) depth) }
     {
         let costs = costing.list(alloc)?;
         CostTree::of_stacks(alloc, tables, &costs, direction, style, depth)
@@ -90,63 +100,53 @@ impl CostTree {
         direction: Direction,
         style: Style,
         depth: u32,
-    ) -> Result<CostTree, NoMemory>
+    ) -> Result<CostTree<'a>, NoMemory>
         requires as_many { length costs.now ≡ length tables.now.nodes + 1 }
         requires bound { sum costs.now ≤ 2 ^ 62 }
-        ensures tree { IfOk result (λ tree. IsTreeOf tree (costed (lists_towards direction style tables.now) costs.now) depth) }
+        ensures tree { IfOk result
+            (λ tree. IsTreeOf tree (costed (lists_towards direction style tables.now) costs.now)
+            depth) }
     {
-        // One text more than a front has says that a stack goes on.
-        let form = ListForm {
-            direction,
-            style,
-            most: depth as usize + 1,
-        };
-        let fronts = stack_lists(alloc, tables, costs, form)?;
-        let Fronts { names, lists } = fronts;
-        CostTree::of_lists(alloc, names, &lists, costs, depth)
+        let fronts = trace_lists(alloc, tables, costs, direction, style, depth)?;
+        let Fronts { names, shape } = fronts;
+        // Says that no two names are equal.
+        let _count = names.len();
+        let Linked {
+            edges,
+            nodes,
+            links,
+        } = Linked::of(alloc, &shape, costs, depth as usize)?;
+        Ok(CostTree {
+            names: HeldNames::Own { names },
+            edges,
+            nodes,
+            links,
+        })
     }
 
     /// The tree of the lists with these costs, or `NoMemory`.
     fn of_costs(
         alloc: Global,
-        fronts: &Fronts,
+        fronts: &'a Fronts,
         costs: &[u64],
         depth: u32,
-    ) -> Result<CostTree, NoMemory>
+    ) -> Result<CostTree<'a>, NoMemory>
         requires as_many { length costs.now ≡ length fronts.now }
         requires bound { sum costs.now ≤ 2 ^ 62 }
         ensures tree { IfOk result (λ tree. IsTreeOf tree (costed fronts.now costs.now) depth) }
         ensures lines { IfOk result (λ tree. HasLines tree (costed fronts.now costs.now) depth) }
     {
-        let names = copy_names(alloc, &fronts.names)?;
-        CostTree::of_lists(alloc, names, &fronts.lists, costs, depth)
-    }
-
-    /// The tree of the stacks with these lists of numbers of names and these costs, or `NoMemory`.
-    fn of_lists(
-        alloc: Global,
-        names: Names,
-        lists: &[Vec<usize>],
-        costs: &[u64],
-        depth: u32,
-    ) -> Result<CostTree, NoMemory>
-        requires lists { AreLists names lists.now }
-        requires as_many { length costs.now ≡ length lists.now }
-        requires bound { sum costs.now ≤ 2 ^ 62 }
-        ensures tree { IfOk result (λ tree. IsTreeOf tree (costed (lists_of names lists.now) costs.now) depth) }
-        ensures lines { IfOk result (λ tree. HasLines tree (costed (lists_of names lists.now) costs.now) depth) }
-    {
-        // Says that no two names are equal.
+        let names = &fronts.names;
+        // Says that no two names are equal, and that there are few lists.
         let _count = names.len();
-        let branches = Branches::of(alloc, names, lists, costs, depth as usize)?;
-        let Branches {
-            names,
+        let _lists = fronts.shape.len();
+        let Linked {
             edges,
             nodes,
-        } = branches;
-        let links = Links::of(alloc, &nodes)?;
+            links,
+        } = Linked::of(alloc, &fronts.shape, costs, depth as usize)?;
         Ok(CostTree {
-            names,
+            names: HeldNames::Lent { names },
             edges,
             nodes,
             links,
@@ -176,25 +176,34 @@ impl CostTree {
     pub fn text(&self, n: usize) -> &[u8]
         requires held { n < length self.now.nodes }
         ensures root { n ≡ 0 → result.now ≡ [] }
-        ensures last { 0 < n → (front : List (List ℕ)) × (slice_get self.now.fronts n ≡ Some (front ++ result.now ∷ [])) }
-        ensures below { (node : CostNode) (front : List (List ℕ)) → 0 < n → slice_get self.now.nodes n ≡ Some node →
-            slice_get self.now.fronts node.parent ≡ Some front → slice_get self.now.fronts n ≡ Some (front ++ result.now ∷ []) }
+        ensures last { 0 < n
+            → (front : List (List ℕ))
+            × (slice_get self.now.fronts n ≡ Some (front ++ result.now ∷ [])) }
+        ensures below { (node : CostNode) (front : List (List ℕ)) → 0 < n
+            → slice_get self.now.nodes n ≡ Some node →
+            slice_get self.now.fronts node.parent ≡ Some front
+            → slice_get self.now.fronts n ≡ Some (front ++ result.now ∷ []) }
     {
         let Some(place) = n.checked_sub(1) else {
             return &[];
         };
-        let Some(edge) = self.edges.get_index(place) else {
-            return &[];
-        };
-        self.names.name(edge.text).unwrap_or(&[])
+        self.names
+            .names()
+            .name(self.edges[place].text)
+            .unwrap_or(&[])
     }
 
     /// Replaces `out` by the children of node `n`, which must be held, by ascending `first`.
     pub fn children_into(&self, n: usize, out: &mut Vec<usize>) -> Result<(), NoMemory>
         requires held { n < length self.now.nodes }
         ensures children { OnOk result (out.new.items ≡ children_of self.now.nodes n) }
-        ensures all { OnOk result ((m : ℕ) (node : CostNode) → 0 < m → slice_get self.now.nodes m ≡ Some node → node.parent ≡ n → Contains out.new.items m) }
-        ensures only { OnOk result ((m : ℕ) → Contains out.new.items m → (node : CostNode) × (0 < m) × (slice_get self.now.nodes m ≡ Some node) × (node.parent ≡ n)) }
+        ensures all { OnOk result
+            ((m : ℕ) (node : CostNode) → 0 < m → slice_get self.now.nodes m ≡ Some node
+            → node.parent ≡ n → Contains out.new.items m) }
+        ensures only { OnOk result
+            ((m : ℕ) → Contains out.new.items m
+            → (node : CostNode) × (0 < m) × (slice_get self.now.nodes m ≡ Some node)
+            × (node.parent ≡ n)) }
         ensures order { OnOk result (AllPairs (λ older younger. older < younger) out.new.items) }
         ensures unchanged { OnErr result (out.new.items ≡ out.old.items) }
     {
@@ -207,8 +216,10 @@ impl CostTree {
     /// Appends the children of node `n`.
     fn push_children(&self, n: usize, out: &mut Vec<usize>) -> Result<(), NoMemory>
         requires held { n < length self.now.nodes }
-        ensures children { OnOk result (out.new.items ≡ out.old.items ++ children_of self.now.nodes n) }
-        ensures room { length out.old.items + length (children_of self.now.nodes n) ≤ vec_capacity out.old → IsOk result }
+        ensures children { OnOk result
+            (out.new.items ≡ out.old.items ++ children_of self.now.nodes n) }
+        ensures room { length out.old.items + length (children_of self.now.nodes n)
+            ≤ vec_capacity out.old → IsOk result }
     {
         let mut child = self.links.first_children[n];
         'each_child: while child != 0 {
@@ -231,18 +242,4 @@ impl CostTree {
         }
         count
     }
-}
-
-/// The same names under the same numbers, or `NoMemory`.
-fn copy_names(alloc: Global, names: &Names) -> Result<Names, NoMemory>
-    ensures same { IfOk result (λ copy. copy ≡ names.now) }
-    ensures distinct { AreDistinct names.now }
-{
-    let mut copy = Names::new(alloc);
-    'each_name: for place in 0..names.len() {
-        if let Some(name) = names.name(place + 1) {
-            copy.intern(name)?;
-        }
-    }
-    Ok(copy)
 }

@@ -30,7 +30,8 @@ abbrev pub needed_value : {A : Type 0} → (Data → Option A) → Option ℕ �
 needed_value kind point key None = Some (MissingKey point key)
 needed_value kind point key (Some d) = other_kind kind point key d
 
-abbrev pub optional_value : {A : Type 0} → (Data → Option A) → Option ℕ → Key → Option Data → Finding
+abbrev pub optional_value : {A : Type 0} → (Data → Option A) → Option ℕ → Key → Option Data
+    → Finding
 optional_value kind point key None = None
 optional_value kind point key (Some d) = other_kind kind point key d
 
@@ -46,14 +47,16 @@ allowed kind point key value = optional_value kind point key (get (key_name key)
 
 abbrev pub frame_value : ℕ → ℕ → Option ℕ → Finding
 frame_value point frames None = Some (WrongKind (Some point) Fs)
-frame_value point frames (Some frame) = if nat_lt frame frames then None else Some (FrameOutOfTable point frame)
+frame_value point frames (Some frame) = if nat_lt frame frames then None
+    else Some (FrameOutOfTable point frame)
 
 -- a frame that is no whole number, or is not in the table
 abbrev pub frame_finding : ℕ → ℕ → Data → Finding
 frame_finding point frames d = frame_value point frames (as_whole d)
 
 abbrev pub frames_findings : ℕ → ℕ → Data → List Finding
-frames_findings point frames d = needed as_list (Some point) Fs d ∷ map (frame_finding point frames) (list_at Fs d)
+frames_findings point frames d = needed as_list (Some point) Fs d
+    ∷ map (frame_finding point frames) (list_at Fs d)
 
 -- the keys of a part that the profile tells of
 abbrev pub life_findings : Bool → ℕ → Data → List Finding
@@ -91,7 +94,8 @@ point_findings bklt bkacc frames point d =
 -- the first fault of each point, the points being numbered from `point` on
 abbrev pub points_findings : Bool → Bool → ℕ → ℕ → List Data → List Finding
 points_findings bklt bkacc frames point [] = []
-points_findings bklt bkacc frames point (d ∷ ds) = first_of (point_findings bklt bkacc frames point d) ∷ points_findings bklt bkacc frames (suc point) ds
+points_findings bklt bkacc frames point (d ∷ ds) = first_of
+    (point_findings bklt bkacc frames point d) ∷ points_findings bklt bkacc frames (suc point) ds
 
 -- ---- the profile
 
@@ -142,7 +146,8 @@ run_findings value =
     ∷ []
 
 abbrev pub table_findings : Data → List Finding
-table_findings value = needed as_list None Ftbl value ∷ map (other_kind as_str None Ftbl) (list_at Ftbl value)
+table_findings value = needed as_list None Ftbl value
+    ∷ map (other_kind as_str None Ftbl) (list_at Ftbl value)
 
 -- a list of points that is too long to number them
 abbrev pub too_many : List Data → Finding
@@ -155,10 +160,13 @@ listed_points_findings bklt bkacc frames value =
     ∷ points_findings bklt bkacc frames 0 (list_at Pps value)
 
 abbrev pub all_points_findings : Data → List Finding
-all_points_findings value = listed_points_findings (flag_at Bklt value) (flag_at Bkacc value) (length (list_at Ftbl value)) value
+all_points_findings value = listed_points_findings (flag_at Bklt value) (flag_at Bkacc value)
+    (length (list_at Ftbl value)) value
 
 abbrev pub dhat_findings : Data → List Finding
-dhat_findings value = head_findings value ++ (unit_findings value ++ (run_findings value ++ (table_findings value ++ all_points_findings value)))
+dhat_findings value = head_findings value
+    ++ (unit_findings value
+    ++ (run_findings value ++ (table_findings value ++ all_points_findings value)))
 
 -- the first fault of a value, where it has one
 unfoldable pub dhat_fault : Data → Option DhatFault

@@ -2,6 +2,7 @@ pub mod Adds
 pub mod DhatFault
 pub mod DhatValue
 pub mod Document
+pub mod FaultText
 pub mod Figure
 pub mod Groups
 pub mod IsDhat

@@ -12,7 +12,12 @@ use Rattle.dhat_json.specs.Kinds.{as_whole}
 use Rattle.dhat_json.specs.ProfileIn.{found, text_at, whole_at, flag_at}
 
 abbrev pub head_in : Data → Head
-head_in value = record { mode = text_at Mode value; verb = text_at Verb value; bklt = flag_at Bklt value; bkacc = flag_at Bkacc value }
+head_in value = record {
+  mode = text_at Mode value;
+  verb = text_at Verb value;
+  bklt = flag_at Bklt value;
+  bkacc = flag_at Bkacc value;
+}
 
 abbrev pub units_in : Data → Units
 units_in value = record {
@@ -25,7 +30,12 @@ units_in value = record {
 }
 
 abbrev pub run_in : Data → Run
-run_in value = record { cmd = text_at Cmd value; pid = whole_at Pid value; te = whole_at Te value; tg = found as_whole Tg value }
+run_in value = record {
+  cmd = text_at Cmd value;
+  pid = whole_at Pid value;
+  te = whole_at Te value;
+  tg = found as_whole Tg value;
+}
 
 abbrev pub joined : Head → Units → Run → List (List ℕ) → List Point → Dhat
 joined head units run ftbl pps = record {

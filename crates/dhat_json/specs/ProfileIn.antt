@@ -37,7 +37,15 @@ abbrev pub whole_in : Data → ℕ
 whole_in d = unwrap_or (as_whole d) 0
 
 abbrev pub life_in : Data → Life
-life_in d = record { tl = whole_at Tl d; mb = whole_at Mb d; mbk = whole_at Mbk d; gb = whole_at Gb d; gbk = whole_at Gbk d; eb = whole_at Eb d; ebk = whole_at Ebk d }
+life_in d = record {
+  tl = whole_at Tl d;
+  mb = whole_at Mb d;
+  mbk = whole_at Mbk d;
+  gb = whole_at Gb d;
+  gbk = whole_at Gbk d;
+  eb = whole_at Eb d;
+  ebk = whole_at Ebk d;
+}
 
 abbrev pub access_in : Data → Access
 access_in d = record { rb = whole_at Rb d; wb = whole_at Wb d }

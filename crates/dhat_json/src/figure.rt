@@ -72,7 +72,8 @@ impl Dhat {
     /// Whether the points have figures of this key. It takes no memory.
     pub fn has_figures(&self, key: FigureKey) -> bool
         ensures told { result ≡ has_figures key self.now }
-        ensures each { IsSound self.now → All (λ point. is_some (figure_of key point) ≡ result) self.now.pps }
+        ensures each { IsSound self.now
+            → All (λ point. is_some (figure_of key point) ≡ result) self.now.pps }
     {
         match key {
             FigureKey::Tb | FigureKey::Tbk => true,

@@ -12,7 +12,8 @@ ghost use Rattle.dhat_json.specs.Shown.{shown};
 
 /// What JSON values are: each says one profile or has one fault. It does nothing.
 pub fn dhat_documents()
-    ensures profile { (value : Data) (dhat : Dhat) → (dhat_in value ≡ Ok dhat) ↔ is_dhat value dhat }
+    ensures profile { (value : Data) (dhat : Dhat)
+        → (dhat_in value ≡ Ok dhat) ↔ is_dhat value dhat }
     ensures one_profile { (value : Data) (p q : Dhat) → is_dhat value p → is_dhat value q → p ≡ q }
     ensures no_fault { (value : Data) (dhat : Dhat) → is_dhat value dhat → dhat_fault value ≡ None }
     ensures sound { (value : Data) (dhat : Dhat) → is_dhat value dhat → IsSound dhat }

@@ -7,6 +7,7 @@
 //!   list of bytes (`exact`). What it gives is what the document says (`read`), each document that says a profile is
 //!   taken (`only`), and what was read may be written (`writable`: points are few enough to be numbered, have the parts
 //!   that the profile tells of, and frames within the table).
+//! - `DhatFault::put_message` appends what is told of a fault.
 //! - `profile_text` gives exactly `dhat_text`, which reads as the same profile (`reads_back`).
 //! - The laws: `dhat_documents` says that a JSON value says one profile or has a fault and not both, and
 //!   `dhat_round_trip` that the value of every sound profile says that profile.
@@ -22,7 +23,7 @@
 //! | `reader.rt`, `parts.rt`, `point.rt`, `member.rt` | a document, the parts of a profile, its points, one member |
 //! | `writer.rt`, `tokens.rt` | a profile as its one text, and the members of an object one by one |
 //! | `shown.rt` | the shown form of a text |
-//! | `fault.rt` | why a document is no profile |
+//! | `fault.rt` | why a document is no profile, and what is told of it |
 //! | `laws.rt` | the laws |
 #![tactic(auto)]
 

@@ -24,7 +24,8 @@ pub(crate) fn member<'v>(value: &'v Value, key: Key) -> Option<&'v Value>
 
 /// A whole number that must be there.
 pub(crate) fn read_whole(value: &Value, point: Option<u32>, key: Key) -> Result<u64, DhatFault>
-    ensures { Reads result (needed as_whole point key (view value.now)) (whole_at key (view value.now)) }
+    ensures { Reads result (needed as_whole point key (view value.now))
+        (whole_at key (view value.now)) }
 {
     let Some(found) = member(value, key) else {
         return Err(DhatFault::MissingKey { point, key });
@@ -37,7 +38,8 @@ pub(crate) fn read_whole(value: &Value, point: Option<u32>, key: Key) -> Result<
 
 /// A whole number of the profile that may be left out.
 pub(crate) fn read_optional_whole(value: &Value, key: Key) -> Result<Option<u64>, DhatFault>
-    ensures { Reads result (allowed as_whole None key (view value.now)) (found as_whole key (view value.now)) }
+    ensures { Reads result (allowed as_whole None key (view value.now))
+        (found as_whole key (view value.now)) }
 {
     let Some(found) = member(value, key) else {
         return Ok(None);
@@ -50,7 +52,8 @@ pub(crate) fn read_optional_whole(value: &Value, key: Key) -> Result<Option<u64>
 
 /// A flag of the profile.
 pub(crate) fn read_flag(value: &Value, key: Key) -> Result<bool, DhatFault>
-    ensures { Reads result (needed as_bool None key (view value.now)) (flag_at key (view value.now)) }
+    ensures { Reads result (needed as_bool None key (view value.now))
+        (flag_at key (view value.now)) }
 {
     let Some(found) = member(value, key) else {
         return Err(DhatFault::MissingKey { point: None, key });
@@ -63,7 +66,8 @@ pub(crate) fn read_flag(value: &Value, key: Key) -> Result<bool, DhatFault>
 
 /// A text of the profile.
 pub(crate) fn read_text(alloc: Global, value: &Value, key: Key) -> Result<Text, DhatFault>
-    ensures read { Reads result (needed as_str None key (view value.now)) (text_at key (view value.now)) }
+    ensures read { Reads result (needed as_str None key (view value.now))
+        (text_at key (view value.now)) }
     ensures utf8 { IfOk result IsUtf8 }
 {
     let Some(found) = member(value, key) else {
@@ -81,7 +85,8 @@ pub(crate) fn read_optional_text(
     value: &Value,
     key: Key,
 ) -> Result<Option<Text>, DhatFault>
-    ensures read { Reads result (allowed as_str None key (view value.now)) (found as_str key (view value.now)) }
+    ensures read { Reads result (allowed as_str None key (view value.now))
+        (found as_str key (view value.now)) }
     ensures utf8 { IfOk result (λ text. IfSome text IsUtf8) }
 {
     let Some(found) = member(value, key) else {

@@ -130,7 +130,8 @@ fn read_frames(
 }
 
 fn read_frame(value: &Value, number: u32, frames: usize) -> Result<u64, DhatFault>
-    ensures { Reads result (frame_finding number frames (view value.now)) (whole_in (view value.now)) }
+    ensures { Reads result (frame_finding number frames (view value.now))
+        (whole_in (view value.now)) }
 {
     let Some(frame) = value.as_u64() else {
         return Err(DhatFault::WrongKind {

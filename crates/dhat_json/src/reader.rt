@@ -72,7 +72,8 @@ fn read_value(alloc: Global, value: &Value) -> Result<Dhat, DhatFault>
 }
 
 fn read_head(alloc: Global, value: &Value) -> Result<Head, DhatFault>
-    ensures read { Reads result (first_of (head_findings (view value.now))) (head_in (view value.now)) }
+    ensures read { Reads result (first_of (head_findings (view value.now)))
+        (head_in (view value.now)) }
     ensures utf8 { IfOk result (λ head. IsUtf8 head.mode × IsUtf8 head.verb) }
 {
     if !value.is_object() {
@@ -107,7 +108,8 @@ fn check_version(value: &Value) -> Result<(), DhatFault>
 }
 
 fn read_units(alloc: Global, value: &Value) -> Result<Units, DhatFault>
-    ensures read { Reads result (first_of (unit_findings (view value.now))) (units_in (view value.now)) }
+    ensures read { Reads result (first_of (unit_findings (view value.now)))
+        (units_in (view value.now)) }
     ensures utf8 { IfOk result (λ units. IfSome units.bu IsUtf8 × IfSome units.bsu IsUtf8
         × IfSome units.bksu IsUtf8 × IsUtf8 units.tu × IsUtf8 units.mtu) }
 {
@@ -122,7 +124,8 @@ fn read_units(alloc: Global, value: &Value) -> Result<Units, DhatFault>
 }
 
 fn read_run(alloc: Global, value: &Value) -> Result<Run, DhatFault>
-    ensures read { Reads result (first_of (run_findings (view value.now))) (run_in (view value.now)) }
+    ensures read { Reads result (first_of (run_findings (view value.now)))
+        (run_in (view value.now)) }
     ensures utf8 { IfOk result (λ run. IsUtf8 run.cmd) }
 {
     Ok(Run {
@@ -148,7 +151,8 @@ fn read_table(alloc: Global, value: &Value) -> Result<Texts, DhatFault>
 
 // One text of the table.
 fn read_entry(alloc: Global, value: &Value) -> Result<Text, DhatFault>
-    ensures read { Reads result (other_kind as_str None Key.Ftbl (view value.now)) (text_in (view value.now)) }
+    ensures read { Reads result (other_kind as_str None Key.Ftbl (view value.now))
+        (text_in (view value.now)) }
     ensures utf8 { IfOk result IsUtf8 }
 {
     let Some(text) = value.as_str() else {
@@ -161,7 +165,8 @@ fn read_entry(alloc: Global, value: &Value) -> Result<Text, DhatFault>
 }
 
 fn read_all_points(alloc: Global, value: &Value, shape: Shape) -> Result<Points, DhatFault>
-    ensures { Reads result (first_of (listed_points_findings shape.bklt shape.bkacc shape.frames (view value.now)))
+    ensures { Reads result
+        (first_of (listed_points_findings shape.bklt shape.bkacc shape.frames (view value.now)))
         (map (point_in shape.bklt shape.bkacc) (list_at Key.Pps (view value.now))) }
 {
     let values = read_list(value, None, Key::Pps)?;

@@ -61,14 +61,16 @@ pub(crate) fn put_optional_text(
 
 pub(crate) fn put_table(out: &mut Writer, key: Key, texts: &Texts) -> Result<(), NoMemory>
     requires { All IsUtf8 texts.now }
-    ensures { OnOk result (Adds out.old out.new (member (key_name key) (array (items_of (map string texts.now))))) }
+    ensures { OnOk result
+        (Adds out.old out.new (member (key_name key) (array (items_of (map string texts.now))))) }
 {
     out.key(key.name())?;
     put_strings(out, texts.as_slice())
 }
 
 pub(crate) fn put_frames(out: &mut Writer, key: Key, frames: &FrameList) -> Result<(), NoMemory>
-    ensures { OnOk result (Adds out.old out.new (member (key_name key) (array (items_of (map whole frames.now))))) }
+    ensures { OnOk result
+        (Adds out.old out.new (member (key_name key) (array (items_of (map whole frames.now))))) }
 {
     out.key(key.name())?;
     put_numbers(out, frames.as_slice())

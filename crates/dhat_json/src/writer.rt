@@ -24,7 +24,8 @@ use std::alloc::Global;
 pub fn profile_text(alloc: Global, dhat: &Dhat) -> Result<String, NoMemory>
     requires { IsWritable dhat.now }
     ensures text { IfOk result (λ text. string_bytes text ≡ dhat_text dhat.now) }
-    ensures value { IfOk result (λ text. value_of (string_bytes text) ≡ Some (dhat_value dhat.now)) }
+    ensures value { IfOk result
+        (λ text. value_of (string_bytes text) ≡ Some (dhat_value dhat.now)) }
     ensures reads_back { IfOk result (λ text. document_of (string_bytes text) ≡ Ok dhat.now) }
 {
     let mut out = Writer::new(Vec::new(alloc));
@@ -90,7 +91,8 @@ fn put_points(out: &mut Writer, points: &Points) -> Result<(), NoMemory>
 }
 
 fn put_all_points(out: &mut Writer, points: &[Point]) -> Result<(), NoMemory>
-    ensures { OnOk result (AddsValue out.old out.new (array (items_of (map point_value points.now)))) }
+    ensures { OnOk result
+        (AddsValue out.old out.new (array (items_of (map point_value points.now)))) }
 {
     out.begin_array()?;
     for point in points {

@@ -28,6 +28,8 @@ pub record Moves (old new : LifeFigures) (stack : ℕ) (event : Event) : Type 0 
 
 -- what an event changes of each stack, held or not; a clock value changes nothing
 abbrev pub Changes : LifeState → LifeState → Event → Type 0
-Changes old new (Alloc info stack size) = (n : ℕ) → Moves (figures_at old n) (figures_at new n) n (Alloc info stack size)
-Changes old new (Free info stack size) = (n : ℕ) → Moves (figures_at old n) (figures_at new n) n (Free info stack size)
+Changes old new (Alloc info stack size) = (n : ℕ)
+    → Moves (figures_at old n) (figures_at new n) n (Alloc info stack size)
+Changes old new (Free info stack size) = (n : ℕ)
+    → Moves (figures_at old n) (figures_at new n) n (Free info stack size)
 Changes old new (Tick ms) = new ≡ old

@@ -6,7 +6,16 @@ use Rattle.dhat_metrics.specs.LifeState.{LifeState}
 
 -- the sums of a stack without events
 abbrev pub no_sums : Life
-no_sums = record { live = 0; blocks = 0; allocated = 0; calls = 0; began = 0; ended = 0; most_bytes = 0; most_blocks = 0 }
+no_sums = record {
+  live = 0;
+  blocks = 0;
+  allocated = 0;
+  calls = 0;
+  began = 0;
+  ended = 0;
+  most_bytes = 0;
+  most_blocks = 0;
+}
 
 -- the sums with an allocation
 abbrev pub with_alloc : Life → ℕ → ℕ → Life
@@ -17,13 +26,16 @@ with_alloc life size time = record {
   calls = life.calls + 1;
   began = life.began + time;
   ended = life.ended;
-  most_bytes = if nat_lt life.most_bytes (life.live + size) then life.live + size else life.most_bytes;
-  most_blocks = if nat_lt life.most_bytes (life.live + size) then life.blocks + 1 else life.most_blocks;
+  most_bytes = if nat_lt life.most_bytes (life.live + size) then life.live + size
+      else life.most_bytes;
+  most_blocks = if nat_lt life.most_bytes (life.live + size) then life.blocks + 1
+      else life.most_blocks;
 }
 
 -- the sums with a free
 abbrev pub with_free : Life → ℕ → ℕ → Life
-with_free life size time = record life { live = life.live - size; blocks = life.blocks - 1; ended = life.ended + time }
+with_free life size time = record life
+    { live = life.live - size; blocks = life.blocks - 1; ended = life.ended + time }
 
 -- the figures after so many events
 abbrev pub figures_of : ℕ → Life → LifeFigures
@@ -41,7 +53,8 @@ figures_of events life = record {
 -- longer than if one had come at each event and none had gone
 pub record IsLife (life : Life) (events : ℕ) : Type 0 where
   pub lived : life.began ≤ life.ended + events * life.blocks
-  pub lived_within : 2 * (life.ended + events * life.blocks) + events ≤ 2 * life.began + events * events
+  pub lived_within : 2 * (life.ended + events * life.blocks) + events
+      ≤ 2 * life.began + events * events
   pub times_within : 2 * (life.began + life.ended) ≤ events * events + events
   pub live_within : life.live ≤ life.most_bytes
   pub most_within : life.most_bytes ≤ life.allocated

@@ -18,7 +18,8 @@ blocks_after stack k events = blocks_in stack (take k (counted events))
 pub record HasMost (bytes blocks stack : ℕ) (events : List Event) : Type 0 where
   pub moment : ℕ
   pub within : moment ≤ event_count events
-  pub greatest : (k : ℕ) → k ≤ event_count events → live_after stack k events ≤ live_after stack moment events
+  pub greatest : (k : ℕ) → k ≤ event_count events
+      → live_after stack k events ≤ live_after stack moment events
   pub least : (k : ℕ) → k < moment → live_after stack k events < live_after stack moment events
   pub bytes_are : bytes ≡ live_after stack moment events
   pub blocks_are : blocks ≡ blocks_after stack moment events
@@ -29,7 +30,8 @@ pub record HasMost (bytes blocks stack : ℕ) (events : List Event) : Type 0 whe
 pub record AreFiguresOf (figures : LifeFigures) (stack : ℕ) (events : List Event) : Type 0 where
   pub tb_is : figures.tb ≡ allocated_in stack events
   pub tbk_is : figures.tbk ≡ calls_in stack events
-  pub tl_is : figures.tl + alloc_times stack events ≡ free_times stack events + event_count events * figures.ebk
+  pub tl_is : figures.tl + alloc_times stack events
+      ≡ free_times stack events + event_count events * figures.ebk
   pub most : HasMost figures.mb figures.mbk stack events
   pub eb_is : figures.eb ≡ live_in stack events
   pub ebk_is : figures.ebk ≡ blocks_in stack events

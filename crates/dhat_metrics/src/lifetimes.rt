@@ -52,8 +52,10 @@ impl Lifetimes {
     pub fn grow_stack(&mut self) -> Result<u32, NoMemory>
         requires { length self.old.figures < 2 ^ 32 - 1 }
         ensures number { IfOk result (λ number. number ≡ length self.old.figures) }
-        ensures grown { OnOk result (self.new ≡ record self.old { figures = self.old.figures ++ no_figures ∷ [] }) }
-        ensures stands { (events : List Event) → StandsFor self.old events → StandsFor self.new events }
+        ensures grown { OnOk result
+            (self.new ≡ record self.old { figures = self.old.figures ++ no_figures ∷ [] }) }
+        ensures stands { (events : List Event) → StandsFor self.old events
+            → StandsFor self.new events }
         ensures unchanged { OnErr result (self.new ≡ self.old) }
         ensures sound { IsSound self.new }
     {
@@ -69,8 +71,10 @@ impl Lifetimes {
     pub fn apply(&mut self, event: Event)
         requires held { IsOfHeld self.old event }
         requires count { self.old.events < 2 ^ 32 }
-        requires possible { (events : List Event) × (StandsFor self.old events × ArePossible (events ++ event ∷ [])) }
-        ensures stands { (events : List Event) → StandsFor self.old events → StandsFor self.new (events ++ event ∷ []) }
+        requires possible { (events : List Event)
+            × (StandsFor self.old events × ArePossible (events ++ event ∷ [])) }
+        ensures stands { (events : List Event) → StandsFor self.old events
+            → StandsFor self.new (events ++ event ∷ []) }
         ensures changes { Changes self.old self.new event }
         ensures counted { IsTrue (is_counted event) → self.new.events ≡ self.old.events + 1 }
         ensures tick { IsTick event → self.new ≡ self.old }
@@ -95,7 +99,8 @@ impl Lifetimes {
     pub fn figures(&self, stack: u32) -> LifeFigures
         requires { stack < length self.now.figures }
         ensures value { result ≡ figures_at self.now stack }
-        ensures figures { (events : List Event) → StandsFor self.now events → AreFiguresOf result stack events }
+        ensures figures { (events : List Event) → StandsFor self.now events
+            → AreFiguresOf result stack events }
         ensures sound { IsSound self.now }
     {
         self.lives[stack as usize].figures(self.events)

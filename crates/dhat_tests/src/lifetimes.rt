@@ -63,7 +63,9 @@ fn start_lifetimes(rt: &impl Abort, alloc: Global) -> Result<Lifetimes, Fail>
 /// Both, of no events.
 fn start(rt: &impl Abort, alloc: Global, infos: [(u32, u64); 2]) -> Result<Both, Fail>
     ensures three { IfOk result (λ both. length both.lifetimes.figures ≡ 3) }
-    ensures same { IfOk result (λ both. (events : List Event) × (ledger_spec.StandsFor both.ledger events × life_spec.StandsFor both.lifetimes events)) }
+    ensures same { IfOk result
+        (λ both. (events : List Event)
+        × (ledger_spec.StandsFor both.ledger events × life_spec.StandsFor both.lifetimes events)) }
 {
     let ledger = start_ledger(rt, alloc, infos)?;
     let lifetimes = start_lifetimes(rt, alloc)?;
@@ -74,9 +76,13 @@ fn start(rt: &impl Abort, alloc: Global, infos: [(u32, u64); 2]) -> Result<Both,
 fn take(rt: &impl Abort, both: &mut Both, event: Event)
     requires held { IsHeld both.old.ledger event }
     requires stack { IsOfHeld both.old.lifetimes event }
-    requires same { (events : List Event) × (ledger_spec.StandsFor both.old.ledger events × life_spec.StandsFor both.old.lifetimes events) }
+    requires same { (events : List Event)
+        × (ledger_spec.StandsFor both.old.ledger events
+        × life_spec.StandsFor both.old.lifetimes events) }
     ensures stacks { length both.new.lifetimes.figures ≡ length both.old.lifetimes.figures }
-    ensures same { (events : List Event) × (ledger_spec.StandsFor both.new.ledger events × life_spec.StandsFor both.new.lifetimes events) }
+    ensures same { (events : List Event)
+        × (ledger_spec.StandsFor both.new.ledger events
+        × life_spec.StandsFor both.new.lifetimes events) }
 {
     assert!(rt; both.ledger.totals().events < 100);
     assert_eq!(rt; both.ledger.check(event), Ok(()));
@@ -87,9 +93,13 @@ fn take(rt: &impl Abort, both: &mut Both, event: Event)
 /// Takes a step in both.
 fn take_step(rt: &impl Abort, both: &mut Both, step: Step)
     requires three { length both.old.lifetimes.figures ≡ 3 }
-    requires same { (events : List Event) × (ledger_spec.StandsFor both.old.ledger events × life_spec.StandsFor both.old.lifetimes events) }
+    requires same { (events : List Event)
+        × (ledger_spec.StandsFor both.old.ledger events
+        × life_spec.StandsFor both.old.lifetimes events) }
     ensures three { length both.new.lifetimes.figures ≡ 3 }
-    ensures same { (events : List Event) × (ledger_spec.StandsFor both.new.ledger events × life_spec.StandsFor both.new.lifetimes events) }
+    ensures same { (events : List Event)
+        × (ledger_spec.StandsFor both.new.ledger events
+        × life_spec.StandsFor both.new.lifetimes events) }
 {
     let (Step::Alloc(info) | Step::Free(info)) = step else {
         take(rt, both, Event::Tick { ms: 5 });

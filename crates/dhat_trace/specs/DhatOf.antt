@@ -35,12 +35,15 @@ heap_profile cmd te tg pps ftbl = record {
 -- the profile with the points of these stacks, which have these figures
 unfoldable pub profile_with : TableState → ℕ → ℕ → (ℕ → PointFigures) → List ℕ → Dhat
 profile_with tables te tg figures stacks =
-    heap_profile (command_text tables.command) te tg (points_of (table_of tables stacks) tables figures stacks) (table_of tables stacks)
+    heap_profile (command_text tables.command) te tg
+    (points_of (table_of tables stacks) tables figures stacks) (table_of tables stacks)
 
 -- the profile with the points of all stacks that allocated
 abbrev pub profile_of : TableState → ℕ → ℕ → (ℕ → PointFigures) → Dhat
-profile_of tables te tg figures = profile_with tables te tg figures (called figures (length tables.nodes + 1))
+profile_of tables te tg figures = profile_with tables te tg figures
+    (called figures (length tables.nodes + 1))
 
 -- the profile of a trace with these tables and events
 unfoldable pub dhat_of : TableState → List Event → Dhat
-dhat_of tables events = profile_of tables (event_count events) (peak_moment events) (figures_in events)
+dhat_of tables events = profile_of tables (event_count events) (peak_moment events)
+    (figures_in events)

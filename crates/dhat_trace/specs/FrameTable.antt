@@ -17,11 +17,13 @@ profile_frame tables at = utf8_text (frame_text Addressed tables at)
 
 -- the texts of the frames of a stack, from the innermost on
 unfoldable pub frame_texts : TableState → ℕ → List (List ℕ)
-frame_texts tables stack = map (profile_frame tables) (stack_frames tables.instructions tables.nodes stack)
+frame_texts tables stack = map (profile_frame tables)
+    (stack_frames tables.instructions tables.nodes stack)
 
 -- the table for some stacks: the root, and then each text of their frames where it first comes
 unfoldable pub table_of : TableState → List ℕ → List (List ℕ)
-table_of tables stacks = without_repeats bytes_eq (codes "[root]" ∷ flat_map (frame_texts tables) stacks)
+table_of tables stacks = without_repeats bytes_eq
+    (codes "[root]" ∷ flat_map (frame_texts tables) stacks)
 
 -- the place of a text in a table
 abbrev pub place_in : List (List ℕ) → List ℕ → ℕ
@@ -33,10 +35,13 @@ places_in table texts = map (place_in table) texts
 
 -- the new table has each text of the old one at its place
 abbrev pub Keeps : List (List ℕ) → List (List ℕ) → Type 0
-Keeps old new = (text : List ℕ) (number : ℕ) → number_of old text ≡ Some number → number_of new text ≡ Some number
+Keeps old new = (text : List ℕ) (number : ℕ) → number_of old text ≡ Some number
+    → number_of new text ≡ Some number
 
 -- the new table has the texts of the old one at their places, and those of these texts that it lacked behind them
-pub record AddsTexts (old : List (List ℕ)) (texts : List (List ℕ)) (new : List (List ℕ)) : Type 0 where
-  pub first_places : (came : List (List ℕ)) → old ≡ without_repeats bytes_eq came → new ≡ without_repeats bytes_eq (came ++ texts)
+pub record AddsTexts (old : List (List ℕ)) (texts : List (List ℕ)) (new : List (List ℕ)) : Type
+    0 where
+  pub first_places : (came : List (List ℕ)) → old ≡ without_repeats bytes_eq came
+      → new ≡ without_repeats bytes_eq (came ++ texts)
   pub keeps : Keeps old new
   pub none_lost : length old ≤ length new

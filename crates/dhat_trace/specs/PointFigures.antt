@@ -36,12 +36,14 @@ peak_moment events = first_greatest (totals (counted events))
 
 -- the least number of events after which a stack has the most bytes
 abbrev pub most_moment : List Event → ℕ → ℕ
-most_moment events stack = first_greatest (map (λ k. live_after stack k events) (range_with_len 0 (event_count events + 1)))
+most_moment events stack = first_greatest
+    (map (λ k. live_after stack k events) (range_with_len 0 (event_count events + 1)))
 
 -- how long the blocks of a stack lived together: from the time of the event that allocated a block to that of the one that
 -- freed it, or to that of the last event
 abbrev pub lived : List Event → ℕ → ℕ
-lived events stack = free_times stack events + event_count events * blocks_in stack events - alloc_times stack events
+lived events stack = free_times stack events
+    + event_count events * blocks_in stack events - alloc_times stack events
 
 -- the figures of a stack in a list of events
 abbrev pub figures_in : List Event → ℕ → PointFigures

@@ -27,10 +27,13 @@ point_of table tables figures stack = record {
 
 -- the points of stacks
 abbrev pub points_of : List (List ℕ) → TableState → (ℕ → PointFigures) → List ℕ → List Point
-points_of table tables figures stacks = map (λ stack. point_of table tables (figures stack) stack) stacks
+points_of table tables figures stacks = map (λ stack. point_of table tables (figures stack) stack)
+    stacks
 
 -- the table is that of these stacks, and the points are theirs, with the table and with each that comes of it
-pub record ArePoints (tables : TableState) (figures : ℕ → PointFigures) (stacks : List ℕ) (table : List (List ℕ)) (points : List Point) : Type 0 where
+pub record ArePoints (tables : TableState) (figures : ℕ → PointFigures) (stacks : List ℕ)
+    (table : List (List ℕ)) (points : List Point) : Type 0 where
   pub table_is : table ≡ table_of tables stacks
-  pub points_are : (later : List (List ℕ)) → Keeps table later → points ≡ points_of later tables figures stacks
+  pub points_are : (later : List (List ℕ)) → Keeps table later
+      → points ≡ points_of later tables figures stacks
   pub sound : All (IsSoundPoint true false (length table)) points

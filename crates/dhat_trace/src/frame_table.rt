@@ -41,9 +41,13 @@ impl FrameTable {
     /// The places of the frames of a stack, from the innermost on. A text that is new comes to the end of the table.
     pub(crate) fn places_of(&mut self, tables: &Tables, stack: u32) -> Result<FrameList, NoMemory>
         requires held { stack ≤ length tables.now.nodes }
-        ensures added { OnOk result (AddsTexts self.old.texts (frame_texts tables.now stack) self.new.texts) }
-        ensures places { IfOk result (λ places. (table : List (List ℕ)) → Keeps self.new.texts table → places ≡ places_in table (frame_texts tables.now stack)) }
-        ensures within { IfOk result (λ places. All (λ place. place < length self.new.texts) places) }
+        ensures added { OnOk result
+            (AddsTexts self.old.texts (frame_texts tables.now stack) self.new.texts) }
+        ensures places { IfOk result
+            (λ places. (table : List (List ℕ)) → Keeps self.new.texts table
+            → places ≡ places_in table (frame_texts tables.now stack)) }
+        ensures within { IfOk result
+            (λ places. All (λ place. place < length self.new.texts) places) }
     {
         tables.frames_into(stack, &mut self.frames)?;
         let mut places = FrameList::new(self.alloc);
@@ -79,8 +83,11 @@ fn push_places(
 ) -> Result<(), NoMemory>
     requires frames { All (λ at. IsFrame tables.now at) frames.now }
     requires empty { places.old ≡ [] }
-    ensures added { OnOk result (AddsTexts texts.old (map (profile_frame tables.now) frames.now) texts.new) }
-    ensures places { OnOk result ((table : List (List ℕ)) → Keeps texts.new table → places.new ≡ places_in table (map (profile_frame tables.now) frames.now)) }
+    ensures added { OnOk result
+        (AddsTexts texts.old (map (profile_frame tables.now) frames.now) texts.new) }
+    ensures places { OnOk result
+        ((table : List (List ℕ)) → Keeps texts.new table
+        → places.new ≡ places_in table (map (profile_frame tables.now) frames.now)) }
     ensures within { OnOk result (All (λ place. place < length texts.new) places.new) }
 {
     'each_frame: for at in frames {
@@ -97,8 +104,10 @@ fn place_of(
     text: &mut Vec<u8>,
 ) -> Result<u64, NoMemory>
     requires frame { IsFrame tables.now at.now }
-    ensures added { OnOk result (AddsTexts texts.old (profile_frame tables.now at.now ∷ []) texts.new) }
-    ensures place { IfOk result (λ place. number_of texts.new (profile_frame tables.now at.now) ≡ Some (place + 1)) }
+    ensures added { OnOk result
+        (AddsTexts texts.old (profile_frame tables.now at.now ∷ []) texts.new) }
+    ensures place { IfOk result
+        (λ place. number_of texts.new (profile_frame tables.now at.now) ≡ Some (place + 1)) }
     ensures within { IfOk result (λ place. place < length texts.new) }
 {
     text.clear();

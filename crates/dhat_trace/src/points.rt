@@ -33,8 +33,10 @@ pub(crate) fn all_points(
     requires peaks { peaks.now.ledger.stacks ≡ length tables.now.nodes + 1 }
     requires lifetimes { length lifetimes.now.figures ≡ length tables.now.nodes + 1 }
     requires root { table.old.texts ≡ codes "[root]" ∷ [] }
-    ensures points { IfOk result (λ points. let figures = figures_spec.figures_of peaks.now lifetimes.now in
-        ArePoints tables.now figures (called figures (length tables.now.nodes + 1)) table.new.texts points) }
+    ensures points { IfOk result
+        (λ points. let figures = figures_spec.figures_of peaks.now lifetimes.now in
+        ArePoints tables.now figures (called figures (length tables.now.nodes + 1)) table.new.texts
+        points) }
 {
     let mut points = Points::new(alloc);
     'each_stack: for stack in 0..tables.stacks() {

@@ -36,8 +36,12 @@ pub fn trace_profile(
     requires peaks { peaks.now.ledger.stacks ≡ length tables.now.nodes + 1 }
     requires lifetimes { length lifetimes.now.figures ≡ length tables.now.nodes + 1 }
     requires few { 4 * peaks.now.ledger.totals.events + peaks.now.ledger.stacks < 5 * (2 ^ 32 - 1) }
-    ensures profile { IfOk result (λ dhat. dhat ≡ profile_of tables.now peaks.now.ledger.totals.events peaks.now.moment (figures_of peaks.now lifetimes.now)) }
-    ensures trace { IfOk result (λ dhat. (events : List Event) → peak_spec.StandsFor peaks.now events → life_spec.StandsFor lifetimes.now events
+    ensures profile { IfOk result
+        (λ dhat. dhat ≡ profile_of tables.now peaks.now.ledger.totals.events peaks.now.moment
+        (figures_of peaks.now lifetimes.now)) }
+    ensures trace { IfOk result
+        (λ dhat. (events : List Event) → peak_spec.StandsFor peaks.now events
+        → life_spec.StandsFor lifetimes.now events
         → dhat ≡ dhat_of tables.now events) }
     ensures writable { IfOk result (λ dhat. IsWritable dhat) }
 {

@@ -1,4 +1,5 @@
 pub mod PointFronts
+pub mod Numbers
 pub mod PointCosts
 pub mod Lines
 pub mod TreeText

@@ -10,7 +10,9 @@ use Rattle.hp_num.specs.Right.{right_aligned}
 -- what stands before a line's text: two blanks for each level, the share of the total, and the cost with commas
 unfoldable pub share_text : Scale → ℕ → ℕ → List ℕ
 share_text scale level cost =
-    right_aligned (2 * level) [] ++ (percent (hundredths_of cost scale.total) ++ (codes " (" ++ (decimal_with_commas cost ++ codes ") ")))
+    right_aligned (2 * level) []
+    ++ (percent (hundredths_of cost scale.total)
+    ++ (codes " (" ++ (decimal_with_commas cost ++ codes ") ")))
 
 -- the line of a cost on a level with a text
 unfoldable pub view_line : Scale → ℕ → ℕ → List ℕ → List ℕ
@@ -18,11 +20,13 @@ view_line scale level cost text = share_text scale level cost ++ (text ++ codes 
 
 -- how many places are gathered
 unfoldable pub places_text : ℕ → List ℕ
-places_text places = if places == 1 then codes "in 1 place below " else codes "in " ++ (decimal places ++ codes " places below ")
+places_text places = if places == 1 then codes "in 1 place below "
+    else codes "in " ++ (decimal places ++ codes " places below ")
 
 -- the line of so many places that are gathered
 unfoldable pub gathered_line : Scale → ℕ → ℕ → ℕ → List ℕ
-gathered_line scale level cost places = share_text scale level cost ++ (places_text places ++ (percent scale.threshold ++ codes "\n"))
+gathered_line scale level cost places = share_text scale level cost
+    ++ (places_text places ++ (percent scale.threshold ++ codes "\n"))
 
 -- the line of a cost on a level, by what is shown: a front by its last text
 abbrev pub shown_line : Scale → ℕ → ℕ → Shown → List ℕ

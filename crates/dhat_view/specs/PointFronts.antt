@@ -1,5 +1,5 @@
 -- The frames of a profile's points as lists of texts.
-use Rattle.std.specs.Prelude.{◌≡◌, ℕ, List, [], ◌∷◌, ◌++◌, map, slice_index_or}
+use Rattle.std.specs.Prelude.{ℕ, List, [], map, slice_index_or}
 use Rattle.dhat_json.specs.declared.profile.Point.{Point}
 use Rattle.dhat_json.specs.declared.profile.Dhat.{Dhat}
 use Rattle.dhat_json.specs.Shown.{shown}
@@ -15,7 +15,3 @@ lists_in table points = map (λ point. texts_at table point.fs) points
 -- the lists of a profile, whose texts are shown
 unfoldable pub point_fronts : Dhat → List (List (List ℕ))
 point_fronts dhat = lists_in (map shown dhat.ftbl) dhat.pps
-
--- the last list has these texts at its end too
-abbrev pub LastGains : List (List (List ℕ)) → List (List ℕ) → List (List (List ℕ)) → Type 0
-LastGains old texts new = (earlier : List (List (List ℕ))) (last : List (List ℕ)) → old ≡ earlier ++ last ∷ [] → new ≡ earlier ++ (last ++ texts) ∷ []

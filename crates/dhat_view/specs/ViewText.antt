@@ -12,7 +12,8 @@ use Rattle.dhat_view.specs.TreeText.{tree_text}
 
 -- the command and the number of points
 unfoldable pub points_text : Dhat → List ℕ
-points_text dhat = codes "command: " ++ (shown dhat.cmd ++ (codes "\npoints: " ++ (decimal (length dhat.pps) ++ codes "\n")))
+points_text dhat = codes "command: "
+    ++ (shown dhat.cmd ++ (codes "\npoints: " ++ (decimal (length dhat.pps) ++ codes "\n")))
 
 -- the sum of the figures, and an empty line
 unfoldable pub total_text : FigureKey → ℕ → List ℕ
@@ -26,4 +27,5 @@ head_text key dhat total = points_text dhat ++ total_text key total
 unfoldable pub view_text : FigureKey → ℕ → ℕ → Dhat → List ℕ
 view_text key threshold depth dhat =
     head_text key dhat (sum (point_costs key dhat))
-    ++ tree_text depth (record { total = sum (point_costs key dhat); threshold = threshold }) (costed (point_fronts dhat) (point_costs key dhat))
+    ++ tree_text depth (record { total = sum (point_costs key dhat); threshold = threshold })
+    (costed (point_fronts dhat) (point_costs key dhat))

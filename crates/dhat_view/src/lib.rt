@@ -1,7 +1,8 @@
 //! A DHAT profile as a tree on a terminal: what its points cost below each front of their frames. How a profile is read
 //! is `dhat_json`'s part, and how a tree of costs is built `cost_tree`'s.
 //!
-//! What it promises: `fronts_of` gives for each point of a profile the shown texts of its frames (`point_fronts`).
+//! What it promises: `fronts_of` gives for each point of a profile the shown texts of its frames (`point_fronts`), and
+//! `shown_table` the shown texts of a table under numbers (`AreNumbers`), each different one kept once.
 //! `put_view` appends the view of a profile (`view_text`): its head, and the tree of these lists with the points'
 //! figures of a key as costs, a line for each line of `cost_tree` but the first. `view_fault` says why a profile has no
 //! view: its points have no figures of the key, or these sum to more than 2^62. Both come exactly then (`refused`), take
@@ -10,7 +11,8 @@
 //! | File | Does |
 //! |---|---|
 //! | `view.rt` | the view: its head, and its tree |
-//! | `fronts.rt`, `sums.rt` | the points' frames as lists of texts; what the points cost together |
+//! | `fronts.rt`, `texts.rt` | the points' frames as lists of texts; shown texts under numbers |
+//! | `sums.rt` | what the points cost together |
 //! | `tree.rt`, `lines.rt` | the lines of the tree; one line |
 //! | `options.rt`, `fault.rt` | what is asked; why a profile has no view |
 #![tactic(auto)]
@@ -20,6 +22,7 @@ mod fronts;
 mod lines;
 mod options;
 mod sums;
+mod texts;
 mod tree;
 mod view;
 
@@ -27,4 +30,5 @@ pub use fault::ViewFault;
 pub use fronts::fronts_of;
 pub use options::ViewOptions;
 pub use sums::{figure_at, figures_sum};
+pub use texts::{ShownTexts, shown_table};
 pub use view::put_view;

@@ -18,7 +18,8 @@ pub(crate) fn put_line(
 ) -> Result<(), NoMemory>
     requires level { level ≤ 2 ^ 32 }
     requires part { cost ≤ scale.total }
-    ensures appended { OnOk result (out.new.items ≡ out.old.items ++ view_line scale level cost text.now) }
+    ensures appended { OnOk result
+        (out.new.items ≡ out.old.items ++ view_line scale level cost text.now) }
     ensures kept { Extends out.old.items out.new.items }
 {
     put_share(scale, level, cost, out)?;
@@ -37,7 +38,8 @@ pub(crate) fn put_gathered(
     requires level { level ≤ 2 ^ 32 }
     requires part { cost ≤ scale.total }
     requires threshold { scale.threshold ≤ 10000 }
-    ensures appended { OnOk result (out.new.items ≡ out.old.items ++ gathered_line scale level cost places) }
+    ensures appended { OnOk result
+        (out.new.items ≡ out.old.items ++ gathered_line scale level cost places) }
     ensures kept { Extends out.old.items out.new.items }
 {
     put_share(scale, level, cost, out)?;

@@ -26,7 +26,11 @@ pub(crate) fn put_tree(
     out: &mut Vec<u8>,
 ) -> Result<(), NoMemory>
     requires tree { (stacks : List Costed) × IsViewed sum tree.now stacks options.now.depth }
-    ensures appended { OnOk result ((stacks : List Costed) → IsViewed sum tree.now stacks options.now.depth → out.new.items ≡ out.old.items ++ tree_text options.now.depth (record { total = sum; threshold = options.now.threshold }) stacks) }
+    ensures appended { OnOk result
+        ((stacks : List Costed) → IsViewed sum tree.now stacks options.now.depth
+        → out.new.items ≡ out.old.items
+        ++ tree_text options.now.depth (record { total = sum; threshold = options.now.threshold })
+        stacks) }
     ensures kept { Extends out.old.items out.new.items }
 {
     let scale = Scale {
@@ -50,7 +54,8 @@ fn put_lines(
     requires threshold { scale.threshold ≤ 10000 }
     requires root { front_at tree.now 0 ≡ [] }
     requires written { All (IsWritten scale tree.now) lines.now }
-    ensures appended { OnOk result (out.new.items ≡ out.old.items ++ flat_map (text_in scale tree.now) lines.now) }
+    ensures appended { OnOk result
+        (out.new.items ≡ out.old.items ++ flat_map (text_in scale tree.now) lines.now) }
     ensures kept { Extends out.old.items out.new.items }
 {
     'each_line: for line in lines {
@@ -69,7 +74,8 @@ fn put_cost_line(
     requires threshold { scale.threshold ≤ 10000 }
     requires root { front_at tree.now 0 ≡ [] }
     requires written { IsWritten scale tree.now line.now }
-    ensures appended { OnOk result (out.new.items ≡ out.old.items ++ text_in scale tree.now line.now) }
+    ensures appended { OnOk result
+        (out.new.items ≡ out.old.items ++ text_in scale tree.now line.now) }
     ensures kept { Extends out.old.items out.new.items }
 {
     let level = line.level.saturating_sub(1);

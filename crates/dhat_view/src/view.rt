@@ -35,10 +35,14 @@ pub fn put_view(
     out: &mut Vec<u8>,
 ) -> Result<(), ViewFault>
     requires sound { IsSound dhat.now }
-    ensures appended { OnOk result (out.new.items ≡ out.old.items ++ view_text options.now.key options.now.threshold options.now.depth dhat.now) }
+    ensures appended { OnOk result
+        (out.new.items ≡ out.old.items
+        ++ view_text options.now.key options.now.threshold options.now.depth dhat.now) }
     ensures no_fault { OnOk result (view_fault options.now.key dhat.now ≡ None) }
-    ensures fault { IfErr result (λ fault. fault ≢ ViewFault.NoMemory → view_fault options.now.key dhat.now ≡ Some fault) }
-    ensures refused { (fault : ViewFault) → view_fault options.now.key dhat.now ≡ Some fault → result ≡ Err fault }
+    ensures fault { IfErr result
+        (λ fault. fault ≢ ViewFault.NoMemory → view_fault options.now.key dhat.now ≡ Some fault) }
+    ensures refused { (fault : ViewFault) → view_fault options.now.key dhat.now ≡ Some fault
+        → result ≡ Err fault }
     ensures unchanged { OnErr result (out.new.items ≡ out.old.items) }
 {
     if !dhat.has_figures(options.key) {
@@ -68,11 +72,14 @@ fn put_text(
     requires sound { IsSound dhat.now }
     requires total { total ≡ sum (point_costs options.now.key dhat.now) }
     requires within { total ≤ 2 ^ 62 }
-    ensures appended { OnOk result (out.new.items ≡ out.old.items ++ view_text options.now.key options.now.threshold options.now.depth dhat.now) }
+    ensures appended { OnOk result
+        (out.new.items ≡ out.old.items
+        ++ view_text options.now.key options.now.threshold options.now.depth dhat.now) }
     ensures kept { Extends out.old.items out.new.items }
 {
     put_head(options.key, dhat, total, out)?;
-    let tree = points_tree(alloc, options, dhat)?;
+    let fronts = fronts_of(alloc, dhat)?;
+    let tree = fronts_tree(alloc, options, dhat, &fronts)?;
     put_tree(alloc, options, total, &tree, out)
 }
 
@@ -108,26 +115,18 @@ fn put_total(key: FigureKey, total: u64, out: &mut Vec<u8>) -> Result<(), NoMemo
     put_bytes(out, b"\n\n")
 }
 
-/// The tree of the points' frames, with their figures as costs.
-fn points_tree(alloc: Global, options: &ViewOptions, dhat: &Dhat) -> Result<CostTree, NoMemory>
-    requires sound { IsSound dhat.now }
-    requires within { sum (point_costs options.now.key dhat.now) ≤ 2 ^ 62 }
-    ensures tree { IfOk result (λ tree. HasLines tree (costed (point_fronts dhat.now) (point_costs options.now.key dhat.now)) options.now.depth) }
-{
-    let fronts = fronts_of(alloc, dhat)?;
-    fronts_tree(alloc, options, dhat, &fronts)
-}
-
 /// The tree of these fronts, which are the points', with the points' figures as costs.
-fn fronts_tree(
+fn fronts_tree<'a>(
     alloc: Global,
     options: &ViewOptions,
     dhat: &Dhat,
-    fronts: &Fronts,
-) -> Result<CostTree, NoMemory>
+    fronts: &'a Fronts,
+) -> Result<CostTree<'a>, NoMemory>
     requires fronts { fronts.now ≡ point_fronts dhat.now }
     requires within { sum (point_costs options.now.key dhat.now) ≤ 2 ^ 62 }
-    ensures tree { IfOk result (λ tree. HasLines tree (costed (point_fronts dhat.now) (point_costs options.now.key dhat.now)) options.now.depth) }
+    ensures tree { IfOk result
+        (λ tree. HasLines tree
+        (costed (point_fronts dhat.now) (point_costs options.now.key dhat.now)) options.now.depth) }
 {
     let key = options.key;
     let depth = options.depth;

@@ -75,7 +75,7 @@ length-hexadecimal-le k n some fits small = hexadecimal_by_steps (λ m ds. (j : 
     more m ds l h (suc (suc j)) a b = omega (arith, length-append ds (last_digit m ∷ []), h (suc j) (omega arith) (omega arith))
 
 -- a digit written before the others stands before them
-digit_before : (buffer : List ℕ) (start digit : ℕ) → 0 < start → start ≤ length buffer → drop (start - 1) (set buffer (start - 1) digit) ≡ digit ∷ drop start buffer
+pub digit_before : (buffer : List ℕ) (start digit : ℕ) → 0 < start → start ≤ length buffer → drop (start - 1) (set buffer (start - 1) digit) ≡ digit ∷ drop start buffer
 digit_before buffer zero digit some within = absurd (omega arith)
 digit_before buffer (suc j) digit some within =
     ap (λ k. drop k (set buffer k digit)) {x = suc j - 1} {y = j} (omega arith) ∙ drop-cons (set buffer j digit) j 0 (omega (arith, length-set buffer j digit))

@@ -8,7 +8,8 @@ is_full_groups count = nat_lt 0 count && nat_eq (count % 3) 0
 -- the digits, with a comma after each that full groups of three follow
 unfoldable pub with_commas : List ℕ → List ℕ
 with_commas [] = []
-with_commas (digit ∷ digits) = if is_full_groups (length digits) then digit ∷ 44 ∷ with_commas digits else digit ∷ with_commas digits
+with_commas (digit ∷ digits) = if is_full_groups (length digits)
+    then digit ∷ 44 ∷ with_commas digits else digit ∷ with_commas digits
 
 -- the decimal text of n with its commas
 abbrev pub decimal_with_commas : ℕ → List ℕ

@@ -11,3 +11,4 @@ pub mod ParsedHex
 pub mod ParsedPercent
 pub mod Percent
 pub mod Right
+pub mod Spelled

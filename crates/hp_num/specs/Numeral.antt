@@ -5,4 +5,5 @@ use Rattle.std.specs.Char.{is_digit}
 
 -- 1 to `most` digits in the base, whose letters may be of either case, and nothing else
 abbrev pub is_numeral : ℕ → ℕ → List ℕ → Bool
-is_numeral base most text = nat_lt 0 (length text) && nat_le (length text) most && list_all (λ b. is_digit b base) text
+is_numeral base most text = nat_lt 0 (length text) && nat_le (length text) most
+    && list_all (λ b. is_digit b base) text

@@ -5,4 +5,5 @@ use Rattle.hp_num.specs.Numeral.{is_numeral}
 
 -- the number that the digits write, where the text is 1 to 20 of them and the number fits 64 bits, and else no number
 unfoldable pub parsed_dec : List ℕ → Option ℕ
-parsed_dec text = if is_numeral 10 20 text && nat_lt (digits_value 10 text) (2 ^ 64) then Some (digits_value 10 text) else None
+parsed_dec text = if is_numeral 10 20 text && nat_lt (digits_value 10 text) (2 ^ 64)
+    then Some (digits_value 10 text) else None

@@ -19,7 +19,8 @@ fraction_value rest = digits_value 10 (take 2 (drop 1 rest ++ (48 ∷ 48 ∷ [])
 -- the hundredths of a percent that a text of these two parts writes, where it may be one
 abbrev pub percent_of_parts : List ℕ → List ℕ → Option ℕ
 percent_of_parts whole rest =
-    if is_numeral 10 3 whole && is_fraction rest && nat_le (100 * digits_value 10 whole + fraction_value rest) 10000
+    if is_numeral 10 3 whole && is_fraction rest
+    && nat_le (100 * digits_value 10 whole + fraction_value rest) 10000
     then Some (100 * digits_value 10 whole + fraction_value rest)
     else None
 

@@ -7,4 +7,5 @@ two_digits n = if nat_lt n 10 then 48 ∷ decimal n else decimal n
 
 -- the whole percents, a point, the hundredths that are left, and '%'
 unfoldable pub percent : ℕ → List ℕ
-percent hundredths = two_digits (hundredths / 100) ++ (46 ∷ (two_digits (hundredths % 100) ++ 37 ∷ []))
+percent hundredths = two_digits (hundredths / 100)
+    ++ (46 ∷ (two_digits (hundredths % 100) ++ 37 ∷ []))

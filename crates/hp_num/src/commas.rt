@@ -20,7 +20,8 @@ pub fn put_commas(out: &mut Vec<u8>, n: u64) -> Result<(), NoMemory>
     ensures appended { OnOk result (out.new.items ≡ out.old.items ++ decimal_with_commas n) }
     ensures unchanged { OnErr result (out.new.items ≡ out.old.items) }
     ensures capacity { vec_capacity out.old ≤ vec_capacity out.new }
-    ensures room { vec_len out.old + length (decimal_with_commas n) ≤ vec_capacity out.old → IsOk result }
+    ensures room { vec_len out.old + length (decimal_with_commas n) ≤ vec_capacity out.old
+        → IsOk result }
 
     // The text.
     ensures not_empty { 0 < length (decimal_with_commas n) }
@@ -67,6 +68,7 @@ fn are_full_groups(count: usize) -> bool
 pub fn comma_texts()
     ensures not_empty { (n : ℕ) → n < 2 ^ 64 → 0 < length (decimal_with_commas n) }
     ensures at_most_26 { (n : ℕ) → n < 2 ^ 64 → length (decimal_with_commas n) ≤ 26 }
-    ensures bytes { (n : ℕ) → n < 2 ^ 64 → All (λ b. IsDecimalDigit b ⊎ b ≡ 44) (decimal_with_commas n) }
+    ensures bytes { (n : ℕ) → n < 2 ^ 64
+        → All (λ b. IsDecimalDigit b ⊎ b ≡ 44) (decimal_with_commas n) }
     ensures one_line { (n : ℕ) → n < 2 ^ 64 → All (λ b. b ≢ 10) (decimal_with_commas n) }
 {}

@@ -48,7 +48,8 @@ pub fn put_dec(out: &mut Vec<u8>, n: u64) -> Result<(), NoMemory>
     ensures at_most_20 { length (decimal n) ≤ 20 }
     ensures digits { All IsDecimalDigit (decimal n) }
     ensures reads_back { parsed_dec (decimal n) ≡ Some n }
-    ensures shortest { (text : List ℕ) → parsed_dec text ≡ Some n → length (decimal n) ≤ length text }
+    ensures shortest { (text : List ℕ) → parsed_dec text ≡ Some n
+        → length (decimal n) ≤ length text }
 {
     let mut buffer = Buffer::new();
     put_bytes(out, buffer.format(n).as_bytes())

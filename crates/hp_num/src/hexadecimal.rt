@@ -48,19 +48,25 @@ pub fn put_hex(out: &mut Vec<u8>, n: u64) -> Result<(), NoMemory>
     ensures at_most_16 { length (hexadecimal n) ≤ 16 }
     ensures digits { All IsLowerHexDigit (hexadecimal n) }
     ensures reads_back { parsed_hex (hexadecimal n) ≡ Some n }
-    ensures shortest { (text : List ℕ) → parsed_hex text ≡ Some n → length (hexadecimal n) ≤ length text }
+    ensures shortest { (text : List ℕ) → parsed_hex text ≡ Some n
+        → length (hexadecimal n) ≤ length text }
 {
     let mut buffer = [0; MAX_DIGITS];
-    let start = write_digits(&mut buffer, n);
+    let start = write_digits(&mut buffer, MAX_DIGITS, n);
     put_bytes(out, &buffer[start..])
 }
 
-// Writes the digits of `n` at the end of `buffer`, and answers where they start.
-fn write_digits(buffer: &mut [u8; MAX_DIGITS], n: u64) -> usize
-    ensures start { result < 16 }
-    ensures written { drop result buffer.new ≡ hexadecimal n }
+// Writes the digits of `n` before a place of `buffer`, and answers where they start.
+#[inline(always)]
+pub(crate) fn write_digits(buffer: &mut [u8], end: usize, n: u64) -> usize
+    requires held { end ≤ length buffer.old }
+    requires room { 16 ≤ end }
+    ensures start { result < end }
+    ensures most { end ≤ result + 16 }
+    ensures len { length buffer.new ≡ length buffer.old }
+    ensures written { drop result buffer.new ≡ hexadecimal n ++ drop end buffer.old }
 {
-    let mut start = MAX_DIGITS;
+    let mut start = end;
     let mut rest = n;
     'digits: loop {
         start -= 1;

@@ -47,7 +47,8 @@ fn point_place(text: &[u8]) -> usize
 
 // The hundredths that a point and 1 or 2 digits write, or nothing.
 fn parse_fraction(rest: &[u8]) -> Option<u64>
-    ensures parsed { result ≡ (if is_fraction rest.now then Some (fraction_value rest.now) else None) }
+    ensures parsed { result
+        ≡ (if is_fraction rest.now then Some (fraction_value rest.now) else None) }
     ensures small { IfSome result (λ hundredths. hundredths < 100) }
 {
     match rest.len() {
@@ -84,7 +85,8 @@ pub fn put_percent(out: &mut Vec<u8>, hundredths: u64) -> Result<(), NoMemory>
     ensures appended { OnOk result (out.new.items ≡ out.old.items ++ percent hundredths) }
     ensures unchanged { OnErr result (out.new.items ≡ out.old.items) }
     ensures capacity { vec_capacity out.old ≤ vec_capacity out.new }
-    ensures room { vec_len out.old + length (percent hundredths) ≤ vec_capacity out.old → IsOk result }
+    ensures room { vec_len out.old + length (percent hundredths) ≤ vec_capacity out.old
+        → IsOk result }
 
     // The text.
     ensures at_least_6 { 6 ≤ length (percent hundredths) }
@@ -120,5 +122,6 @@ fn digit(value: u32) -> u8
 pub fn percent_texts()
     ensures at_least_6 { (hundredths : ℕ) → hundredths ≤ 10000 → 6 ≤ length (percent hundredths) }
     ensures at_most_7 { (hundredths : ℕ) → hundredths ≤ 10000 → length (percent hundredths) ≤ 7 }
-    ensures one_line { (hundredths : ℕ) → hundredths ≤ 10000 → All (λ b. b ≢ 10) (percent hundredths) }
+    ensures one_line { (hundredths : ℕ) → hundredths ≤ 10000
+        → All (λ b. b ≢ 10) (percent hundredths) }
 {}

@@ -10,10 +10,12 @@ use crate::memory::NoMemory;
 ///
 /// The call can't fail where `out` has room for the text.
 pub fn put_right(out: &mut Vec<u8>, bytes: &[u8], width: usize) -> Result<(), NoMemory>
-    ensures appended { OnOk result (out.new.items ≡ out.old.items ++ right_aligned width bytes.now) }
+    ensures appended { OnOk result
+        (out.new.items ≡ out.old.items ++ right_aligned width bytes.now) }
     ensures unchanged { OnErr result (out.new.items ≡ out.old.items) }
     ensures capacity { vec_capacity out.old ≤ vec_capacity out.new }
-    ensures room { vec_len out.old + max width (length bytes.now) ≤ vec_capacity out.old → IsOk result }
+    ensures room { vec_len out.old + max width (length bytes.now) ≤ vec_capacity out.old
+        → IsOk result }
 
     // The text.
     ensures text_len { length (right_aligned width bytes.now) ≡ max width (length bytes.now) }

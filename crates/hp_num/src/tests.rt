@@ -2,8 +2,8 @@
 
 use crate::{
     NoMemory, Text, comma_texts, decimal_texts, hexadecimal_texts, hundredths, parse_dec,
-    parse_hex, parse_percent, percent_texts, put_bytes, put_commas, put_dec, put_hex, put_percent,
-    put_right,
+    parse_hex, parse_percent, percent_texts, put_bytes, put_commas, put_dec, put_hex,
+    put_number_line, put_percent, put_right,
 };
 use std::alloc::{AllocError, Global};
 use std::process::Abort;
@@ -173,6 +173,20 @@ fn bytes_to_the_right(rt: HostRuntime) -> Result<(), NoMemory> {
     for (bytes, width, want) in &cases {
         right_is(&rt, rt.alloc(), bytes, *width, want)?;
     }
+    Ok(())
+}
+
+#[test]
+fn lines_of_numbers(rt: HostRuntime) -> Result<(), NoMemory> {
+    let mut out = Vec::new(rt.alloc());
+    put_number_line(&mut out, b'+', &[0x40, 0, u64::MAX])?;
+    put_number_line(&mut out, b'-', &[u64::MAX])?;
+    put_number_line(&mut out, b't', &[0xa0, 1])?;
+    put_number_line(&mut out, b'A', &[])?;
+    assert_eq!(rt;
+        out.as_slice(),
+        b"+ 40 0 ffffffffffffffff\n- ffffffffffffffff\nt a0 1\nA\n".as_slice()
+    );
     Ok(())
 }
 

@@ -7,9 +7,11 @@ use Rattle.hp_outside.specs.declared.line_end.Judgement.TheVariants.{Line, LineT
 -- what bytes tell of the next line, where a line may have so many bytes and the file so many more
 abbrev pub IsJudgement : ℕ → ℕ → List ℕ → Judgement → Type 0
 IsJudgement line room kept (Line count) =
-    (position_or_len is_line_feed kept ≡ count) × (count < length kept) × (count ≤ line) × (count < room)
+    (position_or_len is_line_feed kept ≡ count) × (count < length kept) × (count ≤ line)
+    × (count < room)
 IsJudgement line room kept LineTooLong = (line < position_or_len is_line_feed kept) × (line < room)
 IsJudgement line room kept InputTooLong =
-    (room < length kept) × (room ≤ position_or_len is_line_feed kept) × (line < room → position_or_len is_line_feed kept ≤ line)
+    (room < length kept) × (room ≤ position_or_len is_line_feed kept)
+    × (line < room → position_or_len is_line_feed kept ≤ line)
 IsJudgement line room kept Open =
     (position_or_len is_line_feed kept ≡ length kept) × (length kept ≤ line) × (length kept ≤ room)

@@ -13,7 +13,8 @@ put_first byte (line ∷ lines) = (byte ∷ line) ∷ lines
 -- the lines of bytes: the pieces between line feeds, of which a last one that is empty is none
 abbrev pub lines_of : List ℕ → List (List ℕ)
 lines_of [] = []
-lines_of (byte ∷ bytes) = if is_line_feed byte then [] ∷ lines_of bytes else put_first byte (lines_of bytes)
+lines_of (byte ∷ bytes) = if is_line_feed byte then [] ∷ lines_of bytes
+    else put_first byte (lines_of bytes)
 
 -- the first line of bytes, where there is one
 abbrev pub first_line : List ℕ → List ℕ

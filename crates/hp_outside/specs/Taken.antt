@@ -11,7 +11,8 @@ LosesFront old new most = (front : List ℕ) × (length front ≤ most) × (old 
 
 -- an output gained a front of these bytes, and not all of them
 abbrev pub GainsCutFront : Option (List ℕ) → Option (List ℕ) → List ℕ → Type 0
-GainsCutFront old new bytes = (count : ℕ) × (count < length bytes) × (new ≡ append_known old (take count bytes))
+GainsCutFront old new bytes = (count : ℕ) × (count < length bytes)
+    × (new ≡ append_known old (take count bytes))
 
 -- an output gained a front of these bytes
 abbrev pub GainsFront : Option (List ℕ) → Option (List ℕ) → List ℕ → Type 0

@@ -55,8 +55,10 @@ impl Model for LineReader {
       span = r.window.span;
     } };
 
-    ghost invariant = { λ r. (r.window.most ≡ r.limits.line) × (r.passed + length r.window.kept ≤ r.limits.input + 1)
-        × (r.passed ≤ r.limits.input) × (r.number ≤ (if r.line_ended then r.passed else r.passed + 1))
+    ghost invariant = { λ r.
+        (r.window.most ≡ r.limits.line) × (r.passed + length r.window.kept ≤ r.limits.input + 1)
+        × (r.passed ≤ r.limits.input)
+        × (r.number ≤ (if r.line_ended then r.passed else r.passed + 1))
         × (r.ended ≡ false → r.line_ended ≡ true) × (0 < length r.window.kept → r.line_ended ≡ true)
         × (r.ended ≡ true → r.passed + length r.window.kept ≤ r.limits.input) };
 }
@@ -68,7 +70,8 @@ impl LineReader {
     pub fn new(alloc: Global, limits: &Limits) -> Result<LineReader, NoMemory>
         ensures input { IfOk result (λ reader. reader.input ≡ limits.now.input) }
         ensures line { IfOk result (λ reader. reader.line_limit ≡ limits.now.line) }
-        ensures new { IfOk result (λ reader. (reader.kept ≡ []) × (reader.passed ≡ 0) × (reader.ended ≡ false)
+        ensures new { IfOk result
+            (λ reader. (reader.kept ≡ []) × (reader.passed ≡ 0) × (reader.ended ≡ false)
             × (reader.number ≡ 0) × (reader.given ≡ 0) × (reader.fault ≡ None)) }
         ensures line_ended { IfOk result (λ reader. reader.line_ended ≡ true) }
     {
@@ -88,7 +91,15 @@ impl LineReader {
     /// forgets an earlier fault. Bytes that were taken and not given are dropped, and the count of
     /// lines begins again at 0.
     pub fn start(&mut self)
-        ensures { self.new ≡ record self.old { passed = 0; kept = []; ended = false; number = 0; given = 0; line_ended = true; fault = None } }
+        ensures { self.new ≡ record self.old {
+          passed = 0;
+          kept = [];
+          ended = false;
+          number = 0;
+          given = 0;
+          line_ended = true;
+          fault = None;
+        } }
     {
         self.window.clear();
         self.passed = 0;
@@ -126,7 +137,8 @@ impl LineReader {
     /// taken.
     pub fn next<S: Store>(&mut self, store: &mut S) -> Result<Option<Span>, LineFault>
         requires current { IsTrue (S.current store.old) }
-        requires ended { self.old.ended ≡ true → WhereTold (S.left store.old) (λ bytes. bytes ≡ []) }
+        requires ended { self.old.ended ≡ true
+            → WhereTold (S.left store.old) (λ bytes. bytes ≡ []) }
         ensures files { S.files store.new ≡ S.files store.old }
         ensures current { S.current store.new ≡ S.current store.old }
         ensures opens { S.opens store.new ≡ S.opens store.old }
@@ -142,39 +154,49 @@ impl LineReader {
             → WhereTold (prepend_known self.old.kept (S.left store.old))
             (λ rest. GivesLine self.old.passed rest self.new.passed
             (prepend_known self.new.kept (S.left store.new)) self.new.line result) }
-        ensures decided { ¬ (IsUndecided self.old.input self.old.line_limit self.old.passed self.old.kept)
+        ensures decided { ¬ (IsUndecided self.old.input self.old.line_limit self.old.passed
+            self.old.kept)
             → store.new ≡ store.old }
         ensures unread { self.old.ended ≡ true → store.new ≡ store.old }
         ensures failed { self.old.fault ≡ None → result ≡ Err LineFault.ReadFailed
             → Rose (S.faults store.old) (S.faults store.new) }
-        ensures sound { result ≢ Err LineFault.ReadFailed → S.faults store.new ≡ S.faults store.old }
+        ensures sound { result ≢ Err LineFault.ReadFailed
+            → S.faults store.new ≡ S.faults store.old }
         ensures kept_fault { IfErr result (λ fault. self.new.fault ≡ Some fault) }
         ensures no_fault { OnOk result (self.new.fault ≡ None) }
         ensures span { IfOk result (λ place. IfSome place (λ span. self.new.span ≡ span)) }
-        ensures number { IfOk result (λ place. self.new.number ≡ self.old.number + (if is_some place then 1 else 0)) }
-        ensures given { IfOk result (λ place. IfSome place (λ span. self.new.given ≡ self.old.given + length self.new.line + 1)) }
+        ensures number { IfOk result
+            (λ place. self.new.number ≡ self.old.number + (if is_some place then 1 else 0)) }
+        ensures given { IfOk result
+            (λ place. IfSome place
+            (λ span. self.new.given ≡ self.old.given + length self.new.line + 1)) }
         ensures bounded { self.new.given ≤ self.new.input + 1 }
         ensures within { self.new.passed ≤ self.new.input }
         ensures moved { IfOk result (λ place. IfSome place (λ span.
             (self.new.passed ≡ self.old.passed + length self.new.line + 1)
-            ⊎ ((self.new.passed ≡ self.old.passed + length self.new.line) × (self.new.ended ≡ true)))) }
-        ensures short { IfOk result (λ place. IfSome place (λ span. length self.new.line ≤ self.new.line_limit)) }
+            ⊎ ((self.new.passed ≡ self.old.passed + length self.new.line)
+            × (self.new.ended ≡ true)))) }
+        ensures short { IfOk result
+            (λ place. IfSome place (λ span. length self.new.line ≤ self.new.line_limit)) }
         ensures one_line { IfOk result (λ place. IfSome place (λ span. IsLineText self.new.line)) }
 
         // Whether a line feed ends the line: what is told of the file says so, and how far the reader moved.
         ensures line_ended { self.old.fault ≡ None
             → WhereTold (prepend_known self.old.kept (S.left store.old))
-            (λ rest. IfOk result (λ place. IfSome place (λ span. self.new.line_ended ≡ has_line_feed rest))) }
+            (λ rest. IfOk result
+            (λ place. IfSome place (λ span. self.new.line_ended ≡ has_line_feed rest))) }
         ensures step { IfOk result (λ place. IfSome place (λ span. self.new.passed
             ≡ self.old.passed + length self.new.line + (if self.new.line_ended then 1 else 0))) }
-        ensures last { self.new.line_ended ≡ false → (self.new.ended ≡ true) × (self.new.kept ≡ []) }
+        ensures last { self.new.line_ended ≡ false
+            → (self.new.ended ≡ true) × (self.new.kept ≡ []) }
         ensures same_end { ¬ IsLine result → self.new.line_ended ≡ self.old.line_ended }
 
         // Where no line is given, nothing of the file is passed over or lost; a failed read comes where the bytes that
         // were taken show neither the next line nor a fault of its length.
         ensures unmoved { ¬ IsLine result → (self.new.passed ≡ self.old.passed)
             × (self.new.number ≡ self.old.number) × (self.new.given ≡ self.old.given)
-            × (prepend_known self.new.kept (S.left store.new) ≡ prepend_known self.old.kept (S.left store.old)) }
+            × (prepend_known self.new.kept (S.left store.new)
+            ≡ prepend_known self.old.kept (S.left store.old)) }
         ensures place { self.old.fault ≡ None → result ≡ Err LineFault.ReadFailed
             → IsUndecided self.new.input self.new.line_limit self.new.passed self.new.kept }
         ensures end_seen { IfOk result (λ place. IfNone place (self.new.ended ≡ true)) }
@@ -217,6 +239,13 @@ impl LineReader {
         self.line_ended
     }
 
+    /// The most bytes that a line may have.
+    pub fn line_limit(&self) -> u32
+        ensures { result ≡ self.now.line_limit }
+    {
+        self.limits.line
+    }
+
     /// Lends the bytes that were taken and not yet given, as many as the limit of the file allows. It is for whole lines
     /// of fewer than 16 bytes each, which `pass` then drops; it is empty where a line may have fewer bytes than those,
     /// and after a fault.
@@ -257,9 +286,12 @@ impl LineReader {
         ensures span { self.new.span ≡ self.old.span }
 
         // Whatever the store has left: the lines of the file's rest are those that are passed, and those of what is left.
-        ensures lines { (lines : List (List ℕ)) → All IsLineText lines → take count self.old.kept ≡ text_of_lines lines
-            → (left : List ℕ) → lines_of (self.old.kept ++ left) ≡ lines ++ lines_of (self.new.kept ++ left) }
-        ensures rest { (left : Option (List ℕ)) → prepend_known (take count self.old.kept) (prepend_known self.new.kept left)
+        ensures lines { (lines : List (List ℕ)) → All IsLineText lines
+            → take count self.old.kept ≡ text_of_lines lines
+            → (left : List ℕ) → lines_of (self.old.kept ++ left)
+            ≡ lines ++ lines_of (self.new.kept ++ left) }
+        ensures rest { (left : Option (List ℕ))
+            → prepend_known (take count self.old.kept) (prepend_known self.new.kept left)
             ≡ prepend_known self.old.kept left }
     {
         self.window.pass(count);
@@ -271,7 +303,8 @@ impl LineReader {
     fn give(&mut self, count: usize, skipped: usize) -> Span
         requires held { count + skipped ≤ length self.old.kept }
         requires within { self.old.passed + count + skipped ≤ self.old.input }
-        requires last { skipped ≡ 0 → (count ≡ length self.old.kept) × (self.old.ended ≡ true) × (0 < count) }
+        requires last { skipped ≡ 0
+            → (count ≡ length self.old.kept) × (self.old.ended ≡ true) × (0 < count) }
         requires one { skipped ≤ 1 }
         ensures span { result ≡ self.new.span }
         ensures line { self.new.line ≡ take count self.old.kept }
@@ -342,13 +375,20 @@ impl LineReader {
         ensures number { self.new.number ≡ self.old.number }
         ensures given { self.new.given ≡ self.old.given }
         ensures line_ended { self.new.line_ended ≡ self.old.line_ended }
-        ensures rest { prepend_known self.old.kept (S.left store.old) ≡ prepend_known self.new.kept (S.left store.new) }
+        ensures rest { prepend_known self.old.kept (S.left store.old)
+            ≡ prepend_known self.new.kept (S.left store.new) }
         ensures front { take (length self.old.kept) self.new.kept ≡ self.old.kept }
         ensures sound { OnOk result (S.faults store.new ≡ S.faults store.old) }
-        ensures failed { IfErr result (λ fault. (fault ≡ LineFault.ReadFailed) × Rose (S.faults store.old) (S.faults store.new)) }
-        ensures fault { self.new.fault ≡ (if is_ok result then self.old.fault else Some LineFault.ReadFailed) }
-        ensures more { OnOk result ((self.new.ended ≡ true) ⊎ (self.new.ended ≡ false) × (length self.old.kept < length self.new.kept)) }
-        ensures end { OnOk result (self.new.ended ≡ true → WhereTold (S.left store.new) (λ bytes. bytes ≡ [])) }
+        ensures failed { IfErr result
+            (λ fault. (fault ≡ LineFault.ReadFailed)
+            × Rose (S.faults store.old) (S.faults store.new)) }
+        ensures fault { self.new.fault
+            ≡ (if is_ok result then self.old.fault else Some LineFault.ReadFailed) }
+        ensures more { OnOk result
+            ((self.new.ended ≡ true) ⊎ (self.new.ended ≡ false)
+            × (length self.old.kept < length self.new.kept)) }
+        ensures end { OnOk result
+            (self.new.ended ≡ true → WhereTold (S.left store.new) (λ bytes. bytes ≡ [])) }
         ensures end_kept { OnOk result (self.new.ended ≡ true → self.new.kept ≡ self.old.kept) }
         ensures still { OnErr result (self.new.ended ≡ self.old.ended) }
         ensures kept { OnErr result (self.new.kept ≡ self.old.kept) }

@@ -49,7 +49,8 @@ impl MemSink {
 
     /// Names one more call that is to fail.
     pub fn fail_at(&mut self, call: u64) -> Result<(), NoMemory>
-        ensures named { OnOk result (self.new ≡ record self.old { calls = fail_also_at self.old.calls call }) }
+        ensures named { OnOk result
+            (self.new ≡ record self.old { calls = fail_also_at self.old.calls call }) }
         ensures kept { OnErr result (self.new ≡ self.old) }
     {
         self.calls.fail_at(call)

@@ -113,7 +113,8 @@ impl Store for MemStore {
         requires current { IsSome self.old.store.left }
         requires room { 0 < length buf.old }
         ensures taken { IfOk result
-            (λ count. self.old.store.left ≡ prepend_known (take count buf.new) self.new.store.left) }
+            (λ count. self.old.store.left
+            ≡ prepend_known (take count buf.new) self.new.store.left) }
         ensures end { IfOk result
             (λ count. count ≡ 0 → WhereTold self.old.store.left (λ bytes. bytes ≡ [])) }
         ensures answer { result ≡ (if next_fails self.old.calls

@@ -46,7 +46,12 @@ impl Model for SureStore {
 
     ghost use Rattle.hp_outside.specs.HeldFiles.{folder_of, left_at, IsWithin};
 
-    ghost view = { λ s. record { folder = folder_of s.files.items; piece = s.piece; opens = s.opens; left = left_at s.files.items s.place } };
+    ghost view = { λ s. record {
+      folder = folder_of s.files.items;
+      piece = s.piece;
+      opens = s.opens;
+      left = left_at s.files.items s.place;
+    } };
 
     ghost invariant = { λ s. (0 < s.piece) × ForSome s.place (IsWithin s.files.items) };
 }
@@ -121,7 +126,8 @@ impl Store for SureStore {
     /// Never answers `Failed`.
     fn open(&mut self, name: &str) -> Result<(), OpenFault>
         requires { self.old.opens < 2 ^ 64 - 1 }
-        ensures absent { (result ≡ Err OpenFault.Absent) ↔ (file_of self.old.folder name.now ≡ None) }
+        ensures absent { (result ≡ Err OpenFault.Absent)
+            ↔ (file_of self.old.folder name.now ≡ None) }
         ensures answer { result ≡ open_answer (file_of self.old.folder name.now) false }
         ensures after { self.new ≡ after_open self.old (file_of self.old.folder name.now) }
     {

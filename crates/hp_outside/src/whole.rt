@@ -99,11 +99,14 @@ pub fn read_whole<S: Store>(
     ensures current { S.current store.new ≡ S.current store.old }
     ensures opens { S.opens store.new ≡ S.opens store.old }
     ensures faults { S.faults store.old ≤ S.faults store.new }
-    ensures answer { WhereTold (S.left store.old) (λ bytes. WholeAnswer limits.now.input bytes result) }
-    ensures given { IfOk result (λ whole. S.left store.old ≡ prepend_known whole (S.left store.new)) }
+    ensures answer { WhereTold (S.left store.old)
+        (λ bytes. WholeAnswer limits.now.input bytes result) }
+    ensures given { IfOk result
+        (λ whole. S.left store.old ≡ prepend_known whole (S.left store.new)) }
     ensures within { IfOk result (λ whole. length whole ≤ limits.now.input) }
     ensures ended { OnOk result (WhereTold (S.left store.new) (λ bytes. bytes ≡ [])) }
-    ensures failed { result ≡ Err WholeFault.ReadFailed → Rose (S.faults store.old) (S.faults store.new) }
+    ensures failed { result ≡ Err WholeFault.ReadFailed
+        → Rose (S.faults store.old) (S.faults store.new) }
     ensures sound { result ≢ Err WholeFault.ReadFailed → S.faults store.new ≡ S.faults store.old }
     ensures taken { LosesFront (S.left store.old) (S.left store.new) (limits.now.input + 1) }
 {
@@ -146,7 +149,8 @@ fn make_room(bytes: &mut Vec<u8>, filled: usize, most: usize) -> Result<(), Allo
 /// taken, the sink's faults are what they were.
 pub fn write_whole<O: Sink>(sink: &mut O, bytes: &[u8]) -> Result<(), Failed>
     ensures faults { O.faults sink.old ≤ O.faults sink.new }
-    ensures written { OnOk result (O.written sink.new ≡ append_known (O.written sink.old) bytes.now) }
+    ensures written { OnOk result
+        (O.written sink.new ≡ append_known (O.written sink.old) bytes.now) }
     ensures front { GainsFront (O.written sink.old) (O.written sink.new) bytes.now }
     ensures cut { OnErr result (GainsCutFront (O.written sink.old) (O.written sink.new) bytes.now) }
     ensures sound { OnOk result (O.faults sink.new ≡ O.faults sink.old) }

@@ -43,8 +43,10 @@ impl Model for Window {
       kept = part_of w.buffer.items w.start w.end;
     } };
 
-    ghost invariant = { λ w. (w.start ≤ w.end) × (w.end ≤ vec_len w.buffer) × (w.shown.start ≤ w.shown.end)
-        × (w.shown.end ≤ vec_len w.buffer) × (2 * w.most + 65536 ≤ vec_capacity w.buffer) × (w.most ≤ 1048576) };
+    ghost invariant = { λ w.
+        (w.start ≤ w.end) × (w.end ≤ vec_len w.buffer) × (w.shown.start ≤ w.shown.end)
+        × (w.shown.end ≤ vec_len w.buffer) × (2 * w.most + 65536 ≤ vec_capacity w.buffer)
+        × (w.most ≤ 1048576) };
 }
 
 impl Window {
@@ -127,10 +129,13 @@ impl Window {
         ensures opens { S.opens store.new ≡ S.opens store.old }
         ensures faults { S.faults store.old ≤ S.faults store.new }
         ensures most { self.new.most ≡ self.old.most }
-        ensures rest { prepend_known self.old.kept (S.left store.old) ≡ prepend_known self.new.kept (S.left store.new) }
+        ensures rest { prepend_known self.old.kept (S.left store.old)
+            ≡ prepend_known self.new.kept (S.left store.new) }
         ensures front { take (length self.old.kept) self.new.kept ≡ self.old.kept }
-        ensures count { IfOk result (λ count. (count ≤ limit) × (length self.new.kept ≡ length self.old.kept + count)) }
-        ensures end { IfOk result (λ count. count ≡ 0 → WhereTold (S.left store.old) (λ bytes. bytes ≡ [])) }
+        ensures count { IfOk result
+            (λ count. (count ≤ limit) × (length self.new.kept ≡ length self.old.kept + count)) }
+        ensures end { IfOk result
+            (λ count. count ≡ 0 → WhereTold (S.left store.old) (λ bytes. bytes ≡ [])) }
         ensures kept { OnErr result (self.new.kept ≡ self.old.kept) }
         ensures left { OnErr result (S.left store.new ≡ S.left store.old) }
         ensures sound { OnOk result (S.faults store.new ≡ S.faults store.old) }
@@ -149,7 +154,8 @@ impl Window {
 /// Lengthens a buffer that has room for it to `len` bytes, where it is shorter. It takes no memory.
 fn fill_to(buffer: &mut Vec<u8>, len: usize)
     requires { len ≤ vec_capacity buffer.old }
-    ensures front { (count : ℕ) → count ≤ vec_len buffer.old → take count buffer.new.items ≡ take count buffer.old.items }
+    ensures front { (count : ℕ) → count ≤ vec_len buffer.old
+        → take count buffer.new.items ≡ take count buffer.old.items }
     ensures len { len ≤ vec_len buffer.new }
     ensures longer { vec_len buffer.old ≤ vec_len buffer.new }
     ensures capacity { vec_capacity buffer.old ≤ vec_capacity buffer.new }
@@ -184,7 +190,8 @@ fn read_part<S: Store>(
     ensures count { IfOk result (λ count. start + count ≤ end) }
     ensures taken { IfOk result (λ count. S.left store.old
         ≡ prepend_known (part_of buffer.new.items start (start + count)) (S.left store.new)) }
-    ensures end { IfOk result (λ count. count ≡ 0 → WhereTold (S.left store.old) (λ bytes. bytes ≡ [])) }
+    ensures end { IfOk result
+        (λ count. count ≡ 0 → WhereTold (S.left store.old) (λ bytes. bytes ≡ [])) }
     ensures left { OnErr result (S.left store.new ≡ S.left store.old) }
     ensures sound { OnOk result (S.faults store.new ≡ S.faults store.old) }
     ensures failed { OnErr result (Rose (S.faults store.old) (S.faults store.new)) }
@@ -200,7 +207,8 @@ fn make_room(buffer: &mut Vec<u8>, start: usize, end: usize, most: usize) -> usi
     requires held { end ≤ vec_len buffer.old }
     requires few { end ≤ start + most }
     requires long { 2 * most + 65536 ≤ vec_capacity buffer.old }
-    ensures kept { part_of buffer.new.items result (result + (end - start)) ≡ part_of buffer.old.items start end }
+    ensures kept { part_of buffer.new.items result (result + (end - start))
+        ≡ part_of buffer.old.items start end }
     ensures room { result + (end - start) + 65536 ≤ vec_capacity buffer.new }
     ensures within { result + (end - start) ≤ vec_len buffer.new }
     ensures capacity { vec_capacity buffer.new ≡ vec_capacity buffer.old }
@@ -218,7 +226,8 @@ fn move_to_front(buffer: &mut Vec<u8>, start: usize, end: usize)
     requires order { start ≤ end }
     requires held { end ≤ vec_len buffer.old }
     requires apart { end ≤ 2 * start }
-    ensures moved { take (end - start) buffer.new.items ≡ take (end - start) (drop start buffer.old.items) }
+    ensures moved { take (end - start) buffer.new.items
+        ≡ take (end - start) (drop start buffer.old.items) }
     ensures len { vec_len buffer.new ≡ vec_len buffer.old }
     ensures capacity { vec_capacity buffer.new ≡ vec_capacity buffer.old }
 {

@@ -166,7 +166,8 @@ fn expect_line(
     line: &str,
 ) -> Result<(), Fail>
     requires current { IsSome store.old.store.left }
-    requires ended { reader.old.ended ≡ true → WhereTold store.old.store.left (λ bytes. bytes ≡ []) }
+    requires ended { reader.old.ended ≡ true
+        → WhereTold store.old.store.left (λ bytes. bytes ≡ []) }
     ensures current { IsSome store.new.store.left }
     ensures ended { reader.new.ended ≡ true → WhereTold store.new.store.left (λ bytes. bytes ≡ []) }
     ensures opens { store.new.store.opens ≡ store.old.store.opens }
@@ -180,7 +181,8 @@ fn expect_line(
 /// The next answer is that of the case, and one line was given before.
 fn expect_fault(rt: &impl Abort, reader: &mut LineReader, store: &mut MemStore, case: &Case)
     requires current { IsSome store.old.store.left }
-    requires ended { reader.old.ended ≡ true → WhereTold store.old.store.left (λ bytes. bytes ≡ []) }
+    requires ended { reader.old.ended ≡ true
+        → WhereTold store.old.store.left (λ bytes. bytes ≡ []) }
     ensures current { IsSome store.new.store.left }
     ensures ended { reader.new.ended ≡ true → WhereTold store.new.store.left (λ bytes. bytes ≡ []) }
     ensures opens { store.new.store.opens ≡ store.old.store.opens }
@@ -223,6 +225,7 @@ fn lends_lines(rt: &impl Abort, reader: &mut LineReader, store: &mut SureStore) 
     let ready = b"+ 1\n";
     let span = reader.next(store)?.ok_or("no line")?;
     assert_eq!(rt; reader.line(&span), b"v 1 2".as_slice());
+    assert_eq!(rt; reader.line_limit(), 1_048_576);
     assert_eq!(rt; reader.ready_lines(), ready.as_slice());
     reader.pass(ready.len(), 1);
     assert_eq!(rt; reader.number(), 2);

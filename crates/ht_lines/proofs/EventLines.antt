@@ -20,7 +20,7 @@ use Rattle.ht_lines.specs.Reading.{reading}
 use Rattle.ht_lines.proofs.LineSides.{reading-item}
 use Rattle.ht_lines.proofs.TextLemmas.{fields-lone_number}
 
-digits-one_line : (ds : List ℕ) → AllDigits 16 ds → All (λ b. b ≢ 10) ds
+pub digits-one_line : (ds : List ℕ) → AllDigits 16 ds → All (λ b. b ≢ 10) ds
 digits-one_line [] h = All-nil (λ b. b ≢ 10)
 digits-one_line (d ∷ ds) h =
     let feed : is_digit 10 16 ≡ false = refl in

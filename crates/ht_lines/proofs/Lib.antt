@@ -9,6 +9,7 @@ mod ModuleLines
 mod NameLemmas
 mod NumberLemmas
 mod OneLineTexts
+mod RawLines
 mod TextLemmas
 mod VersionLines
 mod WordLemmas

@@ -40,7 +40,7 @@ module _ (form : Form) (version : ℕ) (line : List ℕ) (P : Content → Type 0
   line-sides (Ok x) w item fault = item x w
   line-sides (Err e) w item fault = fault e w
 
-of_kind : (kind : ℕ) (rest : List ℕ) → IsTrue (field_ends rest) → IsOfKind kind (kind ∷ rest)
+pub of_kind : (kind : ℕ) (rest : List ℕ) → IsTrue (field_ends rest) → IsOfKind kind (kind ∷ rest)
 of_kind kind [] e = refl
 of_kind kind (b ∷ bs) e = (refl, eqb-true b 32 e)
 

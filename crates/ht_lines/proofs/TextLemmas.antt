@@ -57,7 +57,7 @@ fields-number digits after n is ends =
     ∙ fields-before_blank (digits ++ after) (subst (λ l. 0 < length l) (sym front) (number-not_empty digits n is))
     ∙ (λ i. front i ∷ fields (back i))
 
-fields-nil : fields [] ≡ []
+pub fields-nil : fields [] ≡ []
 unfolding fields
 fields-nil = refl
 

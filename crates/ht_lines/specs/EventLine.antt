@@ -28,4 +28,5 @@ pub record BeginsWithEvent (text : List ℕ) (event : EventLine) : Type 0 where
   pub at_most : length line ≤ 10
   pub one_line : All (λ b. b ≢ 10) line
   pub small : event.info < 2 ^ 32
-  pub said : (version : ℕ) → reading Interpreted version line ≡ Ok (event_content event.kind event.info)
+  pub said : (version : ℕ)
+      → reading Interpreted version line ≡ Ok (event_content event.kind event.info)

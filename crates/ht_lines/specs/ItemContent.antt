@@ -31,13 +31,16 @@ content (Other line) = other_line line.now
 
 -- the tail has numbers alone, as many as the item says
 abbrev pub IsWhole : Item → Type 0
-IsWhole (Module name start ranges tail) = IsTrue (all_numbers (fields tail.now)) × (length (numbers tail.now) ≡ 2 * ranges)
-IsWhole (Instr ip module_string count tail) = IsTrue (all_numbers (fields tail.now)) × (length (numbers tail.now) + 2 ≡ count)
+IsWhole (Module name start ranges tail) = IsTrue (all_numbers (fields tail.now))
+    × (length (numbers tail.now) ≡ 2 * ranges)
+IsWhole (Instr ip module_string count tail) = IsTrue (all_numbers (fields tail.now))
+    × (length (numbers tail.now) + 2 ≡ count)
 IsWhole _ = Unit {0}
 
 -- the tail is what follows the fields before it; rest follows the kind
 abbrev pub HasTail : ℕ → List ℕ → Item → Type 0
-HasTail version rest (Module name start ranges tail) = IfSome (module_name version rest) (λ found. tail.now ≡ after_field found.1)
+HasTail version rest (Module name start ranges tail) = IfSome (module_name version rest)
+    (λ found. tail.now ≡ after_field found.1)
 HasTail version rest (Instr ip module_string count tail) = tail.now ≡ after_field (after_field rest)
 HasTail version rest _ = Unit {0}
 

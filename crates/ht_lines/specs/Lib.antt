@@ -11,3 +11,4 @@ pub mod ItemContent
 pub mod Written
 pub mod EventLine
 pub mod OneLine
+pub mod RawLine

@@ -34,7 +34,8 @@ abbrev pub of_size_in : Option ℕ → List ℕ → Option (List ℕ × List ℕ
 of_size_in None after = None
 of_size_in (Some n) [] = None
 of_size_in (Some n) (b ∷ bytes) =
-    if nat_le n (length bytes) && field_ends (drop n bytes) then Some (take n bytes, drop n bytes) else None
+    if nat_le n (length bytes) && field_ends (drop n bytes) then Some (take n bytes, drop n bytes)
+    else None
 
 -- the sized name and the tail
 unfoldable pub sized_name : List ℕ → Option (List ℕ × List ℕ)
@@ -42,8 +43,10 @@ sized_name rest = of_size_in (parsed_hex (first_field rest)) (after_field rest)
 
 -- the first field and the tail
 unfoldable pub plain_name : List ℕ → Option (List ℕ × List ℕ)
-plain_name rest = if length (first_field rest) == 0 then None else Some (first_field rest, after_field rest)
+plain_name rest = if length (first_field rest) == 0 then None
+    else Some (first_field rest, after_field rest)
 
 -- the name and the tail
 unfoldable pub module_name : ℕ → List ℕ → Option (List ℕ × List ℕ)
-module_name version rest = if version == 3 then option_or (sized_name rest) (plain_name rest) else plain_name rest
+module_name version rest = if version == 3 then option_or (sized_name rest) (plain_name rest)
+    else plain_name rest

@@ -28,7 +28,8 @@ one_number (a ∷ b ∷ more) = Err ExtraField
 abbrev pub two_numbers : List (List ℕ) → Result (ℕ × ℕ) Malformed
 two_numbers [] = Err MissingField
 two_numbers (a ∷ []) = Err MissingField
-two_numbers (a ∷ b ∷ []) = with_number (parsed_hex a) (λ m. with_number (parsed_hex b) (λ n. Ok (m, n)))
+two_numbers (a ∷ b ∷ []) = with_number (parsed_hex a)
+    (λ m. with_number (parsed_hex b) (λ n. Ok (m, n)))
 two_numbers (a ∷ b ∷ c ∷ more) = Err ExtraField
 
 -- the three fields' numbers, where one field alone is that of an interpreted trace
@@ -37,7 +38,8 @@ three_numbers [] = Err MissingField
 three_numbers (a ∷ []) = Err NotRaw
 three_numbers (a ∷ b ∷ []) = Err MissingField
 three_numbers (a ∷ b ∷ c ∷ []) =
-    with_number (parsed_hex a) (λ l. with_number (parsed_hex b) (λ m. with_number (parsed_hex c) (λ n. Ok (l, m, n))))
+    with_number (parsed_hex a)
+    (λ l. with_number (parsed_hex b) (λ m. with_number (parsed_hex c) (λ n. Ok (l, m, n))))
 three_numbers (a ∷ b ∷ c ∷ d ∷ more) = Err ExtraField
 
 -- what the number or the numbers say
@@ -48,7 +50,8 @@ say f (Err fault) = Err fault
 abbrev pub version_of : List (List ℕ) → Result Content Malformed
 version_of [] = Err MissingField
 version_of (a ∷ []) = with_number (parsed_hex a) (λ heaptrack. Ok (version_line heaptrack 1))
-version_of (a ∷ b ∷ []) = with_number (parsed_hex a) (λ heaptrack. with_number (parsed_hex b) (λ file.
+version_of (a ∷ b ∷ []) = with_number (parsed_hex a)
+    (λ heaptrack. with_number (parsed_hex b) (λ file.
     if nat_le 1 file && nat_le file 3 then Ok (version_line heaptrack file) else Err BadVersion))
 version_of (a ∷ b ∷ c ∷ more) = Err ExtraField
 
@@ -86,17 +89,20 @@ clock_from (Err fault) = Err fault
 abbrev pub ranges_fit : ℕ → List ℕ → Bool
 ranges_fit start [] = true
 ranges_fit start (offset ∷ []) = true
-ranges_fit start (offset ∷ size ∷ more) = nat_lt (start + offset + size) (2 ^ 64) && ranges_fit start more
+ranges_fit start (offset ∷ size ∷ more) = nat_lt (start + offset + size) (2 ^ 64)
+    && ranges_fit start more
 
 abbrev pub ranges_from : List ℕ → List ℕ → Result Content Malformed
 ranges_from name [] = Err MissingField
-ranges_from name (start ∷ ranges) = if ranges_fit start ranges then Ok (module_line name start ranges) else Err BadField
+ranges_from name (start ∷ ranges) = if ranges_fit start ranges
+    then Ok (module_line name start ranges) else Err BadField
 
 unfoldable pub named_module : List ℕ → List ℕ → Result Content Malformed
 named_module name tail =
     if length (fields tail) == 0 && bytes_eq name (codes "-") then Ok clear_line
     else if length (fields tail) % 2 == 0 then Err MissingField
-    else if all_numbers (fields tail) then ranges_from name (map number (fields tail)) else Err BadField
+    else if all_numbers (fields tail) then ranges_from name (map number (fields tail))
+    else Err BadField
 
 abbrev pub module_of : Option (List ℕ × List ℕ) → Result Content Malformed
 module_of None = Err MissingField
@@ -126,5 +132,6 @@ reading form version [] = Ok (other_line [])
 reading form version (b ∷ rest) =
     if b == 35 then Ok (comment_line rest)
     else if is_foreign form b then Err NotRaw
-    else if is_kind b then (if field_ends rest then reading_kind form version b rest else Err BadField)
+    else if is_kind b then (if field_ends rest then reading_kind form version b rest
+    else Err BadField)
     else Ok (other_line (b ∷ rest))

@@ -25,7 +25,8 @@ abbrev pub RefusesVersion : List (List ℕ) → Malformed → Type 0
 RefusesVersion fs MissingField = length fs ≡ 0
 RefusesVersion fs ExtraField = 2 < length fs
 RefusesVersion fs BadField = (0 < length fs) × (length fs ≤ 2) × AreNoNumbers fs
-RefusesVersion fs BadVersion = (heaptrack file : ℕ) × AreNumbers fs (heaptrack ∷ file ∷ []) × ((file ≡ 0) ⊎ (3 < file))
+RefusesVersion fs BadVersion = (heaptrack file : ℕ) × AreNumbers fs (heaptrack ∷ file ∷ [])
+    × ((file ≡ 0) ⊎ (3 < file))
 RefusesVersion fs _ = ⊥
 
 -- 2, 3, 5, 6, 8, 9 and so on numbers are wanted
@@ -59,21 +60,34 @@ abbrev pub RefusesModule : ℕ → List ℕ → Malformed → Type 0
 RefusesModule version rest MissingField = (fields rest ≡ [])
     ⊎ ((name tail : List ℕ) × IsModuleName version rest name tail × (length (fields tail) % 2 ≡ 0)
     × ¬ ((name ≡ codes "-") × (fields tail ≡ [])))
-RefusesModule version rest BadField = (name tail : List ℕ) × IsModuleName version rest name tail × (length (fields tail) % 2 ≡ 1)
-    × ((start : ℕ) (ranges : List ℕ) → AreNumbers (fields tail) (start ∷ ranges) → ¬ RangesFit start ranges)
+RefusesModule version rest BadField = (name tail : List ℕ) × IsModuleName version rest name tail
+    × (length (fields tail) % 2 ≡ 1)
+    × ((start : ℕ) (ranges : List ℕ) → AreNumbers (fields tail) (start ∷ ranges)
+    → ¬ RangesFit start ranges)
 RefusesModule version rest _ = ⊥
 
 -- a kind of the other form, a wrong second byte, or what the line's kind refuses
 pub data Refuses (form : Form) (version : ℕ) (line : List ℕ) (fault : Malformed) : Type 0 where
   in_kind : IsForeign form line → fault ≡ NotRaw → Refuses form version line fault
-  in_second_byte : HasWrongSecondByte line → ¬ IsForeign form line → fault ≡ BadField → Refuses form version line fault
-  in_version : IsOfKind 118 line → RefusesVersion (fields_of line) fault → Refuses form version line fault
-  in_system : IsOfKind 73 line → RefusesNumbers 2 (fields_of line) fault → Refuses form version line fault
-  in_module : IsOfKind 109 line → RefusesModule version (after_kind line) fault → Refuses form version line fault
-  in_instruction : form ≡ Interpreted → IsOfKind 105 line → RefusesInstruction (fields_of line) fault → Refuses form version line fault
-  in_node : IsOfKind 116 line → RefusesNumbers 2 (fields_of line) fault → Refuses form version line fault
-  in_info : form ≡ Interpreted → IsOfKind 97 line → RefusesNumbers 2 (fields_of line) fault → Refuses form version line fault
-  in_allocation : IsOfKind 43 line → RefusesAllocation form (fields_of line) fault → Refuses form version line fault
-  in_free : IsOfKind 45 line → RefusesNumbers 1 (fields_of line) fault → Refuses form version line fault
-  in_clock : IsOfKind 99 line → RefusesClock (fields_of line) fault → Refuses form version line fault
-  in_resident : IsOfKind 82 line → RefusesNumbers 1 (fields_of line) fault → Refuses form version line fault
+  in_second_byte : HasWrongSecondByte line → ¬ IsForeign form line → fault ≡ BadField
+      → Refuses form version line fault
+  in_version : IsOfKind 118 line → RefusesVersion (fields_of line) fault
+      → Refuses form version line fault
+  in_system : IsOfKind 73 line → RefusesNumbers 2 (fields_of line) fault
+      → Refuses form version line fault
+  in_module : IsOfKind 109 line → RefusesModule version (after_kind line) fault
+      → Refuses form version line fault
+  in_instruction : form ≡ Interpreted → IsOfKind 105 line
+      → RefusesInstruction (fields_of line) fault → Refuses form version line fault
+  in_node : IsOfKind 116 line → RefusesNumbers 2 (fields_of line) fault
+      → Refuses form version line fault
+  in_info : form ≡ Interpreted → IsOfKind 97 line → RefusesNumbers 2 (fields_of line) fault
+      → Refuses form version line fault
+  in_allocation : IsOfKind 43 line → RefusesAllocation form (fields_of line) fault
+      → Refuses form version line fault
+  in_free : IsOfKind 45 line → RefusesNumbers 1 (fields_of line) fault
+      → Refuses form version line fault
+  in_clock : IsOfKind 99 line → RefusesClock (fields_of line) fault
+      → Refuses form version line fault
+  in_resident : IsOfKind 82 line → RefusesNumbers 1 (fields_of line) fault
+      → Refuses form version line fault

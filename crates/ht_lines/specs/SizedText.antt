@@ -5,7 +5,8 @@ use Rattle.ht_lines.specs.Fields.{before_blank, from_blank}
 
 -- a hexadecimal number, one blank, and then exactly so many bytes
 abbrev pub IsSizedText : List ℕ → List ℕ → Type 0
-IsSizedText plain bytes = (digits : List ℕ) × (parsed_hex digits ≡ Some (length bytes)) × (plain ≡ digits ++ (32 ∷ bytes))
+IsSizedText plain bytes = (digits : List ℕ) × (parsed_hex digits ≡ Some (length bytes))
+    × (plain ≡ digits ++ (32 ∷ bytes))
 
 -- so many bytes after one blank
 abbrev pub of_size : Option ℕ → List ℕ → Option (List ℕ)

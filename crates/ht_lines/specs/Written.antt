@@ -3,20 +3,17 @@
 use Rattle.std.specs.Prelude.{◌≡◌, ◌≢◌, ◌⊎◌, ℕ, ◌%◌, ◌^◌, ◌<◌, ◌≤◌, ◌==◌, if◌then◌else◌, List, [], ◌∷◌, ◌++◌, length, codes}
 use Rattle.std.specs.List.{AllByRecursion}
 use Rattle.hp_num.specs.Hexadecimal.{hexadecimal}
+pub use Rattle.hp_num.specs.Spelled.{spelled}
 use Rattle.ht_lines.specs.declared.item.Form.{Form}
 use Rattle.ht_lines.specs.declared.item.Form.TheVariants.{Raw, Interpreted}
 use Rattle.ht_lines.specs.Content.{Content, version_line, executable_line, command_line, system_line, string_line, clear_line, module_line, instruction_line, node_line, info_line, allocation_line, free_line, raw_allocation_line, raw_free_line, clock_line, resident_line, attached_line, suppression_line, comment_line, other_line}
 use Rattle.ht_lines.specs.Kinds.{IsOther}
 use Rattle.ht_lines.specs.Reads.{RangesFit}
 
--- each number after a blank
-abbrev pub spelled : List ℕ → List ℕ
-spelled [] = []
-spelled (n ∷ ns) = 32 ∷ (hexadecimal n ++ spelled ns)
-
 -- a text or a name, in file version 3 after its size and a blank
 abbrev pub spelled_text : ℕ → List ℕ → List ℕ
-spelled_text version bytes = if version == 3 then hexadecimal (length bytes) ++ (32 ∷ bytes) else bytes
+spelled_text version bytes = if version == 3 then hexadecimal (length bytes) ++ (32 ∷ bytes)
+    else bytes
 
 -- the line, without a line feed
 abbrev pub written : ℕ → Content → List ℕ
@@ -27,13 +24,16 @@ written version (suppression_line bytes) = codes "S " ++ spelled_text version by
 written version (system_line page pages) = codes "I" ++ spelled (page ∷ pages ∷ [])
 written version (string_line bytes) = codes "s " ++ spelled_text version bytes
 written version clear_line = codes "m -"
-written version (module_line name start ranges) = codes "m " ++ (spelled_text version name ++ spelled (start ∷ ranges))
-written version (instruction_line ip module_string frames) = codes "i" ++ spelled (ip ∷ module_string ∷ frames)
+written version (module_line name start ranges) = codes "m "
+    ++ (spelled_text version name ++ spelled (start ∷ ranges))
+written version (instruction_line ip module_string frames) = codes "i"
+    ++ spelled (ip ∷ module_string ∷ frames)
 written version (node_line ip parent) = codes "t" ++ spelled (ip ∷ parent ∷ [])
 written version (info_line size trace) = codes "a" ++ spelled (size ∷ trace ∷ [])
 written version (allocation_line info) = codes "+" ++ spelled (info ∷ [])
 written version (free_line info) = codes "-" ++ spelled (info ∷ [])
-written version (raw_allocation_line size trace ptr) = codes "+" ++ spelled (size ∷ trace ∷ ptr ∷ [])
+written version (raw_allocation_line size trace ptr) = codes "+"
+    ++ spelled (size ∷ trace ∷ ptr ∷ [])
 written version (raw_free_line ptr) = codes "-" ++ spelled (ptr ∷ [])
 written version (clock_line ms) = codes "c" ++ spelled (ms ∷ [])
 written version (resident_line pages) = codes "R" ++ spelled (pages ∷ [])
@@ -47,7 +47,8 @@ AreWords ns = AllByRecursion (λ n. n < 2 ^ 64) ns
 
 -- what some line of a trace of this form says in this file version
 abbrev pub IsWritable : Form → ℕ → Content → Type 0
-IsWritable form version (version_line heaptrack file) = (heaptrack < 2 ^ 64) × (1 ≤ file) × (file ≤ 3)
+IsWritable form version (version_line heaptrack file) = (heaptrack < 2 ^ 64) × (1 ≤ file)
+    × (file ≤ 3)
 IsWritable form version (executable_line bytes) = length bytes < 2 ^ 64
 IsWritable form version (command_line bytes) = length bytes < 2 ^ 64
 IsWritable form version (suppression_line bytes) = length bytes < 2 ^ 64
@@ -57,13 +58,15 @@ IsWritable form version clear_line = Unit {0}
 IsWritable form version (module_line name start ranges) = (length name < 2 ^ 64)
     × (version ≢ 3 → (0 < length name) × AllByRecursion (λ b. b ≢ 32) name)
     × AreWords (start ∷ ranges) × (length ranges % 2 ≡ 0) × RangesFit start ranges
-IsWritable form version (instruction_line ip module_string frames) = AreWords (ip ∷ module_string ∷ frames)
+IsWritable form version (instruction_line ip module_string frames) = AreWords
+    (ip ∷ module_string ∷ frames)
     × ((length frames % 3 ≡ 1) ⊎ (length frames % 3 ≡ 0)) × (form ≡ Interpreted)
 IsWritable form version (node_line ip parent) = AreWords (ip ∷ parent ∷ [])
 IsWritable form version (info_line size trace) = AreWords (size ∷ trace ∷ []) × (form ≡ Interpreted)
 IsWritable form version (allocation_line info) = (info < 2 ^ 64) × (form ≡ Interpreted)
 IsWritable form version (free_line info) = (info < 2 ^ 64) × (form ≡ Interpreted)
-IsWritable form version (raw_allocation_line size trace ptr) = AreWords (size ∷ trace ∷ ptr ∷ []) × (form ≡ Raw)
+IsWritable form version (raw_allocation_line size trace ptr) = AreWords (size ∷ trace ∷ ptr ∷ [])
+    × (form ≡ Raw)
 IsWritable form version (raw_free_line ptr) = (ptr < 2 ^ 64) × (form ≡ Raw)
 IsWritable form version (clock_line ms) = ms ≤ 2 ^ 62
 IsWritable form version (resident_line pages) = pages < 2 ^ 64

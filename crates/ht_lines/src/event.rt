@@ -68,7 +68,8 @@ fn number_to_feed(front: &[u8; LONGEST]) -> Option<(u64, usize)>
     ensures some { IfSome result (λ found. 0 < found.1) }
     ensures most { IfSome result (λ found. found.1 < 9) }
     ensures digits { IfSome result (λ found. AllDigits 16 (take found.1 (drop 2 front.now))) }
-    ensures value { IfSome result (λ found. found.0 ≡ digits_value 16 (take found.1 (drop 2 front.now))) }
+    ensures value { IfSome result
+        (λ found. found.0 ≡ digits_value 16 (take found.1 (drop 2 front.now))) }
     ensures feed { IfSome result (λ found. get_or (drop 2 front.now) found.1 0 ≡ 10) }
 {
     let mut number = 0;

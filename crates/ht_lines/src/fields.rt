@@ -45,8 +45,11 @@ pub fn next_number(text: &[u8]) -> Option<(u64, &[u8])>
     ensures some { IfSome result (λ found. numbers text.now ≡ found.0 ∷ numbers found.1.now) }
     ensures first { IfSome result (λ found. found.0 ≡ number (first_field text.now)) }
     ensures after { IfSome result (λ found. found.1.now ≡ after_field text.now) }
-    ensures count { IfSome result (λ found. length (fields text.now) ≡ length (fields found.1.now) + 1) }
-    ensures all { IfSome result (λ found. IsTrue (all_numbers (fields text.now)) → IsTrue (all_numbers (fields found.1.now))) }
+    ensures count { IfSome result
+        (λ found. length (fields text.now) ≡ length (fields found.1.now) + 1) }
+    ensures all { IfSome result
+        (λ found. IsTrue (all_numbers (fields text.now))
+        → IsTrue (all_numbers (fields found.1.now))) }
     ensures shorter { IfSome result (λ found. length found.1.now < length text.now) }
 {
     let (field, after) = next_field(text)?;
@@ -75,7 +78,8 @@ pub fn count_fields(text: &[u8]) -> FieldCount
 /// A tail is one of an item: the ranges of a module, or the frames of an instruction. It takes no memory.
 pub fn field(tail: &[u8], k: u32) -> Option<u64>
     ensures exact { result ≡ option_and_then parsed_hex (slice_get (fields tail.now) k) }
-    ensures number { IsTrue (all_numbers (fields tail.now)) → result ≡ slice_get (numbers tail.now) k }
+    ensures number { IsTrue (all_numbers (fields tail.now))
+        → result ≡ slice_get (numbers tail.now) k }
 {
     match nth_field(tail, k) {
         Some(field) => parse_hex(field),

@@ -13,8 +13,9 @@
 //!   the same form and version, whatever is writable says the same.
 //! - `field`, `next_number`: the numbers of a tail.
 //! - `event_line`: the line of an event at the front of some bytes in its usual form, in one walk (`BeginsWithEvent`:
-//!   the front is a line and its line feed, which says this event in every version). It may pass over any line, which
-//!   `read_item` then judges.
+//!   the front is a line and its line feed, which says this event in every version). `raw_line`: the same of an
+//!   allocation, a free or a node of a raw trace (`BeginsWithRaw`). Both may pass over any line, which `read_item` then
+//!   judges.
 //!
 //! The crates above may cite its `proofs/Laws`: what is written is read again, a line has one reading, and texts of one
 //! line stay so. The tests of these calls are the crate `ht_lines_tests`, so that the grammar is proved once.
@@ -25,7 +26,7 @@
 //! | `read.rt` | from a line to its item: which kind it is, and what of it is read |
 //! | `numbers.rt`, `tailed.rt`, `text.rt` | kinds of numbers alone; with a tail; texts with their sizes |
 //! | `fields.rt` | the pieces between blanks |
-//! | `event.rt` | the line of an event in its usual form, in one walk |
+//! | `event.rt`, `raw.rt` | the line of an event, and lines of a raw trace, in their usual form, in one walk |
 //! | `write.rt` | from an item to its written form |
 #![tactic(auto)]
 
@@ -33,6 +34,7 @@ mod event;
 mod fields;
 mod item;
 mod numbers;
+mod raw;
 mod read;
 mod tailed;
 mod text;
@@ -41,5 +43,6 @@ mod write;
 pub use event::{EventKind, EventLine, event_line};
 pub use fields::{field, next_number};
 pub use item::{Form, Item, Malformed};
+pub use raw::{RawEvent, RawLine, raw_line};
 pub use read::read_item;
 pub use write::put_item;

@@ -17,7 +17,8 @@ const MAX_MS: u64 = 1 << 62;
 
 /// The number of a text that is one blank and a number, as the lines of events are written: one walk over the text.
 fn lone_number(rest: &[u8]) -> Option<u64>
-    ensures { IfSome result (λ n. (digits : List ℕ) × (fields rest.now ≡ digits ∷ []) × (parsed_hex digits ≡ Some n)) }
+    ensures { IfSome result
+        (λ n. (digits : List ℕ) × (fields rest.now ≡ digits ∷ []) × (parsed_hex digits ≡ Some n)) }
 {
     let [blank, digits @ ..] = rest else {
         return None;

@@ -54,8 +54,10 @@ pub fn read_item(form: Form, version: u8, line: &[u8]) -> Result<Item<'_>, Malfo
     // The same by the relations: the item or the fault, and no other.
     ensures item { IfOk result (λ item. Reads form version line.now (content item)) }
     ensures fault { IfErr result (λ fault. Refuses form version line.now fault) }
-    ensures only_item { (said : Content) → Reads form version line.now said → reading form version line.now ≡ Ok said }
-    ensures only_fault { (fault : Malformed) → Refuses form version line.now fault → reading form version line.now ≡ Err fault }
+    ensures only_item { (said : Content) → Reads form version line.now said
+        → reading form version line.now ≡ Ok said }
+    ensures only_fault { (fault : Malformed) → Refuses form version line.now fault
+        → reading form version line.now ≡ Err fault }
 {
     read_line(form, version, line)
 }

@@ -59,7 +59,9 @@ fn read_named_module<'a>(name: &'a [u8], tail: &'a [u8]) -> Result<Item<'a>, Mal
     requires { length tail.now < 2 ^ 32 }
     ensures exact { Gives result (named_module name.now tail.now) }
     ensures whole { IfOk result (λ item. IsWhole item) }
-    ensures tail { (version : ℕ) (rest : List ℕ) → module_name version rest ≡ Some (name.now, tail.now) → IfOk result (λ item. HasTail version rest item) }
+    ensures tail { (version : ℕ) (rest : List ℕ)
+        → module_name version rest ≡ Some (name.now, tail.now)
+        → IfOk result (λ item. HasTail version rest item) }
 {
     let counted = count_fields(tail);
     if counted.count == 0 && matches!(name, [b'-']) {

@@ -57,7 +57,8 @@ fn sized_text(plain: &[u8]) -> Option<&[u8]>
 /// The name of a module, and the tail after it. `rest` follows the kind.
 #[tactic(auto, unfolding(crate::specs::ModuleName::module_name, crate::specs::ModuleName::plain_name))]
 pub fn module_name(version: u8, rest: &[u8]) -> Option<(&[u8], &[u8])>
-    ensures exact { option_map (λ found. (found.0.now, found.1.now)) result ≡ module_name version rest.now }
+    ensures exact { option_map (λ found. (found.0.now, found.1.now)) result
+        ≡ module_name version rest.now }
     ensures shorter { IfSome result (λ found. length found.1.now ≤ length rest.now) }
 {
     if version == 3 {
@@ -85,7 +86,8 @@ fn sized_name(rest: &[u8]) -> Option<(&[u8], &[u8])>
 
 /// So many bytes after one blank, and what follows them, which is the end or begins with a blank.
 fn bytes_of_size(size: u64, after: &[u8]) -> Option<(&[u8], &[u8])>
-    ensures exact { option_map (λ found. (found.0.now, found.1.now)) result ≡ of_size_in (Some size) after.now }
+    ensures exact { option_map (λ found. (found.0.now, found.1.now)) result
+        ≡ of_size_in (Some size) after.now }
     ensures shorter { IfSome result (λ found. length found.1.now ≤ length after.now) }
 {
     let [_, bytes @ ..] = after else {

@@ -16,7 +16,7 @@ ghost use Rattle.ht_lines.specs.Written.{IsWritable, spelled, spelled_text, writ
 
 use crate::fields::next_number;
 use crate::item::Item;
-use hp_num::{NoMemory, hexadecimal_texts, put_bytes, put_hex};
+use hp_num::{NoMemory, hexadecimal_texts, put_bytes, put_hex, put_number_line};
 
 /// Appends the line of an item and its line feed. On `NoMemory`, `out` holds what it held before.
 ///
@@ -26,10 +26,13 @@ use hp_num::{NoMemory, hexadecimal_texts, put_bytes, put_hex};
 /// read in it as an item with the same content, in a trace of the same form. It has no line feed but the one at its end
 /// where the item's texts have none.
 pub fn put_item(version: u8, item: &Item, out: &mut Vec<u8>) -> Result<(), NoMemory>
-    ensures appended { OnOk result (out.new.items ≡ out.old.items ++ (written version (content item.now) ++ (10 ∷ []))) }
+    ensures appended { OnOk result
+        (out.new.items ≡ out.old.items ++ (written version (content item.now) ++ (10 ∷ []))) }
     ensures unchanged { OnErr result (out.new.items ≡ out.old.items) }
-    ensures one_line { HasOneLineTexts (content item.now) → IsOneLine (written version (content item.now)) }
-    ensures reads_back { (form : Form) (said : Content) → IsWritable form version said → reading form version (written version said) ≡ Ok said }
+    ensures one_line { HasOneLineTexts (content item.now)
+        → IsOneLine (written version (content item.now)) }
+    ensures reads_back { (form : Form) (said : Content) → IsWritable form version said
+        → reading form version (written version said) ≡ Ok said }
 {
     hexadecimal_texts();
     let start = out.len();
@@ -42,26 +45,20 @@ pub fn put_item(version: u8, item: &Item, out: &mut Vec<u8>) -> Result<(), NoMem
 
 /// Appends the line of an item and its line feed. On `NoMemory`, a part of it may stand at the end of `out`.
 fn put_line(version: u8, item: &Item, out: &mut Vec<u8>) -> Result<(), NoMemory>
-    ensures appended { OnOk result (out.new.items ≡ out.old.items ++ (written version (content item.now) ++ (10 ∷ []))) }
-    ensures kept { Extends out.old.items out.new.items }
-{
-    put_form(version, item, out)?;
-    put_bytes(out, b"\n")
-}
-
-/// Appends the written form of an item.
-fn put_form(version: u8, item: &Item, out: &mut Vec<u8>) -> Result<(), NoMemory>
-    ensures appended { OnOk result (out.new.items ≡ out.old.items ++ written version (content item.now)) }
+    ensures appended { OnOk result
+        (out.new.items ≡ out.old.items ++ (written version (content item.now) ++ (10 ∷ []))) }
     ensures kept { Extends out.old.items out.new.items }
 {
     match *item {
-        Item::Version { heaptrack, file } => put_two(out, b"v", heaptrack, u64::from(file)),
+        Item::Version { heaptrack, file } => {
+            put_number_line(out, b'v', &[heaptrack, u64::from(file)])
+        }
         Item::Executable { text } => put_text_line(out, b"x ", version, text),
         Item::Command { text } => put_text_line(out, b"X ", version, text),
         Item::Suppress { text } => put_text_line(out, b"S ", version, text),
-        Item::System { page, pages } => put_two(out, b"I", page, pages),
+        Item::System { page, pages } => put_number_line(out, b'I', &[page, pages]),
         Item::Str { text } => put_text_line(out, b"s ", version, text),
-        Item::ModuleClear => put_bytes_kept(out, b"m -"),
+        Item::ModuleClear => put_whole_line(out, b"m -"),
         Item::Module {
             name,
             start,
@@ -74,17 +71,17 @@ fn put_form(version: u8, item: &Item, out: &mut Vec<u8>) -> Result<(), NoMemory>
             tail,
             ..
         } => put_instruction(out, ip, module, tail),
-        Item::Node { ip, parent } => put_two(out, b"t", ip, parent),
-        Item::Info { size, trace } => put_two(out, b"a", size, trace),
-        Item::Alloc { info } => put_one(out, b"+", info),
-        Item::Free { info } => put_one(out, b"-", info),
-        Item::RawAlloc { size, trace, ptr } => put_three(out, b"+", size, trace, ptr),
-        Item::RawFree { ptr } => put_one(out, b"-", ptr),
-        Item::Clock { ms } => put_one(out, b"c", ms),
-        Item::Rss { pages } => put_one(out, b"R", pages),
-        Item::Attached => put_bytes_kept(out, b"A"),
+        Item::Node { ip, parent } => put_number_line(out, b't', &[ip, parent]),
+        Item::Info { size, trace } => put_number_line(out, b'a', &[size, trace]),
+        Item::Alloc { info } => put_number_line(out, b'+', &[info]),
+        Item::Free { info } => put_number_line(out, b'-', &[info]),
+        Item::RawAlloc { size, trace, ptr } => put_number_line(out, b'+', &[size, trace, ptr]),
+        Item::RawFree { ptr } => put_number_line(out, b'-', &[ptr]),
+        Item::Clock { ms } => put_number_line(out, b'c', &[ms]),
+        Item::Rss { pages } => put_number_line(out, b'R', &[pages]),
+        Item::Attached => put_whole_line(out, b"A"),
         Item::Comment { text } => put_comment(out, text),
-        Item::Other { line } => put_bytes_kept(out, line),
+        Item::Other { line } => put_whole_line(out, line),
     }
 }
 
@@ -95,12 +92,15 @@ fn put_module(
     start: u64,
     tail: &[u8],
 ) -> Result<(), NoMemory>
-    ensures appended { OnOk result (out.new.items ≡ out.old.items ++ written version (module_line name.now start (numbers tail.now))) }
+    ensures appended { OnOk result
+        (out.new.items ≡ out.old.items
+        ++ (written version (module_line name.now start (numbers tail.now)) ++ (10 ∷ []))) }
     ensures kept { Extends out.old.items out.new.items }
 {
-    put_text_line(out, b"m ", version, name)?;
+    put_kind_text(out, b"m ", version, name)?;
     put_number(out, start)?;
-    put_numbers(out, tail)
+    put_numbers(out, tail)?;
+    put_feed(out)
 }
 
 fn put_instruction(
@@ -109,68 +109,64 @@ fn put_instruction(
     module_string: u64,
     tail: &[u8],
 ) -> Result<(), NoMemory>
-    ensures appended { OnOk result (out.new.items ≡ out.old.items ++ (105 ∷ spelled (ip ∷ module_string ∷ numbers tail.now))) }
+    ensures appended { OnOk result
+        (out.new.items ≡ out.old.items
+        ++ ((105 ∷ spelled (ip ∷ module_string ∷ numbers tail.now)) ++ (10 ∷ []))) }
     ensures kept { Extends out.old.items out.new.items }
 {
-    put_two(out, b"i", ip, module_string)?;
-    put_numbers(out, tail)
+    put_bytes(out, b"i")?;
+    put_number(out, ip)?;
+    put_number(out, module_string)?;
+    put_numbers(out, tail)?;
+    put_feed(out)
 }
 
 fn put_comment(out: &mut Vec<u8>, text: &[u8]) -> Result<(), NoMemory>
-    ensures appended { OnOk result (out.new.items ≡ out.old.items ++ (35 ∷ text.now)) }
+    ensures appended { OnOk result
+        (out.new.items ≡ out.old.items ++ ((35 ∷ text.now) ++ (10 ∷ []))) }
     ensures kept { Extends out.old.items out.new.items }
 {
     put_bytes(out, b"#")?;
-    put_bytes(out, text)
+    put_whole_line(out, text)
 }
 
-/// Appends a kind and a number after it.
-fn put_one(out: &mut Vec<u8>, kind: &[u8], n: u64) -> Result<(), NoMemory>
-    ensures appended { OnOk result (out.new.items ≡ out.old.items ++ (kind.now ++ spelled (n ∷ []))) }
+/// Appends a line of a kind and its blank, and a text.
+fn put_text_line(out: &mut Vec<u8>, kind: &[u8], version: u8, text: &[u8]) -> Result<(), NoMemory>
+    ensures appended { OnOk result
+        (out.new.items ≡ out.old.items
+        ++ ((kind.now ++ spelled_text version text.now) ++ (10 ∷ []))) }
     ensures kept { Extends out.old.items out.new.items }
 {
-    put_bytes(out, kind)?;
-    put_number(out, n)
-}
-
-/// Appends a kind and two numbers after it.
-fn put_two(out: &mut Vec<u8>, kind: &[u8], first: u64, second: u64) -> Result<(), NoMemory>
-    ensures appended { OnOk result (out.new.items ≡ out.old.items ++ (kind.now ++ spelled (first ∷ second ∷ []))) }
-    ensures kept { Extends out.old.items out.new.items }
-{
-    put_one(out, kind, first)?;
-    put_number(out, second)
-}
-
-/// Appends a kind and three numbers after it.
-fn put_three(
-    out: &mut Vec<u8>,
-    kind: &[u8],
-    first: u64,
-    second: u64,
-    third: u64,
-) -> Result<(), NoMemory>
-    ensures appended { OnOk result (out.new.items ≡ out.old.items ++ (kind.now ++ spelled (first ∷ second ∷ third ∷ []))) }
-    ensures kept { Extends out.old.items out.new.items }
-{
-    put_two(out, kind, first, second)?;
-    put_number(out, third)
+    put_kind_text(out, kind, version, text)?;
+    put_feed(out)
 }
 
 /// Appends a kind and its blank, and a text after it.
-fn put_text_line(out: &mut Vec<u8>, kind: &[u8], version: u8, text: &[u8]) -> Result<(), NoMemory>
-    ensures appended { OnOk result (out.new.items ≡ out.old.items ++ (kind.now ++ spelled_text version text.now)) }
+fn put_kind_text(out: &mut Vec<u8>, kind: &[u8], version: u8, text: &[u8]) -> Result<(), NoMemory>
+    ensures appended { OnOk result
+        (out.new.items ≡ out.old.items ++ (kind.now ++ spelled_text version text.now)) }
     ensures kept { Extends out.old.items out.new.items }
 {
     put_bytes(out, kind)?;
     put_text(out, version, text)
 }
 
-fn put_bytes_kept(out: &mut Vec<u8>, bytes: &[u8]) -> Result<(), NoMemory>
-    ensures appended { OnOk result (out.new.items ≡ out.old.items ++ bytes.now) }
+/// Appends bytes and a line feed.
+fn put_whole_line(out: &mut Vec<u8>, bytes: &[u8]) -> Result<(), NoMemory>
+    ensures appended { OnOk result
+        (out.new.items ≡ out.old.items ++ (bytes.now ++ (10 ∷ []))) }
     ensures kept { Extends out.old.items out.new.items }
 {
-    put_bytes(out, bytes)
+    put_bytes(out, bytes)?;
+    put_feed(out)
+}
+
+/// Appends a line feed.
+fn put_feed(out: &mut Vec<u8>) -> Result<(), NoMemory>
+    ensures appended { OnOk result (out.new.items ≡ out.old.items ++ (10 ∷ [])) }
+    ensures kept { Extends out.old.items out.new.items }
+{
+    put_bytes(out, b"\n")
 }
 
 /// Appends the numbers of a tail, each after a blank.
@@ -197,7 +193,8 @@ fn put_number(out: &mut Vec<u8>, n: u64) -> Result<(), NoMemory>
 
 /// Appends a text or a name, in file version 3 after its size and a blank.
 fn put_text(out: &mut Vec<u8>, version: u8, text: &[u8]) -> Result<(), NoMemory>
-    ensures appended { OnOk result (out.new.items ≡ out.old.items ++ spelled_text version text.now) }
+    ensures appended { OnOk result
+        (out.new.items ≡ out.old.items ++ spelled_text version text.now) }
     ensures kept { Extends out.old.items out.new.items }
 {
     if version == 3 {

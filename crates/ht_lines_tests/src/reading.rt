@@ -1,6 +1,7 @@
 //! Lines with what each says or why it is refused, and the numbers of tails.
 use ht_lines::{
-    EventKind, EventLine, Form, Item, Malformed, event_line, field, next_number, read_item,
+    EventKind, EventLine, Form, Item, Malformed, RawEvent, RawLine, event_line, field, next_number,
+    raw_line, read_item,
 };
 use std::process::Abort;
 
@@ -190,5 +191,66 @@ fn finds_lines_of_events(rt: HostRuntime) {
     ];
     for (text, found) in texts {
         assert_eq!(rt; event(text), found, "at {text:?}");
+    }
+}
+
+/// What the line at the front of a text says in a raw trace, and the bytes of the line.
+fn raw(text: &[u8]) -> Option<(RawEvent, usize)> {
+    let RawLine { says, bytes } = raw_line(text)?;
+    Some((says, bytes))
+}
+
+#[test]
+fn finds_lines_of_raw_traces(rt: HostRuntime) {
+    let (size, trace, ptr) = (0x40, 2, 0x9000);
+    let texts: [(&[u8], Option<(RawEvent, usize)>); 9] = [
+        (
+            b"+ 40 2 9000\n# ..................................................\n",
+            Some((RawEvent::Allocation { size, trace, ptr }, 12)),
+        ),
+        (
+            b"- fFFFffff00000009\n# ..................................................\n",
+            Some((
+                RawEvent::Free {
+                    ptr: 0xffff_ffff_0000_0009,
+                },
+                19,
+            )),
+        ),
+        (
+            b"t 0 1\n# ..................................................\n",
+            Some((RawEvent::Node { ip: 0, parent: 1 }, 6)),
+        ),
+        (
+            b"+ 0000000000000001 0000000000000002 fFFFffff00000009\n",
+            Some((
+                RawEvent::Allocation {
+                    size: 1,
+                    trace: 2,
+                    ptr: 0xffff_ffff_0000_0009,
+                },
+                53,
+            )),
+        ),
+        (
+            b"- 00000000000000001\n# ..................................................\n",
+            None,
+        ),
+        (
+            b"+ 40 2\n# ..................................................\n",
+            None,
+        ),
+        (
+            b"+  40 2 9000\n# ..................................................\n",
+            None,
+        ),
+        (
+            b"- 9000 \n# ..................................................\n",
+            None,
+        ),
+        (b"- 9000\n", None),
+    ];
+    for (text, found) in texts {
+        assert_eq!(rt; raw(text), found, "at {text:?}");
     }
 }

@@ -1,4 +1,6 @@
 mod PeakLemmas
+mod Prefixes
+mod LeastLemmas
 mod Searches
 mod Sizes
 mod FlameLemmas

@@ -1,10 +1,11 @@
 -- Lemmas on the lines of a report's stacks and groups.
-use Rattle.std.proofs.Common.{◌≡◌, ℕ, ◌+◌, ◌-◌, ◌<◌, ◌≤◌, eqb, false, List, [], ◌∷◌, ◌++◌, length, map, take, get_or, refl, sym, ap, ◌∙◌, append_assoc, append-nil}
-use Rattle.std.specs.Prelude.{codes, decimal}
+use Rattle.std.proofs.Common.{◌≡◌, ℕ, ◌+◌, ◌-◌, ◌<◌, ◌≤◌, eqb, false, List, [], ◌∷◌, ◌++◌, length, map, take, get_or, Some, refl, sym, ap, ◌∙◌, append_assoc, append-nil, arith}
+use Rattle.std.specs.Prelude.{codes, decimal, slice_get}
 use Rattle.std.specs.List.{flat_map}
 use Rattle.std.proofs.lemmas.Bool.{cond-false}
 use Rattle.std.proofs.lemmas.List.{map_push, take_all, take_more}
 use Rattle.std.proofs.lemmas.Grind.{flat_map-append}
+use Rattle.std.proofs.lemmas.Option.{same_Some, slice_get_within}
 use Rattle.cost_tree.specs.StackTexts.{stack_texts}
 use Rattle.ht_trace.specs.FrameText.{frame_text}
 use Rattle.ht_trace.specs.StackFrames.{stack_frames}
@@ -42,9 +43,13 @@ pub texts-by : (tables : TableState) (stack : ℕ) (frames : List FrameAt) (firs
     → stack_texts Plain tables stack ≡ frame_text Plain tables first ∷ map (frame_text Plain tables) rest
 texts-by tables stack frames first rest are is = ap (λ (fs : List FrameAt). map (frame_text Plain tables) fs) (sym are ∙ is)
 
-pub place-by : (tables : TableState) (stack : ℕ) (frames : List FrameAt) (first : FrameAt) (rest : List FrameAt) → frames ≡ stack_frames tables.instructions tables.nodes stack → frames ≡ first ∷ rest → place_of tables stack ≡ frame_text Plain tables first
+pub place-first : (tables : TableState) (stack : ℕ) (at : FrameAt) → slice_get (stack_frames tables.instructions tables.nodes stack) 0 ≡ Some at → place_of tables stack ≡ frame_text Plain tables at
 unfolding place_of
-place-by tables stack frames first rest are is = ap innermost (texts-by tables stack frames first rest are is)
+place-first tables stack at is = by (stack_frames tables.instructions tables.nodes stack) is
+  where
+    by : (frames : List FrameAt) → slice_get frames 0 ≡ Some at → innermost (map (frame_text Plain tables) frames) ≡ frame_text Plain tables at
+    by [] none = absurd (let within = slice_get_within {A = FrameAt} [] 0 at none in omega arith)
+    by (first ∷ rest) some = ap (frame_text Plain tables) (same_Some first at some)
 
 pub others-by : (tables : TableState) (stack : ℕ) (frames : List FrameAt) (first : FrameAt) (rest : List FrameAt) → frames ≡ stack_frames tables.instructions tables.nodes stack → frames ≡ first ∷ rest → others (stack_texts Plain tables stack) ≡ map (frame_text Plain tables) rest
 others-by tables stack frames first rest are is = ap others (texts-by tables stack frames first rest are is)

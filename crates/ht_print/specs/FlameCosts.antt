@@ -25,7 +25,8 @@ abbrev pub cost_in : FlameCost → List Event → ℕ → ℕ
 cost_in Allocations events stack = calls_in stack events
 cost_in Temporary events stack = temporary_in stack events
 cost_in Leaked events stack = live_in stack events
-cost_in Peak events stack = live_in stack (first_events (first_greatest (totals (counted events))) events)
+cost_in Peak events stack = live_in stack
+    (first_events (first_greatest (totals (counted events))) events)
 
 -- the costs of so many stacks, by their numbers
 unfoldable pub trace_costs : FlameCost → ℕ → List Event → List ℕ

@@ -32,18 +32,22 @@ flame_path (text ∷ more) = flame_name text ++ flame_rest more
 
 -- the line of a front with its own sum, where that isn't 0
 unfoldable pub flame_line : List (List ℕ) → ℕ → List ℕ
-flame_line front sum = if sum == 0 then [] else flame_path front ++ (codes " " ++ (decimal sum ++ codes "\n"))
+flame_line front sum = if sum == 0 then []
+    else flame_path front ++ (codes " " ++ (decimal sum ++ codes "\n"))
 
 -- the line of a front, and then the lines of the fronts that begin with it and have up to so many texts more, those of
 -- one with a lower least stack first
 unfoldable pub flame_of : ℕ → List Costed → List (List ℕ) → List ℕ
 flame_of zero stacks front = flame_line front (own front stacks)
-flame_of (suc more) stacks front = flame_line front (own front stacks) ++ flat_map (λ next. flame_of more stacks next) (next_fronts front stacks)
+flame_of (suc more) stacks front = flame_line front (own front stacks)
+    ++ flat_map (λ next. flame_of more stacks next) (next_fronts front stacks)
 
 -- the lines of the stacks of a trace, whose texts are read from the outermost frame on
 unfoldable pub flame_text : TableState → List ℕ → List ℕ
-flame_text tables costs = flame_of most_frames (costed (lists_towards FromRoot Plain tables) costs) []
+flame_text tables costs = flame_of most_frames (costed (lists_towards FromRoot Plain tables) costs)
+    []
 
 -- the lines of a trace with these tables and events
 abbrev pub flame_of_trace : FlameCost → TableState → List Event → List ℕ
-flame_of_trace cost tables events = flame_text tables (trace_costs cost (length tables.nodes + 1) events)
+flame_of_trace cost tables events = flame_text tables
+    (trace_costs cost (length tables.nodes + 1) events)

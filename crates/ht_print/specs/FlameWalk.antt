@@ -22,7 +22,8 @@ pub record IsRooted (tree : TreeState) : Type 0 where
   pub count : length tree.fronts ≡ length tree.nodes
   pub some : 0 < length tree.nodes
   pub root : front_at tree 0 ≡ []
-  pub longer : (n : ℕ) (node : CostNode) → 0 < n → slice_get tree.nodes n ≡ Some node → front_at tree n ≡ front_at tree node.parent ++ last_text tree n ∷ []
+  pub longer : (n : ℕ) (node : CostNode) → 0 < n → slice_get tree.nodes n ≡ Some node
+      → front_at tree n ≡ front_at tree node.parent ++ last_text tree n ∷ []
 
 -- the lines of node n and of those below it, in a tree of fronts of at most `depth` texts
 abbrev pub flame_at : ℕ → TreeState → List Costed → ℕ → List ℕ

@@ -59,4 +59,5 @@ weight least greatest info = if is_in least greatest info.size then 1 else 0
 
 -- the same number by a ledger's counts of each info's allocations
 unfoldable pub allocations_at : LedgerState → ℕ → Option ℕ → ℕ
-allocations_at ledger least greatest = weighed (weight least greatest) ledger.infos ledger.info_calls
+allocations_at ledger least greatest = weighed (weight least greatest) ledger.infos
+    ledger.info_calls

@@ -1,6 +1,8 @@
 pub mod SummaryText
 pub mod Histogram
 pub mod Suppressed
+pub mod LeastPatterns
+pub mod MetFrames
 pub mod FlameCosts
 pub mod FlameText
 pub mod FlameWalk

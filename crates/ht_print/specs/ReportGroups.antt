@@ -27,7 +27,8 @@ places tables stacks = without_repeats bytes_eq (map (λ entry. place_of tables 
 
 -- the stacks of a place, as they stand
 unfoldable pub stacks_at : TableState → List Entry → List ℕ → List Entry
-stacks_at tables stacks place = filter (λ entry. bytes_eq place (place_of tables entry.stack)) stacks
+stacks_at tables stacks place = filter (λ entry. bytes_eq place (place_of tables entry.stack))
+    stacks
 
 -- the least of a number and the numbers of the stacks
 abbrev pub least_from : ℕ → List Entry → ℕ
@@ -41,8 +42,12 @@ least_stack (entry ∷ more) = least_from entry.stack more
 
 -- stacks as one entry: the sum of their figures, and the least of them
 abbrev pub joined : List Entry → Entry
-joined stacks = record { figure = sum_by (λ entry. entry.figure) stacks; stack = least_stack stacks }
+joined stacks = record {
+  figure = sum_by (λ entry. entry.figure) stacks;
+  stack = least_stack stacks;
+}
 
 -- the groups of the stacks, in order
 unfoldable pub ordered_groups : TableState → List Entry → List Entry
-ordered_groups tables stacks = in_order (map (λ place. joined (stacks_at tables stacks place)) (places tables stacks))
+ordered_groups tables stacks = in_order
+    (map (λ place. joined (stacks_at tables stacks place)) (places tables stacks))

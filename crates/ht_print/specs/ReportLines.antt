@@ -20,7 +20,9 @@ unit_text Temporary = codes "temporary"
 -- a figure, its unit, and its share of the whole
 unfoldable pub figure_text : Scale → ℕ → List ℕ
 figure_text scale figure =
-    decimal figure ++ (codes " " ++ (unit_text scale.unit ++ (codes " (" ++ (percent (hundredths_of figure scale.total) ++ codes ")"))))
+    decimal figure ++ (codes " "
+    ++ (unit_text scale.unit
+    ++ (codes " (" ++ (percent (hundredths_of figure scale.total) ++ codes ")"))))
 
 -- a line for each text, with blanks before it
 unfoldable pub frame_lines : List ℕ → List (List ℕ) → List ℕ
@@ -54,7 +56,8 @@ member_lines scale texts entry =
 -- the first so many stacks of a group, and how many are left
 unfoldable pub members_lines : TableState → Scale → ℕ → List Entry → List ℕ
 members_lines tables scale limit members =
-    flat_map (λ entry. member_lines scale (stack_texts Plain tables entry.stack) entry) (take limit members) ++
+    flat_map (λ entry. member_lines scale (stack_texts Plain tables entry.stack) entry)
+    (take limit members) ++
     left_line (codes "  more stacks: ") (length members - limit)
 
 -- the line of a group: its figure, and its place
@@ -63,12 +66,14 @@ place_line scale place figure = figure_text scale figure ++ (codes " at " ++ (pl
 
 -- a group of this place with these members
 unfoldable pub group_lines : TableState → Scale → ℕ → List ℕ → List Entry → ℕ → List ℕ
-group_lines tables scale limit place members figure = place_line scale place figure ++ members_lines tables scale limit members
+group_lines tables scale limit place members figure = place_line scale place figure
+    ++ members_lines tables scale limit members
 
 -- the group of an entry among stacks that are in order
 abbrev pub group_at : TableState → Scale → ℕ → List Entry → Entry → List ℕ
 group_at tables scale limit stacks group =
-    group_lines tables scale limit (place_of tables group.stack) (stacks_at tables stacks (place_of tables group.stack)) group.figure
+    group_lines tables scale limit (place_of tables group.stack)
+    (stacks_at tables stacks (place_of tables group.stack)) group.figure
 
 -- the first so many groups of the stacks, each with so many stacks, and how many groups are left
 unfoldable pub merged_lines : TableState → Scale → ℕ → ℕ → List Entry → List ℕ
@@ -79,5 +84,6 @@ merged_lines tables scale limit sub_limit stacks =
 -- the first so many stacks, and how many are left
 unfoldable pub unmerged_lines : TableState → Scale → ℕ → List Entry → List ℕ
 unmerged_lines tables scale limit stacks =
-    flat_map (λ entry. stack_lines scale (stack_texts Plain tables entry.stack) entry) (take limit stacks) ++
+    flat_map (λ entry. stack_lines scale (stack_texts Plain tables entry.stack) entry)
+    (take limit stacks) ++
     left_line (codes "more stacks: ") (length stacks - limit)

@@ -5,12 +5,14 @@ use Rattle.ht_print.specs.declared.entry.Entry.{Entry}
 
 -- whether the one stands before the other: its figure is greater, or it is the same and the stack's number is lower
 abbrev pub is_before : Entry → Entry → Bool
-is_before one other = nat_lt other.figure one.figure || (one.figure == other.figure && nat_lt one.stack other.stack)
+is_before one other = nat_lt other.figure one.figure
+    || (one.figure == other.figure && nat_lt one.stack other.stack)
 
 -- entries in order, with one more at its place
 abbrev pub placed : Entry → List Entry → List Entry
 placed entry [] = entry ∷ []
-placed entry (first ∷ more) = if is_before first entry then first ∷ placed entry more else entry ∷ first ∷ more
+placed entry (first ∷ more) = if is_before first entry then first ∷ placed entry more
+    else entry ∷ first ∷ more
 
 -- the entries in order
 abbrev pub in_order : List Entry → List Entry
@@ -19,7 +21,8 @@ in_order (entry ∷ more) = placed entry (in_order more)
 
 -- each stack with its figure, by number
 abbrev pub numbered : List ℕ → List Entry
-numbered figures = map (λ stack. record { figure = slice_index figures stack; stack = stack }) (range_with_len 0 (length figures))
+numbered figures = map (λ stack. record { figure = slice_index figures stack; stack = stack })
+    (range_with_len 0 (length figures))
 
 -- the stacks whose figure isn't 0, by number
 unfoldable pub some_stacks : List ℕ → List Entry

@@ -25,7 +25,8 @@ unsuppressed (is ∷ more) (figure ∷ figures) = (if is then 0 else figure) ∷
 abbrev pub suppressed_figures : List Bool → List ℕ → List ℕ
 suppressed_figures [] figures = []
 suppressed_figures (is ∷ more) [] = []
-suppressed_figures (is ∷ more) (figure ∷ figures) = (if is then figure else 0) ∷ suppressed_figures more figures
+suppressed_figures (is ∷ more) (figure ∷ figures) = (if is then figure else 0)
+    ∷ suppressed_figures more figures
 
 -- the stacks that have a figure, in groups or by themselves
 unfoldable pub stacks_text : PrintOptions → TableState → Scale → List Entry → List ℕ
@@ -38,15 +39,18 @@ stacks_text options tables scale (entry ∷ more) =
 -- the lines of a section with the figures of all stacks
 unfoldable pub section_lines : PrintOptions → TableState → Unit → List ℕ → List ℕ
 section_lines options tables unit figures =
-    stacks_text options tables (record { unit = unit; total = sum figures }) (ordered_stacks figures)
+    stacks_text options tables (record { unit = unit; total = sum figures })
+    (ordered_stacks figures)
 
 -- a section: its heading, its lines, and an empty line
 unfoldable pub section_text : PrintOptions → TableState → List ℕ → Unit → List ℕ → List ℕ
-section_text options tables heading unit figures = heading ++ (section_lines options tables unit figures ++ codes "\n")
+section_text options tables heading unit figures = heading
+    ++ (section_lines options tables unit figures ++ codes "\n")
 
 -- how many bytes the suppressed stacks have, where they have some
 unfoldable pub suppressed_line : ℕ → List ℕ
-suppressed_line bytes = if bytes == 0 then [] else codes "suppressed: " ++ (decimal bytes ++ codes " bytes\n")
+suppressed_line bytes = if bytes == 0 then []
+    else codes "suppressed: " ++ (decimal bytes ++ codes " bytes\n")
 
 -- the section of leaks with what each stack has live at the end: that of a suppressed stack is told in one line with the
 -- others
@@ -60,14 +64,19 @@ leaks_text options tables live =
 -- the sections of calls and of the peak
 unfoldable pub first_sections : PrintOptions → TableState → (FlameCost → List ℕ) → List ℕ
 first_sections options tables figures =
-    (if options.allocators then section_text options tables (codes "MOST CALLS TO ALLOCATION FUNCTIONS\n") Calls (figures figure.Allocations) else []) ++
-    (if options.peaks then section_text options tables (codes "PEAK MEMORY CONSUMERS\n") Bytes (figures figure.Peak) else [])
+    (if options.allocators
+    then section_text options tables (codes "MOST CALLS TO ALLOCATION FUNCTIONS\n") Calls
+    (figures figure.Allocations) else []) ++
+    (if options.peaks then section_text options tables (codes "PEAK MEMORY CONSUMERS\n") Bytes
+    (figures figure.Peak) else [])
 
 -- the sections of leaks and of temporary allocations
 unfoldable pub last_sections : PrintOptions → TableState → (FlameCost → List ℕ) → List ℕ
 last_sections options tables figures =
     (if options.leaks then leaks_text options tables (figures figure.Leaked) else []) ++
-    (if options.temporary then section_text options tables (codes "MOST TEMPORARY ALLOCATIONS\n") Temporary (figures figure.Temporary) else [])
+    (if options.temporary
+    then section_text options tables (codes "MOST TEMPORARY ALLOCATIONS\n") Temporary
+    (figures figure.Temporary) else [])
 
 -- the report on a trace with these tables and events
 unfoldable pub report_of_trace : PrintOptions → TableState → List Event → List ℕ

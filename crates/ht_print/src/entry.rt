@@ -51,7 +51,9 @@ fn some_stacks(alloc: Global, figures: &[u64]) -> Result<Vec<Entry>, NoMemory>
 
 /// Adds the stack where its figure isn't 0.
 fn add_stack(stacks: &mut Vec<Entry>, figure: u64, stack: u32) -> Result<(), NoMemory>
-    ensures { OnOk result (stacks.new.items ≡ stacks.old.items ++ (if nat_lt 0 figure then record { figure = figure; stack = stack } ∷ [] else [])) }
+    ensures { OnOk result
+        (stacks.new.items ≡ stacks.old.items
+        ++ (if nat_lt 0 figure then record { figure = figure; stack = stack } ∷ [] else [])) }
 {
     if figure == 0 {
         return Ok(());

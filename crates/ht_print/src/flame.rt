@@ -41,8 +41,11 @@ pub fn put_flame(
     out: &mut Vec<u8>,
 ) -> Result<(), NoMemory>
     requires as_many { peaks.now.ledger.stacks ≡ length tables.now.nodes + 1 }
-    ensures appended { OnOk result (out.new.items ≡ out.old.items ++ flame_text tables.now (flame_costs cost peaks.now)) }
-    ensures trace { OnOk result ((events : List Event) → StandsFor peaks.now events → out.new.items ≡ out.old.items ++ flame_of_trace cost tables.now events) }
+    ensures appended { OnOk result
+        (out.new.items ≡ out.old.items ++ flame_text tables.now (flame_costs cost peaks.now)) }
+    ensures trace { OnOk result
+        ((events : List Event) → StandsFor peaks.now events
+        → out.new.items ≡ out.old.items ++ flame_of_trace cost tables.now events) }
     ensures unchanged { OnErr result (out.new.items ≡ out.old.items) }
 {
     // Says what holds of all peaks.

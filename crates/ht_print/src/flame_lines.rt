@@ -19,7 +19,9 @@ use std::alloc::Global;
 /// Appends the lines of all nodes. On `NoMemory`, `out` holds what it held before.
 pub(crate) fn put_lines(alloc: Global, tree: &CostTree, out: &mut Vec<u8>) -> Result<(), NoMemory>
     requires tree { (stacks : List Costed) × IsTreeOf tree.now stacks most_frames }
-    ensures appended { OnOk result ((stacks : List Costed) → IsTreeOf tree.now stacks most_frames → out.new.items ≡ out.old.items ++ flame_of most_frames stacks []) }
+    ensures appended { OnOk result
+        ((stacks : List Costed) → IsTreeOf tree.now stacks most_frames
+        → out.new.items ≡ out.old.items ++ flame_of most_frames stacks []) }
     ensures unchanged { OnErr result (out.new.items ≡ out.old.items) }
 {
     let start = out.len();
@@ -33,7 +35,9 @@ pub(crate) fn put_lines(alloc: Global, tree: &CostTree, out: &mut Vec<u8>) -> Re
 /// Appends the lines of all nodes. On `NoMemory`, some of them may stand at the end of `out`.
 fn put_nodes(alloc: Global, tree: &CostTree, out: &mut Vec<u8>) -> Result<(), NoMemory>
     requires tree { (stacks : List Costed) × IsTreeOf tree.now stacks most_frames }
-    ensures appended { OnOk result ((stacks : List Costed) → IsTreeOf tree.now stacks most_frames → out.new.items ≡ out.old.items ++ flame_of most_frames stacks []) }
+    ensures appended { OnOk result
+        ((stacks : List Costed) → IsTreeOf tree.now stacks most_frames
+        → out.new.items ≡ out.old.items ++ flame_of most_frames stacks []) }
     ensures kept { Extends out.old.items out.new.items }
 {
     // The nodes whose lines are still to be written, the next one last.
@@ -55,7 +59,8 @@ fn push_children(
     left: &mut Vec<usize>,
 ) -> Result<(), NoMemory>
     requires held { n < length tree.now.nodes }
-    ensures appended { OnOk result (left.new.items ≡ left.old.items ++ reverse (children_of tree.now.nodes n)) }
+    ensures appended { OnOk result
+        (left.new.items ≡ left.old.items ++ reverse (children_of tree.now.nodes n)) }
 {
     tree.children_into(n, children)?;
     children.reverse();
@@ -72,7 +77,9 @@ fn put_line(
 ) -> Result<(), NoMemory>
     requires held { n < length tree.now.nodes }
     requires tree { IsRooted tree.now }
-    ensures appended { OnOk result ((node : CostNode) → slice_get tree.now.nodes n ≡ Some node → out.new.items ≡ out.old.items ++ flame_line (front_at tree.now n) node.own) }
+    ensures appended { OnOk result
+        ((node : CostNode) → slice_get tree.now.nodes n ≡ Some node
+        → out.new.items ≡ out.old.items ++ flame_line (front_at tree.now n) node.own) }
     ensures kept { Extends out.old.items out.new.items }
 {
     let own = tree.node(n).own;
@@ -106,7 +113,8 @@ fn collect_path(tree: &CostTree, n: usize, path: &mut Vec<usize>) -> Result<(), 
 /// Appends the last texts of the nodes, with semicolons between them.
 fn put_path(tree: &CostTree, path: &[usize], out: &mut Vec<u8>) -> Result<(), NoMemory>
     requires held { All (IsBelowRoot tree.now) path.now }
-    ensures appended { OnOk result (out.new.items ≡ out.old.items ++ flame_path (map (last_text tree.now) path.now)) }
+    ensures appended { OnOk result
+        (out.new.items ≡ out.old.items ++ flame_path (map (last_text tree.now) path.now)) }
     ensures kept { Extends out.old.items out.new.items }
 {
     let Some((first, rest)) = path.split_first() else {
@@ -119,7 +127,8 @@ fn put_path(tree: &CostTree, path: &[usize], out: &mut Vec<u8>) -> Result<(), No
 /// Appends the last texts of the nodes, with a semicolon before each.
 fn put_rest(tree: &CostTree, rest: &[usize], out: &mut Vec<u8>) -> Result<(), NoMemory>
     requires held { All (IsBelowRoot tree.now) rest.now }
-    ensures appended { OnOk result (out.new.items ≡ out.old.items ++ flame_rest (map (last_text tree.now) rest.now)) }
+    ensures appended { OnOk result
+        (out.new.items ≡ out.old.items ++ flame_rest (map (last_text tree.now) rest.now)) }
     ensures kept { Extends out.old.items out.new.items }
 {
     'each_node: for node in rest {
@@ -132,7 +141,8 @@ fn put_rest(tree: &CostTree, rest: &[usize], out: &mut Vec<u8>) -> Result<(), No
 /// Appends the last text of the node.
 fn put_node(tree: &CostTree, n: usize, out: &mut Vec<u8>) -> Result<(), NoMemory>
     requires held { IsBelowRoot tree.now n }
-    ensures appended { OnOk result (out.new.items ≡ out.old.items ++ flame_name (last_text tree.now n)) }
+    ensures appended { OnOk result
+        (out.new.items ≡ out.old.items ++ flame_name (last_text tree.now n)) }
     ensures kept { Extends out.old.items out.new.items }
 {
     put_name(tree.text(n), out)

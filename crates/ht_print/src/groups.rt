@@ -5,7 +5,7 @@ ghost use Rattle.ht_print.specs.ReportGroups.{ordered_groups, place_of, places};
 
 use crate::entry::Entry;
 use hp_num::NoMemory;
-use ht_trace::{FrameAt, Style, Tables};
+use ht_trace::{Style, Tables};
 use intern_tables::Names;
 use std::alloc::Global;
 
@@ -24,7 +24,8 @@ pub(crate) fn ordered_groups(
 ) -> Result<Vec<Group>, NoMemory>
     requires held { All (λ stack. stack.stack ≤ length tables.now.nodes) stacks.now }
     requires bound { sum_by (λ stack. stack.figure) stacks.now ≤ 2 ^ 62 }
-    ensures order { IfOk result (λ groups. map (λ group. group.entry) groups.items ≡ ordered_groups tables.now stacks.now) }
+    ensures order { IfOk result
+        (λ groups. map (λ group. group.entry) groups.items ≡ ordered_groups tables.now stacks.now) }
     ensures members { IfOk result (λ groups. All (IsShared tables.now stacks.now) groups.items) }
 {
     let mut groups = share_out(alloc, tables, stacks)?;
@@ -36,46 +37,38 @@ pub(crate) fn ordered_groups(
 fn share_out(alloc: Global, tables: &Tables, stacks: &[Entry]) -> Result<Vec<Group>, NoMemory>
     requires held { All (λ stack. stack.stack ≤ length tables.now.nodes) stacks.now }
     requires bound { sum_by (λ stack. stack.figure) stacks.now ≤ 2 ^ 62 }
-    ensures groups { IfOk result (λ groups. AreGroups tables.now stacks.now (places tables.now stacks.now) groups.items) }
+    ensures groups { IfOk result
+        (λ groups. AreGroups tables.now stacks.now (places tables.now stacks.now) groups.items) }
 {
     let mut places = Names::new(alloc);
     let mut groups = Vec::new(alloc);
-    let mut frames = Vec::new(alloc);
     let mut text = Vec::new(alloc);
     'each_stack: for stack in stacks {
-        read_place(tables, stack.stack, &mut frames, &mut text)?;
+        read_place(tables, stack.stack, &mut text)?;
         let number = places.intern(&text)?;
         add(alloc, &mut groups, number - 1, *stack)?;
     }
     Ok(groups)
 }
 
-/// Replaces `text` by the text of the stack's innermost frame. `frames` is a buffer.
-fn read_place(
-    tables: &Tables,
-    stack: u32,
-    frames: &mut Vec<FrameAt>,
-    text: &mut Vec<u8>,
-) -> Result<(), NoMemory>
+/// Replaces `text` by the text of the stack's innermost frame.
+fn read_place(tables: &Tables, stack: u32, text: &mut Vec<u8>) -> Result<(), NoMemory>
     requires held { stack ≤ length tables.now.nodes }
     ensures text { OnOk result (text.new.items ≡ place_of tables.now stack) }
 {
     text.clear();
-    tables.frames_into(stack, frames)?;
-    let Some((innermost, _)) = frames.split_first() else {
-        return Ok(());
-    };
-    tables.put_frame(innermost, Style::Plain, text)
+    tables.put_frame(&tables.innermost_frame(stack), Style::Plain, text)
 }
 
 /// Adds a stack to the group of a place, which is made where it is the next one.
 fn add(alloc: Global, groups: &mut Vec<Group>, place: usize, stack: Entry) -> Result<(), NoMemory>
     requires within { place ≤ length groups.old.items }
-    requires bound { (group : Group) → slice_get groups.old.items place ≡ Some group → group.entry.figure + stack.figure < 2 ^ 64 }
+    requires bound { (group : Group) → slice_get groups.old.items place ≡ Some group
+        → group.entry.figure + stack.figure < 2 ^ 64 }
     ensures added { OnOk result (Adds groups.old.items groups.new.items place stack) }
 {
     let Some(group) = groups.get_mut(place) else {
-        let mut members = Vec::new(alloc);
+        let mut members = Vec::with_capacity(alloc, 1)?;
         members.push(stack)?;
         groups.push(Group {
             entry: stack,

@@ -17,7 +17,9 @@ use live_ledger::{Ledger, sums_by_info};
 /// The ledger and the tables hold the same stacks and infos.
 pub fn put_histogram(ledger: &Ledger, tables: &Tables, out: &mut Vec<u8>) -> Result<(), NoMemory>
     requires beside { IsBeside tables.now ledger.now }
-    ensures appended { OnOk result ((events : List Event) → StandsFor ledger.now events → out.new.items ≡ out.old.items ++ histogram_text events) }
+    ensures appended { OnOk result
+        ((events : List Event) → StandsFor ledger.now events
+        → out.new.items ≡ out.old.items ++ histogram_text events) }
     ensures unchanged { OnErr result (out.new.items ≡ out.old.items) }
     ensures kept { Extends out.old.items out.new.items }
 {
@@ -34,7 +36,8 @@ pub fn put_histogram(ledger: &Ledger, tables: &Tables, out: &mut Vec<u8>) -> Res
 fn put_ranges(ledger: &Ledger, tables: &Tables, out: &mut Vec<u8>) -> Result<(), NoMemory>
     requires beside { IsBeside tables.now ledger.now }
     ensures kept { take (vec_len out.old) out.new.items ≡ out.old.items }
-    ensures appended { OnOk result (out.new.items ≡ out.old.items ++ histogram_lines (allocations_at ledger.now)) }
+    ensures appended { OnOk result
+        (out.new.items ≡ out.old.items ++ histogram_lines (allocations_at ledger.now)) }
 {
     put_bytes(out, b"SIZE HISTOGRAM\n")?;
     put_small_ranges(ledger, tables, out)?;
@@ -48,7 +51,8 @@ fn put_ranges(ledger: &Ledger, tables: &Tables, out: &mut Vec<u8>) -> Result<(),
 fn put_small_ranges(ledger: &Ledger, tables: &Tables, out: &mut Vec<u8>) -> Result<(), NoMemory>
     requires beside { IsBeside tables.now ledger.now }
     ensures kept { take (vec_len out.old) out.new.items ≡ out.old.items }
-    ensures appended { OnOk result (out.new.items ≡ out.old.items ++ small_ranges (allocations_at ledger.now)) }
+    ensures appended { OnOk result
+        (out.new.items ≡ out.old.items ++ small_ranges (allocations_at ledger.now)) }
 {
     put_range(ledger, tables, b"0 to 8", 0, Some(8), out)?;
     put_range(ledger, tables, b"9 to 16", 9, Some(16), out)?;
@@ -61,7 +65,8 @@ fn put_small_ranges(ledger: &Ledger, tables: &Tables, out: &mut Vec<u8>) -> Resu
 fn put_large_ranges(ledger: &Ledger, tables: &Tables, out: &mut Vec<u8>) -> Result<(), NoMemory>
     requires beside { IsBeside tables.now ledger.now }
     ensures kept { take (vec_len out.old) out.new.items ≡ out.old.items }
-    ensures appended { OnOk result (out.new.items ≡ out.old.items ++ large_ranges (allocations_at ledger.now)) }
+    ensures appended { OnOk result
+        (out.new.items ≡ out.old.items ++ large_ranges (allocations_at ledger.now)) }
 {
     put_range(ledger, tables, b"65 to 128", 65, Some(128), out)?;
     put_range(ledger, tables, b"129 to 256", 129, Some(256), out)?;
@@ -80,7 +85,9 @@ fn put_range(
 ) -> Result<(), NoMemory>
     requires beside { IsBeside tables.now ledger.now }
     ensures kept { take (vec_len out.old) out.new.items ≡ out.old.items }
-    ensures appended { OnOk result (out.new.items ≡ out.old.items ++ range_line label.now (allocations_at ledger.now least greatest)) }
+    ensures appended { OnOk result
+        (out.new.items ≡ out.old.items
+        ++ range_line label.now (allocations_at ledger.now least greatest)) }
 {
     let calls = allocations(ledger, tables, least, greatest);
     put_bytes(out, label)?;
@@ -114,7 +121,8 @@ fn allocations_of(
 ) -> u64
     requires beside { IsBeside tables.now ledger.now }
     requires held { info < length ledger.now.infos }
-    ensures value { (held : HeldInfo) → slice_get ledger.now.infos info ≡ Some held → result ≡ weight least greatest held * slice_index ledger.now.info_calls info }
+    ensures value { (held : HeldInfo) → slice_get ledger.now.infos info ≡ Some held
+        → result ≡ weight least greatest held * slice_index ledger.now.info_calls info }
     ensures within { result ≤ ledger.now.totals.calls }
 {
     let Some((size, _)) = tables.info(info) else {

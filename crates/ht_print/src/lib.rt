@@ -20,7 +20,9 @@
 //! (`ordered_stacks`). Where stacks are merged, they are shared out to groups by the text of their innermost frame,
 //! which is made once a stack and interned; so a group has its stacks in their order, and its sum and least stack while
 //! it is made (`ordered_groups`, `IsShared`). Only what is shown is written, each frame's text straight into the
-//! output.
+//! output. Patterns of suppressions are asked once for a frame: of those in order that don't begin with another, a text
+//! can begin only with the last that isn't behind it (`AreLeast`); what a stack's own instruction and its caller answer
+//! is the stack's answer.
 //!
 //! The tests of these calls are the crate `ht_print_tests`.
 //!
@@ -28,11 +30,12 @@
 //! |---|---|
 //! | `summary.rt`, `histogram.rt` | the six lines; the nine ranges of sizes |
 //! | `flame.rt`, `flame_lines.rt` | flame stacks, and the walk that writes them |
-//! | `report.rt`, `options.rt` | the report: which parts are asked for, and the figures of each |
+//! | `report.rt`, `options.rt`, `layout.rt` | the report: which parts are asked for, and the figures of each |
 //! | `section.rt` | a section around its entries; the leaks without those of suppressed stacks |
 //! | `entry.rt`, `groups.rt` | the stacks that have a figure, and the order; stacks in groups |
 //! | `report_lines.rt`, `scale.rt` | the lines of a stack and of a group; a figure with its unit and its share |
 //! | `suppressed.rt` | which stacks are suppressed |
+//! | `met_frames.rt`, `least_patterns.rt` | in which frames a pattern stands; whether one of some patterns stands in a text |
 #![tactic(auto)]
 
 mod entry;
@@ -40,6 +43,9 @@ mod flame;
 mod flame_lines;
 mod groups;
 mod histogram;
+mod layout;
+mod least_patterns;
+mod met_frames;
 mod options;
 mod report;
 mod report_lines;

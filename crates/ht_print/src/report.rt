@@ -15,6 +15,7 @@ ghost use Rattle.ht_print.specs.Suppressed.{suppressed_stacks};
 
 use crate::flame::{FlameCost, cost_of};
 use crate::histogram::put_histogram;
+use crate::layout::Layout;
 use crate::options::PrintOptions;
 use crate::scale::Unit;
 use crate::section::{put_leaks, put_section};
@@ -39,7 +40,9 @@ pub fn put_report(
 ) -> Result<(), NoMemory>
     requires beside { IsBeside tables.now peaks.now.ledger }
     requires suppressed { suppressed.now ≡ suppressed_stacks tables.now }
-    ensures appended { OnOk result ((events : List Event) → StandsFor peaks.now events → out.new.items ≡ out.old.items ++ report_of_trace options.now tables.now events) }
+    ensures appended { OnOk result
+        ((events : List Event) → StandsFor peaks.now events
+        → out.new.items ≡ out.old.items ++ report_of_trace options.now tables.now events) }
     ensures unchanged { OnErr result (out.new.items ≡ out.old.items) }
 {
     let before = out.len();
@@ -61,14 +64,20 @@ fn put_parts(
 ) -> Result<(), NoMemory>
     requires beside { IsBeside tables.now peaks.now.ledger }
     requires suppressed { suppressed.now ≡ suppressed_stacks tables.now }
-    ensures appended { OnOk result ((events : List Event) → StandsFor peaks.now events → out.new.items ≡ out.old.items ++ report_of_trace options.now tables.now events) }
+    ensures appended { OnOk result
+        ((events : List Event) → StandsFor peaks.now events
+        → out.new.items ≡ out.old.items ++ report_of_trace options.now tables.now events) }
     ensures kept { OnErr result (Extends out.old.items out.new.items) }
 {
     // Says what holds of all peaks.
     let _total = peaks.peak_total();
-    put_first_sections(alloc, options, tables, peaks, out)?;
-    put_last_sections(alloc, options, tables, peaks, suppressed, out)?;
-    put_wanted_histogram(options, tables, peaks, out)?;
+    let layout = Layout {
+        options: *options,
+        tables,
+    };
+    put_first_sections(alloc, &layout, peaks, out)?;
+    put_last_sections(alloc, &layout, peaks, suppressed, out)?;
+    put_wanted_histogram(&layout, peaks, out)?;
     put_summary(peaks, out)
 }
 
@@ -76,148 +85,161 @@ fn put_parts(
 #[tactic(auto, unfolding(crate::specs::ReportText::first_sections))]
 fn put_first_sections(
     alloc: Global,
-    options: &PrintOptions,
-    tables: &Tables,
+    layout: &Layout<'_>,
     peaks: &Peaks,
     out: &mut Vec<u8>,
 ) -> Result<(), NoMemory>
-    requires beside { IsBeside tables.now peaks.now.ledger }
+    requires beside { IsBeside layout.now.tables.now peaks.now.ledger }
     requires sound { IsSound peaks.now }
-    ensures appended { OnOk result (out.new.items ≡ out.old.items ++ first_sections options.now tables.now (λ cost. flame_costs cost peaks.now)) }
+    ensures appended { OnOk result
+        (out.new.items ≡ out.old.items
+        ++ first_sections layout.now.options layout.now.tables.now
+        (λ cost. flame_costs cost peaks.now)) }
     ensures kept { Extends out.old.items out.new.items }
 {
-    put_calls(alloc, options, tables, peaks, out)?;
-    put_peak(alloc, options, tables, peaks, out)
+    put_calls(alloc, layout, peaks, out)?;
+    put_peak(alloc, layout, peaks, out)
 }
 
 /// Appends the sections of leaks and of temporary allocations, where they are asked for.
 #[tactic(auto, unfolding(crate::specs::ReportText::last_sections))]
 fn put_last_sections(
     alloc: Global,
-    options: &PrintOptions,
-    tables: &Tables,
+    layout: &Layout<'_>,
     peaks: &Peaks,
     suppressed: &Suppressed,
     out: &mut Vec<u8>,
 ) -> Result<(), NoMemory>
-    requires beside { IsBeside tables.now peaks.now.ledger }
+    requires beside { IsBeside layout.now.tables.now peaks.now.ledger }
     requires sound { IsSound peaks.now }
-    requires suppressed { suppressed.now ≡ suppressed_stacks tables.now }
-    ensures appended { OnOk result (out.new.items ≡ out.old.items ++ last_sections options.now tables.now (λ cost. flame_costs cost peaks.now)) }
+    requires suppressed { suppressed.now ≡ suppressed_stacks layout.now.tables.now }
+    ensures appended { OnOk result
+        (out.new.items ≡ out.old.items
+        ++ last_sections layout.now.options layout.now.tables.now
+        (λ cost. flame_costs cost peaks.now)) }
     ensures kept { Extends out.old.items out.new.items }
 {
-    put_wanted_leaks(alloc, options, tables, peaks, suppressed, out)?;
-    put_temporary(alloc, options, tables, peaks, out)
+    put_wanted_leaks(alloc, layout, peaks, suppressed, out)?;
+    put_temporary(alloc, layout, peaks, out)
 }
 
 /// Appends the section of calls, where it is asked for.
 fn put_calls(
     alloc: Global,
-    options: &PrintOptions,
-    tables: &Tables,
+    layout: &Layout<'_>,
     peaks: &Peaks,
     out: &mut Vec<u8>,
 ) -> Result<(), NoMemory>
-    requires beside { IsBeside tables.now peaks.now.ledger }
+    requires beside { IsBeside layout.now.tables.now peaks.now.ledger }
     requires sound { IsSound peaks.now }
-    ensures appended { OnOk result (out.new.items ≡ out.old.items ++ (if options.now.allocators then section_text options.now tables.now (codes "MOST CALLS TO ALLOCATION FUNCTIONS\n") Unit.Calls (flame_costs FlameCost.Allocations peaks.now) else [])) }
+    ensures appended { OnOk result
+        (out.new.items ≡ out.old.items
+        ++ (if layout.now.options.allocators
+        then section_text layout.now.options layout.now.tables.now
+        (codes "MOST CALLS TO ALLOCATION FUNCTIONS\n")
+        Unit.Calls (flame_costs FlameCost.Allocations peaks.now) else [])) }
     ensures kept { Extends out.old.items out.new.items }
 {
-    if !options.allocators {
+    if !layout.options.allocators {
         return Ok(());
     }
     let heading = b"MOST CALLS TO ALLOCATION FUNCTIONS\n";
     let calls = costs(alloc, FlameCost::Allocations, peaks)?;
-    put_section(alloc, options, tables, heading, Unit::Calls, &calls, out)
+    put_section(alloc, layout, heading, Unit::Calls, &calls, out)
 }
 
 /// Appends the section of what is live at the peak, where it is asked for.
 fn put_peak(
     alloc: Global,
-    options: &PrintOptions,
-    tables: &Tables,
+    layout: &Layout<'_>,
     peaks: &Peaks,
     out: &mut Vec<u8>,
 ) -> Result<(), NoMemory>
-    requires beside { IsBeside tables.now peaks.now.ledger }
+    requires beside { IsBeside layout.now.tables.now peaks.now.ledger }
     requires sound { IsSound peaks.now }
-    ensures appended { OnOk result (out.new.items ≡ out.old.items ++ (if options.now.peaks then section_text options.now tables.now (codes "PEAK MEMORY CONSUMERS\n") Unit.Bytes (flame_costs FlameCost.Peak peaks.now) else [])) }
+    ensures appended { OnOk result
+        (out.new.items ≡ out.old.items
+        ++ (if layout.now.options.peaks
+        then section_text layout.now.options layout.now.tables.now (codes "PEAK MEMORY CONSUMERS\n")
+        Unit.Bytes
+        (flame_costs FlameCost.Peak peaks.now) else [])) }
     ensures kept { Extends out.old.items out.new.items }
 {
-    if !options.peaks {
+    if !layout.options.peaks {
         return Ok(());
     }
     let heading = b"PEAK MEMORY CONSUMERS\n";
     let shares = costs(alloc, FlameCost::Peak, peaks)?;
-    put_section(alloc, options, tables, heading, Unit::Bytes, &shares, out)
+    put_section(alloc, layout, heading, Unit::Bytes, &shares, out)
 }
 
 /// Appends the section of leaks, where it is asked for.
 fn put_wanted_leaks(
     alloc: Global,
-    options: &PrintOptions,
-    tables: &Tables,
+    layout: &Layout<'_>,
     peaks: &Peaks,
     suppressed: &Suppressed,
     out: &mut Vec<u8>,
 ) -> Result<(), NoMemory>
-    requires beside { IsBeside tables.now peaks.now.ledger }
+    requires beside { IsBeside layout.now.tables.now peaks.now.ledger }
     requires sound { IsSound peaks.now }
-    requires suppressed { suppressed.now ≡ suppressed_stacks tables.now }
-    ensures appended { OnOk result (out.new.items ≡ out.old.items ++ (if options.now.leaks then leaks_text options.now tables.now (flame_costs FlameCost.Leaked peaks.now) else [])) }
+    requires suppressed { suppressed.now ≡ suppressed_stacks layout.now.tables.now }
+    ensures appended { OnOk result
+        (out.new.items ≡ out.old.items
+        ++ (if layout.now.options.leaks
+        then leaks_text layout.now.options layout.now.tables.now
+        (flame_costs FlameCost.Leaked peaks.now) else [])) }
     ensures kept { Extends out.old.items out.new.items }
 {
-    if !options.leaks {
+    if !layout.options.leaks {
         return Ok(());
     }
     let live = costs(alloc, FlameCost::Leaked, peaks)?;
-    put_leaks(alloc, options, tables, suppressed, &live, out)
+    put_leaks(alloc, layout, suppressed, &live, out)
 }
 
 /// Appends the section of temporary allocations, where it is asked for.
 fn put_temporary(
     alloc: Global,
-    options: &PrintOptions,
-    tables: &Tables,
+    layout: &Layout<'_>,
     peaks: &Peaks,
     out: &mut Vec<u8>,
 ) -> Result<(), NoMemory>
-    requires beside { IsBeside tables.now peaks.now.ledger }
+    requires beside { IsBeside layout.now.tables.now peaks.now.ledger }
     requires sound { IsSound peaks.now }
-    ensures appended { OnOk result (out.new.items ≡ out.old.items ++ (if options.now.temporary then section_text options.now tables.now (codes "MOST TEMPORARY ALLOCATIONS\n") Unit.Temporary (flame_costs FlameCost.Temporary peaks.now) else [])) }
+    ensures appended { OnOk result
+        (out.new.items ≡ out.old.items
+        ++ (if layout.now.options.temporary
+        then section_text layout.now.options layout.now.tables.now
+        (codes "MOST TEMPORARY ALLOCATIONS\n")
+        Unit.Temporary (flame_costs FlameCost.Temporary peaks.now) else [])) }
     ensures kept { Extends out.old.items out.new.items }
 {
-    if !options.temporary {
+    if !layout.options.temporary {
         return Ok(());
     }
     let heading = b"MOST TEMPORARY ALLOCATIONS\n";
     let temporary = costs(alloc, FlameCost::Temporary, peaks)?;
-    put_section(
-        alloc,
-        options,
-        tables,
-        heading,
-        Unit::Temporary,
-        &temporary,
-        out,
-    )
+    put_section(alloc, layout, heading, Unit::Temporary, &temporary, out)
 }
 
 /// Appends the histogram, where it is asked for.
 fn put_wanted_histogram(
-    options: &PrintOptions,
-    tables: &Tables,
+    layout: &Layout<'_>,
     peaks: &Peaks,
     out: &mut Vec<u8>,
 ) -> Result<(), NoMemory>
-    requires beside { IsBeside tables.now peaks.now.ledger }
-    ensures appended { OnOk result ((events : List Event) → StandsFor peaks.now events → out.new.items ≡ out.old.items ++ (if options.now.histogram then histogram_text events else [])) }
+    requires beside { IsBeside layout.now.tables.now peaks.now.ledger }
+    ensures appended { OnOk result
+        ((events : List Event) → StandsFor peaks.now events
+        → out.new.items ≡ out.old.items
+        ++ (if layout.now.options.histogram then histogram_text events else [])) }
     ensures kept { Extends out.old.items out.new.items }
 {
-    if !options.histogram {
+    if !layout.options.histogram {
         return Ok(());
     }
-    put_histogram(peaks.ledger(), tables, out)
+    put_histogram(peaks.ledger(), layout.tables, out)
 }
 
 /// What each stack costs, by number, or `NoMemory`.

@@ -13,6 +13,7 @@ ghost use Rattle.ht_print.specs.ReportGroups.{place_of};
 ghost use Rattle.ht_print.specs.ReportLines.{frame_lines, group_lines, in_stack, left_line, member_lines, members_lines, place_line, stack_lines, unmerged_lines};
 
 use crate::entry::Entry;
+use crate::layout::Layout;
 use crate::scale::Scale;
 use hp_num::{NoMemory, put_bytes, put_dec};
 use ht_trace::{FrameAt, Style, Tables};
@@ -42,20 +43,21 @@ pub(crate) fn put_left(label: &[u8], left: usize, out: &mut Vec<u8>) -> Result<(
 
 /// Appends the first stacks, each by itself, and how many are left. `frames` is a buffer.
 pub(crate) fn put_stacks(
-    tables: &Tables,
+    layout: &Layout<'_>,
     scale: Scale,
-    limit: u32,
     stacks: &[Entry],
     frames: &mut Vec<FrameAt>,
     out: &mut Vec<u8>,
 ) -> Result<(), NoMemory>
-    requires entries { All (IsEntry tables.now scale.total) stacks.now }
-    ensures appended { OnOk result (out.new.items ≡ out.old.items ++ unmerged_lines tables.now scale limit stacks.now) }
+    requires entries { All (IsEntry layout.now.tables.now scale.total) stacks.now }
+    ensures appended { OnOk result
+        (out.new.items ≡ out.old.items
+        ++ unmerged_lines layout.now.tables.now scale layout.now.options.limit stacks.now) }
     ensures kept { Extends out.old.items out.new.items }
 {
-    let (shown, left) = split_shown(stacks, limit);
+    let (shown, left) = split_shown(stacks, layout.options.limit);
     'each_stack: for stack in shown {
-        put_stack(tables, scale, *stack, frames, out)?;
+        put_stack(layout.tables, scale, *stack, frames, out)?;
     }
     put_left(b"more stacks: ", left, out)
 }
@@ -70,7 +72,9 @@ fn put_stack(
     out: &mut Vec<u8>,
 ) -> Result<(), NoMemory>
     requires entry { IsEntry tables.now scale.total stack }
-    ensures appended { OnOk result (out.new.items ≡ out.old.items ++ stack_lines scale (stack_texts Plain tables.now stack.stack) stack) }
+    ensures appended { OnOk result
+        (out.new.items ≡ out.old.items
+        ++ stack_lines scale (stack_texts Plain tables.now stack.stack) stack) }
     ensures kept { Extends out.old.items out.new.items }
 {
     tables.frames_into(stack.stack, frames)?;
@@ -87,61 +91,58 @@ fn put_stack(
 /// Appends a group: its figure and its place, which is that of the stack, its first members, and how many are left. `frames`
 /// is a buffer.
 pub(crate) fn put_group(
-    tables: &Tables,
+    layout: &Layout<'_>,
     scale: Scale,
-    limit: u32,
     group: Entry,
     members: &[Entry],
     frames: &mut Vec<FrameAt>,
     out: &mut Vec<u8>,
 ) -> Result<(), NoMemory>
-    requires entry { IsEntry tables.now scale.total group }
-    requires members { All (IsEntry tables.now scale.total) members.now }
-    ensures appended { OnOk result (out.new.items ≡ out.old.items ++ group_lines tables.now scale limit (place_of tables.now group.stack) members.now group.figure) }
+    requires entry { IsEntry layout.now.tables.now scale.total group }
+    requires members { All (IsEntry layout.now.tables.now scale.total) members.now }
+    ensures appended { OnOk result
+        (out.new.items ≡ out.old.items
+        ++ group_lines layout.now.tables.now scale layout.now.options.sub_limit
+        (place_of layout.now.tables.now group.stack) members.now
+        group.figure) }
     ensures kept { Extends out.old.items out.new.items }
 {
-    put_place(tables, scale, group, frames, out)?;
-    put_members(tables, scale, limit, members, frames, out)
+    put_place(layout.tables, scale, group, out)?;
+    put_members(layout, scale, members, frames, out)
 }
 
-/// Appends the line of a group. `frames` is a buffer.
-fn put_place(
-    tables: &Tables,
-    scale: Scale,
-    group: Entry,
-    frames: &mut Vec<FrameAt>,
-    out: &mut Vec<u8>,
-) -> Result<(), NoMemory>
+/// Appends the line of a group.
+fn put_place(tables: &Tables, scale: Scale, group: Entry, out: &mut Vec<u8>) -> Result<(), NoMemory>
     requires entry { IsEntry tables.now scale.total group }
-    ensures appended { OnOk result (out.new.items ≡ out.old.items ++ place_line scale (place_of tables.now group.stack) group.figure) }
+    ensures appended { OnOk result
+        (out.new.items ≡ out.old.items
+        ++ place_line scale (place_of tables.now group.stack) group.figure) }
     ensures kept { Extends out.old.items out.new.items }
 {
-    tables.frames_into(group.stack, frames)?;
-    let Some((innermost, _)) = frames.split_first() else {
-        return Ok(());
-    };
+    let innermost = tables.innermost_frame(group.stack);
     scale.put(group.figure, out)?;
     put_bytes(out, b" at ")?;
-    tables.put_frame(innermost, Style::Plain, out)?;
+    tables.put_frame(&innermost, Style::Plain, out)?;
     put_bytes(out, b"\n")
 }
 
 /// Appends the first stacks of a group, and how many are left. `frames` is a buffer.
 fn put_members(
-    tables: &Tables,
+    layout: &Layout<'_>,
     scale: Scale,
-    limit: u32,
     members: &[Entry],
     frames: &mut Vec<FrameAt>,
     out: &mut Vec<u8>,
 ) -> Result<(), NoMemory>
-    requires members { All (IsEntry tables.now scale.total) members.now }
-    ensures appended { OnOk result (out.new.items ≡ out.old.items ++ members_lines tables.now scale limit members.now) }
+    requires members { All (IsEntry layout.now.tables.now scale.total) members.now }
+    ensures appended { OnOk result
+        (out.new.items ≡ out.old.items
+        ++ members_lines layout.now.tables.now scale layout.now.options.sub_limit members.now) }
     ensures kept { Extends out.old.items out.new.items }
 {
-    let (shown, left) = split_shown(members, limit);
+    let (shown, left) = split_shown(members, layout.options.sub_limit);
     'each_member: for member in shown {
-        put_member(tables, scale, *member, frames, out)?;
+        put_member(layout.tables, scale, *member, frames, out)?;
     }
     put_left(b"  more stacks: ", left, out)
 }
@@ -156,7 +157,9 @@ fn put_member(
     out: &mut Vec<u8>,
 ) -> Result<(), NoMemory>
     requires entry { IsEntry tables.now scale.total member }
-    ensures appended { OnOk result (out.new.items ≡ out.old.items ++ member_lines scale (stack_texts Plain tables.now member.stack) member) }
+    ensures appended { OnOk result
+        (out.new.items ≡ out.old.items
+        ++ member_lines scale (stack_texts Plain tables.now member.stack) member) }
     ensures kept { Extends out.old.items out.new.items }
 {
     tables.frames_into(member.stack, frames)?;
@@ -188,7 +191,9 @@ fn put_frames(
     out: &mut Vec<u8>,
 ) -> Result<(), NoMemory>
     requires frames { All (λ at. IsFrame tables.now at) frames.now }
-    ensures appended { OnOk result (out.new.items ≡ out.old.items ++ frame_lines blanks.now (map (frame_text Plain tables.now) frames.now)) }
+    ensures appended { OnOk result
+        (out.new.items ≡ out.old.items
+        ++ frame_lines blanks.now (map (frame_text Plain tables.now) frames.now)) }
     ensures kept { Extends out.old.items out.new.items }
 {
     'each_frame: for at in frames {

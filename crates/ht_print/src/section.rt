@@ -11,33 +11,33 @@ ghost use Rattle.ht_print.specs.Suppressed.{suppressed_stacks};
 
 use crate::entry::{Entry, ordered_stacks};
 use crate::groups::{Group, ordered_groups};
-use crate::options::PrintOptions;
+use crate::layout::Layout;
 use crate::report_lines::{put_group, put_left, put_stacks, split_shown};
 use crate::scale::{Scale, Unit};
 use crate::suppressed::Suppressed;
 use hp_num::{NoMemory, put_bytes, put_dec};
-use ht_trace::Tables;
 use std::alloc::Global;
 
 /// Appends a section with the figures of all stacks: its heading, its stacks, and an empty line.
 #[tactic(auto, unfolding(crate::specs::ReportText::section_text))]
 pub(crate) fn put_section(
     alloc: Global,
-    options: &PrintOptions,
-    tables: &Tables,
+    layout: &Layout<'_>,
     heading: &[u8],
     unit: Unit,
     figures: &[u64],
     out: &mut Vec<u8>,
 ) -> Result<(), NoMemory>
-    requires as_many { length figures.now ≡ length tables.now.nodes + 1 }
+    requires as_many { length figures.now ≡ length layout.now.tables.now.nodes + 1 }
     requires few { length figures.now < 2 ^ 32 }
     requires bound { sum figures.now ≤ 2 ^ 62 }
-    ensures appended { OnOk result (out.new.items ≡ out.old.items ++ section_text options.now tables.now heading.now unit figures.now) }
+    ensures appended { OnOk result
+        (out.new.items ≡ out.old.items
+        ++ section_text layout.now.options layout.now.tables.now heading.now unit figures.now) }
     ensures kept { Extends out.old.items out.new.items }
 {
     put_bytes(out, heading)?;
-    put_figures(alloc, options, tables, unit, figures, out)?;
+    put_figures(alloc, layout, unit, figures, out)?;
     put_bytes(out, b"\n")
 }
 
@@ -45,22 +45,23 @@ pub(crate) fn put_section(
 #[tactic(auto, unfolding(crate::specs::ReportText::leaks_text))]
 pub(crate) fn put_leaks(
     alloc: Global,
-    options: &PrintOptions,
-    tables: &Tables,
+    layout: &Layout<'_>,
     suppressed: &Suppressed,
     live: &[u64],
     out: &mut Vec<u8>,
 ) -> Result<(), NoMemory>
-    requires as_many { length live.now ≡ length tables.now.nodes + 1 }
+    requires as_many { length live.now ≡ length layout.now.tables.now.nodes + 1 }
     requires few { length live.now < 2 ^ 32 }
-    requires suppressed { suppressed.now ≡ suppressed_stacks tables.now }
+    requires suppressed { suppressed.now ≡ suppressed_stacks layout.now.tables.now }
     requires bound { sum live.now ≤ 2 ^ 62 }
-    ensures appended { OnOk result (out.new.items ≡ out.old.items ++ leaks_text options.now tables.now live.now) }
+    ensures appended { OnOk result
+        (out.new.items ≡ out.old.items
+        ++ leaks_text layout.now.options layout.now.tables.now live.now) }
     ensures kept { Extends out.old.items out.new.items }
 {
     let leaks = unsuppressed(alloc, suppressed, live)?;
     put_bytes(out, b"MEMORY LEAKS\n")?;
-    put_figures(alloc, options, tables, Unit::Bytes, &leaks, out)?;
+    put_figures(alloc, layout, Unit::Bytes, &leaks, out)?;
     put_suppressed(sum_of(live) - sum_of(&leaks), out)?;
     put_bytes(out, b"\n")
 }
@@ -106,16 +107,17 @@ fn put_suppressed(bytes: u64, out: &mut Vec<u8>) -> Result<(), NoMemory>
 /// Appends the stacks that have a figure, or that none has.
 fn put_figures(
     alloc: Global,
-    options: &PrintOptions,
-    tables: &Tables,
+    layout: &Layout<'_>,
     unit: Unit,
     figures: &[u64],
     out: &mut Vec<u8>,
 ) -> Result<(), NoMemory>
-    requires as_many { length figures.now ≡ length tables.now.nodes + 1 }
+    requires as_many { length figures.now ≡ length layout.now.tables.now.nodes + 1 }
     requires few { length figures.now < 2 ^ 32 }
     requires bound { sum figures.now ≤ 2 ^ 62 }
-    ensures appended { OnOk result (out.new.items ≡ out.old.items ++ section_lines options.now tables.now unit figures.now) }
+    ensures appended { OnOk result
+        (out.new.items ≡ out.old.items
+        ++ section_lines layout.now.options layout.now.tables.now unit figures.now) }
     ensures kept { Extends out.old.items out.new.items }
 {
     let scale = Scale {
@@ -123,7 +125,7 @@ fn put_figures(
         total: sum_of(figures),
     };
     let stacks = ordered_stacks(alloc, figures)?;
-    put_entries(alloc, options, tables, scale, &stacks, out)
+    put_entries(alloc, layout, scale, &stacks, out)
 }
 
 /// The sum of the figures.
@@ -138,72 +140,69 @@ fn sum_of(figures: &[u64]) -> u64
 #[tactic(auto, unfolding(crate::specs::ReportText::stacks_text))]
 fn put_entries(
     alloc: Global,
-    options: &PrintOptions,
-    tables: &Tables,
+    layout: &Layout<'_>,
     scale: Scale,
     stacks: &[Entry],
     out: &mut Vec<u8>,
 ) -> Result<(), NoMemory>
-    requires entries { All (IsEntry tables.now scale.total) stacks.now }
+    requires entries { All (IsEntry layout.now.tables.now scale.total) stacks.now }
     requires within { sum_by (λ stack. stack.figure) stacks.now ≤ scale.total }
     requires bound { scale.total ≤ 2 ^ 62 }
-    ensures appended { OnOk result (out.new.items ≡ out.old.items ++ stacks_text options.now tables.now scale stacks.now) }
+    ensures appended { OnOk result
+        (out.new.items ≡ out.old.items
+        ++ stacks_text layout.now.options layout.now.tables.now scale stacks.now) }
     ensures kept { Extends out.old.items out.new.items }
 {
     if stacks.is_empty() {
         return put_bytes(out, b"(none)\n");
     }
-    if options.merge {
-        return put_merged(alloc, options, tables, scale, stacks, out);
+    if layout.options.merge {
+        return put_merged(alloc, layout, scale, stacks, out);
     }
     let mut frames = Vec::new(alloc);
-    put_stacks(tables, scale, options.limit, stacks, &mut frames, out)
+    put_stacks(layout, scale, stacks, &mut frames, out)
 }
 
 /// Appends the groups of the stacks.
 fn put_merged(
     alloc: Global,
-    options: &PrintOptions,
-    tables: &Tables,
+    layout: &Layout<'_>,
     scale: Scale,
     stacks: &[Entry],
     out: &mut Vec<u8>,
 ) -> Result<(), NoMemory>
-    requires entries { All (IsEntry tables.now scale.total) stacks.now }
+    requires entries { All (IsEntry layout.now.tables.now scale.total) stacks.now }
     requires within { sum_by (λ stack. stack.figure) stacks.now ≤ scale.total }
     requires bound { scale.total ≤ 2 ^ 62 }
-    ensures appended { OnOk result (out.new.items ≡ out.old.items ++ merged_lines tables.now scale options.now.limit options.now.sub_limit stacks.now) }
+    ensures appended { OnOk result
+        (out.new.items ≡ out.old.items
+        ++ merged_lines layout.now.tables.now scale layout.now.options.limit
+        layout.now.options.sub_limit stacks.now) }
     ensures kept { Extends out.old.items out.new.items }
 {
-    let groups = ordered_groups(alloc, tables, stacks)?;
-    put_groups(alloc, options, tables, scale, &groups, out)
+    let groups = ordered_groups(alloc, layout.tables, stacks)?;
+    put_groups(alloc, layout, scale, &groups, out)
 }
 
 /// Appends the first groups, and how many are left.
 fn put_groups(
     alloc: Global,
-    options: &PrintOptions,
-    tables: &Tables,
+    layout: &Layout<'_>,
     scale: Scale,
     groups: &[Group],
     out: &mut Vec<u8>,
 ) -> Result<(), NoMemory>
-    requires groups { All (IsWritable tables.now scale.total) groups.now }
-    ensures appended { OnOk result (out.new.items ≡ out.old.items ++ groups_lines tables.now scale options.now.limit options.now.sub_limit groups.now) }
+    requires groups { All (IsWritable layout.now.tables.now scale.total) groups.now }
+    ensures appended { OnOk result
+        (out.new.items ≡ out.old.items
+        ++ groups_lines layout.now.tables.now scale layout.now.options.limit
+        layout.now.options.sub_limit groups.now) }
     ensures kept { Extends out.old.items out.new.items }
 {
     let mut frames = Vec::new(alloc);
-    let (shown, left) = split_shown(groups, options.limit);
+    let (shown, left) = split_shown(groups, layout.options.limit);
     'each_group: for group in shown {
-        put_group(
-            tables,
-            scale,
-            options.sub_limit,
-            group.entry,
-            &group.members,
-            &mut frames,
-            out,
-        )?;
+        put_group(layout, scale, group.entry, &group.members, &mut frames, out)?;
     }
     put_left(b"more places: ", left, out)
 }

@@ -21,7 +21,9 @@ struct Summary {
 /// Appends the six lines to `out`: events, calls, temporary allocations, allocated bytes, the peak in bytes with its moment
 /// in events, and the bytes and blocks that are live at the end. On `NoMemory`, `out` holds what it held before.
 pub fn put_summary(peaks: &Peaks, out: &mut Vec<u8>) -> Result<(), NoMemory>
-    ensures appended { OnOk result ((events : List Event) → StandsFor peaks.now events → out.new.items ≡ out.old.items ++ summary_text events) }
+    ensures appended { OnOk result
+        ((events : List Event) → StandsFor peaks.now events
+        → out.new.items ≡ out.old.items ++ summary_text events) }
     ensures unchanged { OnErr result (out.new.items ≡ out.old.items) }
 {
     let before = out.len();
@@ -47,7 +49,8 @@ impl Summary {
     /// Appends the six lines.
     fn put(&self, out: &mut Vec<u8>) -> Result<(), NoMemory>
         ensures kept { take (vec_len out.old) out.new.items ≡ out.old.items }
-        ensures appended { OnOk result (out.new.items ≡ out.old.items ++ (count_lines self.now ++ live_lines self.now)) }
+        ensures appended { OnOk result
+            (out.new.items ≡ out.old.items ++ (count_lines self.now ++ live_lines self.now)) }
     {
         self.put_counts(out)?;
         self.put_live(out)

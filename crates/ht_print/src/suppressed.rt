@@ -1,14 +1,13 @@
 //! Which stacks are suppressed: those of which a frame's text has one of the trace's patterns in it.
-ghost use Rattle.std.specs.Prelude.{◌≡◌, ◌+◌, ◌-◌, ◌≤◌, ◌<◌, ◌^◌, [], length, All, IfOk, slice_index_or, Some, slice_get};
-ghost use Rattle.ht_trace.specs.IsFrame.{IsFrame};
-ghost use Rattle.ht_trace.specs.declared.frame.Style.TheVariants.{Plain};
-ghost use Rattle.ht_trace.specs.FrameText.{frame_text};
-ghost use Rattle.std.specs.List.{list_any};
-ghost use Rattle.ht_print.specs.Suppressed.{is_suppressed, meets_any, stands_in, suppressed_stacks};
+//! A stack's answer is that of its own instruction, or else that of the stack that it is called from.
+ghost use Rattle.std.specs.Prelude.{◌≡◌, ◌+◌, ◌≤◌, ◌<◌, length, map, IfOk, Some, slice_get};
+ghost use Rattle.std.specs.List.{range_with_len};
+ghost use Rattle.ht_print.specs.MetFrames.{AreMet};
+ghost use Rattle.ht_print.specs.Suppressed.{is_suppressed, suppressed_stacks};
 
+use crate::met_frames::MetFrames;
 use hp_num::NoMemory;
-use ht_trace::{FrameAt, Style, Tables};
-use memchr::memmem;
+use ht_trace::Tables;
 use std::alloc::Global;
 use std::marker::Model;
 
@@ -31,14 +30,10 @@ impl Suppressed {
     /// a frame is made.
     pub fn build(alloc: Global, tables: &Tables) -> Result<Suppressed, NoMemory>
         ensures stacks { IfOk result (λ suppressed. suppressed ≡ suppressed_stacks tables.now) }
-        ensures count { IfOk result (λ suppressed. length suppressed ≡ length tables.now.nodes + 1) }
+        ensures count { IfOk result
+            (λ suppressed. length suppressed ≡ length tables.now.nodes + 1) }
     {
-        let mut frames = Vec::new(alloc);
-        let mut text = Vec::new(alloc);
-        let mut stacks = Vec::with_capacity(alloc, tables.stacks() as usize)?;
-        'each_stack: for stack in 0..tables.stacks() {
-            stacks.push(is_suppressed(tables, stack, &mut frames, &mut text)?)?;
-        }
+        let stacks = suppressed_stacks(alloc, tables)?;
         Ok(Suppressed { stacks })
     }
 
@@ -51,69 +46,37 @@ impl Suppressed {
     }
 }
 
-/// Whether a frame's text of the stack has a pattern in it. The vectors are overwritten.
-fn is_suppressed(
-    tables: &Tables,
-    stack: u32,
-    frames: &mut Vec<FrameAt>,
-    text: &mut Vec<u8>,
-) -> Result<bool, NoMemory>
-    requires held { stack ≤ length tables.now.nodes }
-    ensures { IfOk result (λ answer. answer ≡ is_suppressed tables.now stack) }
+/// For each stack whether it is suppressed, or `NoMemory`.
+fn suppressed_stacks(alloc: Global, tables: &Tables) -> Result<Vec<bool>, NoMemory>
+    ensures { IfOk result (λ stacks. stacks.items ≡ suppressed_stacks tables.now) }
 {
+    let count = tables.stacks() as usize;
     if tables.suppressions() == 0 {
-        return Ok(false);
+        return Ok(vec![in alloc; false; count]?);
     }
-    tables.frames_into(stack, frames)?;
-    any_is_suppressed(tables, frames, text)
+    let met = MetFrames::of(alloc, tables)?;
+    let mut stacks = Vec::with_capacity(alloc, count)?;
+    'each_stack: for stack in 0..tables.stacks() {
+        stacks.push(is_suppressed(tables, &met, &stacks, stack))?;
+    }
+    Ok(stacks)
 }
 
-/// Whether the text of one of the frames has a pattern in it.
-fn any_is_suppressed(
-    tables: &Tables,
-    frames: &[FrameAt],
-    text: &mut Vec<u8>,
-) -> Result<bool, NoMemory>
-    requires frames { All (λ at. IsFrame tables.now at) frames.now }
-    ensures { IfOk result (λ answer. answer ≡ list_any (λ at. meets_any tables.now.patterns (frame_text Plain tables.now at)) frames.now) }
+/// Whether the stack is suppressed, by the answers for the stacks before it.
+fn is_suppressed(tables: &Tables, met: &MetFrames, before: &[bool], stack: u32) -> bool
+    requires held { stack ≤ length tables.now.nodes }
+    requires met { AreMet tables.now met.now }
+    requires before { before.now ≡ map (is_suppressed tables.now) (range_with_len 0 stack) }
+    ensures { result ≡ is_suppressed tables.now stack }
 {
-    'each_frame: for at in frames {
-        text.clear();
-        tables.put_frame(at, Style::Plain, text)?;
-        if meets_any(tables, text) {
-            return Ok(true);
-        }
+    let Some((instruction, caller)) = tables.node(stack) else {
+        return met.no_stack;
+    };
+    if met.instructions[instruction as usize] {
+        return true;
     }
-    Ok(false)
-}
-
-/// Whether the text has a pattern in it.
-fn meets_any(tables: &Tables, text: &[u8]) -> bool
-    ensures { result ≡ meets_any tables.now.patterns text.now }
-{
-    'each_pattern: for n in 0..tables.suppressions() {
-        if stands(tables, n, text) {
-            return true;
-        }
+    if caller == 0 {
+        return false;
     }
-    false
-}
-
-/// Whether the pattern of a place, from 0, stands in the text.
-fn stands(tables: &Tables, place: u32, text: &[u8]) -> bool
-    requires held { place < length tables.now.patterns }
-    requires few { place < 2 ^ 32 - 1 }
-    ensures { result ≡ stands_in text.now (slice_index_or tables.now.patterns place []) }
-{
-    match tables.suppression(place + 1) {
-        Some(pattern) => stands_in(text, pattern),
-        None => false,
-    }
-}
-
-/// Whether the pattern stands in the text as consecutive bytes.
-fn stands_in(text: &[u8], pattern: &[u8]) -> bool
-    ensures { result ≡ stands_in text.now pattern.now }
-{
-    memmem::find(text, pattern).is_some()
+    before[caller as usize]
 }

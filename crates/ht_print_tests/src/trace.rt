@@ -66,7 +66,8 @@ fn read_line(trace: &mut Trace, line: &[u8]) -> Result<(), Fail>
 /// Takes what a line brings beside the tables.
 fn take(peaks: &mut Peaks, step: Step) -> Result<(), Fail>
     requires { CanTake peaks.old.ledger step }
-    ensures stacks { OnOk result (peaks.new.ledger.stacks ≡ peaks.old.ledger.stacks + stacks_in step) }
+    ensures stacks { OnOk result
+        (peaks.new.ledger.stacks ≡ peaks.old.ledger.stacks + stacks_in step) }
     ensures infos { OnOk result (peaks.new.ledger.infos ≡ peaks.old.ledger.infos ++ infos_in step) }
 {
     match step {

@@ -1,12 +1,12 @@
 -- What each kind of line keeps of the tables.
-use Rattle.std.proofs.Common.{◌≡◌, ℕ, zero, suc, ◌+◌, ◌-◌, ◌%◌, ◌<◌, ◌≤◌, Bool, true, false, cond, eqb, List, [], ◌∷◌, ◌++◌, length, get_or, Option, Some, None, refl, sym, ap, ◌∙◌, arith, subst, ◌⊎◌, inl, inr, true≢false, length-append}
+use Rattle.std.proofs.Common.{◌≡◌, ℕ, zero, suc, ◌+◌, ◌-◌, ◌%◌, ◌<◌, ◌≤◌, Bool, true, false, cond, eqb, List, [], ◌∷◌, ◌++◌, length, get_or, map, Option, Some, None, refl, sym, ap, ◌∙◌, arith, subst, ◌⊎◌, inl, inr, true≢false, length-append}
 use Rattle.std.specs.Prelude.{◌&&◌, nat_le, nat_lt, slice_get, unwrap_or}
 use Rattle.std.specs.Option.{option_or}
-use Rattle.std.specs.List.{All, AllByRecursion, flat_map}
+use Rattle.std.specs.List.{All, AllByRecursion, flat_map, range_with_len}
 use Rattle.std.specs.Option.{option_map}
 use Rattle.std.proofs.lemmas.List.Elements.{All-append, All-nil}
 use Rattle.std.proofs.lemmas.List.FromFn.{get_or-map-range_with_len}
-use Rattle.std.proofs.lemmas.Option.{slice_get-get_or, slice_get_past}
+use Rattle.std.proofs.lemmas.Option.{get_or_from_slice_get, slice_get-get_or, slice_get_past, slice_get_within}
 use Rattle.std.proofs.lemmas.Bool.{cases_lt}
 use Rattle.std.proofs.lemmas.Bool.Decides.{nat_tests}
 use Rattle.hp_num.proofs.Laws.{and-true}
@@ -194,7 +194,7 @@ sound-none count = record {
 }
 
 -- the frames of an instruction that is held: it has some, and each is one of the tables
-some-frames-of : (strings : ℕ) (held : List Instruction) (n : ℕ) → AllByRecursion (IsNamed strings) held → n ≤ length held → 0 < length (frames_of held n)
+pub some-frames-of : (strings : ℕ) (held : List Instruction) (n : ℕ) → AllByRecursion (IsNamed strings) held → n ≤ length held → 0 < length (frames_of held n)
 some-frames-of strings held zero named within = omega (arith, length-frames_of held 0)
 some-frames-of strings held (suc n) named within =
     let here = slice_get-get_or held (suc n - 1) (record { ip = 0; module_string = 0; frames = [] }) (omega arith) in
@@ -220,7 +220,7 @@ some-stack-frame version strings held nodes infos (suc n) sound within =
         omega (arith, own, length-append (frames_of held ip) (flat_map (frames_of held) ips))
 
 -- the frames of a stack are frames of the tables
-place-frames : (held : List Instruction) (n : ℕ) → All (λ (at : FrameAt). at.index < place_count held at.instruction) (frames_of held n)
+pub place-frames : (held : List Instruction) (n : ℕ) → All (λ (at : FrameAt). at.index < place_count held at.instruction) (frames_of held n)
 place-frames held n = λ k d within.
     let count = length-frames_of held n in
     let at = λ (index : ℕ). let frame : FrameAt = record { instruction = n; index = index } in frame in
@@ -246,6 +246,22 @@ stack-places held nodes zero = λ k d within. one k d within
 stack-places held nodes (suc n) =
     let above : eqb (suc n) 0 ≡ false = grind (arith, nat_tests) in
     rw above (all-places held (stack nodes (suc n)))
+
+-- the first frame of an instruction, and that of a stack
+head-of : (n k : ℕ) (more : List FrameAt) → 0 < k → slice_get (map (λ (index : ℕ). let at : FrameAt = record { instruction = n; index = index } in at) (range_with_len 0 k) ++ more) 0 ≡ Some (record { instruction = n; index = 0 })
+head-of n zero more some = absurd (omega (arith, some))
+head-of n (suc k) more some = refl
+
+pub head-frame : (held : List Instruction) (n : ℕ) (more : List FrameAt) → 1 ≤ length (frames_of held n)
+    → slice_get (frames_of held n ++ more) 0 ≡ Some (record { instruction = n; index = 0 })
+head-frame held n more some =
+    let frames = length-frames_of held n in
+    head-of n (unwrap_or (frame_count_of held n) 0) more (omega (arith, some, frames))
+
+pub first-place : (held : List Instruction) (nodes : List Node) (n : ℕ) (at : FrameAt) → slice_get (stack_frames held nodes n) 0 ≡ Some at → at.index < place_count held at.instruction
+first-place held nodes n at is =
+    subst (λ (place : FrameAt). place.index < place_count held place.instruction) (get_or_from_slice_get (stack_frames held nodes n) 0 at at is)
+    (stack-places held nodes n 0 at (slice_get_within (stack_frames held nodes n) 0 at is))
 
 -- the stack of an event is that of its info, which is held
 held-event : (old new : TableState) (kind : ℕ → ℕ → ℕ → Event) (info : ℕ) (found : Option HeldInfo) → ((stack size : ℕ) → stack ≤ length old.nodes → HasHeldEvent new (kind info stack size))

@@ -1,5 +1,5 @@
 -- The frames of a stack, node by node.
-use Rattle.std.proofs.Common.{◌≡◌, ℕ, zero, suc, ◌+◌, ◌-◌, ◌≤◌, false, cond, eqb, List, [], ◌∷◌, ◌++◌, length, map, reverse, Option, refl, ap, ◌∙◌, arith, length-append}
+use Rattle.std.proofs.Common.{◌≡◌, ℕ, zero, suc, ◌+◌, ◌-◌, ◌≤◌, Bool, false, cond, eqb, List, [], ◌∷◌, ◌++◌, length, map, reverse, Option, refl, ap, ◌∙◌, arith, length-append}
 use Rattle.std.specs.Prelude.{unwrap_or}
 use Rattle.std.specs.List.{flat_map, range_with_len, AllByRecursion}
 use Rattle.std.proofs.lemmas.Bool.Decides.{nat_tests}
@@ -9,7 +9,7 @@ use Rattle.stack_table.specs.Node.{Node}
 use Rattle.stack_table.specs.Stack.{outwards, stack, stack_nodes}
 use Rattle.ht_trace.specs.declared.frame.FrameAt.{FrameAt}
 use Rattle.ht_trace.specs.Instruction.{Instruction, frame_count_of}
-use Rattle.ht_trace.specs.StackFrames.{frames_of, no_stack, stack_frames}
+use Rattle.ht_trace.specs.StackFrames.{frames_of, no_stack, outer_frames, stack_frames}
 
 -- the place of a frame
 abbrev place : ℕ → ℕ → FrameAt
@@ -46,6 +46,19 @@ steps_out held nodes n instruction parent is =
 -- beyond the outermost node nothing is left
 pub nothing_left : (held : List Instruction) (nodes : List Node) (n : ℕ) → n ≡ 0 → flat_map (frames_of held) (stack nodes n) ≡ []
 nothing_left held nodes n is = ap (λ (k : ℕ). flat_map (frames_of held) (stack nodes k)) is ∙ ap (flat_map (frames_of held)) (stack-zero nodes)
+
+-- so are those of the stack that a node is called from
+outer-are : (held : List Instruction) (nodes : List Node) (parent : ℕ) → flat_map (frames_of held) (stack nodes parent) ≡ outer_frames held nodes parent
+outer-are held nodes zero = nothing_left held nodes 0 refl
+outer-are held nodes (suc n) = let above : eqb (suc n) 0 ≡ false = grind (arith, nat_tests) in rw above refl
+
+pub node-frames : (held : List Instruction) (nodes : List Node) (n instruction parent : ℕ) → 1 ≤ n → stack nodes n ≡ instruction ∷ stack nodes parent
+    → stack_frames held nodes n ≡ frames_of held instruction ++ outer_frames held nodes parent
+node-frames held nodes n instruction parent some is =
+    let above : eqb n 0 ≡ false = grind (arith, nat_tests) in
+    ap (λ (b : Bool). cond b (no_stack ∷ []) (flat_map (frames_of held) (stack nodes n))) above
+    ∙ (steps_out held nodes n instruction parent is).frames
+    ∙ ap (λ (frames : List FrameAt). frames_of held instruction ++ frames) (outer-are held nodes parent)
 
 -- a number up to the count that no node has is 0
 pub outermost : (n count : ℕ) → ((1 ≤ n) × (n ≤ count) → ⊥) → n ≤ count → n ≡ 0

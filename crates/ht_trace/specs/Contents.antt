@@ -13,7 +13,8 @@ version_in _ = None
 
 -- the file versions that the lines give; a version line reads alike in each file version
 abbrev pub versions : List (List ℕ) → List ℕ
-versions lines = filter_map (λ line. option_and_then version_in (result_ok (reading Interpreted 1 line))) lines
+versions lines = filter_map
+    (λ line. option_and_then version_in (result_ok (reading Interpreted 1 line))) lines
 
 -- the file version of a trace, which its first version line gives
 abbrev pub version_of : List (List ℕ) → Option ℕ
@@ -25,4 +26,5 @@ file_version lines = unwrap_or (version_of lines) 1
 
 -- what each line says
 abbrev pub contents : List (List ℕ) → List Content
-contents lines = filter_map (λ line. result_ok (reading Interpreted (file_version lines) line)) lines
+contents lines = filter_map (λ line. result_ok (reading Interpreted (file_version lines) line))
+    lines

@@ -27,7 +27,9 @@ pub record IsGrown (old new : TableState) : Type 0 where
 pub record Continues (old new : TableState) : Type 0 where
   pub grown : IsGrown old new
   pub held : length old.nodes ≤ length new.nodes
-  pub frames : (n : ℕ) → n ≤ length old.nodes → stack_frames new.instructions new.nodes n ≡ stack_frames old.instructions old.nodes n
+  pub frames : (n : ℕ) → n ≤ length old.nodes
+      → stack_frames new.instructions new.nodes n ≡ stack_frames old.instructions old.nodes n
   pub places : (at : FrameAt) → IsFrame old at → IsFrame new at
-  pub texts : (style : Style) (at : FrameAt) → IsFrame old at → frame_text style new at ≡ frame_text style old at
+  pub texts : (style : Style) (at : FrameAt) → IsFrame old at
+      → frame_text style new at ≡ frame_text style old at
   pub functions : (at : FrameAt) → IsFrame old at → function_at new at ≡ function_at old at

@@ -11,7 +11,8 @@ abbrev pub triples : List ℕ → List Frame
 triples [] = []
 triples (function ∷ []) = []
 triples (function ∷ file ∷ []) = []
-triples (function ∷ file ∷ line ∷ more) = record { function = function; file = file; line = line } ∷ triples more
+triples (function ∷ file ∷ line ∷ more) = record { function = function; file = file; line = line }
+    ∷ triples more
 
 -- no numbers say one frame that names nothing; a first function that has no file stands alone before the triples
 abbrev pub frames_said : List ℕ → List Frame

@@ -13,4 +13,5 @@ pub record Instruction : Type 0 where
 -- how many frames instruction n has, where it is held: instruction 0, which stands for none, has one
 abbrev pub frame_count_of : List Instruction → ℕ → Option ℕ
 frame_count_of instructions n =
-    if n == 0 then Some 1 else option_map (λ instruction. length instruction.frames) (slice_get instructions (n - 1))
+    if n == 0 then Some 1
+    else option_map (λ instruction. length instruction.frames) (slice_get instructions (n - 1))

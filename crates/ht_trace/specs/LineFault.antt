@@ -31,14 +31,16 @@ growth_fault count most = if nat_lt count most then None else Some TooMany
 
 -- whether each frame's function and file is one of so many strings, or 0 for none
 abbrev pub frames_held : ℕ → List Frame → Bool
-frames_held count frames = list_all (λ frame. nat_le frame.function count && nat_le frame.file count) frames
+frames_held count frames = list_all
+    (λ frame. nat_le frame.function count && nat_le frame.file count) frames
 
 abbrev pub held_fault : ℕ → List Frame → Option LineError
 held_fault count frames = if frames_held count frames then None else Some UnknownString
 
 -- where they are held, one more instruction is wanted
 abbrev pub append_fault : ℕ → ℕ → List Frame → Option LineError
-append_fault string_count count frames = option_or (held_fault string_count frames) (growth_fault count most_entries)
+append_fault string_count count frames = option_or (held_fault string_count frames)
+    (growth_fault count most_entries)
 
 -- the module, functions and files of an instruction are strings, or 0; the line numbers of its frames are no references
 abbrev pub instruction_fault : ℕ → ℕ → ℕ → List Frame → Option LineError
@@ -57,7 +59,8 @@ node_fault nodes (Some frames) parent =
 
 -- an info's trace is a node or 0
 abbrev pub info_fault : ℕ → ℕ → ℕ → Option LineError
-info_fault node_count count trace = if nat_lt node_count trace then Some UnknownTrace else growth_fault count most_entries
+info_fault node_count count trace = if nat_lt node_count trace then Some UnknownTrace
+    else growth_fault count most_entries
 
 -- the info of an allocation or a free is held; infos are numbered from 0
 abbrev pub reference_fault : ℕ → ℕ → Option LineError
@@ -65,16 +68,20 @@ reference_fault count info = if nat_lt info count then None else Some UnknownAll
 
 -- the pattern of a text is one more, where it has one
 abbrev pub pattern_fault : ℕ → List ℕ → Option LineError
-pattern_fault count text = if is_some (pattern_of text) then growth_fault count most_entries else None
+pattern_fault count text = if is_some (pattern_of text) then growth_fault count most_entries
+    else None
 
 -- the fault of what a line says, beside the tables so far
 abbrev pub content_fault : TableState → Content → Option LineError
 content_fault tables (version_line heaptrack file) = second_fault tables.version
 content_fault tables (string_line bytes) = growth_fault (length tables.strings) most_entries
 content_fault tables (instruction_line ip module_string numbers) =
-    instruction_fault (length tables.strings) (length tables.instructions) module_string (frames_said numbers)
-content_fault tables (node_line instruction parent) = node_fault tables.nodes (frame_count_of tables.instructions instruction) parent
-content_fault tables (info_line size trace) = info_fault (length tables.nodes) (length tables.infos) trace
+    instruction_fault (length tables.strings) (length tables.instructions) module_string
+    (frames_said numbers)
+content_fault tables (node_line instruction parent) = node_fault tables.nodes
+    (frame_count_of tables.instructions instruction) parent
+content_fault tables (info_line size trace) = info_fault (length tables.nodes) (length tables.infos)
+    trace
 content_fault tables (allocation_line info) = reference_fault (length tables.infos) info
 content_fault tables (free_line info) = reference_fault (length tables.infos) info
 content_fault tables (suppression_line bytes) = pattern_fault (length tables.patterns) bytes
@@ -88,7 +95,8 @@ reading_fault tables (Err fault) = Some (of_malformed fault)
 -- the fault of a line beside the tables so far
 abbrev pub fault_in : TableState → List ℕ → Option LineError
 fault_in tables line =
-    if is_some tables.version || may_stand_first line then reading_fault tables (reading Interpreted (unwrap_or tables.version 1) line)
+    if is_some tables.version || may_stand_first line
+    then reading_fault tables (reading Interpreted (unwrap_or tables.version 1) line)
     else Some NoVersion
 
 -- the fault of a line after earlier lines, if it has one; texts of suppressions were given before them all

@@ -23,13 +23,18 @@ event_of_info FreeKind info held = Free info held.stack held.size
 -- whatever lines the tables stand for, the line has no fault after them, brings the event, and leaves the tables as
 -- they are
 pub record PassesLine (tables : TableState) (line : List ℕ) (event : Event) : Type 0 where
-  pub no_fault : (given lines : List (List ℕ)) → StandsAfter tables given lines → line_fault_after given lines line ≡ None
-  pub brings : (given lines : List (List ℕ)) → StandsAfter tables given lines → step_of lines line ≡ step.Event event
-  pub stands : (given lines : List (List ℕ)) → StandsAfter tables given lines → StandsAfter tables given (lines ++ line ∷ [])
-  pub events : (given lines : List (List ℕ)) → StandsAfter tables given lines → events (lines ++ line ∷ []) ≡ events lines ++ event ∷ []
+  pub no_fault : (given lines : List (List ℕ)) → StandsAfter tables given lines
+      → line_fault_after given lines line ≡ None
+  pub brings : (given lines : List (List ℕ)) → StandsAfter tables given lines
+      → step_of lines line ≡ step.Event event
+  pub stands : (given lines : List (List ℕ)) → StandsAfter tables given lines
+      → StandsAfter tables given (lines ++ line ∷ [])
+  pub events : (given lines : List (List ℕ)) → StandsAfter tables given lines
+      → events (lines ++ line ∷ []) ≡ events lines ++ event ∷ []
 
 -- this holds of each line that says in every file version an allocation or a free of a held info
 pub record PassesEvents (tables : TableState) : Type 0 where
   pub each : (line : List ℕ) (kind : EventKind) (info : ℕ) (held : HeldInfo)
       → ((version : ℕ) → reading Interpreted version line ≡ Ok (event_content kind info))
-      → slice_get tables.infos info ≡ Some held → PassesLine tables line (event_of_info kind info held)
+      → slice_get tables.infos info ≡ Some held
+      → PassesLine tables line (event_of_info kind info held)

@@ -9,7 +9,8 @@ after_leak text = if starts_with nat_eq text (codes "leak:") then drop 5 text el
 -- the pattern of a text: none where that is empty or the text begins with `#`
 abbrev pub pattern_of : List ℕ → Option (List ℕ)
 pattern_of text =
-    if starts_with nat_eq text (codes "#") || length (after_leak text) == 0 then None else Some (after_leak text)
+    if starts_with nat_eq text (codes "#") || length (after_leak text) == 0 then None
+    else Some (after_leak text)
 
 -- the patterns of texts
 abbrev pub patterns_of : List (List ℕ) → List (List ℕ)

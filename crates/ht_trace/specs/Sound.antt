@@ -10,7 +10,8 @@ use Rattle.ht_trace.specs.StackFrames.{frames_of}
 -- an instruction has a frame, and the strings that it names are among so many, or 0 for none
 pub record IsNamed (string_count : ℕ) (instruction : Instruction) : Type 0 where
   pub module_held : instruction.module_string ≤ string_count
-  pub frames_held : AllByRecursion (λ frame. (frame.function ≤ string_count) × (frame.file ≤ string_count)) instruction.frames
+  pub frames_held : AllByRecursion
+      (λ frame. (frame.function ≤ string_count) × (frame.file ≤ string_count)) instruction.frames
   pub some_frame : 0 < length instruction.frames
 
 -- the instructions of a stack are held, and it has as many frames as its nodes say, of which there are at most 4,096;
@@ -22,7 +23,8 @@ pub record IsSoundStack (instructions : List Instruction) (nodes : List Node) (n
   pub some : 0 < n → 0 < length (stack nodes n)
 
 -- the file version is one that there is, and strings, instructions and stacks are held where they are referred to
-pub record IsSound (version : Option ℕ) (string_count : ℕ) (instructions : List Instruction) (nodes : List Node) (infos : List HeldInfo) : Type 0 where
+pub record IsSound (version : Option ℕ) (string_count : ℕ) (instructions : List Instruction)
+    (nodes : List Node) (infos : List HeldInfo) : Type 0 where
   pub low : 1 ≤ unwrap_or version 1
   pub high : unwrap_or version 1 ≤ 3
   pub named : AllByRecursion (IsNamed string_count) instructions

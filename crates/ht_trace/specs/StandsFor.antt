@@ -11,7 +11,8 @@ use Rattle.ht_trace.specs.TableState.{TableState, tables_after}
 pub record StandsAfter (tables : TableState) (given lines : List (List ℕ)) : Type 0 where
   pub tables_is : tables ≡ tables_after given lines
   pub no_fault : gathered (line_fault_after given) [] lines ≡ []
-  pub first : is_some tables.version ≡ false → AllByRecursion (λ line. may_stand_first line ≡ true) lines
+  pub first : is_some tables.version ≡ false
+      → AllByRecursion (λ line. may_stand_first line ≡ true) lines
 
 -- the same where none were given
 abbrev pub StandsFor : TableState → List (List ℕ) → Type 0

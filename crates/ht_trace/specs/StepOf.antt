@@ -15,8 +15,10 @@ use Rattle.ht_trace.specs.TraceLists.{infos}
 
 -- the event of what a line says: an allocation or a free of one of these infos, or a clock value
 abbrev pub event_in : List HeldInfo → Content → Option Event
-event_in held (allocation_line info) = option_map (λ found. Alloc info found.stack found.size) (slice_get held info)
-event_in held (free_line info) = option_map (λ found. Free info found.stack found.size) (slice_get held info)
+event_in held (allocation_line info) = option_map (λ found. Alloc info found.stack found.size)
+    (slice_get held info)
+event_in held (free_line info) = option_map (λ found. Free info found.stack found.size)
+    (slice_get held info)
 event_in held (clock_line ms) = Some (Tick ms)
 event_in held _ = None
 
@@ -38,7 +40,8 @@ reading_step held (Err fault) = step.Nothing
 
 -- what a line brings after earlier lines, where it has no fault
 abbrev pub step_of : List (List ℕ) → List ℕ → Step
-step_of earlier line = reading_step (infos (contents earlier)) (reading Interpreted (file_version earlier) line)
+step_of earlier line = reading_step (infos (contents earlier))
+    (reading Interpreted (file_version earlier) line)
 
 -- the event that a step brings
 abbrev pub event_of : Step → Option Event

@@ -53,7 +53,11 @@ patterns said = filter_map pattern_in said
 -- a node's instruction pointer is the number of its instruction, one of those before it, and it has the frames of it
 abbrev pub node_in : List Instruction → Content → Option Node
 node_in held (node_line instruction parent) =
-    Some (record { ip = instruction; parent = parent; frames = unwrap_or (frame_count_of held instruction) 0 })
+    Some (record {
+      ip = instruction;
+      parent = parent;
+      frames = unwrap_or (frame_count_of held instruction) 0;
+    })
 node_in held _ = None
 
 -- the nodes, numbered from 1

@@ -18,7 +18,9 @@ pub fn put_text(
     style: Style,
     out: &mut Vec<u8>,
 ) -> Result<(), NoMemory>
-    ensures appended { OnOk result (out.new.items ≡ out.old.items ++ text_of style strings.now at.now.index (frame_at instructions.now at.now)) }
+    ensures appended { OnOk result
+        (out.new.items ≡ out.old.items
+        ++ text_of style strings.now at.now.index (frame_at instructions.now at.now)) }
     ensures unchanged { OnErr result (out.new.items ≡ out.old.items) }
 {
     let start = out.len();
@@ -34,7 +36,8 @@ pub fn put_text(
 
 /// Appends the text of the frame of instruction 0, or that of stack 0.
 fn put_unnamed(index: u32, out: &mut Vec<u8>) -> Result<(), NoMemory>
-    ensures appended { OnOk result (out.new.items ≡ out.old.items ++ text_of Style.Plain [] index None) }
+    ensures appended { OnOk result
+        (out.new.items ≡ out.old.items ++ text_of Style.Plain [] index None) }
     ensures kept { Extends out.old.items out.new.items }
 {
     if index == 0 {
@@ -50,7 +53,8 @@ fn put_found(
     style: Style,
     out: &mut Vec<u8>,
 ) -> Result<(), NoMemory>
-    ensures appended { OnOk result (out.new.items ≡ out.old.items ++ found_text style strings.now found.now) }
+    ensures appended { OnOk result
+        (out.new.items ≡ out.old.items ++ found_text style strings.now found.now) }
     ensures kept { Extends out.old.items out.new.items }
 {
     put_address(found.ip, style, out)?;
@@ -80,7 +84,8 @@ fn put_name(
     style: Style,
     out: &mut Vec<u8>,
 ) -> Result<(), NoMemory>
-    ensures appended { OnOk result (out.new.items ≡ out.old.items ++ name_text style strings.now found.now) }
+    ensures appended { OnOk result
+        (out.new.items ≡ out.old.items ++ name_text style strings.now found.now) }
     ensures kept { Extends out.old.items out.new.items }
 {
     if found.frame.function != 0 {
@@ -102,7 +107,8 @@ fn put_place(
     style: Style,
     out: &mut Vec<u8>,
 ) -> Result<(), NoMemory>
-    ensures appended { OnOk result (out.new.items ≡ out.old.items ++ place_text style strings.now found.now) }
+    ensures appended { OnOk result
+        (out.new.items ≡ out.old.items ++ place_text style strings.now found.now) }
     ensures kept { Extends out.old.items out.new.items }
 {
     if found.frame.file != 0 {

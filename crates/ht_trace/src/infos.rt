@@ -47,9 +47,11 @@ impl InfoTable {
 
     /// Adds an info. `TooMany` comes exactly where 2^32 - 1 are held.
     pub fn add(&mut self, size: u64, stack: u32) -> Result<(), LineError>
-        ensures added { OnOk result (self.new ≡ self.old ++ record { stack = stack; size = size } ∷ []) }
+        ensures added { OnOk result
+            (self.new ≡ self.old ++ record { stack = stack; size = size } ∷ []) }
         ensures no_fault { OnOk result (growth_fault (length self.old) most_entries ≡ None) }
-        ensures fault { IfErr result (λ error. Tells error (growth_fault (length self.old) most_entries)) }
+        ensures fault { IfErr result
+            (λ error. Tells error (growth_fault (length self.old) most_entries)) }
         ensures unchanged { OnErr result (self.new ≡ self.old) }
     {
         if self.entries.len() == MAX_INFOS {
@@ -62,7 +64,9 @@ impl InfoTable {
     /// The info of a number, where it is held.
     pub fn get(&self, n: u64) -> Option<InfoEntry>
         ensures none { IfNone result (slice_get self.now n ≡ None) }
-        ensures some { IfSome result (λ entry. slice_get self.now n ≡ Some (record { stack = entry.stack; size = entry.size })) }
+        ensures some { IfSome result
+            (λ entry. slice_get self.now n
+            ≡ Some (record { stack = entry.stack; size = entry.size })) }
         ensures past { IfNone result (length self.now ≤ n) }
         ensures held { IfSome result (λ entry. n < length self.now) }
         ensures small { IfSome result (λ entry. n < 2 ^ 32 - 1) }

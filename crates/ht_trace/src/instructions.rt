@@ -70,26 +70,34 @@ impl InstructionTable {
         strings: u32,
     ) -> Result<(), LineError>
         requires { length (fields tail.now) + 2 ≡ field_count }
-        ensures added { OnOk result (self.new ≡ self.old ++ record { ip = ip; module_string = module_string; frames = frames_said (numbers tail.now) } ∷ []) }
-        ensures no_fault { OnOk result (instruction_fault strings (length self.old) module_string (frames_said (numbers tail.now)) ≡ None) }
-        ensures fault { IfErr result (λ error. Tells error (instruction_fault strings (length self.old) module_string (frames_said (numbers tail.now)))) }
+        ensures added { OnOk result
+            (self.new ≡ self.old
+            ++ record {
+              ip = ip;
+              module_string = module_string;
+              frames = frames_said (numbers tail.now);
+            } ∷ []) }
+        ensures no_fault { OnOk result
+            (instruction_fault strings (length self.old) module_string
+            (frames_said (numbers tail.now)) ≡ None) }
+        ensures fault { IfErr result
+            (λ error. Tells error
+            (instruction_fault strings (length self.old) module_string
+            (frames_said (numbers tail.now)))) }
         ensures unchanged { OnErr result (self.new ≡ self.old) }
     {
         if module_string > u64::from(strings) {
             return Err(LineError::UnknownString);
         }
-        let module_string = module_string as u32;
         let start = self.frames.len();
-        let entries = &mut self.entries;
-        match append(
-            entries,
-            &mut self.frames,
+        let front = InstructionEntry {
             ip,
-            module_string,
-            field_count,
-            tail,
-            strings,
-        ) {
+            start,
+            count: 0,
+            module_string: module_string as u32,
+        };
+        let entries = &mut self.entries;
+        match append(entries, &mut self.frames, front, field_count, tail, strings) {
             Ok(()) => Ok(()),
             Err(error) => {
                 self.frames.truncate(start);
@@ -114,6 +122,14 @@ impl InstructionTable {
         })
     }
 
+    /// How many instructions there are, which is the greatest number of one.
+    pub fn len(&self) -> u32
+        ensures count { result ≡ length self.now }
+        ensures bound { result ≤ 2 ^ 32 - 1 }
+    {
+        self.entries.len() as u32
+    }
+
     /// How many frames the instruction of a number has, where it is held. Instruction 0 stands for none.
     pub fn frame_count(&self, n: u64) -> Option<u32>
         ensures count { result ≡ frame_count_of self.now n }
@@ -128,37 +144,43 @@ impl InstructionTable {
     }
 }
 
-/// Appends the frames of a tail, and the entry of their instruction. After an error more frames may stand at the end.
+/// Appends the frames of a tail, and the entry of their instruction, which has none yet. After an error more frames may
+/// stand at the end.
 fn append(
     entries: &mut Vec<InstructionEntry>,
     frames: &mut Vec<Frame>,
-    ip: u64,
-    module_string: u32,
+    front: InstructionEntry,
     field_count: u32,
     tail: &[u8],
     strings: u32,
 ) -> Result<(), LineError>
+    requires start { front.start ≡ length frames.old.items }
     requires whole { length (fields tail.now) + 2 ≡ field_count }
     requires few { length entries.old.items ≤ 2 ^ 32 - 1 }
-    ensures frames { OnOk result (frames.new.items ≡ frames.old.items ++ frames_said (numbers tail.now)) }
-    ensures entry { OnOk result (entries.new.items ≡ entries.old.items ++ record { ip = ip; start = length frames.old.items; count = length (frames_said (numbers tail.now)); module_string = module_string } ∷ []) }
+    ensures frames { OnOk result
+        (frames.new.items ≡ frames.old.items ++ frames_said (numbers tail.now)) }
+    ensures entry { OnOk result
+        (entries.new.items ≡ entries.old.items
+        ++ record {
+          ip = front.ip;
+          start = length frames.old.items;
+          count = length (frames_said (numbers tail.now));
+          module_string = front.module_string;
+        } ∷ []) }
     ensures few { OnOk result (length entries.new.items ≤ 2 ^ 32 - 1) }
-    ensures no_fault { OnOk result (append_fault strings (length entries.old.items) (frames_said (numbers tail.now)) ≡ None) }
-    ensures fault { IfErr result (λ error. Tells error (append_fault strings (length entries.old.items) (frames_said (numbers tail.now)))) }
+    ensures no_fault { OnOk result
+        (append_fault strings (length entries.old.items) (frames_said (numbers tail.now)) ≡ None) }
+    ensures fault { IfErr result
+        (λ error. Tells error
+        (append_fault strings (length entries.old.items) (frames_said (numbers tail.now)))) }
     ensures unchanged { OnErr result (entries.new.items ≡ entries.old.items) }
     ensures kept { KeepsFrames frames.old.items frames.new.items }
 {
-    let start = frames.len();
     push_frames(frames, field_count, tail, strings)?;
     if entries.len() == MAX_INSTRUCTIONS {
         return Err(LineError::TooMany);
     }
-    let count = (frames.len() - start) as u32;
-    entries.push(InstructionEntry {
-        ip,
-        start,
-        count,
-        module_string,
-    })?;
+    let count = (frames.len() - front.start) as u32;
+    entries.push(InstructionEntry { count, ..front })?;
     Ok(())
 }

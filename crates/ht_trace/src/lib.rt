@@ -18,6 +18,9 @@
 //! - `frames_into` gives the frames of a stack, 1 to 4,096, as the numbers of their instructions and their places
 //!   there: each `IsFrame`, which stays so. `put_frame` appends such a frame's text in one of two styles
 //!   (`frame_text`), and `frame_function` gives the name of its function, `None` exactly where it has none.
+//! - `node` gives a stack's own instruction and the stack that it is called from, whose frames together are the stack's;
+//!   `instruction_frames_into` gives those of an instruction, of which there are `instructions`; and `innermost_frame`
+//!   a stack's first frame in constant time. So what is asked of a frame may be asked once for all stacks that have it.
 //! - `suppress` and `S` lines append the pattern of a text, where it has one (`pattern_of`); `suppression` gives a
 //!   pattern by its number, and `suppressions` their count.
 //! - `may_stand_first` says whether a line may stand before the version line; it holds of raw traces as well.

@@ -47,9 +47,12 @@ impl PatternTable {
     pub fn add(&mut self, text: &[u8]) -> Result<(), LineError>
         ensures added { OnOk result (self.new ≡ self.old ++ option_to_list (pattern_of text.now)) }
         ensures no_fault { OnOk result (pattern_fault (length self.old) text.now ≡ None) }
-        ensures fault { IfErr result (λ error. Tells error (pattern_fault (length self.old) text.now)) }
-        ensures too_many { (result ≡ Err LineError.TooMany) ↔ (pattern_fault (length self.old) text.now ≡ Some LineError.TooMany) }
-        ensures only { IfErr result (λ error. (error ≡ LineError.TooMany) ⊎ (error ≡ LineError.NoMemory)) }
+        ensures fault { IfErr result
+            (λ error. Tells error (pattern_fault (length self.old) text.now)) }
+        ensures too_many { (result ≡ Err LineError.TooMany)
+            ↔ (pattern_fault (length self.old) text.now ≡ Some LineError.TooMany) }
+        ensures only { IfErr result
+            (λ error. (error ≡ LineError.TooMany) ⊎ (error ≡ LineError.NoMemory)) }
         ensures unchanged { OnErr result (self.new ≡ self.old) }
     {
         let Some(pattern) = pattern_of(text) else {

@@ -30,9 +30,11 @@ pub fn push_frames(
     strings: u32,
 ) -> Result<(), LineError>
     requires { length (fields tail.now) + 2 ≡ field_count }
-    ensures appended { OnOk result (frames.new.items ≡ frames.old.items ++ frames_said (numbers tail.now)) }
+    ensures appended { OnOk result
+        (frames.new.items ≡ frames.old.items ++ frames_said (numbers tail.now)) }
     ensures no_fault { OnOk result (held_fault strings (frames_said (numbers tail.now)) ≡ None) }
-    ensures fault { IfErr result (λ error. Tells error (held_fault strings (frames_said (numbers tail.now)))) }
+    ensures fault { IfErr result
+        (λ error. Tells error (held_fault strings (frames_said (numbers tail.now)))) }
     ensures kept { KeepsFrames frames.old.items frames.new.items }
 {
     let Some((function, after)) = next_number(tail) else {
@@ -60,9 +62,11 @@ fn without_file(function: u64) -> FrameNumbers
 
 /// Appends a frame for each three numbers of a tail.
 fn push_triples(frames: &mut Vec<Frame>, tail: &[u8], strings: u32) -> Result<(), LineError>
-    ensures appended { OnOk result (frames.new.items ≡ frames.old.items ++ triples (numbers tail.now)) }
+    ensures appended { OnOk result
+        (frames.new.items ≡ frames.old.items ++ triples (numbers tail.now)) }
     ensures no_fault { OnOk result (held_fault strings (triples (numbers tail.now)) ≡ None) }
-    ensures fault { IfErr result (λ error. Tells error (held_fault strings (triples (numbers tail.now)))) }
+    ensures fault { IfErr result
+        (λ error. Tells error (held_fault strings (triples (numbers tail.now)))) }
     ensures kept { KeepsFrames frames.old.items frames.new.items }
 {
     let mut rest = tail;
@@ -77,7 +81,8 @@ fn push_triples(frames: &mut Vec<Frame>, tail: &[u8], strings: u32) -> Result<()
 fn next_triple(text: &[u8]) -> Option<(FrameNumbers, &[u8])>
     ensures none { IfNone result (triples (numbers text.now) ≡ []) }
     ensures some { IfSome result (λ found. triples (numbers text.now) ≡
-        record { function = found.0.function; file = found.0.file; line = found.0.line } ∷ triples (numbers found.1.now)) }
+        record { function = found.0.function; file = found.0.file; line = found.0.line }
+        ∷ triples (numbers found.1.now)) }
     ensures shorter { IfSome result (λ found. length found.1.now < length text.now) }
 {
     let (function, after) = next_number(text)?;
@@ -93,9 +98,16 @@ fn next_triple(text: &[u8]) -> Option<(FrameNumbers, &[u8])>
 
 /// Appends a frame whose function and file are held.
 fn push_frame(frames: &mut Vec<Frame>, numbers: FrameNumbers, strings: u32) -> Result<(), LineError>
-    ensures appended { OnOk result (frames.new.items ≡ frames.old.items ++ record { function = numbers.function; file = numbers.file; line = numbers.line } ∷ []) }
-    ensures no_fault { OnOk result (held_fault strings (record { function = numbers.function; file = numbers.file; line = numbers.line } ∷ []) ≡ None) }
-    ensures fault { IfErr result (λ error. Tells error (held_fault strings (record { function = numbers.function; file = numbers.file; line = numbers.line } ∷ []))) }
+    ensures appended { OnOk result
+        (frames.new.items ≡ frames.old.items
+        ++ record { function = numbers.function; file = numbers.file; line = numbers.line } ∷ []) }
+    ensures no_fault { OnOk result
+        (held_fault strings (record
+        { function = numbers.function; file = numbers.file; line = numbers.line } ∷ []) ≡ None) }
+    ensures fault { IfErr result
+        (λ error. Tells error
+        (held_fault strings (record
+        { function = numbers.function; file = numbers.file; line = numbers.line } ∷ []))) }
     ensures kept { KeepsFrames frames.old.items frames.new.items }
 {
     let FrameNumbers {

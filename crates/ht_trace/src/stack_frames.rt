@@ -30,6 +30,22 @@ pub fn replace_by_stack(
     push_stack(instructions, nodes, n, out)
 }
 
+/// Replaces `out` by the frames of an instruction, from the innermost on. On `NoMemory`, `out` holds what it held before.
+pub fn replace_by_instruction(
+    instructions: &InstructionTable,
+    n: u32,
+    out: &mut Vec<FrameAt>,
+) -> Result<(), NoMemory>
+    ensures frames { OnOk result (out.new.items ≡ frames_of instructions.now n) }
+    ensures unchanged { OnErr result (out.new.items ≡ out.old.items) }
+{
+    let instruction = u64::from(n);
+    let count = instructions.frame_count(instruction).unwrap_or(0) as usize;
+    out.reserve(count.saturating_sub(out.len()))?;
+    out.clear();
+    push_instruction(instructions, instruction, out)
+}
+
 /// Replaces `out` by the frame of stack 0.
 fn replace_by_no_stack(out: &mut Vec<FrameAt>) -> Result<(), NoMemory>
     ensures frame { OnOk result (out.new.items ≡ no_stack ∷ []) }
@@ -66,9 +82,12 @@ fn push_stack(
     out: &mut Vec<FrameAt>,
 ) -> Result<(), NoMemory>
     requires held { n ≤ length nodes.now }
-    requires room { vec_len out.old + length (flat_map (frames_of instructions.now) (stack nodes.now n)) ≤ vec_capacity out.old }
+    requires room { vec_len out.old
+        + length (flat_map (frames_of instructions.now) (stack nodes.now n))
+        ≤ vec_capacity out.old }
     ensures succeeds { IsOk result }
-    ensures appended { out.new.items ≡ out.old.items ++ flat_map (frames_of instructions.now) (stack nodes.now n) }
+    ensures appended { out.new.items
+        ≡ out.old.items ++ flat_map (frames_of instructions.now) (stack nodes.now n) }
 {
     let mut at = n;
     'outwards: while let Some((instruction, parent)) = nodes.node(at) {
@@ -84,10 +103,12 @@ fn push_instruction(
     instruction: u64,
     out: &mut Vec<FrameAt>,
 ) -> Result<(), NoMemory>
-    requires { vec_len out.old + length (frames_of instructions.now instruction) ≤ vec_capacity out.old }
+    requires { vec_len out.old + length (frames_of instructions.now instruction)
+        ≤ vec_capacity out.old }
     ensures succeeds { IsOk result }
     ensures appended { out.new.items ≡ out.old.items ++ frames_of instructions.now instruction }
-    ensures len { vec_len out.new ≡ vec_len out.old + length (frames_of instructions.now instruction) }
+    ensures len { vec_len out.new
+        ≡ vec_len out.old + length (frames_of instructions.now instruction) }
     ensures capacity { vec_capacity out.old ≤ vec_capacity out.new }
 {
     let Some(count) = instructions.frame_count(instruction) else {

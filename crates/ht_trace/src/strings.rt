@@ -45,7 +45,8 @@ impl StringTable {
     pub fn add(&mut self, text: &[u8]) -> Result<(), LineError>
         ensures added { OnOk result (self.new ≡ self.old ++ text.now ∷ []) }
         ensures no_fault { OnOk result (growth_fault (length self.old) most_entries ≡ None) }
-        ensures fault { IfErr result (λ error. Tells error (growth_fault (length self.old) most_entries)) }
+        ensures fault { IfErr result
+            (λ error. Tells error (growth_fault (length self.old) most_entries)) }
         ensures unchanged { OnErr result (self.new ≡ self.old) }
     {
         if self.numbers.len() == MAX_STRINGS {

@@ -96,6 +96,46 @@ fn shows(
     shows_with(rt, alloc, &mut tables, trace, shown, want)
 }
 
+/// Appends the innermost frame of a stack, the frames of its own instruction, and the stack that it is called from.
+fn put_node(
+    rt: &impl Abort,
+    alloc: Global,
+    tables: &Tables,
+    stack: u32,
+    out: &mut Vec<u8>,
+) -> Result<(), NoMemory> {
+    assert!(rt; stack < tables.stacks());
+    let mut frames = Vec::new(alloc);
+    put_place(&tables.innermost_frame(stack), out)?;
+    let Some((instruction, caller)) = tables.node(stack) else {
+        return put_bytes(out, b"\n");
+    };
+    tables.instruction_frames_into(instruction, &mut frames)?;
+    put_bytes(out, b":")?;
+    for at in frames.iter() {
+        put_bytes(out, b" ")?;
+        put_place(at, out)?;
+    }
+    put_bytes(out, b" from ")?;
+    put_dec(out, u64::from(caller))?;
+    put_bytes(out, b"\n")
+}
+
+#[test]
+fn tells_nodes(rt: HostRuntime) -> Result<(), Fail> {
+    let trace = b"v 10500 2\ns m\ns f\ni 10 1 2 2 3 2 2 4\ni 20 1\nt 1 0\nt 2 1\nt 0 2\n";
+    let want = b"0.1\n1.0: 1.0 1.1 from 0\n2.0: 2.0 from 1\n0.0: 0.0 from 2\n";
+    let mut tables = Tables::new(rt.alloc());
+    let mut out = Vec::new(rt.alloc());
+    read_lines(&rt, &mut tables, trace)?;
+    assert_eq!(rt; tables.instructions(), 2);
+    for stack in 0..tables.stacks() {
+        put_node(&rt, rt.alloc(), &tables, stack, &mut out)?;
+    }
+    assert_eq!(rt; out.as_slice(), want.as_slice());
+    Ok(())
+}
+
 #[test]
 fn gives_frames(rt: HostRuntime) -> Result<(), Fail> {
     shows(

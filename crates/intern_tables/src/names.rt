@@ -44,8 +44,10 @@ impl Names {
     /// A name may have any bytes, and none too. One that is present keeps its number and takes no memory, so it is never
     /// refused. A new one is copied; `NoMemory` comes only where memory for it is wanting, and the names are then as before.
     pub fn intern(&mut self, bytes: &[u8]) -> Result<usize, NoMemory>
-        ensures present { IfSome (number_of self.old bytes.now) (λ n. (result ≡ Ok n) × (self.new ≡ self.old)) }
-        ensures added { IfNone (number_of self.old bytes.now) (OnOk result (self.new ≡ self.old ++ bytes.now ∷ [])) }
+        ensures present { IfSome (number_of self.old bytes.now)
+            (λ n. (result ≡ Ok n) × (self.new ≡ self.old)) }
+        ensures added { IfNone (number_of self.old bytes.now)
+            (OnOk result (self.new ≡ self.old ++ bytes.now ∷ [])) }
         ensures unchanged { OnErr result (self.new ≡ self.old) }
 
         // The number.
@@ -54,12 +56,16 @@ impl Names {
         ensures within { IfOk result (λ n. (1 ≤ n) × (n ≤ length self.new)) }
 
         // The names.
-        ensures names_stay { (n : ℕ) → n ≤ length self.old → name_at self.new n ≡ name_at self.old n }
-        ensures numbers_stay { (name : List ℕ) (n : ℕ) → number_of self.old name ≡ Some n → number_of self.new name ≡ Some n }
+        ensures names_stay { (n : ℕ) → n ≤ length self.old
+            → name_at self.new n ≡ name_at self.old n }
+        ensures numbers_stay { (name : List ℕ) (n : ℕ) → number_of self.old name ≡ Some n
+            → number_of self.new name ≡ Some n }
         ensures none_lost { length self.old ≤ length self.new }
         ensures one_more { length self.new ≤ length self.old + 1 }
         ensures distinct { AreDistinct self.new }
-        ensures without_repeats { OnOk result ((came : List (List ℕ)) → self.old ≡ without_repeats bytes_eq came → self.new ≡ without_repeats bytes_eq (came ++ bytes.now ∷ [])) }
+        ensures without_repeats { OnOk result
+            ((came : List (List ℕ)) → self.old ≡ without_repeats bytes_eq came
+            → self.new ≡ without_repeats bytes_eq (came ++ bytes.now ∷ [])) }
     {
         if let Some(number) = self.find(bytes) {
             return Ok(number);

@@ -10,6 +10,7 @@ mod RawLedgerLemmas
 mod RepeatLemmas
 mod StandLemmas
 mod FirstLemmas
+mod FrontLemmas
 mod KeyLemmas
 mod ListLemmas
 mod TableLemmas

@@ -7,7 +7,8 @@ use Rattle.interpret.specs.FirstAppearances.{with_all}
 use Rattle.interpret.specs.Interpreted.{text_of}
 
 -- the names have those that are called for, and the lines of those that are new stand at the end of what is written
-pub record AddsNames (version : ℕ) (called : List (List ℕ)) (old new : List (List ℕ)) (before after : List ℕ) : Type 0 where
+pub record AddsNames (version : ℕ) (called : List (List ℕ)) (old new : List (List ℕ))
+    (before after : List ℕ) : Type 0 where
   pub more : List (List ℕ)
   pub grown : new ≡ old ++ more
   pub added : new ≡ with_all bytes_eq old called

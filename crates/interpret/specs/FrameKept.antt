@@ -11,7 +11,10 @@ abbrev pub place_kept : SourcePlace → List ℕ × ℕ
 place_kept place = (place.file.now, place.line)
 
 abbrev pub frame_kept : SymbolFrame → SourceFrame
-frame_kept frame = record { function = frame.function.now; place = option_map place_kept frame.place }
+frame_kept frame = record {
+  function = frame.function.now;
+  place = option_map place_kept frame.place;
+}
 
 abbrev pub resolved_kept : ResolvedIp → Resolved
 resolved_kept found = record {

@@ -36,8 +36,10 @@ said_for symbols before after freed _ = []
 
 -- the lines: a version line is written anew and a module's gives nothing; a node, an allocation and a free give what
 -- they say in the file version, and every other line stays as it is
-abbrev pub lines_for : List Symbol → ℕ → RawTables → RawTables → Option ℕ → List ℕ → Content → List (List ℕ)
-lines_for symbols version before after freed line (version_line heaptrack file) = written version (version_line heaptrack file) ∷ []
+abbrev pub lines_for : List Symbol → ℕ → RawTables → RawTables → Option ℕ → List ℕ → Content
+    → List (List ℕ)
+lines_for symbols version before after freed line (version_line heaptrack file) = written version
+    (version_line heaptrack file) ∷ []
 lines_for symbols version before after freed line clear_line = []
 lines_for symbols version before after freed line (module_line name start numbers) = []
 lines_for symbols version before after freed line (node_line ip parent) =
@@ -58,11 +60,13 @@ lines_after symbols version earlier line said =
     lines_for symbols version (tables_of symbols earlier) (tables_of symbols (earlier ++ said ∷ []))
     (freed_info (tables_of symbols earlier).infos (freed_by earlier said)) line said
 
-abbrev pub lines_read : List Symbol → ℕ → List Content → List ℕ → Result Content Malformed → List (List ℕ)
+abbrev pub lines_read : List Symbol → ℕ → List Content → List ℕ → Result Content Malformed
+    → List (List ℕ)
 lines_read symbols version earlier line (Ok said) = lines_after symbols version earlier line said
 lines_read symbols version earlier line (Err fault) = []
 
 -- the lines that a line gives after earlier lines, where it has no fault
 unfoldable pub interpreted_lines : List Symbol → List (List ℕ) → List ℕ → List (List ℕ)
 interpreted_lines symbols earlier line =
-    lines_read symbols (file_version earlier) (contents earlier) line (reading Raw (file_version earlier) line)
+    lines_read symbols (file_version earlier) (contents earlier) line
+    (reading Raw (file_version earlier) line)

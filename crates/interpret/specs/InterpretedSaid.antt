@@ -14,20 +14,25 @@ use Rattle.interpret.specs.SymbolLine.{Symbol}
 abbrev pub told_for : List Symbol → RawTables → RawTables → Option ℕ → Content → List Content
 told_for symbols before after freed clear_line = []
 told_for symbols before after freed (module_line name start numbers) = []
-told_for symbols before after freed (node_line ip parent) = said_for symbols before after freed (node_line ip parent)
-told_for symbols before after freed (raw_allocation_line size trace ptr) = said_for symbols before after freed (raw_allocation_line size trace ptr)
-told_for symbols before after freed (raw_free_line ptr) = said_for symbols before after freed (raw_free_line ptr)
+told_for symbols before after freed (node_line ip parent) = said_for symbols before after freed
+    (node_line ip parent)
+told_for symbols before after freed (raw_allocation_line size trace ptr) = said_for symbols before
+    after freed (raw_allocation_line size trace ptr)
+told_for symbols before after freed (raw_free_line ptr) = said_for symbols before after freed
+    (raw_free_line ptr)
 told_for symbols before after freed said = said ∷ []
 
 -- the same after earlier lines
 abbrev pub told_after : List Symbol → List Content → Content → List Content
 told_after symbols earlier said =
-    told_for symbols (tables_of symbols earlier) (tables_of symbols (earlier ++ said ∷ [])) (freed_info (tables_of symbols earlier).infos (freed_by earlier said)) said
+    told_for symbols (tables_of symbols earlier) (tables_of symbols (earlier ++ said ∷ []))
+    (freed_info (tables_of symbols earlier).infos (freed_by earlier said)) said
 
 -- what all of them say, one after another
 abbrev pub told_from : List Symbol → List Content → List Content → List Content
 told_from symbols earlier [] = []
-told_from symbols earlier (said ∷ more) = told_after symbols earlier said ++ told_from symbols (earlier ++ said ∷ []) more
+told_from symbols earlier (said ∷ more) = told_after symbols earlier said
+    ++ told_from symbols (earlier ++ said ∷ []) more
 
 unfoldable pub interpreted_said : List Symbol → List Content → List Content
 interpreted_said symbols said = told_from symbols [] said

@@ -13,7 +13,8 @@ use Rattle.interpret.specs.SymbolLine.{Symbol, are_texts}
 -- the lines that lines after earlier lines give
 abbrev pub lines_from : List Symbol → List (List ℕ) → List (List ℕ) → List (List ℕ)
 lines_from symbols earlier [] = []
-lines_from symbols earlier (line ∷ lines) = interpreted_lines symbols earlier line ++ lines_from symbols (earlier ++ line ∷ []) lines
+lines_from symbols earlier (line ∷ lines) = interpreted_lines symbols earlier line
+    ++ lines_from symbols (earlier ++ line ∷ []) lines
 
 unfoldable pub interpreted_trace : List Symbol → List (List ℕ) → List (List ℕ)
 interpreted_trace symbols lines = lines_from symbols [] lines

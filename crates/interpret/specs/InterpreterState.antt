@@ -32,7 +32,8 @@ info_at pointers ptr = lookup (λ named. ptr == named) pointers
 -- the info of a pointer after one more line, where it had this one before
 abbrev pub info_after : List AllocationInfo → Content → ℕ → Option ℕ → Option ℕ
 info_after infos (raw_allocation_line size trace named) ptr before =
-    if named == ptr then Some (info_number infos (record { size = size; trace = trace })) else before
+    if named == ptr then Some (info_number infos (record { size = size; trace = trace }))
+    else before
 info_after infos (raw_free_line named) ptr before = if named == ptr then None else before
 info_after infos _ ptr before = before
 
@@ -43,13 +44,15 @@ failed_with failed NoMemory = Some NoMemory
 failed_with failed error = failed
 
 -- each pointer has the info of its block, which is held
-pub record PointsAs (pointers : List (ℕ × ℕ)) (infos : List AllocationInfo) (said : List Content) : Type 0 where
+pub record PointsAs (pointers : List (ℕ × ℕ)) (infos : List AllocationInfo)
+    (said : List Content) : Type 0 where
   pub info : (ptr : ℕ) → info_at pointers ptr ≡ freed_info infos (held said ptr)
   pub within : (ptr : ℕ) → IfSome (info_at pointers ptr) (λ n. n < length infos)
 
 -- the tables and pointers are those of lines with these symbols, of which none has a fault after those before it; so long
 -- as none is a version line, each may stand before one
-pub record StandsFor (state : InterpreterState) (symbols : List Symbol) (lines : List (List ℕ)) : Type 0 where
+pub record StandsFor (state : InterpreterState) (symbols : List Symbol)
+    (lines : List (List ℕ)) : Type 0 where
   pub symbols_are : state.symbols ≡ symbols
   pub version : state.version ≡ version_of lines
   pub tables : state.tables ≡ tables_of symbols (contents lines)
@@ -57,10 +60,12 @@ pub record StandsFor (state : InterpreterState) (symbols : List Symbol) (lines :
   pub not_failed : state.failed ≡ None
   pub no_fault : gathered (raw_fault symbols) [] lines ≡ []
   pub raw : AllByRecursion IsRaw (contents lines)
-  pub first : is_some state.version ≡ false → AllByRecursion (λ line. may_stand_first line ≡ true) lines
+  pub first : is_some state.version ≡ false
+      → AllByRecursion (λ line. may_stand_first line ≡ true) lines
 
 -- the file version is one that there is, and no table has more than it may have
-pub record IsWithin (version : Option ℕ) (names : List (List ℕ)) (held : List KnownIp) (nodes : List Node) (infos : List AllocationInfo) : Type 0 where
+pub record IsWithin (version : Option ℕ) (names : List (List ℕ)) (held : List KnownIp)
+    (nodes : List Node) (infos : List AllocationInfo) : Type 0 where
   pub low : 1 ≤ unwrap_or version 1
   pub high : unwrap_or version 1 ≤ 3
   pub names_few : length names ≤ most_entries

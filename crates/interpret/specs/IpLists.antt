@@ -22,7 +22,8 @@ raw_ips said node = stack (raw_nodes said) node
 
 -- the instruction pointer of an instruction's number, where it is held; 0 stands for no instruction
 abbrev pub ip_of : List Instruction → ℕ → Option ℕ
-ip_of held n = if n == 0 then Some 0 else option_map (λ instruction. instruction.ip) (slice_get held (n - 1))
+ip_of held n = if n == 0 then Some 0
+    else option_map (λ instruction. instruction.ip) (slice_get held (n - 1))
 
 -- a node of interpreted lines names its instruction's number
 unfoldable pub interpreted_ips : List Content → ℕ → List (Option ℕ)

@@ -21,3 +21,4 @@ pub mod RawLedger
 pub mod InterpretedTrace
 pub mod InterpreterState
 pub mod TakesLine
+pub mod TakesFront

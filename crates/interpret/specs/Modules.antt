@@ -14,7 +14,8 @@ pub record LoadedModule : Type 0 where
 abbrev pub ranges_said : ℕ → List ℕ → List AddressRange
 ranges_said start [] = []
 ranges_said start (offset ∷ []) = []
-ranges_said start (offset ∷ size ∷ more) = record { begin = start + offset; end = start + offset + size } ∷ ranges_said start more
+ranges_said start (offset ∷ size ∷ more)
+    = record { begin = start + offset; end = start + offset + size } ∷ ranges_said start more
 
 -- whether a range holds an address; its end is outside
 abbrev pub in_range : ℕ → AddressRange → Bool
@@ -26,7 +27,8 @@ holds_address ip loaded = list_any (in_range ip) loaded.ranges
 -- the modules after one more line
 abbrev pub modules_after : List LoadedModule → Content → List LoadedModule
 modules_after loaded clear_line = []
-modules_after loaded (module_line name start numbers) = loaded ++ record { name = name; start = start; ranges = ranges_said start numbers } ∷ []
+modules_after loaded (module_line name start numbers) = loaded
+    ++ record { name = name; start = start; ranges = ranges_said start numbers } ∷ []
 modules_after loaded _ = loaded
 
 -- the modules since the last line that clears them

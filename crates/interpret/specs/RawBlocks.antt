@@ -14,7 +14,9 @@ pub record RawBlock : Type 0 where
 abbrev pub held_back : List Content → ℕ → Option RawBlock
 held_back [] ptr = None
 held_back (raw_allocation_line size trace named ∷ before) ptr =
-    if named == ptr then Some (record { place = length before; info = record { size = size; trace = trace } }) else held_back before ptr
+    if named == ptr then Some
+    (record { place = length before; info = record { size = size; trace = trace } })
+    else held_back before ptr
 held_back (raw_free_line named ∷ before) ptr = if named == ptr then None else held_back before ptr
 held_back (said ∷ before) ptr = held_back before ptr
 

@@ -9,7 +9,8 @@ use Rattle.ht_trace.specs.Contents.{version_in}
 
 -- the file versions that the lines give; a version line reads alike in each file version
 abbrev pub versions : List (List ℕ) → List ℕ
-versions lines = filter_map (λ line. option_and_then version_in (result_ok (reading Raw 1 line))) lines
+versions lines = filter_map (λ line. option_and_then version_in (result_ok (reading Raw 1 line)))
+    lines
 
 -- the file version of a trace, which its first version line gives
 abbrev pub version_of : List (List ℕ) → Option ℕ

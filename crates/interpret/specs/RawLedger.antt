@@ -11,7 +11,8 @@ use Rattle.interpret.specs.SymbolLine.{Symbol}
 
 -- the block of a line
 abbrev pub block_in : List Content → Content → Option RawBlock
-block_in earlier (raw_allocation_line size trace ptr) = Some (record { place = length earlier; info = record { size = size; trace = trace } })
+block_in earlier (raw_allocation_line size trace ptr) = Some
+    (record { place = length earlier; info = record { size = size; trace = trace } })
 block_in earlier _ = None
 
 -- the blocks of all allocations, and those that a line frees
@@ -38,6 +39,9 @@ bytes_of node block = if block.info.trace == node then block.info.size else 0
 -- at every node the interpreted lines leave the bytes and the blocks live that the raw ones do, and its instruction pointers
 -- outwards are the same
 pub record KeepsLedger (symbols : List Symbol) (said : List Content) : Type 0 where
-  pub bytes : (node : ℕ) → live_in node (interpreted_events symbols said) ≡ sum_by (bytes_of node) (live_blocks said)
-  pub blocks : (node : ℕ) → blocks_in node (interpreted_events symbols said) ≡ count_by (is_of node) (live_blocks said)
-  pub stacks : (node : ℕ) → interpreted_ips (interpreted_said symbols said) node ≡ map Some (raw_ips said node)
+  pub bytes : (node : ℕ)
+      → live_in node (interpreted_events symbols said) ≡ sum_by (bytes_of node) (live_blocks said)
+  pub blocks : (node : ℕ)
+      → blocks_in node (interpreted_events symbols said) ≡ count_by (is_of node) (live_blocks said)
+  pub stacks : (node : ℕ)
+      → interpreted_ips (interpreted_said symbols said) node ≡ map Some (raw_ips said node)

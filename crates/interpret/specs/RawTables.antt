@@ -28,7 +28,8 @@ pub record RawTables : Type 0 where
 
 -- what stands at the address of a node's line, with the modules of that moment; address 0 stands for no instruction
 abbrev pub call_in : List Symbol → List Content → Content → Option Resolved
-call_in symbols earlier (node_line ip parent) = if ip == 0 then None else Some (resolved symbols (modules earlier) ip)
+call_in symbols earlier (node_line ip parent) = if ip == 0 then None
+    else Some (resolved symbols (modules earlier) ip)
 call_in symbols earlier _ = None
 
 abbrev pub same_ip : Resolved → Resolved → Bool
@@ -54,14 +55,17 @@ ip_number held ip = if ip == 0 then 0 else position_or_len (λ k. ip == k.ip) he
 
 -- the frames of an instruction pointer; instruction 0 has one
 abbrev pub ip_frames : List KnownIp → ℕ → ℕ
-ip_frames held ip = if ip == 0 then 1 else unwrap_or (option_map (λ k. k.frames) (find (λ k. ip == k.ip) held)) 1
+ip_frames held ip = if ip == 0 then 1
+    else unwrap_or (option_map (λ k. k.frames) (find (λ k. ip == k.ip) held)) 1
 
 abbrev pub node_of : List KnownIp → ℕ → ℕ → Node
-node_of held ip parent = record { ip = ip_number held ip; parent = parent; frames = ip_frames held ip }
+node_of held ip parent
+    = record { ip = ip_number held ip; parent = parent; frames = ip_frames held ip }
 
 -- the node of a line, whose instruction is known from that line on
 abbrev pub node_in : List Symbol → List Content → Content → Option Node
-node_in symbols earlier (node_line ip parent) = Some (node_of (known symbols (earlier ++ node_line ip parent ∷ [])) ip parent)
+node_in symbols earlier (node_line ip parent) = Some
+    (node_of (known symbols (earlier ++ node_line ip parent ∷ [])) ip parent)
 node_in symbols earlier _ = None
 
 -- the nodes, numbered from 1
@@ -99,7 +103,8 @@ is_numbered held ip = ip == 0 || list_any (λ k. ip == k.ip) held
 
 -- what stands at an address that is new
 abbrev pub new_call : List Symbol → RawTables → ℕ → Option Resolved
-new_call symbols tables ip = if is_numbered tables.known ip then None else Some (resolved symbols tables.loaded ip)
+new_call symbols tables ip = if is_numbered tables.known ip then None
+    else Some (resolved symbols tables.loaded ip)
 
 -- the instruction pointers with that of a call
 abbrev pub known_with : List KnownIp → Option Resolved → List KnownIp
@@ -119,7 +124,8 @@ tables_with tables call ip parent = record tables {
 
 -- the tables after one more line
 unfoldable pub tables_after : List Symbol → RawTables → Content → RawTables
-tables_after symbols tables (node_line ip parent) = tables_with tables (new_call symbols tables ip) ip parent
+tables_after symbols tables (node_line ip parent) = tables_with tables (new_call symbols tables ip)
+    ip parent
 tables_after symbols tables (raw_allocation_line size trace ptr) = record tables {
   infos = with_new same_info tables.infos (record { size = size; trace = trace });
 }

@@ -26,18 +26,25 @@ frames_of [] = []
 frames_of (function ∷ []) = record { function = function; place = None } ∷ []
 frames_of (function ∷ file ∷ []) = record { function = function; place = None } ∷ []
 frames_of (function ∷ file ∷ line ∷ more) =
-    record { function = function; place = Some (file, unwrap_or (parsed_dec line) 0) } ∷ frames_of more
+    record { function = function; place = Some (file, unwrap_or (parsed_dec line) 0) }
+    ∷ frames_of more
 
 -- the texts of the symbol at an address of a module
 abbrev pub texts_in : List Symbol → LoadedModule → ℕ → List (List ℕ)
 texts_in symbols loaded ip =
-    if nat_le loaded.start ip then unwrap_or (option_map (λ symbol. symbol.texts) (symbol_at symbols loaded.name (ip - loaded.start))) []
+    if nat_le loaded.start ip
+    then unwrap_or (option_map (λ symbol. symbol.texts)
+    (symbol_at symbols loaded.name (ip - loaded.start))) []
     else []
 
 abbrev pub resolved_in : List Symbol → Option LoadedModule → ℕ → Resolved
 resolved_in symbols None ip = record { ip = ip; module_name = None; frames = [] }
 resolved_in symbols (Some loaded) ip =
-    record { ip = ip; module_name = Some loaded.name; frames = frames_of (texts_in symbols loaded ip) }
+    record {
+      ip = ip;
+      module_name = Some loaded.name;
+      frames = frames_of (texts_in symbols loaded ip);
+    }
 
 -- what stands at an address while these modules are loaded
 unfoldable pub resolved : List Symbol → List LoadedModule → ℕ → Resolved
@@ -74,7 +81,8 @@ frame_numbers names frame = name_number names frame.function ∷ place_numbers n
 -- the line of an instruction, whose module, functions and files have these numbers
 unfoldable pub instruction_said : List (List ℕ) → Resolved → Content
 instruction_said names found =
-    instruction_line found.ip (module_number names found.module_name) (flat_map (frame_numbers names) found.frames)
+    instruction_line found.ip (module_number names found.module_name)
+    (flat_map (frame_numbers names) found.frames)
 
 -- how many frames the line says: one that names nothing where the symbol is unknown
 abbrev pub frame_count : Resolved → ℕ

@@ -22,7 +22,12 @@ bytes_left (Some rest) = length rest + 1
 
 -- the symbol that the parts of a line say
 abbrev pub said_by : SymbolLine → Symbol
-said_by line = record { module_name = line.name.now; start = line.start; end = line.end; texts = fields line.texts.now }
+said_by line = record {
+  module_name = line.name.now;
+  start = line.start;
+  end = line.end;
+  texts = fields line.texts.now;
+}
 
 -- the parts are those of what is said
 abbrev pub Says : Option SymbolLine → Option Symbol → Type 0
@@ -40,7 +45,12 @@ place_at index number start = get key_cmp index.places (number, start)
 -- the symbol that an entry keeps
 abbrev pub symbol_kept : List (List ℕ) → SymbolEntry → Symbol
 symbol_kept names entry =
-    record { module_name = unwrap_or (name_at names entry.module_number) []; start = entry.start; end = entry.end; texts = fields entry.texts }
+    record {
+      module_name = unwrap_or (name_at names entry.module_number) [];
+      start = entry.start;
+      end = entry.end;
+      texts = fields entry.texts;
+    }
 
 -- the symbols that the entries keep
 abbrev pub symbols_kept : List (List ℕ) → List SymbolEntry → List Symbol
@@ -52,17 +62,22 @@ AreApart x y = (x.module_number ≢ y.module_number) ⊎ ((x.end ≤ y.start) �
 
 -- each entry's module has a name, whose number it has
 pub record AreNamed (names : List (List ℕ)) (entries : List SymbolEntry) : Type 0 where
-  pub number : (k : ℕ) (x : SymbolEntry) → slice_get entries k ≡ Some x → number_of names (symbol_kept names x).module_name ≡ Some x.module_number
-  pub within : (k : ℕ) (x : SymbolEntry) → slice_get entries k ≡ Some x → x.module_number ≤ length names
+  pub number : (k : ℕ) (x : SymbolEntry) → slice_get entries k ≡ Some x
+      → number_of names (symbol_kept names x).module_name ≡ Some x.module_number
+  pub within : (k : ℕ) (x : SymbolEntry) → slice_get entries k ≡ Some x
+      → x.module_number ≤ length names
 
 -- the entries are apart, with ranges that aren't empty, and the index has the place of each under its module and start, and
 -- nothing else
 pub record AreIndexed (entries : List SymbolEntry) (index : StartIndex) : Type 0 where
   pub some : (k : ℕ) (x : SymbolEntry) → slice_get entries k ≡ Some x → x.start < x.end
-  pub apart : (j k : ℕ) (x y : SymbolEntry) → slice_get entries j ≡ Some x → slice_get entries k ≡ Some y → j ≢ k → AreApart x y
-  pub placed : (k : ℕ) (x : SymbolEntry) → slice_get entries k ≡ Some x → place_at index x.module_number x.start ≡ Some k
+  pub apart : (j k : ℕ) (x y : SymbolEntry) → slice_get entries j ≡ Some x
+      → slice_get entries k ≡ Some y → j ≢ k → AreApart x y
+  pub placed : (k : ℕ) (x : SymbolEntry) → slice_get entries k ≡ Some x
+      → place_at index x.module_number x.start ≡ Some k
   pub only : (number start k : ℕ) → place_at index number start ≡ Some k
-      → (x : SymbolEntry) × (slice_get entries k ≡ Some x) × (x.module_number ≡ number) × (x.start ≡ start)
+      → (x : SymbolEntry) × (slice_get entries k ≡ Some x) × (x.module_number ≡ number)
+      × (x.start ≡ start)
 
 -- the entry is the last of its module that doesn't start above an offset
 pub record IsLast (entries : List SymbolEntry) (number offset : ℕ) (x : SymbolEntry) : Type 0 where
@@ -70,16 +85,20 @@ pub record IsLast (entries : List SymbolEntry) (number offset : ℕ) (x : Symbol
   pub at : slice_get entries place ≡ Some x
   pub number_is : x.module_number ≡ number
   pub upto : x.start ≤ offset
-  pub last : (k : ℕ) (y : SymbolEntry) → slice_get entries k ≡ Some y → y.module_number ≡ number → y.start ≤ offset → y.start ≤ x.start
+  pub last : (k : ℕ) (y : SymbolEntry) → slice_get entries k ≡ Some y → y.module_number ≡ number
+      → y.start ≤ offset → y.start ≤ x.start
 
 -- no entry of a module starts at an offset or before it
 abbrev pub HasNone : List SymbolEntry → ℕ → ℕ → Type 0
-HasNone entries number offset = (k : ℕ) (y : SymbolEntry) → slice_get entries k ≡ Some y → y.module_number ≡ number → offset < y.start
+HasNone entries number offset = (k : ℕ) (y : SymbolEntry) → slice_get entries k ≡ Some y
+    → y.module_number ≡ number → offset < y.start
 
 -- whether an entry has an offset in common with a range of a module
 abbrev pub meets_range : ℕ → ℕ → ℕ → SymbolEntry → Bool
-meets_range number start end x = x.module_number == number && (nat_lt start x.end && nat_lt x.start end)
+meets_range number start end x = x.module_number == number
+    && (nat_lt start x.end && nat_lt x.start end)
 
 -- whether an entry holds an offset of a module
 abbrev pub holds_offset : ℕ → ℕ → SymbolEntry → Bool
-holds_offset number offset x = x.module_number == number && (nat_le x.start offset && nat_lt offset x.end)
+holds_offset number offset x = x.module_number == number
+    && (nat_le x.start offset && nat_lt offset x.end)

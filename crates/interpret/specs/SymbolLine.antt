@@ -28,7 +28,8 @@ abbrev pub are_frames : List (List ℕ) → Bool
 are_frames [] = true
 are_frames (function ∷ []) = false
 are_frames (function ∷ file ∷ []) = false
-are_frames (function ∷ file ∷ line ∷ more) = is_text function && (is_text file && (is_some (parsed_dec line) && are_frames more))
+are_frames (function ∷ file ∷ line ∷ more) = is_text function
+    && (is_text file && (is_some (parsed_dec line) && are_frames more))
 
 -- whether the texts are a function alone, or at least one frame
 abbrev pub are_texts : List (List ℕ) → Bool
@@ -50,4 +51,5 @@ abbrev pub symbol_of : List (List ℕ) → Option Symbol
 symbol_of [] = None
 symbol_of (name ∷ []) = None
 symbol_of (name ∷ start ∷ []) = None
-symbol_of (name ∷ start ∷ size ∷ texts) = symbol_from name (parsed_hex start) (parsed_hex size) texts
+symbol_of (name ∷ start ∷ size ∷ texts) = symbol_from name (parsed_hex start) (parsed_hex size)
+    texts

@@ -38,7 +38,8 @@ fault_after symbols (Some s) = if list_any (meets s) symbols then Some SymbolOve
 
 -- the fault of a line after earlier symbols
 abbrev pub symbol_fault : List Symbol → List ℕ → Option SymbolFault
-symbol_fault symbols line = if is_skipped line then None else fault_after symbols (symbol_of (fields line))
+symbol_fault symbols line = if is_skipped line then None
+    else fault_after symbols (symbol_of (fields line))
 
 -- the fault is this one, unless memory was wanting
 abbrev pub Tells : SymbolFault → Option SymbolFault → Type 0

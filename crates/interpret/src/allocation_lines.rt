@@ -1,18 +1,71 @@
-//! The allocations of a raw trace, and the lines that each gives.
+//! The allocations and frees of a raw trace, and the lines that each gives.
 #![tactic(auto, using(hp_num::proofs::Laws::extends_same, hp_num::proofs::Laws::extends_more, hp_num::proofs::Laws::extends_trans))]
 
-ghost use Rattle.std.specs.Prelude.{◌≡◌, ◌≢◌, ℕ, ◌<◌, ◌≤◌, List, [], ◌∷◌, ◌++◌, length, map, IfOk, IfErr};
-ghost use Rattle.ht_lines.specs.Content.{allocation_line};
+ghost use Rattle.std.specs.Prelude.{◌≡◌, ◌≢◌, ℕ, ◌<◌, ◌≤◌, ◌==◌, List, [], ◌∷◌, ◌++◌, length, map, Some, None, if◌then◌else◌, IfOk, IfErr, OnOk, OnErr};
+ghost use Rattle.std.specs.Option.{option_to_list};
+ghost use Rattle.ht_lines.specs.Content.{allocation_line, free_line};
 ghost use Rattle.hp_num.specs.Extends.{Extends};
 ghost use Rattle.ht_lines.specs.Written.{written};
 ghost use Rattle.ht_trace.specs.LineFault.{Tells, most_entries};
 ghost use Rattle.interpret.specs.FirstAppearances.{over_fault, with_new};
 ghost use Rattle.interpret.specs.Interpreted.{info_said, new_in, text_of};
+ghost use Rattle.interpret.specs.InterpreterState.{info_at};
 ghost use Rattle.interpret.specs.RawTables.{info_number, same_info};
 
 use crate::infos::{AllocationInfo, InfoSet};
+use crate::pointers::Pointers;
+use hp_num::{LONGEST_NUMBER_LINE, NoMemory, put_number_line};
 use ht_lines::{Item, put_item};
 use ht_trace::LineError;
+
+/// Lets a pointer stand for a block of a held info, and appends the line of the allocation. On `NoMemory` both are as they
+/// were.
+pub fn put_held(
+    pointers: &mut Pointers,
+    info: u32,
+    ptr: u64,
+    out: &mut Vec<u8>,
+) -> Result<(), NoMemory>
+    ensures set { OnOk result
+        ((other : ℕ) → info_at pointers.new other
+        ≡ if ptr == other then Some info else info_at pointers.old other) }
+    ensures lines { OnOk result
+        ((version : ℕ) → out.new.items
+        ≡ out.old.items ++ text_of (written version (allocation_line info) ∷ [])) }
+    ensures unchanged { OnErr result (pointers.new ≡ pointers.old) }
+    ensures unwritten { OnErr result (out.new.items ≡ out.old.items) }
+{
+    out.reserve(LONGEST_NUMBER_LINE)?;
+    pointers.set(ptr, info)?;
+    if put_number_line(out, b'+', &[u64::from(info)]).is_err() {
+        unreachable!();
+    }
+    Ok(())
+}
+
+/// Appends the line of the free of a block that a pointer stands for, which it then no longer does; where it stands for none,
+/// there is no line. On `NoMemory` both are as they were.
+pub fn put_free(pointers: &mut Pointers, ptr: u64, out: &mut Vec<u8>) -> Result<(), NoMemory>
+    ensures taken { OnOk result
+        ((other : ℕ) → info_at pointers.new other
+        ≡ if ptr == other then None else info_at pointers.old other) }
+    ensures lines { OnOk result
+        ((version : ℕ) → out.new.items ≡ out.old.items
+        ++ text_of (map (written version)
+        (map free_line (option_to_list (info_at pointers.old ptr))))) }
+    ensures unchanged { OnErr result (pointers.new ≡ pointers.old) }
+    ensures unwritten { OnErr result (out.new.items ≡ out.old.items) }
+    ensures kept { Extends out.old.items out.new.items }
+{
+    out.reserve(LONGEST_NUMBER_LINE)?;
+    let Some(info) = pointers.take(ptr) else {
+        return Ok(());
+    };
+    if put_number_line(out, b'-', &[u64::from(info)]).is_err() {
+        unreachable!();
+    }
+    Ok(())
+}
 
 /// The number of an allocation's info, which is added where it is new. Appends the line of a new info and that of the
 /// allocation.
@@ -27,8 +80,11 @@ pub fn put_allocation(
     ensures added { IfOk result (λ number. infos.new ≡ with_new same_info infos.old info) }
     ensures number { IfOk result (λ number. number ≡ info_number infos.new info) }
     ensures lines { IfOk result (λ number. out.new.items ≡ out.old.items
-        ++ text_of (map (written version) (map info_said (new_in infos.old infos.new) ++ allocation_line number ∷ []))) }
-    ensures fault { IfErr result (λ error. Tells error (over_fault most_entries (length (with_new same_info infos.old info)))) }
+        ++ text_of (map (written version)
+        (map info_said (new_in infos.old infos.new) ++ allocation_line number ∷ []))) }
+    ensures fault { IfErr result
+        (λ error. Tells error
+        (over_fault most_entries (length (with_new same_info infos.old info)))) }
     ensures only { IfErr result (λ error. error ≢ LineError.NoMemory → error ≡ LineError.TooMany) }
     ensures few { length infos.new ≤ most_entries }
     ensures kept { Extends out.old.items out.new.items }

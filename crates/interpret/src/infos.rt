@@ -1,5 +1,5 @@
 //! The pairs of a size and a node of a raw trace's allocations, each once, by their numbers from 0.
-ghost use Rattle.std.specs.Prelude.{◌≡◌, ℕ, ◌+◌, ◌<◌, ◌≤◌, List, [], ◌++◌, not, length, IfOk, IfErr, OnOk, OnErr};
+ghost use Rattle.std.specs.Prelude.{◌≡◌, ℕ, ◌+◌, ◌<◌, ◌≤◌, List, [], ◌++◌, true, false, not, length, IfNone, IfSome, IfOk, IfErr, OnOk, OnErr};
 ghost use Rattle.std.specs.List.{list_any};
 ghost use Rattle.ht_trace.specs.LineFault.{Tells, most_entries};
 ghost use Rattle.interpret.specs.FirstAppearances.{over_fault, with_new};
@@ -55,14 +55,27 @@ impl InfoSet {
         }
     }
 
+    /// The number of an info that is held: `None` exactly where it isn't. It takes no memory.
+    pub fn find(&self, info: AllocationInfo) -> Option<u32>
+        ensures none { IfNone result (list_any (same_info info) self.now ≡ false) }
+        ensures some { IfSome result (λ number. list_any (same_info info) self.now ≡ true) }
+        ensures number { IfSome result (λ number. number ≡ info_number self.now info) }
+    {
+        let place = self.infos.get_index_of(&info)?;
+        Some(place as u32)
+    }
+
     /// The number of an info, which is added where it is new. `TooMany` comes exactly where it is new and 2^32 - 1 are
     /// held. One that is held takes no memory.
     pub fn intern(&mut self, info: AllocationInfo) -> Result<NumberedInfo, LineError>
         ensures added { OnOk result (self.new ≡ with_new same_info self.old info) }
         ensures number { IfOk result (λ found. found.number ≡ info_number self.new info) }
         ensures held { IfOk result (λ found. found.number < length self.new) }
-        ensures is_new { IfOk result (λ found. found.is_new ≡ not (list_any (same_info info) self.old)) }
-        ensures fault { IfErr result (λ error. Tells error (over_fault most_entries (length (with_new same_info self.old info)))) }
+        ensures is_new { IfOk result
+            (λ found. found.is_new ≡ not (list_any (same_info info) self.old)) }
+        ensures fault { IfErr result
+            (λ error. Tells error
+            (over_fault most_entries (length (with_new same_info self.old info)))) }
         ensures few { length self.new ≤ most_entries }
         ensures unchanged { OnErr result (self.new ≡ self.old) }
     {

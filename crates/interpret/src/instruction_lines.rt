@@ -32,8 +32,13 @@ pub fn add_names(
     out: &mut Vec<u8>,
 ) -> Result<(), LineError>
     requires few { length names.old ≤ most_entries }
-    ensures added { OnOk result (AddsNames version (names_called (resolved_kept found.now)) names.old names.new out.old.items out.new.items) }
-    ensures fault { IfErr result (λ error. Tells error (over_fault most_entries (length (with_all bytes_eq names.old (names_called (resolved_kept found.now)))))) }
+    ensures added { OnOk result
+        (AddsNames version (names_called (resolved_kept found.now)) names.old names.new
+        out.old.items out.new.items) }
+    ensures fault { IfErr result
+        (λ error. Tells error
+        (over_fault most_entries
+        (length (with_all bytes_eq names.old (names_called (resolved_kept found.now)))))) }
     ensures few { length names.new ≤ most_entries }
     ensures kept { Extends out.old.items out.new.items }
 {
@@ -49,8 +54,13 @@ fn add_module_name(
     out: &mut Vec<u8>,
 ) -> Result<(), LineError>
     requires few { length names.old ≤ most_entries }
-    ensures added { OnOk result (AddsNames version (option_to_list (option_copied name.entry)) names.old names.new out.old.items out.new.items) }
-    ensures fault { IfErr result (λ error. Tells error (over_fault most_entries (length (with_all bytes_eq names.old (option_to_list (option_copied name.entry)))))) }
+    ensures added { OnOk result
+        (AddsNames version (option_to_list (option_copied name.entry)) names.old names.new
+        out.old.items out.new.items) }
+    ensures fault { IfErr result
+        (λ error. Tells error
+        (over_fault most_entries
+        (length (with_all bytes_eq names.old (option_to_list (option_copied name.entry)))))) }
     ensures few { length names.new ≤ most_entries }
     ensures kept { Extends out.old.items out.new.items }
 {
@@ -68,8 +78,15 @@ fn add_frames(
     out: &mut Vec<u8>,
 ) -> Result<(), LineError>
     requires few { length names.old ≤ most_entries }
-    ensures added { OnOk result (AddsNames version (flat_map frame_names (frames_of (following (option_copied texts.entry)))) names.old names.new out.old.items out.new.items) }
-    ensures fault { IfErr result (λ error. Tells error (over_fault most_entries (length (with_all bytes_eq names.old (flat_map frame_names (frames_of (following (option_copied texts.entry)))))))) }
+    ensures added { OnOk result
+        (AddsNames version (flat_map frame_names
+        (frames_of (following (option_copied texts.entry)))) names.old names.new out.old.items
+        out.new.items) }
+    ensures fault { IfErr result
+        (λ error. Tells error
+        (over_fault most_entries
+        (length (with_all bytes_eq names.old
+        (flat_map frame_names (frames_of (following (option_copied texts.entry)))))))) }
     ensures few { length names.new ≤ most_entries }
     ensures kept { Extends out.old.items out.new.items }
 {
@@ -90,8 +107,13 @@ fn add_frame(
     out: &mut Vec<u8>,
 ) -> Result<(), LineError>
     requires few { length names.old ≤ most_entries }
-    ensures added { OnOk result (AddsNames version (frame_names (frame_kept frame.now)) names.old names.new out.old.items out.new.items) }
-    ensures fault { IfErr result (λ error. Tells error (over_fault most_entries (length (with_all bytes_eq names.old (frame_names (frame_kept frame.now)))))) }
+    ensures added { OnOk result
+        (AddsNames version (frame_names (frame_kept frame.now)) names.old names.new out.old.items
+        out.new.items) }
+    ensures fault { IfErr result
+        (λ error. Tells error
+        (over_fault most_entries
+        (length (with_all bytes_eq names.old (frame_names (frame_kept frame.now)))))) }
     ensures few { length names.new ≤ most_entries }
     ensures kept { Extends out.old.items out.new.items }
 {
@@ -110,8 +132,11 @@ fn add_name(
     out: &mut Vec<u8>,
 ) -> Result<(), LineError>
     requires few { length names.old ≤ most_entries }
-    ensures added { OnOk result (AddsNames version (name.now ∷ []) names.old names.new out.old.items out.new.items) }
-    ensures fault { IfErr result (λ error. Tells error (over_fault most_entries (length (with_all bytes_eq names.old (name.now ∷ []))))) }
+    ensures added { OnOk result
+        (AddsNames version (name.now ∷ []) names.old names.new out.old.items out.new.items) }
+    ensures fault { IfErr result
+        (λ error. Tells error
+        (over_fault most_entries (length (with_all bytes_eq names.old (name.now ∷ []))))) }
     ensures few { length names.new ≤ most_entries }
     ensures kept { Extends out.old.items out.new.items }
 {
@@ -129,7 +154,10 @@ pub fn put_instruction(
     found: &ResolvedIp,
     out: &mut Vec<u8>,
 ) -> Result<(), NoMemory>
-    ensures appended { OnOk result ((version : ℕ) → out.new.items ≡ out.old.items ++ (written version (instruction_said names.now (resolved_kept found.now)) ++ (10 ∷ []))) }
+    ensures appended { OnOk result
+        ((version : ℕ) → out.new.items
+        ≡ out.old.items ++ (written version (instruction_said names.now (resolved_kept found.now))
+        ++ (10 ∷ []))) }
     ensures kept { Extends out.old.items out.new.items }
 {
     put_bytes(out, b"i")?;
@@ -151,7 +179,10 @@ fn module_number(names: &NameTable, name: Option<&[u8]>) -> u64
 
 // Appends the numbers of the frames that the texts of a symbol say.
 fn put_frames(names: &NameTable, texts: Option<&[u8]>, out: &mut Vec<u8>) -> Result<(), NoMemory>
-    ensures appended { OnOk result (out.new.items ≡ out.old.items ++ spelled (flat_map (frame_numbers names.now) (frames_of (following (option_copied texts.entry))))) }
+    ensures appended { OnOk result
+        (out.new.items ≡ out.old.items
+        ++ spelled (flat_map (frame_numbers names.now)
+        (frames_of (following (option_copied texts.entry))))) }
     ensures kept { Extends out.old.items out.new.items }
 {
     let mut rest = texts;
@@ -165,7 +196,9 @@ fn put_frames(names: &NameTable, texts: Option<&[u8]>, out: &mut Vec<u8>) -> Res
 
 // Appends the numbers of a frame.
 fn put_frame(names: &NameTable, frame: &SymbolFrame, out: &mut Vec<u8>) -> Result<(), NoMemory>
-    ensures appended { OnOk result (out.new.items ≡ out.old.items ++ spelled (frame_numbers names.now (frame_kept frame.now))) }
+    ensures appended { OnOk result
+        (out.new.items ≡ out.old.items
+        ++ spelled (frame_numbers names.now (frame_kept frame.now))) }
     ensures kept { Extends out.old.items out.new.items }
 {
     put_number(out, names.number(frame.function))?;

@@ -19,7 +19,7 @@ ghost use Rattle.interpret.specs.RawLedger.{KeepsLedger};
 ghost use Rattle.interpret.specs.SymbolLine.{Symbol};
 ghost use Rattle.interpret.specs.TakesLine.{HasRead, HasRefused, Refuses, Takes};
 
-use crate::allocation_lines::put_allocation;
+use crate::allocation_lines::{put_allocation, put_free};
 use crate::infos::{AllocationInfo, InfoSet};
 use crate::known_ips::{KnownIps, Numbered};
 use crate::modules::ModuleList;
@@ -42,15 +42,15 @@ use std::marker::Model;
 /// and never with lines.
 #[derive(Debug, Drop)]
 pub struct Interpreter {
-    symbols: Symbols,
-    version: Option<u8>,
-    modules: ModuleList,
-    names: NameTable,
-    known: KnownIps,
-    nodes: Nodes,
-    infos: InfoSet,
-    pointers: Pointers,
-    failed: Option<LineError>,
+    pub(crate) symbols: Symbols,
+    pub(crate) version: Option<u8>,
+    pub(crate) modules: ModuleList,
+    pub(crate) names: NameTable,
+    pub(crate) known: KnownIps,
+    pub(crate) nodes: Nodes,
+    pub(crate) infos: InfoSet,
+    pub(crate) pointers: Pointers,
+    pub(crate) failed: Option<LineError>,
 }
 
 impl Model for Interpreter {
@@ -73,7 +73,9 @@ impl Model for Interpreter {
       failed = interpreter.failed;
     } };
 
-    ghost invariant = { λ interpreter. IsWithin interpreter.version interpreter.names interpreter.known interpreter.nodes interpreter.infos };
+    ghost invariant = { λ interpreter.
+        IsWithin interpreter.version interpreter.names interpreter.known interpreter.nodes
+        interpreter.infos };
 }
 
 impl Interpreter {
@@ -107,21 +109,36 @@ impl Interpreter {
     pub fn line(&mut self, line: &[u8], out: &mut Vec<u8>) -> Result<(), LineError>
         requires { length line.now < 2 ^ 32 }
         // For all lines that the interpreter stands for.
-        ensures stands { OnOk result ((symbols : List Symbol) (lines : List (List ℕ)) → StandsFor self.old symbols lines → StandsFor self.new symbols (lines ++ line.now ∷ [])) }
-        ensures lines { OnOk result ((symbols : List Symbol) (lines : List (List ℕ)) → StandsFor self.old symbols lines → out.new.items ≡ out.old.items ++ text_of (interpreted_lines symbols lines line.now)) }
-        ensures no_fault { OnOk result ((symbols : List Symbol) (lines : List (List ℕ)) → StandsFor self.old symbols lines → raw_fault symbols lines line.now ≡ None) }
-        ensures fault { IfErr result (λ error. (symbols : List Symbol) (lines : List (List ℕ)) → StandsFor self.old symbols lines → Tells error (raw_fault symbols lines line.now)) }
+        ensures stands { OnOk result
+            ((symbols : List Symbol) (lines : List (List ℕ)) → StandsFor self.old symbols lines
+            → StandsFor self.new symbols (lines ++ line.now ∷ [])) }
+        ensures lines { OnOk result
+            ((symbols : List Symbol) (lines : List (List ℕ)) → StandsFor self.old symbols lines
+            → out.new.items ≡ out.old.items ++ text_of (interpreted_lines symbols lines line.now)) }
+        ensures no_fault { OnOk result
+            ((symbols : List Symbol) (lines : List (List ℕ)) → StandsFor self.old symbols lines
+            → raw_fault symbols lines line.now ≡ None) }
+        ensures fault { IfErr result
+            (λ error. (symbols : List Symbol) (lines : List (List ℕ))
+            → StandsFor self.old symbols lines → Tells error (raw_fault symbols lines line.now)) }
         ensures symbols { self.new.symbols ≡ self.old.symbols }
 
         // The live blocks of every node.
-        ensures ledger { OnOk result ((symbols : List Symbol) (lines : List (List ℕ)) → StandsFor self.old symbols lines → KeepsLedger symbols (contents (lines ++ line.now ∷ []))) }
+        ensures ledger { OnOk result
+            ((symbols : List Symbol) (lines : List (List ℕ)) → StandsFor self.old symbols lines
+            → KeepsLedger symbols (contents (lines ++ line.now ∷ []))) }
 
         // After a refusal.
         ensures out_unchanged { OnErr result (out.new.items ≡ out.old.items) }
-        ensures unchanged { IfErr result (λ error. error ≢ LineError.NoMemory → error ≢ LineError.TooMany → self.new ≡ self.old) }
-        ensures no_memory { result ≡ Err LineError.NoMemory → self.new.failed ≡ Some LineError.NoMemory }
-        ensures too_many { result ≡ Err LineError.TooMany → self.new.failed ≡ Some LineError.TooMany }
-        ensures failed { IfSome self.old.failed (λ error. (result ≡ Err error) × (self.new ≡ self.old)) }
+        ensures unchanged { IfErr result
+            (λ error. error ≢ LineError.NoMemory → error ≢ LineError.TooMany
+            → self.new ≡ self.old) }
+        ensures no_memory { result ≡ Err LineError.NoMemory
+            → self.new.failed ≡ Some LineError.NoMemory }
+        ensures too_many { result ≡ Err LineError.TooMany
+            → self.new.failed ≡ Some LineError.TooMany }
+        ensures failed { IfSome self.old.failed
+            (λ error. (result ≡ Err error) × (self.new ≡ self.old)) }
     {
         if let Some(error) = self.failed {
             return Err(error);
@@ -139,8 +156,12 @@ impl Interpreter {
     pub fn end(&self) -> Result<(), LineError>
         ensures no_version { (result ≡ Err LineError.NoVersion) ↔ IsNone self.now.version }
         ensures only { IfErr result (λ error. error ≡ LineError.NoVersion) }
-        ensures no_fault { OnOk result ((symbols : List Symbol) (lines : List (List ℕ)) → StandsFor self.now symbols lines → raw_end_fault lines ≡ None) }
-        ensures fault { IfErr result (λ error. (symbols : List Symbol) (lines : List (List ℕ)) → StandsFor self.now symbols lines → raw_end_fault lines ≡ Some error) }
+        ensures no_fault { OnOk result
+            ((symbols : List Symbol) (lines : List (List ℕ)) → StandsFor self.now symbols lines
+            → raw_end_fault lines ≡ None) }
+        ensures fault { IfErr result
+            (λ error. (symbols : List Symbol) (lines : List (List ℕ))
+            → StandsFor self.now symbols lines → raw_end_fault lines ≡ Some error) }
     {
         if self.version.is_none() {
             return Err(LineError::NoVersion);
@@ -151,7 +172,8 @@ impl Interpreter {
     // Reads the next line. After an error more bytes may stand at the end of `out`.
     fn take_line(&mut self, line: &[u8], out: &mut Vec<u8>) -> Result<(), LineError>
         requires { length line.now < 2 ^ 32 }
-        ensures read { OnOk result (HasRead self.old self.new line.now out.old.items out.new.items) }
+        ensures read { OnOk result
+            (HasRead self.old self.new line.now out.old.items out.new.items) }
         ensures refused { IfErr result (λ error. HasRefused self.old self.new line.now error) }
         ensures kept { Extends out.old.items out.new.items }
     {
@@ -165,8 +187,10 @@ impl Interpreter {
     // Takes what a line says.
     fn take(&mut self, line: &[u8], item: &Item, out: &mut Vec<u8>) -> Result<(), LineError>
         requires writable { IsWritable Raw (unwrap_or self.old.version 1) (content item.now) }
-        ensures takes { OnOk result (Takes self.old self.new line.now (content item.now) out.old.items out.new.items) }
-        ensures refuses { IfErr result (λ error. Refuses self.old self.new (content item.now) error) }
+        ensures takes { OnOk result
+            (Takes self.old self.new line.now (content item.now) out.old.items out.new.items) }
+        ensures refuses { IfErr result
+            (λ error. Refuses self.old self.new (content item.now) error) }
         ensures kept { Extends out.old.items out.new.items }
     {
         match *item {
@@ -217,8 +241,11 @@ impl Interpreter {
     fn set_version(&mut self, heaptrack: u64, file: u8, out: &mut Vec<u8>) -> Result<(), LineError>
         requires low { 1 ≤ file }
         requires high { file ≤ 3 }
-        ensures takes { OnOk result ((line : List ℕ) → Takes self.old self.new line (version_line heaptrack file) out.old.items out.new.items) }
-        ensures refuses { IfErr result (λ error. Refuses self.old self.new (version_line heaptrack file) error) }
+        ensures takes { OnOk result
+            ((line : List ℕ) → Takes self.old self.new line (version_line heaptrack file)
+            out.old.items out.new.items) }
+        ensures refuses { IfErr result
+            (λ error. Refuses self.old self.new (version_line heaptrack file) error) }
         ensures kept { Extends out.old.items out.new.items }
     {
         if self.version.is_some() {
@@ -237,23 +264,31 @@ impl Interpreter {
 
     fn add_module(&mut self, name: &[u8], start: u64, tail: &[u8]) -> Result<(), LineError>
         requires fit { RangesFit start (numbers tail.now) }
-        ensures takes { OnOk result ((line before : List ℕ) → Takes self.old self.new line (module_line name.now start (numbers tail.now)) before before) }
-        ensures refuses { IfErr result (λ error. Refuses self.old self.new (module_line name.now start (numbers tail.now)) error) }
+        ensures takes { OnOk result
+            ((line before : List ℕ)
+            → Takes self.old self.new line (module_line name.now start (numbers tail.now)) before
+            before) }
+        ensures refuses { IfErr result
+            (λ error. Refuses self.old self.new (module_line name.now start (numbers tail.now))
+            error) }
     {
         self.modules.add(name, start, tail)?;
         Ok(())
     }
 
     fn add_node(&mut self, ip: u64, parent: u64, out: &mut Vec<u8>) -> Result<(), LineError>
-        ensures takes { OnOk result ((line : List ℕ) → Takes self.old self.new line (node_line ip parent) out.old.items out.new.items) }
-        ensures refuses { IfErr result (λ error. Refuses self.old self.new (node_line ip parent) error) }
+        ensures takes { OnOk result
+            ((line : List ℕ) → Takes self.old self.new line (node_line ip parent) out.old.items
+            out.new.items) }
+        ensures refuses { IfErr result
+            (λ error. Refuses self.old self.new (node_line ip parent) error) }
         ensures kept { Extends out.old.items out.new.items }
     {
-        let version = self.version.unwrap_or(1);
         if let Some(instruction) = self.known.find(ip) {
-            add_held_node(&mut self.nodes, version, instruction, parent, out)?;
+            add_held_node(&mut self.nodes, instruction, parent, out)?;
             return Ok(());
         }
+        let version = self.version.unwrap_or(1);
         let found = resolve(&self.symbols, &self.modules, ip);
         add_new_node(
             &mut self.names,
@@ -274,8 +309,11 @@ impl Interpreter {
         ptr: u64,
         out: &mut Vec<u8>,
     ) -> Result<(), LineError>
-        ensures takes { OnOk result ((line : List ℕ) → Takes self.old self.new line (raw_allocation_line size trace ptr) out.old.items out.new.items) }
-        ensures refuses { IfErr result (λ error. Refuses self.old self.new (raw_allocation_line size trace ptr) error) }
+        ensures takes { OnOk result
+            ((line : List ℕ) → Takes self.old self.new line (raw_allocation_line size trace ptr)
+            out.old.items out.new.items) }
+        ensures refuses { IfErr result
+            (λ error. Refuses self.old self.new (raw_allocation_line size trace ptr) error) }
         ensures kept { Extends out.old.items out.new.items }
     {
         if trace > u64::from(self.nodes.len()) {
@@ -292,16 +330,17 @@ impl Interpreter {
         Ok(())
     }
 
-    fn free(&mut self, ptr: u64, out: &mut Vec<u8>) -> Result<(), LineError>
-        ensures takes { OnOk result ((line : List ℕ) → Takes self.old self.new line (raw_free_line ptr) out.old.items out.new.items) }
-        ensures refuses { IfErr result (λ error. Refuses self.old self.new (raw_free_line ptr) error) }
+    pub(crate) fn free(&mut self, ptr: u64, out: &mut Vec<u8>) -> Result<(), LineError>
+        ensures takes { OnOk result
+            ((line : List ℕ) → Takes self.old self.new line (raw_free_line ptr) out.old.items
+            out.new.items) }
+        ensures refuses { IfErr result
+            (λ error. Refuses self.old self.new (raw_free_line ptr) error) }
         ensures kept { Extends out.old.items out.new.items }
+        ensures untaken { OnErr result (self.new ≡ self.old) }
+        ensures unwritten { OnErr result (out.new.items ≡ out.old.items) }
     {
-        let Some(info) = self.pointers.take(ptr) else {
-            return Ok(());
-        };
-        let info = u64::from(info);
-        put_item(self.version.unwrap_or(1), &Item::Free { info }, out)?;
+        put_free(&mut self.pointers, ptr, out)?;
         Ok(())
     }
 }

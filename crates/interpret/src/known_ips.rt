@@ -92,9 +92,11 @@ impl KnownIps {
     /// Adds an instruction pointer that has no number. `TooMany` comes exactly where 2^32 - 1 are held.
     pub fn add(&mut self, ip: u64, frames: u32) -> Result<(), LineError>
         requires new { list_any (λ k. ip == k.ip) self.old ≡ false }
-        ensures added { OnOk result (self.new ≡ self.old ++ record { ip = ip; frames = frames } ∷ []) }
+        ensures added { OnOk result
+            (self.new ≡ self.old ++ record { ip = ip; frames = frames } ∷ []) }
         ensures no_fault { OnOk result (over_fault most_entries (length self.old + 1) ≡ None) }
-        ensures fault { IfErr result (λ error. Tells error (over_fault most_entries (length self.old + 1))) }
+        ensures fault { IfErr result
+            (λ error. Tells error (over_fault most_entries (length self.old + 1))) }
         ensures few { length self.new ≤ most_entries }
         ensures unchanged { OnErr result (self.new ≡ self.old) }
     {

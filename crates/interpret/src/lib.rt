@@ -15,6 +15,8 @@
 //!   from then on; after every other it stands for the same lines. The definitions number names, instructions and pairs
 //!   of a size and a node by the lists of those that the lines call for without their repeats (`RawTables`), and say of
 //!   a pointer that the last line which names it tells what it stands for (`RawBlocks`).
+//! - `take_front` does the same for the line at the front of some bytes (`TakesFront`), where it is of the form in which
+//!   nearly all are written and can't be refused; it may pass over any line.
 //! - Nothing is lost (`ledger` of `line`): for every node, the blocks of the raw trace that no line freed have the
 //!   bytes and the number that the events of the interpreted lines leave live, and the instruction pointers outwards
 //!   from the node are those of the raw trace (`KeepsLedger`, `IpLists`). Its proof keeps that a pointer's block stands
@@ -35,6 +37,7 @@
 //! | File | Does |
 //! |---|---|
 //! | `interpreter.rt` | a method for each kind of line (`Takes`, `Refuses`); one law leads to `line` |
+//! | `front.rt` | lines in their usual form at the front of bytes, taken where nothing is in doubt |
 //! | `name_table.rt`, `known_ips.rt`, `infos.rt`, `pointers.rt`, `modules.rt` | one table each |
 //! | `instruction_lines.rt`, `node_lines.rt`, `allocation_lines.rt` | add to tables, and write what is new |
 //! | `resolved.rt`, `symbol_frame.rt` | what stands at an address |
@@ -45,6 +48,7 @@
 
 mod allocation_lines;
 mod fault;
+mod front;
 mod infos;
 mod instruction_lines;
 mod interpreter;

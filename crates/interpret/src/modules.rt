@@ -65,7 +65,13 @@ impl ModuleList {
     /// Adds a module, whose tail has an offset and a size for each range.
     pub fn add(&mut self, name: &[u8], start: u64, tail: &[u8]) -> Result<(), NoMemory>
         requires fit { RangesFit start (numbers tail.now) }
-        ensures added { OnOk result (self.new ≡ self.old ++ record { name = name.now; start = start; ranges = ranges_said start (numbers tail.now) } ∷ []) }
+        ensures added { OnOk result
+            (self.new ≡ self.old
+            ++ record {
+              name = name.now;
+              start = start;
+              ranges = ranges_said start (numbers tail.now);
+            } ∷ []) }
         ensures unchanged { OnErr result (self.new ≡ self.old) }
     {
         let name = Text::new(self.alloc, name)?;
@@ -104,7 +110,9 @@ fn read_ranges(alloc: Global, start: u64, tail: &[u8]) -> Result<Vec<AddressRang
 fn next_range(start: u64, tail: &[u8]) -> Option<(AddressRange, &[u8])>
     requires fit { RangesFit start (numbers tail.now) }
     ensures none { IfNone result (ranges_said start (numbers tail.now) ≡ []) }
-    ensures some { IfSome result (λ found. ranges_said start (numbers tail.now) ≡ found.0 ∷ ranges_said start (numbers found.1.now)) }
+    ensures some { IfSome result
+        (λ found. ranges_said start (numbers tail.now)
+        ≡ found.0 ∷ ranges_said start (numbers found.1.now)) }
     ensures fit { IfSome result (λ found. RangesFit start (numbers found.1.now)) }
     ensures shorter { IfSome result (λ found. length found.1.now < length tail.now) }
 {
@@ -120,7 +128,8 @@ fn next_range(start: u64, tail: &[u8]) -> Option<(AddressRange, &[u8])>
 
 // The last module of a list that holds an address.
 fn last_holding(entries: &[ModuleEntry], ip: u64) -> Option<&ModuleEntry>
-    ensures { option_map (λ entry. module_kept entry.now) result ≡ module_of (map module_kept entries.now) ip }
+    ensures { option_map (λ entry. module_kept entry.now) result
+        ≡ module_of (map module_kept entries.now) ip }
 {
     let mut left = entries.len();
     'backwards: while left > 0 {

@@ -45,8 +45,11 @@ impl NameTable {
     /// held. One that is held takes no memory.
     pub fn add(&mut self, name: &[u8]) -> Result<bool, LineError>
         ensures added { OnOk result (self.new ≡ with_new bytes_eq self.old name.now) }
-        ensures is_new { IfOk result (λ is_new. is_new ≡ not (list_any (bytes_eq name.now) self.old)) }
-        ensures fault { IfErr result (λ error. Tells error (over_fault most_entries (length (with_new bytes_eq self.old name.now)))) }
+        ensures is_new { IfOk result
+            (λ is_new. is_new ≡ not (list_any (bytes_eq name.now) self.old)) }
+        ensures fault { IfErr result
+            (λ error. Tells error
+            (over_fault most_entries (length (with_new bytes_eq self.old name.now)))) }
         ensures few { length self.new ≤ most_entries }
         ensures unchanged { OnErr result (self.new ≡ self.old) }
     {

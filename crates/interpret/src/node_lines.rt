@@ -18,31 +18,45 @@ use crate::instruction_lines::{add_names, put_instruction};
 use crate::known_ips::{KnownIps, Numbered};
 use crate::name_table::NameTable;
 use crate::resolved::ResolvedIp;
+use hp_num::{LONGEST_NUMBER_LINE, put_number_line};
 use ht_lines::{Item, put_item};
 use ht_trace::LineError;
 use stack_table::Nodes;
 
 /// Adds the node of an instruction that has a number, and appends its line.
 ///
-/// `UnknownParent`, `TooDeep` and `TooMany` come as the node table tells them, and leave the nodes as they were.
+/// `UnknownParent`, `TooDeep` and `TooMany` come as the node table tells them. After an error the nodes and `out` are as they
+/// were.
 pub fn add_held_node(
     nodes: &mut Nodes,
-    version: u8,
     instruction: Numbered,
     parent: u64,
     out: &mut Vec<u8>,
 ) -> Result<(), LineError>
-    ensures added { OnOk result (nodes.new ≡ nodes.old ++ record { ip = instruction.number; parent = parent; frames = instruction.frames } ∷ []) }
-    ensures lines { OnOk result (out.new.items ≡ out.old.items ++ text_of (written version (node_line instruction.number parent) ∷ [])) }
-    ensures no_fault { OnOk result (node_fault nodes.old instruction.frames parent (over_fault most_nodes (length nodes.old + 1)) ≡ None) }
-    ensures fault { IfErr result (λ error. Tells error (node_fault nodes.old instruction.frames parent (over_fault most_nodes (length nodes.old + 1)))) }
+    ensures added { OnOk result
+        (nodes.new ≡ nodes.old
+        ++ record { ip = instruction.number; parent = parent; frames = instruction.frames } ∷ []) }
+    ensures lines { OnOk result
+        ((version : ℕ) → out.new.items ≡ out.old.items
+        ++ text_of (written version (node_line instruction.number parent) ∷ [])) }
+    ensures no_fault { OnOk result
+        (node_fault nodes.old instruction.frames parent
+        (over_fault most_nodes (length nodes.old + 1)) ≡ None) }
+    ensures fault { IfErr result
+        (λ error. Tells error
+        (node_fault nodes.old instruction.frames parent
+        (over_fault most_nodes (length nodes.old + 1)))) }
     ensures few { length nodes.old ≤ most_nodes → length nodes.new ≤ most_nodes }
-    ensures unchanged { IfErr result (λ error. error ≢ LineError.NoMemory → nodes.new ≡ nodes.old) }
+    ensures unchanged { OnErr result (nodes.new ≡ nodes.old) }
+    ensures unwritten { OnErr result (out.new.items ≡ out.old.items) }
     ensures kept { Extends out.old.items out.new.items }
 {
     let Numbered { number, frames } = instruction;
+    out.reserve(LONGEST_NUMBER_LINE)?;
     nodes.add(number, parent, frames)?;
-    put_item(version, &Item::Node { ip: number, parent }, out)?;
+    if put_number_line(out, b't', &[number, parent]).is_err() {
+        unreachable!();
+    }
     Ok(())
 }
 
@@ -62,19 +76,40 @@ pub fn add_new_node(
 ) -> Result<(), LineError>
     requires new { list_any (λ k. found.now.ip == k.ip) known.old ≡ false }
     requires few_names { length names.old ≤ most_entries }
-    ensures names { OnOk result (names.new ≡ names_with names.old (Some (resolved_kept found.now))) }
-    ensures known { OnOk result (known.new ≡ known_with known.old (Some (resolved_kept found.now))) }
-    ensures nodes { OnOk result (nodes.new ≡ nodes.old ++ record { ip = length known.old + 1; parent = parent; frames = frame_count (resolved_kept found.now) } ∷ []) }
+    ensures names { OnOk result
+        (names.new ≡ names_with names.old (Some (resolved_kept found.now))) }
+    ensures known { OnOk result
+        (known.new ≡ known_with known.old (Some (resolved_kept found.now))) }
+    ensures nodes { OnOk result
+        (nodes.new ≡ nodes.old
+        ++ record {
+          ip = length known.old + 1;
+          parent = parent;
+          frames = frame_count (resolved_kept found.now);
+        } ∷ []) }
     ensures lines { OnOk result (out.new.items ≡ out.old.items
-        ++ text_of (map (written version) (map string_line (new_in names.old names.new) ++ (instruction_said names.new (resolved_kept found.now) ∷ node_line (length known.old + 1) parent ∷ [])))) }
-    ensures no_fault { OnOk result (node_fault nodes.old (frame_count (resolved_kept found.now)) parent (lists_fault names.new known.new nodes.new) ≡ None) }
-    ensures fault { IfErr result (λ error. Tells error (node_fault nodes.old (frame_count (resolved_kept found.now)) parent
-        (lists_fault (names_with names.old (Some (resolved_kept found.now))) (known_with known.old (Some (resolved_kept found.now)))
-        (nodes.old ++ record { ip = length known.old + 1; parent = parent; frames = frame_count (resolved_kept found.now) } ∷ [])))) }
+        ++ text_of (map (written version)
+        (map string_line (new_in names.old names.new)
+        ++ (instruction_said names.new (resolved_kept found.now)
+        ∷ node_line (length known.old + 1) parent ∷ [])))) }
+    ensures no_fault { OnOk result
+        (node_fault nodes.old (frame_count (resolved_kept found.now)) parent
+        (lists_fault names.new known.new nodes.new) ≡ None) }
+    ensures fault { IfErr result
+        (λ error. Tells error (node_fault nodes.old (frame_count (resolved_kept found.now)) parent
+        (lists_fault (names_with names.old (Some (resolved_kept found.now)))
+        (known_with known.old (Some (resolved_kept found.now)))
+        (nodes.old ++ record {
+          ip = length known.old + 1;
+          parent = parent;
+          frames = frame_count (resolved_kept found.now);
+        } ∷ [])))) }
     ensures few_names { length names.new ≤ most_entries }
     ensures few_known { length known.old ≤ most_entries → length known.new ≤ most_entries }
     ensures few_nodes { length nodes.old ≤ most_nodes → length nodes.new ≤ most_nodes }
-    ensures unchanged { IfErr result (λ error. error ≢ LineError.NoMemory → error ≢ LineError.TooMany → (names.new ≡ names.old) × (known.new ≡ known.old) × (nodes.new ≡ nodes.old)) }
+    ensures unchanged { IfErr result
+        (λ error. error ≢ LineError.NoMemory → error ≢ LineError.TooMany
+        → (names.new ≡ names.old) × (known.new ≡ known.old) × (nodes.new ≡ nodes.old)) }
     ensures kept { Extends out.old.items out.new.items }
 {
     let number = known.next_number();

@@ -33,7 +33,9 @@ impl Pointers {
 
     /// Lets a pointer stand for a block of an info, whatever it stood for.
     pub fn set(&mut self, ptr: u64, info: u32) -> Result<(), NoMemory>
-        ensures set { OnOk result ((other : ℕ) → info_at self.new other ≡ if ptr == other then Some info else info_at self.old other) }
+        ensures set { OnOk result
+            ((other : ℕ) → info_at self.new other ≡ if ptr == other then Some info
+            else info_at self.old other) }
         ensures unchanged { OnErr result (self.new ≡ self.old) }
     {
         self.infos.insert(ptr, info)?;
@@ -43,7 +45,8 @@ impl Pointers {
     /// The info of the block that a pointer stands for, which it then no longer does. It takes no memory.
     pub fn take(&mut self, ptr: u64) -> Option<u32>
         ensures info { result ≡ info_at self.old ptr }
-        ensures taken { (other : ℕ) → info_at self.new other ≡ if ptr == other then None else info_at self.old other }
+        ensures taken { (other : ℕ)
+            → info_at self.new other ≡ if ptr == other then None else info_at self.old other }
     {
         self.infos.remove(&ptr)
     }

@@ -22,17 +22,35 @@ use hp_num::hexadecimal_texts;
 /// What is written is read again as what was meant. It does nothing: a caller that speaks of the events of the lines that were
 /// written calls it for its clauses.
 pub fn interpreted_traces()
-    ensures version { (symbols : List Symbol) (lines : List (List ℕ)) → AreInterpretable symbols lines → trace.version_of (interpreted_trace symbols lines) ≡ version_of lines }
-    ensures reads_back { (symbols : List Symbol) (lines : List (List ℕ)) → AreInterpretable symbols lines → trace.contents (interpreted_trace symbols lines) ≡ interpreted_said symbols (contents lines) }
-    ensures events { (symbols : List Symbol) (lines : List (List ℕ)) → AreInterpretable symbols lines → events (interpreted_trace symbols lines) ≡ interpreted_events symbols (contents lines) }
-    ensures no_fault { (symbols : List Symbol) (lines : List (List ℕ)) → AreInterpretable symbols lines → AllByRecursion HasFrames symbols → length (patterns (contents lines)) ≤ most_entries
+    ensures version { (symbols : List Symbol) (lines : List (List ℕ))
+        → AreInterpretable symbols lines
+        → trace.version_of (interpreted_trace symbols lines) ≡ version_of lines }
+    ensures reads_back { (symbols : List Symbol) (lines : List (List ℕ))
+        → AreInterpretable symbols lines
+        → trace.contents (interpreted_trace symbols lines)
+        ≡ interpreted_said symbols (contents lines) }
+    ensures events { (symbols : List Symbol) (lines : List (List ℕ))
+        → AreInterpretable symbols lines
+        → events (interpreted_trace symbols lines) ≡ interpreted_events symbols (contents lines) }
+    ensures no_fault { (symbols : List Symbol) (lines : List (List ℕ))
+        → AreInterpretable symbols lines → AllByRecursion HasFrames symbols
+        → length (patterns (contents lines)) ≤ most_entries
         → gathered line_fault [] (interpreted_trace symbols lines) ≡ [] }
-    ensures end { (symbols : List Symbol) (lines : List (List ℕ)) → AreInterpretable symbols lines → raw_end_fault lines ≡ None → end_fault (interpreted_trace symbols lines) ≡ None }
-    ensures free_fault { (symbols : List Symbol) (lines : List (List ℕ)) → AreInterpretable symbols lines → gathered free_fault [] (events (interpreted_trace symbols lines)) ≡ [] }
-    ensures event_fault { (symbols : List Symbol) (lines : List (List ℕ)) → AreInterpretable symbols lines → allocated_bytes (events (interpreted_trace symbols lines)) ≤ 2 ^ 62
+    ensures end { (symbols : List Symbol) (lines : List (List ℕ)) → AreInterpretable symbols lines
+        → raw_end_fault lines ≡ None → end_fault (interpreted_trace symbols lines) ≡ None }
+    ensures free_fault { (symbols : List Symbol) (lines : List (List ℕ))
+        → AreInterpretable symbols lines
+        → gathered free_fault [] (events (interpreted_trace symbols lines)) ≡ [] }
+    ensures event_fault { (symbols : List Symbol) (lines : List (List ℕ))
+        → AreInterpretable symbols lines
+        → allocated_bytes (events (interpreted_trace symbols lines)) ≤ 2 ^ 62
         → gathered fault_of [] (events (interpreted_trace symbols lines)) ≡ [] }
-    ensures ledger { (symbols : List Symbol) (lines : List (List ℕ)) → AreInterpretable symbols lines → KeepsLedger symbols (contents lines) }
-    ensures one_line { (symbols : List Symbol) (lines : List (List ℕ)) → AreInterpretable symbols lines → AllByRecursion (λ symbol. AllByRecursion IsOneLine symbol.texts) symbols → AllByRecursion IsOneLine lines
+    ensures ledger { (symbols : List Symbol) (lines : List (List ℕ))
+        → AreInterpretable symbols lines → KeepsLedger symbols (contents lines) }
+    ensures one_line { (symbols : List Symbol) (lines : List (List ℕ))
+        → AreInterpretable symbols lines
+        → AllByRecursion (λ symbol. AllByRecursion IsOneLine symbol.texts) symbols
+        → AllByRecursion IsOneLine lines
         → AllByRecursion IsOneLine (interpreted_trace symbols lines) }
 {
     hexadecimal_texts();

@@ -31,10 +31,14 @@ impl StartIndex {
 
     /// The last start of a module that isn't above an offset.
     pub fn last_up_to(&self, module: usize, offset: u64) -> Option<Start>
-        ensures found { IfSome result (λ last. place_at self.now «module» last.start ≡ Some last.place) }
+        ensures found { IfSome result
+            (λ last. place_at self.now «module» last.start ≡ Some last.place) }
         ensures up_to { IfSome result (λ last. last.start ≤ offset) }
-        ensures last { IfSome result (λ last. (start place : ℕ) → start ≤ offset → place_at self.now «module» start ≡ Some place → start ≤ last.start) }
-        ensures none { IfNone result ((start : ℕ) → start ≤ offset → place_at self.now «module» start ≡ None) }
+        ensures last { IfSome result
+            (λ last. (start place : ℕ) → start ≤ offset
+            → place_at self.now «module» start ≡ Some place → start ≤ last.start) }
+        ensures none { IfNone result
+            ((start : ℕ) → start ≤ offset → place_at self.now «module» start ≡ None) }
     {
         let ((number, start), place) = self.places.range(..=(module, offset)).next_back()?;
         if *number != module {
@@ -49,8 +53,11 @@ impl StartIndex {
     /// Puts a place under a module and a start.
     pub fn insert(&mut self, module: usize, start: u64, place: usize) -> Result<(), NoMemory>
         ensures here { OnOk result (place_at self.new «module» start ≡ Some place) }
-        ensures others { OnOk result ((number other : ℕ) → (number ≢ «module») ⊎ (other ≢ start) → place_at self.new number other ≡ place_at self.old number other) }
-        ensures unchanged { OnErr result ((number other : ℕ) → place_at self.new number other ≡ place_at self.old number other) }
+        ensures others { OnOk result
+            ((number other : ℕ) → (number ≢ «module») ⊎ (other ≢ start)
+            → place_at self.new number other ≡ place_at self.old number other) }
+        ensures unchanged { OnErr result
+            ((number other : ℕ) → place_at self.new number other ≡ place_at self.old number other) }
     {
         self.places.insert((module, start), place)?;
         Ok(())

@@ -25,7 +25,8 @@ pub struct SymbolFrame<'a> {
 
 /// Takes the first frame off the texts of a symbol: that frame, and the texts of the others, where there are any.
 pub fn next_frame(texts: &[u8]) -> (SymbolFrame<'_>, Option<&[u8]>)
-    ensures frames { frames_of (fields texts.now) ≡ frame_kept result.0 ∷ frames_of (following (option_copied result.1)) }
+    ensures frames { frames_of (fields texts.now)
+        ≡ frame_kept result.0 ∷ frames_of (following (option_copied result.1)) }
     ensures shorter { IfSome result.1 (λ rest. length rest.now < length texts.now) }
 {
     let (function, after) = next_field(texts);

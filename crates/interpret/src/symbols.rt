@@ -44,7 +44,9 @@ impl Model for Symbols {
 
     ghost view = { λ symbols. symbols_kept symbols.module_names symbols.entries.items };
 
-    ghost invariant = { λ symbols. AreNamed symbols.module_names symbols.entries.items × AreIndexed symbols.entries.items symbols.starts };
+    ghost invariant = { λ symbols.
+        AreNamed symbols.module_names symbols.entries.items
+        × AreIndexed symbols.entries.items symbols.starts };
 }
 
 impl Symbols {
@@ -69,7 +71,9 @@ impl Symbols {
     /// After a fault the symbols are as before.
     pub fn line(&mut self, line: &[u8]) -> Result<(), SymbolFault>
         ensures added { OnOk result (self.new ≡ self.old ++ option_to_list (symbol_in line.now)) }
-        ensures stands { OnOk result ((lines : List (List ℕ)) → self.old ≡ symbols_of lines → self.new ≡ symbols_of (lines ++ line.now ∷ [])) }
+        ensures stands { OnOk result
+            ((lines : List (List ℕ)) → self.old ≡ symbols_of lines
+            → self.new ≡ symbols_of (lines ++ line.now ∷ [])) }
         ensures no_fault { OnOk result (symbol_fault self.old line.now ≡ None) }
         ensures fault { IfErr result (λ fault. Tells fault (symbol_fault self.old line.now)) }
         ensures unchanged { OnErr result (self.new ≡ self.old) }
@@ -85,7 +89,8 @@ impl Symbols {
 
     /// The texts of the symbol of a module that holds an offset: `None` exactly where none does. It takes no memory.
     pub(crate) fn texts_at(&self, name: &[u8], offset: u64) -> Option<&[u8]>
-        ensures { option_map (λ texts. fields texts.now) result ≡ option_map (λ symbol. symbol.texts) (symbol_at self.now name.now offset) }
+        ensures { option_map (λ texts. fields texts.now) result
+            ≡ option_map (λ symbol. symbol.texts) (symbol_at self.now name.now offset) }
     {
         let module_number = self.module_names.find(name)?;
         let entry = entry_at(&self.entries, &self.starts, module_number, offset)?;
@@ -97,7 +102,10 @@ impl Symbols {
         requires some { said.now.start < said.now.end }
         ensures added { OnOk result (self.new ≡ self.old ++ said_by said.now ∷ []) }
         ensures no_fault { OnOk result (list_any (meets (said_by said.now)) self.old ≡ false) }
-        ensures fault { IfErr result (λ fault. fault ≢ SymbolFault.NoMemory → (fault ≡ SymbolFault.SymbolOverlap) × (list_any (meets (said_by said.now)) self.old ≡ true)) }
+        ensures fault { IfErr result
+            (λ fault. fault ≢ SymbolFault.NoMemory
+            → (fault ≡ SymbolFault.SymbolOverlap)
+            × (list_any (meets (said_by said.now)) self.old ≡ true)) }
         ensures unchanged { OnErr result (self.new ≡ self.old) }
     {
         let module_number = self.module_names.intern(said.name)?;

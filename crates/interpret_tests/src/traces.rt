@@ -1,6 +1,6 @@
 //! Raw traces, and what their interpretation writes.
 
-use crate::transcript::played;
+use crate::transcript::{played, played_from_front};
 
 #[test]
 fn names_instructions_and_blocks(rt: HostRuntime) {
@@ -40,4 +40,17 @@ fn no_lines(rt: HostRuntime) {
         out.as_slice(),
         b": no version line\nend: no version line\n".as_slice()
     );
+}
+
+#[test]
+fn lines_from_the_front(rt: HostRuntime) {
+    let head = b"v 10500 2\nt 1400 0\n+ 40 1 9000\n# the end";
+    let text =
+        b"+ 40 1 9001\n- 9000\n- 9000\nt 1400 1\n- 9001\n+ 41 1 9000\n# ..................................................\n";
+    let (out, rest) = played_from_front(&rt, rt.alloc(), head, text);
+    assert_eq!(rt; out.as_slice(), b"+ 0\n- 0\nt 1 1\n- 0\n".as_slice());
+    assert!(rt; rest.starts_with(b"+ 41 1 9000\n"));
+    let (out, rest) = played_from_front(&rt, rt.alloc(), b"", text);
+    assert_eq!(rt; rest, text.as_slice());
+    assert_eq!(rt; out.as_slice(), b"".as_slice());
 }

@@ -84,3 +84,23 @@ pub fn played(rt: &impl Abort, alloc: Global, table: &[u8], trace: &[u8]) -> Vec
     run_trace(rt, alloc, symbols, trace, &mut out);
     out
 }
+
+/// What the lines of a raw trace give that stand behind its head, where each is taken from the front of the text, and what is
+/// left of the text.
+pub fn played_from_front<'a>(
+    rt: &impl Abort,
+    alloc: Global,
+    head: &[u8],
+    text: &'a [u8],
+) -> (Vec<u8>, &'a [u8]) {
+    let mut out = Vec::new(alloc);
+    let symbols = symbols_of(rt, alloc, b"", &mut out);
+    let mut interpreter = Interpreter::new(alloc, symbols);
+    assert_eq!(rt; read_trace(rt, &mut interpreter, head, &mut out), Ok(()));
+    out.clear();
+    let mut rest = text;
+    'lines: while let Some(bytes) = interpreter.take_front(rest, &mut out) {
+        rest = &rest[bytes..];
+    }
+    (out, rest)
+}

@@ -1,5 +1,5 @@
 -- What a ledger stands for after one more event, stack or info.
-use Rattle.std.proofs.Common.{◌≡◌, ℕ, ◌+◌, List, [], ◌∷◌, ◌++◌, Bool, cond, Option, true, false, inl, inr, refl, add-zero, sym, ap, subst, ◌∙◌, arith}
+use Rattle.std.proofs.Common.{◌≡◌, ◌≢◌, ℕ, ◌+◌, List, [], ◌∷◌, ◌++◌, Bool, cond, Option, true, false, inl, inr, refl, add-zero, sym, ap, subst, ◌∙◌, arith}
 use Rattle.std.specs.Option.{option_eq}
 use Rattle.std.specs.Prelude.{nat_eq, ◌==◌, Some, None, slice_index}
 use Rattle.std.proofs.lemmas.List.Sums.{sum_by_push}
@@ -34,6 +34,24 @@ fault_at-is state events (Free info stack size) stands =
     ap (λ (b : Bool). cond b (Some FreeOfNothing) None) (equal-from_zero _ _ _ (stands.each_info info))
 fault_at-is state events (Tick ms) stands = refl
 
+-- counts by infos, of which that of one info is one more
+counted :
+    (before after : ℕ → ℕ) (info : ℕ)
+    → after info ≡ before info + 1
+    → ((other : ℕ) → other ≢ info → after other ≡ before other)
+    → (other : ℕ)
+    → after other ≡ before other + cond (info == other) 1 0
+counted before after info own others other =
+    elim (eqb_tells info other) [
+      | inl same ↦
+          let one : cond {A = ℕ} (info == other) 1 0 ≡ 1 = ap (λ (b : Bool). cond {A = ℕ} b 1 0) same.0 in
+          subst (λ (n : ℕ). after n ≡ before n + cond (info == other) 1 0) same.1 (own ∙ ap (λ (n : ℕ). before info + n) (sym one))
+      | inr apart ↦
+          let none : cond {A = ℕ} (info == other) 1 0 ≡ 0 = ap (λ (b : Bool). cond {A = ℕ} b 1 0) apart.0 in
+          let same = others other (λ e. apart.1 (sym e)) in
+          omega arith
+    ]
+
 -- each info's live blocks after an allocation
 each-alloc :
     (old new : LedgerState) (events : List Event) (info stack size : ℕ)
@@ -46,17 +64,8 @@ each-alloc old new events info stack size step stands other =
     let more_allocs : allocs_of other (events ++ event ∷ []) ≡ allocs_of other events + cond (info == other) 1 0 = sum_by_push (λ (e : Event). cond (is_alloc_of other e) 1 0) events event in
     let more_frees : frees_of other (events ++ event ∷ []) ≡ frees_of other events + 0 = sum_by_push (λ (e : Event). cond (is_free_of other e) 1 0) events event in
     let was = stands.each_info other in
-    elim (eqb_tells info other) [
-      | inl same ↦
-          let blocks : slice_index new.blocks other ≡ slice_index old.blocks other + 1 =
-          subst (λ (n : ℕ). slice_index new.blocks n ≡ slice_index old.blocks n + 1) same.1 step.blocks_of_info in
-          let one : cond {A = ℕ} (info == other) 1 0 ≡ 1 = ap (λ (b : Bool). cond {A = ℕ} b 1 0) same.0 in
-          omega arith
-      | inr apart ↦
-          let blocks = step.blocks_of_others other (λ e. apart.1 (sym e)) in
-          let none : cond {A = ℕ} (info == other) 1 0 ≡ 0 = ap (λ (b : Bool). cond {A = ℕ} b 1 0) apart.0 in
-          omega arith
-    ]
+    let blocks = counted (slice_index old.blocks) (slice_index new.blocks) info step.blocks_of_info step.blocks_of_others other in
+    omega arith
 
 -- each info's live blocks after a free
 each-free :
@@ -70,17 +79,8 @@ each-free old new events info stack size step stands other =
     let more_allocs : allocs_of other (events ++ event ∷ []) ≡ allocs_of other events + 0 = sum_by_push (λ (e : Event). cond (is_alloc_of other e) 1 0) events event in
     let more_frees : frees_of other (events ++ event ∷ []) ≡ frees_of other events + cond (info == other) 1 0 = sum_by_push (λ (e : Event). cond (is_free_of other e) 1 0) events event in
     let was = stands.each_info other in
-    elim (eqb_tells info other) [
-      | inl same ↦
-          let blocks : slice_index new.blocks other + 1 ≡ slice_index old.blocks other =
-          subst (λ (n : ℕ). slice_index new.blocks n + 1 ≡ slice_index old.blocks n) same.1 step.blocks_of_info in
-          let one : cond {A = ℕ} (info == other) 1 0 ≡ 1 = ap (λ (b : Bool). cond {A = ℕ} b 1 0) same.0 in
-          omega arith
-      | inr apart ↦
-          let blocks = step.blocks_of_others other (λ e. apart.1 (sym e)) in
-          let none : cond {A = ℕ} (info == other) 1 0 ≡ 0 = ap (λ (b : Bool). cond {A = ℕ} b 1 0) apart.0 in
-          omega arith
-    ]
+    let blocks = counted (slice_index new.blocks) (slice_index old.blocks) info (sym step.blocks_of_info) (λ n apart. sym (step.blocks_of_others n apart)) other in
+    omega arith
 
 -- each info's allocations after an allocation
 each_calls-alloc :
@@ -93,17 +93,8 @@ each_calls-alloc old new events info stack size step stands other =
     let event : Event = Alloc info stack size in
     let more : allocs_of other (events ++ event ∷ []) ≡ allocs_of other events + cond (info == other) 1 0 = sum_by_push (λ (e : Event). cond (is_alloc_of other e) 1 0) events event in
     let was = stands.each_info_calls other in
-    elim (eqb_tells info other) [
-      | inl same ↦
-          let calls : slice_index new.info_calls other ≡ slice_index old.info_calls other + 1 =
-          subst (λ (n : ℕ). slice_index new.info_calls n ≡ slice_index old.info_calls n + 1) same.1 step.calls_of_info in
-          let one : cond {A = ℕ} (info == other) 1 0 ≡ 1 = ap (λ (b : Bool). cond {A = ℕ} b 1 0) same.0 in
-          omega arith
-      | inr apart ↦
-          let calls = step.calls_of_others other (λ e. apart.1 (sym e)) in
-          let none : cond {A = ℕ} (info == other) 1 0 ≡ 0 = ap (λ (b : Bool). cond {A = ℕ} b 1 0) apart.0 in
-          omega arith
-    ]
+    let calls = counted (slice_index old.info_calls) (slice_index new.info_calls) info step.calls_of_info step.calls_of_others other in
+    omega arith
 
 -- each info's allocations after a free
 each_calls-free :

@@ -33,9 +33,11 @@ pub record Allocates (old new : LedgerState) (info stack size : ℕ) : Type 0 wh
   pub figures : GainsBlock (figures_at old stack) (figures_at new stack) size
   pub figures_of_others : (other : ℕ) → other ≢ stack → figures_at new other ≡ figures_at old other
   pub blocks_of_info : slice_index new.blocks info ≡ slice_index old.blocks info + 1
-  pub blocks_of_others : (other : ℕ) → other ≢ info → slice_index new.blocks other ≡ slice_index old.blocks other
+  pub blocks_of_others : (other : ℕ) → other ≢ info
+      → slice_index new.blocks other ≡ slice_index old.blocks other
   pub calls_of_info : slice_index new.info_calls info ≡ slice_index old.info_calls info + 1
-  pub calls_of_others : (other : ℕ) → other ≢ info → slice_index new.info_calls other ≡ slice_index old.info_calls other
+  pub calls_of_others : (other : ℕ) → other ≢ info
+      → slice_index new.info_calls other ≡ slice_index old.info_calls other
   pub events : new.totals.events ≡ old.totals.events + 1
   pub calls : new.totals.calls ≡ old.totals.calls + 1
   pub temporary : new.totals.temporary ≡ old.totals.temporary
@@ -48,10 +50,12 @@ pub record Allocates (old new : LedgerState) (info stack size : ℕ) : Type 0 wh
 pub record Frees (old new : LedgerState) (info stack size : ℕ) : Type 0 where
   pub stacks : new.stacks ≡ old.stacks
   pub infos : new.infos ≡ old.infos
-  pub figures : LosesBlock (figures_at old stack) (figures_at new stack) size (ended_by_free old info)
+  pub figures : LosesBlock (figures_at old stack) (figures_at new stack) size
+      (ended_by_free old info)
   pub figures_of_others : (other : ℕ) → other ≢ stack → figures_at new other ≡ figures_at old other
   pub blocks_of_info : slice_index new.blocks info + 1 ≡ slice_index old.blocks info
-  pub blocks_of_others : (other : ℕ) → other ≢ info → slice_index new.blocks other ≡ slice_index old.blocks other
+  pub blocks_of_others : (other : ℕ) → other ≢ info
+      → slice_index new.blocks other ≡ slice_index old.blocks other
   pub info_calls : new.info_calls ≡ old.info_calls
   pub events : new.totals.events ≡ old.totals.events + 1
   pub calls : new.totals.calls ≡ old.totals.calls

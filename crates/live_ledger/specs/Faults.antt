@@ -11,12 +11,16 @@ use Rattle.live_ledger.specs.LedgerState.{LedgerState}
 -- an allocation is too large where the allocated sizes with it pass 2^62; a free is of nothing where its
 -- info has as many frees as allocations
 abbrev pub fault_of : List Event → Event → Option EventFault
-fault_of events (Alloc info stack size) = if nat_lt (2 ^ 62) (allocated_bytes events + size) then Some CostTooLarge else None
-fault_of events (Free info stack size) = if allocs_of info events == frees_of info events then Some FreeOfNothing else None
+fault_of events (Alloc info stack size) = if nat_lt (2 ^ 62) (allocated_bytes events + size)
+    then Some CostTooLarge else None
+fault_of events (Free info stack size) = if allocs_of info events == frees_of info events
+    then Some FreeOfNothing else None
 fault_of events (Tick ms) = None
 
 -- the same by a ledger's figures: its allocated bytes, and the live blocks of the info
 abbrev pub fault_at : LedgerState → Event → Option EventFault
-fault_at state (Alloc info stack size) = if nat_lt (2 ^ 62) (state.totals.allocated + size) then Some CostTooLarge else None
-fault_at state (Free info stack size) = if slice_index state.blocks info == 0 then Some FreeOfNothing else None
+fault_at state (Alloc info stack size) = if nat_lt (2 ^ 62) (state.totals.allocated + size)
+    then Some CostTooLarge else None
+fault_at state (Free info stack size) = if slice_index state.blocks info == 0
+    then Some FreeOfNothing else None
 fault_at state (Tick ms) = None

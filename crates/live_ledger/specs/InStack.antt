@@ -59,4 +59,5 @@ is_temporary_in n one next = is_free_in n next && is_alloc_then_free one next
 
 -- the number of places where an allocation stands and a free of the same info, in stack `n`, comes next
 abbrev pub temporary_in : ℕ → List Event → ℕ
-temporary_in n events = count_by (λ pair. is_temporary_in n pair.0 pair.1) (neighbours (counted events))
+temporary_in n events = count_by (λ pair. is_temporary_in n pair.0 pair.1)
+    (neighbours (counted events))

@@ -32,8 +32,10 @@ figures_at state stack = slice_index_or state.figures stack no_figures
 
 -- the event's info is among these, with the event's stack and size; a clock value names none
 abbrev pub IsAmong : List HeldInfo → Event → Type 0
-IsAmong infos (Alloc info stack size) = slice_get infos info ≡ Some (record { stack = stack; size = size })
-IsAmong infos (Free info stack size) = slice_get infos info ≡ Some (record { stack = stack; size = size })
+IsAmong infos (Alloc info stack size) = slice_get infos info
+    ≡ Some (record { stack = stack; size = size })
+IsAmong infos (Free info stack size) = slice_get infos info
+    ≡ Some (record { stack = stack; size = size })
 IsAmong infos (Tick ms) = Unit {0}
 
 -- the event's info is held, with the event's stack and size

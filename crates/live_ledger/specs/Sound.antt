@@ -29,7 +29,8 @@ pub record IsSound (state : LedgerState) : Type 0 where
   pub stack_0 : 0 < state.stacks
   pub stacks_within : state.stacks < 2 ^ 32
   pub infos_within : length state.infos < 2 ^ 32
-  pub stack_held : (info : ℕ) (held : HeldInfo) → slice_get state.infos info ≡ Some held → held.stack < state.stacks
+  pub stack_held : (info : ℕ) (held : HeldInfo) → slice_get state.infos info ≡ Some held
+      → held.stack < state.stacks
   pub sums : AreSums state.totals state.figures
   pub blocks_of_infos : sum state.blocks ≡ state.totals.blocks
   pub calls_of_infos : sum state.info_calls ≡ state.totals.calls
@@ -37,5 +38,6 @@ pub record IsSound (state : LedgerState) : Type 0 where
   pub live_within : state.totals.live ≤ state.totals.allocated
   pub allocated_within : state.totals.allocated ≤ 2 ^ 62
   pub blocks_within : state.totals.temporary + state.totals.blocks ≤ state.totals.calls
-  pub calls_and_frees : state.totals.events + state.totals.blocks ≡ state.totals.calls + state.totals.calls
+  pub calls_and_frees : state.totals.events + state.totals.blocks
+      ≡ state.totals.calls + state.totals.calls
   pub events_within : state.totals.events ≤ 2 ^ 32

@@ -40,6 +40,7 @@ pub record StandsFor (state : LedgerState) (events : List Event) : Type 0 where
   pub no_fault : HaveNoFault events
   pub figures : AreTotalsOf state.totals events
   pub each_stack : (stack : ℕ) → AreFiguresOf (figures_at state stack) stack events
-  pub each_info : (info : ℕ) → slice_index state.blocks info + frees_of info events ≡ allocs_of info events
+  pub each_info : (info : ℕ)
+      → slice_index state.blocks info + frees_of info events ≡ allocs_of info events
   pub each_info_calls : (info : ℕ) → slice_index state.info_calls info ≡ allocs_of info events
   pub last_is : state.last ≡ last_allocated events

@@ -14,7 +14,8 @@ with_alloc sums size = record sums { calls = sums.calls + 1; allocated = sums.al
 
 -- the sums with one more free, which ended so many temporary allocations
 abbrev pub with_free : Sums → ℕ → ℕ → Sums
-with_free sums size temporary = record sums { frees = sums.frees + 1; freed = sums.freed + size; temporary = sums.temporary + temporary }
+with_free sums size temporary = record sums
+    { frees = sums.frees + 1; freed = sums.freed + size; temporary = sums.temporary + temporary }
 
 -- the figures of a whole trace
 abbrev pub totals_of : Sums → Totals

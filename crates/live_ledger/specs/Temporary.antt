@@ -16,7 +16,8 @@ neighbours events = zip events (drop 1 events)
 
 -- the number of places where an allocation stands and a free of the same info comes next
 abbrev pub temporary_count : List Event → ℕ
-temporary_count events = count_by (λ pair. is_alloc_then_free pair.0 pair.1) (neighbours (counted events))
+temporary_count events = count_by (λ pair. is_alloc_then_free pair.0 pair.1)
+    (neighbours (counted events))
 
 -- the info that an event allocates from
 abbrev pub info_allocated : Event → Option ℕ
@@ -26,4 +27,5 @@ info_allocated (Tick ms) = None
 
 -- the info of the last event, where that is an allocation
 abbrev pub last_allocated : List Event → Option ℕ
-last_allocated events = option_and_then info_allocated (slice_get (counted events) (length (counted events) - 1))
+last_allocated events = option_and_then info_allocated
+    (slice_get (counted events) (length (counted events) - 1))

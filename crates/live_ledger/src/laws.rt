@@ -9,7 +9,8 @@ ghost use Rattle.live_ledger.specs.StandsFor.{StandsFor};
 /// A sum over a trace's allocations, of any weight that an info gives them, is the sum over the infos, each weight as
 /// often as the ledger counts allocations of that info. It does nothing.
 pub fn sums_by_info()
-    ensures { (state : LedgerState) (events : List Event) (weight : HeldInfo → ℕ) → StandsFor state events →
+    ensures { (state : LedgerState) (events : List Event) (weight : HeldInfo → ℕ)
+        → StandsFor state events →
         weighed weight state.infos state.info_calls ≡ sum_by (alloc_weight weight) events }
 {}
 

@@ -61,7 +61,8 @@ impl Model for Ledger {
       last = ledger.last_allocated;
     } };
 
-    ghost invariant = { λ ledger. AreConsistent ledger.stacks.items ledger.infos.items ledger.sums };
+    ghost invariant = { λ ledger.
+        AreConsistent ledger.stacks.items ledger.infos.items ledger.sums };
 }
 
 impl Ledger {
@@ -87,9 +88,12 @@ impl Ledger {
     pub fn grow_stack(&mut self) -> Result<u32, NoMemory>
         requires { self.old.stacks < 2 ^ 32 - 1 }
         ensures number { IfOk result (λ number. number ≡ self.old.stacks) }
-        ensures grown { OnOk result (self.new ≡ record self.old { stacks = self.old.stacks + 1; figures = self.old.figures ++ no_figures ∷ [] }) }
+        ensures grown { OnOk result
+            (self.new ≡ record self.old
+            { stacks = self.old.stacks + 1; figures = self.old.figures ++ no_figures ∷ [] }) }
         ensures figures { (stack : ℕ) → figures_at self.new stack ≡ figures_at self.old stack }
-        ensures stands { (events : List Event) → StandsFor self.old events → StandsFor self.new events }
+        ensures stands { (events : List Event) → StandsFor self.old events
+            → StandsFor self.new events }
         ensures unchanged { OnErr result (self.new ≡ self.old) }
         ensures sound { IsSound self.new }
     {
@@ -104,12 +108,15 @@ impl Ledger {
         requires room { length self.old.infos < 2 ^ 32 - 1 }
         requires stack_held { stack < self.old.stacks }
         ensures number { IfOk result (λ number. number ≡ length self.old.infos) }
-        ensures infos { OnOk result (self.new.infos ≡ self.old.infos ++ record { stack = stack; size = size } ∷ []) }
+        ensures infos { OnOk result
+            (self.new.infos ≡ self.old.infos ++ record { stack = stack; size = size } ∷ []) }
         ensures stacks { self.new.stacks ≡ self.old.stacks }
         ensures figures { self.new.figures ≡ self.old.figures }
         ensures totals { self.new.totals ≡ self.old.totals }
-        ensures info_calls { (info : ℕ) → slice_index self.new.info_calls info ≡ slice_index self.old.info_calls info }
-        ensures stands { (events : List Event) → StandsFor self.old events → StandsFor self.new events }
+        ensures info_calls { (info : ℕ)
+            → slice_index self.new.info_calls info ≡ slice_index self.old.info_calls info }
+        ensures stands { (events : List Event) → StandsFor self.old events
+            → StandsFor self.new events }
         ensures unchanged { OnErr result (self.new ≡ self.old) }
         ensures sound { IsSound self.new }
     {
@@ -132,8 +139,11 @@ impl Ledger {
         requires held { IsHeld self.now event }
         requires count { self.now.totals.events < 2 ^ 32 }
         ensures by_figures { result_err result ≡ fault_at self.now event }
-        ensures fault { (events : List Event) → StandsFor self.now events → result_err result ≡ fault_of events event }
-        ensures possible { OnOk result ((events : List Event) → StandsFor self.now events → ArePossible (events ++ event ∷ [])) }
+        ensures fault { (events : List Event) → StandsFor self.now events
+            → result_err result ≡ fault_of events event }
+        ensures possible { OnOk result
+            ((events : List Event) → StandsFor self.now events
+            → ArePossible (events ++ event ∷ [])) }
         ensures sound { IsSound self.now }
     {
         match event {
@@ -163,11 +173,14 @@ impl Ledger {
         requires held { IsHeld self.old event }
         requires count { self.old.totals.events < 2 ^ 32 }
         ensures by_figures { result_err result ≡ fault_at self.old event }
-        ensures fault { (events : List Event) → StandsFor self.old events → result_err result ≡ fault_of events event }
+        ensures fault { (events : List Event) → StandsFor self.old events
+            → result_err result ≡ fault_of events event }
         ensures stands { OnOk result
-            ((events : List Event) → StandsFor self.old events → StandsFor self.new (events ++ event ∷ [])) }
+            ((events : List Event) → StandsFor self.old events
+            → StandsFor self.new (events ++ event ∷ [])) }
         ensures changes { OnOk result (Changes self.old self.new event) }
-        ensures counted { IsTrue (is_counted event) → OnOk result (self.new.totals.events ≡ self.old.totals.events + 1) }
+        ensures counted { IsTrue (is_counted event)
+            → OnOk result (self.new.totals.events ≡ self.old.totals.events + 1) }
         ensures at_most_one_more { self.new.totals.events ≤ self.old.totals.events + 1 }
         ensures stacks { self.new.stacks ≡ self.old.stacks }
         ensures infos { self.new.infos ≡ self.old.infos }
@@ -187,7 +200,8 @@ impl Ledger {
     /// Counts a block of the info as allocated.
     fn allocate(&mut self, info: u32, stack: u32, size: u64)
         requires fits { self.old.totals.allocated + size ≤ 2 ^ 62 }
-        requires held { slice_get self.old.infos info ≡ Some (record { stack = stack; size = size }) }
+        requires held { slice_get self.old.infos info
+            ≡ Some (record { stack = stack; size = size }) }
         requires count { self.old.totals.events < 2 ^ 32 }
         ensures allocates { Allocates self.old self.new info stack size }
         ensures sound { IsSound self.new }
@@ -203,7 +217,8 @@ impl Ledger {
     /// Counts a live block of the info as freed.
     fn free(&mut self, info: u32, stack: u32, size: u64)
         requires live { 0 < slice_index self.old.blocks info }
-        requires held { slice_get self.old.infos info ≡ Some (record { stack = stack; size = size }) }
+        requires held { slice_get self.old.infos info
+            ≡ Some (record { stack = stack; size = size }) }
         requires count { self.old.totals.events < 2 ^ 32 }
         ensures frees { Frees self.old self.new info stack size }
         ensures sound { IsSound self.new }
@@ -218,7 +233,8 @@ impl Ledger {
     /// The figures of all stacks together.
     pub fn totals(&self) -> Totals
         ensures value { result ≡ self.now.totals }
-        ensures figures { (events : List Event) → StandsFor self.now events → AreTotalsOf result events }
+        ensures figures { (events : List Event) → StandsFor self.now events
+            → AreTotalsOf result events }
         ensures sound { IsSound self.now }
     {
         self.sums.totals()
@@ -228,7 +244,8 @@ impl Ledger {
     pub fn stack(&self, stack: u32) -> Figures
         requires { stack < self.now.stacks }
         ensures value { result ≡ figures_at self.now stack }
-        ensures figures { (events : List Event) → StandsFor self.now events → AreFiguresOf result stack events }
+        ensures figures { (events : List Event) → StandsFor self.now events
+            → AreFiguresOf result stack events }
         ensures sound { IsSound self.now }
     {
         self.stacks[stack as usize].figures()
@@ -238,7 +255,8 @@ impl Ledger {
     pub fn info_calls(&self, info: u32) -> u64
         requires { info < length self.now.infos }
         ensures value { result ≡ slice_index self.now.info_calls info }
-        ensures calls { (events : List Event) → StandsFor self.now events → result ≡ allocs_of info events }
+        ensures calls { (events : List Event) → StandsFor self.now events
+            → result ≡ allocs_of info events }
         ensures within { result ≤ self.now.totals.calls }
     {
         self.infos[info as usize].calls
@@ -247,7 +265,8 @@ impl Ledger {
     /// The size in bytes and the stack of an info; `None` exactly where there is no such info.
     pub fn info(&self, n: u32) -> Option<(u64, u32)>
         ensures none { IfNone result (length self.now.infos ≤ n) }
-        ensures some { IfSome result (λ info. slice_get self.now.infos n ≡ Some (record { stack = info.1; size = info.0 })) }
+        ensures some { IfSome result
+            (λ info. slice_get self.now.infos n ≡ Some (record { stack = info.1; size = info.0 })) }
         ensures stack_held { IfSome result (λ info. info.1 < self.now.stacks) }
     {
         match self.infos.get(n as usize) {

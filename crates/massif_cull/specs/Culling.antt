@@ -7,7 +7,8 @@ use Rattle.massif_cull.specs.Entries.{is_peak_at, times}
 
 -- whether the entry at the place is neither the first, nor the last, nor the peak
 unfoldable pub may_go : List SnapEntry → ℕ → Bool
-may_go entries place = nat_lt 0 place && nat_lt (place + 1) (length entries) && not (is_peak_at entries place)
+may_go entries place = nat_lt 0 place && nat_lt (place + 1) (length entries)
+    && not (is_peak_at entries place)
 
 -- the places of the entries that may go
 unfoldable pub removable : List SnapEntry → List ℕ
@@ -15,11 +16,13 @@ removable entries = filter (may_go entries) (range_with_len 0 (length entries))
 
 -- the difference between the times of the two neighbours of the entry at the place
 unfoldable pub gap_at : List SnapEntry → ℕ → ℕ
-gap_at entries place = slice_index (times entries) (place + 1) - slice_index (times entries) (place - 1)
+gap_at entries place = slice_index (times entries) (place + 1) - slice_index (times entries)
+    (place - 1)
 
 -- whether no entry that may go has a smaller difference
 unfoldable pub has_least_gap : List SnapEntry → ℕ → Bool
-has_least_gap entries place = list_all (λ other. nat_le (gap_at entries place) (gap_at entries other)) (removable entries)
+has_least_gap entries place = list_all
+    (λ other. nat_le (gap_at entries place) (gap_at entries other)) (removable entries)
 
 -- the place of the entry that goes: of those that may go the first with the least difference
 unfoldable pub removed_place : List SnapEntry → Option ℕ

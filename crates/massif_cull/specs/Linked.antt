@@ -32,14 +32,17 @@ AreDifferent (place ∷ places) = IsOutside place places × AreDifferent places
 
 -- between the first place and the last each is linked to its neighbours, both ways
 abbrev pub AreLinked : List ℕ → List ℕ → ℕ → List ℕ → ℕ → Type 0
-AreLinked next prev first [] last = (slice_index next first ≡ last) × (slice_index prev last ≡ first)
-AreLinked next prev first (place ∷ places) last = (slice_index next first ≡ place) × (slice_index prev place ≡ first) × AreLinked next prev place places last
+AreLinked next prev first [] last = (slice_index next first ≡ last)
+    × (slice_index prev last ≡ first)
+AreLinked next prev first (place ∷ places) last = (slice_index next first ≡ place)
+    × (slice_index prev place ≡ first) × AreLinked next prev place places last
 
 -- how contracts see the fields: as many places as are not free, from the one after the end on
 abbrev pub links_of : Inside → LinksState
 links_of links = record {
   max = links.max;
-  places = walk links.next.items (links.max - length links.free.items) (slice_index links.next.items links.max);
+  places = walk links.next.items (links.max - length links.free.items)
+      (slice_index links.next.items links.max);
 }
 
 -- what is true of each: the number `max` stands for both ends
@@ -48,6 +51,7 @@ pub record IsLinked (links : Inside) : Type 0 where
   pub prev_length : length links.prev.items ≡ links.max + 1
   pub free_most : length links.free.items ≤ links.max
   pub free_room : links.max ≤ vec_capacity links.free
-  pub linked : AreLinked links.next.items links.prev.items links.max (links_of links).places links.max
+  pub linked : AreLinked links.next.items links.prev.items links.max (links_of links).places
+      links.max
   pub different : AreDifferent ((links_of links).places ++ links.free.items)
   pub below : AreBelow links.max ((links_of links).places ++ links.free.items)

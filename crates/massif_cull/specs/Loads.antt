@@ -17,7 +17,8 @@ loads_cull1 entries loads = option_map_or (remove loads) (removed_place entries)
 -- the loads left where `cull1` is done so many times
 unfoldable pub loads_cull_times : {T : Type 0} → ℕ → List SnapEntry → List T → List T
 loads_cull_times zero entries loads = loads
-loads_cull_times (suc n) entries loads = loads_cull_times n (cull1 entries) (loads_cull1 entries loads)
+loads_cull_times (suc n) entries loads = loads_cull_times n (cull1 entries)
+    (loads_cull1 entries loads)
 
 -- the loads left after a cull of the entries
 unfoldable pub loads_cull : {T : Type 0} → List SnapEntry → List T → List T
@@ -32,7 +33,8 @@ with_load loads load Peak = loads ++ load ∷ []
 
 -- the loads left where the entries reach the maximum
 abbrev pub loads_bounded : {T : Type 0} → ℕ → List SnapEntry → List T → List T
-loads_bounded max entries loads = if nat_le max (length entries) then loads_cull entries loads else loads
+loads_bounded max entries loads = if nat_le max (length entries) then loads_cull entries loads
+    else loads
 
 -- the loads after one more offer
 unfoldable pub loads_step : {T : Type 0} → Settings → Kept → Offer → List T → T → List T

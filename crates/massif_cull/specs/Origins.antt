@@ -21,14 +21,19 @@ kind_of Peak = kind.Peak
 abbrev pub WasHeld : {T : Type 0} → List SnapEntry → List T → List SnapEntry → List T → ℕ → Type 0
 WasHeld earlier earlier_loads entries loads k =
     SomeIndex earlier (λ j.
-    ((slice_get entries k ≡ slice_get earlier j) ⊎ (slice_get entries k ≡ option_map end_peak (slice_get earlier j)))
+    ((slice_get entries k ≡ slice_get earlier j)
+    ⊎ (slice_get entries k ≡ option_map end_peak (slice_get earlier j)))
     × (slice_get loads k ≡ slice_get earlier_loads j))
 
 -- the snapshot at the place is that of the offer, with its load
 abbrev pub IsOffered : {T : Type 0} → Offer → T → Taken → List SnapEntry → List T → ℕ → Type 0
 IsOffered offer load taken entries loads k =
-    (taken ≢ No) × (slice_get entries k ≡ Some (entry_of offer (kind_of taken))) × (slice_get loads k ≡ Some load)
+    (taken ≢ No) × (slice_get entries k ≡ Some (entry_of offer (kind_of taken)))
+    × (slice_get loads k ≡ Some load)
 
 -- each snapshot was held or is that of the offer
-pub record ComeFrom {T : Type 0} (earlier : List SnapEntry) (earlier_loads : List T) (offer : Offer) (load : T) (taken : Taken) (entries : List SnapEntry) (loads : List T) : Type 0 where
-  pub each : EachIndex entries (λ k. WasHeld earlier earlier_loads entries loads k ⊎ IsOffered offer load taken entries loads k)
+pub record ComeFrom {T : Type 0} (earlier : List SnapEntry) (earlier_loads : List T) (offer : Offer)
+    (load : T) (taken : Taken) (entries : List SnapEntry) (loads : List T) : Type 0 where
+  pub each : EachIndex entries
+      (λ k. WasHeld earlier earlier_loads entries loads k
+      ⊎ IsOffered offer load taken entries loads k)

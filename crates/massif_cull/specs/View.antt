@@ -7,8 +7,17 @@ use Rattle.massif_cull.specs.TakenAs.{next_time_after, peak_bound}
 -- the settings, what is kept, and the loads
 abbrev pub state_of : {T : Type 0} → Inside T → ArrayState T
 state_of array = record {
-  settings = record { max = array.max; detailed_freq = array.detailed_freq; inaccuracy = array.inaccuracy };
-  kept = record { entries = array.snaps.entries; interval = array.interval; last_peak = array.last_peak; normals = array.normals };
+  settings = record {
+    max = array.max;
+    detailed_freq = array.detailed_freq;
+    inaccuracy = array.inaccuracy;
+  };
+  kept = record {
+    entries = array.snaps.entries;
+    interval = array.interval;
+    last_peak = array.last_peak;
+    normals = array.normals;
+  };
   loads = array.snaps.loads;
 }
 

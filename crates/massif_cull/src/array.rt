@@ -69,7 +69,9 @@ impl<T: Drop> SnapArray<T> {
         requires max { (10 ≤ max) × (max ≤ 1000) }
         requires detailed_freq { (1 ≤ detailed_freq) × (detailed_freq ≤ 1000000) }
         requires inaccuracy { inaccuracy ≤ 10000 }
-        ensures settings { IfOk result (λ array. array.settings ≡ record { max = max; detailed_freq = detailed_freq; inaccuracy = inaccuracy }) }
+        ensures settings { IfOk result
+            (λ array. array.settings
+            ≡ record { max = max; detailed_freq = detailed_freq; inaccuracy = inaccuracy }) }
         ensures kept { IfOk result (λ array. array.kept ≡ nothing_kept) }
         ensures loads { IfOk result (λ array. array.loads ≡ []) }
         ensures stands { IfOk result (λ array. StandsFor array []) }
@@ -96,8 +98,10 @@ impl<T: Drop> SnapArray<T> {
         requires total { offer.now.total ≤ 2 ^ 62 }
         requires first_is_normal { length self.now.kept.entries ≡ 0 → offer.now.peak ≡ false }
         ensures taken { result ≡ taken_as self.now.settings self.now.kept offer.now }
-        ensures of_offers { (offers : List Offer) → StandsFor self.now offers → result ≡ taken_as self.now.settings (kept_of self.now.settings offers) offer.now }
-        ensures passed { result ≡ No → (offers : List Offer) → StandsFor self.now offers → StandsFor self.now (offers ++ offer.now ∷ []) }
+        ensures of_offers { (offers : List Offer) → StandsFor self.now offers
+            → result ≡ taken_as self.now.settings (kept_of self.now.settings offers) offer.now }
+        ensures passed { result ≡ No → (offers : List Offer) → StandsFor self.now offers
+            → StandsFor self.now (offers ++ offer.now ∷ []) }
         ensures sound { IsSound self.now }
     {
         if offer.peak {
@@ -126,16 +130,21 @@ impl<T: Drop> SnapArray<T> {
         requires total { offer.total ≤ 2 ^ 62 }
         requires first_is_normal { length self.old.kept.entries ≡ 0 → offer.peak ≡ false }
         ensures taken { result ≡ taken_as self.old.settings self.old.kept offer }
-        ensures of_offers { (offers : List Offer) → StandsFor self.old offers → result ≡ taken_as self.old.settings (kept_of self.old.settings offers) offer }
-        ensures stands { (offers : List Offer) → StandsFor self.old offers → StandsFor self.new (offers ++ offer ∷ []) }
+        ensures of_offers { (offers : List Offer) → StandsFor self.old offers
+            → result ≡ taken_as self.old.settings (kept_of self.old.settings offers) offer }
+        ensures stands { (offers : List Offer) → StandsFor self.old offers
+            → StandsFor self.new (offers ++ offer ∷ []) }
 
         // From any state, also after a `cull` of the caller's.
         ensures settings { self.new.settings ≡ self.old.settings }
-        ensures kept { self.new.kept ≡ held_of self.old.settings (step self.old.settings self.old.kept offer) }
-        ensures loads { self.new.loads ≡ loads_step self.old.settings self.old.kept offer self.old.loads load }
+        ensures kept { self.new.kept
+            ≡ held_of self.old.settings (step self.old.settings self.old.kept offer) }
+        ensures loads { self.new.loads
+            ≡ loads_step self.old.settings self.old.kept offer self.old.loads load }
 
         // Each snapshot was held before, with its load, or is that of the offer.
-        ensures origins { ComeFrom self.old.kept.entries self.old.loads offer load result self.new.kept.entries self.new.loads }
+        ensures origins { ComeFrom self.old.kept.entries self.old.loads offer load result
+            self.new.kept.entries self.new.loads }
         ensures last { last_time self.new.kept.entries ≤ offer.time }
         ensures not_empty { 0 < length self.new.kept.entries }
         ensures below_max { length self.new.kept.entries < self.new.settings.max }
@@ -160,9 +169,11 @@ impl<T: Drop> SnapArray<T> {
         ensures settings { self.new.settings ≡ self.old.settings }
         ensures kept { self.new.kept ≡ culled self.old.kept }
         ensures loads { self.new.loads ≡ loads_cull self.old.kept.entries self.old.loads }
-        ensures among { AreAmong self.old.kept.entries self.old.loads self.new.kept.entries self.new.loads }
+        ensures among { AreAmong self.old.kept.entries self.old.loads self.new.kept.entries
+            self.new.loads }
         ensures last { last_time self.new.kept.entries ≡ last_time self.old.kept.entries }
-        ensures length { length self.new.kept.entries + length self.old.kept.entries / 2 ≡ length self.old.kept.entries }
+        ensures length { length self.new.kept.entries + length self.old.kept.entries / 2
+            ≡ length self.old.kept.entries }
     {
         self.interval = self.snaps.cull();
         self.normal_from = normal_from(&self.snaps, self.interval);
@@ -174,7 +185,8 @@ impl<T: Drop> SnapArray<T> {
     pub fn take_first(&mut self) -> Option<(SnapEntry, T)>
         ensures settings { self.new.settings ≡ self.old.settings }
         ensures kept { self.new.kept ≡ record self.old.kept { entries = self.new.kept.entries } }
-        ensures entry { IfSome result (λ taken. self.old.kept.entries ≡ taken.0 ∷ self.new.kept.entries) }
+        ensures entry { IfSome result
+            (λ taken. self.old.kept.entries ≡ taken.0 ∷ self.new.kept.entries) }
         ensures load { IfSome result (λ taken. self.old.loads ≡ taken.1 ∷ self.new.loads) }
         ensures none { result ≡ None → self.old.kept.entries ≡ [] }
         ensures unchanged { result ≡ None → self.new ≡ self.old }
@@ -237,9 +249,18 @@ impl<T: Drop> SnapArray<T> {
         requires total { entry.total ≤ 2 ^ 62 }
         requires kind { is_peak entry ≡ false }
         ensures settings { self.new.settings ≡ self.old.settings }
-        ensures kept { self.new.kept ≡ held_of self.old.settings (bounded self.old.settings (record self.old.kept { entries = self.old.kept.entries ++ entry ∷ []; normals = self.old.kept.normals + 1 })) }
-        ensures loads { self.new.loads ≡ loads_bounded self.old.settings.max (self.old.kept.entries ++ entry ∷ []) (self.old.loads ++ load ∷ []) }
-        ensures among { AreAmong (self.old.kept.entries ++ entry ∷ []) (self.old.loads ++ load ∷ []) self.new.kept.entries self.new.loads }
+        ensures kept { self.new.kept
+            ≡ held_of self.old.settings
+            (bounded self.old.settings
+            (record self.old.kept {
+              entries = self.old.kept.entries ++ entry ∷ [];
+              normals = self.old.kept.normals + 1;
+            })) }
+        ensures loads { self.new.loads
+            ≡ loads_bounded self.old.settings.max (self.old.kept.entries ++ entry ∷ [])
+            (self.old.loads ++ load ∷ []) }
+        ensures among { AreAmong (self.old.kept.entries ++ entry ∷ []) (self.old.loads ++ load ∷ [])
+            self.new.kept.entries self.new.loads }
         ensures last { last_time self.new.kept.entries ≡ entry.time }
         ensures not_empty { 0 < length self.new.kept.entries }
         ensures below_max { length self.new.kept.entries < self.new.settings.max }
@@ -255,9 +276,17 @@ impl<T: Drop> SnapArray<T> {
         requires time { entry.time ≤ 2 ^ 62 }
         requires total { entry.total ≤ 2 ^ 62 }
         ensures settings { self.new.settings ≡ self.old.settings }
-        ensures kept { self.new.kept ≡ bounded self.old.settings (record self.old.kept { entries = map end_peak self.old.kept.entries ++ entry ∷ []; last_peak = entry.total }) }
-        ensures loads { self.new.loads ≡ loads_bounded self.old.settings.max (map end_peak self.old.kept.entries ++ entry ∷ []) (self.old.loads ++ load ∷ []) }
-        ensures among { AreAmong (map end_peak self.old.kept.entries ++ entry ∷ []) (self.old.loads ++ load ∷ []) self.new.kept.entries self.new.loads }
+        ensures kept { self.new.kept
+            ≡ bounded self.old.settings
+            (record self.old.kept {
+              entries = map end_peak self.old.kept.entries ++ entry ∷ [];
+              last_peak = entry.total;
+            }) }
+        ensures loads { self.new.loads
+            ≡ loads_bounded self.old.settings.max (map end_peak self.old.kept.entries ++ entry ∷ [])
+            (self.old.loads ++ load ∷ []) }
+        ensures among { AreAmong (map end_peak self.old.kept.entries ++ entry ∷ [])
+            (self.old.loads ++ load ∷ []) self.new.kept.entries self.new.loads }
         ensures last { last_time self.new.kept.entries ≡ entry.time }
         ensures not_empty { 0 < length self.new.kept.entries }
         ensures below_max { length self.new.kept.entries < self.new.settings.max }
@@ -278,16 +307,21 @@ fn append<T: Drop>(snaps: &mut LinkedSnaps<T>, entry: SnapEntry, load: T, interv
     requires interval { interval ≤ 2 ^ 62 }
     requires sound { AreSound (snaps.old.entries ++ entry ∷ []) }
     ensures max { snaps.new.max ≡ snaps.old.max }
-    ensures entries { snaps.new.entries ≡ entries_bounded snaps.old.max (snaps.old.entries ++ entry ∷ []) }
-    ensures loads { snaps.new.loads ≡ loads_bounded snaps.old.max (snaps.old.entries ++ entry ∷ []) (snaps.old.loads ++ load ∷ []) }
-    ensures interval { result ≡ interval_bounded snaps.old.max (snaps.old.entries ++ entry ∷ []) interval }
+    ensures entries { snaps.new.entries
+        ≡ entries_bounded snaps.old.max (snaps.old.entries ++ entry ∷ []) }
+    ensures loads { snaps.new.loads
+        ≡ loads_bounded snaps.old.max (snaps.old.entries ++ entry ∷ [])
+        (snaps.old.loads ++ load ∷ []) }
+    ensures interval { result
+        ≡ interval_bounded snaps.old.max (snaps.old.entries ++ entry ∷ []) interval }
     ensures interval_most { result ≤ 2 ^ 62 }
     ensures last { last_time snaps.new.entries ≡ entry.time }
     ensures not_empty { 0 < length snaps.new.entries }
     ensures below_max { length snaps.new.entries < snaps.new.max }
     ensures loads_beside { length snaps.new.loads ≡ length snaps.new.entries }
     ensures sound { AreSound snaps.new.entries }
-    ensures among { AreAmong (snaps.old.entries ++ entry ∷ []) (snaps.old.loads ++ load ∷ []) snaps.new.entries snaps.new.loads }
+    ensures among { AreAmong (snaps.old.entries ++ entry ∷ []) (snaps.old.loads ++ load ∷ [])
+        snaps.new.entries snaps.new.loads }
 {
     let max = snaps.max();
     snaps.push(entry, load);

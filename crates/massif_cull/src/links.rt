@@ -66,7 +66,8 @@ impl Links {
     pub fn unlink(&mut self, place: u32)
         requires { Contains self.old.places place }
         ensures max { self.new.max ≡ self.old.max }
-        ensures removed { (k : ℕ) → slice_get self.old.places k ≡ Some place → self.new.places ≡ remove self.old.places k }
+        ensures removed { (k : ℕ) → slice_get self.old.places k ≡ Some place
+            → self.new.places ≡ remove self.old.places k }
         ensures different { AreDifferent self.new.places }
     {
         let before = self.prev[place as usize];
@@ -94,7 +95,8 @@ impl Links {
     /// The place after this one, which must be in the list, and None at the list's end.
     pub fn next(&self, place: u32) -> Option<u32>
         requires { Contains self.now.places place }
-        ensures place { (k : ℕ) → slice_get self.now.places k ≡ Some place → result ≡ slice_get self.now.places (k + 1) }
+        ensures place { (k : ℕ) → slice_get self.now.places k ≡ Some place
+            → result ≡ slice_get self.now.places (k + 1) }
         ensures below { IfSome result (λ next. next < self.now.max) }
     {
         unless_end(self.max, self.next[place as usize])
@@ -104,7 +106,8 @@ impl Links {
     pub fn prev(&self, place: u32) -> Option<u32>
         requires { Contains self.now.places place }
         ensures front { slice_get self.now.places 0 ≡ Some place → result ≡ None }
-        ensures place { (k : ℕ) → slice_get self.now.places (k + 1) ≡ Some place → result ≡ slice_get self.now.places k }
+        ensures place { (k : ℕ) → slice_get self.now.places (k + 1) ≡ Some place
+            → result ≡ slice_get self.now.places k }
         ensures below { IfSome result (λ prev. prev < self.now.max) }
     {
         unless_end(self.max, self.prev[place as usize])

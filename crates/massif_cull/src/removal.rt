@@ -24,7 +24,8 @@ impl<T: Drop> LinkedSnaps<T> {
         ensures loads { self.new.loads ≡ loads_cull self.old.entries self.old.loads }
         ensures interval { result ≡ least_interval self.new.entries }
         ensures interval_most { result ≤ 2 ^ 62 }
-        ensures length { length self.new.entries + length self.old.entries / 2 ≡ length self.old.entries }
+        ensures length { length self.new.entries + length self.old.entries / 2
+            ≡ length self.old.entries }
         ensures loads_beside { length self.new.loads ≡ length self.new.entries }
         ensures sound_still { AreSound self.new.entries }
         ensures last { last_time self.new.entries ≡ last_time self.old.entries }
@@ -59,7 +60,8 @@ impl<T: Drop> LinkedSnaps<T> {
         requires sound { AreSound self.now.entries }
         ensures goes { result ≡ true → may_go self.now.entries spot.index ≡ true }
         ensures none { result ≡ true → gap_at self.now.entries spot.index ≡ 0 }
-        ensures some { result ≡ false → may_go self.now.entries spot.index ≡ true → 0 < gap_at self.now.entries spot.index }
+        ensures some { result ≡ false → may_go self.now.entries spot.index ≡ true
+            → 0 < gap_at self.now.entries spot.index }
     {
         if is_peak_entry(&self.entry(spot)) {
             return false;
@@ -159,7 +161,8 @@ impl<T: Drop> LinkedSnaps<T> {
         requires spot { IsSpot self.now spot }
         requires inside { (0 < spot.index) × (spot.index < length self.now.entries) }
         requires sound { AreSound self.now.entries }
-        ensures { result ≡ slice_index (times self.now.entries) spot.index - slice_index (times self.now.entries) (spot.index - 1) }
+        ensures { result ≡ slice_index (times self.now.entries) spot.index - slice_index
+            (times self.now.entries) (spot.index - 1) }
     {
         self.entry(spot).time - self.entry(self.before(spot)).time
     }

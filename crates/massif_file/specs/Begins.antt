@@ -19,8 +19,10 @@ pub record Begins (lines : List (List ℕ)) (desc : List ℕ) (items : List Item
   pub said : Say others items
 
 -- the lines say the header and whole snapshots, and then the first `count` values of one more
-pub record InSnapshot (lines : List (List ℕ)) (profile : Profile) (snap : Snap) (count : ℕ) : Type 0 where
-  pub begun : Begins lines profile.desc (items_of profile ++ take count (snap_items (length profile.snaps) snap))
+pub record InSnapshot (lines : List (List ℕ)) (profile : Profile) (snap : Snap) (count : ℕ) : Type
+    0 where
+  pub begun : Begins lines profile.desc
+      (items_of profile ++ take count (snap_items (length profile.snaps) snap))
   pub right : AreRight 0 profile.snaps
   pub in_order : 1 < count → last_time profile.snaps ≤ snap.time
 
@@ -32,7 +34,8 @@ HasTree Peak = Unit {0}
 
 -- the lines say the header and whole snapshots, and then one more without the last lines of its tree, of which so
 -- many are to come at each level
-pub record InTree (lines : List (List ℕ)) (profile : Profile) (snap : Snap) (to_come : List ℕ) : Type 0 where
+pub record InTree (lines : List (List ℕ)) (profile : Profile) (snap : Snap)
+    (to_come : List ℕ) : Type 0 where
   pub begun : Begins lines profile.desc (items_of profile ++ snap_items (length profile.snaps) snap)
   pub right : AreRight 0 profile.snaps
   pub in_order : last_time profile.snaps ≤ snap.time

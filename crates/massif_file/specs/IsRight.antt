@@ -16,7 +16,8 @@ IsTreeOf Peak lines = IsTree lines
 -- each tree is right, and no time is below the one before
 abbrev pub AreRight : ℕ → List Snap → Type 0
 AreRight time [] = Unit {0}
-AreRight time (snap ∷ snaps) = (time ≤ snap.time) × IsTreeOf snap.mark snap.tree × AreRight snap.time snaps
+AreRight time (snap ∷ snaps) = (time ≤ snap.time) × IsTreeOf snap.mark snap.tree
+    × AreRight snap.time snaps
 
 -- there is a snapshot, each tree is right, and no time is below the one before
 pub record IsRight (profile : Profile) : Type 0 where

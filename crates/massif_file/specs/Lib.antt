@@ -1,6 +1,7 @@
 pub mod Begins
 pub mod Blanks
 pub mod Descriptions
+pub mod FaultText
 pub mod Fields
 pub mod IsProfile
 pub mod IsRight

@@ -14,19 +14,22 @@ text_of (line ∷ lines) = line ++ (10 ∷ text_of lines)
 
 -- `nC: B LABEL`
 abbrev pub node_text : TreeLine → List ℕ
-node_text line = 110 ∷ (decimal line.children ++ (58 ∷ 32 ∷ (decimal line.bytes ++ (32 ∷ line.label))))
+node_text line = 110
+    ∷ (decimal line.children ++ (58 ∷ 32 ∷ (decimal line.bytes ++ (32 ∷ line.label))))
 
 -- The lines of a tree, each after as many blanks as its level. What is to come before them says the levels.
 abbrev pub tree_lines : List ℕ → List TreeLine → List (List ℕ)
 tree_lines to_come [] = []
-tree_lines to_come (line ∷ lines) = (blanks (length to_come - 1) ++ node_text line) ∷ tree_lines (after_line line.children to_come) lines
+tree_lines to_come (line ∷ lines) = (blanks (length to_come - 1) ++ node_text line)
+    ∷ tree_lines (after_line line.children to_come) lines
 
 abbrev pub separator : List ℕ
 separator = codes "#-----------"
 
 -- the first lines of the snapshot with this number
 abbrev pub head_lines : ℕ → ℕ → List (List ℕ)
-head_lines n time = separator ∷ (codes "snapshot=" ++ decimal n) ∷ separator ∷ (codes "time=" ++ decimal time) ∷ []
+head_lines n time = separator ∷ (codes "snapshot=" ++ decimal n) ∷ separator
+    ∷ (codes "time=" ++ decimal time) ∷ []
 
 -- the lines of its sizes, in bytes
 abbrev pub size_lines : Snap → List (List ℕ)

@@ -10,14 +10,16 @@ at_line number (Ok profile) = Ok profile
 at_line number (Err fault) = Err (number, fault)
 
 -- what is read after a line, unless that line is refused
-abbrev pub unless_refused : Option ProfileFault → ℕ → Result Profile (ℕ × ProfileFault) → Result Profile (ℕ × ProfileFault)
+abbrev pub unless_refused : Option ProfileFault → ℕ → Result Profile (ℕ × ProfileFault)
+    → Result Profile (ℕ × ProfileFault)
 unless_refused None number later = later
 unless_refused (Some fault) number later = Err (number, fault)
 
 -- what is read of the lines from line `number` on
 abbrev pub read_from : Progress → ℕ → List (List ℕ) → Result Profile (ℕ × ProfileFault)
 read_from progress number [] = at_line number (end_of progress)
-read_from progress number (line ∷ lines) = unless_refused (fault_in (after progress line)) number (read_from (after progress line) (suc number) lines)
+read_from progress number (line ∷ lines) = unless_refused (fault_in (after progress line)) number
+    (read_from (after progress line) (suc number) lines)
 
 -- the profile of the lines, or the number of the first faulty line and its fault
 unfoldable pub profile_of : List (List ℕ) → Result Profile (ℕ × ProfileFault)

@@ -42,7 +42,8 @@ with_line snap line = record snap { tree = snap.tree ++ line ∷ [] }
 -- where the line is no description, it is the command
 abbrev pub after_header_line : List ℕ → List ℕ → Option (List ℕ) → Progress
 after_header_line desc line (Some value) = in_descriptions (joined desc value)
-after_header_line desc line None = go_on (at_unit desc) (or_fault BadHeader (header_value (codes "cmd:") line))
+after_header_line desc line None = go_on (at_unit desc)
+    (or_fault BadHeader (header_value (codes "cmd:") line))
 
 -- the tree of a detailed snapshot and of the peak begins with its root
 abbrev pub after_mark : Profile → Snap → HeapTree → Progress
@@ -56,19 +57,33 @@ after_levels profile snap [] = at_snapshot (with_snap profile snap)
 after_levels profile snap (n ∷ outer) = in_tree profile snap (n ∷ outer)
 
 abbrev pub after_tree_line : Profile → Snap → List ℕ → TreeLine → Progress
-after_tree_line profile snap to_come line = after_levels profile (with_line snap line) (after_line line.children to_come)
+after_tree_line profile snap to_come line = after_levels profile (with_line snap line)
+    (after_line line.children to_come)
 
 -- after a line that is not skipped
 unfoldable pub taken : Progress → List ℕ → Progress
 taken (in_descriptions desc) line = after_header_line desc line (header_value (codes "desc:") line)
-taken (at_unit desc cmd) line = go_on (λ unit. at_snapshot (record { desc = desc; cmd = cmd; unit = unit; snaps = [] })) (or_fault BadHeader (unit_in (header_value (codes "time_unit:") line)))
-taken (at_snapshot profile) line = go_on (λ n. if n == length profile.snaps then at_time profile else refused_for WrongOrder) (key_number (codes "snapshot=") line)
-taken (at_time profile) line = go_on (λ time. if nat_lt time (last_time profile.snaps) then refused_for WrongOrder else at_heap profile time) (key_number (codes "time=") line)
-taken (at_heap profile time) line = go_on (at_extra profile time) (key_number (codes "mem_heap_B=") line)
-taken (at_extra profile time heap) line = go_on (at_stacks profile time heap) (key_number (codes "mem_heap_extra_B=") line)
-taken (at_stacks profile time heap extra) line = go_on (at_mark profile time heap extra) (key_number (codes "mem_stacks_B=") line)
-taken (at_mark profile time heap extra stacks) line = go_on (λ mark. after_mark profile (record { time = time; heap = heap; extra = extra; stacks = stacks; mark = mark; tree = [] }) mark) (or_fault BadSnapshot (mark_in (value_after (codes "heap_tree=") line)))
-taken (in_tree profile snap to_come) line = if nat_lt 257 (length to_come) then refused_for BadTree else go_on (after_tree_line profile snap to_come) (or_fault BadTree (tree_line_of line))
+taken (at_unit desc cmd) line = go_on
+    (λ unit. at_snapshot (record { desc = desc; cmd = cmd; unit = unit; snaps = [] }))
+    (or_fault BadHeader (unit_in (header_value (codes "time_unit:") line)))
+taken (at_snapshot profile) line = go_on
+    (λ n. if n == length profile.snaps then at_time profile else refused_for WrongOrder)
+    (key_number (codes "snapshot=") line)
+taken (at_time profile) line = go_on
+    (λ time. if nat_lt time (last_time profile.snaps) then refused_for WrongOrder
+    else at_heap profile time) (key_number (codes "time=") line)
+taken (at_heap profile time) line = go_on (at_extra profile time)
+    (key_number (codes "mem_heap_B=") line)
+taken (at_extra profile time heap) line = go_on (at_stacks profile time heap)
+    (key_number (codes "mem_heap_extra_B=") line)
+taken (at_stacks profile time heap extra) line = go_on (at_mark profile time heap extra)
+    (key_number (codes "mem_stacks_B=") line)
+taken (at_mark profile time heap extra stacks) line = go_on
+    (λ mark. after_mark profile
+    (record { time = time; heap = heap; extra = extra; stacks = stacks; mark = mark; tree = [] })
+    mark) (or_fault BadSnapshot (mark_in (value_after (codes "heap_tree=") line)))
+taken (in_tree profile snap to_come) line = if nat_lt 257 (length to_come) then refused_for BadTree
+    else go_on (after_tree_line profile snap to_come) (or_fault BadTree (tree_line_of line))
 taken (refused_for fault) line = refused_for fault
 
 -- after a line

@@ -16,7 +16,8 @@ use Rattle.massif_file.specs.Descriptions.{Describe}
 
 -- the keys of a snapshot's numbers, in the order of its lines
 abbrev pub number_keys : List (List ℕ)
-number_keys = codes "snapshot=" ∷ codes "time=" ∷ codes "mem_heap_B=" ∷ codes "mem_heap_extra_B=" ∷ codes "mem_stacks_B=" ∷ []
+number_keys = codes "snapshot=" ∷ codes "time=" ∷ codes "mem_heap_B=" ∷ codes "mem_heap_extra_B="
+    ∷ codes "mem_stacks_B=" ∷ []
 
 -- after the lines a number with this key is awaited
 pub record AwaitsNumber (lines : List (List ℕ)) (key : List ℕ) : Type 0 where
@@ -35,8 +36,10 @@ pub record AwaitsMark (lines : List (List ℕ)) : Type 0 where
 -- no description and no command where one is awaited, or no known unit
 abbrev pub IsBadHeader : List (List ℕ) → List ℕ → Type 0
 IsBadHeader lines line =
-    ((desc : List ℕ) × Describe [] lines desc × (value_after (codes "desc:") line ≡ None) × (value_after (codes "cmd:") line ≡ None))
-    ⊎ ((desc : List ℕ) × (cmd : List ℕ) × Begins lines desc (command_item cmd ∷ []) × ((unit : TimeUnit) → ¬ Says line (unit_item unit)))
+    ((desc : List ℕ) × Describe [] lines desc × (value_after (codes "desc:") line ≡ None)
+    × (value_after (codes "cmd:") line ≡ None))
+    ⊎ ((desc : List ℕ) × (cmd : List ℕ) × Begins lines desc (command_item cmd ∷ [])
+    × ((unit : TimeUnit) → ¬ Says line (unit_item unit)))
 
 -- not the awaited key, or no known mark
 abbrev pub IsBadSnapshot : List (List ℕ) → List ℕ → Type 0
@@ -47,13 +50,16 @@ IsBadSnapshot lines line =
 -- the awaited key, and no number of at most 2 ^ 62 after it
 abbrev pub IsBadNumber : List (List ℕ) → List ℕ → Type 0
 IsBadNumber lines line =
-    (key : List ℕ) × (value : List ℕ) × AwaitsNumber lines key × (value_after key line ≡ Some value) × (number_of max_number value ≡ None)
+    (key : List ℕ) × (value : List ℕ) × AwaitsNumber lines key × (value_after key line ≡ Some value)
+    × (number_of max_number value ≡ None)
 
 -- another number than that of the snapshot, or a time below that of the last one
 abbrev pub IsWrongOrder : List (List ℕ) → List ℕ → Type 0
 IsWrongOrder lines line =
-    ((profile : Profile) × (snap : Snap) × (n : ℕ) × InSnapshot lines profile snap 0 × Says line (number_item (codes "snapshot=") n) × (n ≢ length profile.snaps))
-    ⊎ ((profile : Profile) × (snap : Snap) × (time : ℕ) × InSnapshot lines profile snap 1 × Says line (number_item (codes "time=") time) × (time < last_time profile.snaps))
+    ((profile : Profile) × (snap : Snap) × (n : ℕ) × InSnapshot lines profile snap 0
+    × Says line (number_item (codes "snapshot=") n) × (n ≢ length profile.snaps))
+    ⊎ ((profile : Profile) × (snap : Snap) × (time : ℕ) × InSnapshot lines profile snap 1
+    × Says line (number_item (codes "time=") time) × (time < last_time profile.snaps))
 
 -- no line of a tree where one is awaited, or one above level 256
 abbrev pub IsBadTree : List (List ℕ) → List ℕ → Type 0
@@ -75,6 +81,9 @@ Refuses lines line NoMemory = ⊥
 pub data EndsEarly (lines : List (List ℕ)) : Type 0 where
   in_descriptions : (desc : List ℕ) → Describe [] lines desc → EndsEarly lines
   before_unit : (desc cmd : List ℕ) → Begins lines desc (command_item cmd ∷ []) → EndsEarly lines
-  before_snapshots : (profile : Profile) → profile.snaps ≡ [] → Begins lines profile.desc (items_of profile) → EndsEarly lines
-  in_snapshot : (profile : Profile) (snap : Snap) (count : ℕ) → 0 < count → count ≤ 5 → InSnapshot lines profile snap count → EndsEarly lines
-  in_tree : (profile : Profile) (snap : Snap) (to_come : List ℕ) → InTree lines profile snap to_come → EndsEarly lines
+  before_snapshots : (profile : Profile) → profile.snaps ≡ []
+      → Begins lines profile.desc (items_of profile) → EndsEarly lines
+  in_snapshot : (profile : Profile) (snap : Snap) (count : ℕ) → 0 < count → count ≤ 5
+      → InSnapshot lines profile snap count → EndsEarly lines
+  in_tree : (profile : Profile) (snap : Snap) (to_come : List ℕ) → InTree lines profile snap to_come
+      → EndsEarly lines

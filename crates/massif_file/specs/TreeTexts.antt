@@ -8,5 +8,6 @@ use Rattle.massif_file.specs.Trees.{Trees, no_tree, a_tree, count_of}
 abbrev pub tree_texts : ℕ → Trees → List (List ℕ)
 tree_texts level no_tree = []
 tree_texts level (a_tree bytes label children others) =
-    (blanks level ++ node_text (record { children = count_of children; bytes = bytes; label = label }))
+    (blanks level ++ node_text
+    (record { children = count_of children; bytes = bytes; label = label }))
     ∷ (tree_texts (suc level) children ++ tree_texts level others)

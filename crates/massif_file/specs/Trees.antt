@@ -20,7 +20,9 @@ levels_of (a_tree bytes label children others) = max (suc (levels_of children)) 
 -- a line for each root, with the number of its children, before the lines of these
 abbrev pub lines_of : Trees → List TreeLine
 lines_of no_tree = []
-lines_of (a_tree bytes label children others) = record { children = count_of children; bytes = bytes; label = label } ∷ (lines_of children ++ lines_of others)
+lines_of (a_tree bytes label children others)
+    = record { children = count_of children; bytes = bytes; label = label }
+    ∷ (lines_of children ++ lines_of others)
 
 -- The lines are those of one tree, whose levels are 0 to at most 256.
 pub record IsTree (lines : List TreeLine) : Type 0 where

@@ -28,8 +28,10 @@ pub fn massif_profiles()
         ⊎ ((number : ℕ) × (fault : ProfileFault) × profile_fault lines number fault) }
     ensures one_fault { (lines : List (List ℕ)) (n m : ℕ) (f g : ProfileFault) →
         profile_fault lines n f → profile_fault lines m g → (n ≡ m) × (f ≡ g) }
-    ensures one_profile { (lines : List (List ℕ)) (p q : Profile) → is_profile lines p → is_profile lines q → p ≡ q }
-    ensures not_both { (lines : List (List ℕ)) (profile : Profile) (number : ℕ) (fault : ProfileFault) →
+    ensures one_profile { (lines : List (List ℕ)) (p q : Profile) → is_profile lines p
+        → is_profile lines q → p ≡ q }
+    ensures not_both { (lines : List (List ℕ)) (profile : Profile) (number : ℕ)
+        (fault : ProfileFault) →
         is_profile lines profile → profile_fault lines number fault → ⊥ }
 
     // Lines that a reader took have no fault before their end.
@@ -39,12 +41,15 @@ pub fn massif_profiles()
 
 /// What is written is read again, and what is read may be written. It does nothing.
 pub fn massif_round_trip()
-    ensures reads_back { (profile : Profile) → IsWritable profile → is_profile (massif_lines profile) profile }
+    ensures reads_back { (profile : Profile) → IsWritable profile
+        → is_profile (massif_lines profile) profile }
     ensures lines { (profile : Profile) → IsWritable profile → All IsLine (massif_lines profile) }
-    ensures writable { (lines : List (List ℕ)) (profile : Profile) → All IsLine lines → is_profile lines profile → IsWritable profile }
+    ensures writable { (lines : List (List ℕ)) (profile : Profile) → All IsLine lines
+        → is_profile lines profile → IsWritable profile }
 
     // Before each line of a tree stand as many blanks as its level there.
-    ensures levels { (tree : Trees) → count_of tree ≡ 1 → tree_lines (1 ∷ []) (lines_of tree) ≡ tree_texts 0 tree }
+    ensures levels { (tree : Trees) → count_of tree ≡ 1
+        → tree_lines (1 ∷ []) (lines_of tree) ≡ tree_texts 0 tree }
 {
     decimal_texts();
 }

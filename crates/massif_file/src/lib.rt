@@ -7,6 +7,7 @@
 //!   line that can't follow those before it, and then that fault again; `finish` answers the profile of the lines, or
 //!   `Truncated`, and `profile` lends what `finish` would answer.
 //! - `put_profile` appends a profile's text.
+//! - `ProfileFault::text` says what a fault is called.
 //! - The laws: `massif_profiles` says that any lines are one profile or have one first fault, and `massif_round_trip`
 //!   that a writable profile's text reads as that profile, and that every profile that was read is writable.
 //!
@@ -18,7 +19,7 @@
 //! | `reader.rt`, `reading.rt` | the reader; one short step for each line that may come next |
 //! | `line.rt`, `levels.rt` | what single lines say; how many lines of a tree are still to come |
 //! | `writer.rt` | a profile as text |
-//! | `fault.rt` | why lines are refused |
+//! | `fault.rt` | why lines are refused, and what that is called |
 //! | `laws.rt` | the two laws |
 #![tactic(auto)]
 

@@ -122,7 +122,12 @@ pub struct TreeFields<'a> {
 /// What the line says, where it is a tree line.
 #[tactic(auto, unfolding(crate::specs::TreeLineOf::tree_line_of))]
 pub fn tree_fields(line: &[u8]) -> Option<TreeFields<'_>>
-    ensures { option_map (λ fields. record { children = fields.children; bytes = fields.bytes; label = fields.label.now }) result ≡ tree_line_of line.now }
+    ensures { option_map
+        (λ fields. record {
+          children = fields.children;
+          bytes = fields.bytes;
+          label = fields.label.now;
+        }) result ≡ tree_line_of line.now }
 {
     let fields = value_after(b"n", without_blanks(line))?;
     let (count, rest) = split_at_byte(fields, b':');

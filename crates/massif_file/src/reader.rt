@@ -52,13 +52,15 @@ impl ProfileReader {
         ensures taken { OnOk result (self.new ≡ after self.old line.now) }
         ensures not_refused { OnOk result (fault_in self.new ≡ None) }
         ensures kept { IfErr result (λ fault. self.new ≡ refused_for fault) }
-        ensures refused { IfErr result (λ fault. UnlessNoMemory fault (after self.old line.now ≡ refused_for fault)) }
+        ensures refused { IfErr result
+            (λ fault. UnlessNoMemory fault (after self.old line.now ≡ refused_for fault)) }
         ensures not_truncated { fault_in self.old ≡ None → result ≢ Err ProfileFault.Truncated }
         ensures again { (fault : ProfileFault) → self.old ≡ refused_for fault → result ≡ Err fault }
 
         // All lines so far.
         ensures stands { OnOk result
-            ((lines : List (List ℕ)) → StandsFor self.old lines → StandsFor self.new (lines ++ line.now ∷ [])) }
+            ((lines : List (List ℕ)) → StandsFor self.old lines
+            → StandsFor self.new (lines ++ line.now ∷ [])) }
         // The fault is that of the whole file, whatever lines follow.
         ensures fault { IfErr result (λ fault. UnlessNoMemory fault
             ((lines later : List (List ℕ)) → StandsFor self.old lines →
@@ -77,11 +79,14 @@ impl ProfileReader {
         ensures refused { IfErr result (λ fault. end_of self.now ≡ Err fault) }
 
         // All lines.
-        ensures read { (lines : List (List ℕ)) → StandsFor self.now lines → IfOk result (λ profile. is_profile lines profile.now) }
+        ensures read { (lines : List (List ℕ)) → StandsFor self.now lines
+            → IfOk result (λ profile. is_profile lines profile.now) }
         ensures only { (lines : List (List ℕ)) (profile : Profile) →
-            StandsFor self.now lines → is_profile lines profile → IsOkAnd result (λ lent. lent.now ≡ profile) }
+            StandsFor self.now lines → is_profile lines profile
+            → IsOkAnd result (λ lent. lent.now ≡ profile) }
         ensures writable { (lines : List (List ℕ)) →
-            StandsFor self.now lines → All IsLine lines → IfOk result (λ profile. IsWritable profile.now) }
+            StandsFor self.now lines → All IsLine lines
+            → IfOk result (λ profile. IsWritable profile.now) }
         ensures truncated { (lines : List (List ℕ)) → StandsFor self.now lines →
             IfErr result (λ fault. fault ≡ ProfileFault.Truncated) }
         ensures first_fault { (lines : List (List ℕ)) → StandsFor self.now lines →
@@ -101,7 +106,8 @@ impl ProfileReader {
         ensures exact { result ≡ end_of self }
 
         // All lines.
-        ensures read { (lines : List (List ℕ)) → StandsFor self lines → IfOk result (λ profile. is_profile lines profile) }
+        ensures read { (lines : List (List ℕ)) → StandsFor self lines
+            → IfOk result (λ profile. is_profile lines profile) }
         ensures only { (lines : List (List ℕ)) (profile : Profile) →
             StandsFor self lines → is_profile lines profile → result ≡ Ok profile }
         ensures writable { (lines : List (List ℕ)) →

@@ -74,8 +74,10 @@ impl Reading {
         ensures taken { OnOk result (shown self.new ≡ after (shown self.old) line.now) }
         ensures not_refused { OnOk result (fault_in (shown self.new) ≡ None) }
         ensures kept { IfErr result (λ fault. shown self.new ≡ refused_for fault) }
-        ensures refused { IfErr result (λ fault. UnlessNoMemory fault (after (shown self.old) line.now ≡ refused_for fault)) }
-        ensures again { (fault : ProfileFault) → shown self.old ≡ refused_for fault → result ≡ Err fault }
+        ensures refused { IfErr result
+            (λ fault. UnlessNoMemory fault (after (shown self.old) line.now ≡ refused_for fault)) }
+        ensures again { (fault : ProfileFault) → shown self.old ≡ refused_for fault
+            → result ≡ Err fault }
     {
         if let Stage::Refused(fault) = self.stage {
             return Err(fault);
@@ -132,7 +134,8 @@ impl Reading {
     #[tactic(auto, unfolding(crate::specs::Progress::taken))]
     fn header(&mut self, line: &[u8]) -> Result<(), ProfileFault>
         requires { self.old.stage ≡ Stage.Descriptions }
-        ensures { Goes result (taken (in_descriptions self.old.desc.items) line.now) (shown self.new) }
+        ensures { Goes result (taken (in_descriptions self.old.desc.items) line.now)
+            (shown self.new) }
     {
         if let Some(value) = header_value(b"desc:", line) {
             join(&mut self.desc, value)?;
@@ -150,7 +153,8 @@ impl Reading {
 
     #[tactic(auto, unfolding(crate::specs::Progress::taken))]
     fn unit(&mut self, line: &[u8]) -> Result<(), ProfileFault>
-        ensures { Goes result (taken (at_unit self.old.profile.desc self.old.profile.cmd) line.now) (shown self.new) }
+        ensures { Goes result (taken (at_unit self.old.profile.desc self.old.profile.cmd) line.now)
+            (shown self.new) }
     {
         let Some(unit) = unit_after(line) else {
             return Err(ProfileFault::BadHeader);
@@ -188,7 +192,8 @@ impl Reading {
 
     #[tactic(auto, unfolding(crate::specs::Progress::taken))]
     fn heap(&mut self, line: &[u8]) -> Result<(), ProfileFault>
-        ensures { Goes result (taken (at_heap self.old.profile self.old.snap.time) line.now) (shown self.new) }
+        ensures { Goes result (taken (at_heap self.old.profile self.old.snap.time) line.now)
+            (shown self.new) }
     {
         self.snap.heap = key_number(b"mem_heap_B=", line)?;
         self.stage = Stage::Extra;
@@ -197,7 +202,9 @@ impl Reading {
 
     #[tactic(auto, unfolding(crate::specs::Progress::taken))]
     fn extra(&mut self, line: &[u8]) -> Result<(), ProfileFault>
-        ensures { Goes result (taken (at_extra self.old.profile self.old.snap.time self.old.snap.heap) line.now) (shown self.new) }
+        ensures { Goes result
+            (taken (at_extra self.old.profile self.old.snap.time self.old.snap.heap) line.now)
+            (shown self.new) }
     {
         self.snap.extra = key_number(b"mem_heap_extra_B=", line)?;
         self.stage = Stage::Stacks;
@@ -206,7 +213,9 @@ impl Reading {
 
     #[tactic(auto, unfolding(crate::specs::Progress::taken))]
     fn stacks(&mut self, line: &[u8]) -> Result<(), ProfileFault>
-        ensures { Goes result (taken (at_stacks self.old.profile self.old.snap.time self.old.snap.heap self.old.snap.extra) line.now) (shown self.new) }
+        ensures { Goes result
+            (taken (at_stacks self.old.profile self.old.snap.time self.old.snap.heap
+            self.old.snap.extra) line.now) (shown self.new) }
     {
         self.snap.stacks = key_number(b"mem_stacks_B=", line)?;
         self.stage = Stage::Mark;
@@ -216,7 +225,8 @@ impl Reading {
     #[tactic(auto, unfolding(crate::specs::Progress::taken))]
     fn mark(&mut self, line: &[u8]) -> Result<(), ProfileFault>
         ensures { Goes result
-            (taken (at_mark self.old.profile self.old.snap.time self.old.snap.heap self.old.snap.extra self.old.snap.stacks) line.now)
+            (taken (at_mark self.old.profile self.old.snap.time self.old.snap.heap
+            self.old.snap.extra self.old.snap.stacks) line.now)
             (shown self.new) }
     {
         let Some(mark) = mark_after(line) else {
@@ -235,7 +245,9 @@ impl Reading {
     #[tactic(auto, unfolding(crate::specs::Progress::taken))]
     fn tree_line(&mut self, line: &[u8]) -> Result<(), ProfileFault>
         requires { self.old.stage ≡ Stage.Tree }
-        ensures { Goes result (taken (in_tree self.old.profile self.old.snap self.old.levels) line.now) (shown self.new) }
+        ensures { Goes result
+            (taken (in_tree self.old.profile self.old.snap self.old.levels) line.now)
+            (shown self.new) }
     {
         if self.levels.len() > MAX_LEVELS {
             return Err(ProfileFault::BadTree);
@@ -258,7 +270,8 @@ impl Reading {
 
     /// The snapshot that is being read is whole.
     fn end_snap(&mut self) -> Result<(), ProfileFault>
-        ensures ok { OnOk result (shown self.new ≡ at_snapshot (with_snap self.old.profile self.old.snap)) }
+        ensures ok { OnOk result
+            (shown self.new ≡ at_snapshot (with_snap self.old.profile self.old.snap)) }
         ensures err { IfErr result (λ fault. fault ≡ faults.NoMemory) }
     {
         let snap = mem::replace(&mut self.snap, empty_snap(self.alloc));

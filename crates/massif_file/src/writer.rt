@@ -36,7 +36,8 @@ fn put_all(out: &mut Vec<u8>, profile: &Profile) -> Result<(), NoMemory>
 
 fn put_snaps(out: &mut Vec<u8>, snaps: &Snaps) -> Result<(), NoMemory>
     ensures kept { take (vec_len out.old) out.new.items ≡ out.old.items }
-    ensures appended { OnOk result (out.new.items ≡ out.old.items ++ text_of (snaps_lines 0 snaps.now)) }
+    ensures appended { OnOk result
+        (out.new.items ≡ out.old.items ++ text_of (snaps_lines 0 snaps.now)) }
 {
     for (n, snap) in snaps.as_slice().iter().enumerate() {
         put_snap(out, n as u64, snap)?;
@@ -47,7 +48,8 @@ fn put_snaps(out: &mut Vec<u8>, snaps: &Snaps) -> Result<(), NoMemory>
 #[tactic(auto, using(crate::proofs::WrittenLemmas::text_of_append))]
 fn put_snap(out: &mut Vec<u8>, n: u64, snap: &Snap) -> Result<(), NoMemory>
     ensures kept { take (vec_len out.old) out.new.items ≡ out.old.items }
-    ensures appended { OnOk result (out.new.items ≡ out.old.items ++ text_of (snap_lines n snap.now)) }
+    ensures appended { OnOk result
+        (out.new.items ≡ out.old.items ++ text_of (snap_lines n snap.now)) }
 {
     put_head(out, n, snap.time)?;
     put_sizes(out, snap)?;
@@ -67,7 +69,8 @@ fn put_head(out: &mut Vec<u8>, n: u64, time: u64) -> Result<(), NoMemory>
 
 fn put_sizes(out: &mut Vec<u8>, snap: &Snap) -> Result<(), NoMemory>
     ensures kept { take (vec_len out.old) out.new.items ≡ out.old.items }
-    ensures appended { OnOk result (out.new.items ≡ out.old.items ++ text_of (size_lines snap.now)) }
+    ensures appended { OnOk result
+        (out.new.items ≡ out.old.items ++ text_of (size_lines snap.now)) }
 {
     put_number(out, b"mem_heap_B=", snap.heap)?;
     put_number(out, b"mem_heap_extra_B=", snap.extra)?;
@@ -76,7 +79,8 @@ fn put_sizes(out: &mut Vec<u8>, snap: &Snap) -> Result<(), NoMemory>
 
 fn put_tree(out: &mut Vec<u8>, tree: &Tree) -> Result<(), NoMemory>
     ensures kept { take (vec_len out.old) out.new.items ≡ out.old.items }
-    ensures appended { OnOk result (out.new.items ≡ out.old.items ++ text_of (tree_lines (1 ∷ []) tree.now)) }
+    ensures appended { OnOk result
+        (out.new.items ≡ out.old.items ++ text_of (tree_lines (1 ∷ []) tree.now)) }
 {
     let mut levels = Levels::new(*out.allocator());
     levels.begin()?;
@@ -90,7 +94,8 @@ fn put_tree(out: &mut Vec<u8>, tree: &Tree) -> Result<(), NoMemory>
 
 fn put_node(out: &mut Vec<u8>, line: &TreeLine) -> Result<(), NoMemory>
     ensures kept { take (vec_len out.old) out.new.items ≡ out.old.items }
-    ensures appended { OnOk result (out.new.items ≡ out.old.items ++ text_of (node_text line.now ∷ [])) }
+    ensures appended { OnOk result
+        (out.new.items ≡ out.old.items ++ text_of (node_text line.now ∷ [])) }
 {
     put_bytes(out, b"n")?;
     put_dec(out, u64::from(line.children))?;
@@ -113,7 +118,8 @@ fn put_blanks(out: &mut Vec<u8>, count: usize) -> Result<(), NoMemory>
 // A line of a key and a number.
 fn put_number(out: &mut Vec<u8>, key: &[u8], n: u64) -> Result<(), NoMemory>
     ensures kept { take (vec_len out.old) out.new.items ≡ out.old.items }
-    ensures appended { OnOk result (out.new.items ≡ out.old.items ++ text_of ((key.now ++ decimal n) ∷ [])) }
+    ensures appended { OnOk result
+        (out.new.items ≡ out.old.items ++ text_of ((key.now ++ decimal n) ∷ [])) }
 {
     put_bytes(out, key)?;
     put_dec(out, n)?;
@@ -123,7 +129,8 @@ fn put_number(out: &mut Vec<u8>, key: &[u8], n: u64) -> Result<(), NoMemory>
 // A line of a key and a text.
 fn put_line(out: &mut Vec<u8>, key: &[u8], text: &[u8]) -> Result<(), NoMemory>
     ensures kept { take (vec_len out.old) out.new.items ≡ out.old.items }
-    ensures appended { OnOk result (out.new.items ≡ out.old.items ++ text_of ((key.now ++ text.now) ∷ [])) }
+    ensures appended { OnOk result
+        (out.new.items ≡ out.old.items ++ text_of ((key.now ++ text.now) ∷ [])) }
 {
     put_bytes(out, key)?;
     put_bytes(out, text)?;

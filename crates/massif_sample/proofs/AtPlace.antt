@@ -13,7 +13,7 @@ use Rattle.ht_trace.specs.TableState.{TableState}
 use Rattle.live_ledger.specs.declared.event.Event.{Event}
 use Rattle.massif_tree.specs.FunctionLists.{trimmed_before, trimmed_lists, trimmed_texts}
 use Rattle.massif_tree.specs.MassifTree.{massif_tree}
-use Rattle.massif_tree.proofs.Idle.{range-parts, tree-idle}
+use Rattle.massif_tree.proofs.Laws.{range-parts, tree-idle}
 use Rattle.massif_sample.specs.declared.options.MassifOptions.{MassifOptions}
 use Rattle.massif_sample.specs.FunctionNames.{FunctionNames, ignores}
 use Rattle.massif_sample.specs.Options.{tree_options}

@@ -19,7 +19,7 @@ use Rattle.ht_trace.specs.TableState.{TableState}
 use Rattle.ht_trace.proofs.Laws.{stack-places}
 use Rattle.massif_tree.specs.FunctionLists.{is_ignored, is_listed, trimmed, trimmed_texts, without_listed}
 use Rattle.massif_tree.specs.FirstLists.{first_lists, first_texts}
-use Rattle.massif_tree.proofs.Idle.{AreIdle}
+use Rattle.massif_tree.proofs.Laws.{AreIdle}
 use Rattle.cost_tree.specs.Costed.{Costed, costed}
 use Rattle.live_ledger.specs.declared.event.Event.{Event}
 use Rattle.live_ledger.specs.declared.event.Event.TheVariants.{Alloc, Free, Tick}

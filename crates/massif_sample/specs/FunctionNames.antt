@@ -9,7 +9,8 @@ pub record FunctionNames : Type 0 where
   pub ignore_fns : List (List ℕ)
 
 -- closures with these answers mean these names
-pub record AreStated (alloc_answers ignore_answers : List ℕ → Bool → Type 0) (names : FunctionNames) : Type 0 where
+pub record AreStated (alloc_answers ignore_answers : List ℕ → Bool → Type 0)
+    (names : FunctionNames) : Type 0 where
   pub alloc_fns : AreTexts alloc_answers names.alloc_fns
   pub ignore_fns : AreTexts ignore_answers names.ignore_fns
 

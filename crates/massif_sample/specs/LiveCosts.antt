@@ -4,4 +4,5 @@ use Rattle.live_ledger.specs.LedgerState.{LedgerState, figures_at}
 
 -- a stack's live bytes, and 0 where it is ignored
 abbrev pub live_cost : List Bool → LedgerState → ℕ → ℕ
-live_cost judged ledger stack = if slice_index_or judged stack false then 0 else (figures_at ledger stack).live
+live_cost judged ledger stack = if slice_index_or judged stack false then 0
+    else (figures_at ledger stack).live

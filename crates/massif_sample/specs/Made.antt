@@ -18,8 +18,10 @@ use Rattle.massif_sample.specs.SamplesState.{SamplesState}
 use Rattle.massif_sample.specs.Snapshots.{mark_of, tree_of}
 
 -- the tree of an entry's place, over the first so many stacks of tables, which cost there what the changes say
-abbrev pub told_tree : TreeOptions → TableState → List (List ℕ) → ℕ → List Change → SnapEntry → List TreeLine
-told_tree asked tables names count changes entry = massif_tree asked entry.total (costed (trimmed_before tables names count) (told count changes entry.place))
+abbrev pub told_tree : TreeOptions → TableState → List (List ℕ) → ℕ → List Change → SnapEntry
+    → List TreeLine
+told_tree asked tables names count changes entry = massif_tree asked entry.total
+    (costed (trimmed_before tables names count) (told count changes entry.place))
 
 -- a normal snapshot has no tree
 abbrev pub made : (SnapEntry → List TreeLine) → SnapEntry → Load → Snap
@@ -44,5 +46,6 @@ profile_made samples tables names cmd = record {
   desc = description;
   cmd = shown_command cmd;
   unit = samples.options.unit;
-  snaps = all_made (told_tree (tree_options samples.options) tables names (length samples.fronts) samples.history.changes) samples.array.kept.entries samples.array.loads;
+  snaps = all_made (told_tree (tree_options samples.options) tables names (length samples.fronts)
+      samples.history.changes) samples.array.kept.entries samples.array.loads;
 }

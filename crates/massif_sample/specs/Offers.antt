@@ -15,29 +15,38 @@ use Rattle.massif_sample.specs.Places.{gross_at, time_at}
 -- the offer at a place, as a peak or not
 abbrev pub offer_at : MassifOptions → (ℕ → Bool) → List Event → Bool → ℕ → Offer
 offer_at options ignored events as_peak k =
-    record { place = k; time = time_at options ignored events k; total = gross_at options ignored events k; peak = as_peak }
+    record {
+      place = k;
+      time = time_at options ignored events k;
+      total = gross_at options ignored events k;
+      peak = as_peak;
+    }
 
 -- the peak offer before a free
 abbrev pub peak_before : MassifOptions → (ℕ → Bool) → List Event → Event → ℕ → List Offer
-peak_before options ignored events event k = if is_free event then offer_at options ignored events true k ∷ [] else []
+peak_before options ignored events event k = if is_free event
+    then offer_at options ignored events true k ∷ [] else []
 
 -- the offers of the event between place k and the next one: where it is counted, that of the peak before a free, and the
 -- normal one behind it
 abbrev pub offers_of_event : MassifOptions → (ℕ → Bool) → List Event → Event → ℕ → List Offer
 offers_of_event options ignored events event k =
     if counts ignored event
-    then peak_before options ignored events event k ++ offer_at options ignored events false (k + 1) ∷ []
+    then peak_before options ignored events event k ++ offer_at options ignored events false (k + 1)
+    ∷ []
     else []
 
 -- those between place k and the next one
 abbrev pub offers_behind : MassifOptions → (ℕ → Bool) → List Event → ℕ → List Offer
 offers_behind options ignored events k =
-    option_map_or (λ event. offers_of_event options ignored events event k) (slice_get (counted events) k) []
+    option_map_or (λ event. offers_of_event options ignored events event k)
+    (slice_get (counted events) k) []
 
 -- the normal offer at place 0, and those of each event
 unfoldable pub offers : MassifOptions → (ℕ → Bool) → List Event → List Offer
 offers options ignored events =
-    offer_at options ignored events false 0 ∷ flat_map (offers_behind options ignored events) (range_with_len 0 (event_count events))
+    offer_at options ignored events false 0
+    ∷ flat_map (offers_behind options ignored events) (range_with_len 0 (event_count events))
 
 -- what is kept of them
 abbrev pub kept : MassifOptions → (ℕ → Bool) → List Event → Kept

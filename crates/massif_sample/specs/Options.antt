@@ -23,7 +23,11 @@ pub record AreInRange (options : MassifOptions) : Type 0 where
 
 -- what the array of snapshots is made with
 abbrev pub settings_of : MassifOptions → Settings
-settings_of options = record { max = options.max_snapshots; detailed_freq = options.detailed_freq; inaccuracy = options.inaccuracy }
+settings_of options = record {
+  max = options.max_snapshots;
+  detailed_freq = options.detailed_freq;
+  inaccuracy = options.inaccuracy;
+}
 
 -- what is asked of a tree
 abbrev pub tree_options : MassifOptions → TreeOptions

@@ -17,12 +17,15 @@ abbrev pub no_figures : Running
 no_figures = record { place = 0; time = 0; clock = 0; heap = 0; gross = 0 }
 
 -- the figures are those of the events: the time is that of the last place, and no free goes below zero
-pub record AreFigures (options : MassifOptions) (ignored : ℕ → Bool) (events : List Event) (running : Running) : Type 0 where
+pub record AreFigures (options : MassifOptions) (ignored : ℕ → Bool) (events : List Event)
+    (running : Running) : Type 0 where
   pub place : running.place ≡ event_count events
   pub time : running.time ≡ time_at options ignored events (event_count events)
   pub clock : running.clock ≡ clock events
-  pub heap : running.heap + sum_by (free_weight (heap_weight ignored)) events ≡ sum_by (alloc_weight (heap_weight ignored)) events
-  pub gross : running.gross + sum_by (free_weight (gross_weight options ignored)) events ≡ sum_by (alloc_weight (gross_weight options ignored)) events
+  pub heap : running.heap + sum_by (free_weight (heap_weight ignored)) events
+      ≡ sum_by (alloc_weight (heap_weight ignored)) events
+  pub gross : running.gross + sum_by (free_weight (gross_weight options ignored)) events
+      ≡ sum_by (alloc_weight (gross_weight options ignored)) events
 
 -- the time behind a counted event of so many gross bytes
 abbrev pub time_after : TimeUnit → Running → ℕ → ℕ
@@ -60,7 +63,8 @@ with_free options running size = record {
 
 -- with an event that isn't counted
 abbrev pub passed : MassifOptions → Running → Running
-passed options running = record running { place = running.place + 1; time = time_passed options.unit running }
+passed options running = record running
+    { place = running.place + 1; time = time_passed options.unit running }
 
 -- with a clock value
 abbrev pub ticked : Running → ℕ → Running

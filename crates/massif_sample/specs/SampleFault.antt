@@ -18,12 +18,14 @@ of_ledger ledger.CostTooLarge = CostTooLarge
 
 -- whether the gross bytes that are live, or the time, pass 2^62
 abbrev pub is_too_large : MassifOptions → (ℕ → Bool) → List Event → Bool
-is_too_large options ignored events = nat_lt (2 ^ 62) (gross_total options ignored events) || nat_lt (2 ^ 62) (time_of options ignored events)
+is_too_large options ignored events = nat_lt (2 ^ 62) (gross_total options ignored events)
+    || nat_lt (2 ^ 62) (time_of options ignored events)
 
 -- the fault of an event that the ledger takes
 abbrev pub size_fault : MassifOptions → (ℕ → Bool) → List Event → Event → Option SampleFault
 size_fault options ignored events event =
-    if counts ignored event && is_too_large options ignored (events ++ event ∷ []) then Some CostTooLarge else None
+    if counts ignored event && is_too_large options ignored (events ++ event ∷ [])
+    then Some CostTooLarge else None
 
 abbrev pub fault_or : Option EventFault → Option SampleFault → Option SampleFault
 fault_or (Some fault) otherwise = Some (of_ledger fault)
@@ -31,7 +33,8 @@ fault_or None otherwise = otherwise
 
 -- the ledger's fault, or else that of an event that is counted where the gross bytes or the time would pass 2^62
 abbrev pub sample_fault : MassifOptions → (ℕ → Bool) → List Event → Event → Option SampleFault
-sample_fault options ignored events event = fault_or (fault_of events event) (size_fault options ignored events event)
+sample_fault options ignored events event = fault_or (fault_of events event)
+    (size_fault options ignored events event)
 
 -- an answer tells this fault; want of memory comes in place of none
 abbrev pub Tells : {T : Type 0} → Result T SampleFault → Option SampleFault → Type 0

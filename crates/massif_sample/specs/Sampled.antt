@@ -26,5 +26,6 @@ sampled options names tables events cmd = record {
   desc = description;
   cmd = shown_command cmd;
   unit = options.unit;
-  snaps = map (snap_of options names tables events) (kept options (ignores tables names) events).entries;
+  snaps = map (snap_of options names tables events)
+      (kept options (ignores tables names) events).entries;
 }

@@ -31,7 +31,8 @@ costs_at stacks ignored events k = map (cost_at ignored events k) (range_with_le
 unfoldable pub tree_at : MassifOptions → FunctionNames → TableState → List Event → ℕ → List TreeLine
 tree_at options names tables events k =
     massif_tree (tree_options options) (gross_at options (ignores tables names) events k)
-    (costed (trimmed_lists tables names.alloc_fns) (costs_at (length tables.nodes + 1) (ignores tables names) events k))
+    (costed (trimmed_lists tables names.alloc_fns)
+    (costs_at (length tables.nodes + 1) (ignores tables names) events k))
 
 -- which tree a snapshot of a kind has
 abbrev pub mark_of : Kind → HeapTree
@@ -50,7 +51,8 @@ abbrev pub snap_of : MassifOptions → FunctionNames → TableState → List Eve
 snap_of options names tables events entry = record {
   time = entry.time;
   heap = heap_at (ignores tables names) events entry.place;
-  extra = gross_at options (ignores tables names) events entry.place - heap_at (ignores tables names) events entry.place;
+  extra = gross_at options (ignores tables names) events entry.place - heap_at
+      (ignores tables names) events entry.place;
   stacks = 0;
   mark = mark_of entry.kind;
   tree = tree_of entry.kind (tree_at options names tables events entry.place);

@@ -29,16 +29,20 @@ WhereTree Detailed P = P
 WhereTree Peak P = P
 
 -- the changes say what each stack costs at the place
-pub record AreCostsAt (names : FunctionNames) (tables : TableState) (events : List Event) (place : ℕ) (changes : List Change) : Type 0 where
-  pub each : (stack : ℕ) → cost_at (ignores tables names) events place stack ≡ history.cost_at changes place stack
+pub record AreCostsAt (names : FunctionNames) (tables : TableState) (events : List Event)
+    (place : ℕ) (changes : List Change) : Type 0 where
+  pub each : (stack : ℕ)
+      → cost_at (ignores tables names) events place stack ≡ history.cost_at changes place stack
 
 -- the lists are the first texts of as many stacks of the tables
-pub record AreFronts (options : MassifOptions) (names : FunctionNames) (tables : TableState) (fronts : List (List (List ℕ))) : Type 0 where
+pub record AreFronts (options : MassifOptions) (names : FunctionNames) (tables : TableState)
+    (fronts : List (List (List ℕ))) : Type 0 where
   pub held : length fronts ≤ length tables.nodes + 1
   pub are : fronts ≡ first_lists tables names.alloc_fns (options.depth + 1) (length fronts)
 
 -- the entry and its load have the figures of the entry's place, and where it has a tree, the changes say what stacks cost there
-pub record IsSnapshot (options : MassifOptions) (names : FunctionNames) (tables : TableState) (events : List Event) (changes : List Change) (entry : SnapEntry) (load : Load) : Type 0 where
+pub record IsSnapshot (options : MassifOptions) (names : FunctionNames) (tables : TableState)
+    (events : List Event) (changes : List Change) (entry : SnapEntry) (load : Load) : Type 0 where
   pub place : entry.place ≤ event_count events
   pub time : entry.time ≡ time_at options (ignores tables names) events entry.place
   pub total : entry.total ≡ gross_at options (ignores tables names) events entry.place
@@ -47,9 +51,11 @@ pub record IsSnapshot (options : MassifOptions) (names : FunctionNames) (tables 
   pub tree : WhereTree entry.kind (AreCostsAt names tables events entry.place changes)
 
 -- each entry and the load beside it
-abbrev pub AreSnapshots : MassifOptions → FunctionNames → TableState → List Event → List Change → List SnapEntry → List Load → Type 0
+abbrev pub AreSnapshots : MassifOptions → FunctionNames → TableState → List Event → List Change
+    → List SnapEntry → List Load → Type 0
 AreSnapshots options names tables events changes entries loads =
-    (k : ℕ) (entry : SnapEntry) (load : Load) → slice_get entries k ≡ Some entry → slice_get loads k ≡ Some load → IsSnapshot options names tables events changes entry load
+    (k : ℕ) (entry : SnapEntry) (load : Load) → slice_get entries k ≡ Some entry
+    → slice_get loads k ≡ Some load → IsSnapshot options names tables events changes entry load
 
 -- the event's stack is one of the tables
 abbrev pub IsOfStack : TableState → Event → Type 0
@@ -59,15 +65,18 @@ IsOfStack tables (Tick ms) = Unit {0}
 
 -- the stack of each event
 abbrev pub AreOfStacks : TableState → List Event → Type 0
-AreOfStacks tables events = (k : ℕ) (event : Event) → slice_get events k ≡ Some event → IsOfStack tables event
+AreOfStacks tables events = (k : ℕ) (event : Event) → slice_get events k ≡ Some event
+    → IsOfStack tables event
 
 -- the figures are those of the events, and the snapshots those that are kept of these offers; each stack that isn't marked costs
 -- what the history says, and each stack that the history knows has its texts
-pub record IsSampling (samples : SamplesState) (names : FunctionNames) (tables : TableState) (events : List Event) (made : List Offer) : Type 0 where
+pub record IsSampling (samples : SamplesState) (names : FunctionNames) (tables : TableState)
+    (events : List Event) (made : List Offer) : Type 0 where
   pub stacks : AreOfStacks tables events
   pub figures : AreFigures samples.options (ignores tables names) events samples.running
   pub array : array.StandsFor samples.array made
-  pub snapshots : AreSnapshots samples.options names tables events samples.history.changes samples.array.kept.entries samples.array.loads
+  pub snapshots : AreSnapshots samples.options names tables events samples.history.changes
+      samples.array.kept.entries samples.array.loads
   pub going : samples.failed ≡ false
   pub fronts : AreFronts samples.options names tables samples.fronts
   pub told : TellsNow samples.history (cost_at (ignores tables names) events (event_count events))
@@ -75,13 +84,16 @@ pub record IsSampling (samples : SamplesState) (names : FunctionNames) (tables :
 
 -- of each stack that was taken account of it is known whether it is ignored
 abbrev pub AreJudged : FunctionNames → TableState → List Bool → Type 0
-AreJudged names tables judged = (stack : ℕ) → stack < length judged → slice_get judged stack ≡ Some (ignores tables names stack)
+AreJudged names tables judged = (stack : ℕ) → stack < length judged
+    → slice_get judged stack ≡ Some (ignores tables names stack)
 
 -- the offers are those of the events
-pub record StandsFor (flags : List Bool) (samples : SamplesState) (names : FunctionNames) (tables : TableState) (events : List Event) : Type 0 where
+pub record StandsFor (flags : List Bool) (samples : SamplesState) (names : FunctionNames)
+    (tables : TableState) (events : List Event) : Type 0 where
   pub judged : AreJudged names tables flags
   pub held : length flags ≤ length tables.nodes + 1
-  pub sampling : IsSampling samples names tables events (offers samples.options (ignores tables names) events)
+  pub sampling : IsSampling samples names tables events
+      (offers samples.options (ignores tables names) events)
   pub some : 0 < length samples.array.kept.entries
 
 -- the event is one of a block of the stack

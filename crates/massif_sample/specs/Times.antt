@@ -11,7 +11,8 @@ use Rattle.massif_sample.specs.HeapTotals.{gross_weight}
 
 -- the gross bytes that an event allocates or frees, where it is counted
 abbrev pub moved_bytes : MassifOptions → (ℕ → Bool) → Event → ℕ
-moved_bytes options ignored event = alloc_weight (gross_weight options ignored) event + free_weight (gross_weight options ignored) event
+moved_bytes options ignored event = alloc_weight (gross_weight options ignored) event
+    + free_weight (gross_weight options ignored) event
 
 -- the clock value of an event, and 0 where it has none
 abbrev pub clock_value : Event → ℕ

@@ -8,7 +8,8 @@ use Rattle.massif_sample.specs.declared.options.MassifOptions.{MassifOptions}
 use Rattle.massif_sample.specs.declared.running.Running.{Running}
 use Rattle.massif_sample.specs.SamplesState.{SamplesState}
 
-abbrev pub state_of : MassifOptions → Running → ArrayState Load → Bool → List (List (List ℕ)) → HistoryState → SamplesState
+abbrev pub state_of : MassifOptions → Running → ArrayState Load → Bool → List (List (List ℕ))
+    → HistoryState → SamplesState
 state_of options running array failed fronts history = record {
   options = options;
   running = running;
@@ -20,4 +21,5 @@ state_of options running array failed fronts history = record {
 
 -- the offer of a snapshot with these figures
 abbrev pub offer_of : Running → Bool → Offer
-offer_of running as_peak = record { place = running.place; time = running.time; total = running.gross; peak = as_peak }
+offer_of running as_peak
+    = record { place = running.place; time = running.time; total = running.gross; peak = as_peak }

@@ -12,11 +12,14 @@ ghost use Rattle.massif_sample.specs.StandsFor.{StandsFor};
 /// A sampler stands for the same events when its tables have grown: what is ignored, the figures and the trees are all of
 /// stacks that were there before. It does nothing.
 pub fn sampling_goes_on()
-    ensures { (flags : List Bool) (samples : SamplesState) (names : FunctionNames) (before after : TableState) (events : List Event) →
-        StandsFor flags samples names before events → Continues before after → StandsFor flags samples names after events }
+    ensures { (flags : List Bool) (samples : SamplesState) (names : FunctionNames)
+        (before after : TableState) (events : List Event) →
+        StandsFor flags samples names before events → Continues before after
+        → StandsFor flags samples names after events }
 {}
 
 /// A size rounded up is the least multiple of the alignment that is no less than it. It does nothing.
 pub fn rounded_sizes()
-    ensures { (alignment size : ℕ) → 1 ≤ alignment → IsLeastMultiple alignment size (rounded_up alignment size) }
+    ensures { (alignment size : ℕ) → 1 ≤ alignment
+        → IsLeastMultiple alignment size (rounded_up alignment size) }
 {}

@@ -24,8 +24,12 @@ pub(crate) fn place_tree(
     total: u64,
     costs: &[u64],
 ) -> Result<Tree, NoMemory>
-    ensures { IfOk result (λ lines. (tables : TableState) (names : List (List ℕ)) → fronts.now ≡ first_lists tables names (options.now.depth + 1) (length fronts.now) →
-        lines ≡ massif_tree options.now total (costed (trimmed_before tables names (length fronts.now)) (padded (length fronts.now) costs.now))) }
+    ensures { IfOk result
+        (λ lines. (tables : TableState) (names : List (List ℕ))
+        → fronts.now ≡ first_lists tables names (options.now.depth + 1) (length fronts.now) →
+        lines ≡ massif_tree options.now total
+        (costed (trimmed_before tables names (length fronts.now))
+        (padded (length fronts.now) costs.now))) }
 {
     // What stacks cost together at a place is live there, and a trace allocates at most 2^62 bytes in all. So they always
     // are, and this only tells the bound.

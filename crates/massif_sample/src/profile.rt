@@ -25,8 +25,11 @@ pub(crate) fn take_snaps(
     replay: &mut Replay,
     options: &TreeOptions,
 ) -> Result<Snaps, NoMemory>
-    ensures { IfOk result (λ snaps. (tables : TableState) (names : List (List ℕ)) → fronts.now ≡ first_lists tables names (options.now.depth + 1) (length fronts.now) →
-        snaps ≡ all_made (told_tree options.now tables names (length fronts.now) replay.old.changes) array.old.kept.entries array.old.loads) }
+    ensures { IfOk result
+        (λ snaps. (tables : TableState) (names : List (List ℕ))
+        → fronts.now ≡ first_lists tables names (options.now.depth + 1) (length fronts.now) →
+        snaps ≡ all_made (told_tree options.now tables names (length fronts.now) replay.old.changes)
+        array.old.kept.entries array.old.loads) }
 {
     let mut snaps = Snaps::new(alloc);
     'each_snapshot: while let Some((entry, load)) = array.take_first() {
@@ -45,8 +48,11 @@ fn snapshot(
     replay: &mut Replay,
     options: &TreeOptions,
 ) -> Result<Snap, NoMemory>
-    ensures snap { IfOk result (λ snap. (tables : TableState) (names : List (List ℕ)) → fronts.now ≡ first_lists tables names (options.now.depth + 1) (length fronts.now) →
-        snap ≡ made (told_tree options.now tables names (length fronts.now) replay.old.changes) entry.now load) }
+    ensures snap { IfOk result
+        (λ snap. (tables : TableState) (names : List (List ℕ))
+        → fronts.now ≡ first_lists tables names (options.now.depth + 1) (length fronts.now) →
+        snap ≡ made (told_tree options.now tables names (length fronts.now) replay.old.changes)
+        entry.now load) }
     ensures changes { replay.new.changes ≡ replay.old.changes }
 {
     let tree = shown_tree(alloc, entry, fronts, replay, options)?;
@@ -79,8 +85,11 @@ fn shown_tree(
     replay: &mut Replay,
     options: &TreeOptions,
 ) -> Result<Tree, NoMemory>
-    ensures tree { IfOk result (λ shown. (tables : TableState) (names : List (List ℕ)) → fronts.now ≡ first_lists tables names (options.now.depth + 1) (length fronts.now) →
-        shown ≡ tree_of entry.now.kind (told_tree options.now tables names (length fronts.now) replay.old.changes entry.now)) }
+    ensures tree { IfOk result
+        (λ shown. (tables : TableState) (names : List (List ℕ))
+        → fronts.now ≡ first_lists tables names (options.now.depth + 1) (length fronts.now) →
+        shown ≡ tree_of entry.now.kind
+        (told_tree options.now tables names (length fronts.now) replay.old.changes entry.now)) }
     ensures changes { replay.new.changes ≡ replay.old.changes }
 {
     match entry.kind {
@@ -98,8 +107,11 @@ fn replayed_tree(
     replay: &mut Replay,
     options: &TreeOptions,
 ) -> Result<Tree, NoMemory>
-    ensures tree { IfOk result (λ shown. (tables : TableState) (names : List (List ℕ)) → fronts.now ≡ first_lists tables names (options.now.depth + 1) (length fronts.now) →
-        shown ≡ told_tree options.now tables names (length fronts.now) replay.old.changes entry.now) }
+    ensures tree { IfOk result
+        (λ shown. (tables : TableState) (names : List (List ℕ))
+        → fronts.now ≡ first_lists tables names (options.now.depth + 1) (length fronts.now) →
+        shown ≡ told_tree options.now tables names (length fronts.now) replay.old.changes
+        entry.now) }
     ensures changes { replay.new.changes ≡ replay.old.changes }
 {
     replay.move_to(entry.place);

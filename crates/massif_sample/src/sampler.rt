@@ -55,9 +55,12 @@ impl<A: Fn(&[u8]) -> bool, I: Fn(&[u8]) -> bool> Sampler<A, I> {
         requires options { AreInRange options }
         requires alloc_callable { A.IsAlwaysCallable alloc_fns.test }
         requires ignore_callable { I.IsAlwaysCallable ignore_fns.test }
-        ensures stands { IfOk result (λ sampler. (names : FunctionNames) → AreStated (FnReturnsAt A.Fn alloc_fns.test) (FnReturnsAt I.Fn ignore_fns.test) names →
+        ensures stands { IfOk result
+            (λ sampler. (names : FunctionNames)
+            → AreStated (FnReturnsAt A.Fn alloc_fns.test) (FnReturnsAt I.Fn ignore_fns.test) names →
             StandsFor sampler.judged.items sampler.samples names tables.now []) }
-        ensures judged { IfOk result (λ sampler. length sampler.judged.items ≡ length tables.now.nodes + 1) }
+        ensures judged { IfOk result
+            (λ sampler. length sampler.judged.items ≡ length tables.now.nodes + 1) }
         ensures options { IfOk result (λ sampler. sampler.samples.options ≡ options) }
         ensures alloc_fns { IfOk result (λ sampler. sampler.alloc_fns ≡ alloc_fns) }
         ensures ignore_fns { IfOk result (λ sampler. sampler.ignore_fns ≡ ignore_fns) }
@@ -79,9 +82,14 @@ impl<A: Fn(&[u8]) -> bool, I: Fn(&[u8]) -> bool> Sampler<A, I> {
         requires next { length self.old.judged.items ≤ length tables.now.nodes }
         requires alloc_callable { A.IsAlwaysCallable self.old.alloc_fns.test }
         requires ignore_callable { I.IsAlwaysCallable self.old.ignore_fns.test }
-        ensures stands { OnOk result ((names : FunctionNames) (events : List Event) → AreStated (FnReturnsAt A.Fn self.old.alloc_fns.test) (FnReturnsAt I.Fn self.old.ignore_fns.test) names →
-            StandsFor self.old.judged.items self.old.samples names tables.now events → StandsFor self.new.judged.items self.new.samples names tables.now events) }
-        ensures judged { OnOk result (length self.new.judged.items ≡ length self.old.judged.items + 1) }
+        ensures stands { OnOk result
+            ((names : FunctionNames) (events : List Event)
+            → AreStated (FnReturnsAt A.Fn self.old.alloc_fns.test)
+            (FnReturnsAt I.Fn self.old.ignore_fns.test) names →
+            StandsFor self.old.judged.items self.old.samples names tables.now events
+            → StandsFor self.new.judged.items self.new.samples names tables.now events) }
+        ensures judged { OnOk result
+            (length self.new.judged.items ≡ length self.old.judged.items + 1) }
         ensures unchanged { OnErr result (self.new.judged.items ≡ self.old.judged.items) }
         ensures samples { self.new.samples ≡ self.old.samples }
         ensures alloc_fns { self.new.alloc_fns ≡ self.old.alloc_fns }
@@ -122,20 +130,38 @@ impl<A: Fn(&[u8]) -> bool, I: Fn(&[u8]) -> bool> Sampler<A, I> {
         requires judged { length self.old.judged.items ≡ length tables.now.nodes + 1 }
         requires callable { A.IsAlwaysCallable self.old.alloc_fns.test }
         requires stands { self.old.samples.failed ≡ false →
-            (names : FunctionNames) × (events : List Event) × StandsFor self.old.judged.items self.old.samples names tables.now events × ledger_spec.StandsFor ledger.old events }
-        ensures stands { OnOk result ((names : FunctionNames) (events : List Event) → AreStated (FnReturnsAt A.Fn self.old.alloc_fns.test) (FnReturnsAt I.Fn self.old.ignore_fns.test) names →
-            StandsFor self.old.judged.items self.old.samples names tables.now events → ledger_spec.StandsFor ledger.old events →
-            StandsFor self.new.judged.items self.new.samples names tables.now (events ++ event ∷ [])) }
-        ensures fault { (names : FunctionNames) (events : List Event) → StandsFor self.old.judged.items self.old.samples names tables.now events → ledger_spec.StandsFor ledger.old events →
-            Tells result (sample_fault self.old.samples.options (ignores tables.now names) events event) }
-        ensures due { result ≡ Err OutOfMemory → (names : FunctionNames) (events : List Event) → AreStated (FnReturnsAt A.Fn self.old.alloc_fns.test) (FnReturnsAt I.Fn self.old.ignore_fns.test) names →
-            StandsFor self.old.judged.items self.old.samples names tables.now events → ledger_spec.StandsFor ledger.old events →
+            (names : FunctionNames) × (events : List Event)
+            × StandsFor self.old.judged.items self.old.samples names tables.now events
+            × ledger_spec.StandsFor ledger.old events }
+        ensures stands { OnOk result
+            ((names : FunctionNames) (events : List Event)
+            → AreStated (FnReturnsAt A.Fn self.old.alloc_fns.test)
+            (FnReturnsAt I.Fn self.old.ignore_fns.test) names →
+            StandsFor self.old.judged.items self.old.samples names tables.now events
+            → ledger_spec.StandsFor ledger.old events →
+            StandsFor self.new.judged.items self.new.samples names tables.now
+            (events ++ event ∷ [])) }
+        ensures fault { (names : FunctionNames) (events : List Event)
+            → StandsFor self.old.judged.items self.old.samples names tables.now events
+            → ledger_spec.StandsFor ledger.old events →
+            Tells result (sample_fault self.old.samples.options (ignores tables.now names) events
+            event) }
+        ensures due { result ≡ Err OutOfMemory → (names : FunctionNames) (events : List Event)
+            → AreStated (FnReturnsAt A.Fn self.old.alloc_fns.test)
+            (FnReturnsAt I.Fn self.old.ignore_fns.test) names →
+            StandsFor self.old.judged.items self.old.samples names tables.now events
+            → ledger_spec.StandsFor ledger.old events →
             IsDue self.old.samples.options (ignores tables.now names) events event }
         ensures failed { result ≡ Err OutOfMemory → self.new.samples.failed ≡ true }
-        ensures failed_before { self.old.samples.failed ≡ true → (result ≡ Err OutOfMemory) × (self.new.samples ≡ self.old.samples) × (ledger.new ≡ ledger.old) }
-        ensures unchanged { IfErr result (λ fault. fault ≢ OutOfMemory → (self.new.samples ≡ self.old.samples) × (ledger.new ≡ ledger.old)) }
+        ensures failed_before { self.old.samples.failed ≡ true
+            → (result ≡ Err OutOfMemory) × (self.new.samples ≡ self.old.samples)
+            × (ledger.new ≡ ledger.old) }
+        ensures unchanged { IfErr result
+            (λ fault. fault ≢ OutOfMemory
+            → (self.new.samples ≡ self.old.samples) × (ledger.new ≡ ledger.old)) }
         ensures applied { OnOk result (HasApplied ledger.old ledger.new event) }
-        ensures applied_or_not { (ledger.new ≡ ledger.old) ⊎ HasApplied ledger.old ledger.new event }
+        ensures applied_or_not { (ledger.new ≡ ledger.old)
+            ⊎ HasApplied ledger.old ledger.new event }
         ensures options { self.new.samples.options ≡ self.old.samples.options }
         ensures judged { self.new.judged.items ≡ self.old.judged.items }
         ensures alloc_fns { self.new.alloc_fns ≡ self.old.alloc_fns }
@@ -166,8 +192,10 @@ impl<A: Fn(&[u8]) -> bool, I: Fn(&[u8]) -> bool> Sampler<A, I> {
     /// The profile of the events, with the command of a trace, which is empty where the trace has none. `NoMemory` where
     /// memory is wanting, and always after an `event` that answered it.
     pub fn finish(self, cmd: &[u8]) -> Result<Profile, NoMemory>
-        ensures profile { IfOk result (λ profile. (names : FunctionNames) (tables : TableState) (events : List Event) →
-            StandsFor self.judged.items self.samples names tables events → profile ≡ sampled self.samples.options names tables events cmd.now) }
+        ensures profile { IfOk result
+            (λ profile. (names : FunctionNames) (tables : TableState) (events : List Event) →
+            StandsFor self.judged.items self.samples names tables events
+            → profile ≡ sampled self.samples.options names tables events cmd.now) }
         ensures failed { self.samples.failed ≡ true → IsErr result }
     {
         let Sampler { samples, .. } = self;
@@ -185,7 +213,10 @@ fn judge_stacks<A: Fn(&[u8]) -> bool, I: Fn(&[u8]) -> bool>(
     requires alloc_callable { A.IsAlwaysCallable alloc_fns.now.test }
     requires ignore_callable { I.IsAlwaysCallable ignore_fns.now.test }
     ensures count { IfOk result (λ judged. length judged.items ≡ length tables.now.nodes + 1) }
-    ensures judged { IfOk result (λ judged. (names : FunctionNames) → AreStated (FnReturnsAt A.Fn alloc_fns.now.test) (FnReturnsAt I.Fn ignore_fns.now.test) names →
+    ensures judged { IfOk result
+        (λ judged. (names : FunctionNames)
+        → AreStated (FnReturnsAt A.Fn alloc_fns.now.test) (FnReturnsAt I.Fn ignore_fns.now.test)
+        names →
         AreJudged names tables.now judged.items) }
 {
     let mut frames = Vec::new(alloc);

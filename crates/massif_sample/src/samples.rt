@@ -59,9 +59,13 @@ impl Model for Samples {
 
     ghost Value = { SamplesState };
 
-    ghost view = { λ samples. state_of samples.options samples.running samples.array samples.failed samples.fronts samples.history };
+    ghost view = { λ samples.
+        state_of samples.options samples.running samples.array samples.failed samples.fronts
+        samples.history };
 
-    ghost invariant = { λ samples. IsSound (state_of samples.options samples.running samples.array samples.failed samples.fronts samples.history) };
+    ghost invariant = { λ samples.
+        IsSound (state_of samples.options samples.running samples.array samples.failed
+        samples.fronts samples.history) };
 }
 
 impl Samples {
@@ -75,7 +79,9 @@ impl Samples {
         ensures options { IfOk result (λ samples. samples.options ≡ options) }
         ensures running { IfOk result (λ samples. samples.running ≡ no_figures) }
         ensures fronts { IfOk result (λ samples. samples.fronts ≡ []) }
-        ensures sampling { IfOk result (λ samples. (names : FunctionNames) (tables : TableState) → IsSampling samples names tables [] []) }
+        ensures sampling { IfOk result
+            (λ samples. (names : FunctionNames) (tables : TableState)
+            → IsSampling samples names tables [] []) }
     {
         let array = SnapArray::new(
             alloc,
@@ -141,11 +147,18 @@ impl Samples {
     pub(crate) fn judge(&self, as_peak: bool) -> Taken
         requires within { self.now.running.time ≤ 2 ^ 62 }
         requires first { as_peak ≡ true → 0 < length self.now.array.kept.entries }
-        ensures taken { result ≡ taken_as (settings_of self.now.options) self.now.array.kept (offer_of self.now.running as_peak) }
-        ensures of_sampling { (names : FunctionNames) (tables : TableState) (events : List Event) (made : List Offer) → IsSampling self.now names tables events made →
-            result ≡ taken_as (settings_of self.now.options) (kept_of (settings_of self.now.options) made) (offer_of self.now.running as_peak) }
-        ensures passed { result ≡ No → (names : FunctionNames) (tables : TableState) (events : List Event) (made : List Offer) → IsSampling self.now names tables events made →
-            IsSampling self.now names tables events (made ++ offer_of self.now.running as_peak ∷ []) }
+        ensures taken { result
+            ≡ taken_as (settings_of self.now.options) self.now.array.kept
+            (offer_of self.now.running as_peak) }
+        ensures of_sampling { (names : FunctionNames) (tables : TableState) (events : List Event)
+            (made : List Offer) → IsSampling self.now names tables events made →
+            result ≡ taken_as (settings_of self.now.options)
+            (kept_of (settings_of self.now.options) made) (offer_of self.now.running as_peak) }
+        ensures passed { result ≡ No
+            → (names : FunctionNames) (tables : TableState) (events : List Event)
+            (made : List Offer) → IsSampling self.now names tables events made →
+            IsSampling self.now names tables events
+            (made ++ offer_of self.now.running as_peak ∷ []) }
         ensures some { result ≡ No → 0 < length self.now.array.kept.entries }
     {
         let offer = self.offer(as_peak);
@@ -162,8 +175,11 @@ impl Samples {
         requires callable { A.IsAlwaysCallable alloc_fns.now.test }
         ensures samples { self.new ≡ record self.old { fronts = self.new.fronts } }
         ensures count { OnOk result (length self.new.fronts ≡ length tables.now.nodes + 1) }
-        ensures sampling { OnOk result ((names : FunctionNames) (events : List Event) (made : List Offer) → AreTexts (FnReturnsAt A.Fn alloc_fns.now.test) names.alloc_fns →
-            IsSampling self.old names tables.now events made → IsSampling self.new names tables.now events made) }
+        ensures sampling { OnOk result
+            ((names : FunctionNames) (events : List Event) (made : List Offer)
+            → AreTexts (FnReturnsAt A.Fn alloc_fns.now.test) names.alloc_fns →
+            IsSampling self.old names tables.now events made
+            → IsSampling self.new names tables.now events made) }
     {
         let options = self.tree_options();
         add_trimmed(self.alloc, tables, alloc_fns, &options, &mut self.fronts)
@@ -175,13 +191,24 @@ impl Samples {
         requires callable { (stack : ℕ) → stack < stacks → F.pre cost.now stack }
         requires fronts { stacks ≡ length self.old.fronts }
         ensures samples { self.new ≡ record self.old { history = self.new.history } }
-        ensures sampling { OnOk result ((names : FunctionNames) (tables : TableState) (events : List Event) (made : List Offer) →
-            AreSaid (F.post cost.now) stacks (cost_at (ignores tables names) events (event_count events)) →
-            IsSampling self.old names tables events made → IsSampling self.new names tables events made) }
-        ensures costs { OnOk result ((names : FunctionNames) (tables : TableState) (events : List Event) (made : List Offer) →
-            AreSaid (F.post cost.now) stacks (cost_at (ignores tables names) events (event_count events)) →
-            IsSampling self.old names tables events made → AreCostsAt names tables events (event_count events) self.new.history.changes) }
-        ensures few { OnOk result (length self.new.history.changes ≤ self.new.history.left + self.new.history.left + self.old.history.stacks + length (candidates self.old.history.marks stacks)) }
+        ensures sampling { OnOk result
+            ((names : FunctionNames) (tables : TableState) (events : List Event) (made : List Offer)
+            →
+            AreSaid (F.post cost.now) stacks
+            (cost_at (ignores tables names) events (event_count events)) →
+            IsSampling self.old names tables events made
+            → IsSampling self.new names tables events made) }
+        ensures costs { OnOk result
+            ((names : FunctionNames) (tables : TableState) (events : List Event) (made : List Offer)
+            →
+            AreSaid (F.post cost.now) stacks
+            (cost_at (ignores tables names) events (event_count events)) →
+            IsSampling self.old names tables events made
+            → AreCostsAt names tables events (event_count events) self.new.history.changes) }
+        ensures few { OnOk result
+            (length self.new.history.changes
+            ≤ self.new.history.left + self.new.history.left + self.old.history.stacks
+            + length (candidates self.old.history.marks stacks)) }
     {
         self.thin()?;
         self.history.keep(self.running.place, stacks, cost)?;
@@ -190,11 +217,18 @@ impl Samples {
 
     /// Takes out the costs that no snapshot shows any more, where there are enough of them. On `NoMemory` nothing is taken out.
     fn thin(&mut self) -> Result<(), NoMemory>
-        ensures samples { self.new ≡ record self.old { history = record self.old.history { changes = self.new.history.changes; left = self.new.history.left } } }
+        ensures samples { self.new
+            ≡ record self.old {
+              history = record self.old.history
+                  { changes = self.new.history.changes; left = self.new.history.left };
+            } }
         ensures roomy { OnOk result (IsRoomy self.new.history) }
-        ensures tells { (costs : ℕ → ℕ) → TellsNow self.old.history costs → TellsNow self.new.history costs }
-        ensures sampling { (names : FunctionNames) (tables : TableState) (events : List Event) (made : List Offer) →
-            IsSampling self.old names tables events made → IsSampling self.new names tables events made }
+        ensures tells { (costs : ℕ → ℕ) → TellsNow self.old.history costs
+            → TellsNow self.new.history costs }
+        ensures sampling { (names : FunctionNames) (tables : TableState) (events : List Event)
+            (made : List Offer) →
+            IsSampling self.old names tables events made
+            → IsSampling self.new names tables events made }
     {
         if !self.history.is_crowded() {
             return Ok(());
@@ -214,10 +248,14 @@ impl Samples {
         ensures failed { self.new.failed ≡ self.old.failed }
         ensures fronts { self.new.fronts ≡ self.old.fronts }
         ensures some { 0 < length self.new.array.kept.entries }
-        ensures sampling { (names : FunctionNames) (tables : TableState) (events : List Event) (made : List Offer) →
-            (taken_as (settings_of self.old.options) self.old.array.kept (offer_of self.old.running as_peak) ≡ Normal)
+        ensures sampling { (names : FunctionNames) (tables : TableState) (events : List Event)
+            (made : List Offer) →
+            (taken_as (settings_of self.old.options) self.old.array.kept
+            (offer_of self.old.running as_peak) ≡ Normal)
             ⊎ AreCostsAt names tables events (event_count events) self.old.history.changes →
-            IsSampling self.old names tables events made → IsSampling self.new names tables events (made ++ offer_of self.old.running as_peak ∷ []) }
+            IsSampling self.old names tables events made
+            → IsSampling self.new names tables events
+            (made ++ offer_of self.old.running as_peak ∷ []) }
     {
         let offer = self.offer(as_peak);
         let load = Load {
@@ -232,10 +270,12 @@ impl Samples {
     pub(crate) fn allocated(&self, size: u64) -> Option<Running>
         requires place { self.now.running.place < 2 ^ 32 }
         requires size { size ≤ 2 ^ 62 }
-        ensures next { IfSome result (λ next. next ≡ with_alloc self.now.options self.now.running size) }
+        ensures next { IfSome result
+            (λ next. next ≡ with_alloc self.now.options self.now.running size) }
         ensures fits { IfSome result (λ next. passes_most next ≡ false) }
         ensures follows { IfSome result (λ next. Follows self.now.options self.now.running next) }
-        ensures none { IfNone result (passes_most (with_alloc self.now.options self.now.running size) ≡ true) }
+        ensures none { IfNone result
+            (passes_most (with_alloc self.now.options self.now.running size) ≡ true) }
     {
         self.running.allocated(&self.options, size).bounded()
     }
@@ -245,10 +285,12 @@ impl Samples {
     pub(crate) fn freed(&self, size: u64) -> Option<Running>
         requires place { self.now.running.place < 2 ^ 32 }
         requires block { HasBlock self.now.options self.now.running size }
-        ensures next { IfSome result (λ next. next ≡ with_free self.now.options self.now.running size) }
+        ensures next { IfSome result
+            (λ next. next ≡ with_free self.now.options self.now.running size) }
         ensures fits { IfSome result (λ next. passes_most next ≡ false) }
         ensures follows { IfSome result (λ next. Follows self.now.options self.now.running next) }
-        ensures none { IfNone result (passes_most (with_free self.now.options self.now.running size) ≡ true) }
+        ensures none { IfNone result
+            (passes_most (with_free self.now.options self.now.running size) ≡ true) }
     {
         self.running.freed(&self.options, size).bounded()
     }
@@ -257,9 +299,12 @@ impl Samples {
     #[inline(always)]
     pub(crate) fn move_to(&mut self, next: Running, stack: u32)
         requires follows { Follows self.old.options self.old.running next }
-        ensures samples { self.new ≡ record self.old { running = next; history = self.new.history } }
-        ensures sampling { (names : FunctionNames) (tables : TableState) (events : List Event) (made : List Offer) (event : Event) →
-            IsSampling self.old names tables events made → IsOfStack tables event → IsIn stack event →
+        ensures samples { self.new
+            ≡ record self.old { running = next; history = self.new.history } }
+        ensures sampling { (names : FunctionNames) (tables : TableState) (events : List Event)
+            (made : List Offer) (event : Event) →
+            IsSampling self.old names tables events made → IsOfStack tables event → IsIn stack event
+            →
             AreFigures self.old.options (ignores tables names) (events ++ event ∷ []) next →
             IsSampling self.new names tables (events ++ event ∷ []) made }
     {
@@ -277,7 +322,8 @@ impl Samples {
     /// Moves on to the place behind an event that isn't counted.
     pub(crate) fn pass(&mut self)
         requires place { self.old.running.place < 2 ^ 32 }
-        ensures { self.new ≡ record self.old { running = passed self.old.options self.old.running } }
+        ensures { self.new ≡ record self.old
+            { running = passed self.old.options self.old.running } }
     {
         self.running = self.running.passed(&self.options);
     }
@@ -293,9 +339,13 @@ impl Samples {
     /// wanting for a snapshot.
     pub(crate) fn into_profile(self, cmd: &[u8]) -> Result<Profile, NoMemory>
         ensures failed { self.failed ≡ true → IsErr result }
-        ensures profile { IfOk result (λ profile. (tables : TableState) (names : List (List ℕ)) → self.fronts ≡ first_lists tables names (self.options.depth + 1) (length self.fronts) →
+        ensures profile { IfOk result
+            (λ profile. (tables : TableState) (names : List (List ℕ))
+            → self.fronts ≡ first_lists tables names (self.options.depth + 1) (length self.fronts) →
             profile ≡ profile_made self tables names cmd.now) }
-        ensures none { OnOk result ((place stack : ℕ) → self.history.stacks ≤ stack → history.cost_at self.history.changes place stack ≡ 0) }
+        ensures none { OnOk result
+            ((place stack : ℕ) → self.history.stacks ≤ stack
+            → history.cost_at self.history.changes place stack ≡ 0) }
         ensures sound { IsSound self }
         ensures array { array.IsSound self.array }
     {
@@ -328,7 +378,9 @@ impl Samples {
 
 /// The places of the snapshots that have a tree, or `NoMemory`.
 fn tree_places(alloc: Global, array: &SnapArray<Load>) -> Result<Vec<u64>, NoMemory>
-    ensures { IfOk result (λ places. (k : ℕ) (entry : SnapEntry) → slice_get array.now.kept.entries k ≡ Some entry → shows_tree entry.kind ≡ true → Contains places.items entry.place) }
+    ensures { IfOk result
+        (λ places. (k : ℕ) (entry : SnapEntry) → slice_get array.now.kept.entries k ≡ Some entry
+        → shows_tree entry.kind ≡ true → Contains places.items entry.place) }
 {
     let mut entries = Vec::with_capacity(alloc, array.len() as usize)?;
     array.entries_into(&mut entries);
@@ -337,7 +389,9 @@ fn tree_places(alloc: Global, array: &SnapArray<Load>) -> Result<Vec<u64>, NoMem
 
 /// Those of the entries that have one.
 fn places_with_tree(alloc: Global, entries: &[SnapEntry]) -> Result<Vec<u64>, NoMemory>
-    ensures { IfOk result (λ places. (k : ℕ) (entry : SnapEntry) → slice_get entries.now k ≡ Some entry → shows_tree entry.kind ≡ true → Contains places.items entry.place) }
+    ensures { IfOk result
+        (λ places. (k : ℕ) (entry : SnapEntry) → slice_get entries.now k ≡ Some entry
+        → shows_tree entry.kind ≡ true → Contains places.items entry.place) }
 {
     let mut places = Vec::new(alloc);
     'entries: for entry in entries {

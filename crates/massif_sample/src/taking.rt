@@ -51,16 +51,25 @@ pub(crate) fn sample<A: Fn(&[u8]) -> bool, F: Fn(u32) -> u64>(
 ) -> Result<(), NoMemory>
     requires within { samples.old.running.time ≤ 2 ^ 62 }
     requires first { as_peak ≡ true → 0 < length samples.old.array.kept.entries }
-    requires cost_callable { (stack : ℕ) → stack < length tables.now.nodes + 1 → F.pre cost.now stack }
+    requires cost_callable { (stack : ℕ) → stack < length tables.now.nodes + 1
+        → F.pre cost.now stack }
     requires fronts { length samples.old.fronts ≤ length tables.now.nodes + 1 }
     requires callable { A.IsAlwaysCallable alloc_fns.now.test }
-    ensures sampling { OnOk result ((names : FunctionNames) (events : List Event) (made : List Offer) →
+    ensures sampling { OnOk result
+        ((names : FunctionNames) (events : List Event) (made : List Offer) →
         AreTexts (FnReturnsAt A.Fn alloc_fns.now.test) names.alloc_fns →
-        AreSaid (F.post cost.now) (length tables.now.nodes + 1) (cost_at (ignores tables.now names) events (event_count events)) →
+        AreSaid (F.post cost.now) (length tables.now.nodes + 1)
+        (cost_at (ignores tables.now names) events (event_count events)) →
         IsSampling samples.old names tables.now events made →
-        IsSampling samples.new names tables.now events (made ++ offer_at samples.old.options (ignores tables.now names) events as_peak (event_count events) ∷ [])) }
-    ensures due { OnErr result ((names : FunctionNames) (events : List Event) (made : List Offer) → IsSampling samples.old names tables.now events made →
-        IsTakenAs samples.old.options made (offer_at samples.old.options (ignores tables.now names) events as_peak (event_count events)) (with_tree as_peak)) }
+        IsSampling samples.new names tables.now events
+        (made ++ offer_at samples.old.options (ignores tables.now names) events as_peak
+        (event_count events) ∷ [])) }
+    ensures due { OnErr result
+        ((names : FunctionNames) (events : List Event) (made : List Offer)
+        → IsSampling samples.old names tables.now events made →
+        IsTakenAs samples.old.options made
+        (offer_at samples.old.options (ignores tables.now names) events as_peak
+        (event_count events)) (with_tree as_peak)) }
     ensures options { samples.new.options ≡ samples.old.options }
     ensures running { samples.new.running ≡ samples.old.running }
     ensures failed { samples.new.failed ≡ samples.old.failed }
@@ -86,19 +95,33 @@ fn take_due<A: Fn(&[u8]) -> bool, F: Fn(u32) -> u64>(
     requires within { samples.old.running.time ≤ 2 ^ 62 }
     requires first { as_peak ≡ true → 0 < length samples.old.array.kept.entries }
     requires some { taken ≢ No }
-    requires judged { taken ≡ taken_as (settings_of samples.old.options) samples.old.array.kept (offer_of samples.old.running as_peak) }
-    requires of_sampling { (names : FunctionNames) (tables : TableState) (events : List Event) (made : List Offer) → IsSampling samples.old names tables events made →
-        taken ≡ taken_as (settings_of samples.old.options) (kept_of (settings_of samples.old.options) made) (offer_of samples.old.running as_peak) }
-    requires cost_callable { (stack : ℕ) → stack < length tables.now.nodes + 1 → F.pre cost.now stack }
+    requires judged { taken
+        ≡ taken_as (settings_of samples.old.options) samples.old.array.kept
+        (offer_of samples.old.running as_peak) }
+    requires of_sampling { (names : FunctionNames) (tables : TableState) (events : List Event)
+        (made : List Offer)
+        → IsSampling samples.old names tables events made →
+        taken ≡ taken_as (settings_of samples.old.options)
+        (kept_of (settings_of samples.old.options) made) (offer_of samples.old.running as_peak) }
+    requires cost_callable { (stack : ℕ) → stack < length tables.now.nodes + 1
+        → F.pre cost.now stack }
     requires fronts { length samples.old.fronts ≤ length tables.now.nodes + 1 }
     requires callable { A.IsAlwaysCallable alloc_fns.now.test }
-    ensures sampling { OnOk result ((names : FunctionNames) (events : List Event) (made : List Offer) →
+    ensures sampling { OnOk result
+        ((names : FunctionNames) (events : List Event) (made : List Offer) →
         AreTexts (FnReturnsAt A.Fn alloc_fns.now.test) names.alloc_fns →
-        AreSaid (F.post cost.now) (length tables.now.nodes + 1) (cost_at (ignores tables.now names) events (event_count events)) →
+        AreSaid (F.post cost.now) (length tables.now.nodes + 1)
+        (cost_at (ignores tables.now names) events (event_count events)) →
         IsSampling samples.old names tables.now events made →
-        IsSampling samples.new names tables.now events (made ++ offer_at samples.old.options (ignores tables.now names) events as_peak (event_count events) ∷ [])) }
-    ensures due { OnErr result ((names : FunctionNames) (events : List Event) (made : List Offer) → IsSampling samples.old names tables.now events made →
-        IsTakenAs samples.old.options made (offer_at samples.old.options (ignores tables.now names) events as_peak (event_count events)) (with_tree as_peak)) }
+        IsSampling samples.new names tables.now events
+        (made ++ offer_at samples.old.options (ignores tables.now names) events as_peak
+        (event_count events) ∷ [])) }
+    ensures due { OnErr result
+        ((names : FunctionNames) (events : List Event) (made : List Offer)
+        → IsSampling samples.old names tables.now events made →
+        IsTakenAs samples.old.options made
+        (offer_at samples.old.options (ignores tables.now names) events as_peak
+        (event_count events)) (with_tree as_peak)) }
     ensures options { samples.new.options ≡ samples.old.options }
     ensures running { samples.new.running ≡ samples.old.running }
     ensures failed { samples.new.failed ≡ samples.old.failed }
@@ -143,13 +166,20 @@ fn sample_ledger<A: Fn(&[u8]) -> bool>(
     requires judged { length judged.now ≡ length tables.now.nodes + 1 }
     requires fronts { length samples.old.fronts ≤ length tables.now.nodes + 1 }
     requires callable { A.IsAlwaysCallable alloc_fns.now.test }
-    ensures sampling { OnOk result ((names : FunctionNames) (events : List Event) (made : List Offer) →
+    ensures sampling { OnOk result
+        ((names : FunctionNames) (events : List Event) (made : List Offer) →
         AreTexts (FnReturnsAt A.Fn alloc_fns.now.test) names.alloc_fns →
         AreJudged names tables.now judged.now → ledger_spec.StandsFor ledger.now events →
         IsSampling samples.old names tables.now events made →
-        IsSampling samples.new names tables.now events (made ++ offer_at samples.old.options (ignores tables.now names) events as_peak (event_count events) ∷ [])) }
-    ensures due { OnErr result ((names : FunctionNames) (events : List Event) (made : List Offer) → IsSampling samples.old names tables.now events made →
-        IsTakenAs samples.old.options made (offer_at samples.old.options (ignores tables.now names) events as_peak (event_count events)) (with_tree as_peak)) }
+        IsSampling samples.new names tables.now events
+        (made ++ offer_at samples.old.options (ignores tables.now names) events as_peak
+        (event_count events) ∷ [])) }
+    ensures due { OnErr result
+        ((names : FunctionNames) (events : List Event) (made : List Offer)
+        → IsSampling samples.old names tables.now events made →
+        IsTakenAs samples.old.options made
+        (offer_at samples.old.options (ignores tables.now names) events as_peak
+        (event_count events)) (with_tree as_peak)) }
     ensures options { samples.new.options ≡ samples.old.options }
     ensures running { samples.new.running ≡ samples.old.running }
     ensures failed { samples.new.failed ≡ samples.old.failed }
@@ -181,18 +211,22 @@ fn advance<A: Fn(&[u8]) -> bool>(
     requires fronts { length samples.old.fronts ≤ length tables.now.nodes + 1 }
     requires callable { A.IsAlwaysCallable alloc_fns.now.test }
     requires follows { Follows samples.old.options samples.old.running next }
-    ensures sampling { OnOk result ((names : FunctionNames) (events : List Event) (made : List Offer) →
+    ensures sampling { OnOk result
+        ((names : FunctionNames) (events : List Event) (made : List Offer) →
         AreTexts (FnReturnsAt A.Fn alloc_fns.now.test) names.alloc_fns →
         AreJudged names tables.now judged.now → ledger_spec.StandsFor ledger.old events →
         IsSampling samples.old names tables.now events made → IsOfStack tables.now event →
         AreFigures samples.old.options (ignores tables.now names) (events ++ event ∷ []) next →
         IsSampling samples.new names tables.now (events ++ event ∷ [])
-        (made ++ offer_at samples.old.options (ignores tables.now names) (events ++ event ∷ []) false (event_count (events ++ event ∷ [])) ∷ [])) }
+        (made ++ offer_at samples.old.options (ignores tables.now names) (events ++ event ∷ [])
+        false (event_count (events ++ event ∷ [])) ∷ [])) }
     ensures only { IfErr result (λ fault. fault ≡ OutOfMemory) }
     ensures due { OnErr result ((names : FunctionNames) (events : List Event) (made : List Offer) →
         IsSampling samples.old names tables.now events made → IsOfStack tables.now event →
         AreFigures samples.old.options (ignores tables.now names) (events ++ event ∷ []) next →
-        IsTakenAs samples.old.options made (offer_at samples.old.options (ignores tables.now names) (events ++ event ∷ []) false (event_count (events ++ event ∷ []))) Detailed) }
+        IsTakenAs samples.old.options made
+        (offer_at samples.old.options (ignores tables.now names) (events ++ event ∷ []) false
+        (event_count (events ++ event ∷ []))) Detailed) }
     ensures options { samples.new.options ≡ samples.old.options }
     ensures some { OnOk result (0 < length samples.new.array.kept.entries) }
     ensures applied { HasApplied ledger.old ledger.new event }
@@ -211,7 +245,8 @@ fn pass(samples: &mut Samples, event: Event, ledger: &mut Ledger) -> Result<(), 
     requires no_fault { fault_at ledger.old event ≡ None }
     requires place { samples.old.running.place < 2 ^ 32 }
     ensures ok { IsOk result }
-    ensures samples { samples.new ≡ record samples.old { running = passed samples.old.options samples.old.running } }
+    ensures samples { samples.new
+        ≡ record samples.old { running = passed samples.old.options samples.old.running } }
     ensures applied { HasApplied ledger.old ledger.new event }
 {
     ledger.apply(event)?;
@@ -247,16 +282,26 @@ pub(crate) fn take_event<A: Fn(&[u8]) -> bool>(
     requires stacks { ledger.old.stacks ≡ length tables.now.nodes + 1 }
     requires judged { length judged.now ≡ length tables.now.nodes + 1 }
     requires callable { A.IsAlwaysCallable alloc_fns.now.test }
-    requires stands { (names : FunctionNames) × (events : List Event) × StandsFor judged.now samples.old names tables.now events × ledger_spec.StandsFor ledger.old events }
-    ensures stands { OnOk result ((names : FunctionNames) (events : List Event) → AreTexts (FnReturnsAt A.Fn alloc_fns.now.test) names.alloc_fns →
-        StandsFor judged.now samples.old names tables.now events → ledger_spec.StandsFor ledger.old events →
+    requires stands { (names : FunctionNames) × (events : List Event)
+        × StandsFor judged.now samples.old names tables.now events
+        × ledger_spec.StandsFor ledger.old events }
+    ensures stands { OnOk result
+        ((names : FunctionNames) (events : List Event)
+        → AreTexts (FnReturnsAt A.Fn alloc_fns.now.test) names.alloc_fns →
+        StandsFor judged.now samples.old names tables.now events
+        → ledger_spec.StandsFor ledger.old events →
         StandsFor judged.now samples.new names tables.now (events ++ event ∷ [])) }
-    ensures fault { (names : FunctionNames) (events : List Event) → StandsFor judged.now samples.old names tables.now events → ledger_spec.StandsFor ledger.old events →
+    ensures fault { (names : FunctionNames) (events : List Event)
+        → StandsFor judged.now samples.old names tables.now events
+        → ledger_spec.StandsFor ledger.old events →
         Tells result (sample_fault samples.old.options (ignores tables.now names) events event) }
-    ensures due { result ≡ Err OutOfMemory → (names : FunctionNames) (events : List Event) → AreTexts (FnReturnsAt A.Fn alloc_fns.now.test) names.alloc_fns →
-        StandsFor judged.now samples.old names tables.now events → ledger_spec.StandsFor ledger.old events →
+    ensures due { result ≡ Err OutOfMemory → (names : FunctionNames) (events : List Event)
+        → AreTexts (FnReturnsAt A.Fn alloc_fns.now.test) names.alloc_fns →
+        StandsFor judged.now samples.old names tables.now events
+        → ledger_spec.StandsFor ledger.old events →
         IsDue samples.old.options (ignores tables.now names) events event }
-    ensures unchanged { IfErr result (λ fault. fault ≢ OutOfMemory → (samples.new ≡ samples.old) × (ledger.new ≡ ledger.old)) }
+    ensures unchanged { IfErr result
+        (λ fault. fault ≢ OutOfMemory → (samples.new ≡ samples.old) × (ledger.new ≡ ledger.old)) }
     ensures options { samples.new.options ≡ samples.old.options }
     ensures applied { OnOk result (HasApplied ledger.old ledger.new event) }
     ensures applied_or_not { (ledger.new ≡ ledger.old) ⊎ HasApplied ledger.old ledger.new event }
@@ -289,19 +334,31 @@ fn take_alloc<A: Fn(&[u8]) -> bool>(
     requires stacks { ledger.old.stacks ≡ length tables.now.nodes + 1 }
     requires judged { length judged.now ≡ length tables.now.nodes + 1 }
     requires callable { A.IsAlwaysCallable alloc_fns.now.test }
-    requires stands { (names : FunctionNames) × (events : List Event) × StandsFor judged.now samples.old names tables.now events × ledger_spec.StandsFor ledger.old events }
-    ensures stands { OnOk result ((names : FunctionNames) (events : List Event) → AreTexts (FnReturnsAt A.Fn alloc_fns.now.test) names.alloc_fns →
-        StandsFor judged.now samples.old names tables.now events → ledger_spec.StandsFor ledger.old events →
+    requires stands { (names : FunctionNames) × (events : List Event)
+        × StandsFor judged.now samples.old names tables.now events
+        × ledger_spec.StandsFor ledger.old events }
+    ensures stands { OnOk result
+        ((names : FunctionNames) (events : List Event)
+        → AreTexts (FnReturnsAt A.Fn alloc_fns.now.test) names.alloc_fns →
+        StandsFor judged.now samples.old names tables.now events
+        → ledger_spec.StandsFor ledger.old events →
         StandsFor judged.now samples.new names tables.now (events ++ Alloc info stack size ∷ [])) }
-    ensures fault { (names : FunctionNames) (events : List Event) → StandsFor judged.now samples.old names tables.now events → ledger_spec.StandsFor ledger.old events →
-        Tells result (sample_fault samples.old.options (ignores tables.now names) events (Alloc info stack size)) }
-    ensures due { result ≡ Err OutOfMemory → (names : FunctionNames) (events : List Event) → AreTexts (FnReturnsAt A.Fn alloc_fns.now.test) names.alloc_fns →
-        StandsFor judged.now samples.old names tables.now events → ledger_spec.StandsFor ledger.old events →
+    ensures fault { (names : FunctionNames) (events : List Event)
+        → StandsFor judged.now samples.old names tables.now events
+        → ledger_spec.StandsFor ledger.old events →
+        Tells result (sample_fault samples.old.options (ignores tables.now names) events
+        (Alloc info stack size)) }
+    ensures due { result ≡ Err OutOfMemory → (names : FunctionNames) (events : List Event)
+        → AreTexts (FnReturnsAt A.Fn alloc_fns.now.test) names.alloc_fns →
+        StandsFor judged.now samples.old names tables.now events
+        → ledger_spec.StandsFor ledger.old events →
         IsDue samples.old.options (ignores tables.now names) events (Alloc info stack size) }
-    ensures unchanged { IfErr result (λ fault. fault ≢ OutOfMemory → (samples.new ≡ samples.old) × (ledger.new ≡ ledger.old)) }
+    ensures unchanged { IfErr result
+        (λ fault. fault ≢ OutOfMemory → (samples.new ≡ samples.old) × (ledger.new ≡ ledger.old)) }
     ensures options { samples.new.options ≡ samples.old.options }
     ensures applied { OnOk result (HasApplied ledger.old ledger.new (Alloc info stack size)) }
-    ensures applied_or_not { (ledger.new ≡ ledger.old) ⊎ HasApplied ledger.old ledger.new (Alloc info stack size) }
+    ensures applied_or_not { (ledger.new ≡ ledger.old)
+        ⊎ HasApplied ledger.old ledger.new (Alloc info stack size) }
 {
     let event = Event::Alloc { info, stack, size };
     ledger.check(event)?;
@@ -334,19 +391,31 @@ fn take_free<A: Fn(&[u8]) -> bool>(
     requires stacks { ledger.old.stacks ≡ length tables.now.nodes + 1 }
     requires judged { length judged.now ≡ length tables.now.nodes + 1 }
     requires callable { A.IsAlwaysCallable alloc_fns.now.test }
-    requires stands { (names : FunctionNames) × (events : List Event) × StandsFor judged.now samples.old names tables.now events × ledger_spec.StandsFor ledger.old events }
-    ensures stands { OnOk result ((names : FunctionNames) (events : List Event) → AreTexts (FnReturnsAt A.Fn alloc_fns.now.test) names.alloc_fns →
-        StandsFor judged.now samples.old names tables.now events → ledger_spec.StandsFor ledger.old events →
+    requires stands { (names : FunctionNames) × (events : List Event)
+        × StandsFor judged.now samples.old names tables.now events
+        × ledger_spec.StandsFor ledger.old events }
+    ensures stands { OnOk result
+        ((names : FunctionNames) (events : List Event)
+        → AreTexts (FnReturnsAt A.Fn alloc_fns.now.test) names.alloc_fns →
+        StandsFor judged.now samples.old names tables.now events
+        → ledger_spec.StandsFor ledger.old events →
         StandsFor judged.now samples.new names tables.now (events ++ Free info stack size ∷ [])) }
-    ensures fault { (names : FunctionNames) (events : List Event) → StandsFor judged.now samples.old names tables.now events → ledger_spec.StandsFor ledger.old events →
-        Tells result (sample_fault samples.old.options (ignores tables.now names) events (Free info stack size)) }
-    ensures due { result ≡ Err OutOfMemory → (names : FunctionNames) (events : List Event) → AreTexts (FnReturnsAt A.Fn alloc_fns.now.test) names.alloc_fns →
-        StandsFor judged.now samples.old names tables.now events → ledger_spec.StandsFor ledger.old events →
+    ensures fault { (names : FunctionNames) (events : List Event)
+        → StandsFor judged.now samples.old names tables.now events
+        → ledger_spec.StandsFor ledger.old events →
+        Tells result (sample_fault samples.old.options (ignores tables.now names) events
+        (Free info stack size)) }
+    ensures due { result ≡ Err OutOfMemory → (names : FunctionNames) (events : List Event)
+        → AreTexts (FnReturnsAt A.Fn alloc_fns.now.test) names.alloc_fns →
+        StandsFor judged.now samples.old names tables.now events
+        → ledger_spec.StandsFor ledger.old events →
         IsDue samples.old.options (ignores tables.now names) events (Free info stack size) }
-    ensures unchanged { IfErr result (λ fault. fault ≢ OutOfMemory → (samples.new ≡ samples.old) × (ledger.new ≡ ledger.old)) }
+    ensures unchanged { IfErr result
+        (λ fault. fault ≢ OutOfMemory → (samples.new ≡ samples.old) × (ledger.new ≡ ledger.old)) }
     ensures options { samples.new.options ≡ samples.old.options }
     ensures applied { OnOk result (HasApplied ledger.old ledger.new (Free info stack size)) }
-    ensures applied_or_not { (ledger.new ≡ ledger.old) ⊎ HasApplied ledger.old ledger.new (Free info stack size) }
+    ensures applied_or_not { (ledger.new ≡ ledger.old)
+        ⊎ HasApplied ledger.old ledger.new (Free info stack size) }
 {
     let event = Event::Free { info, stack, size };
     ledger.check(event)?;

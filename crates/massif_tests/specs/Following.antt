@@ -9,7 +9,8 @@ use Rattle.massif_sample.specs.SamplesState.{SamplesState}
 use Rattle.massif_sample.specs.StandsFor as sample_spec
 
 -- some events are those of both; the closures mean some names, and each stack of the tables is known to both
-pub record AreFollowing (alloc_answers ignore_answers : List ℕ → Bool → Type 0) (flags : List Bool) (samples : SamplesState) (tables : TableState) (ledger : LedgerState) : Type 0 where
+pub record AreFollowing (alloc_answers ignore_answers : List ℕ → Bool → Type 0) (flags : List Bool)
+    (samples : SamplesState) (tables : TableState) (ledger : LedgerState) : Type 0 where
   pub names : FunctionNames
   pub taken : List Event
   pub stated : AreStated alloc_answers ignore_answers names

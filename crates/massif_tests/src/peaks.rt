@@ -34,10 +34,36 @@ const ONE_PERCENT: MassifOptions = MassifOptions {
     unit: TimeUnit::Bytes,
 };
 
-/// The same with the number of events for time, which no size makes too great.
-const IN_EVENTS: MassifOptions = MassifOptions {
-    unit: TimeUnit::Events,
-    ..ONE_PERCENT
+/// Events, and how snapshots of them are taken.
+#[derive(Clone, Copy, Debug)]
+struct Case<'a> {
+    options: MassifOptions,
+    /// Whether each is an allocation or a free, and of which info.
+    events: &'a [(bool, u32)],
+}
+
+/// A peak of 1000 bytes, one of 1010 that doesn't pass it by one percent, and one of 1011.
+const OFFERS: Case<'static> = Case {
+    options: ONE_PERCENT,
+    events: &[
+        (true, 0),
+        (false, 0),
+        (true, 0),
+        (true, 1),
+        (false, 1),
+        (true, 1),
+        (true, 2),
+        (false, 2),
+    ],
+};
+
+/// One block of the most bytes. Its time is the number of events, which no size makes too great.
+const GREATEST: Case<'static> = Case {
+    options: MassifOptions {
+        unit: TimeUnit::Events,
+        ..ONE_PERCENT
+    },
+    events: &[(true, 3), (false, 3)],
 };
 
 /// The most bytes that a trace may allocate.
@@ -66,10 +92,14 @@ fn begin<A: Fn(&[u8]) -> bool, I: Fn(&[u8]) -> bool>(
     requires options { AreInRange options }
     requires alloc_callable { A.IsAlwaysCallable alloc_fns.test }
     requires ignore_callable { I.IsAlwaysCallable ignore_fns.test }
-    requires stated { (names : FunctionNames) × AreStated (FnReturnsAt A.Fn alloc_fns.test) (FnReturnsAt I.Fn ignore_fns.test) names }
+    requires stated { (names : FunctionNames)
+        × AreStated (FnReturnsAt A.Fn alloc_fns.test) (FnReturnsAt I.Fn ignore_fns.test) names }
     ensures alloc_callable { IfOk result (λ run. A.IsAlwaysCallable run.sampler.alloc_fns.test) }
     ensures ignore_callable { IfOk result (λ run. I.IsAlwaysCallable run.sampler.ignore_fns.test) }
-    ensures following { IfOk result (λ run. AreFollowing (FnReturnsAt A.Fn run.sampler.alloc_fns.test) (FnReturnsAt I.Fn run.sampler.ignore_fns.test) run.sampler.judged.items run.sampler.samples run.tables run.ledger) }
+    ensures following { IfOk result
+        (λ run. AreFollowing (FnReturnsAt A.Fn run.sampler.alloc_fns.test)
+        (FnReturnsAt I.Fn run.sampler.ignore_fns.test) run.sampler.judged.items run.sampler.samples
+        run.tables run.ledger) }
 {
     let ledger = held_sizes(alloc)?;
     let tables = Tables::new(alloc);
@@ -90,10 +120,15 @@ fn take<A: Fn(&[u8]) -> bool, I: Fn(&[u8]) -> bool>(
 ) -> Result<(), SampleFault>
     requires alloc_callable { A.IsAlwaysCallable run.old.sampler.alloc_fns.test }
     requires ignore_callable { I.IsAlwaysCallable run.old.sampler.ignore_fns.test }
-    requires following { AreFollowing (FnReturnsAt A.Fn run.old.sampler.alloc_fns.test) (FnReturnsAt I.Fn run.old.sampler.ignore_fns.test) run.old.sampler.judged.items run.old.sampler.samples run.old.tables run.old.ledger }
+    requires following { AreFollowing (FnReturnsAt A.Fn run.old.sampler.alloc_fns.test)
+        (FnReturnsAt I.Fn run.old.sampler.ignore_fns.test) run.old.sampler.judged.items
+        run.old.sampler.samples run.old.tables run.old.ledger }
     ensures alloc_callable { A.IsAlwaysCallable run.new.sampler.alloc_fns.test }
     ensures ignore_callable { I.IsAlwaysCallable run.new.sampler.ignore_fns.test }
-    ensures following { OnOk result (AreFollowing (FnReturnsAt A.Fn run.new.sampler.alloc_fns.test) (FnReturnsAt I.Fn run.new.sampler.ignore_fns.test) run.new.sampler.judged.items run.new.sampler.samples run.new.tables run.new.ledger) }
+    ensures following { OnOk result
+        (AreFollowing (FnReturnsAt A.Fn run.new.sampler.alloc_fns.test)
+        (FnReturnsAt I.Fn run.new.sampler.ignore_fns.test) run.new.sampler.judged.items
+        run.new.sampler.samples run.new.tables run.new.ledger) }
 {
     let Some((size, stack)) = run.ledger.info(info) else {
         panic!(rt; "the info isn't held");
@@ -108,23 +143,22 @@ fn take<A: Fn(&[u8]) -> bool, I: Fn(&[u8]) -> bool>(
     Ok(())
 }
 
-/// Takes the events of the case: a peak of 1000 bytes, one of 1010 that doesn't pass it by one percent, and one of 1011.
+/// Takes events: whether each is an allocation or a free, and of which info.
 fn take_all<A: Fn(&[u8]) -> bool, I: Fn(&[u8]) -> bool>(
     rt: &impl Abort,
     run: &mut Run<A, I>,
+    events: &[(bool, u32)],
 ) -> Result<(), SampleFault>
     requires alloc_callable { A.IsAlwaysCallable run.old.sampler.alloc_fns.test }
     requires ignore_callable { I.IsAlwaysCallable run.old.sampler.ignore_fns.test }
-    requires following { AreFollowing (FnReturnsAt A.Fn run.old.sampler.alloc_fns.test) (FnReturnsAt I.Fn run.old.sampler.ignore_fns.test) run.old.sampler.judged.items run.old.sampler.samples run.old.tables run.old.ledger }
+    requires following { AreFollowing (FnReturnsAt A.Fn run.old.sampler.alloc_fns.test)
+        (FnReturnsAt I.Fn run.old.sampler.ignore_fns.test) run.old.sampler.judged.items
+        run.old.sampler.samples run.old.tables run.old.ledger }
 {
-    take(rt, run, true, 0)?;
-    take(rt, run, false, 0)?;
-    take(rt, run, true, 0)?;
-    take(rt, run, true, 1)?;
-    take(rt, run, false, 1)?;
-    take(rt, run, true, 1)?;
-    take(rt, run, true, 2)?;
-    take(rt, run, false, 2)
+    'each_event: for (allocates, info) in events {
+        take(rt, run, *allocates, *info)?;
+    }
+    Ok(())
 }
 
 /// Each snapshot: its time, its bytes and which tree it has.
@@ -152,19 +186,22 @@ fn profile_of<A: Fn(&[u8]) -> bool, I: Fn(&[u8]) -> bool>(
     run.sampler.finish(b"")
 }
 
-/// The snapshots of the case, with these names.
+/// The snapshots of a case, with these names.
 fn snapshots<A: Fn(&[u8]) -> bool, I: Fn(&[u8]) -> bool>(
     rt: &impl Abort,
     alloc: Global,
+    case: &Case,
     alloc_fns: FrameTest<A>,
     ignore_fns: FrameTest<I>,
 ) -> Result<Vec<u8>, NoMemory>
+    requires options { AreInRange case.now.options }
     requires alloc_callable { A.IsAlwaysCallable alloc_fns.test }
     requires ignore_callable { I.IsAlwaysCallable ignore_fns.test }
-    requires stated { (names : FunctionNames) × AreStated (FnReturnsAt A.Fn alloc_fns.test) (FnReturnsAt I.Fn ignore_fns.test) names }
+    requires stated { (names : FunctionNames)
+        × AreStated (FnReturnsAt A.Fn alloc_fns.test) (FnReturnsAt I.Fn ignore_fns.test) names }
 {
-    let mut run = begin(alloc, ONE_PERCENT, alloc_fns, ignore_fns)?;
-    assert_eq!(rt; take_all(rt, &mut run), Ok(()));
+    let mut run = begin(alloc, case.options, alloc_fns, ignore_fns)?;
+    assert_eq!(rt; take_all(rt, &mut run, case.events), Ok(()));
     let profile = profile_of(run)?;
     shown(rt, alloc, &profile.snaps)
 }
@@ -173,7 +210,7 @@ fn snapshots<A: Fn(&[u8]) -> bool, I: Fn(&[u8]) -> bool>(
 fn peak_offers(rt: HostRuntime) -> Result<(), NoMemory> {
     let alloc_fns = FrameTest::new(|_name: &[u8]| false);
     let ignore_fns = FrameTest::new(|_name: &[u8]| false);
-    let shown = snapshots(&rt, rt.alloc(), alloc_fns, ignore_fns)?;
+    let shown = snapshots(&rt, rt.alloc(), &OFFERS, alloc_fns, ignore_fns)?;
     assert_eq!(rt;
         shown.as_slice(),
         b"0 0\n1000 1000\n1000 1000\n2000 0\n3000 1000\n3010 1010\n3020 1000\n3030 1010\n3031 1011\n3031 1011 peak\n3032 1010\n".as_slice()
@@ -181,41 +218,11 @@ fn peak_offers(rt: HostRuntime) -> Result<(), NoMemory> {
     Ok(())
 }
 
-/// Takes an allocation and a free of the greatest block.
-fn take_greatest<A: Fn(&[u8]) -> bool, I: Fn(&[u8]) -> bool>(
-    rt: &impl Abort,
-    run: &mut Run<A, I>,
-) -> Result<(), SampleFault>
-    requires alloc_callable { A.IsAlwaysCallable run.old.sampler.alloc_fns.test }
-    requires ignore_callable { I.IsAlwaysCallable run.old.sampler.ignore_fns.test }
-    requires following { AreFollowing (FnReturnsAt A.Fn run.old.sampler.alloc_fns.test) (FnReturnsAt I.Fn run.old.sampler.ignore_fns.test) run.old.sampler.judged.items run.old.sampler.samples run.old.tables run.old.ledger }
-{
-    take(rt, run, true, 3)?;
-    take(rt, run, false, 3)
-}
-
-/// The snapshots of one block of the most bytes, which is allocated and freed, with these names.
-fn greatest_peak<A: Fn(&[u8]) -> bool, I: Fn(&[u8]) -> bool>(
-    rt: &impl Abort,
-    alloc: Global,
-    alloc_fns: FrameTest<A>,
-    ignore_fns: FrameTest<I>,
-) -> Result<Vec<u8>, NoMemory>
-    requires alloc_callable { A.IsAlwaysCallable alloc_fns.test }
-    requires ignore_callable { I.IsAlwaysCallable ignore_fns.test }
-    requires stated { (names : FunctionNames) × AreStated (FnReturnsAt A.Fn alloc_fns.test) (FnReturnsAt I.Fn ignore_fns.test) names }
-{
-    let mut run = begin(alloc, IN_EVENTS, alloc_fns, ignore_fns)?;
-    assert_eq!(rt; take_greatest(rt, &mut run), Ok(()));
-    let profile = profile_of(run)?;
-    shown(rt, alloc, &profile.snaps)
-}
-
 #[test]
 fn has_a_tree_of_the_most_bytes(rt: HostRuntime) -> Result<(), NoMemory> {
     let alloc_fns = FrameTest::new(|_name: &[u8]| false);
     let ignore_fns = FrameTest::new(|_name: &[u8]| false);
-    let shown = greatest_peak(&rt, rt.alloc(), alloc_fns, ignore_fns)?;
+    let shown = snapshots(&rt, rt.alloc(), &GREATEST, alloc_fns, ignore_fns)?;
     assert_eq!(rt;
         shown.as_slice(),
         b"0 0\n1 4611686018427387904\n1 4611686018427387904 peak\n2 0\n".as_slice()

@@ -83,7 +83,8 @@ n2: 9000 (heap allocation functions) malloc/new/new[], --alloc-fns, etc.
 /// Takes a line, which has no line feed.
 fn take_line(reader: &mut ProfileReader, line: &[u8]) -> Result<(), ProfileFault>
     ensures stands { OnOk result
-        ((lines : List (List ℕ)) → StandsFor reader.old lines → StandsFor reader.new (lines ++ line.now ∷ [])) }
+        ((lines : List (List ℕ)) → StandsFor reader.old lines
+        → StandsFor reader.new (lines ++ line.now ∷ [])) }
     ensures line { OnOk result (IsLine line.now) }
 {
     if !line.iter().all(|byte| *byte != b'\n') {

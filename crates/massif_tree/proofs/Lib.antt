@@ -5,4 +5,4 @@ pub mod Listed
 pub mod OneLine
 pub mod Trimming
 pub mod Writable
-pub mod Idle
+pub mod Laws

@@ -10,4 +10,5 @@ first_texts tables alloc_fns most n = take most (trimmed_texts tables alloc_fns 
 
 -- those of so many stacks, from stack 0 on
 unfoldable pub first_lists : TableState → List (List ℕ) → ℕ → ℕ → List (List (List ℕ))
-first_lists tables alloc_fns most count = map (first_texts tables alloc_fns most) (range_with_len 0 count)
+first_lists tables alloc_fns most count = map (first_texts tables alloc_fns most)
+    (range_with_len 0 count)

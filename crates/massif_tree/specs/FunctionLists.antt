@@ -11,7 +11,8 @@ use Rattle.ht_trace.specs.TableState.{TableState}
 
 -- whether the frame has a function whose name is in the list; a frame without a function is in no list
 abbrev pub is_listed : TableState → List (List ℕ) → FrameAt → Bool
-is_listed tables names at = option_map_or (λ function. list_any (bytes_eq function) names) (function_at tables at) false
+is_listed tables names at = option_map_or (λ function. list_any (bytes_eq function) names)
+    (function_at tables at) false
 
 -- the frames without the longest prefix of frames that are all listed
 unfoldable pub without_listed : TableState → List (List ℕ) → List FrameAt → List FrameAt
@@ -19,11 +20,13 @@ without_listed tables names frames = drop (prefix_len (is_listed tables names) f
 
 -- the frames of stack n, from the innermost on, without its innermost allocation functions
 abbrev pub trimmed : TableState → List (List ℕ) → ℕ → List FrameAt
-trimmed tables alloc_fns n = without_listed tables alloc_fns (stack_frames tables.instructions tables.nodes n)
+trimmed tables alloc_fns n = without_listed tables alloc_fns
+    (stack_frames tables.instructions tables.nodes n)
 
 -- whether stack n is ignored: it is trimmed to a list whose first frame has a function that is to be ignored
 unfoldable pub is_ignored : TableState → List (List ℕ) → List (List ℕ) → ℕ → Bool
-is_ignored tables alloc_fns ignore_fns n = option_map_or (is_listed tables ignore_fns) (slice_get (trimmed tables alloc_fns n) 0) false
+is_ignored tables alloc_fns ignore_fns n = option_map_or (is_listed tables ignore_fns)
+    (slice_get (trimmed tables alloc_fns n) 0) false
 
 -- the addressed texts of stack n as it is trimmed
 abbrev pub trimmed_texts : TableState → List (List ℕ) → ℕ → List (List ℕ)
@@ -31,8 +34,10 @@ trimmed_texts tables alloc_fns n = map (frame_text Addressed tables) (trimmed ta
 
 -- those of each stack, by the stacks' numbers
 unfoldable pub trimmed_lists : TableState → List (List ℕ) → List (List (List ℕ))
-trimmed_lists tables alloc_fns = map (trimmed_texts tables alloc_fns) (range_with_len 0 (length tables.nodes + 1))
+trimmed_lists tables alloc_fns = map (trimmed_texts tables alloc_fns)
+    (range_with_len 0 (length tables.nodes + 1))
 
 -- those of so many stacks, from stack 0 on
 unfoldable pub trimmed_before : TableState → List (List ℕ) → ℕ → List (List (List ℕ))
-trimmed_before tables alloc_fns count = map (trimmed_texts tables alloc_fns) (range_with_len 0 count)
+trimmed_before tables alloc_fns count = map (trimmed_texts tables alloc_fns)
+    (range_with_len 0 count)

@@ -15,7 +15,8 @@ places_label places =
 
 -- the whole percents, a point, the hundredths that are left, and '%'
 unfoldable pub threshold_text : ℕ → List ℕ
-threshold_text hundredths = decimal (hundredths / 100) ++ (codes "." ++ (two_digits (hundredths % 100) ++ codes "%"))
+threshold_text hundredths = decimal (hundredths / 100)
+    ++ (codes "." ++ (two_digits (hundredths % 100) ++ codes "%"))
 
 -- the label of so many places below a threshold in hundredths of a percent
 unfoldable pub gathered_label : ℕ → ℕ → List ℕ

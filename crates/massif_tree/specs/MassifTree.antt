@@ -19,7 +19,8 @@ label_in threshold (gathered places) = gathered_label threshold places
 
 -- the line of a snapshot's tree
 abbrev pub massif_line : ℕ → FrontLine → TreeLine
-massif_line threshold line = record { children = line.children; bytes = line.cost; label = label_in threshold line.shown }
+massif_line threshold line
+    = record { children = line.children; bytes = line.cost; label = label_in threshold line.shown }
 
 -- the share of a snapshot's total that has a line of its own
 abbrev pub scale_of : TreeOptions → ℕ → Scale
@@ -27,4 +28,5 @@ scale_of options total = record { total = total; threshold = options.threshold }
 
 -- the lines of the stacks' tree, where the snapshot has this total
 unfoldable pub massif_tree : TreeOptions → ℕ → List Costed → List TreeLine
-massif_tree options total stacks = map (massif_line options.threshold) (cost_lines options.depth (scale_of options total) stacks)
+massif_tree options total stacks = map (massif_line options.threshold)
+    (cost_lines options.depth (scale_of options total) stacks)

@@ -25,7 +25,8 @@ pub fn is_ignored<A: Fn(&[u8]) -> bool, I: Fn(&[u8]) -> bool>(
     requires alloc_callable { A.IsAlwaysCallable alloc_fns.now.test }
     requires ignore_callable { I.IsAlwaysCallable ignore_fns.now.test }
     ensures ignored { IfOk result (λ answer. (alloc_names ignore_names : List (List ℕ)) →
-        AreTexts (FnReturnsAt A.Fn alloc_fns.now.test) alloc_names → AreTexts (FnReturnsAt I.Fn ignore_fns.now.test) ignore_names →
+        AreTexts (FnReturnsAt A.Fn alloc_fns.now.test) alloc_names
+        → AreTexts (FnReturnsAt I.Fn ignore_fns.now.test) ignore_names →
         answer ≡ is_ignored tables.now alloc_names ignore_names stack) }
 {
     tables.frames_into(stack, frames)?;
@@ -44,7 +45,8 @@ pub(crate) fn listed_front<F: Fn(&[u8]) -> bool>(
 ) -> usize
     requires frames { All (λ at. IsFrame tables.now at) frames.now }
     requires callable { F.IsAlwaysCallable names.now.test }
-    ensures front { (texts : List (List ℕ)) → AreTexts (FnReturnsAt F.Fn names.now.test) texts → result ≡ prefix_len (is_listed tables.now texts) frames.now }
+    ensures front { (texts : List (List ℕ)) → AreTexts (FnReturnsAt F.Fn names.now.test) texts
+        → result ≡ prefix_len (is_listed tables.now texts) frames.now }
     ensures within { result ≤ length frames.now }
 {
     'each_frame: for (place, at) in frames.iter().enumerate() {
@@ -59,7 +61,8 @@ pub(crate) fn listed_front<F: Fn(&[u8]) -> bool>(
 fn is_listed<F: Fn(&[u8]) -> bool>(tables: &Tables, at: &FrameAt, names: &FrameTest<F>) -> bool
     requires frame { IsFrame tables.now at.now }
     requires callable { F.IsAlwaysCallable names.now.test }
-    ensures listed { (texts : List (List ℕ)) → AreTexts (FnReturnsAt F.Fn names.now.test) texts → result ≡ is_listed tables.now texts at.now }
+    ensures listed { (texts : List (List ℕ)) → AreTexts (FnReturnsAt F.Fn names.now.test) texts
+        → result ≡ is_listed tables.now texts at.now }
 {
     match tables.frame_function(at) {
         Some(function) => names.of(function),

@@ -14,7 +14,8 @@
 //!   (`right`), the first line has the sum of all costs (`root`), and numbers and labels may be written (`writable`),
 //!   as the texts of a trace may whose strings have no line feed (`texts`).
 //!
-//! The tests of these calls are in the crate `massif_tests`.
+//! The crates above may cite its `proofs/Laws`: stacks that cost nothing, behind others, change no tree. The tests of these calls
+//! are in the crate `massif_tests`.
 //!
 //! | File | Does |
 //! |---|---|
@@ -22,20 +23,20 @@
 //! | `trimmed_fronts.rt`, `snapshot.rt` | the trimmed lists of a trace's stacks; the tree of such lists |
 //! | `labels.rt`, `lines.rt` | the labels that name no frame; the lines of a tree |
 //! | `options.rt` | what is asked of a tree |
-//! | `laws.rt` | the law |
+//! | `tree_laws.rt` | the law |
 #![tactic(auto)]
 
 mod function_lists;
 mod labels;
-mod laws;
 mod lines;
 mod options;
 mod snapshot;
+mod tree_laws;
 mod trimmed_fronts;
 
 pub use function_lists::is_ignored;
-pub use laws::massif_trees;
 pub use lines::tree_lines;
 pub use options::TreeOptions;
 pub use snapshot::snapshot_tree;
+pub use tree_laws::massif_trees;
 pub use trimmed_fronts::add_trimmed;

@@ -25,7 +25,9 @@ pub fn tree_lines(
     total: u64,
 ) -> Result<Tree, NoMemory>
     requires tree { (stacks : List Costed) × IsShown tree.now stacks options.now.depth }
-    ensures lines { IfOk result (λ lines. (stacks : List Costed) → IsShown tree.now stacks options.now.depth → lines ≡ massif_tree options.now total stacks) }
+    ensures lines { IfOk result
+        (λ lines. (stacks : List Costed) → IsShown tree.now stacks options.now.depth
+        → lines ≡ massif_tree options.now total stacks) }
 {
     // Says that the depth fits.
     let _depth = options.depth;

@@ -27,10 +27,14 @@ pub fn snapshot_tree<F: Fn(u32) -> u64>(
     total: u64,
 ) -> Result<Tree, NoMemory>
     requires as_many { costing.now.stacks ≡ length fronts.now }
-    requires stated { (costs : List ℕ) × AreCosts (F.pre costing.now.cost) (F.post costing.now.cost) costing.now.stacks costs }
-    ensures lines { IfOk result (λ lines. (tables : TableState) (names : List (List ℕ)) (costs : List ℕ) →
-        fronts.now ≡ first_lists tables names (options.now.depth + 1) (length fronts.now) → AreCosts (F.pre costing.now.cost) (F.post costing.now.cost) costing.now.stacks costs →
-        lines ≡ massif_tree options.now total (costed (trimmed_before tables names (length fronts.now)) costs)) }
+    requires stated { (costs : List ℕ)
+        × AreCosts (F.pre costing.now.cost) (F.post costing.now.cost) costing.now.stacks costs }
+    ensures lines { IfOk result
+        (λ lines. (tables : TableState) (names : List (List ℕ)) (costs : List ℕ) →
+        fronts.now ≡ first_lists tables names (options.now.depth + 1) (length fronts.now)
+        → AreCosts (F.pre costing.now.cost) (F.post costing.now.cost) costing.now.stacks costs →
+        lines ≡ massif_tree options.now total
+        (costed (trimmed_before tables names (length fronts.now)) costs)) }
 {
     // Says how many lists there may be.
     let _count = fronts.len();

@@ -35,7 +35,8 @@ pub fn add_trimmed<A: Fn(&[u8]) -> bool>(
 ) -> Result<(), NoMemory>
     requires held { length fronts.old ≤ length tables.now.nodes + 1 }
     requires callable { A.IsAlwaysCallable alloc_fns.now.test }
-    ensures lists { OnOk result ((names : List (List ℕ)) → AreTexts (FnReturnsAt A.Fn alloc_fns.now.test) names →
+    ensures lists { OnOk result
+        ((names : List (List ℕ)) → AreTexts (FnReturnsAt A.Fn alloc_fns.now.test) names →
         fronts.old ≡ first_lists tables.now names (options.now.depth + 1) (length fronts.old) →
         fronts.new ≡ first_lists tables.now names (options.now.depth + 1) (length fronts.new)) }
     ensures count { OnOk result (length fronts.new ≡ length tables.now.nodes + 1) }
@@ -63,7 +64,9 @@ fn add_stack<A: Fn(&[u8]) -> bool>(
     requires held { stack ≤ length tables.now.nodes }
     requires few { length fronts.old < 2 ^ 32 - 1 }
     requires callable { A.IsAlwaysCallable alloc_fns.now.test }
-    ensures added { OnOk result ((names : List (List ℕ)) → AreTexts (FnReturnsAt A.Fn alloc_fns.now.test) names → fronts.new ≡ fronts.old ++ first_texts tables.now names most stack ∷ []) }
+    ensures added { OnOk result
+        ((names : List (List ℕ)) → AreTexts (FnReturnsAt A.Fn alloc_fns.now.test) names
+        → fronts.new ≡ fronts.old ++ first_texts tables.now names most stack ∷ []) }
     ensures count { OnOk result (length fronts.new ≡ length fronts.old + 1) }
 {
     fronts.begin()?;
@@ -82,7 +85,9 @@ fn push_stack<A: Fn(&[u8]) -> bool>(
     requires held { stack ≤ length tables.now.nodes }
     requires begun { 0 < length fronts.old }
     requires callable { A.IsAlwaysCallable alloc_fns.now.test }
-    ensures gained { OnOk result ((names : List (List ℕ)) → AreTexts (FnReturnsAt A.Fn alloc_fns.now.test) names → LastGains fronts.old (take most (trimmed_texts tables.now names stack)) fronts.new) }
+    ensures gained { OnOk result
+        ((names : List (List ℕ)) → AreTexts (FnReturnsAt A.Fn alloc_fns.now.test) names
+        → LastGains fronts.old (take most (trimmed_texts tables.now names stack)) fronts.new) }
     ensures count { length fronts.new ≡ length fronts.old }
 {
     tables.frames_into(stack, &mut buffers.frames)?;
@@ -101,7 +106,8 @@ fn push_texts(
 ) -> Result<(), NoMemory>
     requires frames { All (λ at. IsFrame tables.now at) frames.now }
     requires begun { 0 < length fronts.old }
-    ensures gained { OnOk result (LastGains fronts.old (map (frame_text Addressed tables.now) frames.now) fronts.new) }
+    ensures gained { OnOk result
+        (LastGains fronts.old (map (frame_text Addressed tables.now) frames.now) fronts.new) }
     ensures count { length fronts.new ≡ length fronts.old }
 {
     'each_frame: for at in frames {

@@ -38,7 +38,9 @@ stands_in plot x mark snap = same_mark mark snap.mark && nat_eq (column_at plot 
 -- none of these the last one without a tree.
 unfoldable pub shown_in : Plot → List Snap → ℕ → Option Snap
 shown_in plot snaps x =
-    option_or (last_such (stands_in plot x Peak) snaps) (option_or (last_such (stands_in plot x Detailed) snaps) (last_such (stands_in plot x Empty) snaps))
+    option_or (last_such (stands_in plot x Peak) snaps)
+    (option_or (last_such (stands_in plot x Detailed) snaps)
+    (last_such (stands_in plot x Empty) snaps))
 
 -- the bar of column x, where it has one
 abbrev pub bar_in : Plot → List Snap → ℕ → Option Bar

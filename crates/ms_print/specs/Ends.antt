@@ -10,7 +10,8 @@ trees_at lines place = trees_of (drop place lines)
 
 -- each line is followed by as many trees as it has children
 pub record AreWhole (lines : List TreeLine) : Type 0 where
-  pub whole : (place : ℕ) (line : TreeLine) → slice_get lines place ≡ Some line → line.children ≤ count_of (trees_at lines (place + 1))
+  pub whole : (place : ℕ) (line : TreeLine) → slice_get lines place ≡ Some line
+      → line.children ≤ count_of (trees_at lines (place + 1))
 
 -- behind the tree of the line at this place, the lines go on at the end
 pub record IsEnd (lines : List TreeLine) (place end : ℕ) : Type 0 where
@@ -21,7 +22,8 @@ pub record IsEnd (lines : List TreeLine) (place end : ℕ) : Type 0 where
 -- the ends of the lines from this place on
 pub record AreEnds (lines : List TreeLine) (from : ℕ) (ends : List ℕ) : Type 0 where
   pub count : length ends ≡ length lines
-  pub each : (place : ℕ) → from ≤ place → place < length lines → IsEnd lines place (slice_index ends place)
+  pub each : (place : ℕ) → from ≤ place → place < length lines
+      → IsEnd lines place (slice_index ends place)
 
 -- the trees below the first root
 abbrev pub first_children : Trees → Trees

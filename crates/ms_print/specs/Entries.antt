@@ -11,7 +11,8 @@ is_small scale bytes = nat_lt (10000 * bytes) (scale.threshold * scale.sum)
 
 -- the share of the sum, which is never more than the whole, and the bytes
 unfoldable pub share_text : Scale → ℕ → List ℕ
-share_text scale bytes = percent (hundredths_of (min bytes scale.sum) scale.sum) ++ (codes " (" ++ (decimal_with_commas bytes ++ codes "B) "))
+share_text scale bytes = percent (hundredths_of (min bytes scale.sum) scale.sum)
+    ++ (codes " (" ++ (decimal_with_commas bytes ++ codes "B) "))
 
 -- these, and the place
 unfoldable pub entry_text : Scale → ℕ → List ℕ → List ℕ
@@ -19,8 +20,10 @@ entry_text scale bytes label = share_text scale bytes ++ label
 
 -- how many places are gathered
 unfoldable pub places_text : ℕ → List ℕ
-places_text places = if nat_eq places 1 then codes "in 1 place, below" else codes "in " ++ (decimal places ++ codes " places, all below")
+places_text places = if nat_eq places 1 then codes "in 1 place, below"
+    else codes "in " ++ (decimal places ++ codes " places, all below")
 
 -- what stands in the place of so many places that are gathered
 unfoldable pub gathered_label : Scale → ℕ → List ℕ
-gathered_label scale places = places_text places ++ (codes " ms_print's threshold (" ++ (percent scale.threshold ++ codes ")"))
+gathered_label scale places = places_text places
+    ++ (codes " ms_print's threshold (" ++ (percent scale.threshold ++ codes ")"))

@@ -11,7 +11,8 @@ use Rattle.ms_print.specs.Labels.{label_text, unit_label}
 
 -- what stands before the cells of row y: the label of the greatest sum before the top row
 unfoldable pub edge_text : Plot → ℕ → List ℕ
-edge_text plot y = if nat_eq y plot.height then right_aligned 5 (label_text Bytes plot.peak) ++ codes "^" else codes "     |"
+edge_text plot y = if nat_eq y plot.height
+    then right_aligned 5 (label_text Bytes plot.peak) ++ codes "^" else codes "     |"
 
 -- the cells of row y
 unfoldable pub row_cells : Plot → List Snap → ℕ → List ℕ
@@ -30,8 +31,12 @@ unfoldable pub axis_text : TimeUnit → Plot → List ℕ
 axis_text unit plot =
     codes "   0 +"
     ++ (replicate (plot.width - 1) 45
-    ++ (codes ">" ++ (unit_label unit plot.last ++ (codes "\n     0" ++ (right_aligned (plot.width - 1) (label_text unit plot.last) ++ codes "\n\n")))))
+    ++ (codes ">" ++ (unit_label unit plot.last
+    ++ (codes "\n     0"
+    ++ (right_aligned (plot.width - 1) (label_text unit plot.last) ++ codes "\n\n")))))
 
 -- the unit of the greatest sum, the rows from the top, and the line below them
 unfoldable pub graph_text : TimeUnit → Plot → List Snap → List ℕ
-graph_text unit plot snaps = codes "    " ++ (unit_label Bytes plot.peak ++ (codes "\n" ++ (rows_text plot snaps plot.height ++ axis_text unit plot)))
+graph_text unit plot snaps = codes "    "
+    ++ (unit_label Bytes plot.peak
+    ++ (codes "\n" ++ (rows_text plot snaps plot.height ++ axis_text unit plot)))

@@ -20,7 +20,8 @@ factor_of Milliseconds = 1000
 -- the greatest power, up to the last one, of which the factor isn't above the value, and else 0
 abbrev pub power_up_to : ℕ → ℕ → ℕ → ℕ
 power_up_to zero factor value = 0
-power_up_to (suc last) factor value = if nat_le (factor ^ suc last) value then suc last else power_up_to last factor value
+power_up_to (suc last) factor value = if nat_le (factor ^ suc last) value then suc last
+    else power_up_to last factor value
 
 -- which of its units a value is written in
 unfoldable pub power_of : TimeUnit → ℕ → ℕ
@@ -36,14 +37,18 @@ three_digits n = (48 + n / 100) ∷ (48 + n / 10 % 10) ∷ (48 + n % 10) ∷ []
 
 -- the text without a point at its end
 abbrev pub without_point : List ℕ → List ℕ
-without_point text = if nat_eq (slice_index text (length text - 1)) 46 then take (length text - 1) text else text
+without_point text = if nat_eq (slice_index text (length text - 1)) 46
+    then take (length text - 1) text else text
 
 -- the value in units of a size: the whole part alone where it has five digits or more, and else with three digits more, rounded down,
 -- of which those stand that fit into five bytes
 unfoldable pub scaled_text : ℕ → ℕ → List ℕ
 scaled_text size value =
-    if nat_le 10000 (value / size) then decimal (value / size) else without_point (take 5 (decimal (value / size) ++ (46 ∷ three_digits (value % size * 1000 / size))))
+    if nat_le 10000 (value / size) then decimal (value / size)
+    else without_point (take 5
+    (decimal (value / size) ++ (46 ∷ three_digits (value % size * 1000 / size))))
 
 -- the value in that unit; in the first one it is the number itself
 unfoldable pub label_text : TimeUnit → ℕ → List ℕ
-label_text unit value = if nat_eq (power_of unit value) 0 then decimal value else scaled_text (factor_of unit ^ power_of unit value) value
+label_text unit value = if nat_eq (power_of unit value) 0 then decimal value
+    else scaled_text (factor_of unit ^ power_of unit value) value

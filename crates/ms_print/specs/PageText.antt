@@ -14,7 +14,8 @@ named_line name text = name ++ (text ++ codes "\n")
 unfoldable pub asked_text : List ℕ → Profile → List ℕ
 asked_text words profile =
     named_line (codes "Command:            ") profile.cmd
-    ++ (named_line (codes "Massif arguments:   ") profile.desc ++ named_line (codes "ms_print arguments: ") words)
+    ++ (named_line (codes "Massif arguments:   ") profile.desc
+    ++ named_line (codes "ms_print arguments: ") words)
 
 -- these between two rules, and two empty lines
 unfoldable pub title_text : List ℕ → Profile → List ℕ
@@ -24,4 +25,5 @@ title_text words profile = rule_line ++ (asked_text words profile ++ (rule_line 
 unfoldable pub page_text : ℕ → ℕ → ℕ → List ℕ → Profile → List ℕ
 page_text threshold x y words profile =
     title_text words profile
-    ++ (graph_text profile.unit (plot_of x y profile.snaps) profile.snaps ++ (snapshots_text profile.snaps ++ table_text threshold profile.unit profile.snaps))
+    ++ (graph_text profile.unit (plot_of x y profile.snaps) profile.snaps
+    ++ (snapshots_text profile.snaps ++ table_text threshold profile.unit profile.snaps))

@@ -40,7 +40,8 @@ IsHeld lines (Line place) = place < length lines
 IsHeld lines (Gathered small) = Unit {0}
 
 -- the entry stands so far to the right, and is this root, with what is shown below it
-pub record IsRoot (scale : Scale) (lines : List TreeLine) (indent : ℕ) (pending : Pending) (bytes : ℕ) (label : List ℕ) (children : Trees) : Type 0 where
+pub record IsRoot (scale : Scale) (lines : List TreeLine) (indent : ℕ) (pending : Pending)
+    (bytes : ℕ) (label : List ℕ) (children : Trees) : Type 0 where
   pub indented : pending.indent ≡ indent
   pub held : IsHeld lines pending.entry
   pub bytes_is : entry_bytes lines pending.entry ≡ bytes
@@ -52,7 +53,8 @@ abbrev pub AreRoots : Scale → List TreeLine → ℕ → List Pending → Trees
 AreRoots scale lines indent [] no_tree = Unit {0}
 AreRoots scale lines indent [] (a_tree bytes label children others) = ⊥
 AreRoots scale lines indent (p ∷ ps) no_tree = ⊥
-AreRoots scale lines indent (p ∷ ps) (a_tree bytes label children others) = IsRoot scale lines indent p bytes label children × AreRoots scale lines indent ps others
+AreRoots scale lines indent (p ∷ ps) (a_tree bytes label children others) = IsRoot scale lines
+    indent p bytes label children × AreRoots scale lines indent ps others
 
 -- these are the small ones of the trees, with at most 2 ^ 64 - 1 bytes
 pub record AreSmall (scale : Scale) (trees : Trees) (small : gathered.Gathered) : Type 0 where
@@ -61,7 +63,8 @@ pub record AreSmall (scale : Scale) (trees : Trees) (small : gathered.Gathered) 
 
 -- the entry of places that are gathered, where there are some
 abbrev pub pending_gathered : ℕ → gathered.Gathered → List Pending
-pending_gathered indent small = if nat_eq small.places 0 then [] else record { indent = indent; entry = Gathered small } ∷ []
+pending_gathered indent small = if nat_eq small.places 0 then []
+    else record { indent = indent; entry = Gathered small } ∷ []
 
 -- what leads on below an entry, where these are left
 abbrev pub bar_before : ℕ → List Pending → List ℕ
@@ -70,11 +73,13 @@ bar_before indent (next ∷ more) = if nat_eq next.indent indent then codes "| "
 
 -- the line of an entry, whose prefix is a front of this one
 abbrev pub pending_line : Scale → List TreeLine → List ℕ → Pending → List ℕ
-pending_line scale lines prefix p = entry_line scale (take p.indent prefix) (entry_bytes lines p.entry) (entry_label scale lines p.entry)
+pending_line scale lines prefix p = entry_line scale (take p.indent prefix)
+    (entry_bytes lines p.entry) (entry_label scale lines p.entry)
 
 -- the lines below it, with this prefix
 abbrev pub pending_below : Scale → List TreeLine → List ℕ → Pending → List ℕ
-pending_below scale lines prefix p = lines_below (entry_children scale lines p.entry) prefix (entries_text scale prefix (entry_children scale lines p.entry))
+pending_below scale lines prefix p = lines_below (entry_children scale lines p.entry) prefix
+    (entries_text scale prefix (entry_children scale lines p.entry))
 
 -- the line below an entry that has no children
 abbrev pub blank_below : Trees → List ℕ → List ℕ
@@ -85,7 +90,9 @@ blank_below (a_tree bytes label children others) prefix = []
 abbrev pub left_text : Scale → List TreeLine → List ℕ → List Pending → List ℕ
 left_text scale lines prefix [] = []
 left_text scale lines prefix (p ∷ ps) =
-    pending_line scale lines prefix p ++ (pending_below scale lines (take p.indent prefix ++ bar_before p.indent ps) p ++ left_text scale lines prefix ps)
+    pending_line scale lines prefix p
+    ++ (pending_below scale lines (take p.indent prefix ++ bar_before p.indent ps) p
+    ++ left_text scale lines prefix ps)
 
 -- none stands further to the right than this, nor than the one before it
 abbrev pub AreNested : ℕ → List Pending → Type 0

@@ -7,7 +7,8 @@ use Rattle.ms_print.specs.Sums.{greatest_sum}
 
 -- the graph of some snapshots with so many columns and rows: up to the last time, and up to the greatest sum
 abbrev pub plot_of : ℕ → ℕ → List Snap → Plot
-plot_of width height snaps = record { width = width; height = height; last = last_time snaps; peak = greatest_sum snaps }
+plot_of width height snaps
+    = record { width = width; height = height; last = last_time snaps; peak = greatest_sum snaps }
 
 -- the column of a time, from 1 at time 0 to the last one at the last time
 unfoldable pub column_at : Plot → ℕ → ℕ

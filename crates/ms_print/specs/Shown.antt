@@ -12,15 +12,18 @@ beside (a_tree bytes label children others) more = a_tree bytes label children (
 -- how many of the trees are small, and what these have together
 abbrev pub small_places : Scale → Trees → ℕ
 small_places scale no_tree = 0
-small_places scale (a_tree bytes label children others) = if is_small scale bytes then 1 + small_places scale others else small_places scale others
+small_places scale (a_tree bytes label children others) = if is_small scale bytes
+    then 1 + small_places scale others else small_places scale others
 
 abbrev pub small_bytes : Scale → Trees → ℕ
 small_bytes scale no_tree = 0
-small_bytes scale (a_tree bytes label children others) = if is_small scale bytes then bytes + small_bytes scale others else small_bytes scale others
+small_bytes scale (a_tree bytes label children others) = if is_small scale bytes
+    then bytes + small_bytes scale others else small_bytes scale others
 
 -- the one entry of so many small places with so many bytes, of which at most 2^64 - 1 are told
 abbrev pub gathered : Scale → ℕ → ℕ → Trees
-gathered scale places bytes = if nat_eq places 0 then no_tree else a_tree (min bytes (2 ^ 64 - 1)) (gathered_label scale places) no_tree no_tree
+gathered scale places bytes = if nat_eq places 0 then no_tree
+    else a_tree (min bytes (2 ^ 64 - 1)) (gathered_label scale places) no_tree no_tree
 
 -- the trees that are not small, and below each of them what is shown there
 abbrev pub kept : Scale → Trees → Trees
@@ -28,8 +31,11 @@ kept scale no_tree = no_tree
 kept scale (a_tree bytes label children others) =
     if is_small scale bytes
     then kept scale others
-    else a_tree bytes label (beside (kept scale children) (gathered scale (small_places scale children) (small_bytes scale children))) (kept scale others)
+    else a_tree bytes label
+    (beside (kept scale children)
+    (gathered scale (small_places scale children) (small_bytes scale children))) (kept scale others)
 
 -- these, and then the small ones in one entry
 unfoldable pub shown : Scale → Trees → Trees
-shown scale trees = beside (kept scale trees) (gathered scale (small_places scale trees) (small_bytes scale trees))
+shown scale trees = beside (kept scale trees)
+    (gathered scale (small_places scale trees) (small_bytes scale trees))

@@ -33,4 +33,5 @@ numbers_text snaps = join_by (λ text. text) (codes ", ") (number_texts 0 snaps)
 unfoldable pub snapshots_text : List Snap → List ℕ
 snapshots_text snaps =
     codes "Number of snapshots: "
-    ++ (decimal (length snaps) ++ (codes "\n Detailed snapshots: [" ++ (numbers_text snaps ++ codes "]\n\n")))
+    ++ (decimal (length snaps)
+    ++ (codes "\n Detailed snapshots: [" ++ (numbers_text snaps ++ codes "]\n\n")))

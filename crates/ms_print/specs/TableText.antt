@@ -26,7 +26,8 @@ unfoldable pub head_text : TimeUnit → List ℕ
 head_text unit =
     rule_line
     ++ (codes "  n "
-    ++ (right_aligned 14 (time_head unit) ++ (codes "         total(B)   useful-heap(B) extra-heap(B)    stacks(B)\n" ++ rule_line)))
+    ++ (right_aligned 14 (time_head unit)
+    ++ (codes "         total(B)   useful-heap(B) extra-heap(B)    stacks(B)\n" ++ rule_line)))
 
 -- a number after a blank, in a column of this width
 unfoldable pub column_text : ℕ → ℕ → List ℕ
@@ -41,7 +42,9 @@ unfoldable pub snap_row : ℕ → Snap → List ℕ
 snap_row n snap =
     number_column n
     ++ (column_text 14 snap.time
-    ++ (column_text 16 (sum_of snap) ++ (column_text 16 snap.heap ++ (column_text 13 snap.extra ++ (column_text 12 snap.stacks ++ codes "\n")))))
+    ++ (column_text 16 (sum_of snap)
+    ++ (column_text 16 snap.heap
+    ++ (column_text 13 snap.extra ++ (column_text 12 snap.stacks ++ codes "\n")))))
 
 -- the head stands again where rows follow
 unfoldable pub head_before : TimeUnit → ℕ → List ℕ
@@ -49,7 +52,8 @@ head_before unit later = if nat_eq later 0 then [] else head_text unit
 
 -- the tree of a snapshot, and an empty line
 unfoldable pub snap_tree : ℕ → Snap → List ℕ
-snap_tree threshold snap = tree_text (record { sum = sum_of snap; threshold = threshold }) snap.tree ++ codes "\n"
+snap_tree threshold snap = tree_text (record { sum = sum_of snap; threshold = threshold }) snap.tree
+    ++ codes "\n"
 
 -- what stands below the row of a snapshot with this mark, where so many rows follow: its tree, and the head again
 abbrev pub below_row : ℕ → TimeUnit → Snap → HeapTree → ℕ → List ℕ
@@ -60,7 +64,9 @@ below_row threshold unit snap Peak later = snap_tree threshold snap ++ head_befo
 -- the rows of snapshots, which are numbered from this one on, each with what stands below it
 abbrev pub snap_rows : ℕ → TimeUnit → ℕ → List Snap → List ℕ
 snap_rows threshold unit n [] = []
-snap_rows threshold unit n (snap ∷ snaps) = snap_row n snap ++ (below_row threshold unit snap snap.mark (length snaps) ++ snap_rows threshold unit (suc n) snaps)
+snap_rows threshold unit n (snap ∷ snaps) = snap_row n snap
+    ++ (below_row threshold unit snap snap.mark (length snaps)
+    ++ snap_rows threshold unit (suc n) snaps)
 
 unfoldable pub table_text : ℕ → TimeUnit → List Snap → List ℕ
 table_text threshold unit snaps = head_text unit ++ snap_rows threshold unit 0 snaps

@@ -14,7 +14,8 @@ bar_to (a_tree bytes label children others) = codes "| "
 
 -- the line of an entry
 unfoldable pub entry_line : Scale → List ℕ → ℕ → List ℕ → List ℕ
-entry_line scale prefix bytes label = prefix ++ (codes "->" ++ (entry_text scale bytes label ++ codes "\n"))
+entry_line scale prefix bytes label = prefix
+    ++ (codes "->" ++ (entry_text scale bytes label ++ codes "\n"))
 
 -- the lines below an entry: its prefix alone, where it has no children
 abbrev pub lines_below : Trees → List ℕ → List ℕ → List ℕ
@@ -26,13 +27,15 @@ abbrev pub entries_text : Scale → List ℕ → Trees → List ℕ
 entries_text scale prefix no_tree = []
 entries_text scale prefix (a_tree bytes label children others) =
     entry_line scale prefix bytes label
-    ++ (lines_below children (prefix ++ bar_to others) (entries_text scale (prefix ++ bar_to others) children)
+    ++ (lines_below children (prefix ++ bar_to others)
+    (entries_text scale (prefix ++ bar_to others) children)
     ++ entries_text scale prefix others)
 
 -- the root, and the entries below it
 abbrev pub root_text : Scale → Trees → List ℕ
 root_text scale no_tree = []
-root_text scale (a_tree bytes label children others) = entry_text scale bytes label ++ (codes "\n" ++ entries_text scale [] (shown scale children))
+root_text scale (a_tree bytes label children others) = entry_text scale bytes label
+    ++ (codes "\n" ++ entries_text scale [] (shown scale children))
 
 -- the tree that these lines say
 unfoldable pub tree_text : Scale → List TreeLine → List ℕ

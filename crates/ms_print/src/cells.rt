@@ -21,7 +21,8 @@ pub fn cell(options: &PageOptions, profile: &Profile, x: u32, y: u32) -> u8
     requires last_column { x ≤ options.now.x }
     requires first_row { 1 ≤ y }
     requires last_row { y ≤ options.now.y }
-    ensures { result ≡ cell_at (plot_of options.now.x options.now.y profile.now.snaps) profile.now.snaps x y }
+    ensures { result ≡ cell_at (plot_of options.now.x options.now.y profile.now.snaps)
+        profile.now.snaps x y }
 {
     let plot = plot_of(options.x, options.y, &profile.snaps);
     let bar = bar_in(plot, &profile.snaps, x as usize);

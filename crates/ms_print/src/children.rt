@@ -18,6 +18,15 @@ pub(crate) struct Gathered {
     pub(crate) bytes: u64,
 }
 
+/// A tree of which entries are shown.
+#[derive(Clone, Copy, Debug)]
+pub(crate) struct TreeView<'a> {
+    pub(crate) tree: &'a Tree,
+    /// Where the lines of each line's own tree end.
+    pub(crate) ends: &'a [usize],
+    pub(crate) scale: Scale,
+}
+
 /// An entry of a tree.
 #[derive(Clone, Copy, Debug)]
 pub(crate) enum Entry {
@@ -37,21 +46,21 @@ pub(crate) struct Pending {
 
 /// Puts the entries below an entry into `children`, in their order.
 pub(crate) fn children_into(
-    tree: &Tree,
-    ends: &[usize],
-    scale: Scale,
+    view: &TreeView,
     entry: Entry,
     indent: usize,
     children: &mut Vec<Pending>,
 ) -> Result<(), NoMemory>
-    requires whole { AreWhole tree.now }
-    requires ends { AreEnds tree.now 0 ends.now }
-    requires held { IsHeld tree.now entry }
-    ensures roots { OnOk result (AreRoots scale tree.now indent children.new.items (entry_children scale tree.now entry)) }
+    requires whole { AreWhole view.now.tree.now }
+    requires ends { AreEnds view.now.tree.now 0 view.now.ends.now }
+    requires held { IsHeld view.now.tree.now entry }
+    ensures roots { OnOk result
+        (AreRoots view.now.scale view.now.tree.now indent children.new.items
+        (entry_children view.now.scale view.now.tree.now entry)) }
 {
     children.clear();
     match entry {
-        Entry::Line(place) => push_children(tree, ends, scale, place, indent, children),
+        Entry::Line(place) => push_children(view, place, indent, children),
         Entry::Gathered(_) => Ok(()),
     }
 }
@@ -59,54 +68,56 @@ pub(crate) fn children_into(
 /// Appends the entries below the line at this place to none.
 #[tactic(auto, unfolding(crate::specs::Shown::shown))]
 fn push_children(
-    tree: &Tree,
-    ends: &[usize],
-    scale: Scale,
+    view: &TreeView,
     place: usize,
     indent: usize,
     children: &mut Vec<Pending>,
 ) -> Result<(), NoMemory>
-    requires whole { AreWhole tree.now }
-    requires ends { AreEnds tree.now 0 ends.now }
-    requires held { place < length tree.now }
+    requires whole { AreWhole view.now.tree.now }
+    requires ends { AreEnds view.now.tree.now 0 view.now.ends.now }
+    requires held { place < length view.now.tree.now }
     requires empty { children.old.items ≡ [] }
-    ensures roots { OnOk result (AreRoots scale tree.now indent children.new.items (shown scale (children_at tree.now place))) }
+    ensures roots { OnOk result
+        (AreRoots view.now.scale view.now.tree.now indent children.new.items
+        (shown view.now.scale (children_at view.now.tree.now place))) }
 {
-    let gathered = split_children(tree, ends, scale, place, indent, children)?;
+    let gathered = split_children(view, place, indent, children)?;
     push_gathered(indent, gathered, children)
 }
 
 /// Appends the children that are shown by themselves to none, and gathers the others.
 fn split_children(
-    tree: &Tree,
-    ends: &[usize],
-    scale: Scale,
+    view: &TreeView,
     place: usize,
     indent: usize,
     children: &mut Vec<Pending>,
 ) -> Result<Gathered, NoMemory>
-    requires whole { AreWhole tree.now }
-    requires ends { AreEnds tree.now 0 ends.now }
-    requires held { place < length tree.now }
+    requires whole { AreWhole view.now.tree.now }
+    requires ends { AreEnds view.now.tree.now 0 view.now.ends.now }
+    requires held { place < length view.now.tree.now }
     requires empty { children.old.items ≡ [] }
-    ensures kept { OnOk result ((more : List Pending) (trees : Trees) → AreRoots scale tree.now indent more trees →
-        AreRoots scale tree.now indent (children.new.items ++ more) (beside (kept scale (children_at tree.now place)) trees)) }
-    ensures gathered { IfOk result (λ gathered. AreSmall scale (children_at tree.now place) gathered) }
+    ensures kept { OnOk result
+        ((more : List Pending) (trees : Trees) →
+        AreRoots view.now.scale view.now.tree.now indent more trees →
+        AreRoots view.now.scale view.now.tree.now indent (children.new.items ++ more)
+        (beside (kept view.now.scale (children_at view.now.tree.now place)) trees)) }
+    ensures gathered { IfOk result
+        (λ gathered. AreSmall view.now.scale (children_at view.now.tree.now place) gathered) }
 {
     let mut gathered = Gathered {
         places: 0,
         bytes: 0,
     };
     let mut child = place + 1;
-    'each_child: for _ in 0..tree.at(place).children {
-        let bytes = tree.at(child).bytes;
-        if scale.is_small(bytes) {
+    'each_child: for _ in 0..view.tree.at(place).children {
+        let bytes = view.tree.at(child).bytes;
+        if view.scale.is_small(bytes) {
             gathered = gathered.with(bytes);
         } else {
             let entry = Entry::Line(child);
             children.push(Pending { indent, entry })?;
         }
-        child = ends[child];
+        child = view.ends[child];
     }
     Ok(gathered)
 }
@@ -131,7 +142,8 @@ fn push_gathered(
     gathered: Gathered,
     children: &mut Vec<Pending>,
 ) -> Result<(), NoMemory>
-    ensures appended { OnOk result (children.new.items ≡ children.old.items ++ pending_gathered indent gathered) }
+    ensures appended { OnOk result
+        (children.new.items ≡ children.old.items ++ pending_gathered indent gathered) }
 {
     if gathered.places == 0 {
         return Ok(());

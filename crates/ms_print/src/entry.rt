@@ -33,7 +33,8 @@ pub(crate) fn put_entry(
     label: &[u8],
     out: &mut Vec<u8>,
 ) -> Result<(), NoMemory>
-    ensures appended { OnOk result (out.new.items ≡ out.old.items ++ entry_text scale bytes label.now) }
+    ensures appended { OnOk result
+        (out.new.items ≡ out.old.items ++ entry_text scale bytes label.now) }
     ensures kept { Extends out.old.items out.new.items }
 {
     put_share(scale, bytes, out)?;
@@ -49,7 +50,8 @@ pub(crate) fn put_gathered(
     out: &mut Vec<u8>,
 ) -> Result<(), NoMemory>
     requires threshold { scale.threshold ≤ 10000 }
-    ensures appended { OnOk result (out.new.items ≡ out.old.items ++ entry_text scale bytes (gathered_label scale places)) }
+    ensures appended { OnOk result
+        (out.new.items ≡ out.old.items ++ entry_text scale bytes (gathered_label scale places)) }
     ensures kept { Extends out.old.items out.new.items }
 {
     put_share(scale, bytes, out)?;

@@ -30,7 +30,8 @@ pub(crate) fn put_graph(
 ) -> Result<(), NoMemory>
     requires wide { 0 < plot.width }
     requires plotted { All (IsPlotted plot) snaps.now }
-    ensures appended { OnOk result (out.new.items ≡ out.old.items ++ graph_text unit plot snaps.now) }
+    ensures appended { OnOk result
+        (out.new.items ≡ out.old.items ++ graph_text unit plot snaps.now) }
     ensures kept { Extends out.old.items out.new.items }
 {
     put_bytes(out, b"    ")?;
@@ -44,7 +45,8 @@ pub(crate) fn put_graph(
 fn put_rows(alloc: Global, plot: Plot, snaps: &Snaps, out: &mut Vec<u8>) -> Result<(), NoMemory>
     requires wide { 0 < plot.width }
     requires plotted { All (IsPlotted plot) snaps.now }
-    ensures appended { OnOk result (out.new.items ≡ out.old.items ++ rows_text plot snaps.now plot.height) }
+    ensures appended { OnOk result
+        (out.new.items ≡ out.old.items ++ rows_text plot snaps.now plot.height) }
     ensures kept { Extends out.old.items out.new.items }
 {
     let bars = bars_of(alloc, plot, snaps)?;

@@ -20,7 +20,10 @@ use massif_file::Profile;
 /// The profile must be one that may be written, as every profile is that was read.
 pub fn put_page(options: &PageOptions, profile: &Profile, out: &mut Vec<u8>) -> Result<(), NoMemory>
     requires writable { IsWritable profile.now }
-    ensures appended { OnOk result (out.new.items ≡ out.old.items ++ page_text options.now.threshold options.now.x options.now.y options.now.words profile.now) }
+    ensures appended { OnOk result
+        (out.new.items ≡ out.old.items
+        ++ page_text options.now.threshold options.now.x options.now.y options.now.words
+        profile.now) }
     ensures unchanged { OnErr result (out.new.items ≡ out.old.items) }
 {
     let before = out.len();
@@ -35,7 +38,10 @@ pub fn put_page(options: &PageOptions, profile: &Profile, out: &mut Vec<u8>) -> 
 #[tactic(auto, unfolding(crate::specs::PageText::page_text))]
 fn put_all(options: &PageOptions, profile: &Profile, out: &mut Vec<u8>) -> Result<(), NoMemory>
     requires writable { IsWritable profile.now }
-    ensures appended { OnOk result (out.new.items ≡ out.old.items ++ page_text options.now.threshold options.now.x options.now.y options.now.words profile.now) }
+    ensures appended { OnOk result
+        (out.new.items ≡ out.old.items
+        ++ page_text options.now.threshold options.now.x options.now.y options.now.words
+        profile.now) }
     ensures kept { Extends out.old.items out.new.items }
 {
     let alloc = *out.allocator();
@@ -49,7 +55,8 @@ fn put_all(options: &PageOptions, profile: &Profile, out: &mut Vec<u8>) -> Resul
 /// Appends the title of the page.
 #[tactic(auto, unfolding(crate::specs::PageText::title_text))]
 fn put_title(words: &[u8], profile: &Profile, out: &mut Vec<u8>) -> Result<(), NoMemory>
-    ensures appended { OnOk result (out.new.items ≡ out.old.items ++ title_text words.now profile.now) }
+    ensures appended { OnOk result
+        (out.new.items ≡ out.old.items ++ title_text words.now profile.now) }
     ensures kept { Extends out.old.items out.new.items }
 {
     put_rule(out)?;
@@ -60,7 +67,8 @@ fn put_title(words: &[u8], profile: &Profile, out: &mut Vec<u8>) -> Result<(), N
 
 /// Appends the command, how the profile was made, and the words that ask for the page.
 fn put_asked(words: &[u8], profile: &Profile, out: &mut Vec<u8>) -> Result<(), NoMemory>
-    ensures appended { OnOk result (out.new.items ≡ out.old.items ++ asked_text words.now profile.now) }
+    ensures appended { OnOk result
+        (out.new.items ≡ out.old.items ++ asked_text words.now profile.now) }
     ensures kept { Extends out.old.items out.new.items }
 {
     put_text(b"Command:            ", profile.cmd.bytes(), out)?;

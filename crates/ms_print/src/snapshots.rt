@@ -51,7 +51,8 @@ fn has_tree(mark: HeapTree) -> bool
 
 /// Appends what stands before a number, which is nothing before the first.
 fn put_comma(is_first: bool, out: &mut Vec<u8>) -> Result<(), NoMemory>
-    ensures appended { OnOk result (out.new.items ≡ out.old.items ++ (if is_first then [] else codes ", ")) }
+    ensures appended { OnOk result
+        (out.new.items ≡ out.old.items ++ (if is_first then [] else codes ", ")) }
     ensures kept { Extends out.old.items out.new.items }
 {
     if is_first {

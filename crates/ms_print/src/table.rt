@@ -32,7 +32,8 @@ pub(crate) fn put_table(
     requires threshold { threshold ≤ 10000 }
     requires numbers { All IsWritableSnap snaps.now }
     requires trees { All HasTree snaps.now }
-    ensures appended { OnOk result (out.new.items ≡ out.old.items ++ table_text threshold unit snaps.now) }
+    ensures appended { OnOk result
+        (out.new.items ≡ out.old.items ++ table_text threshold unit snaps.now) }
     ensures kept { Extends out.old.items out.new.items }
 {
     put_head(unit, out)?;
@@ -56,7 +57,8 @@ fn put_below(
     requires threshold { threshold ≤ 10000 }
     requires numbers { IsWritableSnap snap.now }
     requires tree { IsTreeOf snap.now.mark snap.now.tree }
-    ensures appended { OnOk result (out.new.items ≡ out.old.items ++ below_row threshold unit snap.now snap.now.mark later) }
+    ensures appended { OnOk result
+        (out.new.items ≡ out.old.items ++ below_row threshold unit snap.now snap.now.mark later) }
     ensures kept { Extends out.old.items out.new.items }
 {
     match snap.mark {

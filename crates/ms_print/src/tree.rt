@@ -10,7 +10,7 @@ ghost use Rattle.ms_print.specs.Shown.{shown};
 ghost use Rattle.ms_print.specs.TreeText.{entries_text, entry_line, tree_text};
 ghost use Rattle.ms_print.specs.Entries.{entry_text};
 
-use crate::children::{Entry, Pending, children_into};
+use crate::children::{Entry, Pending, TreeView, children_into};
 use crate::ends::ends_of;
 use crate::entry::{Scale, put_entry, put_gathered};
 use hp_num::{NoMemory, put_bytes};
@@ -40,20 +40,27 @@ fn put_entries(alloc: Global, scale: Scale, tree: &Tree, out: &mut Vec<u8>) -> R
     requires whole { AreWhole tree.now }
     requires some { 0 < length tree.now }
     requires threshold { scale.threshold ≤ 10000 }
-    ensures appended { OnOk result (out.new.items ≡ out.old.items ++ entries_text scale [] (shown scale (children_at tree.now 0))) }
+    ensures appended { OnOk result
+        (out.new.items ≡ out.old.items
+        ++ entries_text scale [] (shown scale (children_at tree.now 0))) }
     ensures kept { Extends out.old.items out.new.items }
 {
     let ends = ends_of(alloc, tree)?;
+    let view = TreeView {
+        tree,
+        ends: &ends,
+        scale,
+    };
     let mut prefix = Vec::new(alloc);
     let mut children = Vec::new(alloc);
     let mut pending = Vec::new(alloc);
-    children_into(tree, &ends, scale, Entry::Line(0), 0, &mut children)?;
+    children_into(&view, Entry::Line(0), 0, &mut children)?;
     push_reversed(&mut children, &mut pending)?;
     'each_entry: while let Some(next) = pending.pop() {
         prefix.truncate(next.indent);
         put_line(scale, tree, &prefix, next.entry, out)?;
         put_bytes(&mut prefix, bar_before(next.indent, &pending))?;
-        put_below(tree, &ends, scale, next.entry, &prefix, &mut children, out)?;
+        put_below(&view, next.entry, &prefix, &mut children, out)?;
         push_reversed(&mut children, &mut pending)?;
     }
     Ok(())
@@ -70,7 +77,10 @@ fn put_line(
 ) -> Result<(), NoMemory>
     requires held { IsHeld tree.now entry }
     requires threshold { scale.threshold ≤ 10000 }
-    ensures appended { OnOk result (out.new.items ≡ out.old.items ++ entry_line scale prefix.now (entry_bytes tree.now entry) (entry_label scale tree.now entry)) }
+    ensures appended { OnOk result
+        (out.new.items ≡ out.old.items
+        ++ entry_line scale prefix.now (entry_bytes tree.now entry)
+        (entry_label scale tree.now entry)) }
     ensures kept { Extends out.old.items out.new.items }
 {
     put_bytes(out, prefix)?;
@@ -83,7 +93,9 @@ fn put_line(
 fn put_what(scale: Scale, tree: &Tree, entry: Entry, out: &mut Vec<u8>) -> Result<(), NoMemory>
     requires held { IsHeld tree.now entry }
     requires threshold { scale.threshold ≤ 10000 }
-    ensures appended { OnOk result (out.new.items ≡ out.old.items ++ entry_text scale (entry_bytes tree.now entry) (entry_label scale tree.now entry)) }
+    ensures appended { OnOk result
+        (out.new.items ≡ out.old.items
+        ++ entry_text scale (entry_bytes tree.now entry) (entry_label scale tree.now entry)) }
     ensures kept { Extends out.old.items out.new.items }
 {
     match entry {
@@ -107,22 +119,24 @@ fn bar_before(indent: usize, pending: &[Pending]) -> &'static [u8]
 
 /// Puts the entries below one into `children`, and where it has none, appends the prefix that they would have.
 fn put_below(
-    tree: &Tree,
-    ends: &[usize],
-    scale: Scale,
+    view: &TreeView,
     entry: Entry,
     prefix: &[u8],
     children: &mut Vec<Pending>,
     out: &mut Vec<u8>,
 ) -> Result<(), NoMemory>
-    requires whole { AreWhole tree.now }
-    requires ends { AreEnds tree.now 0 ends.now }
-    requires held { IsHeld tree.now entry }
-    ensures roots { OnOk result (AreRoots scale tree.now (length prefix.now) children.new.items (entry_children scale tree.now entry)) }
-    ensures appended { OnOk result (out.new.items ≡ out.old.items ++ blank_below (entry_children scale tree.now entry) prefix.now) }
+    requires whole { AreWhole view.now.tree.now }
+    requires ends { AreEnds view.now.tree.now 0 view.now.ends.now }
+    requires held { IsHeld view.now.tree.now entry }
+    ensures roots { OnOk result
+        (AreRoots view.now.scale view.now.tree.now (length prefix.now) children.new.items
+        (entry_children view.now.scale view.now.tree.now entry)) }
+    ensures appended { OnOk result
+        (out.new.items ≡ out.old.items
+        ++ blank_below (entry_children view.now.scale view.now.tree.now entry) prefix.now) }
     ensures kept { Extends out.old.items out.new.items }
 {
-    children_into(tree, ends, scale, entry, prefix.len(), children)?;
+    children_into(view, entry, prefix.len(), children)?;
     if !children.is_empty() {
         return Ok(());
     }
@@ -132,7 +146,8 @@ fn put_below(
 
 /// Moves the children to the end of what is pending, the first one last.
 fn push_reversed(children: &mut Vec<Pending>, pending: &mut Vec<Pending>) -> Result<(), NoMemory>
-    ensures appended { OnOk result (pending.new.items ≡ pending.old.items ++ reverse children.old.items) }
+    ensures appended { OnOk result
+        (pending.new.items ≡ pending.old.items ++ reverse children.old.items) }
 {
     'each_child: while let Some(child) = children.pop() {
         pending.push(child)?;

@@ -27,18 +27,21 @@ pub record IsWhole (input line : ℕ) (job : Job) (bytes : List ℕ) (events : �
 pub record IsRefusedAt (input line : ℕ) (job : Job) (bytes : List ℕ) (count : ℕ) : Type 0 where
   pub before : IsGoodFront input line job bytes count
   pub lengths : HasNoLengthFault input line bytes (min (count + 1) (length (lines_of bytes)))
-  pub no_front : count < length (lines_of bytes) → ¬ (IsFront job (take (count + 1) (lines_of bytes)))
+  pub no_front : count < length (lines_of bytes)
+      → ¬ (IsFront job (take (count + 1) (lines_of bytes)))
   pub no_recording : ¬ (IsRecording job bytes)
 
 -- the line behind so many is the first with a fault of its length, and some recording begins with the lines before it
-pub record IsCutAt (input line : ℕ) (job : Job) (bytes : List ℕ) (count : ℕ) (Fault : Type 0) : Type 0 where
+pub record IsCutAt (input line : ℕ) (job : Job) (bytes : List ℕ) (count : ℕ) (Fault : Type 0) : Type
+    0 where
   pub before : IsGoodFront input line job bytes count
   pub there : count < length (lines_of bytes)
   pub fault : Fault
 
 -- a read failed behind so many lines: the bytes that were taken before it show neither the next line nor a fault of its
 -- length
-pub record IsStoppedAt (input line : ℕ) (job : Job) (bytes : List ℕ) (left : Option (List ℕ)) (count : ℕ) : Type 0 where
+pub record IsStoppedAt (input line : ℕ) (job : Job) (bytes : List ℕ) (left : Option (List ℕ))
+    (count : ℕ) : Type 0 where
   pub before : IsGoodFront input line job bytes count
   pub kept : List ℕ
   pub unread : List ℕ
@@ -49,10 +52,14 @@ pub record IsStoppedAt (input line : ℕ) (job : Job) (bytes : List ℕ) (left :
 -- the answer to a file of these bytes, of which this is left
 abbrev pub CheckAnswer : ℕ → ℕ → Job → List ℕ → Option (List ℕ) → Result Verdict CheckFault → Type 0
 CheckAnswer input line job bytes left (Ok (Yes events)) = IsWhole input line job bytes events
-CheckAnswer input line job bytes left (Ok (No number)) = (count : ℕ) × (number ≡ count + 1) × IsRefusedAt input line job bytes count
-CheckAnswer input line job bytes left (Err LineTooLong) = (count : ℕ) × IsCutAt input line job bytes count (LineTooLongAt input line bytes count)
-CheckAnswer input line job bytes left (Err InputTooLong) = (count : ℕ) × IsCutAt input line job bytes count (InputTooLongAt input line bytes count)
-CheckAnswer input line job bytes left (Err ReadFailed) = (count : ℕ) × IsStoppedAt input line job bytes left count
+CheckAnswer input line job bytes left (Ok (No number)) = (count : ℕ) × (number ≡ count + 1)
+    × IsRefusedAt input line job bytes count
+CheckAnswer input line job bytes left (Err LineTooLong) = (count : ℕ)
+    × IsCutAt input line job bytes count (LineTooLongAt input line bytes count)
+CheckAnswer input line job bytes left (Err InputTooLong) = (count : ℕ)
+    × IsCutAt input line job bytes count (InputTooLongAt input line bytes count)
+CheckAnswer input line job bytes left (Err ReadFailed) = (count : ℕ)
+    × IsStoppedAt input line job bytes left count
 CheckAnswer input line job bytes left (Err NoMemory) = Unit {0}
 
 -- an answer that tells of the file: neither want of memory nor a failed read

@@ -31,7 +31,8 @@ thread_for order line = option_or (named line) (last_entry order)
 
 -- what a turn of a thread adds to the recording of an order
 abbrev pub added : Job → List ℕ → ℕ → List ℕ
-added job order thread = drop (length (recorded job order)) (recorded job (stepped job.scripts thread order))
+added job order thread = drop (length (recorded job order))
+    (recorded job (stepped job.scripts thread order))
 
 -- the next turn of a thread is begun, where its script isn't done
 abbrev pub turn_begun : Job → List ℕ → Option ℕ → Option Following
@@ -72,7 +73,8 @@ is_front job lines = is_some (followed job lines)
 -- whether the scripts, the first of which is that of a thread, are done
 abbrev pub are_done : ℕ → List (List Turn) → List ℕ → Bool
 are_done thread [] order = true
-are_done thread (script ∷ scripts) order = times thread order == length (events_of script) && are_done (thread + 1) scripts order
+are_done thread (script ∷ scripts) order = times thread order == length (events_of script)
+    && are_done (thread + 1) scripts order
 
 -- whether nothing is to come
 abbrev pub is_empty : List ℕ → Bool
@@ -83,7 +85,8 @@ is_empty (byte ∷ bytes) = false
 abbrev pub events_at_end : Job → Bool → Option Following → Option ℕ
 events_at_end job ended None = None
 events_at_end job ended (Some now) =
-    if ended && is_empty now.coming && are_done 0 job.scripts now.order then Some (length now.order) else None
+    if ended && is_empty now.coming && are_done 0 job.scripts now.order then Some (length now.order)
+    else None
 
 -- the number of events, where lines are all of a recording in which all turns are taken; whether the last one ended with its
 -- line feed is told beside them

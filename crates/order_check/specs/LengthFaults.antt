@@ -14,13 +14,16 @@ length_before bytes count = length bytes - length (behind_lines bytes count)
 
 -- more bytes than a line may have stand in the line behind so many, within the bytes that a file may have
 abbrev pub LineTooLongAt : ℕ → ℕ → List ℕ → ℕ → Type 0
-LineTooLongAt input line bytes count = IsLineTooLong input line (length_before bytes count) (behind_lines bytes count)
+LineTooLongAt input line bytes count = IsLineTooLong input line (length_before bytes count)
+    (behind_lines bytes count)
 
 -- the file has more bytes than it may have, and the line behind so many doesn't end within those
 abbrev pub InputTooLongAt : ℕ → ℕ → List ℕ → ℕ → Type 0
-InputTooLongAt input line bytes count = IsInputTooLong input line (length_before bytes count) (behind_lines bytes count)
+InputTooLongAt input line bytes count = IsInputTooLong input line (length_before bytes count)
+    (behind_lines bytes count)
 
 -- none of the first so many lines has such a fault
 abbrev pub HasNoLengthFault : ℕ → ℕ → List ℕ → ℕ → Type 0
 HasNoLengthFault input line bytes count =
-    (before : ℕ) → before < count → ¬ (LineTooLongAt input line bytes before) × ¬ (InputTooLongAt input line bytes before)
+    (before : ℕ) → before < count
+    → ¬ (LineTooLongAt input line bytes before) × ¬ (InputTooLongAt input line bytes before)

@@ -36,8 +36,11 @@ pub fn check_order<S: Store>(
 ) -> Result<Verdict, CheckFault>
     requires current { IsTrue (S.current store.old) }
     requires modules { AreModuleLines (arc_value job).modules }
-    ensures answer { WhereTold (S.left store.old) (λ bytes. CheckAnswer limits.now.input limits.now.line (arc_value job) bytes (S.left store.new) result) }
-    ensures failed { result ≡ Err CheckFault.ReadFailed → Rose (S.faults store.old) (S.faults store.new) }
+    ensures answer { WhereTold (S.left store.old)
+        (λ bytes. CheckAnswer limits.now.input limits.now.line (arc_value job) bytes
+        (S.left store.new) result) }
+    ensures failed { result ≡ Err CheckFault.ReadFailed
+        → Rose (S.faults store.old) (S.faults store.new) }
     ensures sound { result ≢ Err CheckFault.ReadFailed → S.faults store.new ≡ S.faults store.old }
     ensures files { S.files store.new ≡ S.files store.old }
     ensures current { S.current store.new ≡ S.current store.old }
@@ -62,8 +65,11 @@ fn compare_lines<S: Store>(
     requires new_lines { IsNewReader lines.old }
     requires new_check { HasTaken check.old [] }
     requires spelling { IsSpelling check.old.job }
-    ensures answer { WhereTold (S.left store.old) (λ bytes. CheckAnswer lines.old.input lines.old.line_limit check.old.job bytes (S.left store.new) result) }
-    ensures failed { result ≡ Err CheckFault.ReadFailed → Rose (S.faults store.old) (S.faults store.new) }
+    ensures answer { WhereTold (S.left store.old)
+        (λ bytes. CheckAnswer lines.old.input lines.old.line_limit check.old.job bytes
+        (S.left store.new) result) }
+    ensures failed { result ≡ Err CheckFault.ReadFailed
+        → Rose (S.faults store.old) (S.faults store.new) }
     ensures sound { result ≢ Err CheckFault.ReadFailed → S.faults store.new ≡ S.faults store.old }
     ensures files { S.files store.new ≡ S.files store.old }
     ensures current { S.current store.new ≡ S.current store.old }

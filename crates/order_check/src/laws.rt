@@ -18,16 +18,23 @@ use hp_num::decimal_texts;
 ///
 /// The lines of modules have to be whole lines that spell nothing, and there may be 64 scripts at most.
 pub fn front_laws()
-    ensures fronts { (job : Job) (lines : List (List ℕ)) → length job.scripts ≤ 64 → AreQuiet job.modules → All IsLineText lines →
+    ensures fronts { (job : Job) (lines : List (List ℕ)) → length job.scripts ≤ 64
+        → AreQuiet job.modules → All IsLineText lines →
         (is_front job lines ≡ true) ↔ IsFront job lines }
-    ensures few { (job : Job) (lines : List (List ℕ)) → length job.scripts ≤ 64 → AreQuiet job.modules → All IsLineText lines →
+    ensures few { (job : Job) (lines : List (List ℕ)) → length job.scripts ≤ 64
+        → AreQuiet job.modules → All IsLineText lines →
         IsFront job lines ↔ BeginsAsSpelled job lines }
 
     // Lines with or without a line feed behind the last one: they are all of a recording exactly where they are so followed.
-    ensures whole { (job : Job) (lines : List (List ℕ)) (ended : Bool) (events : ℕ) (bytes : List ℕ) → length job.scripts ≤ 64 → AreQuiet job.modules →
-        lines_of bytes ≡ lines → (ended ≡ true → bytes ≡ text_of_lines lines) → whole_events job lines ended ≡ Some events → IsRecording job bytes × (events ≡ length (spelled bytes)) }
-    ensures only { (job : Job) (lines : List (List ℕ)) (ended : Bool) (bytes : List ℕ) → length job.scripts ≤ 64 → AreQuiet job.modules →
-        lines_of bytes ≡ lines → (ended ≡ false → bytes ≢ text_of_lines lines) → IsRecording job bytes → whole_events job lines ended ≡ Some (length (spelled bytes)) }
+    ensures whole { (job : Job) (lines : List (List ℕ)) (ended : Bool) (events : ℕ) (bytes : List ℕ)
+        → length job.scripts ≤ 64 → AreQuiet job.modules →
+        lines_of bytes ≡ lines → (ended ≡ true → bytes ≡ text_of_lines lines)
+        → whole_events job lines ended ≡ Some events
+        → IsRecording job bytes × (events ≡ length (spelled bytes)) }
+    ensures only { (job : Job) (lines : List (List ℕ)) (ended : Bool) (bytes : List ℕ)
+        → length job.scripts ≤ 64 → AreQuiet job.modules →
+        lines_of bytes ≡ lines → (ended ≡ false → bytes ≢ text_of_lines lines)
+        → IsRecording job bytes → whole_events job lines ended ≡ Some (length (spelled bytes)) }
 {
     decimal_texts();
 }
@@ -35,6 +42,8 @@ pub fn front_laws()
 /// A file has one answer, but for want of memory and a failed read: so each comes exactly where what it says holds. It does
 /// nothing.
 pub fn one_answer()
-    ensures { (input line : ℕ) (job : Job) (bytes : List ℕ) (left other_left : Option (List ℕ)) (result other : Result Verdict CheckFault) → Tells result → Tells other →
-        CheckAnswer input line job bytes left result → CheckAnswer input line job bytes other_left other → result ≡ other }
+    ensures { (input line : ℕ) (job : Job) (bytes : List ℕ) (left other_left : Option (List ℕ))
+        (result other : Result Verdict CheckFault) → Tells result → Tells other →
+        CheckAnswer input line job bytes left result
+        → CheckAnswer input line job bytes other_left other → result ≡ other }
 {}

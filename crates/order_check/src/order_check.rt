@@ -30,7 +30,11 @@ impl Model for OrderCheck {
 
     ghost Value = { CheckState };
 
-    ghost view = { λ c. record { job = c.stream.job; order = c.stream.order; coming = drop c.compared c.stream.text } };
+    ghost view = { λ c. record {
+      job = c.stream.job;
+      order = c.stream.order;
+      coming = drop c.compared c.stream.text;
+    } };
 
     ghost invariant = { λ c. c.compared ≤ length c.stream.text };
 }
@@ -55,9 +59,14 @@ impl OrderCheck {
     ///
     /// After a refusal the check is of no use.
     pub fn line(&mut self, line: &[u8]) -> Result<(), LineRefusal>
-        ensures taken { OnOk result ((lines : List (List ℕ)) → HasTaken self.old lines → HasTaken self.new (lines ++ line.now ∷ [])) }
-        ensures front { OnOk result ((lines : List (List ℕ)) → HasTaken self.old lines → is_front self.old.job (lines ++ line.now ∷ []) ≡ true) }
-        ensures refused { result ≡ Err LineRefusal.NotRecorded → (lines : List (List ℕ)) → HasTaken self.old lines → is_front self.old.job (lines ++ line.now ∷ []) ≡ false }
+        ensures taken { OnOk result
+            ((lines : List (List ℕ)) → HasTaken self.old lines
+            → HasTaken self.new (lines ++ line.now ∷ [])) }
+        ensures front { OnOk result
+            ((lines : List (List ℕ)) → HasTaken self.old lines
+            → is_front self.old.job (lines ++ line.now ∷ []) ≡ true) }
+        ensures refused { result ≡ Err LineRefusal.NotRecorded → (lines : List (List ℕ))
+            → HasTaken self.old lines → is_front self.old.job (lines ++ line.now ∷ []) ≡ false }
         ensures job { self.new.job ≡ self.old.job }
     {
         self.step(line)
@@ -66,7 +75,8 @@ impl OrderCheck {
     /// The number of events, where the lines are all of a recording in which all turns are taken. `ended` says whether the
     /// last line ended with its line feed, which it does where there is none.
     pub fn end(&self, ended: bool) -> Option<u64>
-        ensures events { (lines : List (List ℕ)) → HasTaken self.now lines → result ≡ whole_events self.now.job lines ended }
+        ensures events { (lines : List (List ℕ)) → HasTaken self.now lines
+            → result ≡ whole_events self.now.job lines ended }
     {
         if !ended {
             return None;
@@ -83,8 +93,11 @@ impl OrderCheck {
 
     // One line further.
     fn step(&mut self, line: &[u8]) -> Result<(), LineRefusal>
-        ensures stepped { OnOk result (with_line self.old.job (following_of self.old) line.now ≡ Some (following_of self.new)) }
-        ensures refused { result ≡ Err LineRefusal.NotRecorded → with_line self.old.job (following_of self.old) line.now ≡ None }
+        ensures stepped { OnOk result
+            (with_line self.old.job (following_of self.old) line.now
+            ≡ Some (following_of self.new)) }
+        ensures refused { result ≡ Err LineRefusal.NotRecorded
+            → with_line self.old.job (following_of self.old) line.now ≡ None }
         ensures job { self.new.job ≡ self.old.job }
     {
         if self.is_compared() {
@@ -96,8 +109,11 @@ impl OrderCheck {
     // Begins the turn that a line calls for, and compares the line; nothing is to come.
     fn begin_with(&mut self, line: &[u8]) -> Result<(), LineRefusal>
         requires { self.old.coming ≡ [] }
-        ensures stepped { OnOk result (with_line self.old.job (following_of self.old) line.now ≡ Some (following_of self.new)) }
-        ensures refused { result ≡ Err LineRefusal.NotRecorded → with_line self.old.job (following_of self.old) line.now ≡ None }
+        ensures stepped { OnOk result
+            (with_line self.old.job (following_of self.old) line.now
+            ≡ Some (following_of self.new)) }
+        ensures refused { result ≡ Err LineRefusal.NotRecorded
+            → with_line self.old.job (following_of self.old) line.now ≡ None }
         ensures job { self.new.job ≡ self.old.job }
     {
         match self.begin_turn(line) {
@@ -116,8 +132,11 @@ impl OrderCheck {
     // Begins the turn that a line calls for; nothing is to come.
     fn begin_turn(&mut self, line: &[u8]) -> Result<(), LineRefusal>
         requires { self.old.coming ≡ [] }
-        ensures begun { OnOk result (turn_begun self.old.job self.old.order (thread_for self.old.order line.now) ≡ Some (following_of self.new)) }
-        ensures refused { result ≡ Err LineRefusal.NotRecorded → turn_begun self.old.job self.old.order (thread_for self.old.order line.now) ≡ None }
+        ensures begun { OnOk result
+            (turn_begun self.old.job self.old.order (thread_for self.old.order line.now)
+            ≡ Some (following_of self.new)) }
+        ensures refused { result ≡ Err LineRefusal.NotRecorded
+            → turn_begun self.old.job self.old.order (thread_for self.old.order line.now) ≡ None }
         ensures job { self.new.job ≡ self.old.job }
     {
         let Some(thread) = thread_for(line, self.stream.order()) else {
@@ -136,7 +155,8 @@ impl OrderCheck {
 
     // Compares a line with what is to come.
     fn compare(&mut self, line: &[u8]) -> Result<(), LineRefusal>
-        ensures passed { OnOk result (behind (line.now ++ 10 ∷ []) self.old.coming ≡ Some self.new.coming) }
+        ensures passed { OnOk result
+            (behind (line.now ++ 10 ∷ []) self.old.coming ≡ Some self.new.coming) }
         ensures refused { OnErr result (behind (line.now ++ 10 ∷ []) self.old.coming ≡ None) }
         ensures fault { IfErr result (λ refusal. refusal ≡ LineRefusal.NotRecorded) }
         ensures order { self.new.order ≡ self.old.order }
@@ -153,7 +173,9 @@ impl OrderCheck {
 
 // Whether a text begins with a line and its line feed.
 fn begins_with_line(text: &[u8], line: &[u8]) -> bool
-    ensures begins { result ≡ true → (behind (line.now ++ 10 ∷ []) text.now ≡ Some (drop (length line.now + 1) text.now)) × (length line.now + 1 ≤ length text.now) }
+    ensures begins { result ≡ true
+        → (behind (line.now ++ 10 ∷ []) text.now ≡ Some (drop (length line.now + 1) text.now))
+        × (length line.now + 1 ≤ length text.now) }
     ensures other { result ≡ false → behind (line.now ++ 10 ∷ []) text.now ≡ None }
 {
     let count = line.len();
@@ -167,7 +189,7 @@ fn begins_with_line(text: &[u8], line: &[u8]) -> bool
 }
 
 // The thread whose turn a line begins, behind the events of these threads.
-fn thread_for(line: &[u8], order: &[u32]) -> Option<u64>
+fn thread_for(line: &[u8], order: &[u8]) -> Option<u64>
     ensures { result ≡ thread_for order.now line.now }
 {
     match named_thread(line) {

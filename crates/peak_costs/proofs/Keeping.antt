@@ -1,7 +1,6 @@
 -- How the fields of peaks keep what they promise.
 use Rattle.std.proofs.Common.{◌≡◌, ◌≢◌, ℕ, ◌+◌, ◌<◌, ◌≤◌, List, [], ◌∷◌, ◌++◌, length, map, ◌⊎◌, Bool, cond, refl, inl, inr, sym, ap, subst, ◌∙◌, arith, add-zero, zero, suc}
-use Rattle.std.specs.Prelude.{slice_index, slice_index_or, sum, sum_by, nat_lt}
-use Rattle.std.proofs.lemmas.Bool.{cases_lt}
+use Rattle.std.specs.Prelude.{slice_index, slice_index_or, sum}
 use Rattle.std.proofs.lemmas.Bool.Decides.{eqb_tells, leb_tells}
 use Rattle.std.proofs.lemmas.List.{get_or_past, length-map}
 use Rattle.std.proofs.lemmas.List.Sums.{get_or-le-sum_by, sum-map, sum_by_push}

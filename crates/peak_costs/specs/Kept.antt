@@ -27,7 +27,8 @@ state_of ledger saved blocks stamps mark = record {
 
 -- there is a cell for each stack, no stamp is of a later peak, and one that isn't held yet has the stamp 0, which is no
 -- peak's
-pub record AreKept (ledger : LedgerState) (saved blocks stamps : List ℕ) (mark : Mark) : Type 0 where
+pub record AreKept (ledger : LedgerState) (saved blocks stamps : List ℕ) (mark : Mark) : Type
+    0 where
   pub sound : ledger_sound.IsSound ledger
   pub saved_long : ledger.stacks ≤ length saved
   pub blocks_long : ledger.stacks ≤ length blocks
@@ -36,6 +37,7 @@ pub record AreKept (ledger : LedgerState) (saved blocks stamps : List ℕ) (mark
   pub stamps_within : (stack : ℕ) → slice_index stamps stack ≤ mark.counter
   pub counter_some : 0 < mark.counter
   pub counter_within : mark.counter ≤ ledger.totals.events + 1
-  pub shares_sum : sum (shares_of ledger.stacks (live_list ledger) saved stamps mark.counter) ≡ mark.total
+  pub shares_sum : sum (shares_of ledger.stacks (live_list ledger) saved stamps mark.counter)
+      ≡ mark.total
   pub total_within : mark.total ≤ ledger.totals.allocated
   pub moment_within : mark.moment ≤ ledger.totals.events

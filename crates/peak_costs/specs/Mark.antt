@@ -8,4 +8,5 @@ first_mark = record { total = 0; moment = 0; counter = 1 }
 
 -- the mark after the total that stands after so many events
 abbrev pub raised : Mark → ℕ → ℕ → Mark
-raised mark total events = if nat_lt mark.total total then record { total = total; moment = events; counter = mark.counter + 1 } else mark
+raised mark total events = if nat_lt mark.total total
+    then record { total = total; moment = events; counter = mark.counter + 1 } else mark

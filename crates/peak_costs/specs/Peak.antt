@@ -27,8 +27,10 @@ pub record StandsFor (state : PeakState) (events : List Event) : Type 0 where
   pub ledger : ledger_spec.StandsFor state.ledger events
   pub peak : IsPeak state.moment events
   pub total : state.total ≡ total_after state.moment events
-  pub shares : (stack : ℕ) → slice_index state.shares stack ≡ live_in stack (first_events state.moment events)
-  pub block_shares : (stack : ℕ) → slice_index state.block_shares stack ≡ blocks_in stack (first_events state.moment events)
+  pub shares : (stack : ℕ)
+      → slice_index state.shares stack ≡ live_in stack (first_events state.moment events)
+  pub block_shares : (stack : ℕ)
+      → slice_index state.block_shares stack ≡ blocks_in stack (first_events state.moment events)
 
 -- it is an allocation or a free of a block of the stack
 abbrev pub IsIn : ℕ → Event → Type 0

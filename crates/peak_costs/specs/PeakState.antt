@@ -23,7 +23,8 @@ pub record IsSound (state : PeakState) : Type 0 where
 -- the state with one more stack, which has no figures and no share
 abbrev pub with_stack : PeakState → PeakState
 with_stack state = record state {
-  ledger = record state.ledger { stacks = state.ledger.stacks + 1; figures = state.ledger.figures ++ no_figures ∷ [] };
+  ledger = record state.ledger
+      { stacks = state.ledger.stacks + 1; figures = state.ledger.figures ++ no_figures ∷ [] };
   shares = state.shares ++ 0 ∷ [];
   block_shares = state.block_shares ++ 0 ∷ [];
 }

@@ -14,7 +14,7 @@ ghost use Rattle.peak_costs.specs.PeakState.{IsSound, with_stack};
 mod fields;
 
 use crate::mark::Mark;
-use crate::save::save;
+use crate::save::SavedCells;
 use hp_num::NoMemory;
 use live_ledger::{Cells, Event, EventFault, Ledger, Steps};
 use std::alloc::Global;
@@ -27,9 +27,7 @@ use std::marker::Model;
 #[derive(Debug, Drop)]
 pub struct Peaks {
     ledger: Ledger,
-    saved: Cells,
-    blocks: Cells,
-    stamps: Cells,
+    saved: SavedCells,
     mark: Mark,
 }
 
@@ -39,9 +37,11 @@ impl Model for Peaks {
 
     ghost Value = { PeakState };
 
-    ghost view = { λ peaks. state_of peaks.ledger peaks.saved peaks.blocks peaks.stamps peaks.mark };
+    ghost view = { λ peaks.
+        state_of peaks.ledger peaks.saved.live peaks.saved.blocks peaks.saved.stamps peaks.mark };
 
-    ghost invariant = { λ peaks. AreKept peaks.ledger peaks.saved peaks.blocks peaks.stamps peaks.mark };
+    ghost invariant = { λ peaks.
+        AreKept peaks.ledger peaks.saved.live peaks.saved.blocks peaks.saved.stamps peaks.mark };
 }
 
 impl Peaks {
@@ -52,17 +52,19 @@ impl Peaks {
         ensures infos { IfOk result (λ peaks. peaks.ledger.infos ≡ []) }
     {
         let ledger = Ledger::new(alloc)?;
-        let mut saved = Cells::new(alloc);
-        saved.push(0)?;
+        let mut live = Cells::new(alloc);
+        live.push(0)?;
         let mut blocks = Cells::new(alloc);
         blocks.push(0)?;
         let mut stamps = Cells::new(alloc);
         stamps.push(0)?;
         Ok(Peaks {
             ledger,
-            saved,
-            blocks,
-            stamps,
+            saved: SavedCells {
+                live,
+                blocks,
+                stamps,
+            },
             mark: Mark::new(),
         })
     }
@@ -73,13 +75,14 @@ impl Peaks {
         requires { self.old.ledger.stacks < 2 ^ 32 - 1 }
         ensures number { IfOk result (λ number. number ≡ self.old.ledger.stacks) }
         ensures grown { OnOk result (self.new ≡ with_stack self.old) }
-        ensures stands { (events : List Event) → StandsFor self.old events → StandsFor self.new events }
+        ensures stands { (events : List Event) → StandsFor self.old events
+            → StandsFor self.new events }
         ensures unchanged { OnErr result (self.new ≡ self.old) }
     {
         let stacks = self.ledger.stacks();
-        add_cell(&mut self.saved, stacks)?;
-        add_cell(&mut self.blocks, stacks)?;
-        add_cell(&mut self.stamps, stacks)?;
+        add_cell(&mut self.saved.live, stacks)?;
+        add_cell(&mut self.saved.blocks, stacks)?;
+        add_cell(&mut self.saved.stamps, stacks)?;
         let number = self.ledger.grow_stack()?;
         Ok(number)
     }
@@ -89,10 +92,13 @@ impl Peaks {
         requires room { length self.old.ledger.infos < 2 ^ 32 - 1 }
         requires stack_held { stack < self.old.ledger.stacks }
         ensures number { IfOk result (λ number. number ≡ length self.old.ledger.infos) }
-        ensures infos { OnOk result (self.new.ledger.infos ≡ self.old.ledger.infos ++ record { stack = stack; size = size } ∷ []) }
+        ensures infos { OnOk result
+            (self.new.ledger.infos
+            ≡ self.old.ledger.infos ++ record { stack = stack; size = size } ∷ []) }
         ensures stacks { self.new.ledger.stacks ≡ self.old.ledger.stacks }
         ensures totals { self.new.ledger.totals ≡ self.old.ledger.totals }
-        ensures stands { (events : List Event) → StandsFor self.old events → StandsFor self.new events }
+        ensures stands { (events : List Event) → StandsFor self.old events
+            → StandsFor self.new events }
         ensures unchanged { OnErr result (self.new ≡ self.old) }
     {
         self.ledger.grow_info(stack, size)
@@ -112,10 +118,14 @@ impl Peaks {
         requires held { IsHeld self.old.ledger event }
         requires count { self.old.ledger.totals.events < 2 ^ 32 }
         ensures by_figures { result_err result ≡ fault_at self.old.ledger event }
-        ensures fault { (events : List Event) → StandsFor self.old events → result_err result ≡ fault_of events event }
-        ensures stands { OnOk result ((events : List Event) → StandsFor self.old events → StandsFor self.new (events ++ event ∷ [])) }
+        ensures fault { (events : List Event) → StandsFor self.old events
+            → result_err result ≡ fault_of events event }
+        ensures stands { OnOk result
+            ((events : List Event) → StandsFor self.old events
+            → StandsFor self.new (events ++ event ∷ [])) }
         ensures changes { OnOk result (Changes self.old.ledger self.new.ledger event) }
-        ensures at_most_one_more { self.new.ledger.totals.events ≤ self.old.ledger.totals.events + 1 }
+        ensures at_most_one_more { self.new.ledger.totals.events
+            ≤ self.old.ledger.totals.events + 1 }
         ensures stacks { self.new.ledger.stacks ≡ self.old.ledger.stacks }
         ensures infos { self.new.ledger.infos ≡ self.old.ledger.infos }
         ensures tick { IsTick event → self.new ≡ self.old }
@@ -145,10 +155,14 @@ impl Peaks {
         requires count { self.old.ledger.totals.events < 2 ^ 32 }
         requires own { IsIn stack event }
         ensures by_figures { result_err result ≡ fault_at self.old.ledger event }
-        ensures fault { (events : List Event) → StandsFor self.old events → result_err result ≡ fault_of events event }
-        ensures stands { OnOk result ((events : List Event) → StandsFor self.old events → StandsFor self.new (events ++ event ∷ [])) }
+        ensures fault { (events : List Event) → StandsFor self.old events
+            → result_err result ≡ fault_of events event }
+        ensures stands { OnOk result
+            ((events : List Event) → StandsFor self.old events
+            → StandsFor self.new (events ++ event ∷ [])) }
         ensures changes { OnOk result (Changes self.old.ledger self.new.ledger event) }
-        ensures at_most_one_more { self.new.ledger.totals.events ≤ self.old.ledger.totals.events + 1 }
+        ensures at_most_one_more { self.new.ledger.totals.events
+            ≤ self.old.ledger.totals.events + 1 }
         ensures stacks { self.new.ledger.stacks ≡ self.old.ledger.stacks }
         ensures infos { self.new.ledger.infos ≡ self.old.ledger.infos }
         ensures unchanged { OnErr result (self.new ≡ self.old) }
@@ -157,15 +171,7 @@ impl Peaks {
     {
         let before = self.ledger.stack(stack);
         self.ledger.apply(event)?;
-        save(
-            &mut self.saved,
-            &mut self.blocks,
-            &mut self.stamps,
-            self.mark.counter,
-            stack,
-            before,
-            steps,
-        );
+        self.saved.save(self.mark.counter, stack, before, steps);
         let totals = self.ledger.totals();
         self.mark.raise(totals.live, totals.events);
         Ok(())
@@ -181,7 +187,8 @@ impl Peaks {
     /// The greatest total, in bytes.
     pub fn peak_total(&self) -> u64
         ensures value { result ≡ self.now.total }
-        ensures total { (events : List Event) → StandsFor self.now events → result ≡ total_after self.now.moment events }
+        ensures total { (events : List Event) → StandsFor self.now events
+            → result ≡ total_after self.now.moment events }
         ensures sound { IsSound self.now }
     {
         self.mark.total
@@ -200,11 +207,12 @@ impl Peaks {
     pub fn peak_of(&self, stack: u32) -> u64
         requires { stack < self.now.ledger.stacks }
         ensures value { result ≡ slice_index self.now.shares stack }
-        ensures share { (events : List Event) → StandsFor self.now events → result ≡ live_in stack (first_events self.now.moment events) }
+        ensures share { (events : List Event) → StandsFor self.now events
+            → result ≡ live_in stack (first_events self.now.moment events) }
         ensures within { result ≤ self.now.total }
     {
-        if self.stamps.at(stack) == self.mark.counter {
-            self.saved.at(stack)
+        if self.saved.stamps.at(stack) == self.mark.counter {
+            self.saved.live.at(stack)
         } else {
             self.ledger.stack(stack).live
         }
@@ -214,10 +222,11 @@ impl Peaks {
     pub fn peak_blocks_of(&self, stack: u32) -> u64
         requires { stack < self.now.ledger.stacks }
         ensures value { result ≡ slice_index self.now.block_shares stack }
-        ensures share { (events : List Event) → StandsFor self.now events → result ≡ blocks_in stack (first_events self.now.moment events) }
+        ensures share { (events : List Event) → StandsFor self.now events
+            → result ≡ blocks_in stack (first_events self.now.moment events) }
     {
-        if self.stamps.at(stack) == self.mark.counter {
-            self.blocks.at(stack)
+        if self.saved.stamps.at(stack) == self.mark.counter {
+            self.saved.blocks.at(stack)
         } else {
             self.ledger.stack(stack).blocks
         }

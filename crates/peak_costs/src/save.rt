@@ -1,32 +1,42 @@
-//! Saving a stack's figures before they change, at most once for each peak.
+//! What is saved of each stack, before it changes and at most once for each peak.
 ghost use Rattle.std.specs.Prelude.{◌≡◌, ◌+◌, ◌<◌, ◌≤◌, length};
 ghost use Rattle.peak_costs.specs.Saved.{saved_after, stamps_after};
 
 use live_ledger::{Cells, Figures, Steps};
 use std::sync::ledger::Ledger;
 
-/// Saves the stack's figures and stamps them with the counter, where its stamp isn't the counter.
-pub(crate) fn save<L: Ledger>(
-    saved: &mut Cells,
-    blocks: &mut Cells,
-    stamps: &mut Cells,
-    counter: u64,
-    stack: u32,
-    figures: Figures,
-    steps: &mut Steps<L>,
-)
-    requires saved { stack < length saved.old }
-    requires blocks { stack < length blocks.old }
-    requires stamps { stack < length stamps.old }
-    ensures saved { saved.new ≡ saved_after saved.old stamps.old counter stack figures.live }
-    ensures blocks { blocks.new ≡ saved_after blocks.old stamps.old counter stack figures.blocks }
-    ensures stamps { stamps.new ≡ stamps_after stamps.old counter stack }
-    ensures steps { steps.new ≤ steps.old + 3 }
-{
-    if stamps.at(stack) == counter {
-        return;
+/// The saved figures of stacks: bytes, blocks, and the number of the peak for which they were saved.
+#[derive(Debug, Drop)]
+pub struct SavedCells {
+    pub live: Cells,
+    pub blocks: Cells,
+    pub stamps: Cells,
+}
+
+impl SavedCells {
+    /// Saves the stack's figures and stamps them with the counter, where its stamp isn't the counter.
+    pub fn save<L: Ledger>(
+        &mut self,
+        counter: u64,
+        stack: u32,
+        figures: Figures,
+        steps: &mut Steps<L>,
+    )
+        requires live { stack < length self.old.live }
+        requires blocks { stack < length self.old.blocks }
+        requires stamps { stack < length self.old.stamps }
+        ensures live { self.new.live
+            ≡ saved_after self.old.live self.old.stamps counter stack figures.live }
+        ensures blocks { self.new.blocks
+            ≡ saved_after self.old.blocks self.old.stamps counter stack figures.blocks }
+        ensures stamps { self.new.stamps ≡ stamps_after self.old.stamps counter stack }
+        ensures steps { steps.new ≤ steps.old + 3 }
+    {
+        if self.stamps.at(stack) == counter {
+            return;
+        }
+        self.live.set(stack, figures.live, steps);
+        self.blocks.set(stack, figures.blocks, steps);
+        self.stamps.set(stack, counter, steps);
     }
-    saved.set(stack, figures.live, steps);
-    blocks.set(stack, figures.blocks, steps);
-    stamps.set(stack, counter, steps);
 }

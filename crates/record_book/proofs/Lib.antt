@@ -2,6 +2,7 @@ mod PlaceKeys
 mod HeapLemmas
 mod NextLemmas
 mod NodeLemmas
+mod MapLemmas
 mod TraceLemmas
 mod OrderLemmas
 mod StreamLemmas

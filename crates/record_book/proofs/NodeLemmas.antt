@@ -244,3 +244,51 @@ continues-trans old mid new a b = record {
   frame_counts = λ n within. b.frame_counts n (omega (arith, a.held, within)) ∙ a.frame_counts n within;
   numbers = λ ip parent n is. b.numbers ip parent n (a.numbers ip parent n is);
 }
+
+kept-by : {X : Type 0} (n : ℕ) (x y : X) → n ≢ 0 → cond (n == 0) x y ≡ y
+kept-by n x y some = by (n == 0) refl
+  where
+    by : (b : Bool) → (n == 0) ≡ b → cond b x y ≡ y
+    by true is = absurd (some (grind (arith, nat_tests, is)))
+    by false is = refl
+
+-- all suffixes of a stack that is numbered are
+known-suffixes : (nodes : List Node) (known : List (List ℕ)) → AreNumbered nodes known
+    → (ips : List ℕ) (n : ℕ) → n ≤ length nodes → stack nodes n ≡ ips
+    → (with_suffixes known ips ≡ known) × (nodes_text known ips ≡ [])
+known-suffixes nodes known are [] n held is = (refl, refl)
+known-suffixes nodes known are (ip ∷ outer) zero held is =
+    let none : ip ∷ outer ≡ [] = sym is ∙ are.law.stack_0 in
+    absurd (grind (arith, none))
+known-suffixes nodes known are (ip ∷ outer) (suc k) held is =
+    let none : Node = called 0 0 in
+    let node : Node = get_or nodes k none in
+    let there : slice_get nodes k ≡ Some node = slice_get-get_or nodes k none (omega (arith, held)) in
+    let back : suc k - 1 ≡ k = omega arith in
+    let node_is : node_at nodes (suc k) ≡ Some node = grind (arith, nat_tests, there, back) in
+    let split : node.ip ∷ stack nodes node.parent ≡ ip ∷ outer =
+    sym (are.law.stack_n (suc k) node node_is) ∙ is in
+    let outer_is : stack nodes node.parent ≡ outer = cc split in
+    let lower = are.law.parents.lower (suc k) node node_is in
+    let rest = known-suffixes nodes known are outer node.parent (omega (arith, lower, held)) outer_is in
+    let number : number_in known (ip ∷ outer) ≡ suc k =
+    ap (number_in known) (sym is) ∙ are.numbers (suc k) held in
+    let some : number_in known (ip ∷ outer) ≢ 0 =
+    λ (zero_is : number_in known (ip ∷ outer) ≡ 0). absurd (omega (arith, zero_is, number)) in (
+      ap (λ (ks : List (List ℕ)). with_stack ks (ip ∷ outer)) rest.0
+          ∙ kept-by (number_in known (ip ∷ outer)) ((ip ∷ outer) ∷ known) known some,
+      ap₂ (λ (front : List ℕ) (ks : List (List ℕ)). front ++ node_text ks ip outer) rest.1 rest.0
+          ∙ kept-by (number_in known (ip ∷ outer)) (line_of (node_line ip (number_in known outer))) []
+          some,
+    )
+
+-- a node that is known brings no line
+pub known-put : (nodes : List Node) (known : List (List ℕ)) (n : ℕ) (text : List ℕ)
+    → AreNumbered nodes known → n ≤ length nodes → ArePut known (stack nodes n) nodes n text text
+known-put nodes known n text are held =
+    let kept = known-suffixes nodes known are (stack nodes n) n held refl in
+    record {
+      numbered = subst (λ (ks : List (List ℕ)). AreNumbered nodes ks) (sym kept.0) are;
+      stack_is = refl;
+      text = sym (ap (λ (more : List ℕ). text ++ more) kept.1 ∙ append-nil text);
+    }

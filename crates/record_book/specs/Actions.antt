@@ -26,7 +26,8 @@ with_event thread (Some event) before = record { thread = thread; event = event 
 -- that thread among the entries before
 abbrev pub actions_back : List (List Turn) → List ℕ → List Action
 actions_back scripts [] = []
-actions_back scripts (thread ∷ before) = with_event thread (slice_get (events_at scripts thread) (times thread before)) (actions_back scripts before)
+actions_back scripts (thread ∷ before) = with_event thread
+    (slice_get (events_at scripts thread) (times thread before)) (actions_back scripts before)
 
 -- what the entries of an order mean, listed from the last to the first
 unfoldable pub actions : List (List Turn) → List ℕ → List Action

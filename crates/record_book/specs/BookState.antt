@@ -25,10 +25,12 @@ entries_of thread (reallocates id size ips) = thread ∷ thread ∷ []
 
 -- the order with the next turn of a thread, where its script isn't done
 abbrev pub stepped : List (List Turn) → ℕ → List ℕ → List ℕ
-stepped scripts thread order = order ++ turn_entries thread (slice_get (events_at scripts thread) (times thread order))
+stepped scripts thread order = order
+    ++ turn_entries thread (slice_get (events_at scripts thread) (times thread order))
 
 -- the second order is the first with so many turns of a thread, whose script isn't done before any of them
 abbrev pub HasStepped : List (List Turn) → ℕ → ℕ → List ℕ → List ℕ → Type 0
 HasStepped scripts thread zero old new = new ≡ old
 HasStepped scripts thread (suc count) old new =
-    (mid : List ℕ) × HasStepped scripts thread count old mid × (times thread mid < length (events_at scripts thread)) × (new ≡ stepped scripts thread mid)
+    (mid : List ℕ) × HasStepped scripts thread count old mid
+    × (times thread mid < length (events_at scripts thread)) × (new ≡ stepped scripts thread mid)

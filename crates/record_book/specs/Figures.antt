@@ -18,11 +18,13 @@ has_id thread id block = block.thread == thread && block.id == id
 -- live blocks without that of a thread's ID
 abbrev pub without : ℕ → ℕ → List Held → List Held
 without thread id [] = []
-without thread id (block ∷ older) = if has_id thread id block then without thread id older else block ∷ without thread id older
+without thread id (block ∷ older) = if has_id thread id block then without thread id older
+    else block ∷ without thread id older
 
 -- the live blocks after an event. An allocation takes the place of a live block of the same ID, which none in a script does
 abbrev pub held_with : ℕ → Event → List Held → List Held
-held_with thread (allocation id size ips) blocks = record { thread = thread; id = id; size = size; ips = ips } ∷ without thread id blocks
+held_with thread (allocation id size ips) blocks
+    = record { thread = thread; id = id; size = size; ips = ips } ∷ without thread id blocks
 held_with thread (free id rejoined) blocks = without thread id blocks
 
 -- the live blocks after actions that are listed from the last to the first
@@ -82,7 +84,8 @@ peak (action ∷ before) = max (live_bytes every (action ∷ before)) (peak befo
 -- the actions before, and then these events of a thread, in their order
 abbrev pub with_events : ℕ → List Event → List Action → List Action
 with_events thread [] before = before
-with_events thread (event ∷ events) before = with_events thread events (record { thread = thread; event = event } ∷ before)
+with_events thread (event ∷ events) before = with_events thread events
+    (record { thread = thread; event = event } ∷ before)
 
 -- what a thread does where it runs alone: the events of its script, listed from the last to the first
 abbrev pub alone : List (List Turn) → ℕ → List Action

@@ -30,7 +30,8 @@ end_of (empty class ∷ older) = end_of older + class
 abbrev pub free_addresses : ℕ → List Place → List ℕ
 free_addresses class [] = []
 free_addresses class (taken other block ∷ older) = free_addresses class older
-free_addresses class (empty other ∷ older) = if other == class then end_of older ∷ free_addresses class older else free_addresses class older
+free_addresses class (empty other ∷ older) = if other == class
+    then end_of older ∷ free_addresses class older else free_addresses class older
 
 -- the least of a number and others
 abbrev pub least : ℕ → List ℕ → ℕ
@@ -44,9 +45,11 @@ next_address class places = least (end_of places) (free_addresses class places)
 -- the places with the block at the address, where one is empty
 abbrev pub placed_at : ℕ → Block → List Place → List Place
 placed_at address block [] = []
-placed_at address block (taken class other ∷ older) = taken class other ∷ placed_at address block older
+placed_at address block (taken class other ∷ older) = taken class other
+    ∷ placed_at address block older
 placed_at address block (empty class ∷ older) =
-    if end_of older == address then taken class block ∷ older else empty class ∷ placed_at address block older
+    if end_of older == address then taken class block ∷ older
+    else empty class ∷ placed_at address block older
 
 -- the places with the block at the next address of its class
 abbrev pub placed : Block → List Place → List Place
@@ -62,18 +65,21 @@ is_of thread id block = block.thread == thread && block.id == id
 -- the places without the block of a thread's ID
 abbrev pub released : ℕ → ℕ → List Place → List Place
 released thread id [] = []
-released thread id (taken class block ∷ older) = (if is_of thread id block then empty class else taken class block) ∷ released thread id older
+released thread id (taken class block ∷ older)
+    = (if is_of thread id block then empty class else taken class block) ∷ released thread id older
 released thread id (empty class ∷ older) = empty class ∷ released thread id older
 
 -- the address of the live block of a thread's ID; 0 where there is none, which no free of a script meets
 abbrev pub address_of : ℕ → ℕ → List Place → ℕ
 address_of thread id [] = 0
-address_of thread id (taken class block ∷ older) = if is_of thread id block then end_of older else address_of thread id older
+address_of thread id (taken class block ∷ older) = if is_of thread id block then end_of older
+    else address_of thread id older
 address_of thread id (empty class ∷ older) = address_of thread id older
 
 -- the places after an event. An allocation takes the place of a live block of the same ID, which none in a script does
 abbrev pub places_with : ℕ → Event → List Place → List Place
-places_with thread (allocation id size ips) places = placed (record { thread = thread; id = id; size = size }) (released thread id places)
+places_with thread (allocation id size ips) places = placed
+    (record { thread = thread; id = id; size = size }) (released thread id places)
 places_with thread (free id rejoined) places = released thread id places
 
 -- the places after actions that are listed from the last to the first
@@ -89,10 +95,12 @@ pub record LiveBlock : Type 0 where
 -- the live blocks, the one with the greatest address first
 abbrev pub live_blocks : List Place → List LiveBlock
 live_blocks [] = []
-live_blocks (taken class block ∷ older) = record { address = end_of older; block = block } ∷ live_blocks older
+live_blocks (taken class block ∷ older) = record { address = end_of older; block = block }
+    ∷ live_blocks older
 live_blocks (empty class ∷ older) = live_blocks older
 
 -- no two blocks overlap: each begins at or behind the end of those with lesser addresses
 abbrev pub AreApart : List LiveBlock → Type 0
 AreApart [] = Unit {0}
-AreApart (block ∷ older) = AllByRecursion (λ other. other.address + other.block.size ≤ block.address) older × AreApart older
+AreApart (block ∷ older) = AllByRecursion
+    (λ other. other.address + other.block.size ≤ block.address) older × AreApart older

@@ -5,6 +5,7 @@ pub mod NodeNumbers
 pub mod RecordedTrace
 pub mod HeapState
 pub mod NodeState
+pub mod MappedNodes
 pub mod TraceState
 pub mod StreamState
 pub mod BookState

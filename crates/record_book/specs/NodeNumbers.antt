@@ -7,7 +7,8 @@ use Rattle.record_book.specs.Actions.{Action}
 -- for different stacks listed from the last to the first: the number of a stack, from 1; 0 where it isn't there
 abbrev pub number_in : List (List ℕ) → List ℕ → ℕ
 number_in [] stack = 0
-number_in (known ∷ older) stack = if bytes_eq known stack then length older + 1 else number_in older stack
+number_in (known ∷ older) stack = if bytes_eq known stack then length older + 1
+    else number_in older stack
 
 -- one stack more, where it isn't there
 abbrev pub with_stack : List (List ℕ) → List ℕ → List (List ℕ)

@@ -15,19 +15,23 @@ pub record AreNumbered (nodes : List Node) (known : List (List ℕ)) : Type 0 wh
   pub frames : (n : ℕ) → n ≤ length nodes → frame_count nodes n ≡ length (stack nodes n)
 
 -- the node of a pointer that is called from a parent is among the new nodes, and is one more where its stack wasn't known
-pub record IsInterned (old : List Node) (known : List (List ℕ)) (new : List Node) (node ip parent : ℕ) : Type 0 where
+pub record IsInterned (old : List Node) (known : List (List ℕ)) (new : List Node)
+    (node ip parent : ℕ) : Type 0 where
   pub numbered : AreNumbered new (with_stack known (ip ∷ stack old parent))
   pub stack_is : stack new node ≡ ip ∷ stack old parent
-  pub count : length new ≡ (if number_in known (ip ∷ stack old parent) == 0 then length old + 1 else length old)
+  pub count : length new
+      ≡ (if number_in known (ip ∷ stack old parent) == 0 then length old + 1 else length old)
 
 -- the same, with the line of a new node
-pub record IsNext (old : List Node) (known : List (List ℕ)) (new : List Node) (node ip parent : ℕ) (before after : List ℕ) : Type 0 where
+pub record IsNext (old : List Node) (known : List (List ℕ)) (new : List Node) (node ip parent : ℕ)
+    (before after : List ℕ) : Type 0 where
   pub numbered : AreNumbered new (with_stack known (ip ∷ stack old parent))
   pub stack_is : stack new node ≡ ip ∷ stack old parent
   pub text : after ≡ before ++ node_text known ip (stack old parent)
 
 -- the nodes of a stack and of those that it is called from, with the lines of new nodes
-pub record ArePut (known : List (List ℕ)) (ips : List ℕ) (new : List Node) (node : ℕ) (before after : List ℕ) : Type 0 where
+pub record ArePut (known : List (List ℕ)) (ips : List ℕ) (new : List Node) (node : ℕ)
+    (before after : List ℕ) : Type 0 where
   pub numbered : AreNumbered new (with_suffixes known ips)
   pub stack_is : stack new node ≡ ips
   pub text : after ≡ before ++ nodes_text known ips

@@ -18,7 +18,8 @@ awaited (action ∷ before) = awaited_after action.thread action.event
 -- listed from the last to the first: behind the free of a reallocation the next action is of the same thread
 abbrev pub ArePaired : List Action → Type 0
 ArePaired [] = Unit {0}
-ArePaired (action ∷ before) = (IfSome (awaited before) (λ thread. action.thread ≡ thread)) × ArePaired before
+ArePaired (action ∷ before) = (IfSome (awaited before) (λ thread. action.thread ≡ thread))
+    × ArePaired before
 
 -- an order under scripts: each thread stands in it at most as often as its script has events, which are none where there is no
 -- such script, and no reallocation is parted or left open

@@ -33,24 +33,31 @@ switch_text (Some last) thread = if last == thread then [] else thread_line thre
 
 -- the line of the node of a pointer that is called from a stack, where it is new
 abbrev pub node_text : List (List ℕ) → ℕ → List ℕ → List ℕ
-node_text known ip outer = if number_in known (ip ∷ outer) == 0 then line_of (node_line ip (number_in known outer)) else []
+node_text known ip outer = if number_in known (ip ∷ outer) == 0
+    then line_of (node_line ip (number_in known outer)) else []
 
 -- the lines of the new nodes of a stack, the outermost first
 abbrev pub nodes_text : List (List ℕ) → List ℕ → List ℕ
 nodes_text known [] = []
-nodes_text known (ip ∷ outer) = nodes_text known outer ++ node_text (with_suffixes known outer) ip outer
+nodes_text known (ip ∷ outer) = nodes_text known outer
+    ++ node_text (with_suffixes known outer) ip outer
 
 -- the lines of an event, after these stacks and these places
 abbrev pub event_text : List (List ℕ) → List Place → ℕ → Event → List ℕ
 event_text known places thread (allocation id size ips) =
-    nodes_text known ips ++ line_of (raw_allocation_line size (number_in (with_suffixes known ips) ips) (next_address (class_of size) (released thread id places)))
-event_text known places thread (free id rejoined) = line_of (raw_free_line (address_of thread id places))
+    nodes_text known ips
+    ++ line_of (raw_allocation_line size (number_in (with_suffixes known ips) ips)
+    (next_address (class_of size) (released thread id places)))
+event_text known places thread (free id rejoined) = line_of
+    (raw_free_line (address_of thread id places))
 
 -- the trace of actions that are listed from the last to the first, behind the lines of modules
 abbrev pub trace_text : List ℕ → List Action → List ℕ
 trace_text modules [] = opening ++ modules
 trace_text modules (action ∷ before) =
-    trace_text modules before ++ (switch_text (last_thread before) action.thread ++ event_text (stacks_after before) (places_after before) action.thread action.event)
+    trace_text modules before
+    ++ (switch_text (last_thread before) action.thread
+    ++ event_text (stacks_after before) (places_after before) action.thread action.event)
 
 -- the trace of an order
 abbrev pub recorded : Job → List ℕ → List ℕ

@@ -12,10 +12,20 @@ use Rattle.record_book.specs.SummaryText.{summary_of}
 -- them. So the summary of another order of the scripts differs in the peak alone
 pub record HasScriptFigures (scripts : List (List Turn)) (order : List ℕ) : Type 0 where
   pub event_sum : length order ≡ event_count scripts
-  pub call_sum : (counted : List ℕ → Bool) → calls counted (actions scripts order) ≡ sum_below (λ thread. calls counted (alone scripts thread)) (length scripts)
-  pub allocated_sum : (counted : List ℕ → Bool) → allocated counted (actions scripts order) ≡ sum_below (λ thread. allocated counted (alone scripts thread)) (length scripts)
-  pub live_sum : (counted : List ℕ → Bool) → live_bytes counted (actions scripts order) ≡ sum_below (λ thread. live_bytes counted (alone scripts thread)) (length scripts)
-  pub block_sum : (counted : List ℕ → Bool) → live_count counted (actions scripts order) ≡ sum_below (λ thread. live_count counted (alone scripts thread)) (length scripts)
+  pub call_sum : (counted : List ℕ → Bool)
+      → calls counted (actions scripts order)
+      ≡ sum_below (λ thread. calls counted (alone scripts thread)) (length scripts)
+  pub allocated_sum : (counted : List ℕ → Bool)
+      → allocated counted (actions scripts order)
+      ≡ sum_below (λ thread. allocated counted (alone scripts thread)) (length scripts)
+  pub live_sum : (counted : List ℕ → Bool)
+      → live_bytes counted (actions scripts order)
+      ≡ sum_below (λ thread. live_bytes counted (alone scripts thread)) (length scripts)
+  pub block_sum : (counted : List ℕ → Bool)
+      → live_count counted (actions scripts order)
+      ≡ sum_below (λ thread. live_count counted (alone scripts thread)) (length scripts)
   pub least_peak : greatest_below (own_peak scripts) (length scripts) ≤ peak (actions scripts order)
   pub greatest_peak : peak (actions scripts order) ≤ sum_below (own_peak scripts) (length scripts)
-  pub other_orders : (other : List ℕ) (total : ℕ) → IsInterleaving scripts other → record (summary_of scripts order) { peak = total } ≡ record (summary_of scripts other) { peak = total }
+  pub other_orders : (other : List ℕ) (total : ℕ) → IsInterleaving scripts other
+      → record (summary_of scripts order) { peak = total }
+      ≡ record (summary_of scripts other) { peak = total }

@@ -29,7 +29,8 @@ is_event (b ∷ rest) = b == 43 || b == 45
 abbrev pub spelled_by : ℕ → List (List ℕ) → List ℕ
 spelled_by thread [] = []
 spelled_by thread (line ∷ lines) =
-    if is_event line then thread ∷ spelled_by thread lines else spelled_by (unwrap_or (named line) thread) lines
+    if is_event line then thread ∷ spelled_by thread lines
+    else spelled_by (unwrap_or (named line) thread) lines
 
 -- the order that bytes spell. An event before any line that names a thread counts as one of thread 0
 abbrev pub spelled : List ℕ → List ℕ
@@ -43,4 +44,5 @@ pub record IsQuiet (line : List ℕ) : Type 0 where
 
 -- bytes that are whole lines, each of which spells nothing and names no thread
 abbrev pub AreQuiet : List ℕ → Type 0
-AreQuiet bytes = (lines : List (List ℕ)) × AllByRecursion IsQuiet lines × (bytes ≡ text_of_lines lines)
+AreQuiet bytes = (lines : List (List ℕ)) × AllByRecursion IsQuiet lines
+    × (bytes ≡ text_of_lines lines)

@@ -16,7 +16,8 @@ done_at done thread = unwrap_or (slice_get done thread) 0
 abbrev pub done_count : List (List Turn) → List ℕ → ℕ
 done_count [] done = 0
 done_count (script ∷ scripts) [] = 0
-done_count (script ∷ scripts) (count ∷ done) = length (events_of (take count script)) + done_count scripts done
+done_count (script ∷ scripts) (count ∷ done) = length (events_of (take count script))
+    + done_count scripts done
 
 -- a recording of which the front of the trace may be let go: the text is what is kept of it
 pub record Streamed : Type 0 where
@@ -28,7 +29,9 @@ pub record Streamed : Type 0 where
 pub record IsStream (job : Job) (done order : List ℕ) (trace : Trace) : Type 0 where
   pub gone : List ℕ
   pub threads : length done ≡ length job.scripts
-  pub taken : (thread : ℕ) → times thread order ≡ length (events_of (take (done_at done thread) (script_at job.scripts thread)))
+  pub taken : (thread : ℕ)
+      → times thread order
+      ≡ length (events_of (take (done_at done thread) (script_at job.scripts thread)))
   pub few_taken : (thread : ℕ) → done_at done thread ≤ length (script_at job.scripts thread)
   pub count : length order ≡ done_count job.scripts done
   pub paired : ArePaired (actions job.scripts order)

@@ -34,7 +34,8 @@ count_lines summary =
 
 -- the line of what is live at the end, behind the end of the line before it
 unfoldable pub leaked_line : Summary → List ℕ
-leaked_line summary = figure (codes "\n# leaked: ") summary.leaked ++ (figure (codes " in ") summary.blocks ++ codes " blocks\n")
+leaked_line summary = figure (codes "\n# leaked: ") summary.leaked
+    ++ (figure (codes " in ") summary.blocks ++ codes " blocks\n")
 
 -- the line of the greatest total
 unfoldable pub peak_line : Summary → List ℕ
@@ -46,4 +47,5 @@ peak_line summary =
 
 -- the six lines of scripts that are recorded in an order
 unfoldable pub rec_summary : List (List Turn) → List ℕ → List ℕ
-rec_summary scripts order = count_lines (summary_of scripts order) ++ (leaked_line (summary_of scripts order) ++ peak_line (summary_of scripts order))
+rec_summary scripts order = count_lines (summary_of scripts order)
+    ++ (leaked_line (summary_of scripts order) ++ peak_line (summary_of scripts order))

@@ -13,7 +13,8 @@ size_at tally thread id = get same_key tally.live (thread, id)
 -- the size of the live block of a thread's ID
 abbrev pub size_in : List Held → ℕ → ℕ → Option ℕ
 size_in [] thread id = None
-size_in (block ∷ older) thread id = if has_id thread id block then Some block.size else size_in older thread id
+size_in (block ∷ older) thread id = if has_id thread id block then Some block.size
+    else size_in older thread id
 
 -- the figures are those of actions
 pub record IsTally (tally : Tally) (actions : List Action) : Type 0 where

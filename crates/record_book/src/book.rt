@@ -55,9 +55,15 @@ impl Book {
     /// done. On `NoMemory` the book is as before.
     pub fn step(&mut self, thread: u32) -> Result<bool, NoMemory>
         requires { thread < length self.old.job.scripts }
-        ensures stepped { OnOk result (self.new ≡ record self.old { order = stepped self.old.job.scripts thread self.old.order }) }
-        ensures more { IfOk result (λ more. more ≡ nat_lt (times thread self.old.order) (length (events_at self.old.job.scripts thread))) }
-        ensures done { IfOk result (λ more. more ≡ false → times thread self.new.order ≡ length (events_at self.new.job.scripts thread)) }
+        ensures stepped { OnOk result
+            (self.new ≡ record self.old
+            { order = stepped self.old.job.scripts thread self.old.order }) }
+        ensures more { IfOk result
+            (λ more. more ≡ nat_lt (times thread self.old.order)
+            (length (events_at self.old.job.scripts thread))) }
+        ensures done { IfOk result
+            (λ more. more ≡ false
+            → times thread self.new.order ≡ length (events_at self.new.job.scripts thread)) }
         ensures under { OnOk result (IsUnder self.new.job.scripts self.new.order) }
         ensures unchanged { OnErr result (self.new ≡ self.old) }
     {
@@ -71,10 +77,15 @@ impl Book {
         requires there { thread < length self.old.job.scripts }
         requires some { 1 ≤ most }
         requires few { most ≤ 64 }
-        ensures stepped { IfOk result (λ count. HasStepped self.old.job.scripts thread count self.old.order self.new.order) }
+        ensures stepped { IfOk result
+            (λ count. HasStepped self.old.job.scripts thread count self.old.order self.new.order) }
         ensures within { IfOk result (λ count. count ≤ most) }
-        ensures done { IfOk result (λ count. count < most → times thread self.new.order ≡ length (events_at self.new.job.scripts thread)) }
-        ensures part { OnErr result ((count : ℕ) × (count < most) × HasStepped self.old.job.scripts thread count self.old.order self.new.order) }
+        ensures done { IfOk result
+            (λ count. count < most
+            → times thread self.new.order ≡ length (events_at self.new.job.scripts thread)) }
+        ensures part { OnErr result
+            ((count : ℕ) × (count < most)
+            × HasStepped self.old.job.scripts thread count self.old.order self.new.order) }
         ensures job { self.new.job ≡ self.old.job }
     {
         for count in 0..most {
@@ -100,12 +111,13 @@ impl Book {
     }
 
     /// The thread of each event so far.
-    pub fn order(&self) -> &[u32]
+    pub fn order(&self) -> &[u8]
         ensures order { result.now ≡ self.now.order }
 
         // The order.
         ensures under { IsUnder self.now.job.scripts self.now.order }
-        ensures apart { AreApart (live_blocks (places_after (actions self.now.job.scripts self.now.order))) }
+        ensures apart { AreApart
+            (live_blocks (places_after (actions self.now.job.scripts self.now.order))) }
     {
         self.stream.order()
     }
@@ -125,7 +137,8 @@ impl Book {
     /// `out` holds what it held before.
     pub fn put_summary(&self, out: &mut Vec<u8>) -> Result<(), NoMemory>
         requires { IsInterleaving self.now.job.scripts self.now.order }
-        ensures appended { OnOk result (out.new.items ≡ out.old.items ++ rec_summary self.now.job.scripts self.now.order) }
+        ensures appended { OnOk result
+            (out.new.items ≡ out.old.items ++ rec_summary self.now.job.scripts self.now.order) }
         ensures unchanged { OnErr result (out.new.items ≡ out.old.items) }
         ensures figures { HasScriptFigures self.now.job.scripts self.now.order }
     {
@@ -138,7 +151,8 @@ impl Book {
         ensures job { IfOk result (λ book. book.job ≡ arc_value job) }
         ensures all { IfOk result (λ book. IsInterleaving book.job.scripts book.order) }
         ensures figures { IfOk result (λ book. HasScriptFigures book.job.scripts book.order) }
-        ensures grown { self.job ≡ arc_value job → IfOk result (λ book. Continues self.order book.order) }
+        ensures grown { self.job ≡ arc_value job
+            → IfOk result (λ book. Continues self.order book.order) }
     {
         let mut book = self.for_job(job)?;
         book.complete()?;
@@ -171,8 +185,11 @@ impl Book {
     // Takes the turns that are left of a thread, whose script has to be there.
     fn complete_thread(&mut self, thread: u32) -> Result<(), NoMemory>
         requires { thread < length self.old.job.scripts }
-        ensures done { OnOk result (times thread self.new.order ≡ length (events_at self.new.job.scripts thread)) }
-        ensures others { OnOk result ((other : ℕ) → thread ≢ other → times other self.new.order ≡ times other self.old.order) }
+        ensures done { OnOk result
+            (times thread self.new.order ≡ length (events_at self.new.job.scripts thread)) }
+        ensures others { OnOk result
+            ((other : ℕ) → thread ≢ other
+            → times other self.new.order ≡ times other self.old.order) }
         ensures under { OnOk result (IsUnder self.new.job.scripts self.new.order) }
         ensures job { self.new.job ≡ self.old.job }
         ensures grown { OnOk result (Continues self.old.order self.new.order) }

@@ -25,7 +25,8 @@ impl FreePlaces {
     /// The least address of a class.
     pub fn first(&self, class: u64) -> Option<u64>
         ensures held { IfSome result (λ address. has_place self.now class address ≡ true) }
-        ensures least { IfSome result (λ address. (other : ℕ) → has_place self.now class other ≡ true → address ≤ other) }
+        ensures least { IfSome result
+            (λ address. (other : ℕ) → has_place self.now class other ≡ true → address ≤ other) }
         ensures none { IfNone result ((other : ℕ) → has_place self.now class other ≡ false) }
     {
         let (found, address) = self.places.range((class, 0)..).next()?;
@@ -37,8 +38,11 @@ impl FreePlaces {
 
     /// Puts a place in. On `NoMemory` the places are as before.
     pub fn insert(&mut self, class: u64, address: u64) -> Result<(), NoMemory>
-        ensures put { OnOk result ((c a : ℕ) → has_place self.new c a ≡ (if class == c && address == a then true else has_place self.old c a)) }
-        ensures unchanged { OnErr result ((c a : ℕ) → has_place self.new c a ≡ has_place self.old c a) }
+        ensures put { OnOk result
+            ((c a : ℕ) → has_place self.new c a
+            ≡ (if class == c && address == a then true else has_place self.old c a)) }
+        ensures unchanged { OnErr result
+            ((c a : ℕ) → has_place self.new c a ≡ has_place self.old c a) }
     {
         self.places.insert((class, address))?;
         Ok(())
@@ -46,7 +50,8 @@ impl FreePlaces {
 
     /// Takes a place out, where it is in. It takes no memory.
     pub fn remove(&mut self, class: u64, address: u64)
-        ensures { (c a : ℕ) → has_place self.new c a ≡ (if class == c && address == a then false else has_place self.old c a) }
+        ensures { (c a : ℕ) → has_place self.new c a
+            ≡ (if class == c && address == a then false else has_place self.old c a) }
     {
         self.places.remove(&(class, address));
     }

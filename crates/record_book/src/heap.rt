@@ -52,23 +52,79 @@ impl Heap {
         }
     }
 
-    /// The address of the live block of a thread's ID, 0 where there is none.
-    pub fn address(&self, thread: u32, id: u64) -> u64
-        ensures { (places : List Place) → IsHeap self.now places → result ≡ address_of thread id places }
+    /// Where the live block of a thread's ID lies, if there is one.
+    pub fn entry(&self, thread: u32, id: u64) -> Option<LiveEntry>
+        ensures entry { result ≡ entry_at self.now thread id }
     {
-        match self.live.get(&(thread, id)) {
-            Some(entry) => entry.address,
-            None => 0,
-        }
+        self.live.get(&(thread, id)).copied()
     }
 
-    /// The address that a block of a size gets under a thread's ID, once the live block of that ID is freed.
-    pub fn next_address(&self, thread: u32, id: u64, size: u64) -> u64
+    /// Where a block of a size lies once the block that lay at `left` is freed, if there is one.
+    pub fn next_place(&self, left: Option<LiveEntry>, size: u64) -> LiveEntry
         requires { size ≤ 2 ^ 32 }
-        ensures { (places : List Place) → IsHeap self.now places → result ≡ next_address (class_of size) (released thread id places) }
+        ensures class { result.class ≡ class_of size }
+        ensures address { (places : List Place) (thread id : ℕ) → IsHeap self.now places
+            → left ≡ entry_at self.now thread id
+            → result.address ≡ next_address (class_of size) (released thread id places) }
     {
         let class = class_of(size);
-        let left = self.left_address(thread, id, class);
+        let address = self.next_address(left, class);
+        LiveEntry { address, class }
+    }
+
+    /// Puts a block under a thread's ID where `next_place` says, in the place of the live block of that ID, which lies at `left`.
+    /// On `NoMemory` the heap is as before.
+    pub fn place(
+        &mut self,
+        thread: u32,
+        id: u64,
+        left: Option<LiveEntry>,
+        entry: LiveEntry,
+    ) -> Result<(), NoMemory>
+        requires left { left ≡ entry_at self.old thread id }
+        requires few_bytes { entry.class ≤ 2 ^ 33 }
+        requires room { self.old.end + 2 ^ 33 ≤ 2 ^ 63 }
+        ensures placed { OnOk result
+            ((places : List Place) (size : ℕ) → IsHeap self.old places → entry.class ≡ class_of size
+            → entry.address ≡ next_address (class_of size) (released thread id places)
+            → IsHeap self.new (placed (record { thread = thread; id = id; size = size })
+            (released thread id places))) }
+        ensures unchanged { OnErr result
+            ((places : List Place) → IsHeap self.old places → IsHeap self.new places) }
+        ensures end { self.new.end ≤ self.old.end + 2 ^ 33 }
+        ensures same_end { OnErr result (self.new.end ≡ self.old.end) }
+    {
+        self.free_place(left)?;
+        self.live.insert((thread, id), entry)?;
+        self.free.remove(entry.class, entry.address);
+        if entry.address == self.end {
+            self.end += entry.class;
+        }
+        Ok(())
+    }
+
+    /// Frees the live block of a thread's ID, which lies at `left`, where there is one. On `NoMemory` the heap is as before.
+    pub fn release(&mut self, thread: u32, id: u64, left: Option<LiveEntry>) -> Result<(), NoMemory>
+        requires left { left ≡ entry_at self.old thread id }
+        ensures released { OnOk result
+            ((places : List Place) → IsHeap self.old places
+            → IsHeap self.new (released thread id places)) }
+        ensures unchanged { OnErr result
+            ((places : List Place) → IsHeap self.old places → IsHeap self.new places) }
+        ensures end { self.new.end ≡ self.old.end }
+    {
+        self.free_place(left)?;
+        self.live.remove(&(thread, id));
+        Ok(())
+    }
+
+    // The address of the next block of a class once the block that lay at `left` is freed, if there is one.
+    fn next_address(&self, left: Option<LiveEntry>, class: u64) -> u64
+        ensures { (places : List Place) (thread id : ℕ) → IsHeap self.now places
+            → left ≡ entry_at self.now thread id
+            → result ≡ next_address class (released thread id places) }
+    {
+        let left = left_address(left, class);
         match self.free.first(class) {
             Some(first) => match left {
                 Some(address) => first.min(address),
@@ -81,63 +137,49 @@ impl Heap {
         }
     }
 
-    /// Puts a block under a thread's ID, in the place of the live block of that ID. On `NoMemory` the heap is as before.
-    pub fn place(&mut self, thread: u32, id: u64, size: u64) -> Result<(), NoMemory>
-        requires few_bytes { size ≤ 2 ^ 32 }
-        requires room { self.old.end + 2 ^ 33 ≤ 2 ^ 63 }
-        ensures placed { OnOk result ((places : List Place) → IsHeap self.old places → IsHeap self.new (placed (record { thread = thread; id = id; size = size }) (released thread id places))) }
-        ensures unchanged { OnErr result ((places : List Place) → IsHeap self.old places → IsHeap self.new places) }
-        ensures end { self.new.end ≤ self.old.end + 2 ^ 33 }
-        ensures same_end { OnErr result (self.new.end ≡ self.old.end) }
-    {
-        let class = class_of(size);
-        let address = self.next_address(thread, id, size);
-        self.free_place(thread, id)?;
-        self.live
-            .insert((thread, id), LiveEntry { address, class })?;
-        self.free.remove(class, address);
-        if address == self.end {
-            self.end += class;
-        }
-        Ok(())
-    }
-
-    /// Frees the live block of a thread's ID, where there is one. On `NoMemory` the heap is as before.
-    pub fn release(&mut self, thread: u32, id: u64) -> Result<(), NoMemory>
-        ensures released { OnOk result ((places : List Place) → IsHeap self.old places → IsHeap self.new (released thread id places)) }
-        ensures unchanged { OnErr result ((places : List Place) → IsHeap self.old places → IsHeap self.new places) }
-        ensures end { self.new.end ≡ self.old.end }
-    {
-        self.free_place(thread, id)?;
-        self.live.remove(&(thread, id));
-        Ok(())
-    }
-
-    // The address of the live block of a thread's ID, where its place has the class.
-    fn left_address(&self, thread: u32, id: u64, class: u64) -> Option<u64>
-        ensures left { IfSome result (λ address. entry_at self.now thread id ≡ Some (record { address = address; class = class })) }
-        ensures none { IfNone result (IfSome (entry_at self.now thread id) (λ entry. entry.class ≢ class)) }
-    {
-        let entry = self.live.get(&(thread, id))?;
-        if entry.class == class {
-            Some(entry.address)
-        } else {
-            None
-        }
-    }
-
-    // Puts the place of the live block of a thread's ID among those without a block, where there is such a block.
-    fn free_place(&mut self, thread: u32, id: u64) -> Result<(), NoMemory>
-        ensures freed { OnOk result (IfSome (entry_at self.old thread id) (λ entry. (c a : ℕ) → has_place self.new.free c a ≡ (if entry.class == c && entry.address == a then true else has_place self.old.free c a))) }
-        ensures none { OnOk result (IfNone (entry_at self.old thread id) ((c a : ℕ) → has_place self.new.free c a ≡ has_place self.old.free c a)) }
-        ensures unchanged { OnErr result ((c a : ℕ) → has_place self.new.free c a ≡ has_place self.old.free c a) }
+    // Puts the place of a block that was live among those without a block, where there was one.
+    fn free_place(&mut self, left: Option<LiveEntry>) -> Result<(), NoMemory>
+        ensures freed { OnOk result
+            (IfSome left
+            (λ entry. (c a : ℕ) → has_place self.new.free c a
+            ≡ (if entry.class == c && entry.address == a then true
+            else has_place self.old.free c a))) }
+        ensures none { OnOk result
+            (IfNone left
+            ((c a : ℕ) → has_place self.new.free c a ≡ has_place self.old.free c a)) }
+        ensures unchanged { OnErr result
+            ((c a : ℕ) → has_place self.new.free c a ≡ has_place self.old.free c a) }
         ensures live { self.new.live ≡ self.old.live }
         ensures end { self.new.end ≡ self.old.end }
     {
-        let Some(entry) = self.live.get(&(thread, id)) else {
-            return Ok(());
-        };
-        let LiveEntry { address, class } = *entry;
-        self.free.insert(class, address)
+        match left {
+            Some(LiveEntry { address, class }) => self.free.insert(class, address),
+            None => Ok(()),
+        }
+    }
+}
+
+// The address of the block that lay at `left`, where its place has the class.
+fn left_address(left: Option<LiveEntry>, class: u64) -> Option<u64>
+    ensures left { IfSome result
+        (λ address. left ≡ Some (record { address = address; class = class })) }
+    ensures none { IfNone result (IfSome left (λ entry. entry.class ≢ class)) }
+{
+    let entry = left?;
+    if entry.class == class {
+        Some(entry.address)
+    } else {
+        None
+    }
+}
+
+/// The address at which a block lies, 0 where there is no block.
+pub fn address(left: Option<LiveEntry>) -> u64
+    ensures { (heap : Heap) (places : List Place) (thread id : ℕ) → IsHeap heap places
+        → left ≡ entry_at heap thread id → result ≡ address_of thread id places }
+{
+    match left {
+        Some(entry) => entry.address,
+        None => 0,
     }
 }

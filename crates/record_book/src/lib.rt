@@ -29,6 +29,7 @@
 //! | `trace_stream.rt` | a recording of which a front of the trace may be let go; takes the turns |
 //! | `trace.rt` | appends the lines of a turn, and takes them back where memory is wanting halfway |
 //! | `node_lines.rt` | interns a stack from the outermost pointer on, and writes each new node |
+//! | `turn_stack.rt`, `node_map.rt` | a turn's stack, by its node or by its pointers; the nodes of the trace by those of the scripts |
 //! | `heap.rt`, `free_places.rt` | where blocks lie, and the places without a block in order |
 //! | `tally.rt`, `summary.rt` | the figures of turns that are taken one after another; the six lines |
 //! | `same_scripts.rt` | whether two jobs are the same, turn by turn |
@@ -39,12 +40,14 @@ mod book;
 mod free_places;
 mod heap;
 mod node_lines;
+mod node_map;
 mod same_scripts;
 mod spelling;
 mod summary;
 mod tally;
 mod trace;
 mod trace_stream;
+mod turn_stack;
 
 pub use book::Book;
 pub use spelling::{quiet_modules, spelled_orders};

@@ -4,23 +4,49 @@
 ghost use Rattle.std.specs.Prelude.{◌≡◌, ℕ, ◌+◌, ◌-◌, ◌^◌, ◌<◌, ◌≤◌, List, length, IfOk, OnErr};
 ghost use Rattle.hp_num.specs.Extends.{Extends};
 ghost use Rattle.stack_table.specs.Continues.{Continues};
-ghost use Rattle.stack_table.specs.Stack.{stack};
+ghost use Rattle.stack_table.specs.Stack.{stack as stack_of};
+ghost use Rattle.record_book.specs.MappedNodes.{IsKnown, ips_of};
 ghost use Rattle.record_book.specs.NodeState.{AreNumbered, ArePut, IsInterned, IsNext};
 
+use crate::turn_stack::TurnStack;
 use hp_num::NoMemory;
 use ht_lines::{Item, put_item};
 use record_scripts::FILE_VERSION;
 use stack_table::{NodeFault, Nodes};
 
-/// The node of a stack, given from its innermost ip outwards; the lines of new nodes are appended to `text`, the outermost
-/// first.
+/// The node of a stack. Where it isn't known, the lines of new nodes are appended to `text`, the outermost first.
 ///
 /// On `NoMemory` some of the nodes and of their lines may stand.
-pub fn put_nodes(nodes: &mut Nodes, ips: &[u64], text: &mut Vec<u8>) -> Result<u32, NoMemory>
+pub fn put_stack(nodes: &mut Nodes, stack: TurnStack, text: &mut Vec<u8>) -> Result<u32, NoMemory>
+    requires numbered { (known : List (List ℕ)) × AreNumbered nodes.old known }
+    requires few_ips { length (ips_of nodes.old stack) ≤ 256 }
+    requires known { IsKnown nodes.old stack }
+    requires room { length nodes.old + 256 ≤ 2 ^ 32 - 2 }
+    ensures put { IfOk result
+        (λ node. (known : List (List ℕ)) → AreNumbered nodes.old known
+        → ArePut known (ips_of nodes.old stack.entry) nodes.new node text.old.items
+        text.new.items) }
+    ensures stack { IfOk result (λ node. stack_of nodes.new node ≡ ips_of nodes.old stack.entry) }
+    ensures within { IfOk result (λ node. node ≤ length nodes.new) }
+    ensures few_more { length nodes.new ≤ length nodes.old + 256 }
+    ensures continues { Continues nodes.old nodes.new }
+    ensures kept { Extends text.old.items text.new.items }
+{
+    match stack {
+        TurnStack::Known(node) => Ok(node),
+        TurnStack::Ips(ips) => put_nodes(nodes, ips, text),
+    }
+}
+
+// The node of a stack, given from its innermost ip outwards; the lines of new nodes are appended to `text`, the outermost
+// first.
+fn put_nodes(nodes: &mut Nodes, ips: &[u64], text: &mut Vec<u8>) -> Result<u32, NoMemory>
     requires numbered { (known : List (List ℕ)) × AreNumbered nodes.old known }
     requires few_ips { length ips.now ≤ 256 }
     requires room { length nodes.old + 256 ≤ 2 ^ 32 - 2 }
-    ensures put { IfOk result (λ node. (known : List (List ℕ)) → AreNumbered nodes.old known → ArePut known ips.now nodes.new node text.old.items text.new.items) }
+    ensures put { IfOk result
+        (λ node. (known : List (List ℕ)) → AreNumbered nodes.old known
+        → ArePut known ips.now nodes.new node text.old.items text.new.items) }
     ensures within { IfOk result (λ node. node ≤ length nodes.new) }
     ensures few_more { length nodes.new ≤ length nodes.old + 256 }
     ensures continues { Continues nodes.old nodes.new }
@@ -37,9 +63,11 @@ pub fn put_nodes(nodes: &mut Nodes, ips: &[u64], text: &mut Vec<u8>) -> Result<u
 fn put_node(nodes: &mut Nodes, ip: u64, parent: u32, text: &mut Vec<u8>) -> Result<u32, NoMemory>
     requires numbered { (known : List (List ℕ)) × AreNumbered nodes.old known }
     requires held { parent ≤ length nodes.old }
-    requires shallow { length (stack nodes.old parent) < 4096 }
+    requires shallow { length (stack_of nodes.old parent) < 4096 }
     requires room { length nodes.old < 2 ^ 32 - 2 }
-    ensures next { IfOk result (λ node. (known : List (List ℕ)) → AreNumbered nodes.old known → IsNext nodes.old known nodes.new node ip parent text.old.items text.new.items) }
+    ensures next { IfOk result
+        (λ node. (known : List (List ℕ)) → AreNumbered nodes.old known
+        → IsNext nodes.old known nodes.new node ip parent text.old.items text.new.items) }
     ensures within { IfOk result (λ node. node ≤ length nodes.new) }
     ensures few_more { length nodes.new ≤ length nodes.old + 1 }
     ensures continues { Continues nodes.old nodes.new }
@@ -58,9 +86,11 @@ fn put_node(nodes: &mut Nodes, ip: u64, parent: u32, text: &mut Vec<u8>) -> Resu
 fn intern(nodes: &mut Nodes, ip: u64, parent: u32) -> Result<u32, NoMemory>
     requires numbered { (known : List (List ℕ)) × AreNumbered nodes.old known }
     requires held { parent ≤ length nodes.old }
-    requires shallow { length (stack nodes.old parent) < 4096 }
+    requires shallow { length (stack_of nodes.old parent) < 4096 }
     requires room { length nodes.old < 2 ^ 32 - 2 }
-    ensures interned { IfOk result (λ node. (known : List (List ℕ)) → AreNumbered nodes.old known → IsInterned nodes.old known nodes.new node ip parent) }
+    ensures interned { IfOk result
+        (λ node. (known : List (List ℕ)) → AreNumbered nodes.old known
+        → IsInterned nodes.old known nodes.new node ip parent) }
     ensures within { IfOk result (λ node. node ≤ length nodes.new) }
     ensures few_more { length nodes.new ≤ length nodes.old + 1 }
     ensures continues { Continues nodes.old nodes.new }

@@ -11,6 +11,9 @@ use std::alloc::Global;
 pub fn is_same(alloc: Global, left: &Scripts, right: &Scripts) -> Result<bool, NoMemory>
     ensures { IfOk result (λ same. IsTrue same ↔ (left.now ≡ right.now)) }
 {
+    if left.is_kept_as(right) {
+        return Ok(true);
+    }
     if left.limit() != right.limit() {
         return Ok(false);
     }
@@ -48,7 +51,9 @@ fn is_same_script(
 ) -> Result<bool, NoMemory>
     requires left { thread < length left.now.scripts }
     requires right { thread < length right.now.scripts }
-    ensures { IfOk result (λ same. IsTrue same ↔ (script_at left.now.scripts thread ≡ script_at right.now.scripts thread)) }
+    ensures { IfOk result
+        (λ same. IsTrue same
+        ↔ (script_at left.now.scripts thread ≡ script_at right.now.scripts thread)) }
 {
     for place in 0..u32::MAX {
         let turn = left.turn_into(thread, place, ips)?;
@@ -71,7 +76,9 @@ fn is_same_turn(
     other: Option<ScriptLine>,
     others: &[u64],
 ) -> bool
-    ensures { IsTrue result ↔ (option_map (λ said. turn_said said ips.now) turn ≡ option_map (λ said. turn_said said others.now) other) }
+    ensures { IsTrue result
+        ↔ (option_map (λ said. turn_said said ips.now) turn
+        ≡ option_map (λ said. turn_said said others.now) other) }
 {
     match turn {
         None => other.is_none(),

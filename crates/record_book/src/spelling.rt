@@ -12,9 +12,11 @@ use hp_num::decimal_texts;
 /// The bytes of a recording spell its order, with the summary behind them and without. The lines of modules have to be
 /// whole lines that spell nothing. It does nothing.
 pub fn spelled_orders()
-    ensures trace { (job : Job) (order : List ℕ) → length job.scripts ≤ 64 → AreQuiet job.modules → IsUnder job.scripts order →
+    ensures trace { (job : Job) (order : List ℕ) → length job.scripts ≤ 64 → AreQuiet job.modules
+        → IsUnder job.scripts order →
         spelled (recorded job order) ≡ order }
-    ensures summary { (job : Job) (order other : List ℕ) → length job.scripts ≤ 64 → AreQuiet job.modules → IsUnder job.scripts order →
+    ensures summary { (job : Job) (order other : List ℕ) → length job.scripts ≤ 64
+        → AreQuiet job.modules → IsUnder job.scripts order →
         spelled (recorded job order ++ rec_summary job.scripts other) ≡ order }
 {
     decimal_texts();

@@ -35,12 +35,13 @@ pub struct Summary {
 pub fn put_summary(
     alloc: Global,
     job: &Scripts,
-    order: &[u32],
+    order: &[u8],
     out: &mut Vec<u8>,
 ) -> Result<(), NoMemory>
     requires under { IsUnder job.now.scripts order.now }
     requires few { length order.now ≤ event_count job.now.scripts }
-    ensures appended { OnOk result (out.new.items ≡ out.old.items ++ rec_summary job.now.scripts order.now) }
+    ensures appended { OnOk result
+        (out.new.items ≡ out.old.items ++ rec_summary job.now.scripts order.now) }
     ensures unchanged { OnErr result (out.new.items ≡ out.old.items) }
 {
     let summary = Summary::of(alloc, job, order)?;
@@ -54,7 +55,7 @@ pub fn put_summary(
 
 impl Summary {
     /// The figures of these scripts, recorded in this order.
-    fn of(alloc: Global, job: &Scripts, order: &[u32]) -> Result<Summary, NoMemory>
+    fn of(alloc: Global, job: &Scripts, order: &[u8]) -> Result<Summary, NoMemory>
         requires under { IsUnder job.now.scripts order.now }
         requires few { length order.now ≤ event_count job.now.scripts }
         ensures { IfOk result (λ summary. summary ≡ summary_of job.now.scripts order.now) }
@@ -83,7 +84,9 @@ impl Summary {
     /// Appends the six lines.
     fn put(&self, out: &mut Vec<u8>) -> Result<(), NoMemory>
         ensures kept { take (vec_len out.old) out.new.items ≡ out.old.items }
-        ensures appended { OnOk result (out.new.items ≡ out.old.items ++ (count_lines self.now ++ (leaked_line self.now ++ peak_line self.now))) }
+        ensures appended { OnOk result
+            (out.new.items ≡ out.old.items
+            ++ (count_lines self.now ++ (leaked_line self.now ++ peak_line self.now))) }
     {
         self.put_counts(out)?;
         self.put_leaked(out)?;
@@ -127,19 +130,18 @@ impl Summary {
 }
 
 /// The figures of an order under the scripts.
-fn tally_order(alloc: Global, job: &Scripts, order: &[u32]) -> Result<Tally, NoMemory>
+fn tally_order(alloc: Global, job: &Scripts, order: &[u8]) -> Result<Tally, NoMemory>
     requires under { IsUnder job.now.scripts order.now }
     requires few { length order.now ≤ event_count job.now.scripts }
     ensures { IfOk result (λ tally. IsTally tally (actions job.now.scripts order.now)) }
 {
     let mut tally = Tally::new(alloc);
     let mut done = vec![in alloc; 0; job.threads() as usize]?;
-    let mut ips = Vec::new(alloc);
     let mut entry = 0;
     'entries: while entry < order.len() {
-        let thread = order[entry];
+        let thread = order[entry] as u32;
         let place = done[thread as usize];
-        let Some(turn) = job.turn_into(thread, place, &mut ips)? else {
+        let Some((turn, _node)) = job.turn(thread, place) else {
             unreachable!()
         };
         tally.take_turn(thread, turn)?;
@@ -156,9 +158,8 @@ fn peak_alone(alloc: Global, job: &Scripts, thread: u32) -> Result<u64, NoMemory
     ensures few { IfOk result (λ peak. peak ≤ 2 ^ 56) }
 {
     let mut tally = Tally::new(alloc);
-    let mut ips = Vec::new(alloc);
     for place in 0..u32::MAX {
-        let Some(turn) = job.turn_into(thread, place, &mut ips)? else {
+        let Some((turn, _node)) = job.turn(thread, place) else {
             return Ok(tally.peak);
         };
         tally.take_turn(thread, turn)?;
@@ -170,7 +171,8 @@ fn peak_alone(alloc: Global, job: &Scripts, thread: u32) -> Result<u64, NoMemory
 fn entry_count(turn: ScriptLine) -> usize
     ensures some { 1 ≤ result }
     ensures few { result ≤ 2 }
-    ensures entries { (thread : ℕ) (ips : List ℕ) → result ≡ length (entries_of thread (turn_said turn ips)) }
+    ensures entries { (thread : ℕ) (ips : List ℕ)
+        → result ≡ length (entries_of thread (turn_said turn ips)) }
 {
     match turn {
         ScriptLine::Reallocation { .. } => 2,

@@ -50,7 +50,9 @@ impl Tally {
         requires tallied { (actions : List Action) × IsTally self.old actions }
         requires few_bytes { self.old.allocated ≤ 2 ^ 62 }
         requires few_calls { self.old.calls ≤ 2 ^ 62 }
-        ensures taken { OnOk result ((ips : List ℕ) (actions : List Action) → IsTally self.old actions → IsTally self.new (with_turn thread (turn_said turn ips) actions)) }
+        ensures taken { OnOk result
+            ((ips : List ℕ) (actions : List Action) → IsTally self.old actions
+            → IsTally self.new (with_turn thread (turn_said turn ips) actions)) }
         ensures bytes { self.new.allocated ≤ self.old.allocated + 2 ^ 32 }
         ensures calls { self.new.calls ≤ self.old.calls + 1 }
     {
@@ -73,7 +75,10 @@ impl Tally {
         requires tallied { (actions : List Action) × IsTally self.old actions }
         requires byte_room { self.old.allocated ≤ 2 ^ 62 }
         requires call_room { self.old.calls ≤ 2 ^ 62 }
-        ensures taken { OnOk result ((ips : List ℕ) (actions : List Action) → IsTally self.old actions → IsTally self.new (record { thread = thread; event = allocation id size ips } ∷ actions)) }
+        ensures taken { OnOk result
+            ((ips : List ℕ) (actions : List Action) → IsTally self.old actions
+            → IsTally self.new (record { thread = thread; event = allocation id size ips }
+            ∷ actions)) }
         ensures bytes { self.new.allocated ≤ self.old.allocated + 2 ^ 32 }
         ensures calls { self.new.calls ≤ self.old.calls + 1 }
     {
@@ -91,7 +96,8 @@ impl Tally {
     // Takes a free. It takes no memory.
     fn free(&mut self, thread: u32, id: u64)
         requires { (actions : List Action) × IsTally self.old actions }
-        ensures taken { (rejoined : Bool) (actions : List Action) → IsTally self.old actions → IsTally self.new (record { thread = thread; event = free id rejoined } ∷ actions) }
+        ensures taken { (rejoined : Bool) (actions : List Action) → IsTally self.old actions
+            → IsTally self.new (record { thread = thread; event = free id rejoined } ∷ actions) }
         ensures bytes { self.new.allocated ≡ self.old.allocated }
         ensures calls { self.new.calls ≡ self.old.calls }
     {

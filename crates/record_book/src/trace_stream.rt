@@ -1,15 +1,20 @@
 //! The trace of a recording turn by turn, of which a front may be let go. That all of it is kept, is no part of it.
-ghost use Rattle.std.specs.Prelude.{◌≡◌, ℕ, ◌+◌, ◌<◌, ◌≤◌, ◌↔◌, false, List, [], ◌++◌, length, vec_capacity, vec_len, IfOk, IsOk, IsTrue, OnOk, OnErr, nat_lt};
+ghost use Rattle.std.specs.Prelude.{◌≡◌, ◌≢◌, ℕ, ◌+◌, ◌<◌, ◌≤◌, ◌↔◌, false, List, [], ◌++◌, length, vec_capacity, vec_len, IfOk, IsOk, IsTrue, OnOk, OnErr, nat_lt};
 ghost use Rattle.std.specs.Arc.{arc_value};
+ghost use Rattle.stack_table.specs.Node.{Node};
 ghost use Rattle.record_scripts.specs.Events.{event_count};
 ghost use Rattle.record_scripts.specs.ScriptTurns.{turn_said};
 ghost use Rattle.record_book.specs.Actions.{actions, events_at, times};
 ghost use Rattle.record_book.specs.BookState.{entries_of, stepped};
 ghost use Rattle.record_book.specs.HeapPlaces.{AreApart, live_blocks, places_after};
 ghost use Rattle.record_book.specs.Orders.{IsInterleaving, IsUnder};
+ghost use Rattle.record_book.specs.MappedNodes.{IsKnown, ips_of};
 ghost use Rattle.record_book.specs.RecordedTrace.{recorded};
+ghost use Rattle.record_book.specs.declared.turn_stack.TurnStack.TheVariants.{Known};
 
+use crate::node_map::NodeMap;
 use crate::trace::Trace;
+use crate::turn_stack::TurnStack;
 use hp_num::NoMemory;
 use record_scripts::{ScriptLine, Scripts};
 use std::alloc::Global;
@@ -24,20 +29,27 @@ use std::sync::Arc;
 pub struct TraceStream {
     job: Arc<Scripts>,
     done: Vec<u32>,
-    order: Vec<u32>,
+    order: Vec<u8>,
     trace: Trace,
-    ips: Vec<u64>,
+    nodes: NodeMap,
 }
 
 impl Model for TraceStream {
     ghost use Rattle.std.specs.Arc.{arc_value};
+    ghost use Rattle.record_scripts.specs.ScriptNodes.{nodes_in};
+    ghost use Rattle.record_book.specs.MappedNodes.{AreMapped};
     ghost use Rattle.record_book.specs.StreamState.{IsStream, Streamed};
 
     ghost Value = { Streamed };
 
-    ghost view = { λ s. record { job = arc_value s.job; order = s.order.items; text = s.trace.text.items } };
+    ghost view = { λ s. record {
+      job = arc_value s.job;
+      order = s.order.items;
+      text = s.trace.text.items;
+    } };
 
-    ghost invariant = { λ s. IsStream (arc_value s.job) s.done.items s.order.items s.trace };
+    ghost invariant = { λ s. IsStream (arc_value s.job) s.done.items s.order.items s.trace
+        × AreMapped s.nodes (nodes_in (arc_value s.job).scripts) s.trace.nodes };
 }
 
 impl TraceStream {
@@ -48,13 +60,14 @@ impl TraceStream {
         ensures whole { IfOk result (λ stream. stream.text ≡ recorded stream.job stream.order) }
     {
         let done = vec![in alloc; 0; job.threads() as usize]?;
+        let nodes = NodeMap::new(alloc, &job)?;
         let trace = Trace::new(alloc, job.modules())?;
         Ok(TraceStream {
             job,
             done,
             order: Vec::new(alloc),
             trace,
-            ips: Vec::new(alloc),
+            nodes,
         })
     }
 
@@ -63,22 +76,31 @@ impl TraceStream {
     /// done. On `NoMemory` all is as before.
     pub fn step(&mut self, thread: u32) -> Result<bool, NoMemory>
         requires { thread < length self.old.job.scripts }
-        ensures stepped { OnOk result (self.new.order ≡ stepped self.old.job.scripts thread self.old.order) }
+        ensures stepped { OnOk result
+            (self.new.order ≡ stepped self.old.job.scripts thread self.old.order) }
         ensures job { self.new.job ≡ self.old.job }
         ensures text { OnOk result ((more : List ℕ) × (self.new.text ≡ self.old.text ++ more)
-            × (recorded self.new.job self.new.order ≡ recorded self.old.job self.old.order ++ more)) }
-        ensures more { IfOk result (λ more. more ≡ nat_lt (times thread self.old.order) (length (events_at self.old.job.scripts thread))) }
-        ensures done { IfOk result (λ more. more ≡ false → times thread self.new.order ≡ length (events_at self.new.job.scripts thread)) }
+            × (recorded self.new.job self.new.order
+            ≡ recorded self.old.job self.old.order ++ more)) }
+        ensures more { IfOk result
+            (λ more. more ≡ nat_lt (times thread self.old.order)
+            (length (events_at self.old.job.scripts thread))) }
+        ensures done { IfOk result
+            (λ more. more ≡ false
+            → times thread self.new.order ≡ length (events_at self.new.job.scripts thread)) }
         ensures under { OnOk result (IsUnder self.new.job.scripts self.new.order) }
         ensures unchanged { OnErr result (self.new ≡ self.old) }
     {
         let place = self.done[thread as usize];
-        let Some(turn) = self.job.turn_into(thread, place, &mut self.ips)? else {
+        let Some((turn, node)) = self.job.turn(thread, place) else {
             return Ok(false);
         };
         self.order.reserve(2)?;
-        self.trace.add(thread, turn, &self.ips)?;
-        push_entries(&mut self.order, thread, turn)?;
+        let known = self.nodes.find(&self.job, node)?;
+        let stack = stack_of(known, &self.nodes.ips);
+        let number = self.trace.add(thread, turn, stack)?;
+        self.nodes.learn(node, number);
+        push_entries(&mut self.order, thread as u8, turn)?;
         self.done[thread as usize] = place + 1;
         Ok(true)
     }
@@ -106,12 +128,13 @@ impl TraceStream {
     }
 
     /// The thread of each event so far.
-    pub fn order(&self) -> &[u32]
+    pub fn order(&self) -> &[u8]
         ensures order { result.now ≡ self.now.order }
 
         // The order.
         ensures under { IsUnder self.now.job.scripts self.now.order }
-        ensures apart { AreApart (live_blocks (places_after (actions self.now.job.scripts self.now.order))) }
+        ensures apart { AreApart
+            (live_blocks (places_after (actions self.now.job.scripts self.now.order))) }
         ensures few { length self.now.order ≤ event_count self.now.job.scripts }
     {
         self.order.as_slice()
@@ -135,8 +158,10 @@ impl TraceStream {
 }
 
 // Appends a thread to an order, once for each event of its turn. It can't fail where there is room for two.
-fn push_entries(order: &mut Vec<u32>, thread: u32, turn: ScriptLine) -> Result<(), NoMemory>
-    ensures pushed { OnOk result ((ips : List ℕ) → order.new.items ≡ order.old.items ++ entries_of thread (turn_said turn ips)) }
+fn push_entries(order: &mut Vec<u8>, thread: u8, turn: ScriptLine) -> Result<(), NoMemory>
+    ensures pushed { OnOk result
+        ((ips : List ℕ) → order.new.items
+        ≡ order.old.items ++ entries_of thread (turn_said turn ips)) }
     ensures room { vec_len order.old + 2 ≤ vec_capacity order.old → IsOk result }
 {
     order.push(thread)?;
@@ -145,4 +170,17 @@ fn push_entries(order: &mut Vec<u32>, thread: u32, turn: ScriptLine) -> Result<(
         _ => {}
     }
     Ok(())
+}
+
+// The stack of a node that is known, or of these ips where it is 0.
+fn stack_of(known: u32, ips: &[u64]) -> TurnStack<'_>
+    ensures known { known ≢ 0 → result ≡ Known known }
+    ensures ips { known ≡ 0 → (nodes : List Node) → ips_of nodes result ≡ ips.now }
+    ensures is_known { (nodes : List Node) → known ≤ length nodes → IsKnown nodes result }
+{
+    if known == 0 {
+        TurnStack::Ips(ips)
+    } else {
+        TurnStack::Known(known)
+    }
 }

@@ -1,5 +1,5 @@
 -- Scripts as they are kept: one turn more in the last of them, and more nodes.
-use Rattle.std.proofs.Common.{◌≡◌, ℕ, zero, suc, ◌+◌, ◌<◌, ◌≤◌, List, [], ◌∷◌, ◌++◌, length, map, Some, refl, sym, ap, ap₂, ◌∙◌, subst, arith}
+use Rattle.std.proofs.Common.{◌≡◌, ℕ, zero, suc, ◌+◌, ◌<◌, ◌≤◌, List, [], ◌∷◌, ◌++◌, length, get_or, map, Some, refl, sym, ap, ap₂, ◌∙◌, subst, arith}
 use Rattle.std.specs.Prelude.{slice_get, slice_set, vec_capacity, vec_len, Result, Ok, Err, OnErr}
 use Rattle.std.specs.List.{AllByRecursion}
 use Rattle.std.proofs.lemmas.List.{map-append}
@@ -7,11 +7,11 @@ use Rattle.std.proofs.lemmas.Option.{same_Some}
 use Rattle.stack_table.specs.Node.{Node}
 use Rattle.stack_table.specs.Continues.{Continues}
 use Rattle.record_scripts.specs.declared.turn_entry.TurnEntry.{TurnEntry}
-use Rattle.record_scripts.specs.declared.turn_entry.TurnEntry.TheVariants.{Allocation, Free, Reallocation}
 use Rattle.record_scripts.specs.declared.script.Script.{Script}
-use Rattle.record_scripts.specs.Turns.{Turn, allocates, reallocates}
+use Rattle.record_scripts.specs.Turns.{Turn}
 use Rattle.record_scripts.specs.Job.{in_last}
-use Rattle.record_scripts.specs.ScriptTurns.{AreHeld, HasRoom, IsHeld, script_kept, scripts_kept, turn_kept}
+use Rattle.record_scripts.specs.KeptTurn.{line_kept}
+use Rattle.record_scripts.specs.ScriptTurns.{AreHeld, HasRoom, IsHeld, script_kept, scripts_kept, turn_kept, turn_said}
 
 -- one turn more in the last script
 pub kept-set : (nodes : List Node) (turn : TurnEntry) (new : Script) (scripts : List Script) (k : ℕ) (script : Script) → k + 1 ≡ length scripts → slice_get scripts k ≡ Some script → new.turns.items ≡ script.turns.items ++ turn ∷ []
@@ -55,10 +55,10 @@ room-at (s ∷ []) (suc k) script last at room = absurd (omega (arith, last))
 room-at (s ∷ t ∷ more) zero script last at room = absurd (omega (arith, last))
 room-at (s ∷ t ∷ more) (suc k) script last at room = room-at (t ∷ more) k script (omega (arith, last)) at room
 
-turn-grown : (nodes new : List Node) → Continues nodes new → (turn : TurnEntry) → IsHeld (length nodes) turn → turn_kept new turn ≡ turn_kept nodes turn
-turn-grown nodes new grown (Allocation request) held = ap (λ (ips : List ℕ). allocates request.id request.size ips) (grown.stacks request.node held)
-turn-grown nodes new grown (Free id) held = refl
-turn-grown nodes new grown (Reallocation request) held = ap (λ (ips : List ℕ). reallocates request.id request.size ips) (grown.stacks request.node held)
+turn-grown : (nodes new : List Node) → Continues nodes new → (turn : TurnEntry)
+    → IsHeld (length nodes) turn → turn_kept new turn ≡ turn_kept nodes turn
+turn-grown nodes new grown turn held =
+    ap (λ (ips : List ℕ). turn_said (line_kept turn) ips) (grown.stacks turn.node held)
 
 turns-grown : (nodes new : List Node) → Continues nodes new → (turns : List TurnEntry) → AllByRecursion (IsHeld (length nodes)) turns → map (turn_kept new) turns ≡ map (turn_kept nodes) turns
 turns-grown nodes new grown [] held = refl
@@ -71,10 +71,9 @@ kept-grown nodes new grown [] held = refl
 kept-grown nodes new grown (script ∷ scripts) held =
     ap₂ (λ (t : List Turn) (ts : List (List Turn)). t ∷ ts) (turns-grown nodes new grown script.turns.items held.0) (kept-grown nodes new grown scripts held.1)
 
-turn-held : (count more : ℕ) → count ≤ more → (turn : TurnEntry) → IsHeld count turn → IsHeld more turn
-turn-held count more within (Allocation request) held = omega (arith, held)
-turn-held count more within (Free id) held = tt
-turn-held count more within (Reallocation request) held = omega (arith, held)
+turn-held : (count more : ℕ) → count ≤ more → (turn : TurnEntry) → IsHeld count turn
+    → IsHeld more turn
+turn-held count more within turn held = omega (arith, within, held)
 
 turns-held : (count more : ℕ) → count ≤ more → (turns : List TurnEntry) → AllByRecursion (IsHeld count) turns → AllByRecursion (IsHeld more) turns
 turns-held count more within [] held = tt
@@ -88,3 +87,13 @@ held-grown count more within (script ∷ scripts) held = (turns-held count more 
 pub on-err : {X E : Type 0} (r : Result X E) (P : Type 0) → P → OnErr r P
 on-err (Ok x) P p = tt
 on-err (Err e) P p = p
+
+-- a script by its place
+pub kept-get : (nodes : List Node) (scripts : List Script) (k : ℕ) (default : Script)
+    → k < length scripts
+    → slice_get (scripts_kept nodes scripts) k
+    ≡ Some (script_kept nodes (get_or scripts k default))
+kept-get nodes [] k default within = absurd (omega (arith, within))
+kept-get nodes (script ∷ scripts) zero default within = refl
+kept-get nodes (script ∷ scripts) (suc k) default within =
+    kept-get nodes scripts k default (omega (arith, within))

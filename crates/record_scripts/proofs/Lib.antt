@@ -1,5 +1,7 @@
 mod KeptLemmas
 mod ModuleLemmas
 mod NodeLemmas
+mod ScriptNodeLemmas
+mod SameLemmas
 mod TableLemmas
 mod TurnLemmas

@@ -1,14 +1,14 @@
 -- Nodes of one frame each: a short stack is interned without a fault where there is room.
-use Rattle.std.proofs.Common.{◌≡◌, ℕ, zero, suc, ◌+◌, ◌-◌, ◌^◌, ◌<◌, ◌≤◌, true, false, List, [], ◌∷◌, ◌++◌, length, get_or, None, Some, Option, refl, sym, ap, ◌∙◌, arith, subst, ◌⊎◌, inl, inr, length-append}
-use Rattle.std.specs.Prelude.{position, reverse, sum_by, slice_get, nat_lt}
-use Rattle.std.specs.Option.{option_map}
+use Rattle.std.proofs.Common.{◌≡◌, ℕ, zero, suc, ◌+◌, ◌-◌, ◌^◌, ◌<◌, ◌≤◌, ◌==◌, ◌&&◌, Bool, true, false, List, [], ◌∷◌, ◌++◌, length, get_or, None, Some, Option, refl, sym, ap, ap₂, ◌∙◌, arith, subst, ◌⊎◌, inl, inr, length-append}
+use Rattle.std.specs.Prelude.{not, position, reverse, sum_by, slice_get, nat_lt}
+use Rattle.std.specs.Option.{option_eq, option_map}
 use Rattle.std.proofs.lemmas.List.{length-reverse, reverse-append, reverse-reverse}
 use Rattle.std.proofs.lemmas.List.Sums.{sum_by-cons}
 use Rattle.std.proofs.lemmas.List.Quantifiers.{position-Some}
 use Rattle.std.proofs.lemmas.Bool.{cases_lt}
 use Rattle.std.proofs.lemmas.Bool.Decides.{nat_tests}
 use Rattle.std.proofs.lemmas.Option.{same_Some, slice_get-get_or, slice_get_within}
-use Rattle.stack_table.specs.Node.{Node}
+use Rattle.stack_table.specs.Node.{Node, node_at}
 use Rattle.stack_table.specs.NodeNumber.{is_call, node_number}
 use Rattle.stack_table.specs.Interned.{Interned, fault_of_number, of_number, stack_fault, stack_interned}
 use Rattle.stack_table.specs.Stack.{frame_count, outwards, stack_nodes}
@@ -161,3 +161,89 @@ no_fault nodes (ip ∷ outer) single room short =
     let earlier = no_fault nodes outer single (omega arith) (omega arith) in
     let known : nat_lt (length mid.nodes) mid.number ≡ false = grind (arith, nat_tests, before.within) in
     rw (earlier, known) (node_fits mid.nodes (record { ip = ip; parent = mid.number; frames = 1 }) (omega (arith, before.deep)) (omega (arith, before.few)) (node_number mid.nodes ip mid.number))
+
+-- each node is one frame
+single-at : (back : List Node) (k : ℕ) (node : Node) → AreSingle back
+    → slice_get (reverse back) k ≡ Some node → node.frames ≡ 1
+single-at [] k node single at = absurd (grind (arith, at))
+single-at (newest ∷ before) k node single at =
+    by (λ found. single-at before k node single.2 found) (cases_lt k (length before))
+    (subst (λ (nodes : List Node). slice_get nodes k ≡ Some node)
+    (reverse-append (newest ∷ []) before) at)
+  where
+    by : (slice_get (reverse before) k ≡ Some node → node.frames ≡ 1)
+        → (k < length before) ⊎ (length before ≤ k)
+        → slice_get (reverse before ++ newest ∷ []) k ≡ Some node → node.frames ≡ 1
+    by earlier (inl older) at =
+        let within : k < length (reverse before) = rw length-reverse older in
+        earlier (sym (get-front (reverse before) (newest ∷ []) k within) ∙ at)
+    by earlier (inr last) at =
+        let within = slice_get_within (reverse before ++ newest ∷ []) k node at in
+        let place : k ≡ length (reverse before) =
+        omega (arith, within, last, length-append (reverse before) (newest ∷ []), length-reverse before) in
+        let same : newest ≡ node = same_Some newest node (sym (get-last (reverse before) newest k place) ∙ at) in
+        ap (λ (x : Node). x.frames) (sym same) ∙ single.0
+
+-- what a node tells of itself
+abbrev told : Option Node → Option (ℕ × ℕ)
+told found = option_map (λ node. record { 0 = node.ip; 1 = node.parent }) found
+
+abbrev same_pair : ℕ × ℕ → ℕ × ℕ → Bool
+same_pair x y = x.0 == y.0 && x.1 == y.1
+
+pub not-true-is : (b : Bool) → false ≡ not b → b ≡ true
+not-true-is true is = refl
+not-true-is false is = is
+
+-- two nodes of one frame that tell the same are the same
+pub node-same : (nodes others : List Node) (k : ℕ) (found other : Option (ℕ × ℕ))
+    → AreSingle (reverse nodes) → AreSingle (reverse others) → k < length nodes → k < length others
+    → found ≡ told (node_at nodes (k + 1)) → other ≡ told (node_at others (k + 1))
+    → option_eq same_pair found other ≡ true → slice_get nodes k ≡ slice_get others k
+node-same nodes others k found other single other_single within other_within is other_is eq =
+    there ∙ ap (λ (node : Node). Some node) same ∙ sym other_there
+  where
+    none : Node
+    none = record { ip = 0; parent = 0; frames = 0 }
+
+    a : Node
+    a = get_or nodes k none
+
+    b : Node
+    b = get_or others k none
+
+    there : slice_get nodes k ≡ Some a
+    there = slice_get-get_or nodes k none within
+
+    other_there : slice_get others k ≡ Some b
+    other_there = slice_get-get_or others k none other_within
+
+    back : k + 1 - 1 ≡ k
+    back = omega arith
+
+    at : node_at nodes (k + 1) ≡ Some a
+    at = grind (arith, nat_tests, there, back)
+
+    other_at : node_at others (k + 1) ≡ Some b
+    other_at = grind (arith, nat_tests, other_there, back)
+
+    pairs : same_pair (a.ip, a.parent) (b.ip, b.parent) ≡ true
+    pairs =
+        sym (ap₂ (λ (x y : Option (ℕ × ℕ)). option_eq same_pair x y) (is ∙ ap told at) (other_is ∙ ap told other_at))
+        ∙ eq
+
+    ip_is : a.ip ≡ b.ip
+    ip_is = grind (arith, nat_tests, pairs)
+
+    parent_is : a.parent ≡ b.parent
+    parent_is = grind (arith, nat_tests, pairs)
+
+    frames_are : a.frames ≡ b.frames
+    frames_are =
+        single-at (reverse nodes) k a single (rw reverse-reverse there)
+        ∙ sym (single-at (reverse others) k b other_single (rw reverse-reverse other_there))
+
+    same : a ≡ b
+    same =
+        ap₂ (λ (x y : ℕ). record { ip = x; parent = y; frames = a.frames }) ip_is parent_is
+        ∙ ap (λ (f : ℕ). record { ip = b.ip; parent = b.parent; frames = f }) frames_are

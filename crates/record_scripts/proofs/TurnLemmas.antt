@@ -1,6 +1,6 @@
 -- One turn more: what the table then keeps, and which fault the turn has.
 use Rattle.std.proofs.Common.{◌≡◌, ℕ, ◌+◌, ◌<◌, ◌≤◌, Bool, true, false, cond, List, [], ◌∷◌, ◌++◌, length, map, reverse, Some, refl, sym, ap, ◌∙◌, subst, arith, length-append}
-use Rattle.std.specs.Prelude.{nat_eq}
+use Rattle.std.specs.Prelude.{nat_eq, not}
 use Rattle.std.specs.List.{AllByRecursion}
 use Rattle.std.proofs.lemmas.List.{length-map, map-append}
 use Rattle.std.proofs.lemmas.Bool.Decides.{nat_tests}
@@ -13,8 +13,10 @@ use Rattle.record_scripts.specs.Events.{event_count, events_of_turn}
 use Rattle.record_scripts.specs.Job.{Job, in_last, last_script}
 use Rattle.record_scripts.specs.Playable.{Follows, IsInTurn}
 use Rattle.record_scripts.specs.ScriptFaults.{with_turn}
+use Rattle.record_scripts.specs.ScriptNodes.{nodes_in, nodes_with}
 use Rattle.record_scripts.specs.ScriptTurns.{AreHeld, AreScripts, AreSingle, IsHeld, script_kept, scripts_kept, turn_kept}
 use Rattle.record_scripts.proofs.KeptLemmas.{all-push, kept-grown}
+use Rattle.record_scripts.proofs.ScriptNodeLemmas.{nodes-begun, nodes-push}
 use Rattle.record_scripts.proofs.TableLemmas.{bounded-push, count-begun, count-push, in-turn-push, last-begun, last-push, live-push}
 
 -- the scripts with the turn
@@ -32,6 +34,7 @@ scripts-same nodes scripts others live later events limit table kept held count 
   held = held;
   single = table.single;
   few_nodes = table.few_nodes;
+  nodes_are = table.nodes_are ∙ ap nodes_in (sym kept);
   counted = table.counted ∙ ap event_count (sym kept);
   within = table.within;
   few_events = table.few_events;
@@ -51,6 +54,7 @@ scripts-begun nodes scripts empty live later events limit table few none gone =
       held = all-push (λ (script : Script). AllByRecursion (IsHeld (length nodes)) script.turns.items) scripts empty table.held (subst (λ (items : List TurnEntry). AllByRecursion (IsHeld (length nodes)) items) (sym none) tt);
       single = table.single;
       few_nodes = table.few_nodes;
+      nodes_are = table.nodes_are ∙ sym (nodes-begun (scripts_kept nodes scripts)) ∙ ap nodes_in (sym kept);
       counted = table.counted ∙ sym (count-begun (scripts_kept nodes scripts)) ∙ ap event_count (sym kept);
       within = table.within;
       few_events = table.few_events;
@@ -79,15 +83,17 @@ some_events (reallocates id size ips) = omega arith
 -- what the table keeps with the turn
 pub scripts-next : (nodes new : List Node) (scripts pushed : List Script) (live later : ℕ → Bool) (events limit : ℕ) (said : Turn) → AreScripts nodes scripts live events limit
     → 0 < length (scripts_kept nodes scripts) → length pushed ≡ length scripts → AreHeld (length new) pushed → AreSingle (reverse new) → length new ≤ length nodes + 256
-    → scripts_kept new pushed ≡ in_last (scripts_kept nodes scripts) said → events + length (events_of_turn said) ≤ limit
+    → new ≡ nodes_with nodes said → scripts_kept new pushed ≡ in_last (scripts_kept nodes scripts) said → events + length (events_of_turn said) ≤ limit
     → ((id : ℕ) → later id ≡ is_live_after (said ∷ reverse (last_script (scripts_kept nodes scripts))) id) → IsBounded said
     → Follows (reverse (last_script (scripts_kept nodes scripts))) said
     → AreScripts new pushed later (events + length (events_of_turn said)) limit
-scripts-next nodes new scripts pushed live later events limit said table some count held single few kept within live_then bound follows =
+scripts-next nodes new scripts pushed live later events limit said table some count held single few grew kept within live_then bound follows =
     record {
       held = held;
       single = single;
       few_nodes = omega (arith, few, table.few_nodes, some_events said);
+      nodes_are = grew ∙ ap (λ (ns : List Node). nodes_with ns said) table.nodes_are
+          ∙ sym (nodes-push (scripts_kept nodes scripts) said some) ∙ ap nodes_in (sym kept);
       counted = ap (λ (n : ℕ). n + length (events_of_turn said)) table.counted ∙ sym (count-push (scripts_kept nodes scripts) said some) ∙ ap event_count (sym kept);
       within = within;
       few_events = table.few_events;
@@ -108,6 +114,30 @@ live-kept live old id same is q = by (nat_eq id q) refl
         let e : id ≡ q = grind (arith, nat_tests, here) in
         ap live (sym e) ∙ is
     by false other = same q
+
+pub not-true : (b : Bool) → not b ≡ true → b ≡ false
+not-true true is = sym is
+not-true false is = refl
+
+pub not-false : (b : Bool) → not b ≡ false → b ≡ true
+not-false true is = refl
+not-false false is = sym is
+
+-- an ID that wasn't live
+pub live-absent : (live later : ℕ → Bool) (id : ℕ) → ((q : ℕ) → later q ≡ cond (nat_eq id q) false (live q))
+    → live id ≡ false → (q : ℕ) → later q ≡ live q
+live-absent live later id out none q = out q ∙ by (nat_eq id q) refl
+  where
+    by : (b : Bool) → nat_eq id q ≡ b → cond b false (live q) ≡ live q
+    by true here =
+        let e : id ≡ q = grind (arith, nat_tests, here) in
+        sym none ∙ ap live e
+    by false other = refl
+
+-- an ID that is put in where it was live
+pub live-there : (live later : ℕ → Bool) (id : ℕ) → ((q : ℕ) → later q ≡ cond (nat_eq id q) true (live q))
+    → live id ≡ true → (q : ℕ) → later q ≡ live q
+live-there live later id put is q = put q ∙ sym (live-kept live live id (λ q. refl) is q)
 
 -- what contracts see
 abbrev pub made : ℕ → List ℕ → List (List Turn) → Job

@@ -7,4 +7,7 @@ pub mod Events
 pub mod Job
 pub mod Playable
 pub mod ScriptFaults
+pub mod FaultText
+pub mod ScriptNodes
+pub mod KeptTurn
 pub mod ScriptTurns

@@ -20,4 +20,5 @@ module_lines (said ∷ more) = (written 2 said ++ 10 ∷ []) ++ module_lines mor
 
 -- the text is a sequence of such lines
 abbrev pub AreModuleLines : List ℕ → Type 0
-AreModuleLines text = (said : List Content) × AllByRecursion IsModuleSaid said × (text ≡ module_lines said)
+AreModuleLines text = (said : List Content) × AllByRecursion IsModuleSaid said
+    × (text ≡ module_lines said)

@@ -1,5 +1,5 @@
 -- Which scripts threads can take: what lines without a fault say, one after another.
-use Rattle.std.specs.Prelude.{◌≡◌, ℕ, ◌^◌, ◌<◌, ◌≤◌, true, false, List, [], ◌∷◌, length, reverse}
+use Rattle.std.specs.Prelude.{◌≡◌, ◌^◌, ◌<◌, ◌≤◌, true, false, List, [], ◌∷◌, length, reverse}
 use Rattle.std.specs.List.{AllByRecursion}
 use Rattle.ht_lines.specs.Written.{AreWords}
 use Rattle.record_scripts.specs.Turns.{AreBounded, Turn, allocates, frees, reallocates, is_live_after}

@@ -18,7 +18,8 @@ block_fault script (reallocates id size ips) = if is_live script id then None el
 -- with the events of the turn there would be more than are allowed
 abbrev pub count_fault : Job → Turn → Option ScriptFault
 count_fault job turn =
-    if nat_lt job.limit (event_count job.scripts + length (events_of_turn turn)) then Some TooManyEvents else None
+    if nat_lt job.limit (event_count job.scripts + length (events_of_turn turn))
+    then Some TooManyEvents else None
 
 -- the fault of a turn in the last script: that of its block comes first
 abbrev pub first_fault : Option ScriptFault → Option ScriptFault → Option ScriptFault
@@ -27,7 +28,8 @@ first_fault None later = later
 
 abbrev pub turn_fault : Job → Option Turn → Option ScriptFault
 turn_fault job None = Some BadScriptLine
-turn_fault job (Some turn) = first_fault (block_fault (last_script job.scripts) turn) (count_fault job turn)
+turn_fault job (Some turn) = first_fault (block_fault (last_script job.scripts) turn)
+    (count_fault job turn)
 
 -- the fault of a line of the last script
 abbrev pub line_fault : Job → List ℕ → Option ScriptFault
@@ -53,7 +55,8 @@ module_fault line = if is_skipped line then None else is_faulty (module_in line)
 -- the job with a line of a modules file, which has no fault
 abbrev pub with_module_line : Job → List ℕ → Job
 with_module_line job line =
-    if is_skipped line then job else record job { modules = job.modules ++ unwrap_or (module_in line) [] }
+    if is_skipped line then job
+    else record job { modules = job.modules ++ unwrap_or (module_in line) [] }
 
 -- the fault is this one, unless memory was wanting
 abbrev pub Tells : ScriptFault → Option ScriptFault → Type 0

@@ -6,12 +6,13 @@ use Rattle.stack_table.specs.Stack.{stack}
 use Rattle.record_scripts.specs.declared.script_line.ScriptLine.{ScriptLine}
 use Rattle.record_scripts.specs.declared.script_line.ScriptLine.TheVariants.{Allocation as AllocationLine, Free as FreeLine, Reallocation as ReallocationLine}
 use Rattle.record_scripts.specs.declared.turn_entry.TurnEntry.{TurnEntry}
-use Rattle.record_scripts.specs.declared.turn_entry.TurnEntry.TheVariants.{Allocation, Free, Reallocation}
 use Rattle.record_scripts.specs.declared.script.Script.{Script}
 use Rattle.record_scripts.specs.Turns.{AreBounded, Turn, allocates, frees, reallocates, is_live}
 use Rattle.record_scripts.specs.Events.{event_count}
 use Rattle.record_scripts.specs.Job.{last_script}
+use Rattle.record_scripts.specs.KeptTurn.{line_kept}
 use Rattle.record_scripts.specs.Playable.{IsInTurn}
+use Rattle.record_scripts.specs.ScriptNodes.{nodes_in}
 
 -- the turn that a line says with these ips
 abbrev pub turn_said : ScriptLine → List ℕ → Turn
@@ -21,9 +22,7 @@ turn_said (ReallocationLine id size) ips = reallocates id size ips
 
 -- the turn that an entry keeps
 abbrev pub turn_kept : List Node → TurnEntry → Turn
-turn_kept nodes (Allocation request) = allocates request.id request.size (stack nodes request.node)
-turn_kept nodes (Free id) = frees id
-turn_kept nodes (Reallocation request) = reallocates request.id request.size (stack nodes request.node)
+turn_kept nodes entry = turn_said (line_kept entry) (stack nodes entry.node)
 
 -- the scripts that are kept
 abbrev pub script_kept : List Node → Script → List Turn
@@ -34,13 +33,12 @@ scripts_kept nodes scripts = map (script_kept nodes) scripts
 
 -- the node of the turn is one of the first `count`, or none
 abbrev pub IsHeld : ℕ → TurnEntry → Type 0
-IsHeld count (Allocation request) = request.node ≤ count
-IsHeld count (Free id) = Unit {0}
-IsHeld count (Reallocation request) = request.node ≤ count
+IsHeld count entry = entry.node ≤ count
 
 -- the nodes of all turns are held
 abbrev pub AreHeld : ℕ → List Script → Type 0
-AreHeld count scripts = AllByRecursion (λ script. AllByRecursion (IsHeld count) script.turns.items) scripts
+AreHeld count scripts = AllByRecursion (λ script. AllByRecursion (IsHeld count) script.turns.items)
+    scripts
 
 -- listed from the last to the first: each node has one frame, and its parent stands before it
 abbrev pub AreSingle : List Node → Type 0
@@ -53,12 +51,14 @@ HasRoom [] = Unit {0}
 HasRoom (script ∷ []) = vec_len script.turns < vec_capacity script.turns
 HasRoom (script ∷ next ∷ more) = HasRoom (next ∷ more)
 
--- the scripts have so many events, no more than are allowed, and these blocks of the last one are live; each event has
--- brought 256 nodes at most
-pub record AreScripts (nodes : List Node) (scripts : List Script) (live : ℕ → Bool) (events limit : ℕ) : Type 0 where
+-- the scripts have so many events, no more than are allowed, and these blocks of the last one are live; the nodes are those
+-- of their stacks, and each event has brought 256 at most
+pub record AreScripts (nodes : List Node) (scripts : List Script) (live : ℕ → Bool)
+    (events limit : ℕ) : Type 0 where
   pub held : AreHeld (length nodes) scripts
   pub single : AreSingle (reverse nodes)
   pub few_nodes : length nodes ≤ 256 * events
+  pub nodes_are : nodes ≡ nodes_in (scripts_kept nodes scripts)
   pub counted : events ≡ event_count (scripts_kept nodes scripts)
   pub within : events ≤ limit
   pub few_events : limit < 2 ^ 24

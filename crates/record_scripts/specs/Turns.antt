@@ -13,9 +13,11 @@ pub data Turn : Type 0 where
 -- it leaves it live
 abbrev pub is_live_after : List Turn → ℕ → Bool
 is_live_after [] id = false
-is_live_after (allocates other size ips ∷ before) id = if other == id then true else is_live_after before id
+is_live_after (allocates other size ips ∷ before) id = if other == id then true
+    else is_live_after before id
 is_live_after (frees other ∷ before) id = if other == id then false else is_live_after before id
-is_live_after (reallocates other size ips ∷ before) id = if other == id then true else is_live_after before id
+is_live_after (reallocates other size ips ∷ before) id = if other == id then true
+    else is_live_after before id
 
 -- whether the block with the ID is live after the turns of a script
 abbrev pub is_live : List Turn → ℕ → Bool

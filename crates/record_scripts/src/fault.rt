@@ -1,6 +1,7 @@
 //! Why a line of a script or of a modules file is refused. Which line it is, is known to whoever counts the lines.
 ghost use Rattle.std.specs.Prelude.{◌≡◌};
 ghost use Rattle.record_scripts.specs.declared.fault.ScriptFault.TheVariants.{NoMemory as OutOfMemory};
+ghost use Rattle.record_scripts.specs.FaultText.{fault_text};
 
 use hp_num::NoMemory;
 use std::alloc::{AllocError, AllocFailed};
@@ -8,22 +9,33 @@ use thiserror::Error;
 
 /// Why a line can't follow the lines before it. Where several apply, the first of these is told.
 #[derive(Clone, Copy, Debug, PartialEq, Eq, Error)]
+#[error("{}", self.text())]
 pub enum ScriptFault {
     /// The line is no turn of a script, or no line of a module.
-    #[error("bad script line")]
     BadScriptLine,
     /// The line allocates a block whose ID is live in its script.
-    #[error("block live")]
     BlockLive,
     /// The line frees or reallocates a block whose ID isn't live in its script.
-    #[error("block not live")]
     BlockNotLive,
     /// With the events of the line, all scripts together would have more than are allowed.
-    #[error("too many events")]
     TooManyEvents,
     /// Memory is wanting.
-    #[error("out of memory")]
     NoMemory,
+}
+
+impl ScriptFault {
+    /// What the fault is called, in few words. Want of memory is none, and a program never tells it as one.
+    pub fn text(self) -> &'static str
+        ensures { result.now ≡ fault_text self }
+    {
+        match self {
+            ScriptFault::BadScriptLine => "bad script line",
+            ScriptFault::BlockLive => "block live",
+            ScriptFault::BlockNotLive => "block not live",
+            ScriptFault::TooManyEvents => "too many events",
+            ScriptFault::NoMemory => "out of memory",
+        }
+    }
 }
 
 impl From<NoMemory> for ScriptFault {

@@ -8,9 +8,10 @@
 //!   of the script that was opened last. Each answers the first fault of its line after the lines before it
 //!   (`module_fault`, `line_fault`), and then leaves all as it was; else the line adds exactly what it says
 //!   (`with_module_line`, `with_line`). `share` gives the same behind a pointer that threads can share.
-//! - `turn_into` gives a turn of a thread by its number, with its pointers in a buffer, and tells that its block and
-//!   its stack are bounded; `modules` the text of the modules, `events` how many events there are, and `limit` how many
-//!   there may be.
+//! - `turn` gives a turn of a thread by its number, with the node of its stack, and tells that its block and its stack
+//!   are bounded; `stack_into` the pointers of a node, `nodes` how many nodes there are (`nodes_in`), and `turn_into` a
+//!   turn with its pointers. `modules` gives the text of the modules, `events` how many events there are, and `limit`
+//!   how many there may be. `is_kept_as` finds scripts of the same lines the same without a look at their stacks.
 //! - The scripts are ones that threads can take (`IsPlayable`, told by `threads`): each turn follows those before it, so
 //!   that none allocates a live block or frees another.
 //! - The text of the modules is whole lines about modules (`AreModuleLines`) as long as no line that is handed to

@@ -19,11 +19,15 @@ pub const FILE_VERSION: u8 = 2;
 /// After a fault `out` holds what it held before.
 pub fn put_module_line(line: &[u8], out: &mut Vec<u8>) -> Result<(), ScriptFault>
     requires { length line.now < 2 ^ 32 }
-    ensures appended { OnOk result (out.new.items ≡ out.old.items ++ unwrap_or (module_in line.now) []) }
+    ensures appended { OnOk result
+        (out.new.items ≡ out.old.items ++ unwrap_or (module_in line.now) []) }
     ensures module { OnOk result (IsSome (module_in line.now)) }
-    ensures fault { IfErr result (λ fault. fault ≢ ScriptFault.NoMemory → (fault ≡ ScriptFault.BadScriptLine) × (module_in line.now ≡ None)) }
+    ensures fault { IfErr result
+        (λ fault. fault ≢ ScriptFault.NoMemory
+        → (fault ≡ ScriptFault.BadScriptLine) × (module_in line.now ≡ None)) }
     ensures unchanged { OnErr result (out.new.items ≡ out.old.items) }
-    ensures lines { IsOneLine line.now → AreModuleLines out.old.items → AreModuleLines out.new.items }
+    ensures lines { IsOneLine line.now → AreModuleLines out.old.items
+        → AreModuleLines out.new.items }
 {
     let Ok(item) = read_item(Form::Raw, FILE_VERSION, line) else {
         return Err(ScriptFault::BadScriptLine);

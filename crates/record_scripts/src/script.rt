@@ -1,5 +1,5 @@
 //! The script of one thread, and its next turn. What its lines say is no part of it.
-ghost use Rattle.std.specs.Prelude.{◌≡◌, ℕ, ◌<◌, ◌≤◌, List, length, IfSome, IsOk, OnOk, OnErr, option_map, slice_get};
+ghost use Rattle.std.specs.Prelude.{◌≡◌, ℕ, ◌<◌, ◌≤◌, List, length, IsTrue, IfSome, IsOk, OnOk, OnErr, option_map, slice_get};
 ghost use Rattle.stack_table.specs.Node.{Node};
 ghost use Rattle.record_scripts.specs.Job.{in_last};
 ghost use Rattle.record_scripts.specs.Turns.{script_at};
@@ -17,7 +17,8 @@ pub struct Script {
 /// Makes room for one turn more in the last script. On `NoMemory` the scripts are as before.
 pub fn reserve_turn(scripts: &mut Vec<Script>) -> Result<(), NoMemory>
     requires { 0 < length scripts.old.items }
-    ensures same { (nodes : List Node) → scripts_kept nodes scripts.new.items ≡ scripts_kept nodes scripts.old.items }
+    ensures same { (nodes : List Node)
+        → scripts_kept nodes scripts.new.items ≡ scripts_kept nodes scripts.old.items }
     ensures held { (count : ℕ) → AreHeld count scripts.old.items → AreHeld count scripts.new.items }
     ensures count { length scripts.new.items ≡ length scripts.old.items }
     ensures room { OnOk result (HasRoom scripts.new.items) }
@@ -31,10 +32,18 @@ pub fn reserve_turn(scripts: &mut Vec<Script>) -> Result<(), NoMemory>
 /// Appends a turn to the last script. On `NoMemory` the scripts are as before. It can't fail where there is room.
 pub fn push_turn(scripts: &mut Vec<Script>, turn: TurnEntry) -> Result<(), NoMemory>
     requires { 0 < length scripts.old.items }
-    ensures pushed { OnOk result ((nodes : List Node) → scripts_kept nodes scripts.new.items ≡ in_last (scripts_kept nodes scripts.old.items) (turn_kept nodes turn)) }
-    ensures held { OnOk result ((count : ℕ) → IsHeld count turn → AreHeld count scripts.old.items → AreHeld count scripts.new.items) }
-    ensures same { OnErr result ((nodes : List Node) → scripts_kept nodes scripts.new.items ≡ scripts_kept nodes scripts.old.items) }
-    ensures still_held { OnErr result ((count : ℕ) → AreHeld count scripts.old.items → AreHeld count scripts.new.items) }
+    ensures pushed { OnOk result
+        ((nodes : List Node)
+        → scripts_kept nodes scripts.new.items
+        ≡ in_last (scripts_kept nodes scripts.old.items) (turn_kept nodes turn)) }
+    ensures held { OnOk result
+        ((count : ℕ) → IsHeld count turn → AreHeld count scripts.old.items
+        → AreHeld count scripts.new.items) }
+    ensures same { OnErr result
+        ((nodes : List Node)
+        → scripts_kept nodes scripts.new.items ≡ scripts_kept nodes scripts.old.items) }
+    ensures still_held { OnErr result
+        ((count : ℕ) → AreHeld count scripts.old.items → AreHeld count scripts.new.items) }
     ensures count { length scripts.new.items ≡ length scripts.old.items }
     ensures room { HasRoom scripts.old.items → IsOk result }
 {
@@ -47,9 +56,43 @@ pub fn push_turn(scripts: &mut Vec<Script>, turn: TurnEntry) -> Result<(), NoMem
 /// The turn of a thread with the number `place` from 0.
 pub fn turn_at(scripts: &[Script], thread: u32, place: u32) -> Option<TurnEntry>
     requires { thread < length scripts.now }
-    ensures kept { (nodes : List Node) → slice_get (script_at (scripts_kept nodes scripts.now) thread) place ≡ option_map (turn_kept nodes) result }
-    ensures held { (count : ℕ) → AreHeld count scripts.now → IfSome result (λ turn. IsHeld count turn) }
+    ensures kept { (nodes : List Node)
+        → slice_get (script_at (scripts_kept nodes scripts.now) thread) place
+        ≡ option_map (turn_kept nodes) result }
+    ensures held { (count : ℕ) → AreHeld count scripts.now
+        → IfSome result (λ turn. IsHeld count turn) }
 {
     let script = &scripts[thread as usize];
     script.turns.get(place as usize).copied()
+}
+
+/// Whether the turns of all threads are kept in the same way.
+pub fn are_kept_as(scripts: &[Script], others: &[Script]) -> bool
+    ensures { IsTrue result
+        → (nodes : List Node) → scripts_kept nodes scripts.now ≡ scripts_kept nodes others.now }
+{
+    if scripts.len() != others.len() {
+        return false;
+    }
+    for thread in 0..scripts.len() {
+        if !are_same_turns(&scripts[thread].turns, &others[thread].turns) {
+            return false;
+        }
+    }
+    true
+}
+
+// Whether turns are kept in the same way.
+fn are_same_turns(turns: &[TurnEntry], others: &[TurnEntry]) -> bool
+    ensures { IsTrue result → turns.now ≡ others.now }
+{
+    if turns.len() != others.len() {
+        return false;
+    }
+    for place in 0..turns.len() {
+        if !turns[place].is_kept_as(&others[place]) {
+            return false;
+        }
+    }
+    true
 }

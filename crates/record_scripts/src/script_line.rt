@@ -50,7 +50,9 @@ pub fn is_skipped(line: &[u8]) -> bool
 pub fn read_script_line(line: &[u8], ips: &mut Vec<u64>) -> Result<ScriptLine, ScriptFault>
     ensures said { IfOk result (λ said. turn_in line.now ≡ Some (turn_said said ips.new.items)) }
     ensures bounded { IfOk result (λ said. IsBounded (turn_said said ips.new.items)) }
-    ensures fault { IfErr result (λ fault. fault ≢ ScriptFault.NoMemory → (fault ≡ ScriptFault.BadScriptLine) × (turn_in line.now ≡ None)) }
+    ensures fault { IfErr result
+        (λ fault. fault ≢ ScriptFault.NoMemory
+        → (fault ≡ ScriptFault.BadScriptLine) × (turn_in line.now ≡ None)) }
 {
     ips.clear();
     let [kind, rest @ ..] = line else {
@@ -66,9 +68,12 @@ pub fn read_script_line(line: &[u8], ips: &mut Vec<u64>) -> Result<ScriptLine, S
 #[tactic(auto, unfolding(crate::specs::ScriptLine::turn_of))]
 fn read_turn(kind: u8, rest: &[u8], ips: &mut Vec<u64>) -> Result<ScriptLine, ScriptFault>
     requires { ips.old.items ≡ [] }
-    ensures said { IfOk result (λ said. turn_of kind (fields rest.now) ≡ Some (turn_said said ips.new.items)) }
+    ensures said { IfOk result
+        (λ said. turn_of kind (fields rest.now) ≡ Some (turn_said said ips.new.items)) }
     ensures bounded { IfOk result (λ said. IsBounded (turn_said said ips.new.items)) }
-    ensures fault { IfErr result (λ fault. fault ≢ ScriptFault.NoMemory → (fault ≡ ScriptFault.BadScriptLine) × (turn_of kind (fields rest.now) ≡ None)) }
+    ensures fault { IfErr result
+        (λ fault. fault ≢ ScriptFault.NoMemory
+        → (fault ≡ ScriptFault.BadScriptLine) × (turn_of kind (fields rest.now) ≡ None)) }
 {
     match kind {
         b'a' => match read_block(rest, ips) {
@@ -97,12 +102,14 @@ fn ends_kind(rest: &[u8]) -> bool
     }
 }
 
-// The block that a line frees.
+// The block that a line frees. A field that is no number counts as 0 where it is taken off, so 0 is looked at again.
 fn read_free(rest: &[u8]) -> Option<u64>
     ensures { result ≡ free_of (fields rest.now) }
 {
-    let id = field(rest, 0)?;
-    let (_, after) = next_number(rest)?;
+    let (id, after) = next_number(rest)?;
+    if id == 0 {
+        field(rest, 0)?;
+    }
     match next_number(after) {
         Some(_) => None,
         None => Some(id),
@@ -112,10 +119,13 @@ fn read_free(rest: &[u8]) -> Option<u64>
 // The block that a line allocates; its ips are appended to `ips`, which is empty.
 fn read_block(rest: &[u8], ips: &mut Vec<u64>) -> Result<Block, ScriptFault>
     requires { ips.old.items ≡ [] }
-    ensures said { IfOk result (λ block. block_of (fields rest.now) ≡ Some (block.id, block.size, ips.new.items)) }
+    ensures said { IfOk result
+        (λ block. block_of (fields rest.now) ≡ Some (block.id, block.size, ips.new.items)) }
     ensures few_bytes { IfOk result (λ block. block.size ≤ 2 ^ 32) }
     ensures few_ips { OnOk result (length ips.new.items ≤ 256) }
-    ensures fault { IfErr result (λ fault. fault ≢ ScriptFault.NoMemory → (fault ≡ ScriptFault.BadScriptLine) × (block_of (fields rest.now) ≡ None)) }
+    ensures fault { IfErr result
+        (λ fault. fault ≢ ScriptFault.NoMemory
+        → (fault ≡ ScriptFault.BadScriptLine) × (block_of (fields rest.now) ≡ None)) }
 {
     let Some((block, stack)) = read_size(rest) else {
         return Err(ScriptFault::BadScriptLine);
@@ -127,14 +137,19 @@ fn read_block(rest: &[u8], ips: &mut Vec<u64>) -> Result<Block, ScriptFault>
     Ok(block)
 }
 
-// The ID and the size of a block, and what follows them.
+// The ID and the size of a block, and what follows them; 0 is looked at again, as in `read_free`.
 fn read_size(rest: &[u8]) -> Option<(Block, &[u8])>
-    ensures { option_map (λ found. (found.0.id, found.0.size, numbers found.1.now)) result ≡ sized_of (fields rest.now) }
+    ensures { option_map (λ found. (found.0.id, found.0.size, numbers found.1.now)) result
+        ≡ sized_of (fields rest.now) }
 {
-    let id = field(rest, 0)?;
-    let size = field(rest, 1)?;
-    let (_, after) = next_number(rest)?;
-    let (_, stack) = next_number(after)?;
+    let (id, after) = next_number(rest)?;
+    let (size, stack) = next_number(after)?;
+    if id == 0 {
+        field(rest, 0)?;
+    }
+    if size == 0 {
+        field(rest, 1)?;
+    }
     Some((Block { id, size }, stack))
 }
 
@@ -144,7 +159,9 @@ fn read_ips(stack: &[u8], ips: &mut Vec<u64>) -> Result<(), ScriptFault>
     ensures said { OnOk result (ips.new.items ≡ numbers stack.now) }
     ensures few { OnOk result (length ips.new.items ≤ 256) }
     ensures are_ips { OnOk result (are_ips (numbers stack.now) ≡ true) }
-    ensures fault { IfErr result (λ fault. fault ≢ ScriptFault.NoMemory → (fault ≡ ScriptFault.BadScriptLine) × (are_ips (numbers stack.now) ≡ false)) }
+    ensures fault { IfErr result
+        (λ fault. fault ≢ ScriptFault.NoMemory
+        → (fault ≡ ScriptFault.BadScriptLine) × (are_ips (numbers stack.now) ≡ false)) }
 {
     let mut rest = stack;
     'ips: while let Some((ip, after)) = next_number(rest) {

@@ -1,8 +1,9 @@
 //! The scripts and the modules as they are kept: each turn with the node of its stack, and each distinct stack once.
 //! The lines that say the turns are no part of it.
-ghost use Rattle.std.specs.Prelude.{◌≡◌, ◌≢◌, ℕ, ◌+◌, ◌-◌, ◌^◌, ◌<◌, ◌≤◌, List, [], ◌∷◌, ◌++◌, length, reverse, IsSome, None, Some, IfErr, IfOk, IfSome, OnOk, OnErr, option_map, slice_get, unwrap_or};
+ghost use Rattle.std.specs.Prelude.{◌≡◌, ◌≢◌, ℕ, ◌+◌, ◌-◌, ◌^◌, ◌<◌, ◌≤◌, List, [], ◌∷◌, ◌++◌, length, reverse, IsSome, None, Some, IsTrue, IfErr, IfOk, IfSome, OnOk, OnErr, option_map, slice_get, unwrap_or};
 ghost use Rattle.ht_lines.specs.OneLine.{IsOneLine};
 ghost use Rattle.stack_table.specs.Continues.{Continues};
+ghost use Rattle.stack_table.specs.Interned.{stack_interned};
 ghost use Rattle.stack_table.specs.Stack.{stack};
 ghost use Rattle.record_scripts.specs.Events.{event_count};
 ghost use Rattle.record_scripts.specs.Job.{Job};
@@ -11,13 +12,14 @@ ghost use Rattle.record_scripts.specs.ModuleLine.{module_in};
 ghost use Rattle.record_scripts.specs.ModuleLines.{AreModuleLines};
 ghost use Rattle.record_scripts.specs.Turns.{IsBounded, allocates, frees, reallocates, script_at};
 ghost use Rattle.record_scripts.specs.ScriptFaults.{Tells, turn_fault, with_turn};
-ghost use Rattle.record_scripts.specs.ScriptTurns.{AreSingle, IsHeld, turn_kept, turn_said};
+ghost use Rattle.record_scripts.specs.ScriptNodes.{nodes_in};
+ghost use Rattle.record_scripts.specs.ScriptTurns.{AreSingle, turn_said};
 
 use crate::fault::ScriptFault;
 use crate::module_line::put_module_line;
-use crate::script::{Script, push_turn, reserve_turn, turn_at};
+use crate::script::{Script, are_kept_as, push_turn, reserve_turn, turn_at};
 use crate::script_line::ScriptLine;
-use crate::turn_entry::{Request, TurnEntry};
+use crate::turn_entry::TurnEntry;
 use hp_num::NoMemory;
 use stack_table::{NodeFault, Nodes};
 use std::alloc::Global;
@@ -46,13 +48,19 @@ impl Model for ScriptTable {
 
     ghost Value = { Job };
 
-    ghost view = { λ t. record { limit = t.limit; modules = t.module_lines.items; scripts = scripts_kept t.nodes t.scripts.items } };
+    ghost view = { λ t. record {
+      limit = t.limit;
+      modules = t.module_lines.items;
+      scripts = scripts_kept t.nodes t.scripts.items;
+    } };
 
-    ghost invariant = { λ t. AreScripts t.nodes t.scripts.items (contains nat_eq t.live) t.events t.limit };
+    ghost invariant = { λ t.
+        AreScripts t.nodes t.scripts.items (contains nat_eq t.live) t.events t.limit };
 }
 
 impl ScriptTable {
     /// No scripts and no modules, for at most `limit` events. It takes no memory.
+    #[tactic(auto, unfolding(crate::specs::ScriptNodes::nodes_in))]
     pub fn new(alloc: Global, limit: u64) -> Self
         requires { limit < 2 ^ 24 }
         ensures empty { result ≡ record { limit = limit; modules = []; scripts = [] } }
@@ -70,11 +78,16 @@ impl ScriptTable {
     /// Takes a line of a modules file that is neither empty nor a comment; the faults are those of `put_module_line`.
     pub fn add_module(&mut self, line: &[u8]) -> Result<(), ScriptFault>
         requires { length line.now < 2 ^ 32 }
-        ensures added { OnOk result (self.new ≡ record self.old { modules = self.old.modules ++ unwrap_or (module_in line.now) [] }) }
+        ensures added { OnOk result
+            (self.new ≡ record self.old
+            { modules = self.old.modules ++ unwrap_or (module_in line.now) [] }) }
         ensures said { OnOk result (IsSome (module_in line.now)) }
-        ensures fault { IfErr result (λ fault. fault ≢ ScriptFault.NoMemory → (fault ≡ ScriptFault.BadScriptLine) × (module_in line.now ≡ None)) }
+        ensures fault { IfErr result
+            (λ fault. fault ≢ ScriptFault.NoMemory
+            → (fault ≡ ScriptFault.BadScriptLine) × (module_in line.now ≡ None)) }
         ensures unchanged { OnErr result (self.new ≡ self.old) }
-        ensures lines { IsOneLine line.now → AreModuleLines self.old.modules → AreModuleLines self.new.modules }
+        ensures lines { IsOneLine line.now → AreModuleLines self.old.modules
+            → AreModuleLines self.new.modules }
     {
         put_module_line(line, &mut self.module_lines)
     }
@@ -82,7 +95,8 @@ impl ScriptTable {
     /// Adds an empty script, and answers its number.
     pub fn begin(&mut self, alloc: Global) -> Result<u32, NoMemory>
         requires { length self.old.scripts < 64 }
-        ensures begun { OnOk result (self.new ≡ record self.old { scripts = self.old.scripts ++ [] ∷ [] }) }
+        ensures begun { OnOk result
+            (self.new ≡ record self.old { scripts = self.old.scripts ++ [] ∷ [] }) }
         ensures number { IfOk result (λ thread. thread ≡ length self.old.scripts) }
         ensures unchanged { OnErr result (self.new ≡ self.old) }
     {
@@ -99,9 +113,12 @@ impl ScriptTable {
     pub fn add(&mut self, line: ScriptLine, ips: &[u64]) -> Result<(), ScriptFault>
         requires begun { 0 < length self.old.scripts }
         requires bounded { IsBounded (turn_said line ips.now) }
-        ensures added { OnOk result (self.new ≡ with_turn self.old (Some (turn_said line ips.now))) }
-        ensures no_fault { OnOk result (turn_fault self.old (Some (turn_said line ips.now)) ≡ None) }
-        ensures fault { IfErr result (λ fault. Tells fault (turn_fault self.old (Some (turn_said line ips.now)))) }
+        ensures added { OnOk result
+            (self.new ≡ with_turn self.old (Some (turn_said line ips.now))) }
+        ensures no_fault { OnOk result
+            (turn_fault self.old (Some (turn_said line ips.now)) ≡ None) }
+        ensures fault { IfErr result
+            (λ fault. Tells fault (turn_fault self.old (Some (turn_said line ips.now)))) }
         ensures unchanged { OnErr result (self.new ≡ self.old) }
     {
         match line {
@@ -141,23 +158,47 @@ impl ScriptTable {
         self.scripts.len() as u32
     }
 
-    /// The turn of a thread with the number `place` from 0, with its ips in `ips` in the place of what that held.
-    pub fn turn_into(
-        &self,
-        thread: u32,
-        place: u32,
-        ips: &mut Vec<u64>,
-    ) -> Result<Option<ScriptLine>, NoMemory>
+    /// The turn of a thread with the number `place` from 0: what its line says, and the node of its stack.
+    pub fn turn(&self, thread: u32, place: u32) -> Option<(ScriptLine, u32)>
         requires { thread < length self.now.scripts }
-        ensures turn { IfOk result (λ said. slice_get (script_at self.now.scripts thread) place ≡ option_map (λ turn. turn_said turn ips.new.items) said) }
-        ensures bounded { IfOk result (λ said. IfSome said (λ turn. IsBounded (turn_said turn ips.new.items))) }
+        ensures turn { slice_get (script_at self.now.scripts thread) place
+            ≡ option_map (λ found. turn_said found.0 (stack (nodes_in self.now.scripts) found.1))
+            result }
+        ensures held { IfSome result (λ found. found.1 ≤ length (nodes_in self.now.scripts)) }
+        ensures bounded { IfSome result
+            (λ found. IsBounded
+            (turn_said found.0 (stack (nodes_in self.now.scripts) found.1))) }
         ensures few_events { event_count self.now.scripts < 2 ^ 24 }
+        ensures few_threads { length self.now.scripts ≤ 64 }
     {
-        let Some(turn) = turn_at(&self.scripts, thread, place) else {
-            return Ok(None);
-        };
-        let said = line_of(&self.nodes, turn, ips)?;
-        Ok(Some(said))
+        let entry = turn_at(&self.scripts, thread, place)?;
+        Some((entry.line(), entry.node))
+    }
+
+    /// The ips of a node, in `ips` in the place of what that held.
+    pub fn stack_into(&self, node: u32, ips: &mut Vec<u64>) -> Result<(), NoMemory>
+        requires { node ≤ length (nodes_in self.now.scripts) }
+        ensures { OnOk result (ips.new.items ≡ stack (nodes_in self.now.scripts) node) }
+    {
+        self.nodes.stack_into(node, ips)
+    }
+
+    /// How many nodes the stacks of the scripts have.
+    pub fn nodes(&self) -> u32
+        ensures count { result ≡ length (nodes_in self.now.scripts) }
+        ensures bound { result ≤ 2 ^ 32 - 2 }
+    {
+        self.nodes.len()
+    }
+
+    /// Whether all is kept in the same way, so that it says the same.
+    pub fn is_kept_as(&self, other: &ScriptTable) -> bool
+        ensures { IsTrue result → self.now ≡ other.now }
+    {
+        self.limit == other.limit
+            && self.modules() == other.modules()
+            && are_same_nodes(&self.nodes, &other.nodes)
+            && are_kept_as(&self.scripts, &other.scripts)
     }
 
     // Appends an allocation to the last script.
@@ -165,24 +206,27 @@ impl ScriptTable {
         requires begun { 0 < length self.old.scripts }
         requires few_bytes { size ≤ 2 ^ 32 }
         requires few_ips { length ips.now ≤ 256 }
-        ensures added { OnOk result (self.new ≡ with_turn self.old (Some (allocates id size ips.now))) }
-        ensures no_fault { OnOk result (turn_fault self.old (Some (allocates id size ips.now)) ≡ None) }
-        ensures fault { IfErr result (λ fault. Tells fault (turn_fault self.old (Some (allocates id size ips.now)))) }
+        ensures added { OnOk result
+            (self.new ≡ with_turn self.old (Some (allocates id size ips.now))) }
+        ensures no_fault { OnOk result
+            (turn_fault self.old (Some (allocates id size ips.now)) ≡ None) }
+        ensures fault { IfErr result
+            (λ fault. Tells fault (turn_fault self.old (Some (allocates id size ips.now)))) }
         ensures unchanged { OnErr result (self.new ≡ self.old) }
     {
-        if self.live.contains(&id) {
+        reserve_turn(&mut self.scripts)?;
+        if !self.live.insert(id)? {
             return Err(ScriptFault::BlockLive);
         }
         if self.limit - self.events < 1 {
+            self.live.remove(&id);
             return Err(ScriptFault::TooManyEvents);
         }
-        reserve_turn(&mut self.scripts)?;
-        self.live.insert(id)?;
         let Ok(node) = intern(&mut self.nodes, ips) else {
             self.live.remove(&id);
             return Err(ScriptFault::NoMemory);
         };
-        let turn = TurnEntry::Allocation(Request { id, size, node });
+        let turn = TurnEntry::new(ScriptLine::Allocation { id, size }, node);
         push_turn(&mut self.scripts, turn)?;
         self.events += 1;
         Ok(())
@@ -193,19 +237,34 @@ impl ScriptTable {
         requires { 0 < length self.old.scripts }
         ensures added { OnOk result (self.new ≡ with_turn self.old (Some (frees id))) }
         ensures no_fault { OnOk result (turn_fault self.old (Some (frees id)) ≡ None) }
-        ensures fault { IfErr result (λ fault. Tells fault (turn_fault self.old (Some (frees id)))) }
+        ensures fault { IfErr result
+            (λ fault. Tells fault (turn_fault self.old (Some (frees id)))) }
         ensures unchanged { OnErr result (self.new ≡ self.old) }
     {
-        if !self.live.contains(&id) {
+        if self.limit - self.events < 1 {
+            return Err(self.refused_free(id));
+        }
+        reserve_turn(&mut self.scripts)?;
+        if !self.live.remove(&id) {
             return Err(ScriptFault::BlockNotLive);
         }
-        if self.limit - self.events < 1 {
-            return Err(ScriptFault::TooManyEvents);
-        }
-        push_turn(&mut self.scripts, TurnEntry::Free { id })?;
-        self.live.remove(&id);
+        let turn = TurnEntry::new(ScriptLine::Free { id }, 0);
+        push_turn(&mut self.scripts, turn)?;
         self.events += 1;
         Ok(())
+    }
+
+    // The fault of a free where no event more is allowed.
+    fn refused_free(&self, id: u64) -> ScriptFault
+        requires begun { 0 < length self.now.scripts }
+        requires full { self.now.limit ≡ event_count self.now.scripts }
+        ensures { turn_fault self.now (Some (frees id)) ≡ Some result }
+    {
+        if self.live.contains(&id) {
+            ScriptFault::TooManyEvents
+        } else {
+            ScriptFault::BlockNotLive
+        }
     }
 
     // Appends a reallocation to the last script.
@@ -213,9 +272,12 @@ impl ScriptTable {
         requires begun { 0 < length self.old.scripts }
         requires few_bytes { size ≤ 2 ^ 32 }
         requires few_ips { length ips.now ≤ 256 }
-        ensures added { OnOk result (self.new ≡ with_turn self.old (Some (reallocates id size ips.now))) }
-        ensures no_fault { OnOk result (turn_fault self.old (Some (reallocates id size ips.now)) ≡ None) }
-        ensures fault { IfErr result (λ fault. Tells fault (turn_fault self.old (Some (reallocates id size ips.now)))) }
+        ensures added { OnOk result
+            (self.new ≡ with_turn self.old (Some (reallocates id size ips.now))) }
+        ensures no_fault { OnOk result
+            (turn_fault self.old (Some (reallocates id size ips.now)) ≡ None) }
+        ensures fault { IfErr result
+            (λ fault. Tells fault (turn_fault self.old (Some (reallocates id size ips.now)))) }
         ensures unchanged { OnErr result (self.new ≡ self.old) }
     {
         if !self.live.contains(&id) {
@@ -226,28 +288,10 @@ impl ScriptTable {
         }
         reserve_turn(&mut self.scripts)?;
         let node = intern(&mut self.nodes, ips)?;
-        let turn = TurnEntry::Reallocation(Request { id, size, node });
+        let turn = TurnEntry::new(ScriptLine::Reallocation { id, size }, node);
         push_turn(&mut self.scripts, turn)?;
         self.events += 2;
         Ok(())
-    }
-}
-
-// What a turn says, with its ips in `ips`.
-fn line_of(nodes: &Nodes, turn: TurnEntry, ips: &mut Vec<u64>) -> Result<ScriptLine, NoMemory>
-    requires { IsHeld (length nodes.now) turn }
-    ensures { IfOk result (λ line. turn_said line ips.new.items ≡ turn_kept nodes.now turn) }
-{
-    match turn {
-        TurnEntry::Allocation(Request { id, size, node }) => {
-            nodes.stack_into(node, ips)?;
-            Ok(ScriptLine::Allocation { id, size })
-        }
-        TurnEntry::Free { id } => Ok(ScriptLine::Free { id }),
-        TurnEntry::Reallocation(Request { id, size, node }) => {
-            nodes.stack_into(node, ips)?;
-            Ok(ScriptLine::Reallocation { id, size })
-        }
     }
 }
 
@@ -256,6 +300,8 @@ fn intern(nodes: &mut Nodes, ips: &[u64]) -> Result<u32, NoMemory>
     requires single { AreSingle (reverse nodes.old) }
     requires few_ips { length ips.now ≤ 256 }
     requires room { length nodes.old + 256 ≤ 2 ^ 32 - 2 }
+    ensures interned { IfOk result
+        (λ node. stack_interned nodes.old ips.now ≡ record { nodes = nodes.new; number = node }) }
     ensures stack { IfOk result (λ node. stack nodes.new node ≡ ips.now) }
     ensures within { IfOk result (λ node. node ≤ length nodes.new) }
     ensures few_more { length nodes.new ≤ length nodes.old + 256 }
@@ -270,4 +316,22 @@ fn intern(nodes: &mut Nodes, ips: &[u64]) -> Result<u32, NoMemory>
             _ => unreachable!(),
         },
     }
+}
+
+// Whether the nodes, each of which is one frame, are the same.
+fn are_same_nodes(nodes: &Nodes, others: &Nodes) -> bool
+    requires single { AreSingle (reverse nodes.now) }
+    requires other_single { AreSingle (reverse others.now) }
+    ensures { IsTrue result → nodes.now ≡ others.now }
+{
+    let count = nodes.len();
+    if count != others.len() {
+        return false;
+    }
+    for number in 0..count {
+        if nodes.node(number + 1) != others.node(number + 1) {
+            return false;
+        }
+    }
+    true
 }

@@ -1,13 +1,15 @@
 //! The scripts of all threads, and the modules, by the lines of their files. The order in which the threads take their
 //! turns is no part of it.
-ghost use Rattle.std.specs.Prelude.{◌≡◌, ℕ, ◌^◌, ◌<◌, ◌≤◌, List, [], ◌∷◌, ◌++◌, length, None, IfErr, IfOk, IfSome, OnOk, OnErr, option_map, slice_get};
+ghost use Rattle.std.specs.Prelude.{◌≡◌, ℕ, ◌-◌, ◌^◌, ◌<◌, ◌≤◌, List, [], ◌∷◌, ◌++◌, length, None, IsTrue, IfErr, IfOk, IfSome, OnOk, OnErr, option_map, slice_get};
 ghost use Rattle.std.specs.Arc.{arc_value};
 ghost use Rattle.ht_lines.specs.OneLine.{IsOneLine};
+ghost use Rattle.stack_table.specs.Stack.{stack};
 ghost use Rattle.record_scripts.specs.Events.{event_count};
 ghost use Rattle.record_scripts.specs.Job.{Job};
 ghost use Rattle.record_scripts.specs.Playable.{IsPlayable};
 ghost use Rattle.record_scripts.specs.ModuleLines.{AreModuleLines};
 ghost use Rattle.record_scripts.specs.ScriptFaults.{Tells, line_fault, module_fault, with_line, with_module_line};
+ghost use Rattle.record_scripts.specs.ScriptNodes.{nodes_in};
 ghost use Rattle.record_scripts.specs.ScriptTurns.{turn_said};
 ghost use Rattle.record_scripts.specs.Turns.{IsBounded, script_at};
 
@@ -68,7 +70,8 @@ impl Scripts {
         ensures unchanged { OnErr result (self.new ≡ self.old) }
 
         // Lines without a line feed keep the modules whole lines about modules.
-        ensures lines { IsOneLine line.now → AreModuleLines self.old.modules → AreModuleLines self.new.modules }
+        ensures lines { IsOneLine line.now → AreModuleLines self.old.modules
+            → AreModuleLines self.new.modules }
     {
         if is_skipped(line) {
             return Ok(());
@@ -80,7 +83,8 @@ impl Scripts {
     /// from 0. On `NoMemory` the scripts are as before.
     pub fn begin(&mut self) -> Result<u32, NoMemory>
         requires { length self.old.scripts < 64 }
-        ensures begun { OnOk result (self.new ≡ record self.old { scripts = self.old.scripts ++ [] ∷ [] }) }
+        ensures begun { OnOk result
+            (self.new ≡ record self.old { scripts = self.old.scripts ++ [] ∷ [] }) }
         ensures number { IfOk result (λ thread. thread ≡ length self.old.scripts) }
         ensures unchanged { OnErr result (self.new ≡ self.old) }
     {
@@ -125,13 +129,65 @@ impl Scripts {
         ips: &mut Vec<u64>,
     ) -> Result<Option<ScriptLine>, NoMemory>
         requires { thread < length self.now.scripts }
-        ensures turn { IfOk result (λ said. slice_get (script_at self.now.scripts thread) place ≡ option_map (λ turn. turn_said turn ips.new.items) said) }
+        ensures turn { IfOk result
+            (λ said. slice_get (script_at self.now.scripts thread) place
+            ≡ option_map (λ turn. turn_said turn ips.new.items) said) }
 
         // Its bounds, and that of all events.
-        ensures bounded { IfOk result (λ said. IfSome said (λ turn. IsBounded (turn_said turn ips.new.items))) }
+        ensures bounded { IfOk result
+            (λ said. IfSome said (λ turn. IsBounded (turn_said turn ips.new.items))) }
         ensures few_events { event_count self.now.scripts < 2 ^ 24 }
     {
-        self.table.turn_into(thread, place, ips)
+        let Some((line, node)) = self.table.turn(thread, place) else {
+            return Ok(None);
+        };
+        self.table.stack_into(node, ips)?;
+        Ok(Some(line))
+    }
+
+    /// The turn of a thread with the number `place`, counted from 0: what its line says, and the node of its stack. It is `None`
+    /// exactly where the thread's script has no such turn.
+    ///
+    /// The thread's script has to be begun. It takes no memory.
+    pub fn turn(&self, thread: u32, place: u32) -> Option<(ScriptLine, u32)>
+        requires { thread < length self.now.scripts }
+        ensures turn { slice_get (script_at self.now.scripts thread) place
+            ≡ option_map (λ found. turn_said found.0 (stack (nodes_in self.now.scripts) found.1))
+            result }
+        ensures held { IfSome result (λ found. found.1 ≤ length (nodes_in self.now.scripts)) }
+
+        // Its bounds, and that of all events.
+        ensures bounded { IfSome result
+            (λ found. IsBounded
+            (turn_said found.0 (stack (nodes_in self.now.scripts) found.1))) }
+        ensures few_events { event_count self.now.scripts < 2 ^ 24 }
+        ensures few_threads { length self.now.scripts ≤ 64 }
+    {
+        self.table.turn(thread, place)
+    }
+
+    /// The ips of a node, in `ips` in the place of what that held. On `NoMemory` nothing is said of `ips`.
+    pub fn stack_into(&self, node: u32, ips: &mut Vec<u64>) -> Result<(), NoMemory>
+        requires { node ≤ length (nodes_in self.now.scripts) }
+        ensures ips { OnOk result (ips.new.items ≡ stack (nodes_in self.now.scripts) node) }
+    {
+        self.table.stack_into(node, ips)
+    }
+
+    /// How many nodes the stacks of all scripts have, which is the greatest number of a node.
+    pub fn nodes(&self) -> u32
+        ensures count { result ≡ length (nodes_in self.now.scripts) }
+        ensures bound { result ≤ 2 ^ 32 - 2 }
+    {
+        self.table.nodes()
+    }
+
+    /// Whether the other scripts are kept in the same way, as those are that come from the same lines. Where they aren't, they
+    /// may be the same still. It takes no memory.
+    pub fn is_kept_as(&self, other: &Scripts) -> bool
+        ensures same { IsTrue result → self.now ≡ other.now }
+    {
+        self.table.is_kept_as(&other.table)
     }
 
     /// How many events all scripts together may have.

@@ -1,7 +1,8 @@
 //! Lines of scripts and of modules files.
 
+use crate::script_text::scripts_of;
 use hp_num::NoMemory;
-use record_scripts::{ScriptFault, Scripts};
+use record_scripts::{ScriptFault, ScriptLine, Scripts};
 use std::alloc::Global;
 use std::process::Abort;
 
@@ -61,4 +62,39 @@ fn lines_of_modules(rt: HostRuntime) {
         letter(scripts.module_line(b"# m app")),
     ];
     has_letters(&rt, &answers, b"..bb.");
+}
+
+#[test]
+fn turns(rt: HostRuntime) -> Result<(), ScriptFault> {
+    let text = b"a fedcba9876543210 100000000 500 400;r fedcba9876543210 20 400;f fedcba9876543210";
+    let id = 0xfedcba9876543210;
+    let scripts = scripts_of(rt.alloc(), text)?;
+    let mut ips = Vec::new(rt.alloc());
+    if scripts.threads() > 0 {
+        let allocation = ScriptLine::Allocation { id, size: 1 << 32 };
+        assert_eq!(&rt; scripts.turn(0, 0), Some((allocation, 2)));
+        assert_eq!(&rt; scripts.turn_into(0, 0, &mut ips)?, Some(allocation));
+        assert_eq!(&rt; ips.as_slice(), [0x500, 0x400].as_slice());
+        let reallocation = ScriptLine::Reallocation { id, size: 0x20 };
+        assert_eq!(&rt; scripts.turn(0, 1), Some((reallocation, 1)));
+        assert_eq!(&rt; scripts.turn(0, 2), Some((ScriptLine::Free { id }, 0)));
+        assert_eq!(&rt; scripts.turn(0, 3), None);
+    }
+    assert_eq!(&rt; scripts.nodes(), 2);
+    Ok(())
+}
+
+/// Whether the scripts of two texts are kept in the same way.
+fn are_kept_alike(alloc: Global, text: &[u8], other: &[u8]) -> Result<bool, ScriptFault> {
+    Ok(scripts_of(alloc, text)?.is_kept_as(&scripts_of(alloc, other)?))
+}
+
+#[test]
+fn scripts_that_are_kept_alike(rt: HostRuntime) -> Result<(), ScriptFault> {
+    let text = b"a 1 8 2;f 1|a 1 8 3";
+    assert!(&rt; are_kept_alike(rt.alloc(), text, b"a 01 8 2;;f 1|a 1 8 3")?);
+    assert!(&rt; !are_kept_alike(rt.alloc(), text, b"a 1 8 2;f 1|a 1 9 3")?);
+    assert!(&rt; !are_kept_alike(rt.alloc(), text, b"a 1 8 2;f 1|a 1 8 4")?);
+    assert!(&rt; !are_kept_alike(rt.alloc(), text, b"a 1 8 2;f 1")?);
+    Ok(())
 }

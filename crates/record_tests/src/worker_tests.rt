@@ -58,10 +58,10 @@ fn put_without_threads(text: &mut Vec<u8>, trace: &[u8]) -> Result<(), NoMemory>
 
 /// How many entries of an order stand before that of a thread that has so many of the same thread before it, or how many
 /// there are, where there is none.
-fn entries_before(order: &[u32], thread: u32, mut count: u32) -> u32 {
+fn entries_before(order: &[u8], thread: u32, mut count: u32) -> u32 {
     let mut before = 0u32;
     for entry in order {
-        if *entry == thread {
+        if u32::from(*entry) == thread {
             if count == 0 {
                 return before;
             }

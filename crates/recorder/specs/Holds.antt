@@ -6,7 +6,8 @@ use Rattle.record_book.specs.BookState.{HasStepped}
 
 -- one hold of a thread: at most 64 of its turns and no other's. Where more may be left it has 64, and else the thread has
 -- taken all turns of its script
-pub record IsHold (scripts : List (List Turn)) (thread : ℕ) (old new : List ℕ) (more : Bool) : Type 0 where
+pub record IsHold (scripts : List (List Turn)) (thread : ℕ) (old new : List ℕ) (more : Bool) : Type
+    0 where
   pub count : ℕ
   pub few : count ≤ 64
   pub stepped : HasStepped scripts thread count old new

@@ -31,7 +31,8 @@ impl Recorder {
     /// The book, as its threads have left it.
     pub fn close(self) -> Book
         ensures under { IsUnder result.job.scripts result.order }
-        ensures apart { AreApart (live_blocks (places_after (actions result.job.scripts result.order))) }
+        ensures apart { AreApart
+            (live_blocks (places_after (actions result.job.scripts result.order))) }
     {
         let book = self.book.into_inner();
         let _order = book.order();
@@ -48,8 +49,11 @@ impl Recorder {
 // script. It says whether 64 were taken, so that more may be left. On `NoMemory` those that were taken stay.
 fn take_turns(book: &mut Book, thread: u32) -> Result<bool, NoMemory>
     ensures job { book.new.job ≡ book.old.job }
-    ensures hold { IfOk result (λ more. IsHold book.old.job.scripts thread book.old.order book.new.order more) }
-    ensures part { OnErr result ((count : ℕ) × (count < 64) × HasStepped book.old.job.scripts thread count book.old.order book.new.order) }
+    ensures hold { IfOk result
+        (λ more. IsHold book.old.job.scripts thread book.old.order book.new.order more) }
+    ensures part { OnErr result
+        ((count : ℕ) × (count < 64)
+        × HasStepped book.old.job.scripts thread count book.old.order book.new.order) }
 {
     if thread >= book.threads() {
         return Ok(false);

@@ -22,7 +22,8 @@ task_plan text (Checks trace) job = one_file trace (check_report job)
 
 -- what is done with the files
 abbrev pub record_plan : ℕ → List ℕ → RecordAsked → Plan
-record_plan limit text asked = files_plan asked.modules asked.scripts (no_job limit) (task_plan text asked.task)
+record_plan limit text asked = files_plan asked.modules asked.scripts (no_job limit)
+    (task_plan text asked.task)
 
 -- the files that are read for it
 abbrev pub names_of : RecordAsked → List (List ℕ)
@@ -43,7 +44,8 @@ asked_answer bounds limit folder text asking =
 -- the answer to words, over a folder of files, of which none may have more bytes, nor longer lines, than the bounds, and which
 -- together may have so many events; this is the text of the recording, where there is one
 abbrev pub rec_answer : List (List ℕ) → Bounds → ℕ → Folder → List ℕ → Answer
-rec_answer words bounds limit folder text = asked_answer bounds limit folder text (record_asked words)
+rec_answer words bounds limit folder text = asked_answer bounds limit folder text
+    (record_asked words)
 
 -- the files that words name, where they are taken
 abbrev pub names_asked : Option RecordAsked → List (List ℕ)

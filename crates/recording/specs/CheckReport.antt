@@ -26,7 +26,8 @@ check_verdict None = Refuses not_a_recording
 -- the lines of a trace: the first line with a fault is the first with which the lines so far are no front of a recording of the job
 abbrev pub check_report : Job → Report
 check_report job = record {
-  line_fault = λ earlier line. if is_front job (earlier ++ line ∷ []) then None else Some not_a_recording;
+  line_fault = λ earlier line.
+      if is_front job (earlier ++ line ∷ []) then None else Some not_a_recording;
   end_fault = λ lines ended. end_told (whole_events job lines ended);
   gains = λ earlier line. [];
   verdict = λ lines. check_verdict (whole_events job lines true);

@@ -11,12 +11,14 @@ use Rattle.recording.specs.FrontRead.{Front}
 
 -- a file behind a job, and then what is done with the job that it gives
 abbrev pub file_plan : FileKind → List ℕ → Job → (Job → Plan) → Plan
-file_plan kind name job next = Lines name (file_report kind job) (λ lines. next (with_lines kind job lines))
+file_plan kind name job next = Lines name (file_report kind job)
+    (λ lines. next (with_lines kind job lines))
 
 -- the scripts in their order, each of them the next thread's
 abbrev pub scripts_plan : List (List ℕ) → Job → (Job → Plan) → Plan
 scripts_plan [] job next = next job
-scripts_plan (name ∷ names) job next = file_plan Script name (begun job) (λ read. scripts_plan names read next)
+scripts_plan (name ∷ names) job next = file_plan Script name (begun job)
+    (λ read. scripts_plan names read next)
 
 -- the modules file, if there is one
 abbrev pub modules_plan : Option (List ℕ) → Job → (Job → Plan) → Plan
@@ -43,10 +45,12 @@ abbrev pub scripts_front : List (List ℕ) → Job → Front
 scripts_front names job = record { names = names; plan = scripts_plan names job }
 
 abbrev pub modules_front : Option (List ℕ) → Job → Front
-modules_front modules job = record { names = modules_named modules; plan = modules_plan modules job }
+modules_front modules job
+    = record { names = modules_named modules; plan = modules_plan modules job }
 
 abbrev pub files_front : Option (List ℕ) → List (List ℕ) → Job → Front
-files_front modules names job = record { names = files_named modules names; plan = files_plan modules names job }
+files_front modules names job
+    = record { names = files_named modules names; plan = files_plan modules names job }
 
 -- the lines of a named file; none where the folder lacks it
 abbrev pub lines_in : Folder → List ℕ → List (List ℕ)
@@ -55,7 +59,8 @@ lines_in folder name = lines_of (unwrap_or (file_of folder name) [])
 -- the job with these scripts of a folder, none of which is absent or has a fault
 abbrev pub scripts_in : Folder → List (List ℕ) → Job → Job
 scripts_in folder [] job = job
-scripts_in folder (name ∷ names) job = scripts_in folder names (with_lines Script (begun job) (lines_in folder name))
+scripts_in folder (name ∷ names) job = scripts_in folder names
+    (with_lines Script (begun job) (lines_in folder name))
 
 -- the job with the modules that a file of a folder says
 abbrev pub modules_in : Folder → Option (List ℕ) → Job → Job
@@ -64,4 +69,5 @@ modules_in folder (Some modules) job = with_lines Modules job (lines_in folder m
 
 -- the job that files of a folder say
 abbrev pub job_in : Folder → Option (List ℕ) → List (List ℕ) → ℕ → Job
-job_in folder modules names limit = scripts_in folder names (modules_in folder modules (no_job limit))
+job_in folder modules names limit = scripts_in folder names
+    (modules_in folder modules (no_job limit))

@@ -34,20 +34,27 @@ LeadsTo texts bounds files front before left now =
     → Ran texts bounds files last (front.names ++ names) (front.plan next) before later answer)
 
 -- the files were read, so that the run goes on with their job; or the run has ended
-abbrev pub GoesOn : Texts → Bounds → Option Folder → Front → Moment → Moment → Result Job Halt → Type 0
-GoesOn texts bounds files front before now (Ok job) = LeadsTo texts bounds files front before (read_to job) now
+abbrev pub GoesOn : Texts → Bounds → Option Folder → Front → Moment → Moment → Result Job Halt
+    → Type 0
+GoesOn texts bounds files front before now (Ok job) = LeadsTo texts bounds files front before
+    (read_to job) now
 GoesOn texts bounds files front before now (Err halt) =
     (last : List ℕ) (names : List (List ℕ)) (next : Job → Plan)
-    → Ran texts bounds files last (front.names ++ names) (front.plan next) before now (halt_answer texts halt)
+    → Ran texts bounds files last (front.names ++ names) (front.plan next) before now
+    (halt_answer texts halt)
 
 -- the same, with nothing written, and writes failed exactly where the status says so
-pub record FrontRead (desk : Desk) (front : Front) (before now : Shown) (old new : Taken) (result : Result Job Halt) : Type 0 where
-  pub goes_on : GoesOn (texts_of desk.texts) (bounds_of desk.limits) before.files front before.moment now.moment result
+pub record FrontRead (desk : Desk) (front : Front) (before now : Shown) (old new : Taken)
+    (result : Result Job Halt) : Type 0 where
+  pub goes_on : GoesOn (texts_of desk.texts) (bounds_of desk.limits) before.files front
+      before.moment now.moment result
   pub silent : new.written ≡ old.written
   pub files : now.files ≡ before.files
   pub unwritten : status_of result ≡ 4 → Rose old.faults new.faults
   pub sound : status_of result ≢ 4 → new.faults ≡ old.faults
 
 -- the same, of a store and an output before it and after it
-abbrev pub ReadsFront : {S O : Type 0} → store.Ghosts S → sink.Ghosts O → Desk → Front → S → S → O → O → Result Job Halt → Type 0
-ReadsFront s o desk front before now old new result = FrontRead desk front (shown s before) (shown s now) (taken o old) (taken o new) result
+abbrev pub ReadsFront : {S O : Type 0} → store.Ghosts S → sink.Ghosts O → Desk → Front → S → S → O
+    → O → Result Job Halt → Type 0
+ReadsFront s o desk front before now old new result = FrontRead desk front (shown s before)
+    (shown s now) (taken o old) (taken o new) result

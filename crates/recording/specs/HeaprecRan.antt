@@ -15,7 +15,8 @@ use Rattle.recording.specs.Texts.{heaprec_texts}
 
 -- whatever failed: one answer that the words and the files allow was delivered. Where that answer is done, its output is a
 -- recording, so that at status 4 standard output has gained a front of one; or it says of a trace that it is one
-pub record HasDelivered (bounds : Bounds) (limit : ℕ) (asking : Option RecordAsked) (before now : Outside) (status : ℕ)
+pub record HasDelivered (bounds : Bounds) (limit : ℕ) (asking : Option RecordAsked)
+    (before now : Outside) (status : ℕ)
     : Type 0 where
   pub text : List ℕ
   pub given : Answer
@@ -25,7 +26,8 @@ pub record HasDelivered (bounds : Bounds) (limit : ℕ) (asking : Option RecordA
   pub delivered : IsDelivered heaprec_texts given status before now
 
 -- the same, and what follows
-pub record HeaprecRan (bounds : Bounds) (limit : ℕ) (asking : Option RecordAsked) (before now : Outside) (status : ℕ)
+pub record HeaprecRan (bounds : Bounds) (limit : ℕ) (asking : Option RecordAsked)
+    (before now : Outside) (status : ℕ)
     : Type 0 where
   pub run : HasDelivered bounds limit asking before now status
   -- without a trace to check, the recording, at status 0: the order that the bytes written spell is an interleaving of the scripts,
@@ -45,15 +47,19 @@ pub record HeaprecRan (bounds : Bounds) (limit : ℕ) (asking : Option RecordAsk
       → ¬ StoreRose before now → ¬ OutRose before now → ¬ ErrRose before now → status ≢ 5
       → (text : List ℕ) × (Gives before now (asked_answer bounds limit folder text asking) status
       × (status ≡ 0
-      → IsDone IsRecorded limit before.store.files asking (asked_answer bounds limit folder text asking).output))
+      → IsDone IsRecorded limit before.store.files asking
+      (asked_answer bounds limit folder text asking).output))
   -- completeness: where no file has a fault, the status is 0
   pub complete : (folder : Folder) → before.store.files ≡ Some folder
       → ((text : List ℕ) → (asked_answer bounds limit folder text asking).status ≡ 0)
-      → ¬ StoreRose before now → ¬ OutRose before now → ¬ ErrRose before now → status ≢ 5 → status ≡ 0
+      → ¬ StoreRose before now → ¬ OutRose before now → ¬ ErrRose before now → status ≢ 5
+      → status ≡ 0
   -- statuses 0, 1 and 6: exactly where the words and the files define them
-  pub judged : (folder : Folder) → before.store.files ≡ Some folder → status ≢ 3 → status ≢ 4 → status ≢ 5
+  pub judged : (folder : Folder) → before.store.files ≡ Some folder → status ≢ 3 → status ≢ 4
+      → status ≢ 5
       → (text : List ℕ) × Gives before now (asked_answer bounds limit folder text asking) status
-  pub faulty : (folder : Folder) (code : ℕ) → before.store.files ≡ Some folder → ¬ StoreRose before now
+  pub faulty : (folder : Folder) (code : ℕ) → before.store.files ≡ Some folder
+      → ¬ StoreRose before now
       → ((text : List ℕ) → (asked_answer bounds limit folder text asking).status ≡ code)
       → status ≢ 4 → status ≢ 5 → status ≡ code
   -- unless the status is 0 or 4, nothing was written to standard output

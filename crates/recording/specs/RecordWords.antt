@@ -19,7 +19,11 @@ pub record RecordAsked : Type 0 where
 
 -- two options, one flag, and files
 abbrev pub record_table : Table
-record_table = record { options = codes "modules" ∷ codes "check" ∷ []; flags = codes "summary" ∷ []; files = true }
+record_table = record {
+  options = codes "modules" ∷ codes "check" ∷ [];
+  flags = codes "summary" ∷ [];
+  files = true;
+}
 
 -- what the option that names a trace and the flag ask for: a trace that is checked has no summary
 abbrev pub task_given : Option (List ℕ) → Bool → Option Task
@@ -39,25 +43,31 @@ inputs (name ∷ names) = (if bytes_eq name (codes "-") then 1 else 0) + inputs 
 
 -- the same of all names
 abbrev pub inputs_in : Option (List ℕ) → List (List ℕ) → Option (List ℕ) → ℕ
-inputs_in modules scripts trace = inputs (option_to_list modules) + (inputs scripts + inputs (option_to_list trace))
+inputs_in modules scripts trace = inputs (option_to_list modules)
+    + (inputs scripts + inputs (option_to_list trace))
 
 -- 1 to 64 scripts; standard input can be read only once
 abbrev pub are_taken : Option (List ℕ) → List (List ℕ) → Option (List ℕ) → Bool
 are_taken modules scripts trace =
-    nat_le 1 (length scripts) && nat_le (length scripts) 64 && nat_le (inputs_in modules scripts trace) 1
+    nat_le 1 (length scripts) && nat_le (length scripts) 64
+    && nat_le (inputs_in modules scripts trace) 1
 
 -- what the modules file, the scripts and the task ask for
 abbrev pub record_of : Option (List ℕ) → List (List ℕ) → Task → Option RecordAsked
 record_of modules scripts task =
-    if are_taken modules scripts (trace_of task) then Some (record { modules = modules; scripts = scripts; task = task }) else None
+    if are_taken modules scripts (trace_of task)
+    then Some (record { modules = modules; scripts = scripts; task = task }) else None
 
 -- what the values of the options, the flag and the files ask for
-abbrev pub record_given : Option (List ℕ) → Option (List ℕ) → Bool → Option (List (List ℕ)) → Option RecordAsked
+abbrev pub record_given : Option (List ℕ) → Option (List ℕ) → Bool → Option (List (List ℕ))
+    → Option RecordAsked
 record_given modules trace summary None = None
-record_given modules trace summary (Some scripts) = option_and_then (record_of modules scripts) (task_given trace summary)
+record_given modules trace summary (Some scripts) = option_and_then (record_of modules scripts)
+    (task_given trace summary)
 
 -- what the words ask for
 unfoldable pub record_asked : List (List ℕ) → Option RecordAsked
 record_asked words = option_and_then
-    (λ rows. record_given (value_in rows (codes "modules")) (value_in rows (codes "check")) (flag_in rows (codes "summary")) (files_in rows))
+    (λ rows. record_given (value_in rows (codes "modules")) (value_in rows (codes "check"))
+    (flag_in rows (codes "summary")) (files_in rows))
     (words_taken record_table words)

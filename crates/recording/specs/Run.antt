@@ -15,7 +15,8 @@ use Rattle.recording.specs.Answer.{count_asked, job_asked, summary_asked, task_a
 use Rattle.recording.specs.Texts.{heaprec_texts}
 
 -- the output may be written of a job: one of as many scripts as are named, and where the files are told, what they say
-pub record IsRecording (may_write : Bool → Job → List ℕ → Type 0) (limit : ℕ) (files : Option Folder) (asking : Option RecordAsked) (output : List ℕ) : Type 0 where
+pub record IsRecording (may_write : Bool → Job → List ℕ → Type 0) (limit : ℕ)
+    (files : Option Folder) (asking : Option RecordAsked) (output : List ℕ) : Type 0 where
   pub job : Job
   pub may : may_write (summary_asked asking) job output
   pub count : length job.scripts ≡ count_asked asking
@@ -29,23 +30,31 @@ pub record IsFileOf (folder : Folder) (trace : List ℕ) (job : Job) (events : �
   pub count : events ≡ length (spelled bytes)
 
 -- the output is the line that says of how many events a trace is a recording. Where the files are told, it is one of what they say
-pub record IsChecked (limit : ℕ) (files : Option Folder) (asking : Option RecordAsked) (trace output : List ℕ) : Type 0 where
+pub record IsChecked (limit : ℕ) (files : Option Folder) (asking : Option RecordAsked)
+    (trace output : List ℕ) : Type 0 where
   pub events : ℕ
   pub output_is : output ≡ checked_text events
-  pub told : WhereTold files (λ folder. IsFileOf folder trace (job_asked limit folder asking) events)
+  pub told : WhereTold files
+      (λ folder. IsFileOf folder trace (job_asked limit folder asking) events)
 
 -- what is said by the output of a run that is done: it is a recording, or says so of the trace that is checked
-abbrev pub IsDoneBy : (may_write : Bool → Job → List ℕ → Type 0) → ℕ → Option Folder → Option RecordAsked → List ℕ → Option (List ℕ) → Type 0
+abbrev pub IsDoneBy : (may_write : Bool → Job → List ℕ → Type 0) → ℕ → Option Folder
+    → Option RecordAsked → List ℕ → Option (List ℕ) → Type 0
 IsDoneBy may_write limit files asking output None = IsRecording may_write limit files asking output
-IsDoneBy may_write limit files asking output (Some trace) = IsChecked limit files asking trace output
+IsDoneBy may_write limit files asking output (Some trace) = IsChecked limit files asking trace
+    output
 
-abbrev pub IsDone : (may_write : Bool → Job → List ℕ → Type 0) → ℕ → Option Folder → Option RecordAsked → List ℕ → Type 0
-IsDone may_write limit files asking output = IsDoneBy may_write limit files asking output (trace_asked asking)
+abbrev pub IsDone : (may_write : Bool → Job → List ℕ → Type 0) → ℕ → Option Folder
+    → Option RecordAsked → List ℕ → Type 0
+IsDone may_write limit files asking output = IsDoneBy may_write limit files asking output
+    (trace_asked asking)
 
 -- the words were run with some text. Where that is done, what was written early and what is yet to be delivered are together the
 -- output of a run that is done
 pub record WordsRecord (may_write : Bool → Job → List ℕ → Type 0) (bounds : Bounds) (limit : ℕ)
-    (asking : Option RecordAsked) (before now : Shown) (old new : Taken) (answer : Answer) : Type 0 where
+    (asking : Option RecordAsked) (before now : Shown) (old new : Taken) (answer : Answer) : Type
+    0 where
   pub text : List ℕ
   pub run : WordsRunTo heaprec_texts bounds (task_asked limit text asking) before now old new answer
-  pub done : answer.status ≡ 0 → IsDone may_write limit before.files asking (run.early ++ answer.output)
+  pub done : answer.status ≡ 0
+      → IsDone may_write limit before.files asking (run.early ++ answer.output)

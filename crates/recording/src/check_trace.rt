@@ -21,7 +21,8 @@ pub fn check_trace<S: Store, O: Sink>(
     out: &mut O,
 ) -> Result<Vec<u8>, Halt>
     requires { S.opens store.old < 2 ^ 64 - 1 }
-    ensures { Runs S.Store O.Sink desk.now (name.now ∷ []) (one_file name.now (check_report scripts))
+    ensures { Runs S.Store O.Sink desk.now (name.now ∷ [])
+        (one_file name.now (check_report scripts))
         store.old store.new out.old out.new result }
 {
     let job = match scripts.share() {

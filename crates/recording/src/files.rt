@@ -37,10 +37,12 @@ pub fn read_files<S: Store, O: Sink>(
     requires some { 1 ≤ length files.now.scripts.now }
     requires few { length files.now.scripts.now ≤ 64 }
     ensures read { ReadsFront S.Store O.Sink desk.now
-        (files_front (option_copied files.now.modules) (map (λ name. name.now) files.now.scripts.now) (no_job desk.now.limits.order))
+        (files_front (option_copied files.now.modules)
+        (map (λ name. name.now) files.now.scripts.now) (no_job desk.now.limits.order))
         store.old store.new out.old out.new result }
     ensures job { IfOk result (λ job. WhereTold (S.files store.old) (λ folder. job
-        ≡ job_in folder (option_copied files.now.modules) (map (λ name. name.now) files.now.scripts.now) desk.now.limits.order)) }
+        ≡ job_in folder (option_copied files.now.modules)
+        (map (λ name. name.now) files.now.scripts.now) desk.now.limits.order)) }
     ensures count { IfOk result (λ job. length job.scripts ≡ length files.now.scripts.now) }
     ensures modules { IfOk result (λ job. AreModuleLines job.modules) }
     ensures opens { IfOk result (λ job. S.opens store.new ≤ S.opens store.old + 65) }
@@ -70,10 +72,12 @@ fn read_modules<S: Store, O: Sink>(
     requires input { lines.old.input ≡ desk.now.limits.input }
     requires line { lines.old.line_limit ≡ desk.now.limits.line }
     requires modules { AreModuleLines scripts.modules }
-    ensures read { ReadsFront S.Store O.Sink desk.now (modules_front (option_copied modules.entry) scripts)
+    ensures read { ReadsFront S.Store O.Sink desk.now
+        (modules_front (option_copied modules.entry) scripts)
         store.old store.new out.old out.new result }
     ensures job { IfOk result (λ job.
-        WhereTold (S.files store.old) (λ folder. job ≡ modules_in folder (option_copied modules.entry) scripts)) }
+        WhereTold (S.files store.old)
+        (λ folder. job ≡ modules_in folder (option_copied modules.entry) scripts)) }
     ensures count { IfOk result (λ job. length job.scripts ≡ length scripts.scripts) }
     ensures modules { IfOk result (λ job. AreModuleLines job.modules) }
     ensures opens { IfOk result (λ job. S.opens store.new ≤ S.opens store.old + 1) }
@@ -106,11 +110,14 @@ fn read_scripts<S: Store, O: Sink>(
     requires input { lines.old.input ≡ desk.now.limits.input }
     requires line { lines.old.line_limit ≡ desk.now.limits.line }
     requires modules { AreModuleLines scripts.modules }
-    ensures read { ReadsFront S.Store O.Sink desk.now (scripts_front (map (λ name. name.now) names.now) scripts)
+    ensures read { ReadsFront S.Store O.Sink desk.now
+        (scripts_front (map (λ name. name.now) names.now) scripts)
         store.old store.new out.old out.new result }
     ensures job { IfOk result (λ job.
-        WhereTold (S.files store.old) (λ folder. job ≡ scripts_in folder (map (λ name. name.now) names.now) scripts)) }
-    ensures count { IfOk result (λ job. length job.scripts ≡ length scripts.scripts + length names.now) }
+        WhereTold (S.files store.old)
+        (λ folder. job ≡ scripts_in folder (map (λ name. name.now) names.now) scripts)) }
+    ensures count { IfOk result
+        (λ job. length job.scripts ≡ length scripts.scripts + length names.now) }
     ensures modules { IfOk result (λ job. AreModuleLines job.modules) }
     ensures opens { IfOk result (λ job. S.opens store.new ≡ S.opens store.old + length names.now) }
 {
@@ -138,10 +145,12 @@ fn read_script<S: Store, O: Sink>(
     requires input { lines.old.input ≡ desk.now.limits.input }
     requires line { lines.old.line_limit ≡ desk.now.limits.line }
     requires modules { AreModuleLines scripts.modules }
-    ensures read { ReadsFront S.Store O.Sink desk.now (file_front ScriptFile name.now (begun scripts))
+    ensures read { ReadsFront S.Store O.Sink desk.now
+        (file_front ScriptFile name.now (begun scripts))
         store.old store.new out.old out.new result }
     ensures job { IfOk result (λ job. WhereTold (S.files store.old) (λ folder.
-        (names : List (List ℕ)) → scripts_in folder names job ≡ scripts_in folder (name.now ∷ names) scripts)) }
+        (names : List (List ℕ))
+        → scripts_in folder names job ≡ scripts_in folder (name.now ∷ names) scripts)) }
     ensures count { IfOk result (λ job. length job.scripts ≡ length scripts.scripts + 1) }
     ensures modules { IfOk result (λ job. AreModuleLines job.modules) }
     ensures opens { IfOk result (λ job. S.opens store.new ≡ S.opens store.old + 1) }

@@ -31,7 +31,8 @@ fn input(name: Option<&str>) -> usize
 /// How many of all names are `-`.
 pub fn inputs_in(modules: Option<&str>, scripts: &[&str], trace: Option<&str>) -> usize
     requires { length scripts.now ≤ 64 }
-    ensures { result ≡ inputs_in (option_copied modules.entry) (map (λ name. name.now) scripts.now) (option_copied trace.entry) }
+    ensures { result ≡ inputs_in (option_copied modules.entry) (map (λ name. name.now) scripts.now)
+        (option_copied trace.entry) }
 {
     input(modules) + (inputs(scripts) + input(trace))
 }

@@ -34,7 +34,8 @@ pub fn read_file<S: Store, O: Sink>(
     requires modules { AreModuleLines scripts.modules }
     requires input { lines.old.input ≡ desk.now.limits.input }
     requires line { lines.old.line_limit ≡ desk.now.limits.line }
-    ensures read { ReadsFront S.Store O.Sink desk.now (file_front file.now.kind file.now.name.now scripts)
+    ensures read { ReadsFront S.Store O.Sink desk.now
+        (file_front file.now.kind file.now.name.now scripts)
         store.old store.new out.old out.new result }
     ensures lines { IfOk result (λ job. (taken : List (List ℕ))
         × ((job ≡ with_lines file.now.kind scripts taken)
@@ -65,7 +66,8 @@ fn read_behind<B: Start, S: Store, O: Sink>(
     requires job { scripts ≡ B.job }
     ensures read { ReadsFront S.Store O.Sink desk.now (file_front B.kind file.now.name.now B.job)
         store.old store.new out.old out.new result }
-    ensures lines { IfOk result (λ job. (taken : List (List ℕ)) × ((job ≡ with_lines B.kind B.job taken)
+    ensures lines { IfOk result
+        (λ job. (taken : List (List ℕ)) × ((job ≡ with_lines B.kind B.job taken)
         × WhereTold (S.files store.old) (λ folder. taken ≡ lines_in folder file.now.name.now))) }
     ensures modules { IfOk result (λ job. AreModuleLines job.modules) }
     ensures opens { IfOk result (λ job. S.opens store.new ≡ S.opens store.old + 1) }

@@ -56,7 +56,9 @@ impl<B: Start> LineTaker for FileReader<B> {
 
     ghost has_taken = { λ reader lines. reader.scripts ≡ with_lines B.kind B.job lines };
 
-    ghost is_sound = { λ reader. (reader.kind ≡ B.kind) × (B.kind ≡ Script → 0 < length reader.scripts.scripts) × AreModuleLines reader.scripts.modules };
+    ghost is_sound = { λ reader.
+        (reader.kind ≡ B.kind) × (B.kind ≡ Script → 0 < length reader.scripts.scripts)
+        × AreModuleLines reader.scripts.modules };
 
     ghost weight = { λ _. 0 };
 

@@ -1,6 +1,6 @@
 //! What is told of a refused line of a script or of a modules file. When a line is refused is decided where it is read.
 ghost use Rattle.std.specs.Prelude.{◌≡◌};
-ghost use Rattle.recording.specs.FaultTold.{fault_status, fault_text};
+ghost use Rattle.recording.specs.FaultTold.{fault_status};
 
 use command_frame::{Fault, FaultStatus};
 use hp_num::{NoMemory, put_bytes};
@@ -18,24 +18,11 @@ impl Fault for RefusedLine {
     ghost told = { λ refused. told_of refused.fault };
 
     fn put_text(&self, out: &mut Vec<u8>) -> Result<(), NoMemory> {
-        put_bytes(out, fault_text(self.fault).as_bytes())
+        put_bytes(out, self.fault.text().as_bytes())
     }
 
     fn status(&self) -> FaultStatus {
         fault_status(self.fault)
-    }
-}
-
-/// What the fault is called. Want of memory is none, and never told as one.
-fn fault_text(fault: ScriptFault) -> &'static str
-    ensures { result.now ≡ fault_text fault }
-{
-    match fault {
-        ScriptFault::BadScriptLine => "bad script line",
-        ScriptFault::BlockLive => "block live",
-        ScriptFault::BlockNotLive => "block not live",
-        ScriptFault::TooManyEvents => "too many events",
-        ScriptFault::NoMemory => "out of memory",
     }
 }
 

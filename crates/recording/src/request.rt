@@ -63,8 +63,10 @@ pub struct RecordRequest<'a> {
 impl<'a> RecordRequest<'a> {
     /// The request that the words make. `NotTaken` exactly where they aren't taken, unless memory is wanting.
     pub fn read(alloc: Global, words: &'a [String]) -> Result<RecordRequest<'a>, WordsFault>
-        ensures taken { IfOk result (λ request. record_asked (map string_bytes words.entry.now) ≡ Some (asked_by request)) }
-        ensures refused { result ≡ Err WordsFault.NotTaken → record_asked (map string_bytes words.entry.now) ≡ None }
+        ensures taken { IfOk result
+            (λ request. record_asked (map string_bytes words.entry.now) ≡ Some (asked_by request)) }
+        ensures refused { result ≡ Err WordsFault.NotTaken
+            → record_asked (map string_bytes words.entry.now) ≡ None }
         ensures some { IfOk result (λ request. 1 ≤ length request.scripts.items) }
         ensures few { IfOk result (λ request. length request.scripts.items ≤ 64) }
     {
@@ -75,7 +77,8 @@ impl<'a> RecordRequest<'a> {
 
 /// What a trace to check, if there is one, and the flag for a summary ask for; none where both are there.
 fn task_in<'a>(trace: Option<&'a str>, summary: bool) -> Option<RecordTask<'a>>
-    ensures some { IfSome result (λ task. task_given (option_copied trace.entry) summary ≡ Some (task_by task)) }
+    ensures some { IfSome result
+        (λ task. task_given (option_copied trace.entry) summary ≡ Some (task_by task)) }
     ensures none { IfNone result (task_given (option_copied trace.entry) summary ≡ None) }
 {
     match trace {
@@ -87,8 +90,15 @@ fn task_in<'a>(trace: Option<&'a str>, summary: bool) -> Option<RecordTask<'a>>
 
 /// What taken words ask for.
 fn request_in<'a>(alloc: Global, words: &TakenWords<'a>) -> Result<RecordRequest<'a>, WordsFault>
-    ensures taken { IfOk result (λ request. record_given (value_in (rows_in words.now) (codes "modules")) (value_in (rows_in words.now) (codes "check")) (flag_in (rows_in words.now) (codes "summary")) (files_in (rows_in words.now)) ≡ Some (asked_by request)) }
-    ensures refused { result ≡ Err WordsFault.NotTaken → record_given (value_in (rows_in words.now) (codes "modules")) (value_in (rows_in words.now) (codes "check")) (flag_in (rows_in words.now) (codes "summary")) (files_in (rows_in words.now)) ≡ None }
+    ensures taken { IfOk result
+        (λ request. record_given (value_in (rows_in words.now) (codes "modules"))
+        (value_in (rows_in words.now) (codes "check"))
+        (flag_in (rows_in words.now) (codes "summary")) (files_in (rows_in words.now))
+        ≡ Some (asked_by request)) }
+    ensures refused { result ≡ Err WordsFault.NotTaken
+        → record_given (value_in (rows_in words.now) (codes "modules"))
+        (value_in (rows_in words.now) (codes "check"))
+        (flag_in (rows_in words.now) (codes "summary")) (files_in (rows_in words.now)) ≡ None }
     ensures some { IfOk result (λ request. 1 ≤ length request.scripts.items) }
     ensures few { IfOk result (λ request. length request.scripts.items ≤ 64) }
 {

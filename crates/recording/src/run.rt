@@ -51,7 +51,8 @@ pub fn heaprec_run<R: Threads + Wait + Sync, S: Store, O: Sink, E: Sink, G: Gate
     gate: &G,
 ) -> u8
     requires { S.opens store.old < 2 ^ 63 }
-    ensures { HeaprecRan (bounds_of limits.now) limits.now.order (record_asked (map string_bytes words.now))
+    ensures { HeaprecRan (bounds_of limits.now) limits.now.order
+        (record_asked (map string_bytes words.now))
         (outside S.Store O.Sink E.Sink store.old out.old err.old)
         (outside S.Store O.Sink E.Sink store.new out.new err.new) result }
 {
@@ -76,7 +77,8 @@ pub fn heaprec_main<R: Threads + Wait + Sync, S: Store, O: Sink, E: Sink>(
 ) -> u8
     requires { S.opens store.old < 2 ^ 63 }
     ensures run { IfOk words.now (λ words.
-        HeaprecRan (record { input = 2 ^ 34; line = 1048576 }) 10000000 (record_asked (map string_bytes words.items))
+        HeaprecRan (record { input = 2 ^ 34; line = 1048576 }) 10000000
+        (record_asked (map string_bytes words.items))
         (outside S.Store O.Sink E.Sink store.old out.old err.old)
         (outside S.Store O.Sink E.Sink store.new out.new err.new) result) }
     ensures wanting { IfErr words.now (λ fault. HasNotBegun the_texts

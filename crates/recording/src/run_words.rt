@@ -37,7 +37,8 @@ pub fn run_words<R: Threads + Wait + Sync, S: Store, O: Sink, G: Gate + Sync>(
     requires opens { S.opens store.old < 2 ^ 63 }
     requires texts { texts_of desk.now.texts ≡ heaprec_texts }
     ensures { WordsRecord IsRecorded (bounds_of desk.now.limits) desk.now.limits.order
-        (record_asked (map string_bytes words.now)) (shown S.Store store.old) (shown S.Store store.new)
+        (record_asked (map string_bytes words.now)) (shown S.Store store.old)
+        (shown S.Store store.new)
         (taken O.Sink out.old) (taken O.Sink out.new) (outcome_answer heaprec_texts result) }
 {
     match RecordRequest::read(desk.alloc, words) {
@@ -63,8 +64,10 @@ fn run_request<R: Threads + Wait + Sync, S: Store, O: Sink, G: Gate + Sync>(
     requires texts { texts_of desk.now.texts ≡ heaprec_texts }
     requires some { 1 ≤ length request.now.scripts.items }
     requires few { length request.now.scripts.items ≤ 64 }
-    ensures { WordsRecord IsRecorded (bounds_of desk.now.limits) desk.now.limits.order (Some (asked_by request.now))
-        (shown S.Store store.old) (shown S.Store store.new) (taken O.Sink out.old) (taken O.Sink out.new)
+    ensures { WordsRecord IsRecorded (bounds_of desk.now.limits) desk.now.limits.order
+        (Some (asked_by request.now))
+        (shown S.Store store.old) (shown S.Store store.new) (taken O.Sink out.old)
+        (taken O.Sink out.new)
         (rest_of heaprec_texts result) }
 {
     let files = ScriptFiles {

@@ -16,7 +16,8 @@ pub fn take_line(kind: FileKind, scripts: &mut Scripts, line: &[u8]) -> Result<(
     ensures taken { OnOk result (scripts.new ≡ with_one kind scripts.old line.now) }
     ensures no_fault { OnOk result (one_fault kind scripts.old line.now ≡ None) }
     ensures fault { IfErr result (λ fault. Tells fault (one_fault kind scripts.old line.now)) }
-    ensures lines { IsLineText line.now → AreModuleLines scripts.old.modules → AreModuleLines scripts.new.modules }
+    ensures lines { IsLineText line.now → AreModuleLines scripts.old.modules
+        → AreModuleLines scripts.new.modules }
 {
     match kind {
         FileKind::Modules => scripts.module_line(line),

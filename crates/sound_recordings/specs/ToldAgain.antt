@@ -16,7 +16,8 @@ use Rattle.record_scripts.specs.Turns.{Turn}
 pub record TellSame (told : List Event) (scripts : List (List Turn)) (order : List ℕ) : Type 0 where
   pub events : (trace.summary_of told).totals.events ≡ (recording.summary_of scripts order).events
   pub calls : (trace.summary_of told).totals.calls ≡ (recording.summary_of scripts order).calls
-  pub allocated : (trace.summary_of told).totals.allocated ≡ (recording.summary_of scripts order).allocated
+  pub allocated : (trace.summary_of told).totals.allocated
+      ≡ (recording.summary_of scripts order).allocated
   pub leaked : (trace.summary_of told).totals.live ≡ (recording.summary_of scripts order).leaked
   pub blocks : (trace.summary_of told).totals.blocks ≡ (recording.summary_of scripts order).blocks
   pub peak : (trace.summary_of told).peak ≡ (recording.summary_of scripts order).peak

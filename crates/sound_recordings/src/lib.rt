@@ -27,9 +27,11 @@ use interpret::interpreted_traces;
 /// Read again, the trace of a recording has the figures that its summary tells, whether the summary stands behind it or
 /// not. It does nothing: a caller whose contract speaks of a recording calls it for its clauses.
 pub fn recorded_summaries()
-    ensures trace { (job : Job) (order : List ℕ) → IsPlayable job → AreModuleLines job.modules → IsUnder job.scripts order →
+    ensures trace { (job : Job) (order : List ℕ) → IsPlayable job → AreModuleLines job.modules
+        → IsUnder job.scripts order →
         IsToldAgain (recorded job order) job.scripts order }
-    ensures summary { (job : Job) (order : List ℕ) → IsPlayable job → AreModuleLines job.modules → IsUnder job.scripts order →
+    ensures summary { (job : Job) (order : List ℕ) → IsPlayable job → AreModuleLines job.modules
+        → IsUnder job.scripts order →
         IsToldAgain (recorded job order ++ rec_summary job.scripts order) job.scripts order }
 {
     hexadecimal_texts();

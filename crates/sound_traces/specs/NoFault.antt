@@ -14,7 +14,8 @@ event_fault earlier (Some event) = fault_of earlier event
 
 -- a line has no fault after earlier lines, and neither has the event that it brings
 abbrev pub IsGood : List (List ℕ) → List ℕ → Type 0
-IsGood earlier line = (line_fault earlier line ≡ None) × (event_fault (events earlier) (event_of (step_of earlier line)) ≡ None)
+IsGood earlier line = (line_fault earlier line ≡ None)
+    × (event_fault (events earlier) (event_of (step_of earlier line)) ≡ None)
 
 -- none of these lines has a fault after the earlier ones and those before it, nor has the end behind them
 abbrev pub HasNoFault : List (List ℕ) → List (List ℕ) → Type 0

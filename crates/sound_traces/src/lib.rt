@@ -16,7 +16,8 @@ use hp_num::{decimal_texts, hexadecimal_texts};
 /// No generated trace has a fault, neither in a line nor at its end. It does nothing: a caller that reads one calls it for its
 /// clause.
 pub fn generated_traces()
-    ensures no_fault { (sizes : Sizes) → 1 ≤ sizes.stacks → sizes.stacks ≤ 4000 → sizes.events ≤ 10000000 → HasNoFault [] (generated_lines sizes) }
+    ensures no_fault { (sizes : Sizes) → 1 ≤ sizes.stacks → sizes.stacks ≤ 4000
+        → sizes.events ≤ 10000000 → HasNoFault [] (generated_lines sizes) }
 {
     decimal_texts();
     hexadecimal_texts();

@@ -9,7 +9,9 @@ use Rattle.stack_table.specs.LowerParents.{HasLowerParents}
 pub record AreNodes (nodes : List Node) : Type 0 where
   pub parents : HasLowerParents nodes
   pub stack_0 : stack nodes 0 ≡ []
-  pub stack_n : (n : ℕ) (node : Node) → node_at nodes n ≡ Some node → stack nodes n ≡ node.ip ∷ stack nodes node.parent
+  pub stack_n : (n : ℕ) (node : Node) → node_at nodes n ≡ Some node
+      → stack nodes n ≡ node.ip ∷ stack nodes node.parent
   pub frames_0 : frame_count nodes 0 ≡ 0
-  pub frames_n : (n : ℕ) (node : Node) → node_at nodes n ≡ Some node → frame_count nodes n ≡ frame_count nodes node.parent + node.frames
+  pub frames_n : (n : ℕ) (node : Node) → node_at nodes n ≡ Some node
+      → frame_count nodes n ≡ frame_count nodes node.parent + node.frames
   pub few_frames : (n : ℕ) → n ≤ length nodes → frame_count nodes n ≤ most_frames

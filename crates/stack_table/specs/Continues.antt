@@ -11,4 +11,5 @@ pub record Continues (old new : List Node) : Type 0 where
   pub nodes : (n : ℕ) → n ≤ length old → node_at new n ≡ node_at old n
   pub stacks : (n : ℕ) → n ≤ length old → stack new n ≡ stack old n
   pub frame_counts : (n : ℕ) → n ≤ length old → frame_count new n ≡ frame_count old n
-  pub numbers : (ip parent n : ℕ) → node_number old ip parent ≡ Some n → node_number new ip parent ≡ Some n
+  pub numbers : (ip parent n : ℕ) → node_number old ip parent ≡ Some n
+      → node_number new ip parent ≡ Some n

@@ -16,6 +16,8 @@ nodes_of entries = map node_of entries
 -- the entries are a list of nodes with the frames of each stack, of which there are at most 4,096
 pub record IsTable (entries : List NodeEntry) : Type 0 where
   pub parents : HasLowerParents (nodes_of entries)
-  pub depths : (k : ℕ) (entry : NodeEntry) → slice_get entries k ≡ Some entry → entry.depth ≡ frame_count (nodes_of entries) (k + 1)
-  pub few_frames : (k : ℕ) (entry : NodeEntry) → slice_get entries k ≡ Some entry → entry.depth ≤ most_frames
+  pub depths : (k : ℕ) (entry : NodeEntry) → slice_get entries k ≡ Some entry
+      → entry.depth ≡ frame_count (nodes_of entries) (k + 1)
+  pub few_frames : (k : ℕ) (entry : NodeEntry) → slice_get entries k ≡ Some entry
+      → entry.depth ≤ most_frames
   pub few_nodes : length entries ≤ 2 ^ 32 - 2

@@ -46,4 +46,5 @@ abbrev pub stack_fault : List Node → List ℕ → Option NodeFault
 stack_fault nodes [] = None
 stack_fault nodes (ip ∷ outer) =
     let before = stack_interned nodes outer in
-    option_or (stack_fault nodes outer) (node_interned_fault before.nodes (record { ip = ip; parent = before.number; frames = 1 }))
+    option_or (stack_fault nodes outer)
+    (node_interned_fault before.nodes (record { ip = ip; parent = before.number; frames = 1 }))

@@ -16,8 +16,10 @@ number_at index ip parent = get same_key index.numbers (ip, parent)
 -- the index has the least number of each of the first nodes' instruction pointer and parent
 pub record IsIndexed (nodes : List Node) (index : NodeIndex) : Type 0 where
   pub within : index.count ≤ length nodes
-  pub each : (n : ℕ) (node : Node) → n ≤ index.count → node_at nodes n ≡ Some node → number_at index node.ip node.parent ≡ node_number nodes node.ip node.parent
+  pub each : (n : ℕ) (node : Node) → n ≤ index.count → node_at nodes n ≡ Some node
+      → number_at index node.ip node.parent ≡ node_number nodes node.ip node.parent
 
 -- none of the first nodes has this instruction pointer and parent
 pub record IsPassed (nodes : List Node) (ip parent count : ℕ) : Type 0 where
-  pub none : (n : ℕ) (node : Node) → n ≤ count → node_at nodes n ≡ Some node → is_call ip parent node ≡ false
+  pub none : (n : ℕ) (node : Node) → n ≤ count → node_at nodes n ≡ Some node
+      → is_call ip parent node ≡ false

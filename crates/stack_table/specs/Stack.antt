@@ -6,7 +6,8 @@ use Rattle.stack_table.specs.Node.{Node}
 -- before it; nothing where no node has the number
 abbrev pub outwards : List Node → ℕ → List Node
 outwards [] n = []
-outwards (node ∷ before) n = if n == length before + 1 then node ∷ outwards before node.parent else outwards before n
+outwards (node ∷ before) n = if n == length before + 1 then node ∷ outwards before node.parent
+    else outwards before n
 
 -- the nodes of stack n, from node n outwards
 unfoldable pub stack_nodes : List Node → ℕ → List Node

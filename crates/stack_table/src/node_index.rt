@@ -58,7 +58,8 @@ impl NodeIndex {
 
     /// Leaves out the nodes above `len`. It takes no memory.
     pub fn cut(&mut self, len: u32)
-        ensures same { (ip parent : ℕ) → number_at self.new ip parent ≡ number_at self.old ip parent }
+        ensures same { (ip parent : ℕ)
+            → number_at self.new ip parent ≡ number_at self.old ip parent }
         ensures within { self.new.count ≤ len }
         ensures fewer { self.new.count ≤ self.old.count }
     {
@@ -88,7 +89,8 @@ impl NodeIndex {
     // The same as `find` among the nodes that are in the index.
     fn find_indexed(&self, entries: &[NodeEntry], ip: u64, parent: u32) -> Option<u32>
         requires indexed { IsIndexed (nodes_of entries.now) self.now }
-        ensures found { IfSome result (λ number. node_number (nodes_of entries.now) ip parent ≡ Some number) }
+        ensures found { IfSome result
+            (λ number. node_number (nodes_of entries.now) ip parent ≡ Some number) }
         ensures kept { IfSome result (λ number. number_at self.now ip parent ≡ Some number) }
         ensures passed { IfNone result (IsPassed (nodes_of entries.now) ip parent self.now.count) }
     {

@@ -45,7 +45,8 @@ impl Model for Nodes {
 
     ghost view = { λ nodes. nodes_of nodes.entries.items };
 
-    ghost invariant = { λ nodes. IsTable nodes.entries.items × IsIndexed (nodes_of nodes.entries.items) nodes.index };
+    ghost invariant = { λ nodes.
+        IsTable nodes.entries.items × IsIndexed (nodes_of nodes.entries.items) nodes.index };
 }
 
 impl Nodes {
@@ -74,23 +75,31 @@ impl Nodes {
     ///
     /// After a fault the nodes are as before. It takes the same time for any stack.
     pub fn add(&mut self, ip: u64, parent: u64, frames: u32) -> Result<u32, NodeFault>
-        ensures added { OnOk result (self.new ≡ self.old ++ record { ip = ip; parent = parent; frames = frames } ∷ []) }
+        ensures added { OnOk result
+            (self.new ≡ self.old ++ record { ip = ip; parent = parent; frames = frames } ∷ []) }
         ensures number { IfOk result (λ number. number ≡ length self.old + 1) }
         ensures count { OnOk result (length self.new ≡ length self.old + 1) }
         ensures fits { OnOk result (CanAdd self.old parent frames) }
 
         // When each fault comes.
-        ensures unknown_parent { (result ≡ Err NodeFault.UnknownParent) ↔ (length self.old < parent) }
-        ensures too_deep { (result ≡ Err NodeFault.TooDeep) ↔ ((parent ≤ length self.old) × (most_frames < frame_count self.old parent + frames)) }
-        ensures full { (result ≡ Err NodeFault.Full) ↔ ((parent ≤ length self.old) × (frame_count self.old parent + frames ≤ most_frames) × (length self.old ≡ 2 ^ 32 - 2)) }
+        ensures unknown_parent { (result ≡ Err NodeFault.UnknownParent)
+            ↔ (length self.old < parent) }
+        ensures too_deep { (result ≡ Err NodeFault.TooDeep)
+            ↔ ((parent ≤ length self.old) × (most_frames < frame_count self.old parent + frames)) }
+        ensures full { (result ≡ Err NodeFault.Full)
+            ↔ ((parent ≤ length self.old) × (frame_count self.old parent + frames ≤ most_frames)
+            × (length self.old ≡ 2 ^ 32 - 2)) }
         ensures unchanged { OnErr result (self.new ≡ self.old) }
 
         // The stacks.
-        ensures new_stack { OnOk result (stack self.new (length self.old + 1) ≡ ip ∷ stack self.old parent) }
-        ensures new_frames { OnOk result (frame_count self.new (length self.old + 1) ≡ frame_count self.old parent + frames) }
+        ensures new_stack { OnOk result
+            (stack self.new (length self.old + 1) ≡ ip ∷ stack self.old parent) }
+        ensures new_frames { OnOk result
+            (frame_count self.new (length self.old + 1) ≡ frame_count self.old parent + frames) }
         ensures continues { Continues self.old self.new }
         ensures stacks_stay { (n : ℕ) → n ≤ length self.old → stack self.new n ≡ stack self.old n }
-        ensures frames_stay { (n : ℕ) → n ≤ length self.old → frame_count self.new n ≡ frame_count self.old n }
+        ensures frames_stay { (n : ℕ) → n ≤ length self.old
+            → frame_count self.new n ≡ frame_count self.old n }
         ensures nodes { AreNodes self.new }
     {
         let count = self.len();
@@ -129,19 +138,35 @@ impl Nodes {
     ///
     /// After a fault the nodes are as before.
     pub fn intern(&mut self, ip: u64, parent: u64, frames: u32) -> Result<u32, NodeFault>
-        ensures interned { IfOk result (λ number. node_interned self.old (record { ip = ip; parent = parent; frames = frames }) ≡ record { nodes = self.new; number = number }) }
-        ensures held { IfSome (node_number self.old ip parent) (λ number. (result ≡ Ok number) × (self.new ≡ self.old)) }
-        ensures added { IfNone (node_number self.old ip parent) (OnOk result (self.new ≡ self.old ++ record { ip = ip; parent = parent; frames = frames } ∷ [])) }
+        ensures interned { IfOk result
+            (λ number. node_interned self.old (record { ip = ip; parent = parent; frames = frames })
+            ≡ record { nodes = self.new; number = number }) }
+        ensures held { IfSome (node_number self.old ip parent)
+            (λ number. (result ≡ Ok number) × (self.new ≡ self.old)) }
+        ensures added { IfNone (node_number self.old ip parent)
+            (OnOk result (self.new
+            ≡ self.old ++ record { ip = ip; parent = parent; frames = frames } ∷ [])) }
         ensures number { IfOk result (λ number. node_number self.new ip parent ≡ Some number) }
         ensures stack { IfOk result (λ number. stack self.new number ≡ ip ∷ stack self.new parent) }
         ensures within { IfOk result (λ number. (parent < number) × (number ≤ length self.new)) }
 
         // When each fault comes.
-        ensures unknown_parent { (result ≡ Err NodeFault.UnknownParent) ↔ (length self.old < parent) }
-        ensures too_deep { (result ≡ Err NodeFault.TooDeep) ↔ ((parent ≤ length self.old) × (node_number self.old ip parent ≡ None) × (most_frames < frame_count self.old parent + frames)) }
-        ensures full { (result ≡ Err NodeFault.Full) ↔ ((parent ≤ length self.old) × (node_number self.old ip parent ≡ None) × (frame_count self.old parent + frames ≤ most_frames) × (length self.old ≡ 2 ^ 32 - 2)) }
-        ensures fault { IfErr result (λ fault. fault ≢ NodeFault.NoMemory → node_interned_fault self.old (record { ip = ip; parent = parent; frames = frames }) ≡ Some fault) }
-        ensures no_fault { OnOk result (node_interned_fault self.old (record { ip = ip; parent = parent; frames = frames }) ≡ None) }
+        ensures unknown_parent { (result ≡ Err NodeFault.UnknownParent)
+            ↔ (length self.old < parent) }
+        ensures too_deep { (result ≡ Err NodeFault.TooDeep)
+            ↔ ((parent ≤ length self.old) × (node_number self.old ip parent ≡ None)
+            × (most_frames < frame_count self.old parent + frames)) }
+        ensures full { (result ≡ Err NodeFault.Full)
+            ↔ ((parent ≤ length self.old) × (node_number self.old ip parent ≡ None)
+            × (frame_count self.old parent + frames ≤ most_frames)
+            × (length self.old ≡ 2 ^ 32 - 2)) }
+        ensures fault { IfErr result
+            (λ fault. fault ≢ NodeFault.NoMemory
+            → node_interned_fault self.old (record { ip = ip; parent = parent; frames = frames })
+            ≡ Some fault) }
+        ensures no_fault { OnOk result
+            (node_interned_fault self.old (record { ip = ip; parent = parent; frames = frames })
+            ≡ None) }
         ensures unchanged { OnErr result (self.new ≡ self.old) }
 
         // The nodes.
@@ -166,10 +191,13 @@ impl Nodes {
     /// A fault is that of the outermost node that can't be had, and the nodes are then as before. `UnknownParent` never
     /// comes, and a stack whose nodes are all held is never refused.
     pub fn intern_stack(&mut self, ips: &[u64]) -> Result<u32, NodeFault>
-        ensures interned { IfOk result (λ number. stack_interned self.old ips.now ≡ record { nodes = self.new; number = number }) }
+        ensures interned { IfOk result
+            (λ number. stack_interned self.old ips.now
+            ≡ record { nodes = self.new; number = number }) }
         ensures stack { IfOk result (λ number. stack self.new number ≡ ips.now) }
         ensures within { IfOk result (λ number. number ≤ length self.new) }
-        ensures fault { IfErr result (λ fault. fault ≢ NodeFault.NoMemory → stack_fault self.old ips.now ≡ Some fault) }
+        ensures fault { IfErr result
+            (λ fault. fault ≢ NodeFault.NoMemory → stack_fault self.old ips.now ≡ Some fault) }
         ensures no_fault { OnOk result (stack_fault self.old ips.now ≡ None) }
         ensures parents_known { IfErr result (λ fault. fault ≢ NodeFault.UnknownParent) }
         ensures held { (stack_interned self.old ips.now).nodes ≡ self.old → IsOk result }
@@ -223,9 +251,11 @@ impl Nodes {
     /// It is `None` exactly where no node has that number: for 0, and above `len`. It takes no memory.
     pub fn node(&self, n: u32) -> Option<(u64, u32)>
         ensures found { IsSome result ↔ ((1 ≤ n) × (n ≤ length self.now)) }
-        ensures entry { result ≡ option_map (λ node. record { 0 = node.ip; 1 = node.parent }) (node_at self.now n) }
+        ensures entry { result
+            ≡ option_map (λ node. record { 0 = node.ip; 1 = node.parent }) (node_at self.now n) }
         ensures lower_parent { IfSome result (λ found. found.1 < n) }
-        ensures stack { IfSome result (λ found. stack self.now n ≡ found.0 ∷ stack self.now found.1) }
+        ensures stack { IfSome result
+            (λ found. stack self.now n ≡ found.0 ∷ stack self.now found.1) }
     {
         if n == 0 || n > self.len() {
             return None;
@@ -281,7 +311,8 @@ fn stack_len(entries: &[NodeEntry], n: u32) -> usize
 fn push_stack(entries: &[NodeEntry], n: u32, out: &mut Vec<u64>) -> Result<(), NoMemory>
     requires table { IsTable entries.now }
     requires held { n ≤ length entries.now }
-    requires room { vec_len out.old + length (stack (nodes_of entries.now) n) ≤ vec_capacity out.old }
+    requires room { vec_len out.old + length (stack (nodes_of entries.now) n)
+        ≤ vec_capacity out.old }
     ensures succeeds { IsOk result }
     ensures ips { out.new.items ≡ out.old.items ++ stack (nodes_of entries.now) n }
 {

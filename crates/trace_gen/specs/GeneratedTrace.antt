@@ -12,13 +12,18 @@ abbrev pub name_line : ℕ → List ℕ
 name_line before = codes "s f" ++ decimal (before + 1)
 
 abbrev pub instruction_line : ℕ → List ℕ
-instruction_line before = codes "i " ++ (hexadecimal (before + 1) ++ (codes " 1 " ++ hexadecimal (before + 2)))
+instruction_line before = codes "i "
+    ++ (hexadecimal (before + 1) ++ (codes " 1 " ++ hexadecimal (before + 2)))
 
 abbrev pub node_line : Sizes → ℕ → List ℕ
-node_line sizes before = codes "t " ++ (hexadecimal (before + 1) ++ (codes " " ++ hexadecimal (draw sizes.seed before (before + 1))))
+node_line sizes before = codes "t "
+    ++ (hexadecimal (before + 1)
+    ++ (codes " " ++ hexadecimal (draw sizes.seed before (before + 1))))
 
 abbrev pub info_line : Sizes → ℕ → List ℕ
-info_line sizes before = codes "a " ++ (hexadecimal (draw sizes.seed (sizes.stacks + before) 4096 + 1) ++ (codes " " ++ hexadecimal (before + 1)))
+info_line sizes before = codes "a "
+    ++ (hexadecimal (draw sizes.seed (sizes.stacks + before) 4096 + 1)
+    ++ (codes " " ++ hexadecimal (before + 1)))
 
 -- the line of an event
 abbrev pub move_line : Move → List ℕ

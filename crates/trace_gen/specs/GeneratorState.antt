@@ -14,13 +14,16 @@ abbrev pub events_left : Sizes → ℕ → List (List ℕ)
 events_left sizes next = lines_from (event_line sizes) next (sizes.events - next)
 
 abbrev pub infos_left : Sizes → ℕ → List (List ℕ)
-infos_left sizes next = lines_from (info_line sizes) next (sizes.stacks - next) ++ events_left sizes 0
+infos_left sizes next = lines_from (info_line sizes) next (sizes.stacks - next)
+    ++ events_left sizes 0
 
 abbrev pub nodes_left : Sizes → ℕ → List (List ℕ)
-nodes_left sizes next = lines_from (node_line sizes) next (sizes.stacks - next) ++ infos_left sizes 0
+nodes_left sizes next = lines_from (node_line sizes) next (sizes.stacks - next)
+    ++ infos_left sizes 0
 
 abbrev pub instructions_left : Sizes → ℕ → List (List ℕ)
-instructions_left sizes next = lines_from instruction_line next (sizes.stacks - next) ++ nodes_left sizes 0
+instructions_left sizes next = lines_from instruction_line next (sizes.stacks - next)
+    ++ nodes_left sizes 0
 
 abbrev pub names_left : Sizes → ℕ → List (List ℕ)
 names_left sizes next = lines_from name_line next (sizes.stacks - next) ++ instructions_left sizes 0
@@ -64,7 +67,9 @@ events_before _ next = 0
 -- the live blocks of each info are those of the first so many events
 abbrev pub BlocksAre : Sizes → List ℕ → ℕ → Type 0
 BlocksAre sizes live events =
-    (info : ℕ) → info < sizes.stacks → slice_index_or live info 0 + freed info (moves sizes events) ≡ allocated info (moves sizes events)
+    (info : ℕ) → info < sizes.stacks
+    → slice_index_or live info 0 + freed info (moves sizes events)
+    ≡ allocated info (moves sizes events)
 
 -- at a place, the state and the live blocks of each info are those of the draws and events before
 pub record Stands (sizes : Sizes) (group : Group) (next state : ℕ) (live : List ℕ) : Type 0 where
@@ -75,12 +80,15 @@ pub record Stands (sizes : Sizes) (group : Group) (next state : ℕ) (live : Lis
   pub blocks : BlocksAre sizes live (events_before group next)
 
 abbrev pub IsAt : Generator → Type 0
-IsAt generator = Stands (sizes_of generator.options) generator.group generator.next generator.state generator.live.items
+IsAt generator = Stands (sizes_of generator.options) generator.group generator.next generator.state
+    generator.live.items
 
 -- where a generator stands behind a line of a group that has one for each stack
 abbrev pub behind : Generator → Group → Generator
 behind generator following =
-    if generator.next + 1 == generator.options.stacks then record generator { group = following; next = 0 } else record generator { next = generator.next + 1 }
+    if generator.next + 1 == generator.options.stacks
+    then record generator { group = following; next = 0 }
+    else record generator { next = generator.next + 1 }
 
 -- the next line was made behind some bytes
 pub record MakesLine (old new : Generator) (before now : List ℕ) : Type 0 where

@@ -19,7 +19,11 @@ freed info moves = count_by (λ move. (move.info == info) && move.frees) moves
 abbrev pub next_move : Sizes → ℕ → List Move → Move
 next_move sizes number earlier =
     let info : ℕ = draw sizes.seed (2 * sizes.stacks + 2 * number) sizes.stacks in
-    record { info = info; frees = (draw sizes.seed (2 * sizes.stacks + 2 * number + 1) 2 == 0) && nat_lt (freed info earlier) (allocated info earlier) }
+    record {
+      info = info;
+      frees = (draw sizes.seed (2 * sizes.stacks + 2 * number + 1) 2 == 0)
+          && nat_lt (freed info earlier) (allocated info earlier);
+    }
 
 -- the first so many events
 abbrev pub moves : Sizes → ℕ → List Move

@@ -42,9 +42,11 @@ impl Generator {
     /// A generator that has made no line. `NoMemory` where memory is wanting.
     pub fn new(alloc: Global, options: &GeneratorOptions) -> Result<Generator, NoMemory>
         ensures at { IfOk result (λ generator. IsAt generator) }
-        ensures lines { IfOk result (λ generator. lines_yet generator ≡ generated_lines (sizes_of options.now)) }
+        ensures lines { IfOk result
+            (λ generator. lines_yet generator ≡ generated_lines (sizes_of options.now)) }
         ensures few { IfOk result (λ generator. length (lines_yet generator) ≤ 10016003) }
-        ensures text { IfOk result (λ generator. text_left generator ≡ generated_text (sizes_of options.now)) }
+        ensures text { IfOk result
+            (λ generator. text_left generator ≡ generated_text (sizes_of options.now)) }
     {
         let mut live = Vec::new(alloc);
         live.resize(options.stacks as usize, 0)?;
@@ -61,7 +63,8 @@ impl Generator {
     /// generator is then of no use, and `line` may hold anything.
     pub fn line(&mut self, line: &mut Vec<u8>) -> Result<bool, NoMemory>
         requires at { IsAt self.old }
-        ensures made { IfOk result (λ more. Gives self.old self.new line.old.items line.new.items more) }
+        ensures made { IfOk result
+            (λ more. Gives self.old self.new line.old.items line.new.items more) }
     {
         match self.group {
             Group::Version => self.head(b"v 10500 2", Group::Command, line)?,
@@ -83,8 +86,10 @@ impl Generator {
 
     /// A group of one line.
     fn head(&mut self, text: &[u8], following: Group, line: &mut Vec<u8>) -> Result<(), NoMemory>
-        requires lines { lines_yet self.old ≡ text.now ∷ lines_left (sizes_of self.old.options) following 0 }
-        requires following { Stands (sizes_of self.old.options) following 0 self.old.state self.old.live.items }
+        requires lines { lines_yet self.old
+            ≡ text.now ∷ lines_left (sizes_of self.old.options) following 0 }
+        requires following { Stands (sizes_of self.old.options) following 0 self.old.state
+            self.old.live.items }
         requires first { self.old.next ≡ 0 }
         requires short { length text.now ≤ 40 }
         ensures made { OnOk result (MakesLine self.old self.new line.old.items line.new.items) }

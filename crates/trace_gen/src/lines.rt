@@ -32,8 +32,12 @@ pub fn put_pair(
     between: &[u8],
     second: u64,
 ) -> Result<(), NoMemory>
-    ensures appended { OnOk result (line.new.items ≡ line.old.items ++ (front.now ++ (hexadecimal first ++ (between.now ++ hexadecimal second)))) }
-    ensures short { OnOk result (length (front.now ++ (hexadecimal first ++ (between.now ++ hexadecimal second))) ≤ length front.now + length between.now + 32) }
+    ensures appended { OnOk result
+        (line.new.items ≡ line.old.items
+        ++ (front.now ++ (hexadecimal first ++ (between.now ++ hexadecimal second)))) }
+    ensures short { OnOk result
+        (length (front.now ++ (hexadecimal first ++ (between.now ++ hexadecimal second)))
+        ≤ length front.now + length between.now + 32) }
 {
     put_bytes(line, front)?;
     put_hex(line, first)?;
@@ -43,8 +47,11 @@ pub fn put_pair(
 
 /// The line of an event of an info.
 pub fn put_event(line: &mut Vec<u8>, frees: bool, info: u64) -> Result<(), NoMemory>
-    ensures appended { OnOk result (line.new.items ≡ line.old.items ++ ((if frees then codes "- " else codes "+ ") ++ hexadecimal info)) }
-    ensures short { OnOk result (length ((if frees then codes "- " else codes "+ ") ++ hexadecimal info) ≤ 40) }
+    ensures appended { OnOk result
+        (line.new.items ≡ line.old.items
+        ++ ((if frees then codes "- " else codes "+ ") ++ hexadecimal info)) }
+    ensures short { OnOk result
+        (length ((if frees then codes "- " else codes "+ ") ++ hexadecimal info) ≤ 40) }
 {
     put_bytes(line, if frees { b"- " } else { b"+ " })?;
     put_hex(line, info)

@@ -18,11 +18,11 @@ use Rattle.ht_trace.specs.StandsFor.{StandsAfter}
 use Rattle.ht_trace.specs.StepOf.{event_of, step_of}
 use Rattle.ht_trace.specs.TableState.{TableState}
 use Rattle.ht_trace.specs.TraceEvents.{events}
-use Rattle.command_frame.specs.Batch.{AreSilent, HasTakenFront, IsShortLine}
-use Rattle.command_frame.specs.Report.{Report}
+use Rattle.command_frame.specs.Batch.{AreGood, HasGivenFront, HasTakenFront, IsShortLine}
+use Rattle.command_frame.specs.Report.{Report, gains_from}
 use Rattle.trace_reading.specs.declared.fault.TraceFault.TheVariants.{Line, Event as event_fault}
 use Rattle.trace_reading.specs.declared.read_trace.ReadTrace.{ReadTrace}
-use Rattle.trace_reading.specs.Batch.{HasReadLine, HasTakenLine}
+use Rattle.trace_reading.specs.Batch.{HasGivenLine, HasReadLine, HasTakenLine}
 use Rattle.trace_reading.specs.TraceFault.{told}
 use Rattle.trace_reading.specs.ReadTrace.{HasRead}
 use Rattle.trace_reading.specs.TraceReport.{content_fault, ledger_fault, trace_report}
@@ -83,7 +83,8 @@ front_kept report initial old new ready bytes number front kept = record {
   short = front.short;
   text = front.text;
   count = front.count;
-  silent = front.silent;
+  good = front.good;
+  gained = front.gained;
   taken = λ earlier has. kept (earlier ++ front.lines) (front.taken earlier has);
 }
 
@@ -93,22 +94,27 @@ text_of_lines-push [] line = refl
 text_of_lines-push (first ∷ lines) line =
     ap (λ rest. first ++ (10 ∷ rest)) (text_of_lines-push lines line) ∙ sym (append_assoc first (10 ∷ text_of_lines lines) (line ++ (10 ∷ [])))
 
--- one line more, without a fault and with nothing to give
-silent_more : (report : Report) (earlier lines : List (List ℕ)) (line : List ℕ) → AreSilent report earlier lines
-    → report.line_fault (earlier ++ lines) line ≡ None → report.gains (earlier ++ lines) line ≡ [] → AreSilent report earlier (lines ++ line ∷ [])
-silent_more report earlier [] line silent none nothing =
-    (ap (λ before. report.line_fault before line) (sym (append-nil earlier)) ∙ none, ap (λ before. report.gains before line) (sym (append-nil earlier)) ∙ nothing, tt)
-silent_more report earlier (first ∷ lines) line silent none nothing =
-    let same : (earlier ++ first ∷ []) ++ lines ≡ earlier ++ first ∷ lines = append_assoc earlier (first ∷ []) lines in (
-      silent.0,
-      silent.1,
-      silent_more report (earlier ++ first ∷ []) lines line silent.2 (ap (λ before. report.line_fault before line) same ∙ none) (ap (λ before. report.gains before line) same ∙ nothing),
-    )
+-- one line more, without a fault
+good_more : (report : Report) (earlier lines : List (List ℕ)) (line : List ℕ) → AreGood report earlier lines
+    → report.line_fault (earlier ++ lines) line ≡ None → AreGood report earlier (lines ++ line ∷ [])
+good_more report earlier [] line good none = (ap (λ before. report.line_fault before line) (sym (append-nil earlier)) ∙ none, tt)
+good_more report earlier (first ∷ lines) line good none = (
+  good.0,
+  good_more report (earlier ++ first ∷ []) lines line good.1 (ap (λ before. report.line_fault before line) (append_assoc earlier (first ∷ []) lines) ∙ none),
+)
+
+-- what one line more gives
+gains_more : (report : Report) (earlier lines : List (List ℕ)) (line : List ℕ) → gains_from report earlier (lines ++ line ∷ []) ≡ gains_from report earlier lines ++ report.gains (earlier ++ lines) line
+gains_more report earlier [] line = append-nil (report.gains earlier line) ∙ ap (λ before. report.gains before line) (sym (append-nil earlier))
+gains_more report earlier (first ∷ lines) line =
+    ap (λ rest. report.gains earlier first ++ rest) (gains_more report (earlier ++ first ∷ []) lines line)
+    ∙ (sym (append_assoc (report.gains earlier first) (gains_from report (earlier ++ first ∷ []) lines) (report.gains ((earlier ++ first ∷ []) ++ lines) line))
+    ∙ ap (λ before. (report.gains earlier first ++ gains_from report (earlier ++ first ∷ []) lines) ++ report.gains before line) (append_assoc earlier (first ∷ []) lines))
 
 -- one line more was taken
-pub line_more : (report : Report) (initial old new : List (List ℕ) → Type 0) (ready : List ℕ) (bytes number more : ℕ)
-    → HasTakenFront report initial old ready bytes number → HasTakenLine report old new (drop bytes ready) more → HasTakenFront report initial new ready (bytes + more) (number + 1)
-line_more report initial old new ready bytes number more front one =
+pub line_more : {before mid after : List ℕ} (report : Report) (initial old new : List (List ℕ) → Type 0) (ready : List ℕ) (bytes number more : ℕ)
+    → HasGivenFront report initial old ready bytes number before mid → HasGivenLine report old new (drop bytes ready) more mid after → HasGivenFront report initial new ready (bytes + more) (number + 1) before after
+line_more {before} report initial old new ready bytes number more front one =
     let line_text : take more (drop bytes ready) ≡ one.line ++ (10 ∷ []) =
     ap (λ n. take n (drop bytes ready)) one.size ∙ (ap (take (length one.line + 1)) one.split ∙ take-append-add one.line (10 ∷ one.rest) 1) in
     record {
@@ -118,12 +124,17 @@ line_more report initial old new ready bytes number more front one =
       text = take-add bytes more ready ∙ (ap (λ front. front ++ take more (drop bytes ready)) front.text
           ∙ (ap (λ last. text_of_lines front.lines ++ last) line_text ∙ sym (text_of_lines-push front.lines one.line)));
       count = length_push front.lines one.line ∙ ap (λ n. n + 1) front.count;
-      silent = λ earlier has. silent_more report earlier front.lines one.line (front.silent earlier has) (one.no_fault (earlier ++ front.lines) (front.taken earlier has)) (one.no_gain (earlier ++ front.lines));
+      good = λ earlier has. good_more report earlier front.lines one.line (front.good earlier has) (one.no_fault (earlier ++ front.lines) (front.taken earlier has));
+      gained = λ earlier has.
+          one.gained (earlier ++ front.lines) (front.taken earlier has)
+          ∙ (ap (λ l. l ++ report.gains (earlier ++ front.lines) one.line) (front.gained earlier has)
+          ∙ (append_assoc before (gains_from report earlier front.lines) (report.gains (earlier ++ front.lines) one.line)
+          ∙ ap (λ l. before ++ l) (sym (gains_more report earlier front.lines one.line))));
       taken = λ earlier has. subst new (append_assoc earlier front.lines (one.line ∷ [])) (one.taken (earlier ++ front.lines) (front.taken earlier has));
     }
 
 -- a line stands within the bytes
-pub line_within : (report : Report) (old new : List (List ℕ) → Type 0) (ready : List ℕ) (bytes : ℕ) → HasTakenLine report old new ready bytes → bytes ≤ length ready
+pub line_within : {before after : List ℕ} (report : Report) (old new : List (List ℕ) → Type 0) (ready : List ℕ) (bytes : ℕ) → HasGivenLine report old new ready bytes before after → bytes ≤ length ready
 line_within report old new ready bytes one = omega (arith, one.size, ap length one.split, length-append one.line (10 ∷ one.rest))
 
 -- a line that was read is taken; no line of a trace gives a byte before the end
@@ -137,6 +148,6 @@ read_is_taken old new ready bytes event one patterns text = record {
   split = one.split;
   size = one.size;
   no_fault = one.no_fault patterns;
-  no_gain = λ earlier. refl;
+  gained = λ earlier has. refl;
   taken = one.read patterns;
 }

@@ -14,13 +14,16 @@ use Rattle.trace_reading.specs.TraceReport.{content_fault, trace_report}
 
 -- the first so many of these bytes are so many whole lines, which were read; whatever the text is that is written at the
 -- end, they give nothing to it
-abbrev pub HasReadFront : ReadTrace → ReadTrace → List (List ℕ) → (List (List ℕ) → List ℕ) → List ℕ → ℕ → ℕ → Type 0
+abbrev pub HasReadFront : ReadTrace → ReadTrace → List (List ℕ) → (List (List ℕ) → List ℕ) → List ℕ
+    → ℕ → ℕ → Type 0
 HasReadFront old new patterns text ready bytes number =
-    HasTakenFront (trace_report patterns text) (HasRead old patterns) (HasRead new patterns) ready bytes number
+    HasTakenFront (trace_report patterns text) (HasRead old patterns) (HasRead new patterns) ready
+    bytes number
 
 -- the first line of these bytes has so many bytes with its line feed. It was taken behind all lines that were taken before,
--- without a fault, and gives nothing to standard output
-pub record HasTakenLine (report : Report) (old new : List (List ℕ) → Type 0) (ready : List ℕ) (bytes : ℕ) : Type 0 where
+-- without a fault, and what it gives to standard output stands behind what stood there
+pub record HasGivenLine (report : Report) (old new : List (List ℕ) → Type 0) (ready : List ℕ)
+    (bytes : ℕ) (before after : List ℕ) : Type 0 where
   pub line : List ℕ
   pub one_line : IsLineText line
   pub short : IsShortLine line
@@ -28,11 +31,18 @@ pub record HasTakenLine (report : Report) (old new : List (List ℕ) → Type 0)
   pub split : ready ≡ line ++ (10 ∷ rest)
   pub size : bytes ≡ length line + 1
   pub no_fault : (earlier : List (List ℕ)) → old earlier → report.line_fault earlier line ≡ None
-  pub no_gain : (earlier : List (List ℕ)) → report.gains earlier line ≡ []
+  pub gained : (earlier : List (List ℕ)) → old earlier
+      → after ≡ before ++ report.gains earlier line
   pub taken : (earlier : List (List ℕ)) → old earlier → new (earlier ++ line ∷ [])
 
+-- the same, and it gives nothing
+abbrev pub HasTakenLine : Report → (List (List ℕ) → Type 0) → (List (List ℕ) → Type 0) → List ℕ
+    → ℕ → Type 0
+HasTakenLine report old new ready bytes = HasGivenLine report old new ready bytes [] []
+
 -- the first line of these bytes has so many bytes with its line feed. The tables pass it, and it brings the event
-pub record PassesFront (tables : TableState) (ready : List ℕ) (bytes : ℕ) (event : Event) : Type 0 where
+pub record PassesFront (tables : TableState) (ready : List ℕ) (bytes : ℕ) (event : Event) : Type
+    0 where
   pub line : List ℕ
   pub one_line : IsLineText line
   pub short : IsShortLine line
@@ -43,14 +53,19 @@ pub record PassesFront (tables : TableState) (ready : List ℕ) (bytes : ℕ) (e
 
 -- the first line of these bytes has so many bytes with its line feed, and was read without a fault. It brings the event, which
 -- the peaks took
-pub record HasReadLine (old new : ReadTrace) (ready : List ℕ) (bytes : ℕ) (event : Event) : Type 0 where
+pub record HasReadLine (old new : ReadTrace) (ready : List ℕ) (bytes : ℕ) (event : Event) : Type
+    0 where
   pub line : List ℕ
   pub one_line : IsLineText line
   pub short : IsShortLine line
   pub rest : List ℕ
   pub split : ready ≡ line ++ (10 ∷ rest)
   pub size : bytes ≡ length line + 1
-  pub no_fault : (patterns earlier : List (List ℕ)) → HasRead old patterns earlier → content_fault patterns earlier line ≡ None
-  pub read : (patterns earlier : List (List ℕ)) → HasRead old patterns earlier → HasRead new patterns (earlier ++ line ∷ [])
-  pub events : (patterns earlier : List (List ℕ)) → HasRead old patterns earlier → events (earlier ++ line ∷ []) ≡ events earlier ++ event ∷ []
-  pub peaks : (taken : List Event) → StandsFor old.peaks taken → StandsFor new.peaks (taken ++ event ∷ [])
+  pub no_fault : (patterns earlier : List (List ℕ)) → HasRead old patterns earlier
+      → content_fault patterns earlier line ≡ None
+  pub read : (patterns earlier : List (List ℕ)) → HasRead old patterns earlier
+      → HasRead new patterns (earlier ++ line ∷ [])
+  pub events : (patterns earlier : List (List ℕ)) → HasRead old patterns earlier
+      → events (earlier ++ line ∷ []) ≡ events earlier ++ event ∷ []
+  pub peaks : (taken : List Event) → StandsFor old.peaks taken
+      → StandsFor new.peaks (taken ++ event ∷ [])

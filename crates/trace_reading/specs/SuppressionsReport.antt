@@ -14,7 +14,8 @@ use Rattle.trace_reading.specs.TraceReport.{trace_plan, trace_report}
 
 -- a line is the text of a suppression: its fault after earlier lines is that a table has no room for its pattern
 abbrev pub text_fault : List (List ℕ) → List ℕ → Option Told
-text_fault earlier line = option_map (λ error. told (Line error)) (pattern_fault (length (patterns_of earlier)) line)
+text_fault earlier line = option_map (λ error. told (Line error))
+    (pattern_fault (length (patterns_of earlier)) line)
 
 -- the lines have no other fault, and write nothing
 abbrev pub suppressions_report : Report

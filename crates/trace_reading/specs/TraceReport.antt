@@ -18,7 +18,8 @@ use Rattle.trace_reading.specs.TraceFault.{told}
 
 -- the tables of a trace with these lines, whose patterns stand behind those that were given before
 abbrev pub tables_behind : List (List ℕ) → List (List ℕ) → TableState
-tables_behind patterns lines = record (tables_of lines) { patterns = patterns ++ lists.patterns (contents lines) }
+tables_behind patterns lines = record (tables_of lines)
+    { patterns = patterns ++ lists.patterns (contents lines) }
 
 -- of tables that were given so many patterns before the first line, those
 abbrev pub patterns_before : ℕ → TableState → List (List ℕ)
@@ -32,8 +33,10 @@ ledger_fault earlier (Some taken) = fault_of earlier taken
 -- the fault of what a line of a trace says after earlier lines: the tables judge first, and then the ledger
 abbrev pub content_fault : List (List ℕ) → List (List ℕ) → List ℕ → Option Told
 content_fault patterns earlier line =
-    option_or (option_map (λ error. told (Line error)) (tables.fault_in (tables_behind patterns earlier) line))
-    (option_map (λ fault. told (event fault)) (ledger_fault (events earlier) (event_of (step_of earlier line))))
+    option_or (option_map (λ error. told (Line error))
+    (tables.fault_in (tables_behind patterns earlier) line))
+    (option_map (λ fault. told (event fault))
+    (ledger_fault (events earlier) (event_of (step_of earlier line))))
 
 -- the fault of the end of a trace
 abbrev pub end_fault : List (List ℕ) → Option Told

@@ -30,9 +30,11 @@ impl ReadTrace {
         requires room { 4 * self.old.peaks.ledger.totals.events + length ready.now ≤ 2 ^ 34 }
         ensures sound { IsSound self.new }
         ensures tables { self.new.tables ≡ self.old.tables }
-        ensures taken { (patterns : List (List ℕ)) (text : List (List ℕ) → List ℕ) → HasReadFront self.old self.new patterns text ready.now result.bytes result.lines }
+        ensures taken { (patterns : List (List ℕ)) (text : List (List ℕ) → List ℕ)
+            → HasReadFront self.old self.new patterns text ready.now result.bytes result.lines }
         ensures held { result.bytes ≤ length ready.now }
-        ensures events { 4 * self.new.peaks.ledger.totals.events ≤ 4 * self.old.peaks.ledger.totals.events + result.bytes }
+        ensures events { 4 * self.new.peaks.ledger.totals.events
+            ≤ 4 * self.old.peaks.ledger.totals.events + result.bytes }
     {
         let mut bytes = 0;
         let mut lines = 0;
@@ -54,11 +56,14 @@ impl ReadTrace {
         requires room { 4 * self.old.peaks.ledger.totals.events + length ready.now ≤ 2 ^ 34 }
         ensures tables { self.new.tables ≡ self.old.tables }
         ensures sound { IsSound self.new }
-        ensures taken { IfSome result (λ read. HasReadLine self.old self.new ready.now read.bytes read.event) }
+        ensures taken { IfSome result
+            (λ read. HasReadLine self.old self.new ready.now read.bytes read.event) }
         ensures some { IfSome result (λ read. 0 < read.bytes) }
         ensures held { IfSome result (λ read. read.bytes ≤ length ready.now) }
         ensures held_event { IfSome result (λ read. HasHeldEvent self.old.tables read.event) }
-        ensures events { IfSome result (λ read. 4 * self.new.peaks.ledger.totals.events ≤ 4 * self.old.peaks.ledger.totals.events + read.bytes) }
+        ensures events { IfSome result
+            (λ read. 4 * self.new.peaks.ledger.totals.events
+            ≤ 4 * self.old.peaks.ledger.totals.events + read.bytes) }
         ensures untaken { IfNone result (self.new ≡ self.old) }
     {
         let line = line_at_front(self.peaks.ledger(), ready)?;
@@ -73,9 +78,13 @@ impl ReadTrace {
 /// the ledger pass it.
 #[inline(always)]
 pub fn line_at_front(ledger: &Ledger, ready: &[u8]) -> Option<ReadLine>
-    ensures front { IfSome result (λ read. (tables : TableState) → PassesEvents tables → IsBeside tables ledger.now → PassesFront tables ready.now read.bytes read.event) }
+    ensures front { IfSome result
+        (λ read. (tables : TableState) → PassesEvents tables → IsBeside tables ledger.now
+        → PassesFront tables ready.now read.bytes read.event) }
     ensures held_event { IfSome result (λ read. IsHeld ledger.now read.event) }
-    ensures held_stack { IfSome result (λ read. (tables : TableState) → IsBeside tables ledger.now → HasHeldEvent tables read.event) }
+    ensures held_stack { IfSome result
+        (λ read. (tables : TableState) → IsBeside tables ledger.now
+        → HasHeldEvent tables read.event) }
     ensures least { IfSome result (λ read. 3 < read.bytes) }
     ensures least_length { IfSome result (λ read. least_length_of read.event ≡ 3) }
     ensures held { IfSome result (λ read. read.bytes ≤ length ready.now) }

@@ -57,10 +57,18 @@ impl ReadTrace {
         requires short { length line.now < 2 ^ 32 }
         requires room { 4 * self.old.peaks.ledger.totals.events + length line.now ≤ 2 ^ 34 }
         ensures sound { OnOk result (IsSound self.new) }
-        ensures read { OnOk result ((patterns lines : List (List ℕ)) → HasRead self.old patterns lines → HasRead self.new patterns (lines ++ line.now ∷ [])) }
-        ensures no_fault { OnOk result ((patterns lines : List (List ℕ)) → HasRead self.old patterns lines → content_fault patterns lines line.now ≡ None) }
-        ensures fault { IfErr result (λ refusal. (patterns lines : List (List ℕ)) → HasRead self.old patterns lines → Tells told refusal (content_fault patterns lines line.now)) }
-        ensures events { OnOk result (4 * self.new.peaks.ledger.totals.events ≤ 4 * self.old.peaks.ledger.totals.events + length line.now + 1) }
+        ensures read { OnOk result
+            ((patterns lines : List (List ℕ)) → HasRead self.old patterns lines
+            → HasRead self.new patterns (lines ++ line.now ∷ [])) }
+        ensures no_fault { OnOk result
+            ((patterns lines : List (List ℕ)) → HasRead self.old patterns lines
+            → content_fault patterns lines line.now ≡ None) }
+        ensures fault { IfErr result
+            (λ refusal. (patterns lines : List (List ℕ)) → HasRead self.old patterns lines
+            → Tells told refusal (content_fault patterns lines line.now)) }
+        ensures events { OnOk result
+            (4 * self.new.peaks.ledger.totals.events
+            ≤ 4 * self.old.peaks.ledger.totals.events + length line.now + 1) }
         ensures continues { Continues self.old.tables self.new.tables }
     {
         match self.read_step(line) {
@@ -75,20 +83,35 @@ impl ReadTrace {
         requires short { length line.now < 2 ^ 32 }
         requires room { 4 * self.old.peaks.ledger.totals.events + length line.now ≤ 2 ^ 34 }
         ensures sound { OnOk result (IsSound self.new) }
-        ensures read { OnOk result ((patterns lines : List (List ℕ)) → HasRead self.old patterns lines → HasRead self.new patterns (lines ++ line.now ∷ [])) }
-        ensures no_fault { OnOk result ((patterns lines : List (List ℕ)) → HasRead self.old patterns lines → content_fault patterns lines line.now ≡ None) }
-        ensures fault { IfErr result (λ refusal. (patterns lines : List (List ℕ)) → HasRead self.old patterns lines → Tells told refusal (content_fault patterns lines line.now)) }
-        ensures events { OnOk result (4 * self.new.peaks.ledger.totals.events ≤ 4 * self.old.peaks.ledger.totals.events + length line.now + 1) }
+        ensures read { OnOk result
+            ((patterns lines : List (List ℕ)) → HasRead self.old patterns lines
+            → HasRead self.new patterns (lines ++ line.now ∷ [])) }
+        ensures no_fault { OnOk result
+            ((patterns lines : List (List ℕ)) → HasRead self.old patterns lines
+            → content_fault patterns lines line.now ≡ None) }
+        ensures fault { IfErr result
+            (λ refusal. (patterns lines : List (List ℕ)) → HasRead self.old patterns lines
+            → Tells told refusal (content_fault patterns lines line.now)) }
+        ensures events { OnOk result
+            (4 * self.new.peaks.ledger.totals.events
+            ≤ 4 * self.old.peaks.ledger.totals.events + length line.now + 1) }
         ensures continues { Continues self.old.tables self.new.tables }
 
         // What the line brings.
-        ensures step_events { IfOk result (λ step. (patterns lines : List (List ℕ)) → HasRead self.old patterns lines → events (lines ++ line.now ∷ []) ≡ events lines ++ option_to_list (event_of step)) }
-        ensures peaks { IfOk result (λ step. (taken : List Event) → peaks_spec.StandsFor self.old.peaks taken → peaks_spec.StandsFor self.new.peaks (taken ++ option_to_list (event_of step))) }
+        ensures step_events { IfOk result
+            (λ step. (patterns lines : List (List ℕ)) → HasRead self.old patterns lines
+            → events (lines ++ line.now ∷ []) ≡ events lines ++ option_to_list (event_of step)) }
+        ensures peaks { IfOk result
+            (λ step. (taken : List Event) → peaks_spec.StandsFor self.old.peaks taken
+            → peaks_spec.StandsFor self.new.peaks (taken ++ option_to_list (event_of step))) }
         ensures can { IfOk result (λ step. CanTake self.old.peaks.ledger step) }
         ensures held { IfOk result (λ step. HasHeldStack self.new.tables step) }
-        ensures stacks { IfOk result (λ step. length self.new.tables.nodes ≡ length self.old.tables.nodes + stacks_in step) }
+        ensures stacks { IfOk result
+            (λ step. length self.new.tables.nodes ≡ length self.old.tables.nodes + stacks_in step) }
         ensures least_length { IfOk result (λ step. least_length step ≤ length line.now) }
-        ensures weight { IfOk result (λ step. 4 * self.new.peaks.ledger.totals.events + stacks_in step ≤ 4 * self.old.peaks.ledger.totals.events + length line.now + 1) }
+        ensures weight { IfOk result
+            (λ step. 4 * self.new.peaks.ledger.totals.events + stacks_in step
+            ≤ 4 * self.old.peaks.ledger.totals.events + length line.now + 1) }
     {
         match self.tables.line(line) {
             Ok(step) => {
@@ -102,8 +125,12 @@ impl ReadTrace {
 
     /// Whether the trace may end here, which from then on says that lines of events may be taken many at a time.
     pub fn end(&self) -> Result<(), TraceFault>
-        ensures no_fault { OnOk result ((patterns lines : List (List ℕ)) → HasRead self.now patterns lines → end_fault lines ≡ None) }
-        ensures fault { IfErr result (λ fault. (patterns lines : List (List ℕ)) → HasRead self.now patterns lines → end_fault lines ≡ Some (told fault)) }
+        ensures no_fault { OnOk result
+            ((patterns lines : List (List ℕ)) → HasRead self.now patterns lines
+            → end_fault lines ≡ None) }
+        ensures fault { IfErr result
+            (λ fault. (patterns lines : List (List ℕ)) → HasRead self.now patterns lines
+            → end_fault lines ≡ Some (told fault)) }
         ensures passes { OnOk result (PassesEvents self.now.tables) }
     {
         match self.tables.end() {
@@ -117,12 +144,23 @@ impl ReadTrace {
 fn take_step(peaks: &mut Peaks, step: Step) -> Result<(), LineRefusal<TraceFault>>
     requires can { CanTake peaks.old.ledger step }
     requires room { 4 * peaks.old.ledger.totals.events + least_length step ≤ 2 ^ 34 }
-    ensures peaks { OnOk result ((taken : List Event) → peaks_spec.StandsFor peaks.old taken → peaks_spec.StandsFor peaks.new (taken ++ option_to_list (event_of step))) }
-    ensures no_fault { OnOk result ((taken : List Event) → peaks_spec.StandsFor peaks.old taken → ledger_fault taken (event_of step) ≡ None) }
-    ensures fault { IfErr result (λ refusal. (taken : List Event) → peaks_spec.StandsFor peaks.old taken → Tells told refusal (option_map (λ fault. told (TraceFault.Event fault)) (ledger_fault taken (event_of step)))) }
-    ensures stacks { OnOk result (peaks.new.ledger.stacks ≡ peaks.old.ledger.stacks + stacks_in step) }
+    ensures peaks { OnOk result
+        ((taken : List Event) → peaks_spec.StandsFor peaks.old taken
+        → peaks_spec.StandsFor peaks.new (taken ++ option_to_list (event_of step))) }
+    ensures no_fault { OnOk result
+        ((taken : List Event) → peaks_spec.StandsFor peaks.old taken
+        → ledger_fault taken (event_of step) ≡ None) }
+    ensures fault { IfErr result
+        (λ refusal. (taken : List Event) → peaks_spec.StandsFor peaks.old taken
+        → Tells told refusal
+        (option_map (λ fault. told (TraceFault.Event fault))
+        (ledger_fault taken (event_of step)))) }
+    ensures stacks { OnOk result
+        (peaks.new.ledger.stacks ≡ peaks.old.ledger.stacks + stacks_in step) }
     ensures infos { OnOk result (peaks.new.ledger.infos ≡ peaks.old.ledger.infos ++ infos_in step) }
-    ensures weight { OnOk result (4 * peaks.new.ledger.totals.events + stacks_in step ≤ 4 * peaks.old.ledger.totals.events + least_length step + 1) }
+    ensures weight { OnOk result
+        (4 * peaks.new.ledger.totals.events + stacks_in step
+        ≤ 4 * peaks.old.ledger.totals.events + least_length step + 1) }
 {
     match step {
         Step::Nothing => Ok(()),
@@ -147,12 +185,19 @@ fn take_step(peaks: &mut Peaks, step: Step) -> Result<(), LineRefusal<TraceFault
 pub(crate) fn take_event(peaks: &mut Peaks, event: Event) -> Result<(), EventFault>
     requires held { IsHeld peaks.old.ledger event }
     requires room { 4 * peaks.old.ledger.totals.events + least_length_of event ≤ 2 ^ 34 }
-    ensures peaks { OnOk result ((taken : List Event) → peaks_spec.StandsFor peaks.old taken → peaks_spec.StandsFor peaks.new (taken ++ event ∷ [])) }
-    ensures no_fault { OnOk result ((taken : List Event) → peaks_spec.StandsFor peaks.old taken → fault_of taken event ≡ None) }
-    ensures fault { IfErr result (λ fault. (taken : List Event) → peaks_spec.StandsFor peaks.old taken → fault_of taken event ≡ Some fault) }
+    ensures peaks { OnOk result
+        ((taken : List Event) → peaks_spec.StandsFor peaks.old taken
+        → peaks_spec.StandsFor peaks.new (taken ++ event ∷ [])) }
+    ensures no_fault { OnOk result
+        ((taken : List Event) → peaks_spec.StandsFor peaks.old taken
+        → fault_of taken event ≡ None) }
+    ensures fault { IfErr result
+        (λ fault. (taken : List Event) → peaks_spec.StandsFor peaks.old taken
+        → fault_of taken event ≡ Some fault) }
     ensures stacks { peaks.new.ledger.stacks ≡ peaks.old.ledger.stacks }
     ensures infos { peaks.new.ledger.infos ≡ peaks.old.ledger.infos }
-    ensures events { 4 * peaks.new.ledger.totals.events ≤ 4 * peaks.old.ledger.totals.events + least_length_of event + 1 }
+    ensures events { 4 * peaks.new.ledger.totals.events
+        ≤ 4 * peaks.old.ledger.totals.events + least_length_of event + 1 }
     ensures unchanged { OnErr result (peaks.new ≡ peaks.old) }
 {
     apply_uncounted::<Brand>(peaks, event, Blank::new(1))
@@ -170,8 +215,11 @@ fn apply_uncounted<L: Ledger>(
     requires some { 0 < blank.parts }
     requires held { IsHeld peaks.old.ledger event }
     requires count { peaks.old.ledger.totals.events < 2 ^ 32 }
-    ensures fault { (taken : List Event) → peaks_spec.StandsFor peaks.old taken → result_err result ≡ fault_of taken event }
-    ensures stands { OnOk result ((taken : List Event) → peaks_spec.StandsFor peaks.old taken → peaks_spec.StandsFor peaks.new (taken ++ event ∷ [])) }
+    ensures fault { (taken : List Event) → peaks_spec.StandsFor peaks.old taken
+        → result_err result ≡ fault_of taken event }
+    ensures stands { OnOk result
+        ((taken : List Event) → peaks_spec.StandsFor peaks.old taken
+        → peaks_spec.StandsFor peaks.new (taken ++ event ∷ [])) }
     ensures stacks { peaks.new.ledger.stacks ≡ peaks.old.ledger.stacks }
     ensures infos { peaks.new.ledger.infos ≡ peaks.old.ledger.infos }
     ensures at_most_one_more { peaks.new.ledger.totals.events ≤ peaks.old.ledger.totals.events + 1 }

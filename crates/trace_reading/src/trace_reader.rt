@@ -29,8 +29,12 @@ impl<W: TraceWriter + Drop> TraceReader<W> {
         requires nodes { tables.nodes ≡ [] }
         requires infos { tables.infos ≡ [] }
         ensures sound { IfOk result (λ reader. trace_spec.IsReady reader.trace reader.given) }
-        ensures read { IfOk result (λ reader. (given : List (List ℕ)) → StandsAfter tables given [] → trace_spec.HasRead reader.trace (patterns_before reader.given reader.trace.tables) []) }
-        ensures patterns { IfOk result (λ reader. patterns_before reader.given reader.trace.tables ≡ tables.patterns) }
+        ensures read { IfOk result
+            (λ reader. (given : List (List ℕ)) → StandsAfter tables given []
+            → trace_spec.HasRead reader.trace (patterns_before reader.given reader.trace.tables)
+            []) }
+        ensures patterns { IfOk result
+            (λ reader. patterns_before reader.given reader.trace.tables ≡ tables.patterns) }
         ensures writer { IfOk result (λ reader. reader.writer ≡ writer) }
         ensures events { IfOk result (λ reader. reader.trace.peaks.ledger.totals.events ≡ 0) }
     {
@@ -47,9 +51,12 @@ impl<W: TraceWriter + Drop> TraceReader<W> {
 impl<W: TraceWriter> LineTaker for TraceReader<W> {
     type Fault = TraceFault;
 
-    ghost report = { λ reader. trace_report (patterns_before reader.given reader.trace.tables) (W.text reader.writer (patterns_before reader.given reader.trace.tables)) };
+    ghost report = { λ reader.
+        trace_report (patterns_before reader.given reader.trace.tables)
+        (W.text reader.writer (patterns_before reader.given reader.trace.tables)) };
 
-    ghost has_taken = { λ reader. trace_spec.HasRead reader.trace (patterns_before reader.given reader.trace.tables) };
+    ghost has_taken = { λ reader.
+        trace_spec.HasRead reader.trace (patterns_before reader.given reader.trace.tables) };
 
     ghost is_sound = { λ reader. trace_spec.IsReady reader.trace reader.given };
 
@@ -63,7 +70,7 @@ impl<W: TraceWriter> LineTaker for TraceReader<W> {
         self.trace.end()
     }
 
-    fn batch(&mut self, ready: &[u8]) -> Batch {
+    fn batch(&mut self, ready: &[u8], _output: &mut Vec<u8>) -> Batch {
         match self.trace.end() {
             Ok(()) => self.trace.read_events(ready),
             Err(_) => Batch { bytes: 0, lines: 0 },

@@ -18,6 +18,8 @@ pub trait TraceWriter {
     /// Appends the text of the trace whose tables and peaks these are. `NoMemory` where memory is wanting.
     fn put(&self, tables: &Tables, peaks: &Peaks, out: &mut Vec<u8>) -> Result<(), NoMemory>
         requires beside { IsBeside tables.now peaks.now.ledger }
-        ensures appended { OnOk result ((given lines : List (List ℕ)) → StandsAfter tables.now given lines → StandsFor peaks.now (events lines)
+        ensures appended { OnOk result
+            ((given lines : List (List ℕ)) → StandsAfter tables.now given lines
+            → StandsFor peaks.now (events lines)
             → out.new.items ≡ out.old.items ++ text self.now (patterns_of given) lines) };
 }

@@ -55,7 +55,7 @@ lines-preserved g c =
       report = ready.report ∙ (taken.report ∙ held.report);
       reading = read_batch (bounds_at c.args.lines.now) report (g.T.LineTaker.has_taken c.line-in-Ok-Some.new.self) (g.T.LineTaker.has_taken c.take_ready.new.taker) c.next.new.self c.take_ready.new.lines
           (g.S.Store.left c.args.store.now) (g.S.Store.left c.next.new.store)
-          (g.O.Sink.written c.args.out.now) (g.O.Sink.written c.pass_on_piece.new.out) c.pass_on_piece.new.buffer.items
+          (g.O.Sink.written c.args.out.now) (g.O.Sink.written c.pass_on_piece.new.out) c.pass_on_piece.new.buffer.items c.take_ready.new.buffer.items
           (read_more (bounds_at c.args.lines.now) report (g.T.LineTaker.has_taken c.lines.taker) (g.T.LineTaker.has_taken c.line-in-Ok-Some.new.self) c.lines.lines c.next.new.self
           (g.S.Store.left c.args.store.now) (g.S.Store.left c.lines.store) (g.S.Store.left c.next.new.store)
           (g.O.Sink.written c.args.out.now) (g.O.Sink.written c.lines.out) (g.O.Sink.written c.pass_on_piece.new.out)
@@ -67,7 +67,7 @@ lines-preserved g c =
           (subst (λ (r : Report). c.line-in-Ok-Some.new.output.items ≡ c.lines.buffer.items ++ r.gains lines c.line.result.now) held.report (taken.output lines has)))
           c.in-Ok-pass_on_piece.ensures.passed)
           (next.input ∙ held.input) (next.limit ∙ held.line_limit)
-          (subst (λ (r : Report). HasTakenKept r (g.T.LineTaker.has_taken c.line-in-Ok-Some.new.self) (g.T.LineTaker.has_taken c.take_ready.new.taker) c.next.new.self c.take_ready.new.lines)
+          (subst (λ (r : Report). HasTakenKept r (g.T.LineTaker.has_taken c.line-in-Ok-Some.new.self) (g.T.LineTaker.has_taken c.take_ready.new.taker) c.next.new.self c.take_ready.new.lines c.pass_on_piece.new.buffer.items c.take_ready.new.buffer.items)
           (taken.report ∙ held.report) ready.taken);
       files = next.files ∙ held.files;
       current = next.current ∙ held.current;

@@ -1,13 +1,11 @@
-use Rattle.std.proofs.Common.{arith, ◌≡◌, ◌^◌, ◌<◌, ◌≤◌, Err, None, sym, ap, subst, ◌∙◌}
+use Rattle.std.proofs.Common.{arith, Err, sym, ap, subst, ◌∙◌}
 use Rattle.std.proofs.lemmas.Option.{none-some, same_Some}
-use Rattle.dhat_json.specs.declared.profile.Dhat.{Dhat}
 use Rattle.massif_file.specs.declared.profile.Profile.{Profile}
 use Rattle.massif_file.specs.IsWritable.{IsWritable}
 use Rattle.convert.specs.declared.fault.ConvertFault.TheVariants.{NoFigures, TooLarge}
 use Rattle.convert.specs.AreTreeSums.{HaveTreeSums}
-use Rattle.convert.specs.ConvertFault.{converted_fault}
 use Rattle.convert.proofs.Faults.{all-small, large-end, large-peak, late-end, no-lives}
-use Rattle.convert.proofs.Writable.{AreLaws, AreSmall, converted-sums, converted-writable}
+use Rattle.convert.proofs.Writable.{converted-sums, converted-writable}
 use Rattle.convert.proofs.converted.massif_of_dhat.Goals as goal
 
 pub returns-then-not-dhat-clause-fault : goal.returns-then-not-dhat-clause-fault

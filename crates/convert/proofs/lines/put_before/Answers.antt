@@ -2,7 +2,7 @@ use Rattle.std.proofs.Common.{ℕ, ◌-◌, List, ◌++◌, drop, get_or, refl, 
 use Rattle.std.specs.Prelude.{codes}
 use Rattle.hp_num.proofs.Laws.{extends_more, extends_same, extends_trans}
 use Rattle.convert.specs.Folded.{folded_name}
-use Rattle.convert.specs.Numbers.{text_at}
+use Rattle.cost_tree.specs.Texts.{text_of}
 use Rattle.convert.proofs.Appends.{appended-more, appended-none}
 use Rattle.convert.proofs.LineTexts.{later-more, later-none, later_texts}
 use Rattle.convert.proofs.lines.put_before.Goals as goal
@@ -18,7 +18,7 @@ each_text-preserved c =
     let names = c.args.names.now in
     let before = c.args.before.now in
     let place = c.each_text.place in
-    let name : List ℕ = folded_name (text_at names (get_or before (place - 1) 0)) in
+    let name : List ℕ = folded_name (text_of names (get_or before (place - 1) 0)) in
     let written = appended-more c.args.out.now.items c.each_text.out.items c.put_name.new.out.items (later_texts names (drop place before)) (codes ";" ++ name) _
     c.each_text.invariant.written
     (c.in_ok-put_name.ensures.appended ∙ ap (λ (bytes : List ℕ). bytes ++ name) c.in_ok-put_bytes.ensures.appended ∙ append_assoc c.each_text.out.items (codes ";") name)

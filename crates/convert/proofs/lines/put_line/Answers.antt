@@ -1,7 +1,7 @@
 use Rattle.std.specs.Prelude.{codes, decimal}
 use Rattle.std.proofs.lemmas.Result.{on_ok_weaker}
 use Rattle.convert.specs.Folded.{folded_line, folded_path}
-use Rattle.convert.specs.Numbers.{texts_at}
+use Rattle.cost_tree.specs.Texts.{texts_of}
 use Rattle.convert.proofs.Appends.{four-appended}
 use Rattle.convert.proofs.lines.put_line.Goals as goal
 
@@ -10,6 +10,6 @@ unfolding folded_line
 returns-clause-appended c =
     on_ok_weaker c.put_bytes-2.result
     (λ added. four-appended c.args.out.now.items c.put_path.new.out.items c.put_bytes.new.out.items c.put_dec.new.out.items c.put_bytes-2.new.out.items
-    (folded_path (texts_at c.args.names.now c.args.list.now)) (codes " ") (decimal c.args.sum) (codes "\n")
+    (folded_path (texts_of c.args.names.now c.args.list.now)) (codes " ") (decimal c.args.sum) (codes "\n")
     c.in_ok-put_path.ensures.appended c.in_ok-put_bytes.ensures.appended c.in_ok-put_dec.ensures.appended added)
     c.put_bytes-2.ensures.appended

@@ -6,7 +6,9 @@ use Rattle.cost_tree.proofs.Laws.{take-next}
 use Rattle.dhat_json.specs.Shown.{shown}
 use Rattle.massif_file.specs.declared.profile.TreeLine.{TreeLine}
 use Rattle.convert.specs.declared.path.Level.{Level}
-use Rattle.convert.specs.Numbers.{AreNumbers, AreSums, IsNumber, texts_at}
+use Rattle.cost_tree.specs.Texts.{IsText, texts_of}
+use Rattle.dhat_view.specs.Numbers.{AreNumbers}
+use Rattle.convert.specs.Numbers.{AreSums}
 use Rattle.convert.specs.TreeItems.{tree_items}
 use Rattle.convert.proofs.Walks.{IsAt, at-begin, items-count, next-line, next-within}
 use Rattle.convert.proofs.massif.add_lines.Goals as goal
@@ -30,7 +32,7 @@ add-requires-clause-held c =
     c.each_line.invariant.walk c.at.ensures.item c.in_ok-enter.ensures.entered c.each_line.invariant.numbers c.requires.left (let all = c.len-place-end.ensures.length in let count = c.requires.count in omega arith)
     (let all = c.len-place-end.ensures.length in let count = c.requires.left_count in omega arith) in
     let list = c.deref-in-each_line.ensures.value ∙ c.in_ok-labels_into.ensures.labels ∙ ap (λ (ls : List Level). drop 1 (map (λ (level : Level). level.label) ls)) c.deref.ensures.value in
-    subst (All (IsNumber c.each_line.sums.names)) (sym list) next.held
+    subst (All (IsText c.each_line.sums.names)) (sym list) next.held
 
 pub each_line-preserved : goal.each_line-preserved
 each_line-preserved c =
@@ -45,12 +47,12 @@ each_line-preserved c =
     (let all = c.len-place-end.ensures.length in let count = c.requires.left_count in omega arith) in
     let list = c.deref-in-each_line.ensures.value ∙ c.in_ok-labels_into.ensures.labels ∙ ap (λ (ls : List Level). drop 1 (map (λ (level : Level). level.label) ls)) c.deref.ensures.value in
     let items : List Costed = tree_items tree in
-    let item : Costed = record { texts = texts_at names (drop 1 (map (λ (level : Level). level.label) levels)); cost = number } in
+    let item : Costed = record { texts = texts_of names (drop 1 (map (λ (level : Level). level.label) levels)); cost = number } in
     record {
       numbers = subst (λ (ns : List (List ℕ)). AreNumbers ns c.args.numbers.now (map (λ (line : TreeLine). shown line.label) tree)) (sym c.in_ok-add.ensures.names) c.each_line.invariant.numbers;
       walk = subst (λ (ns : List (List ℕ)). IsAt ns tree levels (place + 1)) (sym c.in_ok-add.ensures.names) next.at;
       sums = subst (AreSums new.names new.lists.keys new.sums.items)
-          (ap (λ (ns : List ℕ). take place items ++ record { texts = texts_at names ns; cost = number } ∷ []) list ∙ sym (take-next items place item next.item))
+          (ap (λ (ns : List ℕ). take place items ++ record { texts = texts_of names ns; cost = number } ∷ []) list ∙ sym (take-next items place item next.item))
           (c.in_ok-add.ensures.added (take place items) c.each_line.invariant.sums);
     }
 

@@ -1,6 +1,7 @@
 use Rattle.std.proofs.Common.{map, take}
 use Rattle.dhat_json.specs.Shown.{shown}
-use Rattle.convert.specs.Numbers.{AreNumbers, AreSums}
+use Rattle.dhat_view.specs.Numbers.{AreNumbers}
+use Rattle.convert.specs.Numbers.{AreSums}
 use Rattle.convert.specs.TreeItems.{tree_items}
 use Rattle.convert.proofs.Walks.{IsAt}
 use Rattle.convert.proofs.massif.add_lines.Given as goal

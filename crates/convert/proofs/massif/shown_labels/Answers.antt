@@ -1,7 +1,7 @@
 use Rattle.std.proofs.Common.{ℕ, List, [], ◌∷◌, ◌++◌, map, take, ap, sym, ◌∙◌, subst}
 use Rattle.dhat_json.specs.Shown.{shown}
 use Rattle.massif_file.specs.declared.profile.TreeLine.{TreeLine}
-use Rattle.convert.specs.Numbers.{AreNumbers}
+use Rattle.dhat_view.specs.Numbers.{AreNumbers}
 use Rattle.convert.proofs.PointItems.{map-next}
 use Rattle.convert.proofs.massif.shown_labels.Goals as goal
 

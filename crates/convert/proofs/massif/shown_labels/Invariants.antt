@@ -1,7 +1,7 @@
 use Rattle.std.proofs.Common.{map, take}
 use Rattle.dhat_json.specs.Shown.{shown}
 use Rattle.intern_tables.specs.Distinct.{AreDistinct}
-use Rattle.convert.specs.Numbers.{AreNumbers}
+use Rattle.dhat_view.specs.Numbers.{AreNumbers}
 use Rattle.convert.proofs.massif.shown_labels.Given as goal
 
 abbrev pub invariant-each_line : goal.invariant-each_line

@@ -4,8 +4,11 @@ use Rattle.cost_tree.specs.Costed.{Costed}
 use Rattle.dhat_json.specs.Shown.{shown}
 use Rattle.dhat_view.specs.PointFronts as points
 use Rattle.convert.specs.Items.{point_items}
-use Rattle.convert.specs.Numbers.{AreNumbers, AreSums, IsNumber, texts_at}
-use Rattle.convert.proofs.PointItems.{frames-held, item-at, items-all, items-next, items-sum, items-within, list-is, numbered}
+use Rattle.cost_tree.specs.Texts.{IsText, texts_of}
+use Rattle.dhat_view.specs.Numbers.{AreNumbers}
+use Rattle.convert.specs.Numbers.{AreSums}
+use Rattle.dhat_view.proofs.Laws.{frames-numbered, numbers-count}
+use Rattle.convert.proofs.PointItems.{frames-held, item-at, items-all, items-next, items-sum, items-within, list-is}
 use Rattle.convert.proofs.points.point_sums.Goals as goal
 
 pub number_frames-requires : goal.number_frames-requires
@@ -31,8 +34,10 @@ add-requires-clause-held c =
     let numbers : List ℕ = c.in_ok-table.table.numbers.items in
     let fs : List ℕ = c.at.result.now.fs in
     let held = frames-held c.args.dhat.now names numbers c.each_point.place c.at.result.now c.requires.sound c.at.ensures.item c.each_point.invariant.numbers in
-    let are = numbered names numbers fs (map shown c.args.dhat.now.ftbl) c.each_point.invariant.numbers held in
-    subst (All (IsNumber names)) (sym (list-is numbers c.deref.result.now c.number_frames.new.list.items c.deref-in-each_point.result.now fs c.deref.ensures.value c.in_ok-number_frames.ensures.numbered c.deref-in-each_point.ensures.value)) are.held
+    let table : List (List ℕ) = map shown c.args.dhat.now.ftbl in
+    let below = subst (λ (k : ℕ). All (λ frame. frame < k) fs) (numbers-count names numbers table c.each_point.invariant.numbers) held in
+    let are = frames-numbered names numbers table fs c.each_point.invariant.numbers below in
+    subst (All (IsText names)) (sym (list-is numbers c.deref.result.now c.number_frames.new.list.items c.deref-in-each_point.result.now fs c.deref.ensures.value c.in_ok-number_frames.ensures.numbered c.deref-in-each_point.ensures.value)) are.held
 
 pub each_point-preserved : goal.each_point-preserved
 each_point-preserved c =
@@ -46,9 +51,10 @@ each_point-preserved c =
     let item : Costed = record { texts = points.texts_at table fs; cost = c.figure_at.result } in
     let at = item-at c.args.key c.args.dhat.now place c.at.result.now c.figure_at.result c.at.ensures.item c.figure_at.ensures.figure in
     let held = frames-held c.args.dhat.now names numbers place c.at.result.now c.requires.sound c.at.ensures.item c.each_point.invariant.numbers in
-    let are = numbered names numbers fs table c.each_point.invariant.numbers held in
+    let below = subst (λ (k : ℕ). All (λ frame. frame < k) fs) (numbers-count names numbers table c.each_point.invariant.numbers) held in
+    let are = frames-numbered names numbers table fs c.each_point.invariant.numbers below in
     let list = list-is numbers c.deref.result.now c.number_frames.new.list.items c.deref-in-each_point.result.now fs c.deref.ensures.value c.in_ok-number_frames.ensures.numbered c.deref-in-each_point.ensures.value in
-    let texts : texts_at names c.deref-in-each_point.result.now ≡ item.texts = ap (texts_at names) list ∙ are.texts_are in
+    let texts : texts_of names c.deref-in-each_point.result.now ≡ item.texts = ap (texts_of names) list ∙ are.texts_are in
     record {
       numbers = subst (λ (ns : List (List ℕ)). AreNumbers ns numbers table) (sym c.in_ok-add.ensures.names) c.each_point.invariant.numbers;
       sums = subst (AreSums new.names new.lists.keys new.sums.items)

@@ -1,7 +1,8 @@
 use Rattle.std.proofs.Common.{map, take}
 use Rattle.dhat_json.specs.Shown.{shown}
 use Rattle.convert.specs.Items.{point_items}
-use Rattle.convert.specs.Numbers.{AreNumbers, AreSums}
+use Rattle.dhat_view.specs.Numbers.{AreNumbers}
+use Rattle.convert.specs.Numbers.{AreSums}
 use Rattle.convert.proofs.points.point_sums.Given as goal
 
 abbrev pub invariant-each_point : goal.invariant-each_point

@@ -3,8 +3,8 @@ use Rattle.std.specs.Prelude.{OnOk}
 use Rattle.ht_trace.specs.declared.frame.FrameAt.{FrameAt}
 use Rattle.ht_trace.specs.FrameText.{frame_text}
 use Rattle.ht_trace.specs.StackFrames.{stack_frames}
+use Rattle.cost_tree.specs.declared.direction.Direction.TheVariants.{FromAllocation}
 use Rattle.cost_tree.specs.Needed.{LastGains}
-use Rattle.cost_tree.specs.StackTexts.{towards}
 use Rattle.cost_tree.proofs.Needing.{texts-of-first}
 use Rattle.cost_tree.proofs.stack_lists.push_stack.Goals as goal
 
@@ -15,7 +15,7 @@ returns c =
     let text : FrameAt → List ℕ = frame_text form.style tables in
     let frames = c.deref.ensures.value
     ∙ c.truncate.ensures.items
-    ∙ ap (λ (xs : List FrameAt). take form.most xs) (c.turn.ensures ∙ ap (λ (xs : List FrameAt). towards form.direction xs) c.in_ok-frames_into.ensures.of_tables) in
-    let texts = ap (λ (xs : List FrameAt). map text xs) frames ∙ texts-of-first text form.most form.direction (stack_frames tables.instructions tables.nodes c.args.stack) in
+    ∙ ap (λ (xs : List FrameAt). take form.most xs) c.in_ok-frames_into.ensures.of_tables in
+    let texts = ap (λ (xs : List FrameAt). map text xs) frames ∙ texts-of-first text form.most FromAllocation (stack_frames tables.instructions tables.nodes c.args.stack) in
     let P : List (List ℕ) → Type 0 = λ xs. OnOk c.push_texts.result (LastGains c.args.fronts.now xs c.push_texts.new.fronts) in
     record { gained = subst P texts c.push_texts.ensures.gained }

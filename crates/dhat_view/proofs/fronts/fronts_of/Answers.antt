@@ -1,10 +1,15 @@
-use Rattle.std.proofs.Common.{ℕ, List, ap, ◌∙◌}
-use Rattle.std.proofs.lemmas.Result.{IfOk-weaker}
-use Rattle.dhat_view.specs.PointFronts.{lists_in, point_fronts}
+use Rattle.std.proofs.Common.{◌∙◌}
+use Rattle.dhat_view.proofs.Numbering.{sound-texts}
 use Rattle.dhat_view.proofs.fronts.fronts_of.Goals as goal
 
+pub from_parts-requires : goal.from_parts-requires
+from_parts-requires c =
+    let table = c.in_ok-table.table in
+    let is = sound-texts c.args.dhat.now table.names table.numbers.items c.deref.result.now c.in_ok-shape.shape c.requires.sound c.in_ok-table.ensures.numbers c.deref.ensures.value c.in_ok-shape.ensures.shape in
+    record { texts = is.0 }
+
 pub returns : goal.returns
-unfolding point_fronts
-returns c = record {
-  fronts = IfOk-weaker c.fronts_with.result _ _ (λ fronts is. is ∙ ap (λ (table : List (List ℕ)). lists_in table c.args.dhat.now.pps) c.in_ok-table.ensures.shown) c.fronts_with.ensures.fronts;
-}
+returns c =
+    let table = c.in_ok-table.table in
+    let is = sound-texts c.args.dhat.now table.names table.numbers.items c.deref.result.now c.in_ok-shape.shape c.requires.sound c.in_ok-table.ensures.numbers c.deref.ensures.value c.in_ok-shape.ensures.shape in
+    record { fronts = c.from_parts.ensures.lists ∙ is.1 }

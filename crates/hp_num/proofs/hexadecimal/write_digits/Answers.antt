@@ -1,5 +1,5 @@
 -- Each turn writes the last digit of what is left before the digits that stand.
-use Rattle.std.proofs.Common.{◌<◌, ◌++◌, ◌-◌, arith, append-nil, ap, ◌∙◌, length-set, drop_of_length-le}
+use Rattle.std.proofs.Common.{◌<◌, ◌++◌, ◌-◌, arith, ◌∙◌, length-set, drop, refl}
 use Rattle.hp_num.specs.Hexadecimal.{hexadecimal}
 use Rattle.hp_num.proofs.HexSteps.{complete, proceed, length-hexadecimal_front}
 use Rattle.hp_num.proofs.HexTexts.{at_most_16, not_empty}
@@ -7,11 +7,12 @@ use Rattle.hp_num.proofs.hexadecimal.write_digits.Goals as goal
 
 pub digits-init : goal.digits-init
 digits-init c = record {
-  sized = c.told-buffer;
+  sized = refl;
   in_range = omega arith;
   number = omega arith;
-  room = at_most_16 c.args.n (omega arith);
-  same = ap (λ x. hexadecimal c.args.n ++ x) (drop_of_length-le c.args.buffer.now {i = 16} (omega (arith, c.told-buffer))) ∙ append-nil (hexadecimal c.args.n);
+  room = omega (arith, at_most_16 c.args.n (omega arith), c.requires.room);
+  most = omega (arith, at_most_16 c.args.n (omega arith));
+  same = refl;
 }
 
 pub overflow_sub-start : goal.overflow_sub-start
@@ -20,7 +21,7 @@ overflow_sub-start c = omega (arith, c.digits.invariant.room, not_empty c.digits
 pub returns-then-rest-eq0-clause-written : goal.returns-then-rest-eq0-clause-written
 returns-then-rest-eq0-clause-written c =
     let some : 0 < c.digits.start = omega (arith, c.digits.invariant.room, not_empty c.digits.rest c.digits.invariant.number) in
-    complete c.digits.rest c.digits.start c.lower_case_digit.result c.digits.buffer (hexadecimal c.args.n) (omega arith) some (omega arith) c.lower_case_digit.ensures c.digits.invariant.same
+    complete c.digits.rest c.digits.start c.lower_case_digit.result c.digits.buffer (hexadecimal c.args.n ++ drop c.args.end c.args.buffer.now) (omega arith) some (omega arith) c.lower_case_digit.ensures c.digits.invariant.same
 
 pub digits-smaller : goal.digits-smaller
 digits-smaller c = omega (arith, c.digits.invariant.room, not_empty c.digits.rest c.digits.invariant.number)
@@ -33,5 +34,9 @@ digits-preserved c =
       in_range = omega arith;
       number = omega arith;
       room = omega (arith, c.digits.invariant.room, length-hexadecimal_front c.digits.rest (omega arith) c.digits.invariant.number);
-      same = proceed c.digits.rest c.digits.start c.lower_case_digit.result c.digits.buffer (hexadecimal c.args.n) (omega arith) c.digits.invariant.number some (omega arith) c.lower_case_digit.ensures c.digits.invariant.same;
+      most = omega (arith, c.digits.invariant.most, length-hexadecimal_front c.digits.rest (omega arith) c.digits.invariant.number);
+      same = proceed c.digits.rest c.digits.start c.lower_case_digit.result c.digits.buffer (hexadecimal c.args.n ++ drop c.args.end c.args.buffer.now) (omega arith) c.digits.invariant.number some (omega arith) c.lower_case_digit.ensures c.digits.invariant.same;
     }
+
+pub returns-then-rest-eq0-clause-most : goal.returns-then-rest-eq0-clause-most
+returns-then-rest-eq0-clause-most c = omega (arith, c.digits.invariant.most, not_empty c.digits.rest c.digits.invariant.number)

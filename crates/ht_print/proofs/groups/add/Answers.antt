@@ -15,7 +15,7 @@ returns-in_default c =
     ] in
     record {
       added = subst (λ (new : List Group). Adds groups new c.args.place c.args.stack) (sym c.in_ok-push-2.ensures.items)
-          (adds-new groups c.args.place _ c.args.stack last (record { members = c.in_ok-push.ensures.items ∙ ap (λ (es : List Entry). es ++ c.args.stack ∷ []) c.new-members.ensures.items; entry = refl }));
+          (adds-new groups c.args.place _ c.args.stack last (record { members = c.in_ok-push.ensures.items ∙ ap (λ (es : List Entry). es ++ c.args.stack ∷ []) c.in_ok-members.ensures.items; entry = refl }));
     }
 
 pub overflow_add-group : goal.overflow_add-group

@@ -9,10 +9,10 @@ use Rattle.ht_print.proofs.report.put_calls.Goals as goal
 
 pub returns-clause-appended : goal.returns-clause-appended
 returns-clause-appended c =
-    let wanted : c.args.options.now.allocators ≡ true = grind (arith, nat_tests) in
+    let wanted : c.args.layout.now.options.allocators ≡ true = grind (arith, nat_tests) in
     let heading : List ℕ = codes "MOST CALLS TO ALLOCATION FUNCTIONS\n" in
     on_ok_weaker c.put_section.result
     (λ added. added
-    ∙ ap (λ (figures : List ℕ). c.args.out.now.items ++ section_text c.args.options.now c.args.tables.now heading unit.Calls figures) (c.deref.ensures.value ∙ c.in_ok-calls.ensures.costs)
-    ∙ ap (λ (bytes : List ℕ). c.args.out.now.items ++ bytes) (sym (cond-true c.args.options.now.allocators _ [] wanted)))
+    ∙ ap (λ (figures : List ℕ). c.args.out.now.items ++ section_text c.args.layout.now.options c.args.layout.now.tables.now heading unit.Calls figures) (c.deref.ensures.value ∙ c.in_ok-calls.ensures.costs)
+    ∙ ap (λ (bytes : List ℕ). c.args.out.now.items ++ bytes) (sym (cond-true c.args.layout.now.options.allocators _ [] wanted)))
     c.put_section.ensures.appended

@@ -5,17 +5,17 @@ use Rattle.ht_trace.specs.FrameText.{frame_text}
 use Rattle.ht_trace.specs.declared.frame.Style.TheVariants.{Plain}
 use Rattle.ht_print.specs.ReportLines.{figure_text, place_line}
 use Rattle.ht_print.proofs.FlameLemmas.{four-appended}
-use Rattle.ht_print.proofs.ReportLemmas.{place-by}
+use Rattle.ht_print.proofs.ReportLemmas.{place-first}
 use Rattle.ht_print.proofs.report_lines.put_place.Goals as goal
 
 pub returns-clause-appended : goal.returns-clause-appended
 unfolding place_line
 returns-clause-appended c =
-    let text : List ℕ = frame_text Plain c.args.tables.now c.in-Some.innermost.now in
+    let text : List ℕ = frame_text Plain c.args.tables.now c.innermost_frame-innermost.result in
     let figure : List ℕ = figure_text c.args.scale c.args.group.figure in
     on_ok_weaker c.put_bytes-2.result
     (λ added. four-appended c.args.out.now.items c.put.new.out.items c.put_bytes.new.out.items c.put_frame.new.out.items c.put_bytes-2.new.out.items figure (codes " at ") text (codes "\n")
     c.in_ok-put.ensures.appended c.in_ok-put_bytes.ensures.appended c.in_ok-put_frame.ensures.appended added
     ∙ ap (λ (place : List ℕ). c.args.out.now.items ++ (figure ++ (codes " at " ++ (place ++ codes "\n"))))
-    (sym (place-by c.args.tables.now c.args.group.stack c.deref.result.now c.in-Some.innermost.now _ (c.deref.ensures.value ∙ c.in_ok-frames_into.ensures.of_tables) c.in-Some.ensures.cases.0)))
+    (sym (place-first c.args.tables.now c.args.group.stack c.innermost_frame-innermost.result c.innermost_frame-innermost.ensures.first)))
     c.put_bytes-2.ensures.appended

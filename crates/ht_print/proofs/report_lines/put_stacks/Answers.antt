@@ -12,6 +12,6 @@ pub returns-clause-appended : goal.returns-clause-appended
 unfolding unmerged_lines
 returns-clause-appended c =
     on_ok_weaker c.put_left.result
-    (λ added. shown-all (λ (entry : Entry). stack_lines c.args.scale (stack_texts Plain c.args.tables.now entry.stack) entry) c.args.out.now.items c.each_stack.out.items c.put_left.new.out.items (codes "more stacks: ") c.args.stacks.now _ c.each_stack.stack-index c.args.limit _
+    (λ added. shown-all (λ (entry : Entry). stack_lines c.args.scale (stack_texts Plain c.args.layout.now.tables.now entry.stack) entry) c.args.out.now.items c.each_stack.out.items c.put_left.new.out.items (codes "more stacks: ") c.args.stacks.now _ c.each_stack.stack-index c.args.layout.now.options.limit _
     c.each_stack.invariant.written (omega arith) c.split_shown-left.ensures.shown c.split_shown-left.ensures.left added)
     c.put_left.ensures.appended

@@ -7,6 +7,6 @@ use Rattle.ht_print.proofs.section.put_groups.Given as goal
 -- the lines so far
 abbrev pub invariant-each_group : goal.invariant-each_group
 invariant-each_group l = record {
-  written : l.out.items ≡ l.initial.out.items ++ flat_map (shown_group l.tables l.scale l.options.sub_limit) (take l.group-index l.shown);
+  written : l.out.items ≡ l.initial.out.items ++ flat_map (shown_group l.layout.tables.now l.scale l.layout.options.sub_limit) (take l.group-index l.shown);
   kept : Extends l.initial.out.items l.out.items;
 }

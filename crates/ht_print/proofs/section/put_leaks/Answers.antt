@@ -9,11 +9,11 @@ use Rattle.ht_print.proofs.LeakLemmas.{as-many, parts-sum, unsuppressed-count}
 use Rattle.ht_print.proofs.section.put_leaks.Goals as goal
 
 pub unsuppressed-requires-clause-as_many : goal.unsuppressed-requires-clause-as_many
-unsuppressed-requires-clause-as_many c = as-many c.args.tables.now c.args.suppressed.now c.args.live.now c.requires.suppressed c.requires.as_many
+unsuppressed-requires-clause-as_many c = as-many c.args.layout.now.tables.now c.args.suppressed.now c.args.live.now c.requires.suppressed c.requires.as_many
 
 pub put_figures-requires-clause-as_many : goal.put_figures-requires-clause-as_many
 put_figures-requires-clause-as_many c =
-    let same = as-many c.args.tables.now c.args.suppressed.now c.args.live.now c.requires.suppressed c.requires.as_many in
+    let same = as-many c.args.layout.now.tables.now c.args.suppressed.now c.args.live.now c.requires.suppressed c.requires.as_many in
     ap (λ (fs : List ℕ). length fs) (c.deref.ensures.value ∙ c.in_ok-leaks.ensures.figures) ∙ unsuppressed-count c.args.suppressed.now c.args.live.now same ∙ c.requires.as_many
 
 pub put_figures-requires-clause-few : goal.put_figures-requires-clause-few
@@ -25,7 +25,7 @@ put_figures-requires-clause-few c =
 
 pub put_figures-requires-clause-bound : goal.put_figures-requires-clause-bound
 put_figures-requires-clause-bound c =
-    let same = as-many c.args.tables.now c.args.suppressed.now c.args.live.now c.requires.suppressed c.requires.as_many in
+    let same = as-many c.args.layout.now.tables.now c.args.suppressed.now c.args.live.now c.requires.suppressed c.requires.as_many in
     let parts = parts-sum c.args.suppressed.now c.args.live.now same in
     let leaks = ap sum (c.deref.ensures.value ∙ c.in_ok-leaks.ensures.figures) in
     let bound = c.requires.bound in
@@ -37,7 +37,7 @@ returns-in_err-put_figures-clause-kept c =
 
 pub sum_of-requires-2 : goal.sum_of-requires-2
 sum_of-requires-2 c =
-    let same = as-many c.args.tables.now c.args.suppressed.now c.args.live.now c.requires.suppressed c.requires.as_many in
+    let same = as-many c.args.layout.now.tables.now c.args.suppressed.now c.args.live.now c.requires.suppressed c.requires.as_many in
     let parts = parts-sum c.args.suppressed.now c.args.live.now same in
     let leaks = ap sum (c.deref-2.ensures.value ∙ c.in_ok-leaks.ensures.figures) in
     let bound = c.requires.bound in
@@ -45,7 +45,7 @@ sum_of-requires-2 c =
 
 pub overflow_sub-sum_of : goal.overflow_sub-sum_of
 overflow_sub-sum_of c =
-    let same = as-many c.args.tables.now c.args.suppressed.now c.args.live.now c.requires.suppressed c.requires.as_many in
+    let same = as-many c.args.layout.now.tables.now c.args.suppressed.now c.args.live.now c.requires.suppressed c.requires.as_many in
     let parts = parts-sum c.args.suppressed.now c.args.live.now same in
     let leaks = ap sum (c.deref-2.ensures.value ∙ c.in_ok-leaks.ensures.figures) in
     let all = c.sum_of.ensures in
@@ -63,8 +63,8 @@ pub returns-clause-appended : goal.returns-clause-appended
 unfolding leaks_text
 returns-clause-appended c =
     let out : List ℕ = c.args.out.now.items in
-    let options = c.args.options.now in
-    let tables = c.args.tables.now in
+    let options = c.args.layout.now.options in
+    let tables = c.args.layout.now.tables.now in
     let live : List ℕ = c.args.live.now in
     let suppressed : List Bool = c.args.suppressed.now in
     let same = as-many tables suppressed live c.requires.suppressed c.requires.as_many in

@@ -1,20 +1,25 @@
-use Rattle.std.proofs.Common.{◌≡◌, ◌∙◌, List, Bool, ap, sym}
-use Rattle.std.specs.List.{list_any}
-use Rattle.std.proofs.lemmas.Result.{IfOk-weaker}
-use Rattle.ht_trace.specs.declared.frame.FrameAt.{FrameAt}
-use Rattle.ht_trace.specs.FrameText.{frame_text}
-use Rattle.ht_trace.specs.declared.frame.Style.TheVariants.{Plain}
-use Rattle.ht_print.specs.Suppressed.{is_suppressed, meets_any}
-use Rattle.ht_print.proofs.Searches.{any-map, none-met}
+use Rattle.std.proofs.Common.{Bool, List, length, sym, ap, ◌∙◌, arith}
+use Rattle.std.proofs.lemmas.List.FromFn.{length-map-range_with_len}
+use Rattle.ht_print.specs.MetFrames.{meets_instruction}
+use Rattle.ht_print.specs.Suppressed.{is_suppressed}
+use Rattle.ht_print.proofs.Searches.{by-caller, by-instruction, by-none}
 use Rattle.ht_print.proofs.suppressed.is_suppressed.Goals as goal
 
-pub returns-then-suppressions-eq0 : goal.returns-then-suppressions-eq0
-returns-then-suppressions-eq0 c = sym (none-met c.args.tables.now.patterns _ (sym c.suppressions.ensures.count ∙ c.if-suppressions-eq0.true))
+pub index-requires : goal.index-requires
+index-requires c =
+    let count = ap (λ (bs : List Bool). length bs) c.requires.met.instructions ∙ length-map-range_with_len (meets_instruction c.args.tables.now) 0 _ in
+    omega (arith, count, c.in-Some.ensures.instruction)
+
+pub returns-then-index : goal.returns-then-index
+returns-then-index c = by-instruction c.args.tables.now c.args.met.now c.args.stack c.in-Some.instruction c.in-Some.caller _ c.requires.met c.in-Some.ensures.instruction c.in-Some.ensures.frames (sym c.index.ensures ∙ c.if-index.true)
+
+pub returns-then-caller-eq0 : goal.returns-then-caller-eq0
+returns-then-caller-eq0 c = by-none c.args.tables.now c.args.met.now c.args.stack c.in-Some.instruction c.in-Some.caller _ c.requires.met c.in-Some.ensures.instruction c.in-Some.ensures.frames (sym c.index.ensures ∙ c.if-index.false) c.if-caller-eq0.true
+
+pub bounds-before-caller : goal.bounds-before-caller
+bounds-before-caller c =
+    let count = ap (λ (bs : List Bool). length bs) c.requires.before ∙ length-map-range_with_len (is_suppressed c.args.tables.now) 0 c.args.stack in
+    omega (arith, count, c.in-Some.ensures.lower)
 
 pub returns : goal.returns
-returns c =
-    IfOk-weaker c.any_is_suppressed.result (λ (answer : Bool). answer ≡ list_any (λ (at : FrameAt). meets_any c.args.tables.now.patterns (frame_text Plain c.args.tables.now at)) c.deref.result.now) (λ (answer : Bool). answer ≡ is_suppressed c.args.tables.now c.args.stack)
-    (λ answer is.
-    is ∙ ap (λ (frames : List FrameAt). list_any (λ (at : FrameAt). meets_any c.args.tables.now.patterns (frame_text Plain c.args.tables.now at)) frames) (c.deref.ensures.value ∙ c.in_ok-frames_into.ensures.of_tables)
-    ∙ sym (any-map (meets_any c.args.tables.now.patterns) (frame_text Plain c.args.tables.now) _))
-    c.any_is_suppressed.ensures
+returns c = by-caller c.args.tables.now c.args.met.now c.args.before.now c.args.stack c.in-Some.instruction c.in-Some.caller _ c.requires.met c.in-Some.ensures.instruction c.in-Some.ensures.frames (sym c.index.ensures ∙ c.if-index.false) c.if-caller-eq0.false c.in-Some.ensures.lower c.requires.before

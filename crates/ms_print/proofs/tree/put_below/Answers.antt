@@ -10,4 +10,4 @@ returns-then-not-is_empty-clause-appended c =
     let some : 0 < length c.children_into.new.children.items = grind (arith, nat_tests) in
     sym (append-nil c.args.out.now.items)
     ∙ ap (λ (text : List ℕ). c.args.out.now.items ++ text)
-    (sym (roots-blank c.args.scale c.args.tree.now (length c.args.prefix.now) c.children_into.new.children.items (entry_children c.args.scale c.args.tree.now c.args.entry) c.args.prefix.now c.in_ok-children_into.ensures.roots some))
+    (sym (roots-blank c.args.view.now.scale c.args.view.now.tree.now (length c.args.prefix.now) c.children_into.new.children.items (entry_children c.args.view.now.scale c.args.view.now.tree.now c.args.entry) c.args.prefix.now c.in_ok-children_into.ensures.roots some))

@@ -50,7 +50,7 @@ children-left c = children-first c.pop.new.self.items c.push_reversed-in-Some.ne
 
 children-roots : (c : In_ok-push_reversed-2) → AreRoots c.args.scale c.args.tree.now (length c.put_bytes.new.out.items) c.put_below.new.children.items (entry_children c.args.scale c.args.tree.now c.in-Some.next.entry)
 children-roots c =
-    subst (λ (prefix : List ℕ). AreRoots c.args.scale c.args.tree.now (length prefix) c.put_below.new.children.items (entry_children c.args.scale c.args.tree.now c.in-Some.next.entry)) c.deref-in-Some-4.ensures.value c.in_ok-put_below.ensures.roots
+    subst (λ (prefix : List ℕ). AreRoots c.args.scale c.args.tree.now (length prefix) c.put_below.new.children.items (entry_children c.args.scale c.args.tree.now c.in-Some.next.entry)) c.deref-in-Some-3.ensures.value c.in_ok-put_below.ensures.roots
 
 pub each_entry-smaller : goal.each_entry-smaller
 each_entry-smaller c =
@@ -74,7 +74,7 @@ each_entry-preserved c =
     c.in_ok-put_line.ensures.appended
     ∙ ap (λ (prefix : List ℕ). c.each_entry.out.items ++ entry_line scale prefix (entry_bytes tree next.entry) (entry_label scale tree next.entry)) (c.deref-in-Some.ensures.value ∙ c.truncate.ensures.items) in
     let blanked : c.put_below.new.out.items ≡ c.put_line.new.out.items ++ blank_below (entry_children scale tree next.entry) c.put_bytes.new.out.items =
-    c.in_ok-put_below.ensures.appended ∙ ap (λ (prefix : List ℕ). c.put_line.new.out.items ++ blank_below (entry_children scale tree next.entry) prefix) c.deref-in-Some-4.ensures.value in
+    c.in_ok-put_below.ensures.appended ∙ ap (λ (prefix : List ℕ). c.put_line.new.out.items ++ blank_below (entry_children scale tree next.entry) prefix) c.deref-in-Some-3.ensures.value in
     let step = left-step scale tree c.each_entry.prefix.items next (reverse c.pop.new.self.items) c.put_below.new.children.items c.each_entry.out.items c.put_line.new.out.items c.put_below.new.out.items whole c.put_bytes.new.out.items
     (next-left (goal.at.each_entry-preserved c).In-Some) after lined blanked (children-roots (goal.at.each_entry-preserved c).In_ok-push_reversed-2) in
     record {

@@ -1,6 +1,8 @@
 use Rattle.std.proofs.Common.{◌≡◌, ℕ, ◌+◌, List, length, take, Option, Some, sym, ap, ◌∙◌, subst, arith}
 use Rattle.std.specs.Prelude.{option_map, slice_get, slice_index_or}
 use Rattle.record_scripts.specs.declared.script_line.ScriptLine.{ScriptLine}
+use Rattle.stack_table.specs.Stack.{stack}
+use Rattle.record_scripts.specs.ScriptNodes.{nodes_in}
 use Rattle.record_scripts.specs.ScriptTurns.{turn_said}
 use Rattle.record_scripts.specs.Turns.{script_at}
 use Rattle.record_book.specs.Actions.{Action, actions}
@@ -8,6 +10,7 @@ use Rattle.record_book.specs.StreamState.{done_at}
 use Rattle.record_book.specs.TallyState.{IsTally}
 use Rattle.record_book.proofs.StreamLemmas.{length-slice_set, length-zeros, place-is, zero-at}
 use Rattle.record_book.proofs.OrderLemmas.{actions-none}
+use Rattle.record_book.proofs.MapLemmas.{said_in}
 use Rattle.record_book.proofs.SameLemmas.{place-few}
 use Rattle.record_book.proofs.TallyOrders.{at-place, entry-there, taken-none, turn-there, walk-next}
 use Rattle.record_book.proofs.summary.tally_order.Goals as goal
@@ -31,8 +34,8 @@ index-place-requires c =
     let there = entry-there c.args.job.now.scripts order c.entries.entry (slice_index_or order c.entries.entry 0) c.requires.under (at-place order c.entries.entry c.entries-test.true) in
     omega (arith, there, c.entries.invariant.threads)
 
-pub turn_into-requires : goal.turn_into-requires
-turn_into-requires c =
+pub turn-requires : goal.turn-requires
+turn-requires c =
     let order = c.args.order.now in
     entry-there c.args.job.now.scripts order c.entries.entry (slice_index_or order c.entries.entry 0) c.requires.under (at-place order c.entries.entry c.entries-test.true)
 
@@ -45,14 +48,14 @@ unreachable-requires c =
     let there = entry-there scripts order c.entries.entry thread c.requires.under at in
     let here = place-is c.entries.done.items thread c.index-place.result.now (omega (arith, there, c.entries.invariant.threads)) c.index-place.ensures in
     turn-there scripts order c.entries.done.items c.entries.entry thread c.requires.under c.entries.invariant.taken at
-    (ap (λ (n : ℕ). slice_get (script_at scripts thread) n) here ∙ c.in_ok-turn.ensures.turn
-    ∙ ap (λ (found : Option ScriptLine). option_map (λ turn. turn_said turn c.turn_into.new.ips.items) found) c.in_default.is)
+    (ap (λ (n : ℕ). slice_get (script_at scripts thread) n) here ∙ c.turn.ensures.turn
+    ∙ ap (λ (found : Option (ScriptLine × ℕ)). option_map (said_in c.args.job.now.scripts) found) c.in_default.is)
 
 pub overflow_add-place : goal.overflow_add-place
 overflow_add-place c =
-    let ips = c.turn_into.new.ips.items in
+    let ips = (stack (nodes_in c.args.job.now.scripts) c.in-Some._node) in
     let few = place-few c.args.job.now.scripts (slice_index_or c.args.order.now c.entries.entry 0) c.index-place.result.now (turn_said c.in-Some.turn ips)
-    (c.in_ok-turn.ensures.turn ∙ ap (λ (found : Option ScriptLine). option_map (λ turn. turn_said turn ips) found) c.in-Some.is) c.in_ok-turn.ensures.few_events in
+    (c.turn.ensures.turn ∙ ap (λ (found : Option (ScriptLine × ℕ)). option_map (said_in c.args.job.now.scripts) found) c.in-Some.is) c.turn.ensures.few_events in
     omega (arith, few)
 
 pub index_mut-requires : goal.index_mut-requires
@@ -62,7 +65,7 @@ index_mut-requires c =
     omega (arith, there, c.entries.invariant.threads)
 
 pub overflow_add-entry : goal.overflow_add-entry
-overflow_add-entry c = omega (arith, c.entries-test.true, c.requires.few, c.in_ok-turn.ensures.few_events, c.entry_count-entry.ensures.few)
+overflow_add-entry c = omega (arith, c.entries-test.true, c.requires.few, c.turn.ensures.few_events, c.entry_count-entry.ensures.few)
 
 pub entries-smaller : goal.entries-smaller
 entries-smaller c = omega (arith, c.entries-test.true, c.entry_count-entry.ensures.some)
@@ -74,13 +77,13 @@ entries-preserved c =
     let scripts = c.args.job.now.scripts in
     let thread = slice_index_or order c.entries.entry 0 in
     let place = c.index-place.result.now in
-    let ips = c.turn_into.new.ips.items in
+    let ips = (stack (nodes_in c.args.job.now.scripts) c.in-Some._node) in
     let said = turn_said c.in-Some.turn ips in
     let at = at-place order c.entries.entry c.entries-test.true in
     let there = entry-there scripts order c.entries.entry thread c.requires.under at in
     let here = place-is c.entries.done.items thread place (omega (arith, there, before.threads)) c.index-place.ensures in
     let found : slice_get (script_at scripts thread) place ≡ Some said =
-    c.in_ok-turn.ensures.turn ∙ ap (λ (found : Option ScriptLine). option_map (λ turn. turn_said turn ips) found) c.in-Some.is in
+    c.turn.ensures.turn ∙ ap (λ (found : Option (ScriptLine × ℕ)). option_map (said_in c.args.job.now.scripts) found) c.in-Some.is in
     let step = walk-next scripts order c.entries.done.items c.entries.entry c.entry_count-entry.result thread place said c.requires.under before.taken c.entries-test.true before.threads at here found
     (c.entry_count-entry.ensures.entries thread ips) in
     record {

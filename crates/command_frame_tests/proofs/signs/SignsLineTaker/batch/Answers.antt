@@ -1,4 +1,4 @@
-use Rattle.std.proofs.Common.{◌≢◌, ◌+◌, [], ◌∷◌, arith, ap, refl, ◌∙◌, take, length-append}
+use Rattle.std.proofs.Common.{◌≢◌, ◌+◌, [], ◌∷◌, arith, ap, refl, ◌∙◌, take, length-append, append-nil, sym}
 use Rattle.std.proofs.lemmas.List.Elements.{All-cons, All-nil}
 use Rattle.command_frame.specs.Batch.{IsShortLine}
 use Rattle.hp_outside.specs.WholeLines.{IsLineText}
@@ -17,7 +17,8 @@ returns-then-begins_with_signs-clause-taken c = record {
   short = All-cons IsShortLine (43 ∷ []) ((43 ∷ []) ∷ []) sign_is_short (All-cons IsShortLine (43 ∷ []) [] sign_is_short (All-nil IsShortLine));
   text = ap (take 4) (c.begins_with_signs.ensures c.if-begins_with_signs.true);
   count = refl;
-  silent = λ earlier old. (refl, refl, (refl, refl, tt));
+  good = λ earlier old. (refl, (refl, tt));
+  gained = λ earlier old. sym (append-nil c.args._output.now.items);
   taken = λ earlier old. length-append earlier ((43 ∷ []) ∷ (43 ∷ []) ∷ []) ∙ ap (λ n. n + 2) old;
 }
 
@@ -28,6 +29,7 @@ returns-clause-taken c = record {
   short = All-nil IsShortLine;
   text = refl;
   count = refl;
-  silent = λ earlier old. tt;
+  good = λ earlier old. tt;
+  gained = λ earlier old. sym (append-nil c.args._output.now.items);
   taken = λ earlier old. length-append earlier [] ∙ omega (arith, old);
 }

@@ -26,7 +26,7 @@ returns-in-Ok-clause-taken g c =
           let at = at_some _ c.in-Some.sampler _ c.in-Some.is has.1 in
           passed_line settings earlier front.line tables event front.passes has.0
           ∙ ap event_told (fault_by_options _ settings tables (events earlier) event _ sound.2.options (after.fault settings.names (events earlier) at.sampling at.ledger_of));
-      no_gain = λ earlier. refl;
+      gained = λ earlier has. refl;
       taken = λ earlier has.
           let at = at_some _ c.in-Some.sampler _ c.in-Some.is has.1 in
           let more = sym (front.passes.events [] earlier has.0) in (
@@ -58,6 +58,6 @@ returns-in-Err-NoMemory-clause-taken g c =
           passed_line settings earlier front.line tables event front.passes has.0
           ∙ ap event_told (fault_by_options _ settings tables (events earlier) event _ sound.2.options
           (known_fault _ sample.NoMemory _ c.in-Err-NoMemory.field-0-is (c.in-Err-NoMemory.ensures.fault settings.names (events earlier) at.sampling at.ledger_of)));
-      no_gain = λ earlier. refl;
+      gained = λ earlier has. refl;
       taken = λ earlier has. (front.passes.stands [] earlier has.0, tt);
     }

@@ -1,50 +1,39 @@
-use Rattle.std.proofs.Common.{ℕ, List, [], ◌∷◌, ◌++◌, ap, ◌∙◌}
-use Rattle.std.proofs.lemmas.List.Elements.{All-nil, All-cons}
-use Rattle.std.proofs.lemmas.Result.{err_from_is_err_and}
-use Rattle.cost_tree.specs.Texts.{IsText}
-use Rattle.cost_tree.proofs.Listing.{Pushed-is, lists_of-last, lists_of-kept, text-named}
+use Rattle.std.proofs.Common.{ℕ, List, length, ap, ◌∙◌, arith}
+use Rattle.std.proofs.lemmas.List.{length-map}
+use Rattle.std.proofs.lemmas.Result.{on_err_weaker, on_ok_weaker}
+use Rattle.cost_tree.specs.Texts.{lists_of, texts_of}
+use Rattle.cost_tree.proofs.Listing.{lists-kept, lists-last, texts-grown, texts-pushed}
 use Rattle.cost_tree.proofs.fronts.Fronts.push.Goals as goal
-
-pub invariant_of-self-in_err-push_last : goal.invariant_of-self-in_err-push_last
-invariant_of-self-in_err-push_last c =
-    let is = c.in_ok-number.ensures in
-    let pushed = Pushed-is c.self.inside.names c.intern.new.self c.self.inside.lists.items c.push_last.new.lists.items c.args.self.now []
-    c.self.view_is c.requires.begun c.self.invariant is.none_lost is.names_stay (All-nil (IsText c.intern.new.self)) c.in_err-push_last.ensures.kept in
-    pushed.are
-
-pub returns-in_err-push_last-clause-unchanged : goal.returns-in_err-push_last-clause-unchanged
-returns-in_err-push_last-clause-unchanged c =
-    let is = c.in_ok-number.ensures in
-    let pushed = Pushed-is c.self.inside.names c.intern.new.self c.self.inside.lists.items c.push_last.new.lists.items c.args.self.now []
-    c.self.view_is c.requires.begun c.self.invariant is.none_lost is.names_stay (All-nil (IsText c.intern.new.self)) c.in_err-push_last.ensures.kept in
-    let p = err_from_is_err_and c.from_residual-in_err-push_last.result c.from_residual-in_err-push_last.ensures.1 in
-    rw p.1 (lists_of-kept c.intern.new.self c.self.inside.lists.items c.push_last.new.lists.items pushed.some pushed.becomes ∙ pushed.same)
 
 pub invariant_of-self-2 : goal.invariant_of-self-2
 invariant_of-self-2 c =
+    let names = c.self.inside.names in
+    let new = c.intern.new.self in
+    let shape = c.self.inside.shape in
     let is = c.in_ok-number.ensures in
-    let pushed = Pushed-is c.self.inside.names c.intern.new.self c.self.inside.lists.items c.push_last.new.lists.items c.args.self.now (c.in_ok-number.number ∷ [])
-    c.self.view_is c.requires.begun c.self.invariant is.none_lost is.names_stay (All-cons (IsText c.intern.new.self) c.in_ok-number.number [] is.within (All-nil (IsText c.intern.new.self))) c.in_ok-push_last.ensures.pushed in
-    pushed.are
+    texts-pushed c.push.result new shape c.push.new.self c.in_ok-number.number (texts-grown names new shape is.none_lost c.self.invariant) is.within
+    (let seen = ap (λ (lists : List (List (List ℕ))). length lists) c.self.view_is in let count = length-map shape (texts_of names) in omega (arith, c.requires.begun))
+    c.push.ensures.appended c.push.ensures.unchanged
 
 pub returns-clause-appended : goal.returns-clause-appended
-returns-clause-appended c = λ earlier last same.
+returns-clause-appended c =
+    let names = c.self.inside.names in
+    let new = c.intern.new.self in
+    let shape = c.self.inside.shape in
     let is = c.in_ok-number.ensures in
-    let pushed = Pushed-is c.self.inside.names c.intern.new.self c.self.inside.lists.items c.push_last.new.lists.items c.args.self.now (c.in_ok-number.number ∷ [])
-    c.self.view_is c.requires.begun c.self.invariant is.none_lost is.names_stay (All-cons (IsText c.intern.new.self) c.in_ok-number.number [] is.within (All-nil (IsText c.intern.new.self))) c.in_ok-push_last.ensures.pushed in
-    lists_of-last c.intern.new.self c.self.inside.lists.items c.push_last.new.lists.items (c.in_ok-number.number ∷ []) earlier last pushed.some pushed.becomes (pushed.same ∙ same)
-    ∙ ap (λ (text : List ℕ). earlier ++ (last ++ text ∷ []) ∷ []) (text-named c.intern.new.self c.in_ok-number.number c.args.text.now is.name)
+    on_ok_weaker c.push.result
+    (λ gains earlier last front.
+    lists-last new shape c.push.new.self c.in_ok-number.number c.args.text.now earlier last
+    (let seen = ap (λ (lists : List (List (List ℕ))). length lists) c.self.view_is in let count = length-map shape (texts_of names) in omega (arith, c.requires.begun))
+    is.name gains (lists-kept names new shape is.names_stay c.self.invariant ∙ c.self.view_is ∙ front))
+    c.push.ensures.appended
 
-pub returns-in_err-push_last-clause-count : goal.returns-in_err-push_last-clause-count
-returns-in_err-push_last-clause-count c =
+pub returns-clause-unchanged : goal.returns-clause-unchanged
+returns-clause-unchanged c =
+    let names = c.self.inside.names in
+    let new = c.intern.new.self in
+    let shape = c.self.inside.shape in
     let is = c.in_ok-number.ensures in
-    let pushed = Pushed-is c.self.inside.names c.intern.new.self c.self.inside.lists.items c.push_last.new.lists.items c.args.self.now []
-    c.self.view_is c.requires.begun c.self.invariant is.none_lost is.names_stay (All-nil (IsText c.intern.new.self)) c.in_err-push_last.ensures.kept in
-    pushed.count
-
-pub returns-clause-count : goal.returns-clause-count
-returns-clause-count c =
-    let is = c.in_ok-number.ensures in
-    let pushed = Pushed-is c.self.inside.names c.intern.new.self c.self.inside.lists.items c.push_last.new.lists.items c.args.self.now (c.in_ok-number.number ∷ [])
-    c.self.view_is c.requires.begun c.self.invariant is.none_lost is.names_stay (All-cons (IsText c.intern.new.self) c.in_ok-number.number [] is.within (All-nil (IsText c.intern.new.self))) c.in_ok-push_last.ensures.pushed in
-    pushed.count
+    on_err_weaker c.push.result
+    (λ same. ap (λ (lists : List (List ℕ)). lists_of new lists) same ∙ lists-kept names new shape is.names_stay c.self.invariant ∙ c.self.view_is)
+    c.push.ensures.unchanged

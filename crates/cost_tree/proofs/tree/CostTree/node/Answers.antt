@@ -1,5 +1,6 @@
 use Rattle.std.proofs.Common.{length, ap, refl, arith}
 use Rattle.std.proofs.lemmas.Option.{slice_get_read}
+use Rattle.cost_tree.specs.HeldNames.{names_in}
 use Rattle.cost_tree.specs.Texts.{fronts_of}
 use Rattle.cost_tree.specs.TreeState.{TreeState}
 use Rattle.cost_tree.proofs.Trees.{HasEdge-is}
@@ -10,5 +11,5 @@ returns-clause-lower c = λ above.
     let tree = c.self.inside in
     let count = ap (λ (t : TreeState). length t.nodes) c.self.view_is in
     let at = slice_get_read tree.nodes.items (length tree.nodes.items) c.args.n c.index.result.now refl (omega arith) c.index.ensures in
-    let edge = HasEdge-is tree.names tree.edges.keys tree.nodes.items (fronts_of tree.names tree.edges.keys) c.args.n c.index.result.now c.self.invariant.branches above at in
+    let edge = HasEdge-is (names_in tree.names) tree.edges.items tree.nodes.items (fronts_of (names_in tree.names) tree.edges.items) c.args.n c.index.result.now c.self.invariant.branches above at in
     edge.lower

@@ -1,4 +1,5 @@
 use Rattle.std.proofs.Common.{refl}
+use Rattle.std.specs.Prelude.{unwrap_or}
 use Rattle.std.proofs.lemmas.Result.{err_from_is_err_and}
 use Rattle.interpret.proofs.TakeLemmas.{new-ip, takes-held, takes-new, refuses-held, refuses-new}
 use Rattle.interpret.proofs.interpreter.Interpreter.add_node.Goals as goal
@@ -7,12 +8,12 @@ pub returns-in_err-add_held_node-clause-refuses : goal.returns-in_err-add_held_n
 returns-in_err-add_held_node-clause-refuses c =
     let p = err_from_is_err_and c.from_residual.result c.from_residual.ensures.1 in
     rw (p.1, p.2, ← c.self.view_is) (refuses-held _ _ c.args.ip c.args.parent c.in-Some.instruction.number c.in-Some.instruction.frames c.in_err-add_held_node.field-0.0 c.self.invariant c.in-Some.ensures.some c.in-Some.ensures.number c.in-Some.ensures.frames
-    c.in_err-add_held_node.ensures.fault (λ other. rw (c.in_err-add_held_node.ensures.unchanged other) refl) refl refl)
+    c.in_err-add_held_node.ensures.fault (λ other. rw c.in_err-add_held_node.ensures.unchanged refl) refl refl)
 
 pub returns-in-Some-clause-takes : goal.returns-in-Some-clause-takes
 returns-in-Some-clause-takes c =
-    rw (← c.self.view_is) (λ line. takes-held _ c.add_held_node.new.nodes c.args.ip c.args.parent c.in-Some.instruction.number c.in-Some.instruction.frames c.unwrap_or-version.result line _ _ c.self.invariant c.unwrap_or-version.ensures
-    c.in-Some.ensures.some c.in-Some.ensures.number c.in-Some.ensures.frames c.in_ok-add_held_node.ensures.added c.in_ok-add_held_node.ensures.lines c.in_ok-add_held_node.ensures.no_fault)
+    rw (← c.self.view_is) (λ line. takes-held _ c.add_held_node.new.nodes c.args.ip c.args.parent c.in-Some.instruction.number c.in-Some.instruction.frames (unwrap_or c.self.inside.version 1) line _ _ c.self.invariant refl
+    c.in-Some.ensures.some c.in-Some.ensures.number c.in-Some.ensures.frames c.in_ok-add_held_node.ensures.added (c.in_ok-add_held_node.ensures.lines (unwrap_or c.self.inside.version 1)) c.in_ok-add_held_node.ensures.no_fault)
 
 pub add_new_node-requires-clause-new : goal.add_new_node-requires-clause-new
 add_new_node-requires-clause-new c = rw c.resolve-found.ensures.ip (new-ip c.self.inside.known c.args.ip c.in_default.ensures.none).1

@@ -1,5 +1,4 @@
-use Rattle.live_ledger.specs.Sound.{IsSound}
-use Rattle.peak_costs.proofs.Keeping.{kept-moved, sound-of, stack-in}
+use Rattle.peak_costs.proofs.Keeping.{kept-moved, sound-of}
 use Rattle.peak_costs.proofs.PeakLemmas.{stands-event}
 use Rattle.peak_costs.proofs.peaks.Peaks.take_event.Goals as goal
 
@@ -9,17 +8,17 @@ returns-in_err-apply-clause-sound g c = rw c.in_err-apply.ensures.unchanged (sou
 pub invariant_of-self-2 : goal.invariant_of-self-2
 invariant_of-self-2 g c =
     let held = rw (← c.self.view_is) at c.requires.held in
-    rw (c.save.ensures.saved, c.save.ensures.blocks, c.save.ensures.stamps, c.raise.ensures, c.totals-totals.ensures.value, c.stack-before.ensures.value)
+    rw (c.save.ensures.live, c.save.ensures.blocks, c.save.ensures.stamps, c.raise.ensures, c.totals-totals.ensures.value, c.stack-before.ensures.value)
     (kept-moved _ _ _ _ _ _ c.args.event c.args.stack c.self.invariant c.in_ok-apply.ensures.sound c.in_ok-apply.ensures.changes c.requires.own held)
 
 pub returns-clause-stands : goal.returns-clause-stands
 returns-clause-stands g c =
     let held = rw (← c.self.view_is) at c.requires.held in
-    rw (← c.self.view_is, c.save.ensures.saved, c.save.ensures.blocks, c.save.ensures.stamps, c.raise.ensures, c.totals-totals.ensures.value, c.stack-before.ensures.value)
+    rw (← c.self.view_is, c.save.ensures.live, c.save.ensures.blocks, c.save.ensures.stamps, c.raise.ensures, c.totals-totals.ensures.value, c.stack-before.ensures.value)
     (λ events stands. stands-event _ _ _ _ _ _ c.args.stack events c.args.event c.self.invariant c.in_ok-apply.ensures.sound c.in_ok-apply.ensures.changes c.requires.own held stands (c.in_ok-apply.ensures.stands events stands.ledger))
 
 pub returns-clause-sound : goal.returns-clause-sound
 returns-clause-sound g c =
     let held = rw (← c.self.view_is) at c.requires.held in
-    rw (c.save.ensures.saved, c.save.ensures.blocks, c.save.ensures.stamps, c.raise.ensures, c.totals-totals.ensures.value, c.stack-before.ensures.value)
+    rw (c.save.ensures.live, c.save.ensures.blocks, c.save.ensures.stamps, c.raise.ensures, c.totals-totals.ensures.value, c.stack-before.ensures.value)
     (sound-of _ _ _ _ _ (kept-moved _ _ _ _ _ _ c.args.event c.args.stack c.self.invariant c.in_ok-apply.ensures.sound c.in_ok-apply.ensures.changes c.requires.own held))

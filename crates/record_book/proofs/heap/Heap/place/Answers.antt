@@ -18,33 +18,33 @@ returns-in_err-insert-clause-unchanged c =
     rw (c.in_ok-free_place.ensures.end) (
     of-same (entry_at heap) (entry_at new) (has_place heap.free) (has_place left.free) heap.end places of
     (λ t i. ap (λ entries. lookup (same_key (t, i)) entries) c.in_err-insert.ensures.err ∙ ap (λ live. entry_at (record heap { live = live }) t i) live_same)
-    (if-none (entry_at heap c.args.thread c.args.id) _ none c.in_ok-free_place.ensures.none)
+    (if-none (entry_at heap c.args.thread c.args.id) _ none (rw (← c.requires.left) c.in_ok-free_place.ensures.none))
     ))
 
-pub returns-then-address-self-clause-placed : goal.returns-then-address-self-clause-placed
-returns-then-address-self-clause-placed c = λ places of.
+pub returns-then-entry-self-clause-placed : goal.returns-then-entry-self-clause-placed
+returns-then-entry-self-clause-placed c = λ places size of class_is address_is.
     let heap = c.args.self.now in
     let left = c.free_place.new.self in
-    let new : Heap = record { live = c.insert.new.self; free = c.remove.new.self; end = c.free_place.new.self.end + c.class_of-class.result } in
-    of-put (entry_at heap) (entry_at new) (has_place heap.free) (has_place left.free) (has_place new.free) heap.end new.end places c.args.thread c.args.id c.args.size c.next_address-address.result of
-    c.in_ok-free_place.ensures.freed c.in_ok-free_place.ensures.none (c.next_address-address.ensures places of)
-    (λ k a. c.remove.ensures k a ∙ ap (λ (n : ℕ). cond (n == k && c.next_address-address.result == a) false (has_place left.free k a)) c.class_of-class.ensures.class)
+    let new : Heap = record { live = c.insert.new.self; free = c.remove.new.self; end = c.free_place.new.self.end + c.args.entry.class } in
+    of-put (entry_at heap) (entry_at new) (has_place heap.free) (has_place left.free) (has_place new.free) heap.end new.end places c.args.thread c.args.id size c.args.entry.address of
+    (rw (← c.requires.left) c.in_ok-free_place.ensures.freed) (rw (← c.requires.left) c.in_ok-free_place.ensures.none) address_is
+    (λ k a. c.remove.ensures k a ∙ ap (λ (n : ℕ). cond (n == k && c.args.entry.address == a) false (has_place left.free k a)) class_is)
     (λ t i.
     c.in_ok-insert.ensures.updates.0 (t, i)
-    ∙ ap (λ live. cond (same c.args.thread c.args.id t i) (Some (record { address = c.next_address-address.result; class = c.class_of-class.result })) (entry_at (record heap { live = live }) t i)) c.in_ok-free_place.ensures.live
-    ∙ ap (λ (n : ℕ). cond (same c.args.thread c.args.id t i) (Some (record { address = c.next_address-address.result; class = n })) (entry_at heap t i)) c.class_of-class.ensures.class)
-    (end-up c.next_address-address.result left.end heap.end c.class_of-class.result (class_of c.args.size) c.if-address-self.true c.in_ok-free_place.ensures.end c.class_of-class.ensures.class)
+    ∙ ap (λ live. cond (same c.args.thread c.args.id t i) (Some (record { address = c.args.entry.address; class = c.args.entry.class })) (entry_at (record heap { live = live }) t i)) c.in_ok-free_place.ensures.live
+    ∙ ap (λ (n : ℕ). cond (same c.args.thread c.args.id t i) (Some (record { address = c.args.entry.address; class = n })) (entry_at heap t i)) class_is)
+    (end-up c.args.entry.address left.end heap.end c.args.entry.class (class_of size) c.if-entry-self.true c.in_ok-free_place.ensures.end class_is)
 
-pub returns-else-address-self-clause-placed : goal.returns-else-address-self-clause-placed
-returns-else-address-self-clause-placed c = λ places of.
+pub returns-else-entry-self-clause-placed : goal.returns-else-entry-self-clause-placed
+returns-else-entry-self-clause-placed c = λ places size of class_is address_is.
     let heap = c.args.self.now in
     let left = c.free_place.new.self in
     let new : Heap = record { live = c.insert.new.self; free = c.remove.new.self; end = c.free_place.new.self.end } in
-    of-put (entry_at heap) (entry_at new) (has_place heap.free) (has_place left.free) (has_place new.free) heap.end new.end places c.args.thread c.args.id c.args.size c.next_address-address.result of
-    c.in_ok-free_place.ensures.freed c.in_ok-free_place.ensures.none (c.next_address-address.ensures places of)
-    (λ k a. c.remove.ensures k a ∙ ap (λ (n : ℕ). cond (n == k && c.next_address-address.result == a) false (has_place left.free k a)) c.class_of-class.ensures.class)
+    of-put (entry_at heap) (entry_at new) (has_place heap.free) (has_place left.free) (has_place new.free) heap.end new.end places c.args.thread c.args.id size c.args.entry.address of
+    (rw (← c.requires.left) c.in_ok-free_place.ensures.freed) (rw (← c.requires.left) c.in_ok-free_place.ensures.none) address_is
+    (λ k a. c.remove.ensures k a ∙ ap (λ (n : ℕ). cond (n == k && c.args.entry.address == a) false (has_place left.free k a)) class_is)
     (λ t i.
     c.in_ok-insert.ensures.updates.0 (t, i)
-    ∙ ap (λ live. cond (same c.args.thread c.args.id t i) (Some (record { address = c.next_address-address.result; class = c.class_of-class.result })) (entry_at (record heap { live = live }) t i)) c.in_ok-free_place.ensures.live
-    ∙ ap (λ (n : ℕ). cond (same c.args.thread c.args.id t i) (Some (record { address = c.next_address-address.result; class = n })) (entry_at heap t i)) c.class_of-class.ensures.class)
-    (end-stays c.next_address-address.result left.end heap.end (class_of c.args.size) c.if-address-self.false c.in_ok-free_place.ensures.end)
+    ∙ ap (λ live. cond (same c.args.thread c.args.id t i) (Some (record { address = c.args.entry.address; class = c.args.entry.class })) (entry_at (record heap { live = live }) t i)) c.in_ok-free_place.ensures.live
+    ∙ ap (λ (n : ℕ). cond (same c.args.thread c.args.id t i) (Some (record { address = c.args.entry.address; class = n })) (entry_at heap t i)) class_is)
+    (end-stays c.args.entry.address left.end heap.end (class_of size) c.if-entry-self.false c.in_ok-free_place.ensures.end)

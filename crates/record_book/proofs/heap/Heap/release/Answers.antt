@@ -12,6 +12,6 @@ returns-clause-released c = λ places of.
     let new : Heap = record left { live = c.remove.new.self } in
     rw (c.in_ok-free_place.ensures.end) (
     of-freed (entry_at heap) (entry_at new) (has_place heap.free) (has_place left.free) heap.end places c.args.thread c.args.id of
-    c.in_ok-free_place.ensures.freed c.in_ok-free_place.ensures.none
+    (rw (← c.requires.left) c.in_ok-free_place.ensures.freed) (rw (← c.requires.left) c.in_ok-free_place.ensures.none)
     (λ t i. c.remove.ensures.updates.0 (t, i) ∙ ap (λ live. cond (same c.args.thread c.args.id t i) None (entry_at (record heap { live = live }) t i)) c.in_ok-free_place.ensures.live)
     )

@@ -1,12 +1,17 @@
-use Rattle.std.proofs.Common.{◌≡◌, ℕ, ◌+◌, ◌^◌, ◌<◌, false, true, List, [], ◌++◌, length, Option, sym, ap, ◌∙◌, subst, arith, append-nil}
-use Rattle.std.specs.Prelude.{nat_lt, option_map, slice_set}
+use Rattle.std.proofs.Common.{◌≡◌, ℕ, ◌+◌, ◌^◌, ◌<◌, false, true, List, [], ◌++◌, length, Option, Some, sym, ap, ◌∙◌, subst, arith, append-nil}
+use Rattle.std.specs.Prelude.{nat_lt, option_map, slice_get, slice_set, unwrap_or}
 use Rattle.std.specs.Arc.{arc_value}
+use Rattle.stack_table.specs.Stack.{stack}
+use Rattle.record_scripts.specs.ScriptNodes.{nodes_in}
+use Rattle.record_book.specs.MappedNodes.{AreMapped, ips_of}
+use Rattle.record_book.proofs.MapLemmas.{ips-are, mapped-next, said_in}
 use Rattle.record_scripts.specs.declared.script_line.ScriptLine.{ScriptLine}
 use Rattle.record_scripts.specs.Events.{event_count}
 use Rattle.record_scripts.specs.Job.{Job}
 use Rattle.record_scripts.specs.ScriptTurns.{turn_said}
 use Rattle.record_book.specs.Actions.{actions, events_at, times}
 use Rattle.record_book.specs.BookState.{entries_of, stepped}
+use Rattle.record_book.specs.Orders.{IsUnder}
 use Rattle.record_book.specs.StreamState.{IsStream, Streamed, done_at}
 use Rattle.record_book.specs.RecordedTrace.{recorded}
 use Rattle.record_book.specs.TraceState.{IsTrace, with_turn}
@@ -14,111 +19,153 @@ use Rattle.record_book.proofs.StreamLemmas.{few-done, place-is, room, stream-nex
 use Rattle.record_book.proofs.OrderLemmas.{all-taken, more-done, more-turn, stepped-done, stepped-turn}
 use Rattle.record_book.proofs.trace_stream.TraceStream.step.Goals as goal
 
+-- the ips that the trace is given are those of the node
+same_ips : (c : goal.After-self-1) → ips_of c.self.inside.trace.nodes c.stack_of-stack.result
+    ≡ stack (nodes_in (arc_value c.self.inside.job).scripts) c.in-Some.node
+same_ips c =
+    let stream = c.self.inside in
+    let said = nodes_in (arc_value stream.job).scripts in
+    let node = c.in-Some.node in
+    let number = c.in_ok-known.ensures.number in
+    ips-are said stream.trace.nodes c.stack_of-stack.result node c.in_ok-known.known
+    c.deref-3.result.now
+    (λ some. ap (λ (n : ℕ). stack stream.trace.nodes n) number
+    ∙ c.self.invariant.1.stacks node (λ none. some (number ∙ none)))
+    (λ none. c.deref-3.ensures.value ∙ c.in_ok-known.ensures.unknown none
+    ∙ ap (λ (j : Job). stack (nodes_in j.scripts) node) c.deref-2.ensures)
+    c.stack_of-stack.ensures.known
+    (λ none. c.stack_of-stack.ensures.ips none stream.trace.nodes)
+
+-- the nodes that are known with that of the turn
+mapped : (c : goal.After-self-1) → AreMapped c.learn.new.self
+    (nodes_in (arc_value c.self.inside.job).scripts) c.add.new.self.nodes
+mapped c =
+    let stream = c.self.inside in
+    let same = c.in_ok-known.ensures.same in
+    mapped-next stream.nodes c.learn.new.self (nodes_in (arc_value stream.job).scripts)
+    stream.trace.nodes c.add.new.self.nodes c.in-Some.node c.in_ok-number.number
+    c.self.invariant.1 c.in_ok-number.ensures.continues
+    (c.learn.ensures.count ∙ ap (λ numbers. length numbers.items) same)
+    (λ n apart. c.learn.ensures.other n apart
+    ∙ ap (λ numbers. unwrap_or (slice_get numbers.items n) 0) same)
+    c.learn.ensures.here c.in_ok-number.ensures.node.0
+    (λ some. c.in_ok-number.ensures.node.1 some ∙ same_ips c)
+
 pub returns-in_default-clause-stepped : goal.returns-in_default-clause-stepped
 returns-in_default-clause-stepped c =
     let book = c.self.inside in
     let job = arc_value book.job in
     let held : c.args.thread < length job.scripts = subst (λ (r : Streamed). c.args.thread < length r.job.scripts) (sym c.self.view_is) c.requires in
-    let here = place-is book.done.items c.args.thread c.index-place.result.now (omega (arith, held, c.self.invariant.threads)) c.index-place.ensures in
+    let here = place-is book.done.items c.args.thread c.index-place.result.now (omega (arith, held, c.self.invariant.0.threads)) c.index-place.ensures in
     let at = turn-found job c.deref.result.now book.done.items c.args.thread c.index-place.result.now _ c.deref.ensures here
-    (c.in_ok-turn.ensures.turn ∙ ap (λ (found : Option ScriptLine). option_map (λ turn. turn_said turn c.turn_into.new.ips.items) found) c.in_default.is) in
-    sym (stepped-done job.scripts book.order.items c.args.thread (done_at book.done.items c.args.thread) at (c.self.invariant.taken c.args.thread))
-    ∙ ap (λ (r : Streamed). stepped r.job.scripts c.args.thread r.order) c.self.view_is
+    (c.turn.ensures.turn ∙ ap (λ (found : Option (ScriptLine × ℕ)). option_map (said_in c.deref.result.now.scripts) found) c.in_default.is) in
+    subst (λ (r : Streamed). r.order ≡ stepped r.job.scripts c.args.thread r.order) c.self.view_is
+    (sym (stepped-done job.scripts book.order.items c.args.thread (done_at book.done.items c.args.thread) at (c.self.invariant.0.taken c.args.thread)))
 
 pub returns-in_default-clause-text : goal.returns-in_default-clause-text
-returns-in_default-clause-text c =
-    let book = c.self.inside in
-    ([], ap (λ (r : Streamed). r.text) c.self.view_is ∙ sym (append-nil _), ap (λ (r : Streamed). recorded r.job r.order) c.self.view_is ∙ sym (append-nil _))
+returns-in_default-clause-text c = ([], sym (append-nil _), sym (append-nil _))
 
 pub returns-in_default-clause-more : goal.returns-in_default-clause-more
 returns-in_default-clause-more c =
     let book = c.self.inside in
     let job = arc_value book.job in
     let held : c.args.thread < length job.scripts = subst (λ (r : Streamed). c.args.thread < length r.job.scripts) (sym c.self.view_is) c.requires in
-    let here = place-is book.done.items c.args.thread c.index-place.result.now (omega (arith, held, c.self.invariant.threads)) c.index-place.ensures in
+    let here = place-is book.done.items c.args.thread c.index-place.result.now (omega (arith, held, c.self.invariant.0.threads)) c.index-place.ensures in
     let at = turn-found job c.deref.result.now book.done.items c.args.thread c.index-place.result.now _ c.deref.ensures here
-    (c.in_ok-turn.ensures.turn ∙ ap (λ (found : Option ScriptLine). option_map (λ turn. turn_said turn c.turn_into.new.ips.items) found) c.in_default.is) in
+    (c.turn.ensures.turn ∙ ap (λ (found : Option (ScriptLine × ℕ)). option_map (said_in c.deref.result.now.scripts) found) c.in_default.is) in
     subst (λ (r : Streamed). false ≡ nat_lt (times c.args.thread r.order) (length (events_at r.job.scripts c.args.thread))) c.self.view_is
-    (more-done job.scripts book.order.items c.args.thread (done_at book.done.items c.args.thread) at (c.self.invariant.taken c.args.thread))
+    (more-done job.scripts book.order.items c.args.thread (done_at book.done.items c.args.thread) at (c.self.invariant.0.taken c.args.thread))
 
 pub returns-in_default-clause-done : goal.returns-in_default-clause-done
 returns-in_default-clause-done c =
     let book = c.self.inside in
     let job = arc_value book.job in
     let held : c.args.thread < length job.scripts = subst (λ (r : Streamed). c.args.thread < length r.job.scripts) (sym c.self.view_is) c.requires in
-    let here = place-is book.done.items c.args.thread c.index-place.result.now (omega (arith, held, c.self.invariant.threads)) c.index-place.ensures in
+    let here = place-is book.done.items c.args.thread c.index-place.result.now (omega (arith, held, c.self.invariant.0.threads)) c.index-place.ensures in
     let at = turn-found job c.deref.result.now book.done.items c.args.thread c.index-place.result.now _ c.deref.ensures here
-    (c.in_ok-turn.ensures.turn ∙ ap (λ (found : Option ScriptLine). option_map (λ turn. turn_said turn c.turn_into.new.ips.items) found) c.in_default.is) in
-    λ _. all-taken job.scripts book.order.items c.args.thread (done_at book.done.items c.args.thread) at (c.self.invariant.taken c.args.thread)
+    (c.turn.ensures.turn ∙ ap (λ (found : Option (ScriptLine × ℕ)). option_map (said_in c.deref.result.now.scripts) found) c.in_default.is) in
+    λ _. subst (λ (r : Streamed). times c.args.thread r.order ≡ length (events_at r.job.scripts c.args.thread)) c.self.view_is
+    (all-taken job.scripts book.order.items c.args.thread (done_at book.done.items c.args.thread) at (c.self.invariant.0.taken c.args.thread))
 
 pub add-requires-clause-node_room : goal.add-requires-clause-node_room
 add-requires-clause-node_room c =
     let book = c.self.inside in
     let job = arc_value book.job in
     let held : c.args.thread < length job.scripts = subst (λ (r : Streamed). c.args.thread < length r.job.scripts) (sym c.self.view_is) c.requires in
-    let here = place-is book.done.items c.args.thread c.index-place.result.now (omega (arith, held, c.self.invariant.threads)) c.index-place.ensures in
+    let here = place-is book.done.items c.args.thread c.index-place.result.now (omega (arith, held, c.self.invariant.0.threads)) c.index-place.ensures in
     let at = turn-found job c.deref.result.now book.done.items c.args.thread c.index-place.result.now _ c.deref.ensures here
-    (c.in_ok-turn.ensures.turn ∙ ap (λ (found : Option ScriptLine). option_map (λ turn. turn_said turn c.turn_into.new.ips.items) found) c.in-Some.is) in
-    let said = turn_said c.in-Some.turn c.turn_into.new.ips.items in
-    let more = room job book.done.items book.order.items book.trace c.args.thread said c.self.invariant at in
-    let few : event_count job.scripts < 2 ^ 24 = subst (λ (j : Job). event_count j.scripts < 2 ^ 24) c.deref.ensures c.in_ok-turn.ensures.few_events in
-    omega (arith, more, few, c.self.invariant.few_nodes)
+    (c.turn.ensures.turn ∙ ap (λ (found : Option (ScriptLine × ℕ)). option_map (said_in c.deref.result.now.scripts) found) c.in-Some.is
+    ∙ ap (λ (j : Job). Some (said_in j.scripts (c.in-Some.turn, c.in-Some.node))) c.deref.ensures) in
+    let said = turn_said c.in-Some.turn (stack (nodes_in job.scripts) c.in-Some.node) in
+    let more = room job book.done.items book.order.items book.trace c.args.thread said c.self.invariant.0 at in
+    let few : event_count job.scripts < 2 ^ 24 = subst (λ (j : Job). event_count j.scripts < 2 ^ 24) c.deref.ensures c.turn.ensures.few_events in
+    omega (arith, more, few, c.self.invariant.0.few_nodes)
 
 pub add-requires-clause-heap_room : goal.add-requires-clause-heap_room
 add-requires-clause-heap_room c =
     let book = c.self.inside in
     let job = arc_value book.job in
     let held : c.args.thread < length job.scripts = subst (λ (r : Streamed). c.args.thread < length r.job.scripts) (sym c.self.view_is) c.requires in
-    let here = place-is book.done.items c.args.thread c.index-place.result.now (omega (arith, held, c.self.invariant.threads)) c.index-place.ensures in
+    let here = place-is book.done.items c.args.thread c.index-place.result.now (omega (arith, held, c.self.invariant.0.threads)) c.index-place.ensures in
     let at = turn-found job c.deref.result.now book.done.items c.args.thread c.index-place.result.now _ c.deref.ensures here
-    (c.in_ok-turn.ensures.turn ∙ ap (λ (found : Option ScriptLine). option_map (λ turn. turn_said turn c.turn_into.new.ips.items) found) c.in-Some.is) in
-    let said = turn_said c.in-Some.turn c.turn_into.new.ips.items in
-    let more = room job book.done.items book.order.items book.trace c.args.thread said c.self.invariant at in
-    let few : event_count job.scripts < 2 ^ 24 = subst (λ (j : Job). event_count j.scripts < 2 ^ 24) c.deref.ensures c.in_ok-turn.ensures.few_events in
-    omega (arith, more, few, c.self.invariant.end)
+    (c.turn.ensures.turn ∙ ap (λ (found : Option (ScriptLine × ℕ)). option_map (said_in c.deref.result.now.scripts) found) c.in-Some.is
+    ∙ ap (λ (j : Job). Some (said_in j.scripts (c.in-Some.turn, c.in-Some.node))) c.deref.ensures) in
+    let said = turn_said c.in-Some.turn (stack (nodes_in job.scripts) c.in-Some.node) in
+    let more = room job book.done.items book.order.items book.trace c.args.thread said c.self.invariant.0 at in
+    let few : event_count job.scripts < 2 ^ 24 = subst (λ (j : Job). event_count j.scripts < 2 ^ 24) c.deref.ensures c.turn.ensures.few_events in
+    omega (arith, more, few, c.self.invariant.0.end)
 
 pub overflow_add-place : goal.overflow_add-place
 overflow_add-place c =
     let book = c.self.inside in
     let job = arc_value book.job in
     let held : c.args.thread < length job.scripts = subst (λ (r : Streamed). c.args.thread < length r.job.scripts) (sym c.self.view_is) c.requires in
-    let here = place-is book.done.items c.args.thread c.index-place.result.now (omega (arith, held, c.self.invariant.threads)) c.index-place.ensures in
+    let here = place-is book.done.items c.args.thread c.index-place.result.now (omega (arith, held, c.self.invariant.0.threads)) c.index-place.ensures in
     let at = turn-found job c.deref.result.now book.done.items c.args.thread c.index-place.result.now _ c.deref.ensures here
-    (c.in_ok-turn.ensures.turn ∙ ap (λ (found : Option ScriptLine). option_map (λ turn. turn_said turn c.turn_into.new.ips.items) found) c.in-Some.is) in
-    let said = turn_said c.in-Some.turn c.turn_into.new.ips.items in
-    let more = room job book.done.items book.order.items book.trace c.args.thread said c.self.invariant at in
-    let few : event_count job.scripts < 2 ^ 24 = subst (λ (j : Job). event_count j.scripts < 2 ^ 24) c.deref.ensures c.in_ok-turn.ensures.few_events in
-    let below = few-done job book.done.items book.order.items book.trace c.args.thread c.self.invariant in
+    (c.turn.ensures.turn ∙ ap (λ (found : Option (ScriptLine × ℕ)). option_map (said_in c.deref.result.now.scripts) found) c.in-Some.is
+    ∙ ap (λ (j : Job). Some (said_in j.scripts (c.in-Some.turn, c.in-Some.node))) c.deref.ensures) in
+    let said = turn_said c.in-Some.turn (stack (nodes_in job.scripts) c.in-Some.node) in
+    let more = room job book.done.items book.order.items book.trace c.args.thread said c.self.invariant.0 at in
+    let few : event_count job.scripts < 2 ^ 24 = subst (λ (j : Job). event_count j.scripts < 2 ^ 24) c.deref.ensures c.turn.ensures.few_events in
+    let below = few-done job book.done.items book.order.items book.trace c.args.thread c.self.invariant.0 in
     omega (arith, more, few, below, here)
 
-pub invariant_of-self-2 : goal.invariant_of-self-2
-invariant_of-self-2 c =
+-- the recording with the turn
+next : (c : goal.After-self-1) → IsStream (arc_value c.self.inside.job)
+    (slice_set c.self.inside.done.items c.args.thread (c.index-place.result.now + 1))
+    c.push_entries.new.order.items c.add.new.self
+next c =
     let book = c.self.inside in
     let job = arc_value book.job in
     let held : c.args.thread < length job.scripts = subst (λ (r : Streamed). c.args.thread < length r.job.scripts) (sym c.self.view_is) c.requires in
-    let here = place-is book.done.items c.args.thread c.index-place.result.now (omega (arith, held, c.self.invariant.threads)) c.index-place.ensures in
+    let here = place-is book.done.items c.args.thread c.index-place.result.now (omega (arith, held, c.self.invariant.0.threads)) c.index-place.ensures in
     let at = turn-found job c.deref.result.now book.done.items c.args.thread c.index-place.result.now _ c.deref.ensures here
-    (c.in_ok-turn.ensures.turn ∙ ap (λ (found : Option ScriptLine). option_map (λ turn. turn_said turn c.turn_into.new.ips.items) found) c.in-Some.is) in
-    let said = turn_said c.in-Some.turn c.turn_into.new.ips.items in
+    (c.turn.ensures.turn ∙ ap (λ (found : Option (ScriptLine × ℕ)). option_map (said_in c.deref.result.now.scripts) found) c.in-Some.is
+    ∙ ap (λ (j : Job). Some (said_in j.scripts (c.in-Some.turn, c.in-Some.node))) c.deref.ensures) in
+    let said = turn_said c.in-Some.turn (stack (nodes_in job.scripts) c.in-Some.node) in
     let new = c.add.new.self in
-    let is = subst (λ (ips : List ℕ). (gone : List ℕ) → IsTrace gone book.trace job.modules (actions job.scripts book.order.items) → IsTrace gone new job.modules (with_turn c.args.thread (turn_said c.in-Some.turn ips) (actions job.scripts book.order.items))) c.deref-2.ensures.value
-    (λ gone before. c.in_ok-add.ensures.added gone job.modules (actions job.scripts book.order.items) before) in
-    let order = c.in_ok-push_entries.ensures.pushed c.turn_into.new.ips.items ∙ ap (λ (entries : List ℕ). entries ++ entries_of c.args.thread said) c.in_ok-reserve.ensures.items in
+    let is = subst (λ (ips : List ℕ). (gone : List ℕ) → IsTrace gone book.trace job.modules (actions job.scripts book.order.items) → IsTrace gone new job.modules (with_turn c.args.thread (turn_said c.in-Some.turn ips) (actions job.scripts book.order.items))) (same_ips c)
+    (λ gone before. c.in_ok-number.ensures.added gone job.modules (actions job.scripts book.order.items) before) in
+    let order = c.in_ok-push_entries.ensures.pushed (stack (nodes_in job.scripts) c.in-Some.node) ∙ ap (λ (entries : List ℕ). entries ++ entries_of c.args.thread said) c.in_ok-reserve.ensures.items in
     subst (λ (entries : List ℕ). IsStream job (slice_set book.done.items c.args.thread (c.index-place.result.now + 1)) entries new) (sym order)
     (subst (λ (place : ℕ). IsStream job (slice_set book.done.items c.args.thread (place + 1)) (book.order.items ++ entries_of c.args.thread said) new) here
-    (stream-next job book.done.items book.order.items book.trace new c.args.thread said c.self.invariant held at is c.in_ok-add.ensures.few_more c.in_ok-add.ensures.end))
+    (stream-next job book.done.items book.order.items book.trace new c.args.thread said c.self.invariant.0 held at is c.in_ok-number.ensures.few_more c.in_ok-number.ensures.end))
+
+pub invariant_of-self-2 : goal.invariant_of-self-2
+invariant_of-self-2 c = (next c, mapped c)
 
 pub returns-clause-stepped : goal.returns-clause-stepped
 returns-clause-stepped c =
     let book = c.self.inside in
     let job = arc_value book.job in
     let held : c.args.thread < length job.scripts = subst (λ (r : Streamed). c.args.thread < length r.job.scripts) (sym c.self.view_is) c.requires in
-    let here = place-is book.done.items c.args.thread c.index-place.result.now (omega (arith, held, c.self.invariant.threads)) c.index-place.ensures in
+    let here = place-is book.done.items c.args.thread c.index-place.result.now (omega (arith, held, c.self.invariant.0.threads)) c.index-place.ensures in
     let at = turn-found job c.deref.result.now book.done.items c.args.thread c.index-place.result.now _ c.deref.ensures here
-    (c.in_ok-turn.ensures.turn ∙ ap (λ (found : Option ScriptLine). option_map (λ turn. turn_said turn c.turn_into.new.ips.items) found) c.in-Some.is) in
-    let said = turn_said c.in-Some.turn c.turn_into.new.ips.items in
-    let order = c.in_ok-push_entries.ensures.pushed c.turn_into.new.ips.items ∙ ap (λ (entries : List ℕ). entries ++ entries_of c.args.thread said) c.in_ok-reserve.ensures.items in
-    order ∙ sym (stepped-turn job.scripts book.order.items c.args.thread (done_at book.done.items c.args.thread) said at (c.self.invariant.taken c.args.thread))
+    (c.turn.ensures.turn ∙ ap (λ (found : Option (ScriptLine × ℕ)). option_map (said_in c.deref.result.now.scripts) found) c.in-Some.is
+    ∙ ap (λ (j : Job). Some (said_in j.scripts (c.in-Some.turn, c.in-Some.node))) c.deref.ensures) in
+    let said = turn_said c.in-Some.turn (stack (nodes_in job.scripts) c.in-Some.node) in
+    let order = c.in_ok-push_entries.ensures.pushed (stack (nodes_in job.scripts) c.in-Some.node) ∙ ap (λ (entries : List ℕ). entries ++ entries_of c.args.thread said) c.in_ok-reserve.ensures.items in
+    order ∙ sym (stepped-turn job.scripts book.order.items c.args.thread (done_at book.done.items c.args.thread) said at (c.self.invariant.0.taken c.args.thread))
     ∙ ap (λ (r : Streamed). stepped r.job.scripts c.args.thread r.order) c.self.view_is
 
 pub returns-clause-text : goal.returns-clause-text
@@ -126,15 +173,16 @@ returns-clause-text c =
     let book = c.self.inside in
     let job = arc_value book.job in
     let held : c.args.thread < length job.scripts = subst (λ (r : Streamed). c.args.thread < length r.job.scripts) (sym c.self.view_is) c.requires in
-    let here = place-is book.done.items c.args.thread c.index-place.result.now (omega (arith, held, c.self.invariant.threads)) c.index-place.ensures in
+    let here = place-is book.done.items c.args.thread c.index-place.result.now (omega (arith, held, c.self.invariant.0.threads)) c.index-place.ensures in
     let at = turn-found job c.deref.result.now book.done.items c.args.thread c.index-place.result.now _ c.deref.ensures here
-    (c.in_ok-turn.ensures.turn ∙ ap (λ (found : Option ScriptLine). option_map (λ turn. turn_said turn c.turn_into.new.ips.items) found) c.in-Some.is) in
-    let said = turn_said c.in-Some.turn c.turn_into.new.ips.items in
+    (c.turn.ensures.turn ∙ ap (λ (found : Option (ScriptLine × ℕ)). option_map (said_in c.deref.result.now.scripts) found) c.in-Some.is
+    ∙ ap (λ (j : Job). Some (said_in j.scripts (c.in-Some.turn, c.in-Some.node))) c.deref.ensures) in
+    let said = turn_said c.in-Some.turn (stack (nodes_in job.scripts) c.in-Some.node) in
     let new = c.add.new.self in
-    let is = subst (λ (ips : List ℕ). (gone : List ℕ) → IsTrace gone book.trace job.modules (actions job.scripts book.order.items) → IsTrace gone new job.modules (with_turn c.args.thread (turn_said c.in-Some.turn ips) (actions job.scripts book.order.items))) c.deref-2.ensures.value
-    (λ gone before. c.in_ok-add.ensures.added gone job.modules (actions job.scripts book.order.items) before) in
-    let order = c.in_ok-push_entries.ensures.pushed c.turn_into.new.ips.items ∙ ap (λ (entries : List ℕ). entries ++ entries_of c.args.thread said) c.in_ok-reserve.ensures.items in
-    let found = text-more job book.done.items book.order.items book.trace new c.args.thread said c.self.invariant at is c.in_ok-add.ensures.kept in
+    let is = subst (λ (ips : List ℕ). (gone : List ℕ) → IsTrace gone book.trace job.modules (actions job.scripts book.order.items) → IsTrace gone new job.modules (with_turn c.args.thread (turn_said c.in-Some.turn ips) (actions job.scripts book.order.items))) (same_ips c)
+    (λ gone before. c.in_ok-number.ensures.added gone job.modules (actions job.scripts book.order.items) before) in
+    let order = c.in_ok-push_entries.ensures.pushed (stack (nodes_in job.scripts) c.in-Some.node) ∙ ap (λ (entries : List ℕ). entries ++ entries_of c.args.thread said) c.in_ok-reserve.ensures.items in
+    let found = text-more job book.done.items book.order.items book.trace new c.args.thread said c.self.invariant.0 at is c.in_ok-number.ensures.kept in
     let more = found.0 in (
       more,
       found.1 ∙ ap (λ (r : Streamed). r.text ++ more) c.self.view_is,
@@ -146,17 +194,19 @@ returns-clause-more c =
     let book = c.self.inside in
     let job = arc_value book.job in
     let held : c.args.thread < length job.scripts = subst (λ (r : Streamed). c.args.thread < length r.job.scripts) (sym c.self.view_is) c.requires in
-    let here = place-is book.done.items c.args.thread c.index-place.result.now (omega (arith, held, c.self.invariant.threads)) c.index-place.ensures in
+    let here = place-is book.done.items c.args.thread c.index-place.result.now (omega (arith, held, c.self.invariant.0.threads)) c.index-place.ensures in
     let at = turn-found job c.deref.result.now book.done.items c.args.thread c.index-place.result.now _ c.deref.ensures here
-    (c.in_ok-turn.ensures.turn ∙ ap (λ (found : Option ScriptLine). option_map (λ turn. turn_said turn c.turn_into.new.ips.items) found) c.in-Some.is) in
-    let said = turn_said c.in-Some.turn c.turn_into.new.ips.items in
+    (c.turn.ensures.turn ∙ ap (λ (found : Option (ScriptLine × ℕ)). option_map (said_in c.deref.result.now.scripts) found) c.in-Some.is
+    ∙ ap (λ (j : Job). Some (said_in j.scripts (c.in-Some.turn, c.in-Some.node))) c.deref.ensures) in
+    let said = turn_said c.in-Some.turn (stack (nodes_in job.scripts) c.in-Some.node) in
     subst (λ (r : Streamed). true ≡ nat_lt (times c.args.thread r.order) (length (events_at r.job.scripts c.args.thread))) c.self.view_is
-    (more-turn job.scripts book.order.items c.args.thread (done_at book.done.items c.args.thread) said at (c.self.invariant.taken c.args.thread))
+    (more-turn job.scripts book.order.items c.args.thread (done_at book.done.items c.args.thread) said at (c.self.invariant.0.taken c.args.thread))
 
 pub returns-in_default-clause-under : goal.returns-in_default-clause-under
 returns-in_default-clause-under c =
     let book = c.self.inside in
-    under-of (arc_value book.job) book.done.items book.order.items book.trace c.self.invariant
+    subst (λ (r : Streamed). IsUnder r.job.scripts r.order) c.self.view_is
+    (under-of (arc_value book.job) book.done.items book.order.items book.trace c.self.invariant.0)
 
 pub returns-clause-under : goal.returns-clause-under
-returns-clause-under c = under-of (arc_value c.self.inside.job) _ _ _ (invariant_of-self-2 c)
+returns-clause-under c = under-of (arc_value c.self.inside.job) _ _ _ (next c)

@@ -1,0 +1,22 @@
+use Rattle.std.proofs.Common.{sym, subst}
+use Rattle.std.proofs.lemmas.Result.{IfOk-weaker}
+use Rattle.cost_tree.specs.declared.direction.Direction.{Direction}
+use Rattle.cost_tree.specs.Needed.{StandFor}
+use Rattle.cost_tree.proofs.Needing.{StandFor-needed, StandFor-root}
+use Rattle.cost_tree.proofs.trace_lists.trace_lists.Goals as goal
+
+pub returns-in-FromAllocation : goal.returns-in-FromAllocation
+returns-in-FromAllocation c = record {
+  lists = IfOk-weaker c.stack_lists.result _ _
+      (λ fronts is. subst (λ (d : Direction). StandFor d c.args.style c.args.tables.now c.args.costs.now c.args.depth fronts) (sym c.in-FromAllocation.is)
+      (StandFor-needed c.args.style c.args.tables.now c.args.costs.now c.args.depth fronts c.requires.as_many is))
+      c.stack_lists.ensures.lists;
+}
+
+pub returns-in-FromRoot : goal.returns-in-FromRoot
+returns-in-FromRoot c = record {
+  lists = IfOk-weaker c.root_lists.result _ _
+      (λ fronts is. subst (λ (d : Direction). StandFor d c.args.style c.args.tables.now c.args.costs.now c.args.depth fronts) (sym c.in-FromRoot.is)
+      (StandFor-root c.args.style c.args.tables.now c.args.costs.now c.args.depth fronts c.requires.as_many is))
+      c.root_lists.ensures.lists;
+}

@@ -1,0 +1,96 @@
+//! The lists of texts of a trace's stacks from their outermost frames on: a stack's list is that of the stack that it is called
+//! from, and the texts of its own node. So texts are made once a node.
+ghost use Rattle.std.specs.Prelude.{◌≡◌, ◌==◌, ◌-◌, ◌^◌, ◌<◌, ◌≤◌, All, [], ◌∷◌, ◌++◌, length, map, reverse, if◌then◌else◌, slice_index_or, IfOk, OnOk};
+ghost use Rattle.cost_tree.specs.declared.direction.Direction.TheVariants.{FromRoot};
+ghost use Rattle.cost_tree.specs.Needed.{Begins, LastGains};
+ghost use Rattle.cost_tree.specs.StackTexts.{lists_towards};
+ghost use Rattle.ht_trace.specs.FrameText.{frame_text};
+ghost use Rattle.ht_trace.specs.IsFrame.{IsFrame};
+
+use crate::fronts::Fronts;
+use crate::stack_lists::push_texts;
+use hp_num::NoMemory;
+use ht_trace::{FrameAt, Style, Tables};
+use std::alloc::Global;
+
+/// The lists of all stacks, or `NoMemory`.
+pub(crate) fn root_lists(alloc: Global, tables: &Tables, style: Style) -> Result<Fronts, NoMemory>
+    ensures lists { IfOk result (λ fronts. fronts ≡ lists_towards FromRoot style tables.now) }
+{
+    let mut fronts = Fronts::new(alloc);
+    let mut frames = Vec::new(alloc);
+    let mut text = Vec::new(alloc);
+    'each_stack: for stack in 0..tables.stacks() {
+        begin_list(tables, stack, &mut fronts, &mut frames)?;
+        push_turned(tables, style, &mut fronts, &mut frames, &mut text)?;
+    }
+    Ok(fronts)
+}
+
+/// Begins the list of the stack with that of the stack that it is called from, and replaces `frames` by those that follow,
+/// from the innermost on.
+fn begin_list(
+    tables: &Tables,
+    stack: u32,
+    fronts: &mut Fronts,
+    frames: &mut Vec<FrameAt>,
+) -> Result<(), NoMemory>
+    requires held { stack ≤ length tables.now.nodes }
+    requires few { length fronts.old < 2 ^ 32 - 1 }
+    requires before { length fronts.old ≡ stack }
+    ensures begun { OnOk result
+        (Begins tables.now stack frames.new.items fronts.old fronts.new) }
+    ensures frames { OnOk result (All (λ at. IsFrame tables.now at) frames.new.items) }
+{
+    match tables.node(stack) {
+        Some((instruction, caller)) => {
+            repeat_list(fronts, caller)?;
+            tables.instruction_frames_into(instruction, frames)
+        }
+        None => {
+            fronts.begin()?;
+            tables.frames_into(stack, frames)
+        }
+    }
+}
+
+/// Appends the list of the stack that a node is called from, which is empty for stack 0.
+fn repeat_list(fronts: &mut Fronts, caller: u32) -> Result<(), NoMemory>
+    requires held { caller < length fronts.old }
+    requires few { length fronts.old < 2 ^ 32 - 1 }
+    ensures appended { OnOk result
+        (fronts.new ≡ fronts.old
+        ++ (if caller == 0 then [] else slice_index_or fronts.old caller []) ∷ []) }
+{
+    if caller == 0 {
+        fronts.begin()?;
+        return Ok(());
+    }
+    fronts.repeat(caller)?;
+    Ok(())
+}
+
+/// Appends the texts of the frames to the last list, the last one first. `text` is a buffer.
+fn push_turned(
+    tables: &Tables,
+    style: Style,
+    fronts: &mut Fronts,
+    frames: &mut Vec<FrameAt>,
+    text: &mut Vec<u8>,
+) -> Result<(), NoMemory>
+    requires frames { All (λ at. IsFrame tables.now at) frames.old.items }
+    requires begun { 0 < length fronts.old }
+    ensures gained { OnOk result
+        (LastGains fronts.old (map (frame_text style tables.now) (reverse frames.old.items))
+        fronts.new) }
+{
+    turn(frames);
+    push_texts(tables, frames, style, fronts, text)
+}
+
+/// Turns a list that begins at the innermost frame round.
+fn turn(frames: &mut Vec<FrameAt>)
+    ensures { frames.new.items ≡ reverse frames.old.items }
+{
+    frames.reverse();
+}

@@ -1,0 +1,113 @@
+//! Lists of numbers that share their fronts: a front is kept once, as a node, and a list as the node where it ends.
+//! What the numbers stand for, and what the lists cost, are no part of it.
+ghost use Rattle.std.specs.Prelude.{◌≡◌, ℕ, ◌+◌, ◌-◌, ◌^◌, ◌<◌, ◌≤◌, List, [], ◌∷◌, ◌++◌, length, IfOk, OnOk, OnErr, slice_index_or};
+ghost use Rattle.cost_tree.specs.declared.edge.Edge.{Edge};
+ghost use Rattle.cost_tree.specs.Shapes.{IsChild};
+
+use crate::edge::Edge;
+use hp_num::NoMemory;
+use indexmap::IndexSet;
+use std::alloc::Global;
+use std::marker::Model;
+
+/// Lists of numbers, numbered from 0. Their memory goes by their different fronts.
+///
+/// Contracts see the list of the lists.
+#[derive(Debug, Drop)]
+pub struct Shape {
+    pub(crate) edges: IndexSet<Edge>,
+    pub(crate) ends: Vec<usize>,
+}
+
+impl Model for Shape {
+    ghost use Rattle.std.specs.Prelude.{ℕ, List};
+    ghost use Rattle.cost_tree.specs.Shapes.{lists_in, IsShape};
+
+    ghost Value = { List (List ℕ) };
+
+    ghost view = { λ shape. lists_in shape.edges.keys shape.ends.items };
+
+    ghost invariant = { λ shape. IsShape shape.edges.keys shape.ends.items };
+}
+
+impl Shape {
+    /// No lists. It takes no memory; that of the lists to come is taken from `alloc`.
+    pub fn new(alloc: Global) -> Shape
+        ensures empty { result ≡ [] }
+    {
+        Shape {
+            edges: IndexSet::new(alloc),
+            ends: Vec::new(alloc),
+        }
+    }
+
+    /// Appends an empty list and answers its number. There must be fewer than 2^32 - 1 lists. On `NoMemory` the lists
+    /// are as before.
+    pub fn begin(&mut self) -> Result<u32, NoMemory>
+        requires few { length self.old < 2 ^ 32 - 1 }
+        ensures appended { OnOk result (self.new ≡ self.old ++ [] ∷ []) }
+        ensures number { IfOk result (λ n. n ≡ length self.old) }
+        ensures unchanged { OnErr result (self.new ≡ self.old) }
+    {
+        let number = self.ends.len() as u32;
+        self.ends.push(0)?;
+        Ok(number)
+    }
+
+    /// Appends a list that is equal to an earlier one, which must be held, and answers its number. There must be fewer
+    /// than 2^32 - 1 lists. On `NoMemory` the lists are as before.
+    pub fn repeat(&mut self, earlier: u32) -> Result<u32, NoMemory>
+        requires held { earlier < length self.old }
+        requires few { length self.old < 2 ^ 32 - 1 }
+        ensures appended { OnOk result
+            (self.new ≡ self.old ++ slice_index_or self.old earlier [] ∷ []) }
+        ensures number { IfOk result (λ n. n ≡ length self.old) }
+        ensures unchanged { OnErr result (self.new ≡ self.old) }
+    {
+        let number = self.ends.len() as u32;
+        let end = self.ends[earlier as usize];
+        self.ends.push(end)?;
+        Ok(number)
+    }
+
+    /// Appends the number to the last list, of which there must be one. On `NoMemory` the lists are as before.
+    pub fn push(&mut self, number: usize) -> Result<(), NoMemory>
+        requires begun { 0 < length self.old }
+        ensures appended { OnOk result
+            ((earlier : List (List ℕ)) (last : List ℕ)
+            → self.old ≡ earlier ++ last ∷ []
+            → self.new ≡ earlier ++ (last ++ number ∷ []) ∷ []) }
+        ensures count { length self.new ≡ length self.old }
+        ensures unchanged { OnErr result (self.new ≡ self.old) }
+    {
+        let last = self.ends.len() - 1;
+        let child = child_of(&mut self.edges, self.ends[last], number)?;
+        self.ends[last] = child;
+        Ok(())
+    }
+
+    /// How many lists there are.
+    pub fn len(&self) -> u32
+        ensures count { result ≡ length self.now }
+    {
+        self.ends.len() as u32
+    }
+}
+
+/// The node that goes on from a node by the number, which is made where there is none yet. On `NoMemory` there is none
+/// more.
+fn child_of(edges: &mut IndexSet<Edge>, parent: usize, number: usize) -> Result<usize, NoMemory>
+    ensures child { IfOk result
+        (λ n. (place : ℕ) × (n ≡ place + 1)
+        × IsChild edges.old.keys edges.new.keys (record { parent = parent; text = number }) place) }
+    ensures unchanged { OnErr result (edges.new.keys ≡ edges.old.keys) }
+{
+    let edge = Edge {
+        parent,
+        text: number,
+    };
+    let (place, _is_new) = edges.insert_full(edge)?;
+    // Says that the next number is one.
+    let _count = edges.len();
+    Ok(place + 1)
+}

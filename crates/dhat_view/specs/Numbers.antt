@@ -1,0 +1,24 @@
+-- Texts by numbers of names.
+use Rattle.std.specs.Prelude.{◌≡◌, ℕ, All, List, [], ◌∷◌, ◌++◌, map, slice_index}
+use Rattle.cost_tree.specs.Texts.{IsText, texts_of}
+use Rattle.dhat_json.specs.declared.profile.Point.{Point}
+
+-- the numbers are those of texts, one for each
+pub record AreNumbers (names : List (List ℕ)) (numbers : List ℕ) (texts : List (List ℕ)) : Type
+    0 where
+  pub held : All (IsText names) numbers
+  pub texts_are : texts_of names numbers ≡ texts
+
+-- the numbers of these frames in a table of numbers
+abbrev pub numbers_at : List ℕ → List ℕ → List ℕ
+numbers_at table frames = map (λ frame. slice_index table frame) frames
+
+-- for each point the numbers of its frames
+abbrev pub numbers_in : List ℕ → List Point → List (List ℕ)
+numbers_in table points = map (λ point. numbers_at table point.fs) points
+
+-- the last list has these numbers at its end too
+abbrev pub LastGains : List (List ℕ) → List ℕ → List (List ℕ) → Type 0
+LastGains old numbers new =
+    (earlier : List (List ℕ)) (last : List ℕ) → old ≡ earlier ++ last ∷ []
+    → new ≡ earlier ++ (last ++ numbers) ∷ []

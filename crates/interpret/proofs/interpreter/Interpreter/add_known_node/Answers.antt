@@ -1,0 +1,14 @@
+use Rattle.std.proofs.Common.{refl}
+use Rattle.std.specs.Prelude.{unwrap_or}
+use Rattle.interpret.proofs.FrontLemmas.{ok-holds}
+use Rattle.interpret.proofs.TakeLemmas.{takes-held}
+use Rattle.interpret.proofs.interpreter.Interpreter.add_known_node.Goals as goal
+
+pub returns-in-Some-clause-taken : goal.returns-in-Some-clause-taken
+returns-in-Some-clause-taken c = λ taken.
+    let version = unwrap_or c.self.inside.version 1 in
+    let added = c.add_held_node.ensures in
+    let result = c.add_held_node.result in
+    rw (← c.self.view_is) (λ line. takes-held _ c.add_held_node.new.nodes c.args.ip c.args.parent c.in-Some.instruction.number c.in-Some.instruction.frames version line _ _ c.self.invariant refl
+    c.in-Some.ensures.some c.in-Some.ensures.number c.in-Some.ensures.frames (ok-holds result c.is_ok.result c.is_ok.ensures.value taken added.added) (ok-holds result c.is_ok.result c.is_ok.ensures.value taken added.lines version)
+    (ok-holds result c.is_ok.result c.is_ok.ensures.value taken added.no_fault))

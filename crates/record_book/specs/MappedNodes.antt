@@ -1,0 +1,27 @@
+-- Which nodes of the trace have the stacks of nodes of the scripts.
+use Rattle.std.specs.Prelude.{◌≡◌, ◌≢◌, ℕ, ◌+◌, ◌≤◌, List, length, slice_get, unwrap_or}
+use Rattle.stack_table.specs.Node.{Node}
+use Rattle.stack_table.specs.Stack.{stack}
+use Rattle.record_book.specs.declared.node_map.NodeMap.{NodeMap}
+use Rattle.record_book.specs.declared.turn_stack.TurnStack.{TurnStack}
+use Rattle.record_book.specs.declared.turn_stack.TurnStack.TheVariants.{Known, Ips}
+
+-- the node of the trace for node n of the scripts, 0 where it isn't known
+abbrev pub number_at : NodeMap → ℕ → ℕ
+number_at map n = unwrap_or (slice_get map.numbers.items n) 0
+
+-- each node that is known is one of the trace, and has the stack of the scripts' node
+pub record AreMapped (map : NodeMap) (said nodes : List Node) : Type 0 where
+  pub count : length map.numbers.items ≡ length said + 1
+  pub held : (n : ℕ) → number_at map n ≤ length nodes
+  pub stacks : (n : ℕ) → number_at map n ≢ 0 → stack nodes (number_at map n) ≡ stack said n
+
+-- the ips of a turn's stack
+abbrev pub ips_of : List Node → TurnStack → List ℕ
+ips_of nodes (Known number) = stack nodes number
+ips_of nodes (Ips ips) = ips.now
+
+-- a node that is known is one of the trace
+abbrev pub IsKnown : List Node → TurnStack → Type 0
+IsKnown nodes (Known number) = number ≤ length nodes
+IsKnown nodes (Ips ips) = Unit {0}
