@@ -1,6 +1,6 @@
 -- Lines of a trace whose snapshots are taken.
 use Rattle.std.proofs.Common.{◌≡◌, ℕ, List, [], ◌∷◌, ◌++◌, Option, None, Some, Err, IfSome, ap, sym, subst, ◌∙◌}
-use Rattle.std.specs.Option.{option_and_then, option_map, option_or}
+use Rattle.std.specs.Option.{option_map, option_or}
 use Rattle.live_ledger.specs.declared.event.Event.{Event}
 use Rattle.live_ledger.specs.declared.event.EventFault.{EventFault}
 use Rattle.ht_trace.specs.declared.error.LineError.{LineError}
@@ -23,7 +23,7 @@ use Rattle.command_frame.specs.Report.{Writes}
 use Rattle.command_frame.specs.Told.{Told}
 use Rattle.trace_reading.specs.declared.fault.TraceFault.TheVariants.{Line, Event as event}
 use Rattle.trace_reading.specs.TraceFault.{told}
-use Rattle.commands.specs.MassifReport.{command_in, fault_named, massif_fault, massif_written, sampler_fault}
+use Rattle.commands.specs.MassifReport.{command_in, massif_fault, massif_written, sampler_fault}
 use Rattle.commands.specs.MassifSettings.{MassifSettings}
 
 -- what is told of an event's fault
@@ -53,10 +53,10 @@ passed_line settings lines line tables brought passes stands =
     taken_line settings lines line tables (step.Event brought) (passes.no_fault [] lines stands) (passes.stands [] lines stands).tables_is (sym (passes.brings [] lines stands))
 
 -- the sampler's fault by its own options
-pub fault_by_options : (options : MassifOptions) (settings : MassifSettings) (tables : TableState) (earlier : List Event) (taken : Event) (found : Option SampleFault) → options ≡ settings.options
-    → sample_fault options (ignores tables settings.names) earlier taken ≡ found → sampler_fault settings tables earlier (Some taken) ≡ option_and_then fault_named found
+pub fault_by_options : (options : MassifOptions) (settings : MassifSettings) (tables : TableState) (earlier : List Event) (taken : Event) (found : Option EventFault) → options ≡ settings.options
+    → sample_fault options (ignores tables settings.names) earlier taken ≡ found → sampler_fault settings tables earlier (Some taken) ≡ found
 fault_by_options options settings tables earlier taken found same is =
-    ap (λ (o : MassifOptions). option_and_then fault_named (sample_fault o (ignores tables settings.names) earlier taken)) (sym same) ∙ ap (option_and_then fault_named) is
+    ap (λ (o : MassifOptions). sample_fault o (ignores tables settings.names) earlier taken) (sym same) ∙ is
 
 -- what is true of the one that there is, if there is one
 pub at_some : {X : Type 0} (o : Option X) (x : X) (P : X → Type 0) → o ≡ Some x → IfSome o P → P x
@@ -78,5 +78,5 @@ pub verdict_is : (text before items : List ℕ) (profile : Profile) → items �
 verdict_is text before items profile appended none is = ap Writes (sym (appended ∙ (ap (λ (old : List ℕ). old ++ massif_text profile) none ∙ is)))
 
 -- a fault that is known is told as it is
-pub known_fault : (fault known : SampleFault) (found : Option SampleFault) → fault ≡ known → Tells {T = Unit {0}} (Err fault) found → Tells {T = Unit {0}} (Err known) found
+pub known_fault : (fault known : SampleFault) (found : Option EventFault) → fault ≡ known → Tells {T = Unit {0}} (Err fault) found → Tells {T = Unit {0}} (Err known) found
 known_fault fault known found is tells = subst (λ (f : SampleFault). Tells {T = Unit {0}} (Err f) found) is tells

@@ -9,6 +9,8 @@ use Rattle.dhat_json.specs.declared.figure.FigureKey.{FigureKey}
 use Rattle.dhat_json.specs.FaultText.{fault_message}
 use Rattle.dhat_json.specs.Figure.{figure_key}
 use Rattle.dhat_json.specs.KeyName.{key_name}
+use Rattle.dhat_view.specs.declared.fault.ViewFault.TheVariants as view
+use Rattle.dhat_view.specs.FaultText.{fault_text as view_text}
 use Rattle.commands.specs.declared.document_fault.DocumentFault.{DocumentFault}
 use Rattle.commands.specs.declared.document_fault.DocumentFault.TheVariants.{Document, NoFigures, TooLarge}
 
@@ -24,4 +26,4 @@ figures_text key = codes "no figures for " ++ key_name (figure_key key)
 abbrev pub told : DocumentFault → Told
 told (Document fault) = record { text = fault_message fault; status = document_status fault }
 told (NoFigures key) = record { text = figures_text key; status = Malformed }
-told TooLarge = record { text = codes "figures too large"; status = PastLimit }
+told TooLarge = record { text = view_text view.TooLarge; status = PastLimit }

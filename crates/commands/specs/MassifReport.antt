@@ -1,16 +1,13 @@
 -- What `massif` makes of the lines of a trace.
 use Rattle.std.specs.Prelude.{ℕ, List, [], ◌∷◌, ◌++◌, Option, None, Some, unwrap_or}
-use Rattle.std.specs.Option.{option_and_then, option_map, option_or}
+use Rattle.std.specs.Option.{option_map, option_or}
 use Rattle.live_ledger.specs.declared.event.Event.{Event}
 use Rattle.live_ledger.specs.declared.event.EventFault.{EventFault}
-use Rattle.live_ledger.specs.declared.event.EventFault.TheVariants as ledger
 use Rattle.ht_trace.specs.LineFault as tables
 use Rattle.ht_trace.specs.StepOf.{event_of, step_of}
 use Rattle.ht_trace.specs.TableState.{TableState, tables_of}
 use Rattle.ht_trace.specs.TraceEvents.{events}
 use Rattle.massif_file.specs.MassifText.{massif_text}
-use Rattle.massif_sample.specs.declared.fault.SampleFault.{SampleFault}
-use Rattle.massif_sample.specs.declared.fault.SampleFault.TheVariants as sample
 use Rattle.massif_sample.specs.FunctionNames.{ignores}
 use Rattle.massif_sample.specs.SampleFault.{sample_fault}
 use Rattle.massif_sample.specs.Sampled.{sampled}
@@ -32,19 +29,12 @@ massif_written settings lines = massif_text
     (sampled settings.options settings.names (tables_of lines) (events lines)
     (command_in (tables_of lines)))
 
--- an event's fault as the ledger names it; want of memory is none
-abbrev pub fault_named : SampleFault → Option EventFault
-fault_named sample.FreeOfNothing = Some ledger.FreeOfNothing
-fault_named sample.CostTooLarge = Some ledger.CostTooLarge
-fault_named sample.NoMemory = None
-
 -- the fault of an event after earlier ones: that of the ledger, or else that its gross bytes or its time are too many
 abbrev pub sampler_fault : MassifSettings → TableState → List Event → Option Event
     → Option EventFault
 sampler_fault settings tables earlier None = None
 sampler_fault settings tables earlier (Some taken) =
-    option_and_then fault_named
-    (sample_fault settings.options (ignores tables settings.names) earlier taken)
+    sample_fault settings.options (ignores tables settings.names) earlier taken
 
 -- the fault of what a line of a trace says after earlier lines: the tables judge first, and then, by the tables with it, the
 -- sampler

@@ -5,6 +5,7 @@ ghost use Rattle.commands.specs.DocumentFault.{document_status, figures_text};
 
 use command_frame::{Fault, FaultStatus};
 use dhat_json::{DhatFault, FigureKey};
+use dhat_view::ViewFault;
 use hp_num::{NoMemory, put_bytes};
 
 /// What is wrong with a DHAT profile.
@@ -27,7 +28,7 @@ impl Fault for DocumentFault {
         match self {
             DocumentFault::Document(fault) => fault.put_message(out),
             DocumentFault::NoFigures(key) => put_no_figures(*key, out),
-            DocumentFault::TooLarge => put_bytes(out, b"figures too large"),
+            DocumentFault::TooLarge => put_bytes(out, ViewFault::TooLarge.text().as_bytes()),
         }
     }
 

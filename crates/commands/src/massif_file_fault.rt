@@ -2,6 +2,7 @@
 ghost use Rattle.std.specs.Prelude.{◌≡◌};
 
 use command_frame::{Fault, FaultStatus};
+use convert::ConvertFault;
 use hp_num::{NoMemory, put_bytes};
 use massif_file::ProfileFault;
 
@@ -24,8 +25,10 @@ impl Fault for MassifFileFault {
     fn put_text(&self, out: &mut Vec<u8>) -> Result<(), NoMemory> {
         match self {
             MassifFileFault::File(fault) => put_bytes(out, fault.text().as_bytes()),
-            MassifFileFault::NoTree => put_bytes(out, b"no tree"),
-            MassifFileFault::TooLarge => put_bytes(out, b"figures too large"),
+            MassifFileFault::NoTree => put_bytes(out, ConvertFault::NoTree.text().as_bytes()),
+            MassifFileFault::TooLarge => {
+                put_bytes(out, ConvertFault::TooLarge.text().as_bytes())
+            }
         }
     }
 

@@ -23,7 +23,7 @@ use command_frame::{Batch, LineRefusal, LineReport, LineTaker};
 use cost_tree::FrameTest;
 use hp_num::NoMemory;
 use ht_trace::{LineError, Step, Tables};
-use live_ledger::{Event, EventFault, Ledger};
+use live_ledger::{Event, Ledger};
 use massif_file::put_profile;
 use massif_sample::{MassifOptions, SampleFault, Sampler, sampling_goes_on};
 use std::alloc::Global;
@@ -183,8 +183,7 @@ impl<A: Fn(&[u8]) -> bool, I: Fn(&[u8]) -> bool, S: Settled> MassifReader<A, I, 
         let line = line_at_front(&self.ledger, ready)?;
         match sampler.event(line.event, &mut self.ledger, &self.tables) {
             Ok(()) => Some(line.bytes),
-            Err(SampleFault::FreeOfNothing) => None,
-            Err(SampleFault::CostTooLarge) => None,
+            Err(SampleFault::Event(_)) => None,
             Err(SampleFault::NoMemory) => {
                 self.sampler = None;
                 Some(line.bytes)
@@ -328,12 +327,7 @@ fn follow<A: Fn(&[u8]) -> bool, I: Fn(&[u8]) -> bool>(
         }
         Step::Event { event } => match sampler.event(event, ledger, tables) {
             Ok(()) => Ok(()),
-            Err(SampleFault::FreeOfNothing) => Err(LineRefusal::Fault(TraceFault::Event(
-                EventFault::FreeOfNothing,
-            ))),
-            Err(SampleFault::CostTooLarge) => Err(LineRefusal::Fault(TraceFault::Event(
-                EventFault::CostTooLarge,
-            ))),
+            Err(SampleFault::Event(fault)) => Err(LineRefusal::Fault(TraceFault::Event(fault))),
             Err(SampleFault::NoMemory) => Err(LineRefusal::NoMemory),
         },
     }

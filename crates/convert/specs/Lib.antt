@@ -5,6 +5,7 @@ pub mod AreFolded
 pub mod Chosen
 pub mod Converted
 pub mod ConvertFault
+pub mod FaultText
 pub mod AreTreeSums
 pub mod Numbers
 pub mod Levels

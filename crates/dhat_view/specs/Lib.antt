@@ -4,5 +4,6 @@ pub mod PointCosts
 pub mod Lines
 pub mod TreeText
 pub mod ViewFault
+pub mod FaultText
 pub mod ViewText
 pub mod LinesIn

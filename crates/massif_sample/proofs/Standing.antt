@@ -10,6 +10,7 @@ use Rattle.live_ledger.specs.declared.event.Event.{Event}
 use Rattle.live_ledger.specs.declared.event.Event.TheVariants.{Alloc, Free, Tick}
 use Rattle.live_ledger.specs.declared.event.EventFault.{EventFault}
 use Rattle.live_ledger.specs.declared.event.EventFault.TheVariants as ledger_fault
+use Rattle.std.specs.Option.{option_or}
 use Rattle.live_ledger.specs.ByInfo.{alloc_weight, free_weight}
 use Rattle.live_ledger.specs.Events.{event_count, is_counted, is_free}
 use Rattle.live_ledger.specs.Faults.{fault_at, fault_of}
@@ -17,7 +18,7 @@ use Rattle.live_ledger.specs.LedgerState.{HeldInfo, LedgerState}
 use Rattle.massif_cull.specs.declared.snapshot.Offer.{Offer}
 use Rattle.massif_cull.specs.declared.snapshot.Taken.TheVariants.{Detailed, Peak}
 use Rattle.massif_sample.specs.declared.fault.SampleFault.{SampleFault}
-use Rattle.massif_sample.specs.declared.fault.SampleFault.TheVariants.{FreeOfNothing, CostTooLarge, NoMemory}
+use Rattle.massif_sample.specs.declared.fault.SampleFault.TheVariants as sample
 use Rattle.massif_sample.specs.declared.options.MassifOptions.{MassifOptions}
 use Rattle.massif_sample.specs.declared.running.Running.{Running}
 use Rattle.massif_sample.specs.Counted.{counts}
@@ -28,7 +29,7 @@ use Rattle.massif_sample.specs.HeapTotals.{gross_total, gross_weight, heap_weigh
 use Rattle.massif_sample.specs.Offers.{offer_at, offers, offers_of_event, peak_before}
 use Rattle.massif_sample.specs.Options.{AreInRange}
 use Rattle.massif_sample.specs.Running.{AreFigures, HasBlock, passed, passes_most, ticked}
-use Rattle.massif_sample.specs.SampleFault.{Tells, fault_or, is_too_large, sample_fault, size_fault}
+use Rattle.massif_sample.specs.SampleFault.{Tells, is_too_large, sample_fault, size_fault}
 use Rattle.massif_sample.specs.SamplesState.{SamplesState}
 use Rattle.massif_sample.specs.StandsFor.{AreJudged, IsOfStack, IsSampling, StandsFor}
 use Rattle.massif_sample.specs.Times.{time_of}
@@ -153,10 +154,10 @@ stands-free flags old new names tables events info stack size counted stands opt
 
 -- an event that the ledger takes
 fault-taken : (options : MassifOptions) (ignored : ℕ → Bool) (events : List Event) (event : Event) (counted : Bool) → fault_of events event ≡ None → counts ignored event ≡ counted
-    → sample_fault options ignored events event ≡ cond (counted && is_too_large options ignored (events ++ event ∷ [])) (Some CostTooLarge) None
+    → sample_fault options ignored events event ≡ cond (counted && is_too_large options ignored (events ++ event ∷ [])) (Some ledger_fault.CostTooLarge) None
 fault-taken options ignored events event counted none is =
-    ap (λ (f : Option EventFault). fault_or f (size_fault options ignored events event)) none
-    ∙ ap (λ (b : Bool). cond {A = Option SampleFault} (b && is_too_large options ignored (events ++ event ∷ [])) (Some CostTooLarge) None) is
+    ap (λ (f : Option EventFault). option_or f (size_fault options ignored events event)) none
+    ∙ ap (λ (b : Bool). cond {A = Option EventFault} (b && is_too_large options ignored (events ++ event ∷ [])) (Some ledger_fault.CostTooLarge) None) is
 
 -- one that isn't counted has no other fault
 pub fault-passed : (options : MassifOptions) (ignored : ℕ → Bool) (events : List Event) (event : Event) → fault_of events event ≡ None → counts ignored event ≡ false → sample_fault options ignored events event ≡ None
@@ -165,7 +166,7 @@ fault-passed options ignored events event none uncounted = fault-taken options i
 -- and one that is counted where the figures behind it pass their bound
 pub fault-counted : (options : MassifOptions) (ignored : ℕ → Bool) (events : List Event) (event : Event) (next : Running) (large : Bool)
     → is_counted event ≡ true → fault_of events event ≡ None → counts ignored event ≡ true → AreFigures options ignored (events ++ event ∷ []) next → passes_most next ≡ large
-    → sample_fault options ignored events event ≡ cond large (Some CostTooLarge) None
+    → sample_fault options ignored events event ≡ cond large (Some ledger_fault.CostTooLarge) None
 fault-counted options ignored events event next large is none counted figures passes =
     let after : List Event = events ++ event ∷ [] in
     let gross_is : gross_total options ignored after ≡ next.gross = let was = figures.gross in omega arith in
@@ -175,18 +176,17 @@ fault-counted options ignored events event next large is none counted figures pa
     ∙ ap (λ (t : ℕ). nat_lt (2 ^ 62) next.gross || nat_lt (2 ^ 62) t) time_is
     ∙ passes in
     fault-taken options ignored events event true none counted
-    ∙ ap (λ (b : Bool). cond {A = Option SampleFault} b (Some CostTooLarge) None) same
+    ∙ ap (λ (b : Bool). cond {A = Option EventFault} b (Some ledger_fault.CostTooLarge) None) same
 
 -- answers without a fault
-pub tells-ok : (r : Result (Unit {0}) SampleFault) (found : Option SampleFault) → IsOk r → found ≡ None → Tells r found
+pub tells-ok : (r : Result (Unit {0}) SampleFault) (found : Option EventFault) → IsOk r → found ≡ None → Tells r found
 tells-ok (Ok answer) found ok none = none
 tells-ok (Err error) found ok none = absurd (false≢true ok)
 
-pub tells-none : (r : Result (Unit {0}) SampleFault) (found : Option SampleFault) → IfErr r (λ fault. fault ≡ NoMemory) → found ≡ None → Tells r found
+pub tells-none : (r : Result (Unit {0}) SampleFault) (found : Option EventFault) → IfErr r (λ fault. fault ≡ sample.NoMemory) → found ≡ None → Tells r found
 tells-none (Ok answer) found only none = none
-tells-none (Err FreeOfNothing) found only none = absurd (let same : FreeOfNothing ≡ NoMemory = only in cc)
-tells-none (Err CostTooLarge) found only none = absurd (let same : CostTooLarge ≡ NoMemory = only in cc)
-tells-none (Err NoMemory) found only none = none
+tells-none (Err (sample.Event fault)) found only none = absurd (let same : sample.Event fault ≡ sample.NoMemory = only in cc)
+tells-none (Err sample.NoMemory) found only none = none
 
 -- an event that is counted calls for a detailed snapshot
 pub due-alloc : (options : MassifOptions) (ignored : ℕ → Bool) (events : List Event) (info stack size : ℕ) → ignored stack ≡ false

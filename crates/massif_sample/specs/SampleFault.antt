@@ -1,20 +1,16 @@
 -- The fault that an event has after a list of events.
 use Rattle.std.specs.Prelude.{◌≡◌, ℕ, ◌^◌, nat_lt, ◌&&◌, ◌||◌, Bool, List, [], ◌∷◌, ◌++◌, Option, None, Some, Result, Ok, Err, if◌then◌else◌}
+use Rattle.std.specs.Option.{option_or}
 use Rattle.live_ledger.specs.declared.event.Event.{Event}
 use Rattle.live_ledger.specs.declared.event.EventFault.{EventFault}
-use Rattle.live_ledger.specs.declared.event.EventFault.TheVariants as ledger
+use Rattle.live_ledger.specs.declared.event.EventFault.TheVariants.{CostTooLarge}
 use Rattle.live_ledger.specs.Faults.{fault_of}
 use Rattle.massif_sample.specs.declared.fault.SampleFault.{SampleFault}
-use Rattle.massif_sample.specs.declared.fault.SampleFault.TheVariants.{FreeOfNothing, CostTooLarge, NoMemory}
+use Rattle.massif_sample.specs.declared.fault.SampleFault.TheVariants as sample
 use Rattle.massif_sample.specs.declared.options.MassifOptions.{MassifOptions}
 use Rattle.massif_sample.specs.Counted.{counts}
 use Rattle.massif_sample.specs.HeapTotals.{gross_total}
 use Rattle.massif_sample.specs.Times.{time_of}
-
--- a ledger's fault
-abbrev pub of_ledger : EventFault → SampleFault
-of_ledger ledger.FreeOfNothing = FreeOfNothing
-of_ledger ledger.CostTooLarge = CostTooLarge
 
 -- whether the gross bytes that are live, or the time, pass 2^62
 abbrev pub is_too_large : MassifOptions → (ℕ → Bool) → List Event → Bool
@@ -22,23 +18,18 @@ is_too_large options ignored events = nat_lt (2 ^ 62) (gross_total options ignor
     || nat_lt (2 ^ 62) (time_of options ignored events)
 
 -- the fault of an event that the ledger takes
-abbrev pub size_fault : MassifOptions → (ℕ → Bool) → List Event → Event → Option SampleFault
+abbrev pub size_fault : MassifOptions → (ℕ → Bool) → List Event → Event → Option EventFault
 size_fault options ignored events event =
     if counts ignored event && is_too_large options ignored (events ++ event ∷ [])
     then Some CostTooLarge else None
 
-abbrev pub fault_or : Option EventFault → Option SampleFault → Option SampleFault
-fault_or (Some fault) otherwise = Some (of_ledger fault)
-fault_or None otherwise = otherwise
-
 -- the ledger's fault, or else that of an event that is counted where the gross bytes or the time would pass 2^62
-abbrev pub sample_fault : MassifOptions → (ℕ → Bool) → List Event → Event → Option SampleFault
-sample_fault options ignored events event = fault_or (fault_of events event)
+abbrev pub sample_fault : MassifOptions → (ℕ → Bool) → List Event → Event → Option EventFault
+sample_fault options ignored events event = option_or (fault_of events event)
     (size_fault options ignored events event)
 
 -- an answer tells this fault; want of memory comes in place of none
-abbrev pub Tells : {T : Type 0} → Result T SampleFault → Option SampleFault → Type 0
+abbrev pub Tells : {T : Type 0} → Result T SampleFault → Option EventFault → Type 0
 Tells (Ok answer) found = found ≡ None
-Tells (Err FreeOfNothing) found = found ≡ Some FreeOfNothing
-Tells (Err CostTooLarge) found = found ≡ Some CostTooLarge
-Tells (Err NoMemory) found = found ≡ None
+Tells (Err (sample.Event fault)) found = found ≡ Some fault
+Tells (Err sample.NoMemory) found = found ≡ None

@@ -35,7 +35,7 @@ use crate::samples::Samples;
 use cost_tree::FrameTest;
 use hp_num::NoMemory;
 use ht_trace::Tables;
-use live_ledger::{Event, Ledger, possible_weights};
+use live_ledger::{Event, EventFault, Ledger, possible_weights};
 use massif_cull::Taken;
 
 /// Offers a snapshot of the present place, as a peak or not. Of one that has a tree it is kept what stacks cost here, by the
@@ -366,7 +366,7 @@ fn take_alloc<A: Fn(&[u8]) -> bool>(
         return pass(samples, event, ledger);
     }
     let Some(next) = samples.allocated(size) else {
-        return Err(SampleFault::CostTooLarge);
+        return Err(SampleFault::Event(EventFault::CostTooLarge));
     };
     advance(
         samples, judged, event, stack, next, ledger, tables, alloc_fns,
@@ -424,7 +424,7 @@ fn take_free<A: Fn(&[u8]) -> bool>(
     }
     possible_weights();
     let Some(next) = samples.freed(size) else {
-        return Err(SampleFault::CostTooLarge);
+        return Err(SampleFault::Event(EventFault::CostTooLarge));
     };
     sample_ledger(samples, judged, true, ledger, tables, alloc_fns)?;
     advance(
