@@ -1,5 +1,5 @@
 -- The events that one line more of a raw trace brings, by what it says.
-use Rattle.std.proofs.Common.{◌≡◌, ℕ, ◌==◌, Bool, true, false, cond, List, [], ◌∷◌, ◌++◌, Option, Some, None, refl, sym, ap, ◌∙◌, subst, append_assoc, append-nil, length}
+use Rattle.std.proofs.Common.{◌≡◌, ℕ, List, [], ◌∷◌, ◌++◌, Some, refl, sym, ap, ◌∙◌, subst, append_assoc, append-nil}
 use Rattle.std.specs.List.{AllByRecursion}
 use Rattle.ht_lines.specs.Content.{Content, version_line, executable_line, command_line, system_line, clear_line, module_line, node_line, raw_allocation_line, raw_free_line, resident_line, attached_line, suppression_line, comment_line, other_line}
 use Rattle.live_ledger.specs.declared.event.Event.{Event}

@@ -2,6 +2,7 @@ mod AddingLemmas
 mod EntryLemmas
 mod FieldLemmas
 mod GrowthLemmas
+mod HolderLemmas
 mod IpLemmas
 mod KeepLemmas
 mod LedgerLemmas

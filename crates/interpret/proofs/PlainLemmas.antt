@@ -1,27 +1,24 @@
 -- A raw trace that is interpreted without symbols: each instruction has one frame, so that no stack is deeper than its nodes are.
-use Rattle.std.proofs.Common.{◌≡◌, ◌≢◌, ℕ, ◌+◌, ◌-◌, ◌^◌, ◌<◌, ◌≤◌, ◌==◌, ◌||◌, ◌⊎◌, inl, inr, append_assoc, Bool, true, false, cond, List, [], ◌∷◌, ◌++◌, length, map, reverse, max, Option, Some, None, refl, sym, ap, ap₂, ◌∙◌, arith, append-nil, length-append, subst}
-use Rattle.std.specs.Prelude.{find, fold, nat_le, nat_lt, sum_by, unwrap_or}
+use Rattle.std.proofs.Common.{◌≡◌, ℕ, ◌+◌, ◌<◌, ◌≤◌, ◌==◌, ◌||◌, ◌⊎◌, inl, inr, append_assoc, Bool, true, false, cond, List, [], ◌∷◌, ◌++◌, length, map, reverse, max, Option, Some, None, refl, sym, ap, ap₂, ◌∙◌, arith, append-nil, length-append, subst}
+use Rattle.std.specs.Prelude.{find, nat_le, sum_by, unwrap_or}
 use Rattle.std.specs.List.{AllByRecursion, filter_map, flat_map, list_any}
 use Rattle.std.specs.Option.{option_map, option_to_list}
 use Rattle.std.specs.Str.{bytes_eq}
 use Rattle.std.proofs.lemmas.Bool.Decides.{nat_tests}
 use Rattle.std.proofs.lemmas.Bool.{cases_lt, le-ltb}
 use Rattle.std.proofs.lemmas.List.{length-reverse}
-use Rattle.ht_lines.specs.Content.{Content, clear_line, module_line, node_line, raw_allocation_line}
+use Rattle.ht_lines.specs.Content.{Content, node_line, raw_allocation_line}
 use Rattle.ht_trace.specs.declared.error.LineError.{LineError}
-use Rattle.ht_trace.specs.declared.error.LineError.TheVariants.{TooMany}
 use Rattle.ht_trace.specs.LineFault.{most_entries, most_nodes}
 use Rattle.stack_table.specs.Node.{Node}
 use Rattle.stack_table.specs.Stack.{frame_count, outwards, stack_nodes}
-use Rattle.stack_table.proofs.Laws.{frame_count-newest, frame_count-older, frame_count-zero}
-use Rattle.interpret.specs.declared.infos.AllocationInfo.{AllocationInfo}
+use Rattle.stack_table.proofs.Laws.{frame_count-newest, frame_count-older}
 use Rattle.interpret.specs.FirstAppearances.{with_all, with_new}
 use Rattle.interpret.specs.IpLists.{raw_node_in, raw_nodes}
 use Rattle.interpret.specs.Modules.{LoadedModule, module_of}
 use Rattle.interpret.specs.RawFault.{allocation_fault, content_fault, full_fault, node_fault}
 use Rattle.interpret.specs.RawTables.{KnownIp, RawTables, info_in, infos, instructions, ip_frames, known, known_of, known_with, names, names_with, new_call, node_in, node_of, nodes, same_info, tables_after, tables_of}
-use Rattle.interpret.specs.Resolved.{Resolved, frame_names, frames_of, names_called, resolved, resolved_in, texts_in}
-use Rattle.interpret.specs.SymbolLine.{Symbol}
+use Rattle.interpret.specs.Resolved.{Resolved, frame_names, frames_of, names_called, resolved, resolved_in}
 use Rattle.interpret.proofs.GrowthLemmas.{added, filter_map-push, infos-push, known-push, names-push, nodes-push, tables-push}
 use Rattle.interpret.proofs.LedgerLemmas.{all-append}
 

@@ -5,6 +5,7 @@ pub mod SymbolEntries
 pub mod FirstAppearances
 pub mod RawContents
 pub mod Modules
+pub mod Holders
 pub mod ModuleEntries
 pub mod KnownEntries
 pub mod Resolved

@@ -39,6 +39,7 @@
 //! | `interpreter.rt` | a method for each kind of line (`Takes`, `Refuses`); one law leads to `line` |
 //! | `front.rt` | lines in their usual form at the front of bytes, taken where nothing is in doubt |
 //! | `name_table.rt`, `known_ips.rt`, `infos.rt`, `pointers.rt`, `modules.rt` | one table each |
+//! | `address_index.rt` | which module counts at an address |
 //! | `instruction_lines.rt`, `node_lines.rt`, `allocation_lines.rt` | add to tables, and write what is new |
 //! | `resolved.rt`, `symbol_frame.rt` | what stands at an address |
 //! | `symbols.rt`, `symbol_line.rt`, `start_index.rt` | a table's symbols; one line of it; their places |
@@ -46,6 +47,7 @@
 //! | `read_again.rt` | what the interpretation is when it is read again |
 #![tactic(auto)]
 
+mod address_index;
 mod allocation_lines;
 mod fault;
 mod front;

@@ -1,12 +1,14 @@
 //! The modules of a raw trace, and which of them holds an address. What stands in a module is no part of it.
-ghost use Rattle.std.specs.Prelude.{◌≡◌, ℕ, ◌+◌, ◌^◌, ◌<◌, ◌≤◌, List, [], ◌∷◌, ◌++◌, length, map, OnOk, OnErr, IfNone, IfOk, IfSome};
+ghost use Rattle.std.specs.Prelude.{◌≡◌, ℕ, ◌+◌, ◌^◌, ◌<◌, ◌≤◌, List, [], ◌∷◌, ◌++◌, if◌then◌else◌, length, map, Some, OnOk, IfNone, IfOk, IfSome};
 ghost use Rattle.std.specs.Option.{option_map};
 ghost use Rattle.std.specs.List.{list_any};
 ghost use Rattle.ht_lines.specs.Fields.{numbers};
 ghost use Rattle.ht_lines.specs.Reads.{RangesFit};
-ghost use Rattle.interpret.specs.Modules.{LoadedModule, holds_address, in_range, module_of, ranges_said};
+ghost use Rattle.interpret.specs.Holders.{holder_at};
+ghost use Rattle.interpret.specs.Modules.{LoadedModule, in_range, module_of, ranges_said};
 ghost use Rattle.interpret.specs.ModuleEntries.{module_kept};
 
+use crate::address_index::AddressIndex;
 use hp_num::{NoMemory, Text};
 use ht_lines::next_number;
 use std::alloc::Global;
@@ -27,21 +29,25 @@ pub struct ModuleEntry {
     pub ranges: Vec<AddressRange>,
 }
 
-/// The modules since the last line that cleared them. Contracts see it as their list.
+/// The modules since the last line that cleared them, and beside them which of them counts at each address. Contracts see it
+/// as their list.
 #[derive(Debug, Drop)]
 pub struct ModuleList {
     entries: Vec<ModuleEntry>,
+    index: AddressIndex,
     alloc: Global,
 }
 
 impl Model for ModuleList {
     ghost use Rattle.std.specs.Prelude.{List, map};
     ghost use Rattle.interpret.specs.Modules.{LoadedModule};
-    ghost use Rattle.interpret.specs.ModuleEntries.{module_kept};
+    ghost use Rattle.interpret.specs.ModuleEntries.{AreHeld, module_kept};
 
     ghost Value = { List LoadedModule };
 
     ghost view = { λ modules. map module_kept modules.entries.items };
+
+    ghost invariant = { λ modules. AreHeld modules.entries.items modules.index };
 }
 
 impl ModuleList {
@@ -51,6 +57,7 @@ impl ModuleList {
     {
         ModuleList {
             entries: Vec::new(alloc),
+            index: AddressIndex::new(alloc),
             alloc,
         }
     }
@@ -60,9 +67,10 @@ impl ModuleList {
         ensures { self.new ≡ [] }
     {
         self.entries.clear();
+        self.index.clear();
     }
 
-    /// Adds a module, whose tail has an offset and a size for each range.
+    /// Adds a module, whose tail has an offset and a size for each range. After `NoMemory` all modules may be gone.
     pub fn add(&mut self, name: &[u8], start: u64, tail: &[u8]) -> Result<(), NoMemory>
         requires fit { RangesFit start (numbers tail.now) }
         ensures added { OnOk result
@@ -72,10 +80,16 @@ impl ModuleList {
               start = start;
               ranges = ranges_said start (numbers tail.now);
             } ∷ []) }
-        ensures unchanged { OnErr result (self.new ≡ self.old) }
     {
         let name = Text::new(self.alloc, name)?;
         let ranges = read_ranges(self.alloc, start, tail)?;
+        self.entries.reserve(1)?;
+        let place = self.entries.len();
+        if let Err(fault) = put_ranges(&mut self.index, &ranges, place) {
+            self.entries.clear();
+            self.index.clear();
+            return Err(fault);
+        }
         self.entries.push(ModuleEntry {
             name,
             start,
@@ -88,7 +102,8 @@ impl ModuleList {
     pub fn last_holding(&self, ip: u64) -> Option<&ModuleEntry>
         ensures { option_map (λ entry. module_kept entry.now) result ≡ module_of self.now ip }
     {
-        last_holding(&self.entries, ip)
+        let place = self.index.holder(ip)?;
+        self.entries.get(place)
     }
 }
 
@@ -126,26 +141,18 @@ fn next_range(start: u64, tail: &[u8]) -> Option<(AddressRange, &[u8])>
     Some((range, after))
 }
 
-// The last module of a list that holds an address.
-fn last_holding(entries: &[ModuleEntry], ip: u64) -> Option<&ModuleEntry>
-    ensures { option_map (λ entry. module_kept entry.now) result
-        ≡ module_of (map module_kept entries.now) ip }
+// Puts the module at a place over all others, in each of its ranges.
+fn put_ranges(
+    index: &mut AddressIndex,
+    ranges: &[AddressRange],
+    place: usize,
+) -> Result<(), NoMemory>
+    ensures { OnOk result
+        ((ip : ℕ) → holder_at index.new ip
+        ≡ if list_any (in_range ip) ranges.now then Some place else holder_at index.old ip) }
 {
-    let mut left = entries.len();
-    'backwards: while left > 0 {
-        left -= 1;
-        if holds(&entries[left].ranges, ip) {
-            return Some(&entries[left]);
-        }
+    'each_range: for range in ranges {
+        index.put(*range, place)?;
     }
-    None
-}
-
-// Whether one of the ranges holds an address.
-fn holds(ranges: &[AddressRange], ip: u64) -> bool
-    ensures { result ≡ list_any (in_range ip) ranges.now }
-{
-    ranges
-        .iter()
-        .any(|range| range.begin <= ip && ip < range.end)
+    Ok(())
 }

@@ -1,4 +1,4 @@
-use Rattle.std.proofs.Common.{◌≡◌, ◌≤◌, length, refl, arith}
+use Rattle.std.proofs.Common.{◌≤◌, length, refl, arith}
 use Rattle.std.specs.Prelude.{unwrap_or}
 use Rattle.interpret.proofs.FrontLemmas.{held-lines, held-new, ok-holds}
 use Rattle.interpret.proofs.TakeLemmas.{takes-allocation}

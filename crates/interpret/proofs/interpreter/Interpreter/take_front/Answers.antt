@@ -1,4 +1,4 @@
-use Rattle.std.proofs.Common.{[], ap, refl, sym, ◌∙◌}
+use Rattle.std.proofs.Common.{[], ap, sym, ◌∙◌}
 use Rattle.std.specs.Prelude.{is_some}
 use Rattle.interpret.specs.InterpreterState.{InterpreterState}
 use Rattle.interpret.proofs.FrontLemmas.{front-taken}
