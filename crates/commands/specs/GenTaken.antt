@@ -15,4 +15,4 @@ pub record HasTaken (trace : ReadTrace) (generator : Generator) (lines : List (L
   pub read : HasRead trace [] taken
   pub split : lines ≡ taken ++ lines_yet generator
   pub no_fault : HasNoFault taken (lines_yet generator)
-  pub room : 4 * trace.peaks.ledger.totals.events + 64 * length (lines_yet generator) ≤ 2 ^ 34
+  pub room : 4 * trace.peaks.ledger.totals.events + 64 * length (lines_yet generator) ≤ 2 ^ 30

@@ -1,4 +1,4 @@
-//! The summary of a generated trace: its lines are read as they are made, and none is kept.
+//! The summary of a generated trace: its lines are read as they are made, so many at a time, and none is kept.
 ghost use Rattle.std.specs.Prelude.{◌≡◌, ◌≤◌, ◌++◌, [], length, IfOk, OnOk};
 ghost use Rattle.trace_gen.specs.GeneratorState.{IsAt, lines_yet};
 ghost use Rattle.trace_gen.specs.Sizes.{sizes_of};
@@ -61,17 +61,19 @@ fn read_lines(
     requires no_events { trace.old.peaks.ledger.totals.events ≡ 0 }
     ensures { OnOk result (HasRead trace.new [] (lines_yet generator.old)) }
 {
-    let mut line = Vec::new(alloc);
-    'lines: loop {
-        line.clear();
-        match generator.line(&mut line) {
-            Ok(true) => match trace.read(&line) {
-                Ok(()) => {}
-                Err(LineRefusal::NoMemory) => return Err(NoMemory),
-                Err(LineRefusal::Fault(_)) => unreachable!(),
-            },
-            Ok(false) => return Ok(()),
+    let mut text = Vec::new(alloc);
+    'texts: loop {
+        match generator.next_lines(&mut text) {
+            Ok(()) => {}
             Err(NoMemory) => return Err(NoMemory),
+        }
+        if text.is_empty() {
+            return Ok(());
+        }
+        match trace.read_text(&text) {
+            Ok(()) => {}
+            Err(LineRefusal::NoMemory) => return Err(NoMemory),
+            Err(LineRefusal::Fault(_)) => unreachable!(),
         }
     }
 }

@@ -1,2 +1,4 @@
 mod Steps
 mod Live
+mod InstructionLine
+mod MadeLines

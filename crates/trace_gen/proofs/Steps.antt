@@ -7,6 +7,7 @@ use Rattle.trace_gen.specs.declared.generator.Generator.{Generator}
 use Rattle.trace_gen.specs.declared.generator.Group.{Group}
 use Rattle.trace_gen.specs.declared.generator.Group.TheVariants.{Version, Names, Instructions, Nodes, Infos, Events}
 use Rattle.trace_gen.specs.Draws.{state_after}
+use Rattle.trace_gen.specs.PutLine.{PutsLine}
 use Rattle.trace_gen.specs.GeneratedTrace.{event_line, generated_lines, info_line, instruction_line, lines_from, name_line, node_line}
 use Rattle.trace_gen.specs.GeneratorState.{BlocksAre, IsAt, IsWithin, MakesLine, Stands, behind, draws_before, events_before, events_left, infos_left, lines_left, lines_yet}
 
@@ -44,8 +45,8 @@ has_infos sizes = record { lines = λ next. refl; draws = omega arith; no_events
 -- one of its lines was made, and the generator stands behind it
 pub passed : (old : Generator) (state : ℕ) (group following : Group) (line : ℕ → List ℕ) (before now : List ℕ) → HasLines (sizes_of old.options) group following line
     → old.group ≡ group → IsAt old → old.next < old.options.stacks → state ≡ state_after old.options.seed (draws_before (sizes_of old.options) group (old.next + 1)) → state < 2147483648
-    → now ≡ before ++ line old.next → length (line old.next) ≤ 40 → MakesLine old (behind (record old { state = state }) following) before now
-passed old state group following line before now has group_is at some state_is small now_is short =
+    → PutsLine before now (line old.next) → MakesLine old (behind (record old { state = state }) following) before now
+passed old state group following line before now has group_is at some state_is small put =
     let sizes : Sizes = sizes_of old.options in
     let after : List (List ℕ) = lines_left sizes following 0 in
     let one : lines_yet old ≡ line old.next ∷ (lines_from line (old.next + 1) (sizes.stacks - (old.next + 1)) ++ after) =
@@ -65,8 +66,7 @@ passed old state group following line before now has group_is at some state_is s
         };
         line = line old.next;
         lines = one ∙ ap (λ rest. line old.next ∷ (rest ++ after)) (no_line line (old.next + 1) sizes.stacks all.1);
-        text = now_is;
-        short = short;
+        put = put;
       })
       | inr less ↦ subst (λ (ends : Bool). MakesLine old (cond {A = Generator} ends there here) before now) (sym less.0) (record {
         at = subst (λ g. Stands sizes g (old.next + 1) state old.live.items) (sym group_is) (record {
@@ -78,8 +78,7 @@ passed old state group following line before now has group_is at some state_is s
         });
         line = line old.next;
         lines = one ∙ ap (λ lines. line old.next ∷ lines) (sym (ap (λ g. lines_left sizes g (old.next + 1)) group_is ∙ has.lines (old.next + 1)));
-        text = now_is;
-        short = short;
+        put = put;
       })
     ]
 

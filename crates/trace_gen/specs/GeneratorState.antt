@@ -1,12 +1,13 @@
 -- Where a generator stands in its trace.
-use Rattle.std.specs.Prelude.{◌≡◌, ℕ, ◌+◌, ◌-◌, ◌*◌, ◌<◌, ◌≤◌, ◌==◌, List, [], ◌∷◌, ◌++◌, codes, length, slice_index_or, Bool, true, false, if◌then◌else◌}
-use Rattle.hp_outside.specs.WholeLines.{text_of_lines}
+use Rattle.std.specs.Prelude.{◌≡◌, ℕ, ◌+◌, ◌-◌, ◌*◌, ◌<◌, ◌≤◌, ◌==◌, List, [], ◌∷◌, ◌++◌, codes, length, slice_index_or, All, Bool, true, false, if◌then◌else◌}
+use Rattle.hp_outside.specs.WholeLines.{IsLineText, text_of_lines}
 use Rattle.trace_gen.specs.Sizes.{Sizes, sizes_of}
 use Rattle.trace_gen.specs.declared.generator.Generator.{Generator}
 use Rattle.trace_gen.specs.declared.generator.Group.{Group}
 use Rattle.trace_gen.specs.declared.generator.Group.TheVariants.{Version, Command, Module, Names, Instructions, Nodes, Infos, Events}
 use Rattle.trace_gen.specs.Draws.{state_after}
 use Rattle.trace_gen.specs.Moves.{allocated, freed, moves}
+use Rattle.trace_gen.specs.PutLine.{PutsLine}
 use Rattle.trace_gen.specs.GeneratedTrace.{event_line, info_line, instruction_line, lines_from, name_line, node_line}
 
 -- the lines from one of a group on
@@ -95,8 +96,16 @@ pub record MakesLine (old new : Generator) (before now : List ℕ) : Type 0 wher
   pub at : IsAt new
   pub line : List ℕ
   pub lines : lines_yet old ≡ line ∷ lines_yet new
-  pub text : now ≡ before ++ line
-  pub short : length line ≤ 40
+  pub put : PutsLine before now line
+
+-- the next lines were made, and are these bytes
+pub record MakesLines (old new : Generator) (now : List ℕ) : Type 0 where
+  pub at : IsAt new
+  pub lines : List (List ℕ)
+  pub split : lines_yet old ≡ lines ++ lines_yet new
+  pub text : now ≡ text_of_lines lines
+  pub texts : All IsLineText lines
+  pub short : length now ≤ 41 * length lines
 
 -- so it was, or there is none
 abbrev pub Gives : Generator → Generator → List ℕ → List ℕ → Bool → Type 0

@@ -2,4 +2,5 @@ pub mod Sizes
 pub mod Draws
 pub mod Moves
 pub mod GeneratedTrace
+pub mod PutLine
 pub mod GeneratorState

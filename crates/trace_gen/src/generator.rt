@@ -1,8 +1,9 @@
 //! A generator of a trace, which makes its lines one after another. It holds what the next draws need, and how many blocks
 //! each info has live.
-ghost use Rattle.std.specs.Prelude.{◌≡◌, ◌+◌, ◌<◌, ◌≤◌, ◌==◌, ◌∷◌, ◌&&◌, nat_lt, length, true, false, IfOk, IsTrue, OnOk};
+ghost use Rattle.std.specs.Prelude.{◌≡◌, ◌+◌, ◌<◌, ◌≤◌, ◌==◌, [], ◌∷◌, ◌&&◌, nat_lt, length, true, false, IfOk, IsTrue, OnOk};
 ghost use Rattle.trace_gen.specs.GeneratedTrace.{generated_lines, generated_text};
-ghost use Rattle.trace_gen.specs.GeneratorState.{Gives, IsAt, MakesLine, Stands, behind, lines_left, lines_yet, text_left};
+ghost use Rattle.hp_outside.specs.WholeLines.{IsLineText};
+ghost use Rattle.trace_gen.specs.GeneratorState.{Gives, IsAt, MakesLine, MakesLines, Stands, behind, lines_left, lines_yet, text_left};
 ghost use Rattle.trace_gen.specs.Sizes.{sizes_of};
 
 use crate::draws::{next_state, number_below};
@@ -11,6 +12,9 @@ use crate::options::GeneratorOptions;
 use command_frame::TextMaker;
 use hp_num::{NoMemory, put_bytes};
 use std::alloc::Global;
+
+/// So many bytes of lines are made at once.
+const PIECE: usize = 65_536;
 
 /// The groups of lines of a trace, in order. The first three have one line each.
 #[derive(Clone, Copy, Debug, PartialEq, Eq)]
@@ -59,7 +63,7 @@ impl Generator {
         })
     }
 
-    /// Appends the next line without a line feed, and answers whether there was one. `NoMemory` where memory is wanting; the
+    /// Appends the next line with its line feed, and answers whether there was one. `NoMemory` where memory is wanting; the
     /// generator is then of no use, and `line` may hold anything.
     pub fn line(&mut self, line: &mut Vec<u8>) -> Result<bool, NoMemory>
         requires at { IsAt self.old }
@@ -84,6 +88,25 @@ impl Generator {
         Ok(true)
     }
 
+    /// The next lines, each with its line feed, in place of what `text` held: as many as give 64 KiB or more, or all that
+    /// are left. `NoMemory` where memory is wanting; the generator is then of no use, and `text` may hold anything.
+    pub fn next_lines(&mut self, text: &mut Vec<u8>) -> Result<(), NoMemory>
+        requires at { IsAt self.old }
+        ensures made { OnOk result (MakesLines self.old self.new text.new.items) }
+        ensures all { OnOk result (length text.new.items < 65536 → lines_yet self.new ≡ []) }
+        ensures most { OnOk result (length text.new.items ≤ 65576) }
+    {
+        text.clear();
+        'lines: while text.len() < PIECE {
+            match self.line(text) {
+                Ok(true) => {}
+                Ok(false) => return Ok(()),
+                Err(NoMemory) => return Err(NoMemory),
+            }
+        }
+        Ok(())
+    }
+
     /// A group of one line.
     fn head(&mut self, text: &[u8], following: Group, line: &mut Vec<u8>) -> Result<(), NoMemory>
         requires lines { lines_yet self.old
@@ -91,10 +114,12 @@ impl Generator {
         requires following { Stands (sizes_of self.old.options) following 0 self.old.state
             self.old.live.items }
         requires first { self.old.next ≡ 0 }
+        requires one_line { IsLineText text.now }
         requires short { length text.now ≤ 40 }
         ensures made { OnOk result (MakesLine self.old self.new line.old.items line.new.items) }
     {
         put_bytes(line, text)?;
+        put_bytes(line, b"\n")?;
         self.group = following;
         Ok(())
     }
@@ -130,7 +155,7 @@ impl Generator {
         let number = self.next + 1;
         self.state = next_state(self.state);
         let parent = number_below(number, self.state);
-        put_pair(line, b"t ", number, b" ", parent)?;
+        put_pair(line, b't', number, parent)?;
         self.pass(Group::Infos);
         Ok(())
     }
@@ -144,7 +169,7 @@ impl Generator {
         let number = self.next + 1;
         self.state = next_state(self.state);
         let size = number_below(4096, self.state) + 1;
-        put_pair(line, b"a ", size, b" ", number)?;
+        put_pair(line, b'a', size, number)?;
         self.pass(Group::Events);
         Ok(())
     }
@@ -192,11 +217,7 @@ impl TextMaker for Generator {
     ghost pieces = { λ generator. length (lines_yet generator) };
 
     fn piece(&mut self, output: &mut Vec<u8>) -> Result<bool, NoMemory> {
-        if !self.line(output)? {
-            return Ok(false);
-        }
-        put_bytes(output, b"\n")?;
-        Ok(true)
+        self.line(output)
     }
 }
 

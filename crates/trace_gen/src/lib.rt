@@ -2,10 +2,11 @@
 //! allocation or, where its info has a live block, a free.
 //!
 //! What it promises: `generated_text` is that trace, over whole lists of lines, draws and events. `Generator::new` has
-//! all of its lines to make (`lines`), at most 10,016,003 (`few`). `line` makes the next one, of at most 40 bytes, from
-//! the state of the draws and the live blocks of each info (`Gives`), so its memory depends on the stacks and not on
-//! the events. As a `TextMaker` it makes the same lines, each with its line feed: one maker for what writes the trace
-//! and for what reads it. The ranges of its numbers are facts of `GeneratorOptions`.
+//! all of its lines to make (`lines`), at most 10,016,003 (`few`). `line` makes the next one, of at most 40 bytes and
+//! its line feed, from the state of the draws and the live blocks of each info (`Gives`), so its memory depends on the
+//! stacks and not on the events. `next_lines` makes the text of as many as give 64 KiB (`MakesLines`), and as a
+//! `TextMaker` it makes the same lines: one maker for what writes the trace and for what reads it. The ranges of its
+//! numbers are facts of `GeneratorOptions`.
 #![tactic(auto)]
 
 mod draws;

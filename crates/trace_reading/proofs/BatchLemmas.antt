@@ -94,13 +94,12 @@ text_of_lines-push [] line = refl
 text_of_lines-push (first ∷ lines) line =
     ap (λ rest. first ++ (10 ∷ rest)) (text_of_lines-push lines line) ∙ sym (append_assoc first (10 ∷ text_of_lines lines) (line ++ (10 ∷ [])))
 
--- one line more, without a fault
-good_more : (report : Report) (earlier lines : List (List ℕ)) (line : List ℕ) → AreGood report earlier lines
-    → report.line_fault (earlier ++ lines) line ≡ None → AreGood report earlier (lines ++ line ∷ [])
-good_more report earlier [] line good none = (ap (λ before. report.line_fault before line) (sym (append-nil earlier)) ∙ none, tt)
-good_more report earlier (first ∷ lines) line good none = (
+-- more lines, without a fault
+pub good_append : (report : Report) (earlier lines more : List (List ℕ)) → AreGood report earlier lines → AreGood report (earlier ++ lines) more → AreGood report earlier (lines ++ more)
+good_append report earlier [] more good behind = subst (λ before. AreGood report before more) (append-nil earlier) behind
+good_append report earlier (first ∷ lines) more good behind = (
   good.0,
-  good_more report (earlier ++ first ∷ []) lines line good.1 (ap (λ before. report.line_fault before line) (append_assoc earlier (first ∷ []) lines) ∙ none),
+  good_append report (earlier ++ first ∷ []) lines more good.1 (subst (λ before. AreGood report before more) (sym (append_assoc earlier (first ∷ []) lines)) behind),
 )
 
 -- what one line more gives
@@ -124,7 +123,7 @@ line_more {before} report initial old new ready bytes number more front one =
       text = take-add bytes more ready ∙ (ap (λ front. front ++ take more (drop bytes ready)) front.text
           ∙ (ap (λ last. text_of_lines front.lines ++ last) line_text ∙ sym (text_of_lines-push front.lines one.line)));
       count = length_push front.lines one.line ∙ ap (λ n. n + 1) front.count;
-      good = λ earlier has. good_more report earlier front.lines one.line (front.good earlier has) (one.no_fault (earlier ++ front.lines) (front.taken earlier has));
+      good = λ earlier has. good_append report earlier front.lines (one.line ∷ []) (front.good earlier has) (one.no_fault (earlier ++ front.lines) (front.taken earlier has), tt);
       gained = λ earlier has.
           one.gained (earlier ++ front.lines) (front.taken earlier has)
           ∙ (ap (λ l. l ++ report.gains (earlier ++ front.lines) one.line) (front.gained earlier has)

@@ -1,3 +1,4 @@
 pub mod Laws
 mod ReadLemmas
 mod BatchLemmas
+mod TextLemmas

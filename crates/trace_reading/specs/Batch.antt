@@ -1,5 +1,6 @@
 -- What is taken of the bytes of a trace at once.
 use Rattle.std.specs.Prelude.{◌≡◌, ℕ, ◌+◌, List, [], ◌∷◌, ◌++◌, length, None}
+use Rattle.hp_outside.specs.Lines.{lines_of}
 use Rattle.hp_outside.specs.WholeLines.{IsLineText}
 use Rattle.live_ledger.specs.declared.event.Event.{Event}
 use Rattle.peak_costs.specs.Peak.{StandsFor}
@@ -10,7 +11,7 @@ use Rattle.command_frame.specs.Batch.{HasTakenFront, IsShortLine}
 use Rattle.command_frame.specs.Report.{Report}
 use Rattle.trace_reading.specs.declared.read_trace.ReadTrace.{ReadTrace}
 use Rattle.trace_reading.specs.ReadTrace.{HasRead}
-use Rattle.trace_reading.specs.TraceReport.{content_fault, trace_report}
+use Rattle.trace_reading.specs.TraceReport.{HaveNoFault, content_fault, trace_report}
 
 -- the first so many of these bytes are so many whole lines, which were read; whatever the text is that is written at the
 -- end, they give nothing to it
@@ -69,3 +70,12 @@ pub record HasReadLine (old new : ReadTrace) (ready : List ℕ) (bytes : ℕ) (e
       → events (earlier ++ line ∷ []) ≡ events earlier ++ event ∷ []
   pub peaks : (taken : List Event) → StandsFor old.peaks taken
       → StandsFor new.peaks (taken ++ event ∷ [])
+
+-- all lines of a text but those of what is left of it were read without a fault, behind all lines that were read before
+pub record HasReadTo (old new : ReadTrace) (text left : List ℕ) : Type 0 where
+  pub lines : List (List ℕ)
+  pub split : lines_of text ≡ lines ++ lines_of left
+  pub read : (patterns earlier : List (List ℕ)) → HasRead old patterns earlier
+      → HasRead new patterns (earlier ++ lines)
+  pub good : (patterns earlier : List (List ℕ)) → HasRead old patterns earlier
+      → HaveNoFault patterns earlier lines

@@ -10,6 +10,7 @@ use Rattle.ht_trace.specs.StepOf.{event_of, step_of}
 use Rattle.ht_trace.specs.TableState.{TableState, tables_of}
 use Rattle.ht_trace.specs.TraceEvents.{events}
 use Rattle.ht_trace.specs.TraceLists as lists
+use Rattle.command_frame.specs.Batch.{AreGood}
 use Rattle.command_frame.specs.Plan.{Plan, one_file}
 use Rattle.command_frame.specs.Report.{Report, Writes}
 use Rattle.command_frame.specs.Told.{Told}
@@ -50,6 +51,10 @@ trace_report patterns text = record {
   gains = λ earlier line. [];
   verdict = λ lines. Writes (text lines);
 }
+
+-- none of these lines has a fault after the earlier ones and those before it
+abbrev pub HaveNoFault : List (List ℕ) → List (List ℕ) → List (List ℕ) → Type 0
+HaveNoFault patterns = AreGood (trace_report patterns (λ lines. []))
 
 -- one trace is read, for which no suppressions are given
 abbrev pub trace_plan : List ℕ → (List (List ℕ) → List ℕ) → Plan

@@ -22,6 +22,24 @@ pub struct ReadLine {
 }
 
 impl ReadTrace {
+    /// Reads lines at the front of the bytes, as `read_events` does, and none before a version line.
+    pub(crate) fn read_front(&mut self, ready: &[u8]) -> Batch
+        requires sound { IsSound self.old }
+        requires room { 4 * self.old.peaks.ledger.totals.events + length ready.now ≤ 2 ^ 34 }
+        ensures sound { IsSound self.new }
+        ensures tables { self.new.tables ≡ self.old.tables }
+        ensures taken { (patterns : List (List ℕ)) (text : List (List ℕ) → List ℕ)
+            → HasReadFront self.old self.new patterns text ready.now result.bytes result.lines }
+        ensures held { result.bytes ≤ length ready.now }
+        ensures events { 4 * self.new.peaks.ledger.totals.events
+            ≤ 4 * self.old.peaks.ledger.totals.events + result.bytes }
+    {
+        match self.end() {
+            Ok(()) => self.read_events(ready),
+            Err(_) => Batch { bytes: 0, lines: 0 },
+        }
+    }
+
     /// Reads lines at the front of the bytes, as `read` would, as long as each is that of an event in its usual form, its
     /// info is held, and it has no fault. A version line was read before. It takes no memory.
     pub fn read_events(&mut self, ready: &[u8]) -> Batch

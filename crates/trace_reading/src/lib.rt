@@ -5,7 +5,8 @@
 //!
 //! - `ReadTrace` keeps `Tables` and, grown step by step beside them, `Peaks`: the tables stand for the lines, behind the texts
 //!   of suppressions that were given before, and the peaks for their events (`specs/ReadTrace`). `read` takes one line, with
-//!   the first fault that it has; `read_events` takes lines of events many at a time, where nothing about them is in doubt.
+//!   the first fault that it has; `read_events` takes lines of events many at a time, where nothing about them is in doubt;
+//!   `read_text` takes all lines of a text in memory in these two ways.
 //! - `TraceWriter` is what a command over one trace writes: its ghost member `text` is a function of the patterns and the
 //!   lines, and one method appends it. `run_trace` comes to the frame's `Runs` by `trace_plan`, for any writer: the loop, a
 //!   batch and a line are proved once for all of them.
@@ -19,7 +20,7 @@
 //!
 //! | File | Does |
 //! |---|---|
-//! | `read_trace.rt`, `batch.rt` | one line into tables and peaks; lines of events, many at a time |
+//! | `read_trace.rt`, `batch.rt`, `text.rt` | one line into tables and peaks; lines of events, many at a time; a text |
 //! | `trace_writer.rt`, `trace_reader.rt`, `trace_run.rt` | what is written of a trace; its taker; a run over one |
 //! | `suppressions.rt`, `suppressed_trace.rt` | a suppressions file, and a trace behind it |
 //! | `fault.rt` | faults of a trace, as told |
@@ -30,6 +31,7 @@ mod fault;
 mod read_trace;
 mod suppressed_trace;
 mod suppressions;
+mod text;
 mod trace_reader;
 mod trace_run;
 mod trace_writer;

@@ -71,10 +71,7 @@ impl<W: TraceWriter> LineTaker for TraceReader<W> {
     }
 
     fn batch(&mut self, ready: &[u8], _output: &mut Vec<u8>) -> Batch {
-        match self.trace.end() {
-            Ok(()) => self.trace.read_events(ready),
-            Err(_) => Batch { bytes: 0, lines: 0 },
-        }
+        self.trace.read_front(ready)
     }
 }
 

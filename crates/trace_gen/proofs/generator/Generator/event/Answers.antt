@@ -1,8 +1,9 @@
-use Rattle.std.proofs.Common.{◌≡◌, ℕ, ◌+◌, ◌*◌, ◌<◌, ◌≤◌, ◌==◌, ◌&&◌, Bool, List, ◌∷◌, ◌++◌, slice_index_or, slice_set, length, refl, ap, ap₂, subst, sym, ◌∙◌, arith}
+use Rattle.std.proofs.Common.{◌≡◌, ℕ, ◌+◌, ◌*◌, ◌<◌, ◌≤◌, ◌==◌, ◌&&◌, Bool, List, ◌∷◌, slice_index_or, slice_set, length, refl, ap, ap₂, subst, sym, ◌∙◌, arith}
 use Rattle.std.proofs.lemmas.Grind.{get_or_default_zero}
 use Rattle.trace_gen.specs.Draws.{draw, next_state, number_below, state_after}
 use Rattle.trace_gen.specs.Moves.{Move, allocated, freed, moves, next_move}
 use Rattle.trace_gen.specs.GeneratedTrace.{event_line, move_line}
+use Rattle.trace_gen.specs.PutLine.{PutsLine}
 use Rattle.trace_gen.specs.Sizes.{sizes_of}
 use Rattle.trace_gen.specs.GeneratorState.{Stands, events_left, lines_left, lines_yet}
 use Rattle.trace_gen.proofs.Steps.{one_line}
@@ -57,7 +58,6 @@ returns c =
             (λ kind. c.blocks_behind.ensures.allocated kind ∙ ap (λ n. n + 1) blocks) (λ kind. c.blocks_behind.ensures.freed kind ∙ blocks) second_is c.next_state-self-2.ensures.small);
         line = event_line sizes old.next;
         lines = left ∙ ap (λ lines. event_line sizes old.next ∷ lines) (sym (ap (λ g. lines_left sizes g (old.next + 1)) c.requires.group));
-        text = c.in_ok-put_event.ensures.appended ∙ ap (λ line. c.args.line.now.items ++ line) same;
-        short = omega (arith, c.in_ok-put_event.ensures.short, ap length same);
+        put = subst (PutsLine c.args.line.now.items c.put_event.new.line.items) same c.in_ok-put_event.ensures.put;
       };
     }

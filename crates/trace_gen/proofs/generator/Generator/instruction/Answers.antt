@@ -15,5 +15,5 @@ returns c =
     record {
       made = subst (λ (new : Generator). MakesLine old new c.args.line.now.items c.put_instruction.new.line.items) (sym c.pass.ensures.passed)
           (passed old old.state Instructions Nodes instruction_line c.args.line.now.items c.put_instruction.new.line.items (has_instructions sizes old.options.stacks_above_zero) c.requires.group c.requires.at stands.within
-          stands.state_is stands.small c.in_ok-put_instruction.ensures.appended c.in_ok-put_instruction.ensures.short);
+          stands.state_is stands.small c.in_ok-put_instruction.ensures.put);
     }

@@ -15,5 +15,5 @@ returns c =
     record {
       made = subst (λ (new : Generator). MakesLine old new c.args.line.now.items c.put_name.new.line.items) (sym c.pass.ensures.passed)
           (passed old old.state Names Instructions name_line c.args.line.now.items c.put_name.new.line.items (has_names sizes old.options.stacks_above_zero) c.requires.group c.requires.at stands.within
-          stands.state_is stands.small c.in_ok-put_name.ensures.appended c.in_ok-put_name.ensures.short);
+          stands.state_is stands.small c.in_ok-put_name.ensures.put);
     }

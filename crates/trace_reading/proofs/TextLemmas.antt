@@ -1,0 +1,171 @@
+-- The lines of a text, and how far they were read.
+use Rattle.std.proofs.Common.{◌≡◌, ◌≢◌, ℕ, suc, ◌+◌, ◌<◌, ◌≤◌, Bool, true, false, not, cond, ltb, All, List, [], ◌∷◌, ◌++◌, length, take, drop, None, Some, refl, ap, ap₂, sym, subst, ◌∙◌, ne_eqb, append-nil, append_assoc, arith}
+use Rattle.std.proofs.lemmas.Bool.{ltb-true}
+use Rattle.std.proofs.lemmas.List.{take-append-drop}
+use Rattle.std.proofs.lemmas.List.Elements.{All-head, All-tail}
+use Rattle.std.proofs.lemmas.Option.{cond_some}
+use Rattle.std.specs.List.{position, position_or_len}
+use borrow.Author.Tests.{ltb-false}
+use Rattle.hp_outside.specs.Lines.{is_line_feed, lines_of, put_first}
+use Rattle.hp_outside.specs.WholeLines.{IsLineText, text_of_lines}
+use Rattle.command_frame.specs.Batch.{AreGood}
+use Rattle.command_frame.specs.Report.{Report}
+use Rattle.command_frame.specs.Taker.{Tells}
+use Rattle.command_frame.specs.declared.taker.LineRefusal.{LineRefusal}
+use Rattle.command_frame.specs.declared.taker.LineRefusal.TheVariants.{Fault, NoMemory}
+use Rattle.trace_reading.specs.declared.fault.TraceFault.{TraceFault}
+use Rattle.trace_reading.specs.declared.read_trace.ReadTrace.{ReadTrace}
+use Rattle.trace_reading.specs.Batch.{HasReadFront, HasReadTo}
+use Rattle.trace_reading.specs.ReadTrace.{HasRead}
+use Rattle.trace_reading.specs.TraceFault.{told}
+use Rattle.trace_reading.specs.TraceReport.{HaveNoFault, content_fault, trace_report}
+use Rattle.trace_reading.proofs.BatchLemmas.{good_append}
+
+-- one line with its line feed
+lines_of-line : (line rest : List ℕ) → IsLineText line → lines_of (line ++ (10 ∷ rest)) ≡ line ∷ lines_of rest
+lines_of-line [] rest text = refl
+lines_of-line (byte ∷ line) rest text =
+    let other : byte ≢ 10 = All-head (λ b. b ≢ 10) byte line text in
+    rw (ne_eqb byte 10 other, lines_of-line line rest (All-tail (λ b. b ≢ 10) byte line text))
+
+-- all of them
+lines_of-text : (lines : List (List ℕ)) (rest : List ℕ) → All IsLineText lines → lines_of (text_of_lines lines ++ rest) ≡ lines ++ lines_of rest
+lines_of-text [] rest texts = refl
+lines_of-text (line ∷ lines) rest texts =
+    ap lines_of (append_assoc line (10 ∷ text_of_lines lines) rest)
+    ∙ (lines_of-line line (text_of_lines lines ++ rest) (All-head IsLineText line lines texts)
+    ∙ ap (λ l. line ∷ l) (lines_of-text lines rest (All-tail IsLineText line lines texts)))
+
+-- a text is read as the lines that it was made of
+pub lines_of-whole : (text : List ℕ) (lines : List (List ℕ)) → text ≡ text_of_lines lines → All IsLineText lines → lines_of text ≡ lines
+lines_of-whole text lines is texts = ap lines_of (is ∙ sym (append-nil (text_of_lines lines))) ∙ (lines_of-text lines [] texts ∙ append-nil lines)
+
+-- where the first line feed stands
+abbrev feed : List ℕ → ℕ
+feed text = position_or_len is_line_feed text
+
+first_line_at : (text : List ℕ) → feed text < length text → lines_of text ≡ take (feed text) text ∷ lines_of (drop (feed text + 1) text)
+first_line_at [] within = absurd (omega (arith, within))
+first_line_at (b ∷ bs) within = by (is_line_feed b) within (first_line_at bs)
+  where
+    by : (t : Bool) → cond {A = ℕ} (not t) (1 + feed bs) 0 < length (b ∷ bs) → (feed bs < length bs → lines_of bs ≡ take (feed bs) bs ∷ lines_of (drop (feed bs + 1) bs))
+        → cond t ([] ∷ lines_of bs) (put_first b (lines_of bs)) ≡ take (cond {A = ℕ} (not t) (1 + feed bs) 0) (b ∷ bs) ∷ lines_of (drop (cond {A = ℕ} (not t) (1 + feed bs) 0 + 1) (b ∷ bs))
+    by true within later = refl
+    by false within later =
+        let front : suc (feed bs) ≡ 1 + feed bs = omega arith in
+        let back : suc (feed bs + 1) ≡ 1 + feed bs + 1 = omega arith in
+        ap (put_first b) (later (omega (arith, within))) ∙ ap₂ (λ m n. take m (b ∷ bs) ∷ lines_of (drop n (b ∷ bs))) front back
+
+only_line : (text : List ℕ) → 0 < length text → feed text ≡ length text → lines_of text ≡ text ∷ []
+only_line [] some at = absurd (omega (arith, some))
+only_line (b ∷ bs) some at = by (is_line_feed b) at (only_line bs) bs refl
+  where
+    by : (t : Bool) → cond {A = ℕ} (not t) (1 + feed bs) 0 ≡ length (b ∷ bs) → (0 < length bs → feed bs ≡ length bs → lines_of bs ≡ bs ∷ []) → (rest : List ℕ) → bs ≡ rest
+        → cond t ([] ∷ lines_of bs) (put_first b (lines_of bs)) ≡ (b ∷ bs) ∷ []
+    by true at later rest is = absurd (omega (arith, at))
+    by false at later [] is = rw is refl
+    by false at later (c ∷ rest) is = ap (put_first b) (later (omega (arith, ap length is)) (omega (arith, at)))
+
+-- the first line ends at the first line feed, or is the only one
+pub first_line_is : (text : List ℕ) (end : ℕ) → position is_line_feed text ≡ Some end → lines_of text ≡ take end text ∷ lines_of (drop (end + 1) text)
+first_line_is text end is =
+    let found = cond_some (ltb (feed text) (length text)) (feed text) end is in
+    subst (λ (k : ℕ). lines_of text ≡ take k text ∷ lines_of (drop (k + 1) text)) found.1 (first_line_at text (ltb-true (feed text) (length text) found.0))
+
+feed_within : (text : List ℕ) → feed text ≤ length text
+feed_within [] = omega arith
+feed_within (b ∷ bs) = by (is_line_feed b) (feed_within bs)
+  where
+    by : (t : Bool) → feed bs ≤ length bs → cond {A = ℕ} (not t) (1 + feed bs) 0 ≤ length (b ∷ bs)
+    by true within = omega arith
+    by false within = omega (arith, within)
+
+past_end : (t : Bool) (place : ℕ) → cond t (Some place) None ≡ None → t ≡ false
+past_end true place none = absurd (grind (arith, none))
+past_end false place none = refl
+
+pub only_line_is : (text : List ℕ) → 0 < length text → position is_line_feed text ≡ None → lines_of text ≡ text ∷ []
+only_line_is text some none =
+    let past = ltb-false (feed text) (length text) (past_end (ltb (feed text) (length text)) (feed text) none) in
+    only_line text some (omega (arith, feed_within text, past))
+
+-- nothing was written of lines that are read at once
+abbrev nothing : List (List ℕ) → List ℕ
+nothing lines = []
+
+-- nothing was read
+pub nothing_read : (old : ReadTrace) (text : List ℕ) → HasReadTo old old text text
+nothing_read old text = record {
+  lines = [];
+  split = refl;
+  read = λ patterns earlier has. subst (HasRead old patterns) (sym (append-nil earlier)) has;
+  good = λ patterns earlier has. tt;
+}
+
+-- a front of a text was read at once
+pub front_read : (old new : ReadTrace) (text left : List ℕ) (bytes number : ℕ)
+    → ((patterns : List (List ℕ)) (written : List (List ℕ) → List ℕ) → HasReadFront old new patterns written text bytes number) → left ≡ drop bytes text → HasReadTo old new text left
+front_read old new text left bytes number front left_is =
+    let first = front [] nothing in
+    let same : (patterns : List (List ℕ)) → (front patterns nothing).lines ≡ first.lines = λ patterns.
+    sym (lines_of-whole (take bytes text) (front patterns nothing).lines (front patterns nothing).text (front patterns nothing).texts)
+    ∙ lines_of-whole (take bytes text) first.lines first.text first.texts in
+    record {
+      lines = first.lines;
+      split = ap lines_of (sym (take-append-drop bytes text) ∙ ap₂ (λ front back. front ++ back) first.text (sym left_is)) ∙ lines_of-text first.lines left first.texts;
+      read = λ patterns earlier has. subst (λ l. HasRead new patterns (earlier ++ l)) (same patterns) ((front patterns nothing).taken earlier has);
+      good = λ patterns earlier has. subst (HaveNoFault patterns earlier) (same patterns) ((front patterns nothing).good earlier has);
+    }
+
+-- the first line was read, or refused
+module _ (old : ReadTrace) (text left line : List ℕ) (first : lines_of text ≡ line ∷ lines_of left) where
+  pub line_read : (new : ReadTrace) → ((patterns earlier : List (List ℕ)) → HasRead old patterns earlier → HasRead new patterns (earlier ++ line ∷ []))
+      → ((patterns earlier : List (List ℕ)) → HasRead old patterns earlier → content_fault patterns earlier line ≡ None) → HasReadTo old new text left
+  line_read new read none = record {
+    lines = line ∷ [];
+    split = first;
+    read = read;
+    good = λ patterns earlier has. (none patterns earlier has, tt);
+  }
+
+  pub line_refused : (refusal : LineRefusal TraceFault) → ((patterns earlier : List (List ℕ)) → HasRead old patterns earlier → Tells told refusal (content_fault patterns earlier line))
+      → (patterns earlier : List (List ℕ)) → HasRead old patterns earlier → HaveNoFault patterns earlier (lines_of text) → refusal ≡ NoMemory
+  line_refused refusal tells patterns earlier has good = by refusal (tells patterns earlier has) (subst (HaveNoFault patterns earlier) first good).0
+    where
+      by : (r : LineRefusal TraceFault) → Tells told r (content_fault patterns earlier line) → content_fault patterns earlier line ≡ None → r ≡ NoMemory
+      by (Fault fault) is none = absurd (cc)
+      by NoMemory is none = refl
+
+module _ (old now : ReadTrace) (text rest : List ℕ) (here : HasReadTo old now text rest) where
+  -- more was read
+  pub read_on : (new : ReadTrace) (left : List ℕ) → HasReadTo now new rest left → HasReadTo old new text left
+  read_on new left more = record {
+    lines = here.lines ++ more.lines;
+    split = here.split ∙ (ap (λ l. here.lines ++ l) more.split ∙ sym (append_assoc here.lines more.lines (lines_of left)));
+    read = λ patterns earlier has. subst (HasRead new patterns) (append_assoc earlier here.lines more.lines) (more.read patterns (earlier ++ here.lines) (here.read patterns earlier has));
+    good = λ patterns earlier has. good_append (trace_report patterns nothing) earlier here.lines more.lines (here.good patterns earlier has) (more.good patterns (earlier ++ here.lines) (here.read patterns earlier has));
+  }
+
+  -- all was read
+  all : length rest ≡ 0 → here.lines ≡ lines_of text
+  all none = sym (here.split ∙ (ap (λ l. here.lines ++ l) (empty rest none) ∙ append-nil here.lines))
+    where
+      empty : (left : List ℕ) → length left ≡ 0 → lines_of left ≡ []
+      empty [] none = refl
+      empty (b ∷ left) none = absurd (omega (arith, none))
+
+  pub all_read : length rest ≡ 0 → (patterns earlier : List (List ℕ)) → HasRead old patterns earlier → HasRead now patterns (earlier ++ lines_of text)
+  all_read none patterns earlier has = subst (λ l. HasRead now patterns (earlier ++ l)) (all none) (here.read patterns earlier has)
+
+  pub all_good : length rest ≡ 0 → (patterns earlier : List (List ℕ)) → HasRead old patterns earlier → HaveNoFault patterns earlier (lines_of text)
+  all_good none patterns earlier has = subst (HaveNoFault patterns earlier) (all none) (here.good patterns earlier has)
+
+  -- the rest was refused
+  pub rest_refused : (refusal : LineRefusal TraceFault) → ((patterns earlier : List (List ℕ)) → HasRead now patterns earlier → HaveNoFault patterns earlier (lines_of rest) → refusal ≡ NoMemory)
+      → (patterns earlier : List (List ℕ)) → HasRead old patterns earlier → HaveNoFault patterns earlier (lines_of text) → refusal ≡ NoMemory
+  rest_refused refusal refused patterns earlier has good =
+      refused patterns (earlier ++ here.lines) (here.read patterns earlier has) (behind (trace_report patterns nothing) earlier here.lines (lines_of rest) (subst (HaveNoFault patterns earlier) here.split good))
+    where
+      behind : (report : Report) (before lines more : List (List ℕ)) → AreGood report before (lines ++ more) → AreGood report (before ++ lines) more
+      behind report before [] more good = subst (λ b. AreGood report b more) (sym (append-nil before)) good
+      behind report before (line ∷ lines) more good = subst (λ b. AreGood report b more) (append_assoc before (line ∷ []) lines) (behind report (before ++ line ∷ []) lines more good.1)
