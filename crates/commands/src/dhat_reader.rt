@@ -53,13 +53,16 @@ impl DhatReader {
         ensures weight { lives_spec.weight_of self.new
             ≤ lives_spec.weight_of self.old + result.bytes }
     {
-        let mut bytes = 0;
+        let mut rest = ready;
         let mut lines = 0;
         'lines: loop {
-            let Some(taken) = self.take_front(&ready[bytes..]) else {
-                return Batch { bytes, lines };
+            let Some(taken) = self.take_front(rest) else {
+                return Batch {
+                    bytes: ready.len() - rest.len(),
+                    lines,
+                };
             };
-            bytes += taken;
+            rest = &rest[taken..];
             lines += 1;
         }
     }

@@ -24,12 +24,13 @@ use std::marker::Model;
 const MAX_ALLOCATED: u64 = 0x4000_0000_0000_0000;
 
 /// One info: the stack and the size of its blocks, how many of them are live, and how many were allocated.
+// The counts are apart for the reason that sums are.
 #[derive(Clone, Copy, Debug)]
 struct InfoEntry {
-    stack: u32,
-    size: u64,
     blocks: u64,
+    size: u64,
     calls: u64,
+    stack: u32,
 }
 
 /// The live figures of a trace: it stands for the list of events that it was given.

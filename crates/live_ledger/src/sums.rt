@@ -7,12 +7,13 @@ use crate::figures::Figures;
 use crate::totals::Totals;
 
 /// The sums over some events.
+// No event adds to two neighbours, which a compiler would put into one wide number, add to and take apart again.
 #[derive(Clone, Copy, Debug)]
 pub struct Sums {
-    pub calls: u64,
-    pub allocated: u64,
     pub frees: u64,
+    pub calls: u64,
     pub freed: u64,
+    pub allocated: u64,
     pub temporary: u64,
 }
 

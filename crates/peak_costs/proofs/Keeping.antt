@@ -1,6 +1,7 @@
 -- How the fields of peaks keep what they promise.
 use Rattle.std.proofs.Common.{◌≡◌, ◌≢◌, ℕ, ◌+◌, ◌<◌, ◌≤◌, List, [], ◌∷◌, ◌++◌, length, map, ◌⊎◌, Bool, cond, refl, inl, inr, sym, ap, subst, ◌∙◌, arith, add-zero, zero, suc}
-use Rattle.std.specs.Prelude.{slice_index, slice_index_or, sum}
+use Rattle.std.specs.Prelude.{slice_index, slice_index_or, sum, IsTrue}
+use Rattle.std.proofs.lemmas.Bool.{false≢true}
 use Rattle.std.proofs.lemmas.Bool.Decides.{eqb_tells, leb_tells}
 use Rattle.std.proofs.lemmas.List.{get_or_past, length-map}
 use Rattle.std.proofs.lemmas.List.Sums.{get_or-le-sum_by, sum-map, sum_by_push}
@@ -10,10 +11,11 @@ use Rattle.live_ledger.specs.declared.event.Event.TheVariants.{Alloc, Free, Tick
 use Rattle.live_ledger.specs.declared.figures.Figures.{Figures}
 use Rattle.live_ledger.specs.declared.totals.Totals.{Totals}
 use Rattle.live_ledger.specs.Changes.{Changes}
+use Rattle.live_ledger.specs.Events.{is_free}
 use Rattle.live_ledger.specs.LedgerState.{IsHeld, LedgerState, figures_at, no_figures}
 use Rattle.live_ledger.specs.Sound as ledger_sound
 use Rattle.peak_costs.specs.declared.mark.Mark.{Mark}
-use Rattle.peak_costs.specs.Kept.{AreKept, blocks_list, live_list, state_of}
+use Rattle.peak_costs.specs.Kept.{AreKept, AreMarked, blocks_list, live_list, state_of}
 use Rattle.peak_costs.specs.Mark.{first_mark, raised}
 use Rattle.peak_costs.specs.Peak.{IsIn}
 use Rattle.peak_costs.specs.PeakState.{IsSound, PeakState}
@@ -117,6 +119,28 @@ raised-cases mark total events =
       | inr isnt ↦ inl (ap (λ (b : Bool). cond {A = Mark} b (record { total = total; moment = events; counter = mark.counter + 1 }) mark) isnt.0, omega (arith, isnt.1))
     ]
 
+-- a mark stays where the total is no greater
+pub raised-stays : (mark : Mark) (total events : ℕ) → total ≤ mark.total → raised mark total events ≡ mark
+raised-stays mark total events within =
+    elim (raised-cases mark total events) [
+      | inl stays ↦ stays.0
+      | inr rises ↦ absurd (omega (arith, rises.1))
+    ]
+
+-- the total is no greater than the mark that it was raised to
+raised-within : (mark : Mark) (total events : ℕ) → total ≤ (raised mark total events).total
+raised-within mark total events =
+    elim (raised-cases mark total events) [
+      | inl stays ↦ subst (λ (m : Mark). total ≤ m.total) (sym stays.0) stays.1
+      | inr rises ↦ subst (λ (m : Mark). total ≤ m.total) (sym rises.0) (omega arith)
+    ]
+
+-- a free leaves no more live than there was
+pub freed-within : (old new : LedgerState) (event : Event) (total : ℕ) → Changes old new event → old.totals.live ≤ total → IsTrue (is_free event) → new.totals.live ≤ total
+freed-within old new (Alloc info s size) total change within is = absurd (false≢true is)
+freed-within old new (Free info s size) total change within is = omega (arith, change.live)
+freed-within old new (Tick ms) total change within is = absurd (false≢true is)
+
 -- and when the mark is raised to the ledger's total
 pub kept-raised :
     (ledger : LedgerState) (saved blocks stamps : List ℕ) (mark : Mark)
@@ -161,6 +185,20 @@ pub kept-moved :
 kept-moved old new saved blocks stamps mark event stack kept sound changes own held =
     let moved = moved-by old new event stack changes own in
     kept-raised new _ _ _ mark (kept-saved old new saved blocks stamps mark stack kept sound moved (stack-in old event stack kept.sound held own)) (omega (arith, kept.counter_within, moved.events))
+
+-- and none is above the mark then
+pub marked-moved :
+    (old new : LedgerState) (saved blocks stamps : List ℕ) (mark : Mark) (event : Event) (stack : ℕ)
+    → AreKept old saved blocks stamps mark
+    → ledger_sound.IsSound new
+    → Changes old new event
+    → IsIn stack event
+    → IsHeld old event
+    → AreMarked new (saved_after saved stamps mark.counter stack (figures_at old stack).live) (saved_after blocks stamps mark.counter stack (figures_at old stack).blocks) (stamps_after stamps mark.counter stack) (raised mark new.totals.live new.totals.events)
+marked-moved old new saved blocks stamps mark event stack kept sound changes own held = record {
+  kept = kept-moved old new saved blocks stamps mark event stack kept sound changes own held;
+  live_within = raised-within mark new.totals.live new.totals.events;
+}
 
 -- what contracts see of kept fields is sound
 pub sound-of : (ledger : LedgerState) (saved blocks stamps : List ℕ) (mark : Mark) → AreKept ledger saved blocks stamps mark → IsSound (state_of ledger saved blocks stamps mark)

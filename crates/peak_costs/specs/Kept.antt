@@ -41,3 +41,9 @@ pub record AreKept (ledger : LedgerState) (saved blocks stamps : List ℕ) (mark
       ≡ mark.total
   pub total_within : mark.total ≤ ledger.totals.allocated
   pub moment_within : mark.moment ≤ ledger.totals.events
+
+-- the fields keep their promise, and no more is live than at the peak
+pub record AreMarked (ledger : LedgerState) (saved blocks stamps : List ℕ) (mark : Mark) : Type
+    0 where
+  pub kept : AreKept ledger saved blocks stamps mark
+  pub live_within : ledger.totals.live ≤ mark.total

@@ -33,7 +33,7 @@ pub struct Peaks {
 
 impl Model for Peaks {
     ghost use Rattle.peak_costs.specs.PeakState.{PeakState};
-    ghost use Rattle.peak_costs.specs.Kept.{AreKept, state_of};
+    ghost use Rattle.peak_costs.specs.Kept.{AreMarked, state_of};
 
     ghost Value = { PeakState };
 
@@ -41,7 +41,7 @@ impl Model for Peaks {
         state_of peaks.ledger peaks.saved.live peaks.saved.blocks peaks.saved.stamps peaks.mark };
 
     ghost invariant = { λ peaks.
-        AreKept peaks.ledger peaks.saved.live peaks.saved.blocks peaks.saved.stamps peaks.mark };
+        AreMarked peaks.ledger peaks.saved.live peaks.saved.blocks peaks.saved.stamps peaks.mark };
 }
 
 impl Peaks {
@@ -172,8 +172,7 @@ impl Peaks {
         let before = self.ledger.stack(stack);
         self.ledger.apply(event)?;
         self.saved.save(self.mark.counter, stack, before, steps);
-        let totals = self.ledger.totals();
-        self.mark.raise(totals.live, totals.events);
+        self.mark.follow(event, &self.ledger);
         Ok(())
     }
 

@@ -1,6 +1,6 @@
 -- What a reader of a trace has read when it took lines of events at once.
-use Rattle.std.proofs.Common.{◌≡◌, ℕ, ◌+◌, ◌≤◌, List, [], ◌∷◌, ◌++◌, length, take, drop, slice_get, None, Some, refl, ap, sym, subst, ◌∙◌, append-nil, append_assoc, length-append, arith}
-use Rattle.std.proofs.lemmas.List.{length_push}
+use Rattle.std.proofs.Common.{◌≡◌, ℕ, ◌+◌, ◌-◌, ◌≤◌, List, [], ◌∷◌, ◌++◌, length, take, drop, slice_get, None, Some, refl, ap, sym, subst, ◌∙◌, append-nil, append_assoc, length-append, length-drop, arith}
+use Rattle.std.proofs.lemmas.List.{drop-drop, length_push, take_all}
 use Rattle.std.proofs.lemmas.List.Elements.{All-append, All-nil, All-cons}
 use Rattle.std.proofs.Math.Seq.{take-add, take-append-add}
 use Rattle.std.specs.Option.{option_map, option_or}
@@ -87,6 +87,36 @@ front_kept report initial old new ready bytes number front kept = record {
   gained = front.gained;
   taken = λ earlier has. kept (earlier ++ front.lines) (front.taken earlier has);
 }
+
+-- the rest is what is left of the bytes
+pub record IsLeft (ready rest : List ℕ) : Type 0 where
+  pub held : length rest ≤ length ready
+  pub is : rest ≡ drop (length ready - length rest) ready
+
+-- before anything is passed
+pub all_left : (ready : List ℕ) → IsLeft ready ready
+all_left ready =
+    let none : 0 ≡ length ready - length ready = omega arith in
+    record { held = omega arith; is = ap (λ n. drop n ready) none }
+
+-- so many bytes of the rest are passed
+pub record PassesMore (ready rest left : List ℕ) (more : ℕ) : Type 0 where
+  pub is_left : IsLeft ready left
+  pub size : length ready - length left ≡ (length ready - length rest) + more
+
+pub passes_more : (ready rest : List ℕ) (more : ℕ) → IsLeft ready rest → more ≤ length rest
+    → PassesMore ready rest (take (length rest - more) (drop more rest)) more
+passes_more ready rest more before within =
+    let left : take (length rest - more) (drop more rest) ≡ drop more rest = take_all (length rest - more) (drop more rest) (omega (arith, length-drop more rest)) in
+    let size : length (take (length rest - more) (drop more rest)) ≡ length rest - more = ap length left ∙ length-drop more rest in
+    let passed : length ready - length (take (length rest - more) (drop more rest)) ≡ (length ready - length rest) + more = omega (arith, size, within, before.held) in
+    record {
+      is_left = record {
+        held = omega (arith, size, before.held);
+        is = left ∙ (ap (drop more) before.is ∙ (drop-drop more (length ready - length rest) ready ∙ ap (λ n. drop n ready) (sym passed)));
+      };
+      size = passed;
+    }
 
 -- the bytes of one line more
 text_of_lines-push : (lines : List (List ℕ)) (line : List ℕ) → text_of_lines (lines ++ line ∷ []) ≡ text_of_lines lines ++ (line ++ (10 ∷ []))

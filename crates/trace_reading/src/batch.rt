@@ -54,13 +54,16 @@ impl ReadTrace {
         ensures events { 4 * self.new.peaks.ledger.totals.events
             ≤ 4 * self.old.peaks.ledger.totals.events + result.bytes }
     {
-        let mut bytes = 0;
+        let mut rest = ready;
         let mut lines = 0;
         'lines: loop {
-            let Some(line) = self.take_front(&ready[bytes..]) else {
-                return Batch { bytes, lines };
+            let Some(line) = self.take_front(rest) else {
+                return Batch {
+                    bytes: ready.len() - rest.len(),
+                    lines,
+                };
             };
-            bytes += line.bytes;
+            rest = &rest[line.bytes..];
             lines += 1;
         }
     }

@@ -5,17 +5,18 @@ use Rattle.command_frame.specs.Batch.{HasTakenFront}
 use Rattle.commands.specs.DhatReport.{dhat_written}
 use Rattle.commands.specs.ReadLives.{HasReadLives, IsSoundReader, weight_of}
 use Rattle.trace_reading.specs.TraceReport.{trace_report}
+use Rattle.trace_reading.proofs.Laws.{IsLeft}
 use Rattle.commands.proofs.dhat_reader.DhatReader.take_events.Given as goal
 
 abbrev pub invariant-lines : goal.invariant-lines
 invariant-lines l = record {
   sound : IsSoundReader l.self;
   passes : PassesEvents l.self.trace.tables;
-  held : l.bytes ≤ length l.ready;
-  few : l.lines ≤ l.bytes;
-  weight : weight_of l.self ≤ weight_of l.initial.self + l.bytes;
-  front : HasTakenFront (trace_report [] (dhat_written [])) (HasReadLives l.initial.self) (HasReadLives l.self) l.ready l.bytes l.lines;
+  left : IsLeft l.ready l.rest;
+  few : l.lines ≤ length l.ready - length l.rest;
+  weight : weight_of l.self ≤ weight_of l.initial.self + (length l.ready - length l.rest);
+  front : HasTakenFront (trace_report [] (dhat_written [])) (HasReadLives l.initial.self) (HasReadLives l.self) l.ready (length l.ready - length l.rest) l.lines;
 }
 
 abbrev pub decreases-lines : goal.decreases-lines
-decreases-lines l = length l.ready - l.bytes
+decreases-lines l = length l.rest

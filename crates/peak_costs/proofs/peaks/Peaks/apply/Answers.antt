@@ -12,4 +12,4 @@ returns-in_ok-apply-in-Tick-clause-stands g c =
 pub returns-in_ok-apply-in-Tick-clause-sound : goal.returns-in_ok-apply-in-Tick-clause-sound
 returns-in_ok-apply-in-Tick-clause-sound g c =
     let same : c.apply.new.self ≡ c.self.inside.ledger = rw c.in-Tick.is at c.in_ok-apply-in-Tick.ensures.changes in
-    rw same (sound-of _ _ _ _ _ c.self.invariant)
+    rw same (sound-of _ _ _ _ _ c.self.invariant.kept)

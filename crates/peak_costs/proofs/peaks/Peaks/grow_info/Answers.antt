@@ -1,10 +1,15 @@
+use Rattle.std.proofs.Common.{◌≤◌, subst, sym}
+use Rattle.live_ledger.specs.declared.totals.Totals.{Totals}
 use Rattle.peak_costs.proofs.Keeping.{kept-infos}
 use Rattle.peak_costs.proofs.PeakLemmas.{stands-infos}
 use Rattle.peak_costs.proofs.peaks.Peaks.grow_info.Goals as goal
 
 pub invariant_of-self : goal.invariant_of-self
 invariant_of-self c =
-    kept-infos _ _ _ _ _ _ c.self.invariant c.grow_info.ensures.sound c.grow_info.ensures.stacks c.grow_info.ensures.figures c.grow_info.ensures.totals
+    record {
+      kept = kept-infos _ _ _ _ _ _ c.self.invariant.kept c.grow_info.ensures.sound c.grow_info.ensures.stacks c.grow_info.ensures.figures c.grow_info.ensures.totals;
+      live_within = subst (λ (totals : Totals). totals.live ≤ c.self.inside.mark.total) (sym c.grow_info.ensures.totals) c.self.invariant.live_within;
+    }
 
 pub returns-clause-stands : goal.returns-clause-stands
 returns-clause-stands c =

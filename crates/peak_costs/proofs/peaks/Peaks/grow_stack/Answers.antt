@@ -1,4 +1,5 @@
-use Rattle.std.proofs.Common.{ap, arith, refl}
+use Rattle.std.proofs.Common.{◌≤◌, ap, arith, refl, subst, sym}
+use Rattle.live_ledger.specs.declared.totals.Totals.{Totals}
 use Rattle.live_ledger.specs.LedgerState.{LedgerState}
 use Rattle.peak_costs.proofs.Keeping.{HasStack, Longer, kept-stack}
 use Rattle.peak_costs.proofs.PeakLemmas.{stands-cells, stands-stack, state-stack}
@@ -41,13 +42,16 @@ grown c = record {
 }
 
 pub invariant_of-self-2 : goal.invariant_of-self-2
-invariant_of-self-2 c = kept-stack _ _ _ _ _ _ _ _ _ c.self.invariant (grown c).has (grown c).saved (grown c).blocks (grown c).stamps
+invariant_of-self-2 c = record {
+  kept = kept-stack _ _ _ _ _ _ _ _ _ c.self.invariant.kept (grown c).has (grown c).saved (grown c).blocks (grown c).stamps;
+  live_within = subst (λ (totals : Totals). totals.live ≤ c.self.inside.mark.total) (sym (grown c).has.totals) c.self.invariant.live_within;
+}
 
 pub returns-clause-grown : goal.returns-clause-grown
 returns-clause-grown c =
-    rw (← c.self.view_is) (state-stack _ _ _ _ _ _ _ _ _ c.in_ok-number.ensures.grown c.self.invariant (grown c).has (grown c).saved (grown c).blocks (grown c).stamps)
+    rw (← c.self.view_is) (state-stack _ _ _ _ _ _ _ _ _ c.in_ok-number.ensures.grown c.self.invariant.kept (grown c).has (grown c).saved (grown c).blocks (grown c).stamps)
 
 pub returns-clause-stands : goal.returns-clause-stands
 returns-clause-stands c =
     rw (← c.self.view_is)
-    (λ events stands. stands-stack _ _ _ _ _ _ _ _ _ events c.self.invariant (grown c).has (grown c).saved (grown c).blocks (grown c).stamps (c.in_ok-number.ensures.stands events stands.ledger) stands)
+    (λ events stands. stands-stack _ _ _ _ _ _ _ _ _ events c.self.invariant.kept (grown c).has (grown c).saved (grown c).blocks (grown c).stamps (c.in_ok-number.ensures.stands events stands.ledger) stands)

@@ -1,24 +1,27 @@
-use Rattle.peak_costs.proofs.Keeping.{kept-moved, sound-of}
+use Rattle.peak_costs.proofs.Keeping.{freed-within, kept-moved, marked-moved, sound-of}
 use Rattle.peak_costs.proofs.PeakLemmas.{stands-event}
 use Rattle.peak_costs.proofs.peaks.Peaks.take_event.Goals as goal
 
 pub returns-in_err-apply-clause-sound : goal.returns-in_err-apply-clause-sound
-returns-in_err-apply-clause-sound g c = rw c.in_err-apply.ensures.unchanged (sound-of _ _ _ _ _ c.self.invariant)
+returns-in_err-apply-clause-sound g c = rw c.in_err-apply.ensures.unchanged (sound-of _ _ _ _ _ c.self.invariant.kept)
+
+pub follow-requires-clause-freed : goal.follow-requires-clause-freed
+follow-requires-clause-freed g c = freed-within _ _ c.args.event _ c.in_ok-apply.ensures.changes c.self.invariant.live_within
 
 pub invariant_of-self-2 : goal.invariant_of-self-2
 invariant_of-self-2 g c =
     let held = rw (← c.self.view_is) at c.requires.held in
-    rw (c.save.ensures.live, c.save.ensures.blocks, c.save.ensures.stamps, c.raise.ensures, c.totals-totals.ensures.value, c.stack-before.ensures.value)
-    (kept-moved _ _ _ _ _ _ c.args.event c.args.stack c.self.invariant c.in_ok-apply.ensures.sound c.in_ok-apply.ensures.changes c.requires.own held)
+    rw (c.save.ensures.live, c.save.ensures.blocks, c.save.ensures.stamps, c.follow.ensures, c.stack-before.ensures.value)
+    (marked-moved _ _ _ _ _ _ c.args.event c.args.stack c.self.invariant.kept c.in_ok-apply.ensures.sound c.in_ok-apply.ensures.changes c.requires.own held)
 
 pub returns-clause-stands : goal.returns-clause-stands
 returns-clause-stands g c =
     let held = rw (← c.self.view_is) at c.requires.held in
-    rw (← c.self.view_is, c.save.ensures.live, c.save.ensures.blocks, c.save.ensures.stamps, c.raise.ensures, c.totals-totals.ensures.value, c.stack-before.ensures.value)
-    (λ events stands. stands-event _ _ _ _ _ _ c.args.stack events c.args.event c.self.invariant c.in_ok-apply.ensures.sound c.in_ok-apply.ensures.changes c.requires.own held stands (c.in_ok-apply.ensures.stands events stands.ledger))
+    rw (← c.self.view_is, c.save.ensures.live, c.save.ensures.blocks, c.save.ensures.stamps, c.follow.ensures, c.stack-before.ensures.value)
+    (λ events stands. stands-event _ _ _ _ _ _ c.args.stack events c.args.event c.self.invariant.kept c.in_ok-apply.ensures.sound c.in_ok-apply.ensures.changes c.requires.own held stands (c.in_ok-apply.ensures.stands events stands.ledger))
 
 pub returns-clause-sound : goal.returns-clause-sound
 returns-clause-sound g c =
     let held = rw (← c.self.view_is) at c.requires.held in
-    rw (c.save.ensures.live, c.save.ensures.blocks, c.save.ensures.stamps, c.raise.ensures, c.totals-totals.ensures.value, c.stack-before.ensures.value)
-    (sound-of _ _ _ _ _ (kept-moved _ _ _ _ _ _ c.args.event c.args.stack c.self.invariant c.in_ok-apply.ensures.sound c.in_ok-apply.ensures.changes c.requires.own held))
+    rw (c.save.ensures.live, c.save.ensures.blocks, c.save.ensures.stamps, c.follow.ensures, c.stack-before.ensures.value)
+    (sound-of _ _ _ _ _ (kept-moved _ _ _ _ _ _ c.args.event c.args.stack c.self.invariant.kept c.in_ok-apply.ensures.sound c.in_ok-apply.ensures.changes c.requires.own held))
