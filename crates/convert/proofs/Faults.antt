@@ -9,7 +9,7 @@ use Rattle.dhat_json.specs.Figure.{has_figures}
 use Rattle.dhat_view.specs.PointCosts.{point_costs}
 use Rattle.massif_file.specs.declared.profile.Profile.{Profile}
 use Rattle.massif_file.specs.declared.profile.Snap.{Snap}
-use Rattle.massif_file.specs.declared.profile.TreeLine.{TreeLine}
+use Rattle.massif_file.specs.TreeLine.{TreeLine}
 use Rattle.convert.specs.declared.fault.ConvertFault.TheVariants.{NoFigures, NoTree, TooLarge}
 use Rattle.convert.specs.Chosen.{chosen}
 use Rattle.convert.specs.ConvertFault.{converted_fault, fault_if, folded_fault, folded_massif_fault, is_too_large, items_fault, snap_fault}

@@ -4,7 +4,7 @@ use Rattle.std.specs.Prelude.{slice_get, sum}
 use Rattle.std.proofs.lemmas.List.{drop_all, length-set}
 use Rattle.std.proofs.lemmas.List.Sums.{sum_by-append}
 use Rattle.std.proofs.Math.Seq.{take-add}
-use Rattle.massif_file.specs.declared.profile.TreeLine.{TreeLine}
+use Rattle.massif_file.specs.TreeLine.{TreeLine}
 use Rattle.convert.specs.Levels.{left_in}
 use Rattle.convert.specs.TreeItems.{root_bytes}
 use Rattle.convert.proofs.Walks.{drop-at}

@@ -11,7 +11,7 @@ use Rattle.cost_tree.specs.CostLines.{FrontLine, Shown, a_front, gathered, cost_
 use Rattle.cost_tree.specs.Inclusive.{inclusive}
 use Rattle.cost_tree.proofs.Laws.{inclusive-longer, kept-all, kept-apart, kept-held, kept-next, kept-some, next-texts, small-none}
 use Rattle.dhat_json.specs.Shown.{shown}
-use Rattle.massif_file.specs.declared.profile.TreeLine.{TreeLine}
+use Rattle.massif_file.specs.TreeLine.{TreeLine}
 use Rattle.massif_tree.specs.declared.options.TreeOptions.{TreeOptions}
 use Rattle.massif_tree.specs.MassifTree.{label_of, massif_line, massif_tree, scale_of}
 use Rattle.convert.specs.AreTreeSums.{AreTreeSums, line_fronts}

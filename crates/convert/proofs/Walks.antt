@@ -9,7 +9,7 @@ use Rattle.std.proofs.lemmas.List.Sums.{sum_by-cons}
 use Rattle.std.proofs.lemmas.Option.{get_or_from_slice_get, none-some, same_Some, slice_get-get_or, slice_get-map}
 use Rattle.cost_tree.specs.Costed.{Costed}
 use Rattle.dhat_json.specs.Shown.{shown}
-use Rattle.massif_file.specs.declared.profile.TreeLine.{TreeLine}
+use Rattle.massif_file.specs.TreeLine.{TreeLine}
 use Rattle.convert.specs.declared.path.Level.{Level}
 use Rattle.convert.specs.Levels.{entered, if_open, items_left, left_in, level_at, one_less, path_of, under, without_done}
 use Rattle.cost_tree.specs.Texts.{IsText, text_of, texts_of}

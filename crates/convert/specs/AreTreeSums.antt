@@ -5,7 +5,7 @@ use Rattle.cost_tree.specs.Inclusive.{inclusive}
 use Rattle.dhat_json.specs.declared.figure.FigureKey.TheVariants.{Eb, Gb}
 use Rattle.dhat_json.specs.declared.profile.Dhat.{Dhat}
 use Rattle.massif_file.specs.declared.profile.Profile.{Profile}
-use Rattle.massif_file.specs.declared.profile.TreeLine.{TreeLine}
+use Rattle.massif_file.specs.TreeLine.{TreeLine}
 use Rattle.convert.specs.Items.{point_items}
 use Rattle.convert.specs.TreeItems.{tree_items}
 

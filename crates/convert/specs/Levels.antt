@@ -1,7 +1,7 @@
 -- Where a walk over a tree's lines stands, for private clauses: the levels that are open, from the innermost one outwards.
 use Rattle.std.specs.Prelude.{ℕ, zero, suc, ◌-◌, List, [], ◌∷◌, ◌++◌, drop, map, reverse, take}
 use Rattle.cost_tree.specs.Costed.{Costed}
-use Rattle.massif_file.specs.declared.profile.TreeLine.{TreeLine}
+use Rattle.massif_file.specs.TreeLine.{TreeLine}
 use Rattle.convert.specs.declared.path.Level.{Level}
 use Rattle.cost_tree.specs.Texts.{texts_of}
 use Rattle.convert.specs.TreeItems.{all_items, left_bytes}

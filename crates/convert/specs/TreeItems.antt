@@ -4,7 +4,7 @@
 use Rattle.std.specs.Prelude.{ℕ, ◌-◌, List, [], ◌∷◌, drop, flat_map, map, sum, take}
 use Rattle.cost_tree.specs.Costed.{Costed}
 use Rattle.dhat_json.specs.Shown.{shown}
-use Rattle.massif_file.specs.declared.profile.TreeLine.{TreeLine}
+use Rattle.massif_file.specs.TreeLine.{TreeLine}
 
 -- the bytes of each tree's root
 unfoldable pub root_bytes : List TreeLine → List ℕ

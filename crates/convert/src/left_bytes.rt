@@ -4,7 +4,7 @@ ghost use Rattle.convert.specs.ConvertFault.{is_too_large};
 ghost use Rattle.convert.specs.Levels.{left_in};
 
 use hp_num::NoMemory;
-use massif_file::{Tree, TreeLine};
+use massif_file::{Tree, TreeFields};
 use std::alloc::Global;
 
 /// The greatest sum of numbers that is folded.
@@ -24,12 +24,13 @@ pub(crate) fn left_bytes(alloc: Global, tree: &Tree) -> Result<Vec<u64>, NoMemor
 }
 
 /// What the line's children leave of its bytes. They are the last roots; the line takes their place.
-fn take_line(line: &TreeLine, roots: &mut Vec<u64>) -> Result<u64, NoMemory>
+fn take_line(line: TreeFields, roots: &mut Vec<u64>) -> Result<u64, NoMemory>
     ensures left { IfOk result
-        (λ left. left ≡ line.now.bytes - sum (take line.now.children (reverse roots.old.items))) }
+        (λ left. left
+        ≡ line.entry.bytes - sum (take line.entry.children (reverse roots.old.items))) }
     ensures roots { OnOk result
         (reverse roots.new.items
-        ≡ line.now.bytes ∷ drop line.now.children (reverse roots.old.items)) }
+        ≡ line.entry.bytes ∷ drop line.entry.children (reverse roots.old.items)) }
 {
     let mut left = line.bytes;
     'each_child: for _ in 0..line.children {

@@ -7,7 +7,7 @@ ghost use Rattle.cost_tree.specs.Costed.{Costed};
 ghost use Rattle.dhat_json.specs.Shown.{shown};
 ghost use Rattle.hp_num.specs.Extends.{Extends};
 ghost use Rattle.intern_tables.specs.Distinct.{AreDistinct};
-ghost use Rattle.massif_file.specs.declared.profile.TreeLine.{TreeLine};
+ghost use Rattle.massif_file.specs.TreeLine.{TreeLine};
 ghost use Rattle.convert.specs.declared.fault.ConvertFault.TheVariants.{NoTree};
 ghost use Rattle.convert.specs.AreFolded.{AreFolded};
 ghost use Rattle.convert.specs.Chosen.{chosen, chosen_items};
@@ -152,7 +152,7 @@ fn shown_labels(alloc: Global, tree: &Tree) -> Result<ShownTexts, NoMemory>
 {
     let mut texts = ShownTexts::new(alloc);
     'each_line: for place in 0..tree.len() {
-        texts.push(tree.at(place).label.bytes())?;
+        texts.push(tree.at(place).label)?;
     }
     Ok(texts)
 }

@@ -1,4 +1,5 @@
 mod Complete
+mod EntryLemmas
 mod Lent
 mod LevelTexts
 mod LineLemmas

@@ -1,7 +1,7 @@
 -- Lines whose levels follow from the counts are those of one tree, and the other way.
 use Rattle.std.proofs.Common.{◌≡◌, ℕ, zero, suc, ◌+◌, ◌-◌, ◌<◌, ◌≤◌, List, [], ◌∷◌, ◌++◌, length, refl, sym, ap, subst, ◌∙◌, append_assoc, arith}
 use Rattle.std.proofs.lemmas.List.{append-nil}
-use Rattle.massif_file.specs.declared.profile.TreeLine.{TreeLine}
+use Rattle.massif_file.specs.TreeLine.{TreeLine}
 use Rattle.massif_file.specs.Leads.{Leads}
 use Rattle.massif_file.specs.Levels.{without_done, after_line}
 use Rattle.massif_file.specs.Trees.{Trees, no_tree, a_tree, count_of, levels_of, lines_of, IsTree}

@@ -1,19 +1,23 @@
 -- How the text of a profile grows, piece by piece.
-use Rattle.std.proofs.Common.{◌≡◌, ℕ, zero, suc, ◌+◌, ◌-◌, ◌<◌, List, [], ◌∷◌, ◌++◌, length, get_or, drop, refl, sym, ap, ◌∙◌, append_assoc, add-one, drop-cons}
-use Rattle.massif_file.specs.declared.profile.TreeLine.{TreeLine}
+use Rattle.std.proofs.Common.{◌≡◌, ℕ, zero, suc, ◌+◌, ◌-◌, ◌<◌, List, [], ◌∷◌, ◌++◌, length, get_or, drop, take, replicate, arith, refl, sym, ap, ◌∙◌, append_assoc, add-one, drop-cons}
+use Rattle.std.proofs.lemmas.List.{take_all}
+use Rattle.massif_file.specs.TreeLine.{TreeLine}
 use Rattle.massif_file.specs.declared.profile.Snap.{Snap}
 use Rattle.massif_file.specs.Blanks.{blanks}
 use Rattle.massif_file.specs.Levels.{after_line}
 use Rattle.massif_file.specs.MassifText.{text_of, node_text, tree_lines, snap_lines, snaps_lines}
 
--- one more blank
-blanks_suc : (n : ℕ) → blanks (suc n) ≡ blanks n ++ 32 ∷ []
-blanks_suc zero = refl
-blanks_suc (suc n) = ap (λ (ms : List ℕ). 32 ∷ ms) (blanks_suc n)
+-- so many blanks
+blanks_are : (n : ℕ) → replicate n 32 ≡ blanks n
+blanks_are zero = refl
+blanks_are (suc n) = ap (λ (bs : List ℕ). 32 ∷ bs) (blanks_are n)
 
--- the same, as the code counts
-pub blanks_more : (n : ℕ) → blanks (n + 1) ≡ blanks n ++ 32 ∷ []
-blanks_more n = ap blanks (add-one n) ∙ blanks_suc n
+-- a text that is filled up with them
+pub blanks_behind : (out : List ℕ) (len n : ℕ) → len ≡ length out → take (len + n) out ++ replicate (len + n - len) 32 ≡ out ++ blanks n
+blanks_behind out len n all =
+    ap (λ (k : ℕ). take (len + n) out ++ replicate k 32) {x = len + n - len} {y = n} (omega arith)
+    ∙ ap (λ (t : List ℕ). t ++ replicate n 32) (take_all (len + n) out (omega arith))
+    ∙ ap (λ (t : List ℕ). out ++ t) (blanks_are n)
 
 -- the text of lines after lines
 pub text_of_append : (xs ys : List (List ℕ)) → text_of (xs ++ ys) ≡ text_of xs ++ text_of ys

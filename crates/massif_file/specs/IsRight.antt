@@ -2,7 +2,7 @@
 use Rattle.std.specs.Prelude.{◌≡◌, ℕ, ◌<◌, ◌≤◌, List, [], ◌∷◌, length}
 use Rattle.massif_file.specs.declared.profile.HeapTree.{HeapTree}
 use Rattle.massif_file.specs.declared.profile.HeapTree.TheVariants.{Empty, Detailed, Peak}
-use Rattle.massif_file.specs.declared.profile.TreeLine.{TreeLine}
+use Rattle.massif_file.specs.TreeLine.{TreeLine}
 use Rattle.massif_file.specs.declared.profile.Snap.{Snap}
 use Rattle.massif_file.specs.declared.profile.Profile.{Profile}
 use Rattle.massif_file.specs.Trees.{IsTree}

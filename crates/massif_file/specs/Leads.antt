@@ -1,6 +1,6 @@
 -- How far the lines of a tree have come.
 use Rattle.std.specs.Prelude.{◌≡◌, ℕ, ◌<◌, ◌≤◌, List, [], ◌∷◌, length}
-use Rattle.massif_file.specs.declared.profile.TreeLine.{TreeLine}
+use Rattle.massif_file.specs.TreeLine.{TreeLine}
 use Rattle.massif_file.specs.Levels.{after_line}
 
 -- The lines lead from what is to come before them to what is to come after them. Each is awaited, and none stands above level 256.

@@ -10,6 +10,7 @@ pub mod Items
 pub mod LastTime
 pub mod Leads
 pub mod Levels
+pub mod LineEntries
 pub mod MassifText
 pub mod ProfileFault
 pub mod ProfileOf
@@ -17,6 +18,7 @@ pub mod Progress
 pub mod Reading
 pub mod Refuses
 pub mod StandsFor
+pub mod TreeLine
 pub mod TreeLineOf
 pub mod TreeTexts
 pub mod Trees

@@ -1,7 +1,7 @@
 -- The line of a tree: any number of blanks, `nC: B LABEL`.
 use Rattle.std.specs.Prelude.{ℕ, List, Option, codes}
 use Rattle.std.specs.Option.{option_map, option_and_then}
-use Rattle.massif_file.specs.declared.profile.TreeLine.{TreeLine}
+use Rattle.massif_file.specs.TreeLine.{TreeLine}
 use Rattle.massif_file.specs.Blanks.{without_blanks, before_byte, from_byte}
 use Rattle.massif_file.specs.Fields.{value_after, number_of, max_number}
 

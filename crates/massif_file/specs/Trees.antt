@@ -1,6 +1,6 @@
 -- Trees, and the lines that say one.
 use Rattle.std.specs.Prelude.{◌≡◌, ℕ, suc, ◌≤◌, max, List, [], ◌∷◌, ◌++◌}
-use Rattle.massif_file.specs.declared.profile.TreeLine.{TreeLine}
+use Rattle.massif_file.specs.TreeLine.{TreeLine}
 
 -- trees side by side: none, or one with the trees below its root, and the others beside it
 pub data Trees : Type 0 where

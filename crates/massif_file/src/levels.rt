@@ -1,6 +1,6 @@
 //! The levels of a tree whose lines come one by one: how many lines are still to come at each level.
 //! It knows no line but for the number of its children.
-ghost use Rattle.std.specs.Prelude.{◌≡◌, [], ◌∷◌, length, reverse, OnOk};
+ghost use Rattle.std.specs.Prelude.{◌≡◌, ◌<◌, ◌^◌, [], ◌∷◌, length, reverse, OnOk};
 ghost use Rattle.massif_file.specs.Levels.{after_line, without_done};
 
 use hp_num::NoMemory;
@@ -43,7 +43,8 @@ impl Levels {
 
     /// How many levels are open: one more than the level of the line that comes next, and 0 where none is to come.
     pub fn len(&self) -> usize
-        ensures { result ≡ length self.now }
+        ensures count { result ≡ length self.now }
+        ensures few { result < 2 ^ 63 }
     {
         self.to_come.len()
     }

@@ -15,7 +15,7 @@
 //!
 //! | File | Does |
 //! |---|---|
-//! | `profile.rt`, `lists.rt` | what a file says, as values; their lists |
+//! | `profile.rt`, `lists.rt`, `tree.rt` | what a file says, as values; its snapshots; the lines of a tree |
 //! | `reader.rt`, `reading.rt` | the reader; one short step for each line that may come next |
 //! | `line.rt`, `levels.rt` | what single lines say; how many lines of a tree are still to come |
 //! | `writer.rt` | a profile as text |
@@ -31,11 +31,13 @@ mod lists;
 mod profile;
 mod reader;
 mod reading;
+mod tree;
 mod writer;
 
 pub use fault::ProfileFault;
 pub use laws::{massif_profiles, massif_round_trip};
-pub use lists::{Snaps, Tree};
-pub use profile::{HeapTree, Profile, Snap, TimeUnit, TreeLine};
+pub use lists::Snaps;
+pub use profile::{HeapTree, Profile, Snap, TimeUnit, TreeFields};
 pub use reader::ProfileReader;
+pub use tree::Tree;
 pub use writer::put_profile;

@@ -5,10 +5,11 @@ ghost use Rattle.std.specs.List.{list_all, position};
 ghost use Rattle.std.specs.Str.{bytes_eq};
 ghost use Rattle.massif_file.specs.Blanks.{before_byte, from_byte, is_blank, is_comment, is_skipped, without_blanks};
 ghost use Rattle.massif_file.specs.Fields.{header_value, key_number, mark_of, number_of, unit_of, value_after, mark_in, unit_in};
+ghost use Rattle.massif_file.specs.TreeLine.{line_of};
 ghost use Rattle.massif_file.specs.TreeLineOf.{tree_line_of};
 
 use crate::fault::ProfileFault;
-use crate::profile::{HeapTree, TimeUnit};
+use crate::profile::{HeapTree, TimeUnit, TreeFields};
 use hp_num::parse_dec;
 
 /// The greatest number of a Massif file.
@@ -111,23 +112,10 @@ pub fn mark_after(line: &[u8]) -> Option<HeapTree>
     mark_of(value_after(b"heap_tree=", line)?)
 }
 
-/// What a tree line says. Its label is still part of the line.
-#[derive(Clone, Copy)]
-pub struct TreeFields<'a> {
-    pub children: u32,
-    pub bytes: u64,
-    pub label: &'a [u8],
-}
-
-/// What the line says, where it is a tree line.
+/// What the line says, where it is a tree line. The label is still part of the line.
 #[tactic(auto, unfolding(crate::specs::TreeLineOf::tree_line_of))]
 pub fn tree_fields(line: &[u8]) -> Option<TreeFields<'_>>
-    ensures { option_map
-        (λ fields. record {
-          children = fields.children;
-          bytes = fields.bytes;
-          label = fields.label.now;
-        }) result ≡ tree_line_of line.now }
+    ensures { option_map line_of result ≡ tree_line_of line.now }
 {
     let fields = value_after(b"n", without_blanks(line))?;
     let (count, rest) = split_at_byte(fields, b':');

@@ -1,6 +1,7 @@
 //! What a Massif file says, as values. How it is spelled is the business of the writer and the reader.
 
-use crate::lists::{Snaps, Tree};
+use crate::lists::Snaps;
+use crate::tree::Tree;
 use hp_num::Text;
 
 /// What the times of a profile count.
@@ -27,15 +28,15 @@ pub enum HeapTree {
     Peak,
 }
 
-/// One line of a tree: a place in the program, or several places that are gathered.
-#[derive(Debug, Drop)]
-pub struct TreeLine {
+/// What one line of a tree says: a place in the program, or several places that are gathered.
+#[derive(Clone, Copy, Debug, PartialEq, Eq)]
+pub struct TreeFields<'a> {
     /// How many lines of the next level belong to this one.
     pub children: u32,
     /// Heap bytes of the place.
     pub bytes: u64,
     /// The place, in words.
-    pub label: Text,
+    pub label: &'a [u8],
 }
 
 /// The heap at one moment.

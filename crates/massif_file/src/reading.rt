@@ -12,8 +12,9 @@ ghost use Rattle.massif_file.specs.UnlessNoMemory.{UnlessNoMemory};
 use crate::fault::ProfileFault;
 use crate::levels::Levels;
 use crate::line::{header_value, is_skipped, key_number, mark_after, tree_fields, unit_after};
-use crate::lists::{Snaps, Tree};
-use crate::profile::{HeapTree, Profile, Snap, TimeUnit, TreeLine};
+use crate::lists::Snaps;
+use crate::profile::{HeapTree, Profile, Snap, TimeUnit};
+use crate::tree::Tree;
 use hp_num::{NoMemory, Text};
 use std::alloc::Global;
 use std::mem;
@@ -255,12 +256,7 @@ impl Reading {
         let Some(fields) = tree_fields(line) else {
             return Err(ProfileFault::BadTree);
         };
-        let label = Text::new(self.alloc, fields.label)?;
-        self.snap.tree.push(TreeLine {
-            children: fields.children,
-            bytes: fields.bytes,
-            label,
-        })?;
+        self.snap.tree.push(fields)?;
         self.levels.line(fields.children)?;
         if self.levels.len() == 0 {
             return self.end_snap();

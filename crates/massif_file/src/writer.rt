@@ -1,12 +1,14 @@
 //! A profile written as the text of Massif's output file. Reading such a text is the reader's part.
-ghost use Rattle.std.specs.Prelude.{◌≡◌, ℕ, ◌-◌, ◌<◌, [], ◌∷◌, ◌++◌, length, take, decimal, codes, vec_len, OnOk, OnErr};
+ghost use Rattle.std.specs.Prelude.{◌≡◌, ℕ, ◌-◌, ◌^◌, ◌<◌, [], ◌∷◌, ◌++◌, length, take, decimal, codes, vec_len, OnOk, OnErr};
 ghost use Rattle.massif_file.specs.Blanks.{blanks};
 ghost use Rattle.massif_file.specs.Fields.{unit_name, mark_name};
+ghost use Rattle.massif_file.specs.TreeLine.{line_of};
 ghost use Rattle.massif_file.specs.MassifText.{head_lines, massif_text, node_text, size_lines, snap_lines, snaps_lines, text_of, tree_lines};
 
 use crate::levels::Levels;
-use crate::lists::{Snaps, Tree};
-use crate::profile::{HeapTree, Profile, Snap, TimeUnit, TreeLine};
+use crate::lists::Snaps;
+use crate::profile::{HeapTree, Profile, Snap, TimeUnit, TreeFields};
+use crate::tree::Tree;
 use hp_num::{NoMemory, put_bytes, put_dec};
 
 /// Appends the profile's text in the form of Massif's output file. On `NoMemory`, `out` holds what it held before.
@@ -84,34 +86,33 @@ fn put_tree(out: &mut Vec<u8>, tree: &Tree) -> Result<(), NoMemory>
 {
     let mut levels = Levels::new(*out.allocator());
     levels.begin()?;
-    for line in tree.as_slice() {
+    'each_line: for place in 0..tree.len() {
+        let line = tree.at(place);
         put_blanks(out, levels.len().saturating_sub(1))?;
-        put_node(out, line)?;
+        put_node(out, &line)?;
         levels.line(line.children)?;
     }
     Ok(())
 }
 
-fn put_node(out: &mut Vec<u8>, line: &TreeLine) -> Result<(), NoMemory>
+fn put_node(out: &mut Vec<u8>, line: &TreeFields) -> Result<(), NoMemory>
     ensures kept { take (vec_len out.old) out.new.items ≡ out.old.items }
     ensures appended { OnOk result
-        (out.new.items ≡ out.old.items ++ text_of (node_text line.now ∷ [])) }
+        (out.new.items ≡ out.old.items ++ text_of (node_text (line_of line.now) ∷ [])) }
 {
     put_bytes(out, b"n")?;
     put_dec(out, u64::from(line.children))?;
     put_bytes(out, b": ")?;
     put_dec(out, line.bytes)?;
-    put_line(out, b" ", line.label.bytes())
+    put_line(out, b" ", line.label)
 }
 
-#[tactic(auto, using(crate::proofs::WrittenLemmas::blanks_more))]
 fn put_blanks(out: &mut Vec<u8>, count: usize) -> Result<(), NoMemory>
+    requires few { count < 2 ^ 63 }
     ensures kept { take (vec_len out.old) out.new.items ≡ out.old.items }
     ensures appended { OnOk result (out.new.items ≡ out.old.items ++ blanks count) }
 {
-    for _ in 0..count {
-        put_bytes(out, b" ")?;
-    }
+    out.resize(out.len() + count, b' ')?;
     Ok(())
 }
 

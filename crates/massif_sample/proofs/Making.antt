@@ -13,7 +13,7 @@ use Rattle.massif_cull.specs.declared.snapshot.Kind.{Kind}
 use Rattle.massif_cull.specs.declared.snapshot.Kind.TheVariants as kind
 use Rattle.massif_cull.specs.declared.snapshot.SnapEntry.{SnapEntry}
 use Rattle.massif_file.specs.declared.profile.Profile.{Profile}
-use Rattle.massif_file.specs.declared.profile.TreeLine.{TreeLine}
+use Rattle.massif_file.specs.TreeLine.{TreeLine}
 use Rattle.massif_file.specs.declared.profile.Snap.{Snap}
 use Rattle.massif_sample.specs.declared.load.Load.{Load}
 use Rattle.massif_sample.specs.declared.options.MassifOptions.{MassifOptions}

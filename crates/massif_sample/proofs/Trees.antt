@@ -10,7 +10,7 @@ use Rattle.massif_cull.specs.declared.snapshot.Taken.{Taken}
 use Rattle.massif_cull.specs.declared.snapshot.Taken.TheVariants.{No, Normal, Detailed, Peak}
 use Rattle.massif_cull.specs.Kept.{Kept, Settings}
 use Rattle.massif_cull.specs.TakenAs.{next_time_after, peak_bound, taken_as}
-use Rattle.massif_file.specs.declared.profile.TreeLine.{TreeLine}
+use Rattle.massif_file.specs.TreeLine.{TreeLine}
 use Rattle.massif_tree.specs.FunctionLists.{trimmed_before, trimmed_lists}
 use Rattle.massif_tree.specs.MassifTree.{massif_tree}
 use Rattle.massif_sample.specs.declared.options.MassifOptions.{MassifOptions}

@@ -6,7 +6,7 @@ use Rattle.ht_trace.specs.TableState.{TableState}
 use Rattle.massif_cull.specs.declared.snapshot.SnapEntry.{SnapEntry}
 use Rattle.massif_file.specs.declared.profile.Profile.{Profile}
 use Rattle.massif_file.specs.declared.profile.Snap.{Snap}
-use Rattle.massif_file.specs.declared.profile.TreeLine.{TreeLine}
+use Rattle.massif_file.specs.TreeLine.{TreeLine}
 use Rattle.massif_tree.specs.declared.options.TreeOptions.{TreeOptions}
 use Rattle.massif_tree.specs.FunctionLists.{trimmed_before}
 use Rattle.massif_tree.specs.MassifTree.{massif_tree}

@@ -11,7 +11,7 @@ use Rattle.massif_cull.specs.declared.snapshot.SnapEntry.{SnapEntry}
 use Rattle.massif_file.specs.declared.profile.HeapTree.{HeapTree}
 use Rattle.massif_file.specs.declared.profile.HeapTree.TheVariants.{Empty, Detailed, Peak}
 use Rattle.massif_file.specs.declared.profile.Snap.{Snap}
-use Rattle.massif_file.specs.declared.profile.TreeLine.{TreeLine}
+use Rattle.massif_file.specs.TreeLine.{TreeLine}
 use Rattle.massif_tree.specs.FunctionLists.{trimmed_lists}
 use Rattle.massif_tree.specs.MassifTree.{massif_tree}
 use Rattle.massif_sample.specs.declared.options.MassifOptions.{MassifOptions}

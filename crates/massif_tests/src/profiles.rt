@@ -2,7 +2,7 @@
 use crate::worked::{DEMO, DETAILED};
 use hp_num::{NoMemory, Text, parse_dec};
 use massif_file::{
-    HeapTree, Profile, ProfileFault, ProfileReader, Snap, Snaps, TimeUnit, Tree, TreeLine,
+    HeapTree, Profile, ProfileFault, ProfileReader, Snap, Snaps, TimeUnit, Tree, TreeFields,
     massif_profiles, massif_round_trip, put_profile,
 };
 use std::alloc::Global;
@@ -85,7 +85,7 @@ fn reads_the_worked_profile(rt: HostRuntime) {
     let gathered = second.tree.at(2);
     assert_eq!(rt; (gathered.children, gathered.bytes), (0, 40));
     assert_eq!(rt;
-        gathered.label.bytes(),
+        gathered.label,
         b"in 3 places, all below massif's threshold (1.00%)".as_slice()
     );
 }
@@ -94,11 +94,10 @@ fn reads_the_worked_profile(rt: HostRuntime) {
 fn writes_a_profile(rt: HostRuntime) {
     let alloc = rt.alloc();
     let mut tree = Tree::new(alloc);
-    let label = Text::new(alloc, b"main").expect(&rt, "memory");
-    let line = TreeLine {
+    let line = TreeFields {
         children: 0,
         bytes: 5,
-        label,
+        label: b"main",
     };
     assert_eq!(rt; tree.push(line), Ok(()));
     let mut snaps = Snaps::new(alloc);

@@ -19,7 +19,7 @@ fn shown(rt: &impl Abort, alloc: Global, tree: &Tree) -> Result<Vec<u8>, NoMemor
         put_bytes(&mut out, b" ")?;
         put_dec(&mut out, line.bytes)?;
         put_bytes(&mut out, b" ")?;
-        put_bytes(&mut out, line.label.bytes())?;
+        put_bytes(&mut out, line.label)?;
         put_bytes(&mut out, b"\n")?;
     }
     Ok(out)

@@ -5,7 +5,7 @@ use Rattle.std.proofs.lemmas.List.{map-append}
 use Rattle.cost_tree.specs.declared.scale.Scale.{Scale}
 use Rattle.cost_tree.specs.Costed.{Costed}
 use Rattle.cost_tree.specs.CostLines.{FrontLine, cost_of, front_lines, gathered_lines, kept_fronts, small_fronts}
-use Rattle.massif_file.specs.declared.profile.TreeLine.{TreeLine}
+use Rattle.massif_file.specs.TreeLine.{TreeLine}
 use Rattle.massif_file.specs.Trees.{Trees, no_tree, a_tree, count_of, levels_of, lines_of}
 use Rattle.massif_tree.specs.MassifTree.{label_in, label_of, massif_line}
 

@@ -14,7 +14,7 @@ use Rattle.ht_trace.specs.declared.frame.FrameAt.{FrameAt}
 use Rattle.ht_trace.specs.declared.frame.Style.TheVariants.{Addressed}
 use Rattle.ht_trace.specs.FrameText.{frame_text}
 use Rattle.ht_trace.specs.TableState.{TableState}
-use Rattle.massif_file.specs.declared.profile.TreeLine.{TreeLine}
+use Rattle.massif_file.specs.TreeLine.{TreeLine}
 use Rattle.massif_file.specs.IsWritable.{IsLine, IsText, IsWritableLine}
 use Rattle.massif_file.specs.Trees.{IsTree, no_tree}
 use Rattle.massif_tree.specs.declared.options.TreeOptions.{TreeOptions}

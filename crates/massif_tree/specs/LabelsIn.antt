@@ -3,7 +3,7 @@ use Rattle.std.specs.Prelude.{ℕ}
 use Rattle.cost_tree.specs.declared.line.CostLine.{CostLine}
 use Rattle.cost_tree.specs.TreeLines.{line_at}
 use Rattle.cost_tree.specs.TreeState.{TreeState}
-use Rattle.massif_file.specs.declared.profile.TreeLine.{TreeLine}
+use Rattle.massif_file.specs.TreeLine.{TreeLine}
 use Rattle.massif_tree.specs.MassifTree.{massif_line}
 
 -- the line of the file for a line of the tree

@@ -3,7 +3,7 @@ use Rattle.std.specs.Prelude.{ℕ, List, [], ◌∷◌, map}
 use Rattle.cost_tree.specs.declared.scale.Scale.{Scale}
 use Rattle.cost_tree.specs.Costed.{Costed}
 use Rattle.cost_tree.specs.CostLines.{FrontLine, Shown, a_front, gathered, cost_lines, last_of}
-use Rattle.massif_file.specs.declared.profile.TreeLine.{TreeLine}
+use Rattle.massif_file.specs.TreeLine.{TreeLine}
 use Rattle.massif_tree.specs.declared.options.TreeOptions.{TreeOptions}
 use Rattle.massif_tree.specs.Labels.{gathered_label, root_label}
 

@@ -1,30 +1,26 @@
 //! The labels of a tree's lines that name no frame: that of the root, and that of places that are gathered.
-ghost use Rattle.std.specs.Prelude.{◌≡◌, ◌++◌, IfOk, OnOk};
+ghost use Rattle.std.specs.Prelude.{◌≡◌, ◌++◌, OnOk};
 ghost use Rattle.hp_num.specs.Percent.{two_digits};
 ghost use Rattle.massif_tree.specs.Labels.{gathered_label, places_label, root_label, threshold_text};
 
-use hp_num::{NoMemory, Text, put_bytes, put_dec};
-use std::alloc::Global;
+use hp_num::{NoMemory, put_bytes, put_dec};
 
 /// The label of the root.
-pub(crate) fn root_text(alloc: Global) -> Result<Text, NoMemory>
-    ensures { IfOk result (λ label. label ≡ root_label) }
+#[tactic(auto, unfolding(crate::specs::Labels::root_label))]
+pub(crate) fn root_label() -> &'static [u8]
+    ensures { result.now ≡ root_label }
 {
-    Text::new(
-        alloc,
-        b"(heap allocation functions) malloc/new/new[], --alloc-fns, etc.",
-    )
+    b"(heap allocation functions) malloc/new/new[], --alloc-fns, etc."
 }
 
-/// The label of so many places that are gathered below the threshold, in hundredths of a percent.
-pub(crate) fn gathered_text(alloc: Global, threshold: u64, places: u64) -> Result<Text, NoMemory>
-    ensures { IfOk result (λ label. label ≡ gathered_label threshold places) }
+/// Appends the label of so many places that are gathered below the threshold, in hundredths of a percent.
+pub(crate) fn put_gathered(threshold: u64, places: u64, out: &mut Vec<u8>) -> Result<(), NoMemory>
+    ensures appended { OnOk result
+        (out.new.items ≡ out.old.items ++ gathered_label threshold places) }
 {
-    let mut label = Vec::new(alloc);
-    put_places(places, &mut label)?;
-    put_threshold(threshold, &mut label)?;
-    put_bytes(&mut label, b")")?;
-    Ok(Text::from(label))
+    put_places(places, out)?;
+    put_threshold(threshold, out)?;
+    put_bytes(out, b")")
 }
 
 /// Appends how many places are gathered, up to their threshold.

@@ -1,17 +1,17 @@
 //! The lines of a snapshot's tree, as its file has them.
 //! Which places have lines of their own, and in which order, is `cost_tree`'s part.
-ghost use Rattle.std.specs.Prelude.{◌≡◌, ◌<◌, [], List, All, length, map, IfOk};
+ghost use Rattle.std.specs.Prelude.{◌≡◌, ◌<◌, [], ◌∷◌, ◌++◌, List, All, length, map, IfOk, OnOk};
 ghost use Rattle.cost_tree.specs.Costed.{Costed};
-ghost use Rattle.cost_tree.specs.TreeLines.{IsPlace, front_at, shown_at};
+ghost use Rattle.cost_tree.specs.TreeLines.{IsPlace, front_at};
 ghost use Rattle.massif_tree.specs.IsShown.{IsShown};
 ghost use Rattle.massif_tree.specs.LabelsIn.{line_in};
-ghost use Rattle.massif_tree.specs.MassifTree.{label_in, label_of, massif_tree};
+ghost use Rattle.massif_tree.specs.MassifTree.{label_of, massif_tree};
 
-use crate::labels::{gathered_text, root_text};
+use crate::labels::{put_gathered, root_label};
 use crate::options::TreeOptions;
 use cost_tree::{CostLine, CostTree, Place, Scale, cost_lines};
-use hp_num::{NoMemory, Text};
-use massif_file::{Tree, TreeLine};
+use hp_num::NoMemory;
+use massif_file::{Tree, TreeFields};
 use std::alloc::Global;
 
 /// The lines of the tree, or `NoMemory`: a line for the root, and below a line the places whose share of the total reaches
@@ -51,56 +51,57 @@ fn file_lines(
     ensures lines { IfOk result (λ made. made ≡ map (line_in threshold tree.now) lines.now) }
 {
     let mut made = Tree::new(alloc);
+    let mut label = Vec::new(alloc);
     'each_line: for line in lines {
-        made.push(file_line(alloc, tree, threshold, line)?)?;
+        push_line(tree, threshold, line, &mut label, &mut made)?;
     }
     Ok(made)
 }
 
-/// The line of the file for a line of the tree.
-fn file_line(
-    alloc: Global,
+/// Appends the line of the file for a line of the tree. A label that has to be made is written into `label`.
+fn push_line(
     tree: &CostTree,
     threshold: u64,
     line: &CostLine,
-) -> Result<TreeLine, NoMemory>
+    label: &mut Vec<u8>,
+    made: &mut Tree,
+) -> Result<(), NoMemory>
     requires root { front_at tree.now 0 ≡ [] }
     requires place { IsPlace tree.now line.now.place }
-    ensures line { IfOk result (λ made. made ≡ line_in threshold tree.now line.now) }
+    ensures appended { OnOk result
+        (made.new ≡ made.old ++ line_in threshold tree.now line.now ∷ []) }
 {
-    let label = place_label(alloc, tree, threshold, line.place)?;
-    Ok(TreeLine {
+    match line.place {
+        Place::Node { node } => push_labelled(line, node_label(tree, node), made),
+        Place::Gathered { places } => {
+            label.clear();
+            put_gathered(threshold, places, label)?;
+            push_labelled(line, label, made)
+        }
+    }
+}
+
+/// Appends a line with this label.
+fn push_labelled(line: &CostLine, label: &[u8], made: &mut Tree) -> Result<(), NoMemory>
+    ensures appended { OnOk result
+        (made.new ≡ made.old
+        ++ record { children = line.now.children; bytes = line.now.cost; label = label.now } ∷ []) }
+{
+    made.push(TreeFields {
         children: line.children,
         bytes: line.cost,
         label,
     })
 }
 
-/// The label of a place.
-fn place_label(
-    alloc: Global,
-    tree: &CostTree,
-    threshold: u64,
-    place: Place,
-) -> Result<Text, NoMemory>
-    requires root { front_at tree.now 0 ≡ [] }
-    requires place { IsPlace tree.now place }
-    ensures label { IfOk result (λ label. label ≡ label_in threshold (shown_at tree.now place)) }
-{
-    match place {
-        Place::Node { node } => node_label(alloc, tree, node),
-        Place::Gathered { places } => gathered_text(alloc, threshold, places),
-    }
-}
-
 /// The label of a node: that of the root, or the last text of its front.
-fn node_label(alloc: Global, tree: &CostTree, node: usize) -> Result<Text, NoMemory>
+fn node_label<'a>(tree: &'a CostTree, node: usize) -> &'a [u8]
     requires root { front_at tree.now 0 ≡ [] }
     requires held { node < length tree.now.nodes }
-    ensures label { IfOk result (λ label. label ≡ label_of (front_at tree.now node)) }
+    ensures label { result.now ≡ label_of (front_at tree.now node) }
 {
     if node == 0 {
-        return root_text(alloc);
+        return root_label();
     }
-    Text::new(alloc, tree.text(node))
+    tree.text(node)
 }

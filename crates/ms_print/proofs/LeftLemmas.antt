@@ -5,7 +5,7 @@ use Rattle.std.proofs.lemmas.Bool.{eqb-false}
 use Rattle.std.proofs.lemmas.Bool.Decides.{nat_tests}
 use Rattle.std.proofs.lemmas.List.{append-nil, length-append, length-take, reverse-append, reverse-reverse, take_all, take-append-le}
 use Rattle.std.proofs.lemmas.List.Elements.{All-append, All-cons, All-nil}
-use Rattle.massif_file.specs.declared.profile.TreeLine.{TreeLine}
+use Rattle.massif_file.specs.TreeLine.{TreeLine}
 use Rattle.massif_file.specs.Trees.{Trees, no_tree, a_tree}
 use Rattle.ms_print.specs.declared.children.Pending.{Pending}
 use Rattle.ms_print.specs.declared.entry.Scale.{Scale}

@@ -1,6 +1,6 @@
 -- Where the lines of trees begin and end, for private clauses.
 use Rattle.std.specs.Prelude.{◌≡◌, ℕ, suc, ◌+◌, ◌<◌, ◌≤◌, List, length, drop, Some, slice_get, slice_index}
-use Rattle.massif_file.specs.declared.profile.TreeLine.{TreeLine}
+use Rattle.massif_file.specs.TreeLine.{TreeLine}
 use Rattle.massif_file.specs.Trees.{Trees, no_tree, a_tree, count_of}
 use Rattle.ms_print.specs.TreesOf.{first_trees, later_trees, trees_of}
 

@@ -1,6 +1,6 @@
 -- The tree of a snapshot on a page.
 use Rattle.std.specs.Prelude.{ℕ, List, [], ◌++◌, codes}
-use Rattle.massif_file.specs.declared.profile.TreeLine.{TreeLine}
+use Rattle.massif_file.specs.TreeLine.{TreeLine}
 use Rattle.massif_file.specs.Trees.{Trees, no_tree, a_tree}
 use Rattle.ms_print.specs.declared.entry.Scale.{Scale}
 use Rattle.ms_print.specs.Entries.{entry_text}

@@ -30,7 +30,7 @@ pub(crate) fn put_tree(
     ensures kept { Extends out.old.items out.new.items }
 {
     let root = tree.at(0);
-    put_entry(scale, root.bytes, root.label.bytes(), out)?;
+    put_entry(scale, root.bytes, root.label, out)?;
     put_bytes(out, b"\n")?;
     put_entries(alloc, scale, tree, out)
 }
@@ -101,7 +101,7 @@ fn put_what(scale: Scale, tree: &Tree, entry: Entry, out: &mut Vec<u8>) -> Resul
     match entry {
         Entry::Line(place) => {
             let line = tree.at(place);
-            put_entry(scale, line.bytes, line.label.bytes(), out)
+            put_entry(scale, line.bytes, line.label, out)
         }
         Entry::Gathered(small) => put_gathered(scale, small.places, small.bytes, out),
     }

@@ -4,7 +4,7 @@ use Rattle.std.proofs.lemmas.List.{take_all}
 use Rattle.cost_tree.specs.Costed.{Costed}
 use Rattle.cost_tree.proofs.Laws.{take-next}
 use Rattle.dhat_json.specs.Shown.{shown}
-use Rattle.massif_file.specs.declared.profile.TreeLine.{TreeLine}
+use Rattle.massif_file.specs.TreeLine.{TreeLine, line_of}
 use Rattle.convert.specs.declared.path.Level.{Level}
 use Rattle.cost_tree.specs.Texts.{IsText, texts_of}
 use Rattle.dhat_view.specs.Numbers.{AreNumbers}
@@ -18,7 +18,7 @@ each_line-init c = record { numbers = c.requires.numbers; walk = at-begin c.args
 
 pub add-requires-clause-sums : goal.add-requires-clause-sums
 add-requires-clause-sums c =
-    let next = next-line c.each_line.sums.names c.args.tree.now c.args.numbers.now c.args.left.now c.each_line.walk.levels.items c.enter.new.levels.items c.each_line.place c.at.result.now
+    let next = next-line c.each_line.sums.names c.args.tree.now c.args.numbers.now c.args.left.now c.each_line.walk.levels.items c.enter.new.levels.items c.each_line.place (line_of c.at.result)
     c.each_line.invariant.walk c.at.ensures.item c.in_ok-enter.ensures.entered c.each_line.invariant.numbers c.requires.left (let all = c.len-place-end.ensures.length in let count = c.requires.count in omega arith)
     (let all = c.len-place-end.ensures.length in let count = c.requires.left_count in omega arith) in (
       take c.each_line.place (tree_items c.args.tree.now),
@@ -28,7 +28,7 @@ add-requires-clause-sums c =
 
 pub add-requires-clause-held : goal.add-requires-clause-held
 add-requires-clause-held c =
-    let next = next-line c.each_line.sums.names c.args.tree.now c.args.numbers.now c.args.left.now c.each_line.walk.levels.items c.enter.new.levels.items c.each_line.place c.at.result.now
+    let next = next-line c.each_line.sums.names c.args.tree.now c.args.numbers.now c.args.left.now c.each_line.walk.levels.items c.enter.new.levels.items c.each_line.place (line_of c.at.result)
     c.each_line.invariant.walk c.at.ensures.item c.in_ok-enter.ensures.entered c.each_line.invariant.numbers c.requires.left (let all = c.len-place-end.ensures.length in let count = c.requires.count in omega arith)
     (let all = c.len-place-end.ensures.length in let count = c.requires.left_count in omega arith) in
     let list = c.deref-in-each_line.ensures.value ∙ c.in_ok-labels_into.ensures.labels ∙ ap (λ (ls : List Level). drop 1 (map (λ (level : Level). level.label) ls)) c.deref.ensures.value in
@@ -42,7 +42,7 @@ each_line-preserved c =
     let levels = c.enter.new.levels.items in
     let new = c.add.new.self in
     let number : ℕ = get_or c.args.left.now place 0 in
-    let next = next-line c.each_line.sums.names c.args.tree.now c.args.numbers.now c.args.left.now c.each_line.walk.levels.items c.enter.new.levels.items c.each_line.place c.at.result.now
+    let next = next-line c.each_line.sums.names c.args.tree.now c.args.numbers.now c.args.left.now c.each_line.walk.levels.items c.enter.new.levels.items c.each_line.place (line_of c.at.result)
     c.each_line.invariant.walk c.at.ensures.item c.in_ok-enter.ensures.entered c.each_line.invariant.numbers c.requires.left (let all = c.len-place-end.ensures.length in let count = c.requires.count in omega arith)
     (let all = c.len-place-end.ensures.length in let count = c.requires.left_count in omega arith) in
     let list = c.deref-in-each_line.ensures.value ∙ c.in_ok-labels_into.ensures.labels ∙ ap (λ (ls : List Level). drop 1 (map (λ (level : Level). level.label) ls)) c.deref.ensures.value in

@@ -1,7 +1,7 @@
 use Rattle.std.proofs.Common.{ℕ, List, length, map, ap, ◌∙◌}
 use Rattle.std.proofs.lemmas.List.{length-map}
 use Rattle.dhat_json.specs.Shown.{shown}
-use Rattle.massif_file.specs.declared.profile.TreeLine.{TreeLine}
+use Rattle.massif_file.specs.TreeLine.{TreeLine}
 use Rattle.dhat_view.proofs.Laws.{numbers-count}
 use Rattle.convert.proofs.Walks.{left-count}
 use Rattle.convert.proofs.massif.tree_sums.Goals as goal

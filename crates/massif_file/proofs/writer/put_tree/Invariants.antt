@@ -3,8 +3,8 @@ use Rattle.std.proofs.Common.{◌≡◌, ◌++◌, [], ◌∷◌, take, drop, ve
 use Rattle.massif_file.specs.MassifText.{tree_lines, text_of}
 use Rattle.massif_file.proofs.writer.put_tree.Given as goal
 
-abbrev pub invariant-loop-line : goal.invariant-loop-line
-invariant-loop-line l = record {
+abbrev pub invariant-each_line : goal.invariant-each_line
+invariant-each_line l = record {
   kept : take (vec_len l.fn.out) l.out.items ≡ l.fn.out.items;
-  written : l.out.items ++ text_of (tree_lines l.levels (drop l.line-index l.fn.tree)) ≡ l.fn.out.items ++ text_of (tree_lines (1 ∷ []) l.fn.tree);
+  written : l.out.items ++ text_of (tree_lines l.levels (drop l.place l.fn.tree)) ≡ l.fn.out.items ++ text_of (tree_lines (1 ∷ []) l.fn.tree);
 }

@@ -1,6 +1,7 @@
 use Rattle.std.proofs.Common.{◌++◌, ℕ, [], List, sym, ap, ◌∙◌}
 use Rattle.std.specs.Prelude.{codes}
 use Rattle.std.proofs.lemmas.Result.{on_ok_weaker}
+use Rattle.massif_file.specs.TreeLine.{line_of}
 use Rattle.ms_print.specs.Ends.{children_at}
 use Rattle.ms_print.specs.Entries.{entry_text}
 use Rattle.ms_print.specs.Shown.{shown}
@@ -21,8 +22,7 @@ unfolding tree_text
 returns-clause-appended c =
     on_ok_weaker c.put_entries.result
     (λ added. three-appended c.args.out.now.items c.put_entry.new.out.items c.put_bytes.new.out.items c.put_entries.new.out.items
-    (entry_text c.args.scale c.at-root.result.now.bytes c.at-root.result.now.label) (codes "\n") (entries_text c.args.scale [] (shown c.args.scale (children_at c.args.tree.now 0)))
-    (c.in_ok-put_entry.ensures.appended ∙ ap (λ (label : List ℕ). c.args.out.now.items ++ entry_text c.args.scale c.at-root.result.now.bytes label) c.bytes.ensures.content)
-    c.in_ok-put_bytes.ensures.appended added
-    ∙ ap (λ (text : List ℕ). c.args.out.now.items ++ text) (sym (root-is c.args.scale c.args.tree.now c.at-root.result.now c.at-root.ensures.item)))
+    (entry_text c.args.scale c.at-root.result.bytes c.at-root.result.label.now) (codes "\n") (entries_text c.args.scale [] (shown c.args.scale (children_at c.args.tree.now 0)))
+    c.in_ok-put_entry.ensures.appended c.in_ok-put_bytes.ensures.appended added
+    ∙ ap (λ (text : List ℕ). c.args.out.now.items ++ text) (sym (root-is c.args.scale c.args.tree.now (line_of c.at-root.result) c.at-root.ensures.item)))
     c.put_entries.ensures.appended
