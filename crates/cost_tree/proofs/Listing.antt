@@ -1,9 +1,10 @@
--- Lemmas on lists of texts that are kept as numbers, as one more text is appended to the last.
-use Rattle.std.proofs.Common.{◌≡◌, ℕ, ◌-◌, ◌<◌, ◌≤◌, List, [], ◌∷◌, ◌++◌, length, take, get_or, Option, Some, refl, sym, ap, ◌∙◌, subst, arith}
+-- Lemmas on lists of texts that are kept as numbers, as more texts are appended to the last.
+use Rattle.std.proofs.Common.{◌≡◌, ℕ, ◌-◌, ◌<◌, ◌≤◌, List, [], ◌∷◌, ◌++◌, length, take, get_or, Option, Some, refl, sym, ap, ◌∙◌, subst, append_assoc, arith}
 use Rattle.std.specs.Prelude.{All, Err, Ok, OnErr, OnOk, Result, unwrap_or}
-use Rattle.std.proofs.lemmas.List.{map-append, same_from_push}
+use Rattle.std.proofs.lemmas.List.{get_or-map, map-append, same_from_push, take-map}
 use Rattle.std.proofs.lemmas.List.Elements.{All-append, All-cons, All-get_or, All-head, All-nil, All-tail, All-take, All-weaker}
 use Rattle.intern_tables.specs.Numbers.{name_at}
+use Rattle.cost_tree.specs.Needed.{LastGains}
 use Rattle.cost_tree.specs.Texts.{AreTexts, IsText, lists_of, text_of, texts_of}
 use Rattle.cost_tree.proofs.ShapeLists.{split-last}
 
@@ -33,11 +34,7 @@ pub text-named : (names : List (List ℕ)) (n : ℕ) (text : List ℕ) → name_
 unfolding text_of
 text-named names n text is = ap (λ (found : Option (List ℕ)). unwrap_or found []) is
 
--- the last list has a number more
-abbrev pub LastGains : List (List ℕ) → ℕ → List (List ℕ) → Type 0
-LastGains old number new = (earlier : List (List ℕ)) (last : List ℕ) → old ≡ earlier ++ last ∷ [] → new ≡ earlier ++ (last ++ number ∷ []) ∷ []
-
-texts-last : (names old new : List (List ℕ)) (number : ℕ) → 0 < length old → AreTexts names old → IsText names number → LastGains old number new → AreTexts names new
+texts-last : (names old new : List (List ℕ)) (number : ℕ) → 0 < length old → AreTexts names old → IsText names number → LastGains old (number ∷ []) new → AreTexts names new
 texts-last names old new number some are is gains =
     let earlier : List (List ℕ) = take (length old - 1) old in
     let last : List ℕ = get_or old (length old - 1) [] in
@@ -47,25 +44,47 @@ texts-last names old new number some are is gains =
     subst P (sym (gains earlier last (split-last old [] some)))
     (All-append (All (IsText names)) earlier (now ∷ []) (All-take (All (IsText names)) (length old - 1) old are) (All-cons (All (IsText names)) now [] one (All-nil (All (IsText names)))))
 
--- and the last list of texts the number's text
-pub lists-last : (names old new : List (List ℕ)) (number : ℕ) (text : List ℕ) (earlier : List (List (List ℕ))) (last : List (List ℕ))
-    → 0 < length old → name_at names number ≡ Some text → LastGains old number new → lists_of names old ≡ earlier ++ last ∷ []
-    → lists_of names new ≡ earlier ++ (last ++ text ∷ []) ∷ []
-lists-last names old new number text earlier last some named gains is =
+-- the last list has numbers more, and so the last list of texts their texts
+pub lists-gained : (names old new : List (List ℕ)) (numbers : List ℕ) (texts : List (List ℕ)) → 0 < length old → texts_of names numbers ≡ texts → LastGains old numbers new → LastGains (lists_of names old) texts (lists_of names new)
+lists-gained names old new numbers texts some are gains = λ earlier last is.
     let before : List (List ℕ) = take (length old - 1) old in
     let list : List ℕ = get_or old (length old - 1) [] in
     let split = split-last old [] some in
     let parts = same_from_push (lists_of names before) earlier (texts_of names list) last
     (sym (map-append (texts_of names) before (list ∷ [])) ∙ ap (λ (ls : List (List ℕ)). lists_of names ls) (sym split) ∙ is) in
     ap (λ (ls : List (List ℕ)). lists_of names ls) (gains before list split)
-    ∙ map-append (texts_of names) before ((list ++ number ∷ []) ∷ [])
-    ∙ ap (λ (ts : List (List ℕ)). lists_of names before ++ ts ∷ []) (map-append (text_of names) list (number ∷ []))
-    ∙ ap (λ (t : List ℕ). lists_of names before ++ (texts_of names list ++ t ∷ []) ∷ []) (text-named names number text named)
-    ∙ ap (λ (ls : List (List (List ℕ))). ls ++ (texts_of names list ++ text ∷ []) ∷ []) parts.0
-    ∙ ap (λ (ts : List (List ℕ)). earlier ++ (ts ++ text ∷ []) ∷ []) parts.1
+    ∙ map-append (texts_of names) before ((list ++ numbers) ∷ [])
+    ∙ ap (λ (ts : List (List ℕ)). lists_of names before ++ ts ∷ []) (map-append (text_of names) list numbers)
+    ∙ ap (λ (ts : List (List ℕ)). lists_of names before ++ (texts_of names list ++ ts) ∷ []) are
+    ∙ ap (λ (ls : List (List (List ℕ))). ls ++ (texts_of names list ++ texts) ∷ []) parts.0
+    ∙ ap (λ (ts : List (List ℕ)). earlier ++ (ts ++ texts) ∷ []) parts.1
+
+-- one number and its text
+pub lists-last : (names old new : List (List ℕ)) (number : ℕ) (text : List ℕ) (earlier : List (List (List ℕ))) (last : List (List ℕ))
+    → 0 < length old → name_at names number ≡ Some text → LastGains old (number ∷ []) new → lists_of names old ≡ earlier ++ last ∷ []
+    → lists_of names new ≡ earlier ++ (last ++ text ∷ []) ∷ []
+lists-last names old new number text earlier last some named gains is =
+    lists-gained names old new (number ∷ []) (text ∷ []) some (ap (λ (t : List ℕ). t ∷ []) (text-named names number text named)) gains earlier last is
+
+-- numbers come one by one
+pub gains-more : {X : Type 0} (old now new : List (List X)) (xs more : List X) → LastGains old xs now → LastGains now more new → LastGains old (xs ++ more) new
+gains-more {X} old now new xs more before after = λ earlier last is.
+    after earlier (last ++ xs) (before earlier last is) ∙ ap (λ (all : List X). earlier ++ all ∷ []) (append_assoc last xs more)
+
+-- the first numbers of a list are those of its first texts
+pub first-held : (names lists : List (List ℕ)) (list most : ℕ) (numbers : List ℕ) → numbers ≡ take most (get_or lists list []) → list < length lists → AreTexts names lists → All (IsText names) numbers
+first-held names lists list most numbers are within texts =
+    subst (λ (ns : List ℕ). All (IsText names) ns) (sym are) (All-take (IsText names) most (get_or lists list []) (All-get_or (All (IsText names)) lists list [] within texts))
+
+pub first-named : (names lists : List (List ℕ)) (list most : ℕ) (numbers : List ℕ) → numbers ≡ take most (get_or lists list []) → list < length lists
+    → texts_of names numbers ≡ take most (get_or (lists_of names lists) list [])
+first-named names lists list most numbers are within =
+    ap (λ (ns : List ℕ). texts_of names ns) are
+    ∙ sym (take-map (text_of names) most (get_or lists list []))
+    ∙ ap (λ (ts : List (List ℕ)). take most ts) (sym (get_or-map (texts_of names) lists list [] [] within))
 
 -- whether it was pushed or not, the numbers are those of texts
 pub texts-pushed : {T E : Type 0} (result : Result T E) (names old new : List (List ℕ)) (number : ℕ) → AreTexts names old → IsText names number → 0 < length old
-    → OnOk result (LastGains old number new) → OnErr result (new ≡ old) → AreTexts names new
+    → OnOk result (LastGains old (number ∷ []) new) → OnErr result (new ≡ old) → AreTexts names new
 texts-pushed (Ok value) names old new number are is some gains same = texts-last names old new number some are is gains
 texts-pushed (Err fault) names old new number are is some gains same = subst (λ (lists : List (List ℕ)). AreTexts names lists) (sym same) are

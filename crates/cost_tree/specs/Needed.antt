@@ -25,10 +25,10 @@ unfoldable pub needed_lists : Direction → Style → TableState → ℕ → Lis
 needed_lists direction style tables most costs =
     map (needed_list direction style tables most costs) (range_with_len 0 (length tables.nodes + 1))
 
--- the last list has these texts at its end too
-abbrev pub LastGains : List (List (List ℕ)) → List (List ℕ) → List (List (List ℕ)) → Type 0
-LastGains old texts new = (earlier : List (List (List ℕ))) (last : List (List ℕ))
-    → old ≡ earlier ++ last ∷ [] → new ≡ earlier ++ (last ++ texts) ∷ []
+-- the last list has these elements at its end too
+abbrev pub LastGains : {X : Type 0} → List (List X) → List X → List (List X) → Type 0
+LastGains {X} old more new = (earlier : List (List X)) (last : List X)
+    → old ≡ earlier ++ last ∷ [] → new ≡ earlier ++ (last ++ more) ∷ []
 
 -- a stack's list begins with that of the stack that its node is called from, whose frames follow the node's own
 pub record Begins (tables : TableState) (stack : ℕ) (own : List FrameAt)

@@ -4,8 +4,9 @@
 //! What it promises:
 //!
 //! - `Shape` is seen as a list of lists of numbers, and keeps each front of them once; `Fronts` as a list of lists of texts,
-//!   and keeps each distinct text once. A list can be one that came before (`repeat`), and lists of texts can be made of names
-//!   and a shape of their numbers (`from_parts`). `Costing` and `FrameTest` keep a closure, and what it is to answer is said at
+//!   and keeps each distinct text once. A list can be one that came before (`repeat`, and `repeat_list` for a stack's caller), it
+//!   can go on with the first texts of one (`push_first`), and lists of texts can be made of names and a shape of their numbers
+//!   (`from_parts`). `Costing` and `FrameTest` keep a closure, and what it is to answer is said at
 //!   each call that uses it.
 //! - `CostTree::of_fronts` gives the tree of the lists with their costs (`IsTreeOf`): one node for each front of at
 //!   most `depth` texts whose cost isn't 0, and node 0 for the empty one.
@@ -62,6 +63,7 @@ pub use fronts::Fronts;
 pub use line::{CostLine, Place};
 pub use lines::cost_lines;
 pub use node::CostNode;
+pub use root_lists::repeat_list;
 pub use scale::Scale;
 pub use shape::Shape;
 pub use tree::CostTree;

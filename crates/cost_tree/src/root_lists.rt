@@ -1,6 +1,6 @@
 //! The lists of texts of a trace's stacks from their outermost frames on: a stack's list is that of the stack that it is called
 //! from, and the texts of its own node. So texts are made once a node.
-ghost use Rattle.std.specs.Prelude.{◌≡◌, ◌==◌, ◌-◌, ◌^◌, ◌<◌, ◌≤◌, All, [], ◌∷◌, ◌++◌, length, map, reverse, if◌then◌else◌, slice_index_or, IfOk, OnOk};
+ghost use Rattle.std.specs.Prelude.{◌≡◌, ◌≢◌, ◌==◌, ◌-◌, ◌^◌, ◌<◌, ◌≤◌, All, [], ◌∷◌, ◌++◌, length, map, reverse, if◌then◌else◌, slice_index_or, IfOk, OnOk};
 ghost use Rattle.cost_tree.specs.declared.direction.Direction.TheVariants.{FromRoot};
 ghost use Rattle.cost_tree.specs.Needed.{Begins, LastGains};
 ghost use Rattle.cost_tree.specs.StackTexts.{lists_towards};
@@ -54,9 +54,10 @@ fn begin_list(
     }
 }
 
-/// Appends the list of the stack that a node is called from, which is empty for stack 0.
-fn repeat_list(fronts: &mut Fronts, caller: u32) -> Result<(), NoMemory>
-    requires held { caller < length fronts.old }
+/// Appends the list of the stack that a node is called from, which must be held; it is empty for stack 0. There must be
+/// fewer than 2^32 - 1 lists.
+pub fn repeat_list(fronts: &mut Fronts, caller: u32) -> Result<(), NoMemory>
+    requires held { caller ≢ 0 → caller < length fronts.old }
     requires few { length fronts.old < 2 ^ 32 - 1 }
     ensures appended { OnOk result
         (fronts.new ≡ fronts.old

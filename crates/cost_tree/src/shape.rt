@@ -1,10 +1,10 @@
 //! Lists of numbers that share their fronts: a front is kept once, as a node, and a list as the node where it ends.
 //! What the numbers stand for, and what the lists cost, are no part of it.
-ghost use Rattle.std.specs.Prelude.{◌≡◌, ℕ, ◌+◌, ◌-◌, ◌^◌, ◌<◌, ◌≤◌, List, [], ◌∷◌, ◌++◌, length, IfOk, OnOk, OnErr, slice_index_or};
+ghost use Rattle.std.specs.Prelude.{◌≡◌, ℕ, ◌+◌, ◌-◌, ◌^◌, ◌<◌, ◌≤◌, List, [], ◌∷◌, ◌++◌, length, reverse, IfOk, OnOk, OnErr, slice_index_or};
 ghost use Rattle.cost_tree.specs.declared.edge.Edge.{Edge};
-ghost use Rattle.cost_tree.specs.Shapes.{IsChild};
+ghost use Rattle.cost_tree.specs.Shapes.{AreSteps, IsChild, list_at, numbers_of};
 
-use crate::edge::Edge;
+use crate::edge::{Edge, edge_of};
 use hp_num::NoMemory;
 use indexmap::IndexSet;
 use std::alloc::Global;
@@ -86,6 +86,17 @@ impl Shape {
         Ok(())
     }
 
+    /// Replaces `numbers` by those of the list, which must be held. On `NoMemory` it has some of them.
+    pub fn list_into(&self, list: u32, numbers: &mut Vec<usize>) -> Result<(), NoMemory>
+        requires held { list < length self.now }
+        ensures numbers { OnOk result (numbers.new.items ≡ slice_index_or self.now list []) }
+    {
+        let end = self.ends[list as usize];
+        ascend(&self.edges, end, numbers)?;
+        numbers.reverse();
+        Ok(())
+    }
+
     /// How many lists there are.
     pub fn len(&self) -> u32
         ensures count { result ≡ length self.now }
@@ -110,4 +121,21 @@ fn child_of(edges: &mut IndexSet<Edge>, parent: usize, number: usize) -> Result<
     // Says that the next number is one.
     let _count = edges.len();
     Ok(place + 1)
+}
+
+/// Replaces `numbers` by those of the list that ends at a node, the last one first.
+fn ascend(edges: &IndexSet<Edge>, end: usize, numbers: &mut Vec<usize>) -> Result<(), NoMemory>
+    requires steps { AreSteps (λ number. number) edges.now.keys (numbers_of edges.now.keys) }
+    requires end { end ≤ length edges.now.keys }
+    ensures numbers { OnOk result
+        (numbers.new.items ≡ reverse (list_at edges.now.keys end)) }
+{
+    numbers.clear();
+    let mut node = end;
+    'each_node: while node > 0 {
+        let edge = edge_of(edges, node);
+        numbers.push(edge.text)?;
+        node = edge.parent;
+    }
+    Ok(())
 }

@@ -58,7 +58,11 @@ pub(crate) fn listed_front<F: Fn(&[u8]) -> bool>(
 }
 
 /// Whether the frame has a function of the list.
-fn is_listed<F: Fn(&[u8]) -> bool>(tables: &Tables, at: &FrameAt, names: &FrameTest<F>) -> bool
+pub(crate) fn is_listed<F: Fn(&[u8]) -> bool>(
+    tables: &Tables,
+    at: &FrameAt,
+    names: &FrameTest<F>,
+) -> bool
     requires frame { IsFrame tables.now at.now }
     requires callable { F.IsAlwaysCallable names.now.test }
     ensures listed { (texts : List (List ℕ)) → AreTexts (FnReturnsAt F.Fn names.now.test) texts

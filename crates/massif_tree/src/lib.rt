@@ -8,8 +8,9 @@
 //! - `tree_lines` gives the lines of a tree of costs (`massif_tree`): a line for each front whose share of the
 //!   snapshot's total reaches the threshold, the costly ones first, and one for the others together. Each is made of
 //!   one line of `cost_tree`.
-//! - `add_trimmed` makes the texts of a trace's stacks as they are trimmed, once for each stack and at most one more
-//!   than a tree is deep, and `snapshot_tree` gives the lines of the tree of such lists.
+//! - `add_trimmed` makes the lists of a trace's stacks as they are trimmed, once for each stack and of at most one text more
+//!   than a tree is deep, and `snapshot_tree` gives the lines of the tree of such lists. A stack's list goes on with that of
+//!   the stack that it is called from, so texts are made once a node.
 //! - The law `massif_trees` says that such lines may stand in a profile: counts and levels are right to a depth of 256
 //!   (`right`), the first line has the sum of all costs (`root`), and numbers and labels may be written (`writable`),
 //!   as the texts of a trace may whose strings have no line feed (`texts`).

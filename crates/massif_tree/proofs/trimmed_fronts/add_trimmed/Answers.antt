@@ -12,8 +12,10 @@ each_stack-preserved g c =
       within = omega arith;
       lists = λ names are was.
           let tables = c.args.tables.now in
+          let most = c.args.options.now.depth + 1 in
           let place : c.each_stack.stack ≡ length c.each_stack.fronts = sym before in
-          first-more tables names (c.args.options.now.depth + 1) (length c.each_stack.fronts) c.each_stack.fronts c.add_stack.new.fronts (c.each_stack.invariant.lists names are was)
-          (c.in_ok-add_stack.ensures.added names are ∙ ap (λ (n : ℕ). c.each_stack.fronts ++ first_texts tables names (c.args.options.now.depth + 1) n ∷ []) place)
-          ∙ ap (first_lists tables names (c.args.options.now.depth + 1)) (sym one);
+          let lists = c.each_stack.invariant.lists names are was in
+          first-more tables names most (length c.each_stack.fronts) c.each_stack.fronts c.add_stack.new.fronts lists
+          (c.in_ok-add_stack.ensures.added names are (lists ∙ ap (first_lists tables names most) before) ∙ ap (λ (n : ℕ). c.each_stack.fronts ++ first_texts tables names most n ∷ []) place)
+          ∙ ap (first_lists tables names most) (sym one);
     }
