@@ -1,4 +1,4 @@
-use Rattle.std.proofs.Common.{◌≡◌, ℕ, List, ◌++◌, reverse, sym, ap, ◌∙◌, subst, arith}
+use Rattle.std.proofs.Common.{◌≡◌, ℕ, List, ◌++◌, reverse, sym, subst, arith}
 use Rattle.cost_tree.specs.Shapes.{list_at, numbers_of}
 use Rattle.cost_tree.proofs.Ascents.{ascended, ascended-all, parent-before}
 use Rattle.cost_tree.proofs.shape.ascend.Goals as goal

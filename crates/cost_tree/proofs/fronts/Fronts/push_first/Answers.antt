@@ -1,9 +1,7 @@
-use Rattle.std.proofs.Common.{◌≡◌, ℕ, List, [], length, take, get_or, sym, ap, ◌∙◌, subst, arith}
-use Rattle.std.specs.Prelude.{slice_index_or}
+use Rattle.std.proofs.Common.{ℕ, List, [], length, take, get_or, ap, ◌∙◌, arith}
 use Rattle.std.proofs.lemmas.List.{length-map}
 use Rattle.std.proofs.lemmas.Result.{on_ok_weaker}
-use Rattle.cost_tree.specs.Needed.{LastGains}
-use Rattle.cost_tree.specs.Texts.{lists_of, texts_of}
+use Rattle.cost_tree.specs.Texts.{texts_of}
 use Rattle.cost_tree.proofs.Listing.{first-held, first-named, lists-gained}
 use Rattle.cost_tree.proofs.fronts.Fronts.push_first.Goals as goal
 
