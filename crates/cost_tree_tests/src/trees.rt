@@ -164,6 +164,19 @@ fn fronts_to_a_depth(rt: HostRuntime) -> Result<(), NoMemory> {
     check_tree(&rt, rt.alloc(), b"main||f", &[1, 2, 4], 0, b"0 7 2 0 :\n")
 }
 
+// The second list goes on with the first of the first list's two texts.
+#[test]
+fn first_texts_of_a_list(rt: HostRuntime) -> Result<(), NoMemory> {
+    let mut fronts = fronts_of(&rt, rt.alloc(), b"a;b|d")?;
+    let mut numbers = Vec::new(rt.alloc());
+    assert!(&rt; fronts.len() > 0);
+    fronts.push_first(0, 1, &mut numbers)?;
+    let text = shown_of_fronts(&rt, rt.alloc(), &fronts, &[1, 2], 4096)?;
+    let nodes = b"0 3 0 0 :1,3,\n0 1 0 0 a:2,\n1 1 1 0 b:\n0 2 0 1 d:4,\n3 2 2 1 a:\n";
+    assert_eq!(&rt; text.as_slice(), nodes.as_slice());
+    Ok(())
+}
+
 /// The tables of the lines of the worked trace, of which each ends with a line feed but the last.
 fn worked_tables(rt: &impl Abort, alloc: Global) -> Result<Tables, LineError> {
     let lines =
