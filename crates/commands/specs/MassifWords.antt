@@ -1,5 +1,5 @@
 -- The words of `massif`.
-use Rattle.std.specs.Prelude.{◌≡◌, ◌≢◌, ◌≤◌, ℕ, List, [], ◌∷◌, codes, true, Option, Some, None, if◌then◌else◌, unwrap_or}
+use Rattle.std.specs.Prelude.{◌≡◌, ◌≢◌, ◌≤◌, ℕ, List, [], ◌∷◌, codes, true, Option, Some, None, if◌then◌else◌, refl, unwrap_or}
 use Rattle.std.specs.Int.{is_power_of_two}
 use Rattle.std.specs.Option.{option_and_then, option_map}
 use Rattle.std.specs.Str.{bytes_eq}
@@ -113,3 +113,9 @@ massif_given file value =
 unfoldable pub massif_asked : List (List ℕ) → Option MassifAsked
 massif_asked words = option_and_then (λ rows. massif_given (only_file_in rows) (value_in rows))
     (words_taken massif_table words)
+
+-- words ask for what their rows give by the table
+pub asked_by_table : (words : List (List ℕ)) → massif_asked words ≡ option_and_then
+    (λ rows. massif_given (only_file_in rows) (value_in rows)) (words_taken massif_table words)
+unfolding massif_asked
+asked_by_table words = refl

@@ -1,5 +1,5 @@
 -- The words of `print`.
-use Rattle.std.specs.Prelude.{ℕ, List, [], ◌∷◌, ◌&&◌, Bool, true, false, codes, Option, Some, None, if◌then◌else◌}
+use Rattle.std.specs.Prelude.{◌≡◌, ℕ, List, [], ◌∷◌, ◌&&◌, Bool, true, false, codes, Option, Some, None, if◌then◌else◌, refl}
 use Rattle.std.specs.Option.{option_and_then}
 use Rattle.std.specs.Str.{bytes_eq}
 use Rattle.command_words.specs.TableApp.{Table}
@@ -92,3 +92,9 @@ print_given file value =
 unfoldable pub print_asked : List (List ℕ) → Option PrintAsked
 print_asked words = option_and_then (λ rows. print_given (only_file_in rows) (value_in rows))
     (words_taken print_table words)
+
+-- words ask for what their rows give by the table
+pub asked_by_table : (words : List (List ℕ)) → print_asked words ≡ option_and_then
+    (λ rows. print_given (only_file_in rows) (value_in rows)) (words_taken print_table words)
+unfolding print_asked
+asked_by_table words = refl

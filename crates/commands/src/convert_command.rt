@@ -1,19 +1,16 @@
 //! The command `convert`: a DHAT profile or a Massif file as folded lines, or a DHAT profile as a Massif file. What the
 //! words say of the conversion is read in `convert_words`.
-ghost use Rattle.std.specs.Prelude.{◌≡◌, ◌^◌, ◌<◌, Err, IfOk, [], ◌∷◌, None, Some, map, string_bytes};
+ghost use Rattle.std.specs.Prelude.{◌^◌, ◌<◌, [], ◌∷◌};
 ghost use Rattle.command_frame.specs.RunsTo.{Runs};
 ghost use Rattle.commands.specs.ConvertReport.{convert_plan};
-ghost use Rattle.commands.specs.ConvertWords.{convert_asked};
 ghost use Rattle.commands.specs.Requests.{convert_asked_by};
 
 use crate::convert_reports::{FoldedPoints, FoldedSnapshot, PointsOverTime};
-use crate::convert_words::{Conversion, WORDS, request_in};
+use crate::convert_words::Conversion;
 use crate::dhat_file::run_dhat_file;
 use crate::massif_file_taker::run_massif_file;
 use command_frame::{Desk, Halt};
-use command_words::{WordsFault, take_words};
 use hp_outside::{Sink, Store};
-use std::alloc::Global;
 
 /// What `convert` is to do.
 #[derive(Clone, Copy, Debug)]
@@ -24,26 +21,7 @@ pub struct ConvertRequest<'a> {
     pub conversion: Conversion,
 }
 
-impl<'a> ConvertRequest<'a> {
-    /// The request that the words behind `convert` make. `NotTaken` exactly where they aren't taken, unless memory is
-    /// wanting.
-    pub fn read(alloc: Global, words: &'a [String]) -> Result<ConvertRequest<'a>, WordsFault>
-        ensures taken { IfOk result
-            (λ request. convert_asked (map string_bytes words.entry.now)
-            ≡ Some (convert_asked_by request)) }
-        ensures refused { result ≡ Err WordsFault.NotTaken
-            → convert_asked (map string_bytes words.entry.now) ≡ None }
-    {
-        let words = match take_words(alloc, &WORDS, words) {
-            Ok(words) => words,
-            Err(fault) => return Err(fault),
-        };
-        match request_in(&words) {
-            Some(request) => Ok(request),
-            None => Err(WordsFault::NotTaken),
-        }
-    }
-
+impl ConvertRequest<'_> {
     /// Reads the file, by lines or whole as its kind says, and gives what it is converted to.
     pub fn run<S: Store, O: Sink>(
         &self,

@@ -1,10 +1,8 @@
 //! What the words of `convert` say of a conversion. How it is made is no part of it.
-ghost use Rattle.std.specs.Prelude.{codes, option_map, ◌≡◌};
-ghost use Rattle.command_words.specs.WordsTaken.{only_file_in, rows_in, value_in};
-ghost use Rattle.commands.specs.ConvertWords.{conversion_given, convert_of, kind_named, kind_or, snapshot_or, target_named, target_or};
-ghost use Rattle.commands.specs.KeyWords.{key_or};
-ghost use Rattle.commands.specs.Requests.{convert_asked_by};
+ghost use Rattle.std.specs.Prelude.{option_map, ◌≡◌};
+ghost use Rattle.commands.specs.ConvertWords.{conversion_given, kind_named, kind_or, snapshot_or, target_named, target_or};
 
+use crate::asks::Asks;
 use crate::convert_command::ConvertRequest;
 use crate::key_words::key_or;
 use crate::number_words::number_if_given;
@@ -24,7 +22,7 @@ const KEY: &str = "key";
 const SNAPSHOT: &str = "snapshot";
 
 /// Four options, and one file.
-pub const WORDS: WordTable<'static> = WordTable {
+const WORDS: WordTable<'static> = WordTable {
     options: &[FROM, TO, KEY, SNAPSHOT],
     flags: &[],
     files: true,
@@ -55,22 +53,43 @@ pub enum Conversion {
     MassifOfDhat,
 }
 
-/// What taken words ask for.
-pub fn request_in<'a>(words: &TakenWords<'a>) -> Option<ConvertRequest<'a>>
-    ensures { option_map convert_asked_by result
-        ≡ convert_of (only_file_in (rows_in words.now))
-        (kind_or (value_in (rows_in words.now) (codes "from")))
-        (target_or (value_in (rows_in words.now) (codes "to")))
-        (key_or (value_in (rows_in words.now) (codes "key")))
-        (snapshot_or (value_in (rows_in words.now) (codes "snapshot"))) }
-{
-    let file = words.only_file()?;
-    let from = kind_or(words.value(FROM))?;
-    let to = target_or(words.value(TO))?;
-    let key = key_or(words.value(KEY))?;
-    let snapshot = snapshot_or(words.value(SNAPSHOT))?;
-    let conversion = conversion_given(from, to, key, snapshot)?;
-    Some(ConvertRequest { file, conversion })
+impl<'a> Asks<'a> for ConvertRequest<'a> {
+    ghost use Rattle.std.specs.Prelude.{◌≡◌, codes, refl};
+    ghost use Rattle.command_words.specs.TableApp.{table_of};
+    ghost use Rattle.commands.specs.ConvertWords.{ConvertAsked, convert_asked, convert_of, convert_table};
+    ghost use Rattle.commands.specs.KeyWords.{key_or};
+    ghost use Rattle.commands.specs.Requests.{convert_asked_by};
+
+    ghost Asked = { ConvertAsked };
+
+    ghost asked_by = { convert_asked_by };
+
+    ghost table = { convert_table };
+
+    ghost given = { λ _ file value _.
+        convert_of file (kind_or (value (codes "from")))
+        (target_or (value (codes "to"))) (key_or (value (codes "key")))
+        (snapshot_or (value (codes "snapshot"))) };
+
+    ghost asked = { convert_asked };
+
+    fn table() -> WordTable<'static>
+        ensures { table_of result ≡ convert_table }
+    {
+        WORDS
+    }
+
+    fn request_in(_words: &'a [String], taken: &TakenWords<'a>) -> Option<ConvertRequest<'a>> {
+        let file = taken.only_file()?;
+        let from = kind_or(taken.value(FROM))?;
+        let to = target_or(taken.value(TO))?;
+        let key = key_or(taken.value(KEY))?;
+        let snapshot = snapshot_or(taken.value(SNAPSHOT))?;
+        let conversion = conversion_given(from, to, key, snapshot)?;
+        Some(ConvertRequest { file, conversion })
+    }
+
+    ghost asked_is = { λ _. refl };
 }
 
 /// The conversion that is asked for: a Massif file isn't written of a Massif file.

@@ -1,14 +1,13 @@
 //! The command `dhat`: one trace as a DHAT profile.
-ghost use Rattle.std.specs.Prelude.{◌≡◌, ◌^◌, ◌<◌, Err, IfOk, [], ◌∷◌, None, Some, map, string_bytes};
+ghost use Rattle.std.specs.Prelude.{◌^◌, ◌<◌, [], ◌∷◌};
 ghost use Rattle.command_frame.specs.RunsTo.{Runs};
 ghost use Rattle.commands.specs.DhatReport.{dhat_plan};
-ghost use Rattle.commands.specs.DhatWords.{dhat_trace};
 
+use crate::asks::Asks;
 use crate::dhat_reader::DhatReader;
 use command_frame::{Desk, Halt, run_one_file};
-use command_words::{WordTable, WordsFault, take_words};
+use command_words::{TakenWords, WordTable};
 use hp_outside::{Sink, Store};
-use std::alloc::Global;
 
 /// One file, and no option.
 const WORDS: WordTable<'static> = WordTable {
@@ -24,21 +23,36 @@ pub struct DhatRequest<'a> {
     pub trace: &'a str,
 }
 
-impl<'a> DhatRequest<'a> {
-    /// The request that the words behind `dhat` make. `NotTaken` exactly where they aren't taken, unless memory is wanting.
-    pub fn read(alloc: Global, words: &'a [String]) -> Result<DhatRequest<'a>, WordsFault>
-        ensures taken { IfOk result
-            (λ request. dhat_trace (map string_bytes words.entry.now) ≡ Some request.trace.now) }
-        ensures refused { result ≡ Err WordsFault.NotTaken
-            → dhat_trace (map string_bytes words.entry.now) ≡ None }
+impl<'a> Asks<'a> for DhatRequest<'a> {
+    ghost use Rattle.std.specs.Prelude.{◌≡◌, ℕ, List, refl};
+    ghost use Rattle.command_words.specs.TableApp.{table_of};
+    ghost use Rattle.commands.specs.DhatWords.{dhat_table, dhat_trace};
+
+    ghost Asked = { List ℕ };
+
+    ghost asked_by = { λ request. request.trace.now };
+
+    ghost table = { dhat_table };
+
+    ghost given = { λ _ file _ _. file };
+
+    ghost asked = { dhat_trace };
+
+    fn table() -> WordTable<'static>
+        ensures { table_of result ≡ dhat_table }
     {
-        let words = take_words(alloc, &WORDS, words)?;
-        match words.only_file() {
-            Some(trace) => Ok(DhatRequest { trace }),
-            None => Err(WordsFault::NotTaken),
-        }
+        WORDS
     }
 
+    fn request_in(_words: &'a [String], taken: &TakenWords<'a>) -> Option<DhatRequest<'a>> {
+        let trace = taken.only_file()?;
+        Some(DhatRequest { trace })
+    }
+
+    ghost asked_is = { λ _. refl };
+}
+
+impl DhatRequest<'_> {
     /// Reads the trace, and gives its profile and a line feed.
     pub fn run<S: Store, O: Sink>(
         &self,

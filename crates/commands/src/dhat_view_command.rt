@@ -1,16 +1,13 @@
 //! The command `dhat_view`: a DHAT profile as a tree of its points' frames. What the words say of the view is read in
 //! `view_words`.
-ghost use Rattle.std.specs.Prelude.{◌≡◌, ◌^◌, ◌<◌, Err, IfOk, [], ◌∷◌, None, Some, map, string_bytes};
+ghost use Rattle.std.specs.Prelude.{◌≡◌, ◌^◌, ◌<◌, [], ◌∷◌};
 ghost use Rattle.command_frame.specs.RunsTo.{RunsTo, Taken, shown};
 ghost use Rattle.commands.specs.ViewReport.{view_plan, view_refusal};
 ghost use Rattle.commands.specs.Requests.{view_asked_by};
-ghost use Rattle.commands.specs.ViewWords.{view_asked};
 
 use crate::dhat_file::{DhatFileReport, run_dhat_file};
 use crate::document_fault::DocumentFault;
-use crate::view_words::{WORDS, request_in};
 use command_frame::{Desk, Halt, LineRefusal};
-use command_words::{WordsFault, take_words};
 use dhat_json::{Dhat, FigureKey};
 use dhat_view::{ViewFault, ViewOptions, put_view};
 use hp_outside::Store;
@@ -46,26 +43,7 @@ impl DhatFileReport for ViewReport {
     }
 }
 
-impl<'a> DhatViewRequest<'a> {
-    /// The request that the words behind `dhat_view` make. `NotTaken` exactly where they aren't taken, unless memory is
-    /// wanting.
-    pub fn read(alloc: Global, words: &'a [String]) -> Result<DhatViewRequest<'a>, WordsFault>
-        ensures taken { IfOk result
-            (λ request. view_asked (map string_bytes words.entry.now)
-            ≡ Some (view_asked_by request)) }
-        ensures refused { result ≡ Err WordsFault.NotTaken
-            → view_asked (map string_bytes words.entry.now) ≡ None }
-    {
-        let words = match take_words(alloc, &WORDS, words) {
-            Ok(words) => words,
-            Err(fault) => return Err(fault),
-        };
-        match request_in(&words) {
-            Some(request) => Ok(request),
-            None => Err(WordsFault::NotTaken),
-        }
-    }
-
+impl DhatViewRequest<'_> {
     /// Reads the profile, and gives its view.
     pub fn run<S: Store>(&self, desk: &Desk, store: &mut S) -> Result<Vec<u8>, Halt>
         requires { S.opens store.old < 2 ^ 63 }

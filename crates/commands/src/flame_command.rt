@@ -1,13 +1,14 @@
 //! The command `flame`: a line for each list of frame texts of one trace's stacks, for a flame graph to be drawn of.
-ghost use Rattle.std.specs.Prelude.{codes, option_map, ◌≡◌, ◌^◌, ◌<◌, Err, IfOk, [], ◌∷◌, None, Some, map, string_bytes};
+ghost use Rattle.std.specs.Prelude.{codes, ◌≡◌, ◌^◌, ◌<◌, [], ◌∷◌};
 ghost use Rattle.command_frame.specs.RunsTo.{Runs};
-ghost use Rattle.command_words.specs.WordsTaken.{only_file_in, rows_in, value_in};
+ghost use Rattle.command_words.specs.WordsTaken.{rows_in, value_in};
 ghost use Rattle.commands.specs.FlameReport.{flame_plan};
-ghost use Rattle.commands.specs.FlameWords.{cost_named, cost_or, flame_asked, flame_of};
+ghost use Rattle.commands.specs.FlameWords.{cost_named, cost_or};
 ghost use Rattle.commands.specs.Requests.{flame_asked_by};
 
+use crate::asks::Asks;
 use command_frame::{Desk, Halt};
-use command_words::{TakenWords, WordTable, WordsFault, take_words};
+use command_words::{TakenWords, WordTable};
 use hp_num::NoMemory;
 use hp_outside::{Sink, Store};
 use ht_print::{FlameCost, put_flame};
@@ -52,22 +53,37 @@ impl TraceWriter for FlameWriter {
     }
 }
 
-impl<'a> FlameRequest<'a> {
-    /// The request that the words behind `flame` make. `NotTaken` exactly where they aren't taken, unless memory is wanting.
-    pub fn read(alloc: Global, words: &'a [String]) -> Result<FlameRequest<'a>, WordsFault>
-        ensures taken { IfOk result
-            (λ request. flame_asked (map string_bytes words.entry.now)
-            ≡ Some (flame_asked_by request)) }
-        ensures refused { result ≡ Err WordsFault.NotTaken
-            → flame_asked (map string_bytes words.entry.now) ≡ None }
+impl<'a> Asks<'a> for FlameRequest<'a> {
+    ghost use Rattle.std.specs.Prelude.{refl};
+    ghost use Rattle.command_words.specs.TableApp.{table_of};
+    ghost use Rattle.commands.specs.FlameWords.{FlameAsked, flame_asked, flame_of, flame_table};
+
+    ghost Asked = { FlameAsked };
+
+    ghost asked_by = { flame_asked_by };
+
+    ghost table = { flame_table };
+
+    ghost given = { λ _ file value _. flame_of file (value (codes "flamegraph-cost-type")) };
+
+    ghost asked = { flame_asked };
+
+    fn table() -> WordTable<'static>
+        ensures { table_of result ≡ flame_table }
     {
-        let words = take_words(alloc, &WORDS, words)?;
-        match request_in(&words) {
-            Some(request) => Ok(request),
-            None => Err(WordsFault::NotTaken),
-        }
+        WORDS
     }
 
+    fn request_in(_words: &'a [String], taken: &TakenWords<'a>) -> Option<FlameRequest<'a>> {
+        let trace = taken.only_file()?;
+        let cost = cost_in(taken)?;
+        Some(FlameRequest { trace, cost })
+    }
+
+    ghost asked_is = { λ _. refl };
+}
+
+impl FlameRequest<'_> {
     /// Reads the trace, and gives its flame stacks.
     pub fn run<S: Store, O: Sink>(
         &self,
@@ -86,17 +102,6 @@ impl<'a> FlameRequest<'a> {
         };
         run_trace(desk, self.trace, writer, store, out)
     }
-}
-
-/// What taken words ask for.
-fn request_in<'a>(words: &TakenWords<'a>) -> Option<FlameRequest<'a>>
-    ensures { option_map flame_asked_by result
-        ≡ flame_of (only_file_in (rows_in words.now))
-        (value_in (rows_in words.now) (codes "flamegraph-cost-type")) }
-{
-    let trace = words.only_file()?;
-    let cost = cost_in(words)?;
-    Some(FlameRequest { trace, cost })
 }
 
 /// The cost that the words name: allocations where they name none.

@@ -1,21 +1,19 @@
 //! The command `gen`: a trace of any size from a seed, or the summary of that trace.
-ghost use Rattle.std.specs.Prelude.{codes, option_map, ◌≡◌, Err, IfOk, [], None, Option, Some, map, string_bytes};
+ghost use Rattle.std.specs.Prelude.{[]};
 ghost use Rattle.command_frame.specs.Plan.{Ends, Pieces};
 ghost use Rattle.command_frame.specs.Report.{Writes};
 ghost use Rattle.command_frame.specs.RunsTo.{RunsTo, Shown, Taken, taken};
-ghost use Rattle.command_words.specs.WordsTaken.{flag_in, rows_in, value_in};
 ghost use Rattle.trace_gen.specs.GeneratedTrace.{generated_text};
 ghost use Rattle.trace_gen.specs.Sizes.{sizes_of};
 ghost use Rattle.commands.specs.GenReport.{gen_plan, gen_summary};
-ghost use Rattle.commands.specs.GenWords.{events_number, gen_asked, gen_of, seed_number, stacks_number};
 ghost use Rattle.commands.specs.Requests.{gen_asked_by};
 
+use crate::asks::Asks;
 use crate::gen_summary::gen_summary;
 use crate::number_words::number_or;
 use command_frame::{Desk, Halt, run_text};
-use command_words::{TakenWords, WordTable, WordsFault, take_words};
+use command_words::{TakenWords, WordTable};
 use hp_outside::Sink;
-use std::alloc::Global;
 use trace_gen::{Generator, GeneratorOptions};
 
 /// The option that starts the draws.
@@ -46,24 +44,47 @@ pub struct GenRequest {
     pub run: bool,
 }
 
-impl GenRequest {
-    /// The request that the words behind `gen` make. `NotTaken` exactly where they aren't taken, unless memory is wanting.
-    pub fn read(alloc: Global, words: &[String]) -> Result<GenRequest, WordsFault>
-        ensures taken { IfOk result
-            (λ request. gen_asked (map string_bytes words.now) ≡ Some (gen_asked_by request)) }
-        ensures refused { result ≡ Err WordsFault.NotTaken
-            → gen_asked (map string_bytes words.now) ≡ None }
+impl<'a> Asks<'a> for GenRequest {
+    ghost use Rattle.std.specs.Prelude.{◌≡◌, codes, refl};
+    ghost use Rattle.command_words.specs.TableApp.{table_of};
+    ghost use Rattle.commands.specs.GenWords.{GenAsked, events_number, gen_asked, gen_of, gen_table, seed_number, stacks_number};
+
+    ghost Asked = { GenAsked };
+
+    ghost asked_by = { gen_asked_by };
+
+    ghost table = { gen_table };
+
+    ghost given = { λ _ _ value flag.
+        gen_of (seed_number (value (codes "seed")))
+        (events_number (value (codes "events")))
+        (stacks_number (value (codes "stacks"))) (flag (codes "run")) };
+
+    ghost asked = { gen_asked };
+
+    fn table() -> WordTable<'static>
+        ensures { table_of result ≡ gen_table }
     {
-        let words = match take_words(alloc, &WORDS, words) {
-            Ok(words) => words,
-            Err(fault) => return Err(fault),
-        };
-        match request_in(&words) {
-            Some(request) => Ok(request),
-            None => Err(WordsFault::NotTaken),
-        }
+        WORDS
     }
 
+    fn request_in(_words: &'a [String], taken: &TakenWords<'a>) -> Option<GenRequest> {
+        let seed = number_or(1, 0, 2_147_483_647, taken.value(SEED))?;
+        let events = number_or(1000, 0, 10_000_000, taken.value(EVENTS))?;
+        let stacks = number_or(10, 1, 4000, taken.value(STACKS))?;
+        let options = GeneratorOptions {
+            seed,
+            stacks,
+            events,
+        };
+        let run = taken.has(RUN);
+        Some(GenRequest { options, run })
+    }
+
+    ghost asked_is = { λ _. refl };
+}
+
+impl GenRequest {
     /// Writes the trace while it is made but for the rest that is answered, or gives the summary.
     pub fn run<O: Sink>(&self, desk: &Desk, out: &mut O) -> Result<Vec<u8>, Halt>
         ensures { (store : Shown) → RunsTo desk.now []
@@ -75,26 +96,6 @@ impl GenRequest {
         }
         write_trace(desk, &self.options, out)
     }
-}
-
-/// What taken words ask for.
-fn request_in(words: &TakenWords) -> Option<GenRequest>
-    ensures { option_map gen_asked_by result
-        ≡ gen_of (seed_number (value_in (rows_in words.now) (codes "seed")))
-        (events_number (value_in (rows_in words.now) (codes "events")))
-        (stacks_number (value_in (rows_in words.now) (codes "stacks")))
-        (flag_in (rows_in words.now) (codes "run")) }
-{
-    let seed = number_or(1, 0, 2_147_483_647, words.value(SEED))?;
-    let events = number_or(1000, 0, 10_000_000, words.value(EVENTS))?;
-    let stacks = number_or(10, 1, 4000, words.value(STACKS))?;
-    let options = GeneratorOptions {
-        seed,
-        stacks,
-        events,
-    };
-    let run = words.has(RUN);
-    Some(GenRequest { options, run })
 }
 
 /// Writes the trace while it is made but for the rest that is answered.

@@ -1,19 +1,18 @@
 //! The command `interpret`: from a raw trace to an interpreted one, with a table of symbols or without.
-ghost use Rattle.std.specs.Prelude.{codes, option_map, ◌≡◌, ◌^◌, ◌<◌, Err, IfOk, [], ◌∷◌, None, Some, map, string_bytes};
+ghost use Rattle.std.specs.Prelude.{◌≡◌, ◌^◌, ◌<◌, [], ◌∷◌};
 ghost use Rattle.std.specs.Option.{option_copied};
 ghost use Rattle.command_frame.specs.Plan.{one_file, two_files};
 ghost use Rattle.command_frame.specs.RunsTo.{Runs};
-ghost use Rattle.command_words.specs.WordsTaken.{only_file_in, rows_in, value_in};
 ghost use Rattle.interpret.specs.SymbolList.{symbols_of};
 ghost use Rattle.commands.specs.InterpretReport.{files_with, interpret_report, plan_with, symbols_report};
-ghost use Rattle.commands.specs.InterpretWords.{both_are_input, interpret_asked, interpret_of};
+ghost use Rattle.commands.specs.InterpretWords.{both_are_input};
 
+use crate::asks::Asks;
 use crate::interpret_reader::{RawReader, SymbolReader, SymbolsAndTrace};
 use command_frame::{Desk, Halt, PairNames, run_one_file, run_pair};
-use command_words::{TakenWords, WordTable, WordsFault, take_words};
+use command_words::{TakenWords, WordTable};
 use hp_outside::{Sink, Store};
 use interpret::{Interpreter, Symbols};
-use std::alloc::Global;
 
 /// The option that names the table of symbols.
 const SYMBOLS: &str = "symbols";
@@ -34,26 +33,43 @@ pub struct InterpretRequest<'a> {
     pub trace: &'a str,
 }
 
-impl<'a> InterpretRequest<'a> {
-    /// The request that the words behind `interpret` make. `NotTaken` exactly where they aren't taken, unless memory is
-    /// wanting.
-    pub fn read(alloc: Global, words: &'a [String]) -> Result<InterpretRequest<'a>, WordsFault>
-        ensures taken { IfOk result
-            (λ request. interpret_asked (map string_bytes words.entry.now)
-            ≡ Some (record {
-              symbols = option_copied request.symbols;
-              trace = request.trace.now;
-            })) }
-        ensures refused { result ≡ Err WordsFault.NotTaken
-            → interpret_asked (map string_bytes words.entry.now) ≡ None }
+impl<'a> Asks<'a> for InterpretRequest<'a> {
+    ghost use Rattle.std.specs.Prelude.{◌≡◌, codes, refl};
+    ghost use Rattle.command_words.specs.TableApp.{table_of};
+    ghost use Rattle.commands.specs.InterpretWords.{InterpretAsked, interpret_asked, interpret_of, interpret_table};
+
+    ghost Asked = { InterpretAsked };
+
+    ghost asked_by = { λ request. record {
+      symbols = option_copied request.symbols;
+      trace = request.trace.now;
+    } };
+
+    ghost table = { interpret_table };
+
+    ghost given = { λ _ file value _. interpret_of file (value (codes "symbols")) };
+
+    ghost asked = { interpret_asked };
+
+    fn table() -> WordTable<'static>
+        ensures { table_of result ≡ interpret_table }
     {
-        let words = take_words(alloc, &WORDS, words)?;
-        match request_in(&words) {
-            Some(request) => Ok(request),
-            None => Err(WordsFault::NotTaken),
-        }
+        WORDS
     }
 
+    fn request_in(_words: &'a [String], taken: &TakenWords<'a>) -> Option<InterpretRequest<'a>> {
+        let trace = taken.only_file()?;
+        let symbols = taken.value(SYMBOLS);
+        if both_are_input(symbols, trace) {
+            return None;
+        }
+        Some(InterpretRequest { symbols, trace })
+    }
+
+    ghost asked_is = { λ _. refl };
+}
+
+impl InterpretRequest<'_> {
     /// Reads the table of symbols, where one is named, and then the trace, whose interpreted lines it writes while it reads.
     pub fn run<S: Store, O: Sink>(
         &self,
@@ -114,21 +130,6 @@ fn run_alone<S: Store, O: Sink>(
         interpreter: Interpreter::new(desk.alloc, Symbols::new(desk.alloc)),
     };
     run_one_file(desk, trace, &mut reader, store, out)
-}
-
-/// What taken words ask for.
-fn request_in<'a>(words: &TakenWords<'a>) -> Option<InterpretRequest<'a>>
-    ensures { option_map
-        (λ request. record { symbols = option_copied request.symbols; trace = request.trace.now })
-        result ≡ interpret_of (only_file_in (rows_in words.now))
-        (value_in (rows_in words.now) (codes "symbols")) }
-{
-    let trace = words.only_file()?;
-    let symbols = words.value(SYMBOLS);
-    if both_are_input(symbols, trace) {
-        return None;
-    }
-    Some(InterpretRequest { symbols, trace })
 }
 
 /// Whether both files are standard input.

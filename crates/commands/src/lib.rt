@@ -8,6 +8,9 @@
 //! same chain: `Asked` and `Requests` with one module of words for each command, one module for its report, and `Answer`
 //! and `HasRun` for the whole.
 //!
+//! Each request says which words make it (`Asks`): its table of words, and what taken words ask for. One generic call
+//! (`read_request`) reads them by that, and promises of each command what its own definition (`flame_asked`, `dhat_trace`) says.
+//!
 //! Traces are read by the crate `trace_reading`: a command over one trace is a `TraceWriter`. `dhat` has `Lifetimes` beside
 //! its `ReadTrace`, which take each event that the peaks took.
 //!
@@ -28,6 +31,7 @@
 //! |---|---|
 //! | `run.rt` | `heapsuite_run`, the public call |
 //! | `words.rt`, `run_words.rt` | the list of commands: which words are taken; from a request to its run |
+//! | `asks.rt` | how every command's words are read |
 //! | `texts.rt` | the program's name, its usage text and its messages |
 //! | `summary_command.rt` | `summary`: its words, its writer, its run |
 //! | `print_command.rt`, `print_words.rt` | `print`; its options |
@@ -46,6 +50,7 @@
 //! | `symbol_file_fault.rt`, `massif_file_fault.rt`, `document_fault.rt` | faults of tables of symbols, of Massif files, of DHAT documents, as told |
 #![tactic(auto)]
 
+mod asks;
 mod convert_command;
 mod convert_reports;
 mod convert_words;

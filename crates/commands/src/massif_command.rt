@@ -1,44 +1,65 @@
 //! The command `massif`: Massif's snapshots of a trace, as a Massif file. What the words say of them is read in
 //! `massif_words`.
-ghost use Rattle.std.specs.Prelude.{option_map, ◌≡◌, ◌^◌, ◌<◌, Err, IfOk, [], ◌∷◌, None, Some, map, string_bytes};
+ghost use Rattle.std.specs.Prelude.{◌≡◌, ◌^◌, ◌<◌, IfOk, [], ◌∷◌};
 ghost use Rattle.std.specs.Str.{bytes_eq};
 ghost use Rattle.intern_tables.specs.WithoutRepeats.{without_repeats};
 ghost use Rattle.command_frame.specs.RunsTo.{Runs};
-ghost use Rattle.command_words.specs.WordsTaken.{only_file_in, rows_in, value_in};
+ghost use Rattle.command_words.specs.WordsTaken.{rows_in, value_in};
 ghost use Rattle.commands.specs.MassifReport.{massif_plan};
-ghost use Rattle.commands.specs.MassifWords.{massif_asked, massif_given, names_or};
+ghost use Rattle.commands.specs.MassifWords.{names_or};
 ghost use Rattle.commands.specs.NameList.{names_in};
 ghost use Rattle.commands.specs.Requests.{massif_asked_by};
 
+use crate::asks::Asks;
 use crate::massif_reader::{MassifReader, Settled};
 use crate::massif_request::MassifRequest;
 use crate::massif_words::{ALLOC_FNS, IGNORE_FNS, WORDS, options_in};
 use crate::name_list::{is_named, names_of};
 use command_frame::{Desk, Halt, run_one_file};
-use command_words::{TakenWords, WordsFault, take_words};
+use command_words::{TakenWords, WordTable};
 use cost_tree::FrameTest;
 use hp_num::NoMemory;
 use hp_outside::{Sink, Store};
 use intern_tables::Names;
 use std::alloc::Global;
 
-impl<'a> MassifRequest<'a> {
-    /// The request that the words behind `massif` make. `NotTaken` exactly where they aren't taken, unless memory is
-    /// wanting.
-    pub fn read(alloc: Global, words: &'a [String]) -> Result<MassifRequest<'a>, WordsFault>
-        ensures taken { IfOk result
-            (λ request. massif_asked (map string_bytes words.entry.now)
-            ≡ Some (massif_asked_by request)) }
-        ensures refused { result ≡ Err WordsFault.NotTaken
-            → massif_asked (map string_bytes words.entry.now) ≡ None }
+impl<'a> Asks<'a> for MassifRequest<'a> {
+    ghost use Rattle.command_words.specs.TableApp.{table_of};
+    ghost use Rattle.commands.specs.MassifWords.{MassifAsked, asked_by_table, massif_asked, massif_given, massif_table};
+
+    ghost Asked = { MassifAsked };
+
+    ghost asked_by = { massif_asked_by };
+
+    ghost table = { massif_table };
+
+    ghost given = { λ _ file value _. massif_given file value };
+
+    ghost asked = { massif_asked };
+
+    fn table() -> WordTable<'static>
+        ensures { table_of result ≡ massif_table }
     {
-        let words = take_words(alloc, &WORDS, words)?;
-        match request_in(&words) {
-            Some(request) => Ok(request),
-            None => Err(WordsFault::NotTaken),
-        }
+        WORDS
     }
 
+    fn request_in(_words: &'a [String], taken: &TakenWords<'a>) -> Option<MassifRequest<'a>> {
+        let trace = taken.only_file()?;
+        let options = options_in(taken)?;
+        let alloc_fns = list_in(taken, ALLOC_FNS);
+        let ignore_fns = list_in(taken, IGNORE_FNS);
+        Some(MassifRequest {
+            trace,
+            options,
+            alloc_fns,
+            ignore_fns,
+        })
+    }
+
+    ghost asked_is = { asked_by_table };
+}
+
+impl MassifRequest<'_> {
     /// Reads the trace, and gives its profile as a Massif file.
     pub fn run<S: Store, O: Sink>(
         &self,
@@ -82,23 +103,6 @@ impl<'a> MassifRequest<'a> {
 
 impl Settled for MassifRequest<'_> {
     ghost settings = { λ request. (massif_asked_by request).settings };
-}
-
-/// What taken words ask for.
-fn request_in<'a>(words: &TakenWords<'a>) -> Option<MassifRequest<'a>>
-    ensures { option_map massif_asked_by result
-        ≡ massif_given (only_file_in (rows_in words.now)) (value_in (rows_in words.now)) }
-{
-    let trace = words.only_file()?;
-    let options = options_in(words)?;
-    let alloc_fns = list_in(words, ALLOC_FNS);
-    let ignore_fns = list_in(words, IGNORE_FNS);
-    Some(MassifRequest {
-        trace,
-        options,
-        alloc_fns,
-        ignore_fns,
-    })
 }
 
 /// The list of names that an option gives: the empty one where it isn't given.

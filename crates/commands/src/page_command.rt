@@ -1,20 +1,17 @@
 //! The command `ms_print`: the page of a Massif file.
-ghost use Rattle.std.specs.Prelude.{codes, option_map, ◌≡◌, ◌^◌, ◌<◌, Err, IfOk, [], ◌∷◌, None, Some, map, string_bytes};
+ghost use Rattle.std.specs.Prelude.{◌^◌, ◌<◌, [], ◌∷◌};
 ghost use Rattle.command_frame.specs.RunsTo.{Runs};
-ghost use Rattle.command_words.specs.WordsTaken.{only_file_in, rows_in, value_in};
-ghost use Rattle.commands.specs.NumberWords.{percent_or};
 ghost use Rattle.commands.specs.PageReport.{page_plan};
-ghost use Rattle.commands.specs.PageWords.{columns_or, page_asked, page_of, rows_or};
 ghost use Rattle.commands.specs.Requests.{page_asked_by};
 
+use crate::asks::Asks;
 use crate::massif_file_taker::run_massif_file;
 use crate::number_words::{number_or, percent_or};
 use crate::page_report::PageReport;
 use crate::page_size::PageSize;
 use command_frame::{Desk, Halt};
-use command_words::{TakenWords, WordTable, WordsFault, take_words};
+use command_words::{TakenWords, WordTable};
 use hp_outside::{Sink, Store};
-use std::alloc::Global;
 
 /// The option that says which share is shown by itself.
 const THRESHOLD: &str = "threshold";
@@ -42,23 +39,47 @@ pub struct PageRequest<'a> {
     pub words: &'a [String],
 }
 
-impl<'a> PageRequest<'a> {
-    /// The request that the words behind `ms_print` make. `NotTaken` exactly where they aren't taken, unless memory is
-    /// wanting.
-    pub fn read(alloc: Global, words: &'a [String]) -> Result<PageRequest<'a>, WordsFault>
-        ensures taken { IfOk result
-            (λ request. page_asked (map string_bytes words.entry.now)
-            ≡ Some (page_asked_by request)) }
-        ensures refused { result ≡ Err WordsFault.NotTaken
-            → page_asked (map string_bytes words.entry.now) ≡ None }
+impl<'a> Asks<'a> for PageRequest<'a> {
+    ghost use Rattle.std.specs.Prelude.{◌≡◌, codes, refl};
+    ghost use Rattle.command_words.specs.TableApp.{table_of};
+    ghost use Rattle.commands.specs.NumberWords.{percent_or};
+    ghost use Rattle.commands.specs.PageWords.{PageAsked, columns_or, page_asked, page_of, page_table, rows_or};
+
+    ghost Asked = { PageAsked };
+
+    ghost asked_by = { page_asked_by };
+
+    ghost table = { page_table };
+
+    ghost given = { λ words file value _.
+        page_of words file (percent_or (value (codes "threshold")))
+        (columns_or (value (codes "x"))) (rows_or (value (codes "y"))) };
+
+    ghost asked = { page_asked };
+
+    fn table() -> WordTable<'static>
+        ensures { table_of result ≡ page_table }
     {
-        let taken = take_words(alloc, &WORDS, words)?;
-        match request_in(words, &taken) {
-            Some(request) => Ok(request),
-            None => Err(WordsFault::NotTaken),
-        }
+        WORDS
     }
 
+    fn request_in(words: &'a [String], taken: &TakenWords<'a>) -> Option<PageRequest<'a>> {
+        let file = taken.only_file()?;
+        let threshold = percent_or(taken.value(THRESHOLD))?;
+        let x = number_or(72, 4, 1000, taken.value(COLUMNS))?;
+        let y = number_or(20, 4, 1000, taken.value(ROWS))?;
+        let size = PageSize {
+            threshold,
+            x: x as u32,
+            y: y as u32,
+        };
+        Some(PageRequest { file, size, words })
+    }
+
+    ghost asked_is = { λ _. refl };
+}
+
+impl PageRequest<'_> {
     /// Reads the Massif file, and gives its page.
     pub fn run<S: Store, O: Sink>(
         &self,
@@ -77,24 +98,4 @@ impl<'a> PageRequest<'a> {
         };
         run_massif_file(desk, self.file, report, store, out)
     }
-}
-
-/// What taken words ask for.
-fn request_in<'a>(words: &'a [String], taken: &TakenWords<'a>) -> Option<PageRequest<'a>>
-    ensures { option_map page_asked_by result
-        ≡ page_of (map string_bytes words.entry.now) (only_file_in (rows_in taken.now))
-        (percent_or (value_in (rows_in taken.now) (codes "threshold")))
-        (columns_or (value_in (rows_in taken.now) (codes "x")))
-        (rows_or (value_in (rows_in taken.now) (codes "y"))) }
-{
-    let file = taken.only_file()?;
-    let threshold = percent_or(taken.value(THRESHOLD))?;
-    let x = number_or(72, 4, 1000, taken.value(COLUMNS))?;
-    let y = number_or(20, 4, 1000, taken.value(ROWS))?;
-    let size = PageSize {
-        threshold,
-        x: x as u32,
-        y: y as u32,
-    };
-    Some(PageRequest { file, size, words })
 }

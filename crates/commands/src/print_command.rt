@@ -1,17 +1,16 @@
 //! The command `print`: by backtrace who calls most, who holds the peak, who leaks and who allocates for a moment. What the
 //! words say of the report is read in `print_words`.
-ghost use Rattle.std.specs.Prelude.{option_map, ◌≡◌, ◌^◌, ◌<◌, ◌&&◌, Err, IfOk, None, Some, map, string_bytes};
-ghost use Rattle.command_frame.specs.Outcome.{moment};
+ghost use Rattle.std.specs.Prelude.{option_map, ◌≡◌, ◌^◌, ◌<◌};
 ghost use Rattle.command_frame.specs.RunsTo.{Runs};
-ghost use Rattle.command_words.specs.WordsTaken.{only_file_in, rows_in, value_in};
 ghost use Rattle.commands.specs.PrintReport.{print_plan};
 ghost use Rattle.commands.specs.Requests.{print_asked_by};
-ghost use Rattle.commands.specs.PrintWords.{print_asked, print_given, reads_input_twice};
+ghost use Rattle.commands.specs.PrintWords.{reads_input_twice};
 ghost use Rattle.trace_reading.specs.SuppressionsReport.{names_behind};
 
+use crate::asks::Asks;
 use crate::print_words::{SUPPRESSIONS, WORDS, options_in};
 use command_frame::{Desk, Halt, PairNames};
-use command_words::{TakenWords, WordsFault, take_words};
+use command_words::{TakenWords, WordTable};
 use hp_num::NoMemory;
 use hp_outside::{Sink, Store};
 use ht_print::{PrintOptions, Suppressed, put_report};
@@ -49,22 +48,44 @@ impl TraceWriter for PrintWriter {
     }
 }
 
-impl<'a> PrintRequest<'a> {
-    /// The request that the words behind `print` make. `NotTaken` exactly where they aren't taken, unless memory is wanting.
-    pub fn read(alloc: Global, words: &'a [String]) -> Result<PrintRequest<'a>, WordsFault>
-        ensures taken { IfOk result
-            (λ request. print_asked (map string_bytes words.entry.now)
-            ≡ Some (print_asked_by request)) }
-        ensures refused { result ≡ Err WordsFault.NotTaken
-            → print_asked (map string_bytes words.entry.now) ≡ None }
+impl<'a> Asks<'a> for PrintRequest<'a> {
+    ghost use Rattle.command_words.specs.TableApp.{table_of};
+    ghost use Rattle.commands.specs.PrintWords.{PrintAsked, asked_by_table, print_asked, print_given, print_table};
+
+    ghost Asked = { PrintAsked };
+
+    ghost asked_by = { print_asked_by };
+
+    ghost table = { print_table };
+
+    ghost given = { λ _ file value _. print_given file value };
+
+    ghost asked = { print_asked };
+
+    fn table() -> WordTable<'static>
+        ensures { table_of result ≡ print_table }
     {
-        let words = take_words(alloc, &WORDS, words)?;
-        match request_in(&words) {
-            Some(request) => Ok(request),
-            None => Err(WordsFault::NotTaken),
-        }
+        WORDS
     }
 
+    fn request_in(_words: &'a [String], taken: &TakenWords<'a>) -> Option<PrintRequest<'a>> {
+        let trace = taken.only_file()?;
+        let options = options_in(taken)?;
+        let suppressions = taken.value(SUPPRESSIONS);
+        if reads_input_twice(suppressions, trace) {
+            return None;
+        }
+        Some(PrintRequest {
+            trace,
+            suppressions,
+            options,
+        })
+    }
+
+    ghost asked_is = { asked_by_table };
+}
+
+impl PrintRequest<'_> {
     /// Reads the suppressions file, if there is one, and then the trace, and gives the report.
     pub fn run<S: Store, O: Sink>(
         &self,
@@ -93,24 +114,6 @@ impl<'a> PrintRequest<'a> {
             }
         }
     }
-}
-
-/// What taken words ask for.
-fn request_in<'a>(words: &TakenWords<'a>) -> Option<PrintRequest<'a>>
-    ensures { option_map print_asked_by result
-        ≡ print_given (only_file_in (rows_in words.now)) (value_in (rows_in words.now)) }
-{
-    let trace = words.only_file()?;
-    let options = options_in(words)?;
-    let suppressions = words.value(SUPPRESSIONS);
-    if reads_input_twice(suppressions, trace) {
-        return None;
-    }
-    Some(PrintRequest {
-        trace,
-        suppressions,
-        options,
-    })
 }
 
 /// Whether both files are standard input, which can be read only once.

@@ -1,17 +1,16 @@
 //! The command `summary`: six figures of one trace.
-ghost use Rattle.std.specs.Prelude.{◌≡◌, ◌^◌, ◌<◌, Err, IfOk, [], ◌∷◌, None, Some, map, string_bytes};
+ghost use Rattle.std.specs.Prelude.{◌^◌, ◌<◌, [], ◌∷◌};
 ghost use Rattle.command_frame.specs.RunsTo.{Runs};
 ghost use Rattle.commands.specs.SummaryReport.{summary_plan};
-ghost use Rattle.commands.specs.SummaryWords.{summary_trace};
 
+use crate::asks::Asks;
 use command_frame::{Desk, Halt};
-use command_words::{WordTable, WordsFault, take_words};
+use command_words::{TakenWords, WordTable};
 use hp_num::NoMemory;
 use hp_outside::{Sink, Store};
 use ht_print::put_summary;
 use ht_trace::Tables;
 use peak_costs::Peaks;
-use std::alloc::Global;
 use trace_reading::{TraceWriter, run_trace};
 
 /// One file, and no option.
@@ -42,22 +41,36 @@ impl TraceWriter for SummaryWriter {
     }
 }
 
-impl<'a> SummaryRequest<'a> {
-    /// The request that the words behind `summary` make. `NotTaken` exactly where they aren't taken, unless memory is
-    /// wanting.
-    pub fn read(alloc: Global, words: &'a [String]) -> Result<SummaryRequest<'a>, WordsFault>
-        ensures taken { IfOk result
-            (λ request. summary_trace (map string_bytes words.entry.now) ≡ Some request.trace.now) }
-        ensures refused { result ≡ Err WordsFault.NotTaken
-            → summary_trace (map string_bytes words.entry.now) ≡ None }
+impl<'a> Asks<'a> for SummaryRequest<'a> {
+    ghost use Rattle.std.specs.Prelude.{◌≡◌, ℕ, List, refl};
+    ghost use Rattle.command_words.specs.TableApp.{table_of};
+    ghost use Rattle.commands.specs.SummaryWords.{summary_table, summary_trace};
+
+    ghost Asked = { List ℕ };
+
+    ghost asked_by = { λ request. request.trace.now };
+
+    ghost table = { summary_table };
+
+    ghost given = { λ _ file _ _. file };
+
+    ghost asked = { summary_trace };
+
+    fn table() -> WordTable<'static>
+        ensures { table_of result ≡ summary_table }
     {
-        let words = take_words(alloc, &WORDS, words)?;
-        match words.only_file() {
-            Some(trace) => Ok(SummaryRequest { trace }),
-            None => Err(WordsFault::NotTaken),
-        }
+        WORDS
     }
 
+    fn request_in(_words: &'a [String], taken: &TakenWords<'a>) -> Option<SummaryRequest<'a>> {
+        let trace = taken.only_file()?;
+        Some(SummaryRequest { trace })
+    }
+
+    ghost asked_is = { λ _. refl };
+}
+
+impl SummaryRequest<'_> {
     /// Reads the trace, and gives the text of its summary.
     pub fn run<S: Store, O: Sink>(
         &self,

@@ -1,11 +1,9 @@
 //! What the words of `dhat_view` say of a view. Which profile is shown so, and how, is no part of it.
-ghost use Rattle.std.specs.Prelude.{codes, option_map, ◌≡◌};
-ghost use Rattle.command_words.specs.WordsTaken.{only_file_in, rows_in, value_in};
-ghost use Rattle.commands.specs.KeyWords.{key_or};
-ghost use Rattle.commands.specs.NumberWords.{percent_or};
-ghost use Rattle.commands.specs.Requests.{view_asked_by};
-ghost use Rattle.commands.specs.ViewWords.{depth_or, view_of};
+ghost use Rattle.std.specs.Prelude.{codes, ◌≡◌};
+ghost use Rattle.command_words.specs.WordsTaken.{rows_in, value_in};
+ghost use Rattle.commands.specs.ViewWords.{depth_or};
 
+use crate::asks::Asks;
 use crate::dhat_view_command::DhatViewRequest;
 use crate::key_words::key_or;
 use crate::number_words::{number_or, percent_or};
@@ -22,30 +20,52 @@ const THRESHOLD: &str = "threshold";
 const DEPTH: &str = "depth";
 
 /// Three options, and one file.
-pub const WORDS: WordTable<'static> = WordTable {
+const WORDS: WordTable<'static> = WordTable {
     options: &[SORT, THRESHOLD, DEPTH],
     flags: &[],
     files: true,
 };
 
-/// What taken words ask for.
-pub fn request_in<'a>(words: &TakenWords<'a>) -> Option<DhatViewRequest<'a>>
-    ensures { option_map view_asked_by result
-        ≡ view_of (only_file_in (rows_in words.now))
-        (key_or (value_in (rows_in words.now) (codes "sort")))
-        (percent_or (value_in (rows_in words.now) (codes "threshold")))
-        (depth_or (value_in (rows_in words.now) (codes "depth"))) }
-{
-    let profile = words.only_file()?;
-    let key = key_or(words.value(SORT))?;
-    let threshold = percent_or(words.value(THRESHOLD))?;
-    let depth = depth_in(words)?;
-    let options = ViewOptions {
-        key,
-        threshold,
-        depth,
-    };
-    Some(DhatViewRequest { profile, options })
+impl<'a> Asks<'a> for DhatViewRequest<'a> {
+    ghost use Rattle.std.specs.Prelude.{◌≡◌, codes, refl};
+    ghost use Rattle.command_words.specs.TableApp.{table_of};
+    ghost use Rattle.commands.specs.KeyWords.{key_or};
+    ghost use Rattle.commands.specs.NumberWords.{percent_or};
+    ghost use Rattle.commands.specs.Requests.{view_asked_by};
+    ghost use Rattle.commands.specs.ViewWords.{ViewAsked, view_asked, view_of, view_table};
+
+    ghost Asked = { ViewAsked };
+
+    ghost asked_by = { view_asked_by };
+
+    ghost table = { view_table };
+
+    ghost given = { λ _ file value _.
+        view_of file (key_or (value (codes "sort")))
+        (percent_or (value (codes "threshold"))) (depth_or (value (codes "depth"))) };
+
+    ghost asked = { view_asked };
+
+    fn table() -> WordTable<'static>
+        ensures { table_of result ≡ view_table }
+    {
+        WORDS
+    }
+
+    fn request_in(_words: &'a [String], taken: &TakenWords<'a>) -> Option<DhatViewRequest<'a>> {
+        let profile = taken.only_file()?;
+        let key = key_or(taken.value(SORT))?;
+        let threshold = percent_or(taken.value(THRESHOLD))?;
+        let depth = depth_in(taken)?;
+        let options = ViewOptions {
+            key,
+            threshold,
+            depth,
+        };
+        Some(DhatViewRequest { profile, options })
+    }
+
+    ghost asked_is = { λ _. refl };
 }
 
 /// The most frames below each other: 30 where the words give no number.

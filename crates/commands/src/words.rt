@@ -3,6 +3,7 @@ ghost use Rattle.std.specs.Prelude.{◌≡◌, ◌≢◌, Err, IfOk, None, Some,
 ghost use Rattle.commands.specs.Asked.{asked, help_asked, knows_first};
 ghost use Rattle.commands.specs.Requests.{asked_of};
 
+use crate::asks::read_request;
 use crate::convert_command::ConvertRequest;
 use crate::dhat_command::DhatRequest;
 use crate::dhat_view_command::DhatViewRequest;
@@ -59,16 +60,16 @@ pub fn read_words<'a>(alloc: Global, words: &'a [String]) -> Result<Request<'a>,
     };
     match command.as_str() {
         "--help" => help(words),
-        "summary" => Ok(Request::Summary(SummaryRequest::read(alloc, words)?)),
-        "print" => Ok(Request::Print(PrintRequest::read(alloc, words)?)),
-        "flame" => Ok(Request::Flame(FlameRequest::read(alloc, words)?)),
-        "interpret" => Ok(Request::Interpret(InterpretRequest::read(alloc, words)?)),
-        "massif" => Ok(Request::Massif(MassifRequest::read(alloc, words)?)),
-        "ms_print" => Ok(Request::Page(PageRequest::read(alloc, words)?)),
-        "dhat" => Ok(Request::Dhat(DhatRequest::read(alloc, words)?)),
-        "gen" => Ok(Request::Gen(GenRequest::read(alloc, words)?)),
-        "dhat_view" => Ok(Request::DhatView(DhatViewRequest::read(alloc, words)?)),
-        "convert" => Ok(Request::Convert(ConvertRequest::read(alloc, words)?)),
+        "summary" => Ok(Request::Summary(read_request(alloc, words)?)),
+        "print" => Ok(Request::Print(read_request(alloc, words)?)),
+        "flame" => Ok(Request::Flame(read_request(alloc, words)?)),
+        "interpret" => Ok(Request::Interpret(read_request(alloc, words)?)),
+        "massif" => Ok(Request::Massif(read_request(alloc, words)?)),
+        "ms_print" => Ok(Request::Page(read_request(alloc, words)?)),
+        "dhat" => Ok(Request::Dhat(read_request(alloc, words)?)),
+        "gen" => Ok(Request::Gen(read_request(alloc, words)?)),
+        "dhat_view" => Ok(Request::DhatView(read_request(alloc, words)?)),
+        "convert" => Ok(Request::Convert(read_request(alloc, words)?)),
         _ => Err(WordsFault::NotTaken),
     }
 }
