@@ -1,6 +1,8 @@
 mod Moments
 mod FigureLemmas
+mod Repeats
 mod PlaceLemmas
+mod KnownLemmas
 mod PointLists
 mod TextLemmas
 mod ProfileLemmas

@@ -1,25 +1,33 @@
 -- The places of texts in a table that grows.
-use Rattle.std.proofs.Common.{◌≡◌, ℕ, ◌+◌, ◌<◌, List, [], ◌∷◌, ◌++◌, get_or, length, map, take, Some, None, ap, ◌∙◌, sym, subst, arith, append_assoc, append-nil}
-use Rattle.std.specs.Prelude.{All, Option, position, slice_get, unwrap_or}
+use Rattle.std.proofs.Common.{◌≡◌, ℕ, ◌+◌, ◌<◌, List, [], ◌∷◌, ◌++◌, length, take, Some, None, ap, ◌∙◌, sym, arith, append_assoc, append-nil}
+use Rattle.std.specs.Prelude.{Option, position, slice_get, unwrap_or}
 use Rattle.std.specs.Option.{option_map}
 use Rattle.std.specs.Str.{bytes_eq}
 use Rattle.intern_tables.specs.Numbers.{number_of}
 use Rattle.intern_tables.specs.WithoutRepeats.{without_repeats}
-use Rattle.std.proofs.lemmas.List.{map_push, take_more}
-use Rattle.std.proofs.lemmas.List.Elements.{All-append, All-cons, All-nil, All-weaker}
+use Rattle.std.proofs.lemmas.List.{take_more}
+use Rattle.std.proofs.lemmas.List.Folds.{list_any_at}
+use Rattle.std.proofs.lemmas.List.Quantifiers.{position-Some}
 use Rattle.std.proofs.lemmas.Option.{get_or_from_slice_get, slice_get_within}
-use Rattle.dhat_trace.specs.FrameTable.{AddsTexts, Keeps, place_in, places_in}
+use Rattle.dhat_trace.specs.FrameTable.{AddsTexts, Keeps, place_in}
+use Rattle.dhat_trace.proofs.Repeats.{repeated}
 
 -- the place under a number
-place_under : (found : Option ℕ) (place : ℕ) → option_map (λ p. p + 1) found ≡ Some (place + 1) → unwrap_or found 0 ≡ place
+place_under : (found : Option ℕ) (place : ℕ) → option_map (λ p. p + 1) found ≡ Some (place + 1) → found ≡ Some place
 place_under None place is = cc
 place_under (Some found) place is =
     let same : found + 1 ≡ place + 1 = cc in
-    omega (arith, same)
+    ap Some (omega (arith, same))
+
+place_found : (table : List (List ℕ)) (text : List ℕ) (place : ℕ) → number_of table text ≡ Some (place + 1) → position (bytes_eq text) table ≡ Some place
+unfolding number_of
+place_found table text place is = place_under (position (bytes_eq text) table) place is
 
 pub place_is : (table : List (List ℕ)) (text : List ℕ) (place : ℕ) → number_of table text ≡ Some (place + 1) → place_in table text ≡ place
-unfolding number_of
-place_is table text place is = place_under (position (bytes_eq text) table) place is
+place_is table text place is = ap (λ (found : Option ℕ). unwrap_or found 0) (place_found table text place is)
+
+pub place_within : (table : List (List ℕ)) (text : List ℕ) (place : ℕ) → number_of table text ≡ Some (place + 1) → place < length table
+place_within table text place is = (position-Some (bytes_eq text) table place [] (place_found table text place is)).0
 
 -- tables that keep places, one after another
 pub keeps_later : (one next later : List (List ℕ)) → Keeps one next → Keeps next later → Keeps one later
@@ -40,38 +48,17 @@ adds_more old one new texts more first second = record {
   none_lost = omega (arith, first.none_lost, second.none_lost);
 }
 
+-- a text that the table has
+pub adds_again : (table : List (List ℕ)) (text : List ℕ) (place : ℕ) → number_of table text ≡ Some (place + 1) → AddsTexts table (text ∷ []) table
+adds_again table text place is =
+    let there = position-Some (bytes_eq text) table place [] (place_found table text place is) in
+    record {
+      first_places = λ came same. repeated table came text (list_any_at (bytes_eq text) table place [] there.0 there.1) same;
+      keeps = λ other number held. held;
+      none_lost = omega arith;
+    }
+
 -- one element more
 pub take-next : {X : Type 0} (xs : List X) (k : ℕ) (x : X) → slice_get xs k ≡ Some x → take (k + 1) xs ≡ take k xs ++ x ∷ []
 take-next {X} xs k x held =
     take_more xs k x (slice_get_within xs k x held) ∙ ap (λ (y : X). take k xs ++ y ∷ []) (get_or_from_slice_get xs k x x held)
-
--- the first so many of some frames have their texts in the table, and their places are told
-pub record HavePlaces {X : Type 0} (text_of : X → List ℕ) (frames : List X) (count : ℕ) (first table : List (List ℕ)) (told : List ℕ) : Type 0 where
-  pub added : AddsTexts first (map text_of (take count frames)) table
-  pub places : (later : List (List ℕ)) → Keeps table later → told ≡ places_in later (map text_of (take count frames))
-  pub within : All (λ place. place < length table) told
-
--- one frame more
-pub frame-more : {X : Type 0} (text_of : X → List ℕ) (frames : List X) (count : ℕ) (frame : X) → count < length frames
-    → (first table new : List (List ℕ)) (places more : List ℕ) (place : ℕ)
-    → AddsTexts first (map text_of (take count frames)) table
-    → ((later : List (List ℕ)) → Keeps table later → places ≡ places_in later (map text_of (take count frames)))
-    → All (λ p. p < length table) places
-    → AddsTexts table (text_of (get_or frames count frame) ∷ []) new → number_of new (text_of (get_or frames count frame)) ≡ Some (place + 1) → place < length new
-    → more ≡ places ++ place ∷ [] → HavePlaces text_of frames (count + 1) first new more
-frame-more {X} text_of frames count frame held first table new places more place added told within adds number place_within appended =
-    let before : List (List ℕ) = map text_of (take count frames) in
-    let text : List ℕ = text_of (get_or frames count frame) in
-    let texts : map text_of (take (count + 1) frames) ≡ before ++ text ∷ [] =
-    ap (map text_of) (take_more frames count frame held) ∙ map_push text_of (take count frames) (get_or frames count frame) in
-    record {
-      added = subst (λ (ts : List (List ℕ)). AddsTexts first ts new) (sym texts) (adds_more first table new before (text ∷ []) added adds);
-      places = λ later keeps.
-          appended ∙ (ap (λ (ps : List ℕ). ps ++ place ∷ []) (told later (keeps_later table new later adds.keeps keeps))
-          ∙ (ap (λ (p : ℕ). places_in later before ++ p ∷ []) (sym (place_is later text place (keeps text (place + 1) number)))
-          ∙ (sym (map_push (place_in later) before text) ∙ ap (places_in later) (sym texts))));
-      within = subst (All (λ p. p < length new)) (sym appended)
-          (All-append (λ p. p < length new) places (place ∷ [])
-          (All-weaker (λ p. p < length table) (λ p. p < length new) (λ p below. omega (arith, below, adds.none_lost)) places within)
-          (All-cons (λ p. p < length new) place [] place_within (All-nil (λ p. p < length new))));
-    }

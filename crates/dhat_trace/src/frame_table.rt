@@ -1,8 +1,10 @@
-//! The table of frames: each text once, under its place, in the order in which stacks bring them.
-ghost use Rattle.std.specs.Prelude.{◌≡◌, ℕ, ◌+◌, ◌^◌, ◌<◌, ◌≤◌, List, [], ◌∷◌, All, IfOk, OnOk, Some, codes, length, map, slice_get};
+//! The table of frames: each text once, under its place, in the order in which stacks bring them. The places of an
+//! instruction's frames are kept, so that the texts of its frames are made once, however many stacks have it.
+ghost use Rattle.std.specs.Prelude.{◌≡◌, ℕ, ◌+◌, ◌^◌, ◌<◌, ◌≤◌, ◌++◌, List, [], ◌∷◌, All, IfOk, OnOk, Some, codes, length, map, slice_get};
 ghost use Rattle.intern_tables.specs.Numbers.{number_of};
 ghost use Rattle.ht_trace.specs.IsFrame.{IsFrame};
 ghost use Rattle.dhat_trace.specs.FrameTable.{AddsTexts, Keeps, frame_texts, profile_frame, places_in};
+ghost use Rattle.dhat_trace.specs.KnownPlaces.{AreKnown, GainsPlaces, HavePlaces, instruction_texts};
 
 use crate::texts::make_utf8;
 use dhat_json::{FrameList, Texts};
@@ -14,24 +16,30 @@ use std::alloc::Global;
 /// The first text of a table, which stands for the root above all stacks. No frame of a trace has it.
 const ROOT: &[u8] = b"[root]";
 
-/// The texts of the frames so far, and buffers for the next ones.
+/// The texts of the frames so far, the places of an instruction's frames (none before they are asked for), and buffers
+/// for the next ones.
 #[derive(Debug, Drop)]
 pub(crate) struct FrameTable {
     pub(crate) texts: Names,
+    pub(crate) known: Vec<FrameList>,
     frames: Vec<FrameAt>,
     text: Vec<u8>,
     alloc: Global,
 }
 
 impl FrameTable {
-    /// The table that has the root alone, or `NoMemory`.
-    pub(crate) fn new(alloc: Global) -> Result<FrameTable, NoMemory>
+    /// The table that has the root alone, for stacks of these tables, or `NoMemory`.
+    pub(crate) fn new(alloc: Global, tables: &Tables) -> Result<FrameTable, NoMemory>
         ensures root { IfOk result (λ table. table.texts ≡ codes "[root]" ∷ []) }
+        ensures known { IfOk result
+            (λ table. AreKnown tables.now table.texts table.known.items) }
     {
         let mut texts = Names::new(alloc);
         texts.intern(ROOT)?;
+        let known = empty_lists(alloc, tables.instructions() as usize + 1)?;
         Ok(FrameTable {
             texts,
+            known,
             frames: Vec::new(alloc),
             text: Vec::new(alloc),
             alloc,
@@ -41,6 +49,8 @@ impl FrameTable {
     /// The places of the frames of a stack, from the innermost on. A text that is new comes to the end of the table.
     pub(crate) fn places_of(&mut self, tables: &Tables, stack: u32) -> Result<FrameList, NoMemory>
         requires held { stack ≤ length tables.now.nodes }
+        requires known { AreKnown tables.now self.old.texts self.old.known.items }
+        ensures known { OnOk result (AreKnown tables.now self.new.texts self.new.known.items) }
         ensures added { OnOk result
             (AddsTexts self.old.texts (frame_texts tables.now stack) self.new.texts) }
         ensures places { IfOk result
@@ -49,7 +59,77 @@ impl FrameTable {
         ensures within { IfOk result
             (λ places. All (λ place. place < length self.new.texts) places) }
     {
-        tables.frames_into(stack, &mut self.frames)?;
+        let mut places = FrameList::new(self.alloc);
+        self.push_stack(tables, stack, &mut places)?;
+        Ok(places)
+    }
+
+    /// Appends the places of the frames of a stack, from the innermost on.
+    fn push_stack(
+        &mut self,
+        tables: &Tables,
+        stack: u32,
+        places: &mut FrameList,
+    ) -> Result<(), NoMemory>
+        requires held { stack ≤ length tables.now.nodes }
+        requires known { AreKnown tables.now self.old.texts self.old.known.items }
+        ensures known { OnOk result (AreKnown tables.now self.new.texts self.new.known.items) }
+        ensures gains { OnOk result
+            (GainsPlaces self.old.texts places.old (frame_texts tables.now stack)
+            self.new.texts places.new) }
+    {
+        if stack == 0 {
+            tables.frames_into(stack, &mut self.frames)?;
+            return push_places(
+                tables,
+                &self.frames,
+                &mut self.texts,
+                &mut self.text,
+                places,
+            );
+        }
+        let mut at = stack;
+        'outwards: while let Some((instruction, caller)) = tables.node(at) {
+            self.push_instruction(tables, instruction, places)?;
+            at = caller;
+        }
+        Ok(())
+    }
+
+    /// Appends the places of the frames of an instruction, from the innermost on.
+    fn push_instruction(
+        &mut self,
+        tables: &Tables,
+        instruction: u32,
+        places: &mut FrameList,
+    ) -> Result<(), NoMemory>
+        requires held { instruction ≤ length tables.now.instructions }
+        requires known { AreKnown tables.now self.old.texts self.old.known.items }
+        ensures known { OnOk result (AreKnown tables.now self.new.texts self.new.known.items) }
+        ensures gains { OnOk result
+            (GainsPlaces self.old.texts places.old (instruction_texts tables.now instruction)
+            self.new.texts places.new) }
+    {
+        self.learn(tables, instruction)?;
+        push_all(self.known[instruction as usize].as_slice(), places)
+    }
+
+    /// Makes the places of an instruction's frames known.
+    fn learn(&mut self, tables: &Tables, instruction: u32) -> Result<(), NoMemory>
+        requires held { instruction ≤ length tables.now.instructions }
+        requires known { AreKnown tables.now self.old.texts self.old.known.items }
+        ensures known { OnOk result (AreKnown tables.now self.new.texts self.new.known.items) }
+        ensures added { OnOk result
+            (AddsTexts self.old.texts (instruction_texts tables.now instruction) self.new.texts) }
+        ensures told { OnOk result
+            ((places : List ℕ) → slice_get self.new.known.items instruction ≡ Some places
+            → HavePlaces self.new.texts (instruction_texts tables.now instruction) places) }
+    {
+        let number = instruction as usize;
+        if self.known[number].len() > 0 {
+            return Ok(());
+        }
+        tables.instruction_frames_into(instruction, &mut self.frames)?;
         let mut places = FrameList::new(self.alloc);
         push_places(
             tables,
@@ -58,7 +138,8 @@ impl FrameTable {
             &mut self.text,
             &mut places,
         )?;
-        Ok(places)
+        self.known[number] = places;
+        Ok(())
     }
 
     /// The texts in their order, or `NoMemory`.
@@ -82,18 +163,36 @@ fn push_places(
     places: &mut FrameList,
 ) -> Result<(), NoMemory>
     requires frames { All (λ at. IsFrame tables.now at) frames.now }
-    requires empty { places.old ≡ [] }
-    ensures added { OnOk result
-        (AddsTexts texts.old (map (profile_frame tables.now) frames.now) texts.new) }
-    ensures places { OnOk result
-        ((table : List (List ℕ)) → Keeps texts.new table
-        → places.new ≡ places_in table (map (profile_frame tables.now) frames.now)) }
-    ensures within { OnOk result (All (λ place. place < length texts.new) places.new) }
+    ensures gains { OnOk result
+        (GainsPlaces texts.old places.old (map (profile_frame tables.now) frames.now)
+        texts.new places.new) }
 {
     'each_frame: for at in frames {
         places.push(place_of(tables, at, texts, text)?)?;
     }
     Ok(())
+}
+
+/// Appends all of them.
+fn push_all(places: &[u64], out: &mut FrameList) -> Result<(), NoMemory>
+    ensures appended { OnOk result (out.new ≡ out.old ++ places.now) }
+{
+    'each_place: for place in places {
+        out.push(*place)?;
+    }
+    Ok(())
+}
+
+/// So many empty lists.
+fn empty_lists(alloc: Global, count: usize) -> Result<Vec<FrameList>, NoMemory>
+    ensures count { IfOk result (λ lists. length lists.items ≡ count) }
+    ensures empty { IfOk result (λ lists. All (λ list. list ≡ []) lists.items) }
+{
+    let mut lists = Vec::with_capacity(alloc, count)?;
+    'each_list: for _ in 0..count {
+        lists.push_reserved(FrameList::new(alloc));
+    }
+    Ok(lists)
 }
 
 /// The place of a frame's text, which is added where the table lacks it. `text` is a buffer.
@@ -108,7 +207,6 @@ fn place_of(
         (AddsTexts texts.old (profile_frame tables.now at.now ∷ []) texts.new) }
     ensures place { IfOk result
         (λ place. number_of texts.new (profile_frame tables.now at.now) ≡ Some (place + 1)) }
-    ensures within { IfOk result (λ place. place < length texts.new) }
 {
     text.clear();
     tables.put_frame(at, Style::Addressed, text)?;

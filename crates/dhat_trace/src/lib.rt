@@ -3,9 +3,9 @@
 //!
 //! What it promises: `trace_profile` makes the profile of a trace from its tables, its peaks and the lifetimes of its
 //! blocks, by what these hold (`profile`), and by the events that they stand for (`trace`, which is `dhat_of`). What it
-//! gives can be written (`writable`), so it needs fewer events than points can be numbered. A stack's texts are made
-//! once, interned, and told by their places in the table that grows; a place stays as the table grows, so each point is
-//! that of the whole table.
+//! gives can be written (`writable`), so it needs fewer events than points can be numbered. The texts of an instruction's
+//! frames are made once, interned, and told by their places in the table that grows; a place stays as the table grows, so
+//! each point is that of the whole table.
 //!
 //! The tests of these calls are in the crate `dhat_tests`.
 #![tactic(auto)]

@@ -1,6 +1,7 @@
 //! The points of a trace: one for each stack that allocated.
 ghost use Rattle.std.specs.Prelude.{◌≡◌, ◌+◌, ◌-◌, ◌^◌, ◌<◌, ◌≤◌, ◌++◌, ◌∷◌, [], ℕ, List, IfOk, OnOk, codes, length};
 ghost use Rattle.dhat_trace.specs.FrameTable.{table_of};
+ghost use Rattle.dhat_trace.specs.KnownPlaces.{AreKnown};
 ghost use Rattle.dhat_trace.specs.Points.{ArePoints, called, if_called};
 ghost use Rattle.dhat_trace.specs.declared.points.PointFigures.{PointFigures};
 ghost use Rattle.dhat_trace.specs.PointFigures as figures_spec;
@@ -33,6 +34,7 @@ pub(crate) fn all_points(
     requires peaks { peaks.now.ledger.stacks ≡ length tables.now.nodes + 1 }
     requires lifetimes { length lifetimes.now.figures ≡ length tables.now.nodes + 1 }
     requires root { table.old.texts ≡ codes "[root]" ∷ [] }
+    requires known { AreKnown tables.now table.old.texts table.old.known.items }
     ensures points { IfOk result
         (λ points. let figures = figures_spec.figures_of peaks.now lifetimes.now in
         ArePoints tables.now figures (called figures (length tables.now.nodes + 1)) table.new.texts
@@ -55,6 +57,8 @@ fn add_point(
     points: &mut Points,
 ) -> Result<(), NoMemory>
     requires held { stack ≤ length tables.now.nodes }
+    requires known { AreKnown tables.now table.old.texts table.old.known.items }
+    ensures known { OnOk result (AreKnown tables.now table.new.texts table.new.known.items) }
     ensures added { OnOk result ((all : ℕ → PointFigures) (stacks : List ℕ) → all stack ≡ figures
         → ArePoints tables.now all stacks table.old.texts points.old
         → ArePoints tables.now all (stacks ++ if_called all stack) table.new.texts points.new) }

@@ -45,7 +45,7 @@ pub fn trace_profile(
         → dhat ≡ dhat_of tables.now events) }
     ensures writable { IfOk result (λ dhat. IsWritable dhat) }
 {
-    let mut table = FrameTable::new(alloc)?;
+    let mut table = FrameTable::new(alloc, tables)?;
     let pps = all_points(alloc, tables, peaks, lifetimes, &mut table)?;
     let ftbl = table.texts()?;
     let cmd = command_text(alloc, tables)?;

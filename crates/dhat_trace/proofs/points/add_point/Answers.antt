@@ -7,6 +7,7 @@ use Rattle.dhat_trace.proofs.points.add_point.Goals as goal
 
 pub returns : goal.returns
 returns c = record {
+  known = c.in_ok-fs.ensures.known;
   added = λ all stacks same are.
       let tables = c.args.tables.now in
       let with_places : List ℕ → Point = λ places. record { tb = c.args.figures.tb; tbk = c.args.figures.tbk; life = Some c.args.figures.life; access = None; fs = places } in

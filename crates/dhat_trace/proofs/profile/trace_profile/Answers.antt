@@ -1,4 +1,4 @@
-use Rattle.std.proofs.Common.{◌≡◌, ◌+◌, ◌-◌, ◌^◌, ◌<◌, length, ap, ◌∙◌, sym, subst, arith}
+use Rattle.std.proofs.Common.{◌≡◌, ◌+◌, ◌-◌, ◌^◌, ◌<◌, length, ap, ◌∙◌, sym, subst}
 use Rattle.std.proofs.lemmas.Result.{IfOk-weaker}
 use Rattle.dhat_json.specs.declared.profile.Dhat.{Dhat}
 use Rattle.dhat_json.specs.IsSound.{IsWritable}
@@ -9,13 +9,13 @@ use Rattle.dhat_trace.specs.PointFigures.{figures_of}
 use Rattle.dhat_trace.specs.Points.{called}
 use Rattle.dhat_trace.proofs.ProfileLemmas.{called_numbered, profile_is, profile_writable, trace_is}
 use Rattle.dhat_trace.proofs.profile.trace_profile.Goals as goal
-use Rattle.dhat_trace.proofs.profile.trace_profile.Goals.{After-drop-table-7}
+use Rattle.dhat_trace.proofs.profile.trace_profile.Goals.{After-drop-table-8}
 
 -- what was put together
-made : After-drop-table-7 → Dhat
+made : After-drop-table-8 → Dhat
 made c = heap_profile c.in_ok-cmd.cmd c.totals-te.result.events c.peak_moment.result c.in_ok-pps.pps c.in_ok-ftbl.ftbl
 
-made_is : (c : After-drop-table-7) → made c ≡ profile_of c.args.tables.now c.args.peaks.now.ledger.totals.events c.args.peaks.now.moment (figures_of c.args.peaks.now c.args.lifetimes.now)
+made_is : (c : After-drop-table-8) → made c ≡ profile_of c.args.tables.now c.args.peaks.now.ledger.totals.events c.args.peaks.now.moment (figures_of c.args.peaks.now c.args.lifetimes.now)
 unfolding made
 made_is c =
     let last : c.totals-te.result.events ≡ c.args.peaks.now.ledger.totals.events =

@@ -1,15 +1,21 @@
-use Rattle.std.proofs.Common.{ℕ, List, map, ap, ◌∙◌, subst}
-use Rattle.dhat_trace.specs.FrameTable.{AddsTexts, frame_texts, places_in, profile_frame}
+use Rattle.dhat_trace.specs.FrameTable.{frame_texts}
+use Rattle.dhat_trace.proofs.KnownLemmas.{gains_all, places_are, places_stay, places_within}
 use Rattle.dhat_trace.proofs.frame_table.FrameTable.places_of.Goals as goal
 
 pub returns-clause-added : goal.returns-clause-added
-unfolding frame_texts
-returns-clause-added c =
-    let same = ap (map (profile_frame c.args.tables.now)) (c.deref.ensures.value ∙ c.in_ok-frames_into.ensures.of_tables) in
-    subst (λ (texts : List (List ℕ)). AddsTexts c.args.self.now.texts texts c.push_places.new.texts) same c.in_ok-push_places.ensures.added
+returns-clause-added c = c.in_ok-push_stack.ensures.gains.added
 
 pub returns-clause-places : goal.returns-clause-places
-unfolding frame_texts
 returns-clause-places c = λ table keeps.
-    c.in_ok-push_places.ensures.places table keeps
-    ∙ ap (λ (texts : List (List ℕ)). places_in table texts) (ap (map (profile_frame c.args.tables.now)) (c.deref.ensures.value ∙ c.in_ok-frames_into.ensures.of_tables))
+    let texts = frame_texts c.args.tables.now c.args.stack in
+    let new = c.push_stack.new.self.texts in
+    let places = c.push_stack.new.places in
+    let told = gains_all c.args.self.now.texts texts new c.new-places.result places c.new-places.ensures.empty c.in_ok-push_stack.ensures.gains in
+    places_are table texts places (places_stay new table keeps texts places told)
+
+pub returns-clause-within : goal.returns-clause-within
+returns-clause-within c =
+    let texts = frame_texts c.args.tables.now c.args.stack in
+    let new = c.push_stack.new.self.texts in
+    let places = c.push_stack.new.places in
+    places_within new texts places (gains_all c.args.self.now.texts texts new c.new-places.result places c.new-places.ensures.empty c.in_ok-push_stack.ensures.gains)

@@ -1,0 +1,7 @@
+use Rattle.std.proofs.Common.{arith}
+use Rattle.dhat_trace.proofs.KnownLemmas.{none_known}
+use Rattle.dhat_trace.proofs.frame_table.FrameTable.new.Goals as goal
+
+pub returns-clause-known : goal.returns-clause-known
+returns-clause-known c =
+    none_known c.args.tables.now c.intern.new.self c.in_ok-known.known.items (omega (arith, c.in_ok-known.ensures.count, c.instructions.ensures.count)) c.in_ok-known.ensures.empty

@@ -1,0 +1,33 @@
+-- The places of the frames of instructions, which are kept so that texts are made once, for private clauses.
+use Rattle.std.specs.Prelude.{◌≡◌, ℕ, ◌+◌, ◌<◌, List, [], ◌∷◌, ◌++◌, length, map, slice_get, Some}
+use Rattle.intern_tables.specs.Numbers.{number_of}
+use Rattle.ht_trace.specs.StackFrames.{frames_of}
+use Rattle.ht_trace.specs.TableState.{TableState}
+use Rattle.dhat_trace.specs.FrameTable.{AddsTexts, profile_frame}
+
+-- the texts of the frames of an instruction, from the innermost on
+abbrev pub instruction_texts : TableState → ℕ → List (List ℕ)
+instruction_texts tables instruction = map (profile_frame tables)
+    (frames_of tables.instructions instruction)
+
+-- a table has these texts at these places
+abbrev pub HavePlaces : List (List ℕ) → List (List ℕ) → List ℕ → Type 0
+HavePlaces table [] [] = Unit {0}
+HavePlaces table [] (place ∷ places) = ⊥
+HavePlaces table (text ∷ texts) [] = ⊥
+HavePlaces table (text ∷ texts) (place ∷ places) =
+    (number_of table text ≡ Some (place + 1)) × HavePlaces table texts places
+
+-- the texts come to the table, and their places to those of the texts before
+pub record GainsPlaces (old : List (List ℕ)) (before : List ℕ) (texts new : List (List ℕ))
+    (after : List ℕ) : Type 0 where
+  pub added : AddsTexts old texts new
+  pub told : (front : List (List ℕ)) → HavePlaces old front before
+      → HavePlaces new (front ++ texts) after
+
+-- each instruction has a list: that of the places of its frames, unless it is empty still
+pub record AreKnown (tables : TableState) (table : List (List ℕ)) (known : List (List ℕ)) : Type
+    0 where
+  pub count : length known ≡ length tables.instructions + 1
+  pub told : (instruction : ℕ) (places : List ℕ) → slice_get known instruction ≡ Some places
+      → 0 < length places → HavePlaces table (instruction_texts tables instruction) places
