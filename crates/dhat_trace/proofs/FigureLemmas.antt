@@ -9,22 +9,22 @@ use Rattle.live_ledger.specs.Events.{counted, event_count, is_counted}
 use Rattle.live_ledger.specs.InStack.{blocks_in, live_in}
 use Rattle.peak_costs.specs.Peak as peak_spec
 use Rattle.peak_costs.specs.Peak.{first_events, total_after}
+use Rattle.peak_costs.proofs.Laws.{first_greatest_is}
 use Rattle.peak_costs.specs.PeakState.{PeakState}
 use Rattle.peak_costs.specs.Totals.{total}
 use Rattle.dhat_trace.specs.PointFigures.{figures_in, figures_of, most_moment, peak_moment}
-use Rattle.dhat_trace.proofs.Moments.{moment_is}
 
 -- the moment of the peak
 pub peak_moment_is : (moment : ℕ) (events : List Event) → peak_spec.IsPeak moment events → peak_moment events ≡ moment
 peak_moment_is moment events is =
     let count : length (counted events) ≡ event_count events = length-filter is_counted events in
-    moment_is (total (counted events)) (length (counted events) + 1) moment (omega (arith, is.within, count))
+    first_greatest_is (total (counted events)) (length (counted events) + 1) moment (omega (arith, is.within, count))
     (λ k below. is.greatest k (omega (arith, below, count))) is.least
 
 -- the moment at which a stack has the most bytes
 most_moment_is : (bytes blocks stack : ℕ) (events : List Event) (most : life_spec.HasMost bytes blocks stack events) → most_moment events stack ≡ most.moment
 most_moment_is bytes blocks stack events most =
-    moment_is (λ k. life_spec.live_after stack k events) (event_count events + 1) most.moment (omega (arith, most.within))
+    first_greatest_is (λ k. life_spec.live_after stack k events) (event_count events + 1) most.moment (omega (arith, most.within))
     (λ k below. most.greatest k (omega (arith, below))) most.least
 
 -- lifetimes, told by the live blocks

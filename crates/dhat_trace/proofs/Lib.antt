@@ -1,4 +1,3 @@
-mod Moments
 mod FigureLemmas
 mod Repeats
 mod PlaceLemmas

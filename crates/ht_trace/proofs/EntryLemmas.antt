@@ -9,16 +9,8 @@ use Rattle.ht_trace.specs.declared.frame.Frame.{Frame}
 use Rattle.ht_trace.specs.declared.instructions.InstructionEntry.{InstructionEntry}
 use Rattle.ht_trace.specs.Instruction.{Instruction}
 use Rattle.ht_trace.specs.InstructionEntries.{AreInstructions, instruction_of, instructions_of}
+use Rattle.ht_trace.proofs.Growing.{all-push, all-weaker}
 use Rattle.ht_trace.specs.StringEntries.{AreStrings, texts_of}
-
--- what holds of each element still holds where it follows from it, also of one more
-pub all-weaker : {X : Type 0} (P Q : X → Type 0) → ((x : X) → P x → Q x) → (xs : List X) → AllByRecursion P xs → AllByRecursion Q xs
-all-weaker P Q f [] all = tt
-all-weaker P Q f (x ∷ xs) all = (f x all.0, all-weaker P Q f xs all.1)
-
-pub all-push : {X : Type 0} (P : X → Type 0) (xs : List X) (y : X) → AllByRecursion P xs → P y → AllByRecursion P (xs ++ y ∷ [])
-all-push P [] y all here = (here, tt)
-all-push P (x ∷ xs) y all here = (all.0, all-push P xs y all.1 here)
 
 -- two functions that agree where P holds give the same list
 map-agree : {X Y : Type 0} (P : X → Type 0) (f g : X → Y) → ((x : X) → P x → f x ≡ g x) → (xs : List X) → AllByRecursion P xs → map f xs ≡ map g xs

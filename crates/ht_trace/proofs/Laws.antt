@@ -1,4 +1,7 @@
--- What the crates above may cite: one more line of a trace, what it says and its fault, and what stays as tables grow.
-pub use Rattle.ht_trace.proofs.LineLemmas.{Reads, events-push, no_fault_in, reads-first, reads-later, stands-push}
+-- What the crates above may cite: one more line of a trace, what it says and its fault; lists with one more element at their end; and
+-- what stays as tables grow.
+pub use Rattle.ht_trace.proofs.Growing.{all-push, filter_map-push, gathered-push}
+pub use Rattle.ht_trace.proofs.LineLemmas.{events-push, no_fault_in, stands-push}
 pub use Rattle.ht_trace.proofs.SoundLemmas.{stack-places}
 pub use Rattle.ht_trace.proofs.StackLemmas.{frame_count_of-more}
+pub use Rattle.ht_trace.proofs.VersionLemmas.{Reads, reads-by, reads-first, reads-later}

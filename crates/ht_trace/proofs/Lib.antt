@@ -1,9 +1,11 @@
 mod EntryLemmas
 mod EventLemmas
 mod FrameLemmas
+mod Growing
 mod GrowthLemmas
 pub mod Laws
 mod LineLemmas
 mod SoundLemmas
 mod StackLemmas
 mod TextLemmas
+mod VersionLemmas

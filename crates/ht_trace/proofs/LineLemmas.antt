@@ -14,7 +14,8 @@ use Rattle.ht_lines.specs.Reading.{reading, reading_kind}
 use Rattle.live_ledger.specs.LedgerState.{HeldInfo}
 use Rattle.live_ledger.specs.declared.event.Event.{Event}
 use Rattle.ht_trace.specs.declared.step.Step.{Step}
-use Rattle.ht_trace.specs.Contents.{contents, file_version, version_in, version_of, versions}
+use Rattle.ht_trace.specs.Contents.{contents, version_of}
+use Rattle.ht_trace.specs.FormContents.{version_in}
 use Rattle.ht_trace.specs.Gathered.{gathered}
 use Rattle.ht_trace.specs.declared.error.LineError.{LineError}
 use Rattle.ht_trace.specs.LineFault.{Tells, content_fault, fault_in, line_fault_after}
@@ -24,102 +25,11 @@ use Rattle.ht_trace.specs.StateAfter.{Takes, state_after}
 use Rattle.ht_trace.specs.StepOf.{event_in, event_of, event_step, step_in}
 use Rattle.ht_trace.specs.TableState.{TableState, tables_after}
 use Rattle.ht_trace.specs.Pattern.{pattern_of, patterns_of}
-use Rattle.ht_trace.proofs.EntryLemmas.{all-push}
+use Rattle.ht_trace.proofs.Growing.{filter_map-push, first-push, gathered-push, or-none}
+use Rattle.ht_trace.proofs.VersionLemmas.{Reads, reads-by}
 use Rattle.ht_trace.specs.LedgerFits.{Grows}
 use Rattle.ht_trace.specs.TraceEvents.{events}
 use Rattle.ht_trace.specs.TraceLists.{strings, string_in, instructions, instruction_in, nodes, node_in, infos, info_in, command, command_in, patterns, pattern_in}
-
--- an element more brings what it gives after all before it
-pub gathered-push : {X Y : Type 0} (f : List X → X → Option Y) (earlier xs : List X) (x : X) → gathered f earlier (xs ++ x ∷ []) ≡ gathered f earlier xs ++ option_to_list (f (earlier ++ xs) x)
-gathered-push f earlier [] x = append-nil _ ∙ ap (λ before. option_to_list (f before x)) (sym (append-nil earlier))
-gathered-push f earlier (y ∷ ys) x =
-    let more = gathered-push f (earlier ++ y ∷ []) ys x in
-    let same = append_assoc earlier (y ∷ []) ys in
-    ap (λ rest. option_to_list (f earlier y) ++ rest) (more ∙ ap (λ before. gathered f (earlier ++ y ∷ []) ys ++ option_to_list (f before x)) same)
-    ∙ sym (append_assoc (option_to_list (f earlier y)) (gathered f (earlier ++ y ∷ []) ys) (option_to_list (f (earlier ++ y ∷ ys) x)))
-
-cons_option-nil : {Y : Type 0} (o : Option Y) → cons_option o [] ≡ option_to_list o
-cons_option-nil None = refl
-cons_option-nil (Some y) = refl
-
--- an element more at the end adds what it gives
-filter_map-push : {X Y : Type 0} (f : X → Option Y) (xs : List X) (x : X) → filter_map f (xs ++ x ∷ []) ≡ filter_map f xs ++ option_to_list (f x)
-filter_map-push f xs x = filter_map-append f xs (x ∷ []) ∙ ap (λ more. filter_map f xs ++ more) (cons_option-nil (f x))
-
--- the first of a list with one more at the end
-first-push : {Y : Type 0} (ys : List Y) (o : Option Y) → slice_get (ys ++ option_to_list o) 0 ≡ option_or (slice_get ys 0) o
-first-push [] None = refl
-first-push [] (Some y) = refl
-first-push (y ∷ ys) o = refl
-
-or-none : {Y : Type 0} (o : Option Y) → option_or o None ≡ o
-or-none None = refl
-or-none (Some y) = refl
-
--- its first byte is that of a comment or of a version line
-byte_of : (b : ℕ) → (eqb b 35 || eqb b 118) ≡ true → (b ≡ 35) ⊎ (b ≡ 118)
-byte_of b may = grind (arith, nat_tests)
-
--- a line that may stand before the version line reads alike in each file version
-reading-first : (v w : ℕ) (line : List ℕ) → may_stand_first line ≡ true → reading Interpreted v line ≡ reading Interpreted w line
-unfolding reading reading_kind
-reading-first v w [] may = absurd (false≢true may)
-reading-first v w (b ∷ rest) may = elim (byte_of b may) [ inl is ↦ rw is refl | inr is ↦ rw is refl ]
-
--- lines that may stand there
-same-readings : (v w : ℕ) (lines : List (List ℕ)) → AllByRecursion (λ line. may_stand_first line ≡ true) lines → filter_map (λ line. result_ok (reading Interpreted v line)) lines ≡ filter_map (λ line. result_ok (reading Interpreted w line)) lines
-same-readings v w [] all = refl
-same-readings v w (line ∷ lines) all =
-    ap (λ (read : Result Content Malformed). cons_option (result_ok read) (filter_map (λ line. result_ok (reading Interpreted v line)) lines)) (reading-first v w line all.0)
-    ∙ ap (λ (rest : List Content). cons_option (result_ok (reading Interpreted w line)) rest) (same-readings v w lines all.1)
-
--- how the version and the contents of lines change with one more
-pub record Reads (lines : List (List ℕ)) (line : List ℕ) (said : Content) : Type 0 where
-  pub version : version_of (lines ++ line ∷ []) ≡ option_or (version_of lines) (version_in said)
-  pub said_is : contents (lines ++ line ∷ []) ≡ contents lines ++ said ∷ []
-  pub first : is_some (version_of (lines ++ line ∷ [])) ≡ false → AllByRecursion (λ line. may_stand_first line ≡ true) (lines ++ line ∷ [])
-
--- the version of lines with one more, where the versions so far are known
-version-push : (lines : List (List ℕ)) (line : List ℕ) → version_of (lines ++ line ∷ []) ≡ option_or (version_of lines) (option_and_then version_in (result_ok (reading Interpreted 1 line)))
-version-push lines line =
-    let version_at = λ (line : List ℕ). option_and_then version_in (result_ok (reading Interpreted 1 line)) in
-    ap (λ (all : List ℕ). slice_get all 0) (filter_map-push version_at lines line) ∙ first-push (versions lines) (version_at line)
-
--- what the lines say in a file version, with one more
-readings-push : (v : ℕ) (lines : List (List ℕ)) (line : List ℕ) (said : Content) → reading Interpreted v line ≡ Ok said → filter_map (λ line. result_ok (reading Interpreted v line)) (lines ++ line ∷ []) ≡ filter_map (λ line. result_ok (reading Interpreted v line)) lines ++ said ∷ []
-readings-push v lines line said read =
-    filter_map-push (λ line. result_ok (reading Interpreted v line)) lines line
-    ∙ ap (λ (r : Result Content Malformed). filter_map (λ line. result_ok (reading Interpreted v line)) lines ++ option_to_list (result_ok r)) read
-
--- after the version line its file version stays
-pub reads-later : (version : ℕ) (lines : List (List ℕ)) (line : List ℕ) (said : Content) → version_of lines ≡ Some version → reading Interpreted version line ≡ Ok said → Reads lines line said
-reads-later version lines line said is read =
-    let same : version_of (lines ++ line ∷ []) ≡ Some version = version-push lines line ∙ ap (λ (o : Option ℕ). option_or o (option_and_then version_in (result_ok (reading Interpreted 1 line)))) is in
-    let now : file_version (lines ++ line ∷ []) ≡ version = ap (λ (o : Option ℕ). unwrap_or o 1) same in
-    let before : file_version lines ≡ version = ap (λ (o : Option ℕ). unwrap_or o 1) is in
-    record {
-      version = same ∙ sym (ap (λ (o : Option ℕ). option_or o (version_in said)) is);
-      said_is =
-          ap (λ (v : ℕ). filter_map (λ line. result_ok (reading Interpreted v line)) (lines ++ line ∷ [])) now
-          ∙ readings-push version lines line said read
-          ∙ ap (λ (v : ℕ). filter_map (λ line. result_ok (reading Interpreted v line)) lines ++ said ∷ []) (sym before);
-      first = λ none. absurd (false≢true (sym none ∙ ap (λ (o : Option ℕ). is_some o) same));
-    }
-
--- before the version line, and at it, the lines read alike in each file version
-pub reads-first : (lines : List (List ℕ)) (line : List ℕ) (said : Content) → version_of lines ≡ None → AllByRecursion (λ line. may_stand_first line ≡ true) lines → may_stand_first line ≡ true → reading Interpreted 1 line ≡ Ok said → Reads lines line said
-reads-first lines line said none before may read =
-    let all = all-push (λ (line : List ℕ). may_stand_first line ≡ true) lines line before may in
-    let one : file_version lines ≡ 1 = ap (λ (o : Option ℕ). unwrap_or o 1) none in
-    let gives = ap (λ (r : Result Content Malformed). option_or (version_of lines) (option_and_then version_in (result_ok r))) read in
-    record {
-      version = version-push lines line ∙ gives;
-      said_is =
-          same-readings (file_version (lines ++ line ∷ [])) 1 (lines ++ line ∷ []) all
-          ∙ readings-push 1 lines line said read
-          ∙ ap (λ (v : ℕ). filter_map (λ line. result_ok (reading Interpreted v line)) lines ++ said ∷ []) (sym one);
-      first = λ _. all;
-    }
 
 -- the tables with these lists
 abbrev tables_from : List (List ℕ) → Option ℕ → List Content → TableState
@@ -177,15 +87,10 @@ grown-after given version said (suppression_line bytes) = simp (append-nil, or-n
 grown-after given version said (comment_line bytes) = simp (append-nil, or-none)
 grown-after given version said (other_line bytes) = simp (append-nil, or-none)
 
--- the line is read in the file version so far, which before the version line may be any
-reads-next : (tables : TableState) (given lines : List (List ℕ)) (line : List ℕ) (said : Content) → StandsAfter tables given lines → (is_some tables.version || may_stand_first line) ≡ true → reading Interpreted (unwrap_or tables.version 1) line ≡ Ok said → Reads lines line said
+reads-next : (tables : TableState) (given lines : List (List ℕ)) (line : List ℕ) (said : Content) → StandsAfter tables given lines → (is_some tables.version || may_stand_first line) ≡ true → reading Interpreted (unwrap_or tables.version 1) line ≡ Ok said
+    → Reads Interpreted lines line said
 reads-next tables given lines line said stands may read =
-    let version = ap (λ (t : TableState). t.version) stands.tables_is in
-    by_version (tables.version) version stands.first may read
-  where
-    by_version : (v : Option ℕ) → v ≡ version_of lines → (is_some v ≡ false → AllByRecursion (λ line. may_stand_first line ≡ true) lines) → (is_some v || may_stand_first line) ≡ true → reading Interpreted (unwrap_or v 1) line ≡ Ok said → Reads lines line said
-    by_version None is first may read = reads-first lines line said (sym is) (first refl) may read
-    by_version (Some version) is first may read = reads-later version lines line said (sym is) read
+    reads-by Interpreted tables.version lines line said (ap (λ (t : TableState). t.version) stands.tables_is) stands.first may read
 
 -- a line that may stand there and says something without a fault has none
 pub no_fault_in : (tables : TableState) (said : Content) (line : List ℕ) → (is_some tables.version || may_stand_first line) ≡ true → reading Interpreted (unwrap_or tables.version 1) line ≡ Ok said → content_fault tables said ≡ None → fault_in tables line ≡ None

@@ -33,7 +33,7 @@ use Rattle.ht_trace.specs.Instruction.{Instruction, frame_count_of}
 use Rattle.ht_trace.specs.LineFault.{content_fault, frames_held, growth_fault, instruction_fault, most_entries}
 use Rattle.ht_trace.specs.Sound.{IsNamed, IsSound, IsSoundStack}
 use Rattle.ht_trace.specs.StackFrames.{frames_of, no_stack, stack_frames}
-use Rattle.ht_trace.proofs.EntryLemmas.{all-push, all-weaker}
+use Rattle.ht_trace.proofs.Growing.{all-push, all-weaker}
 use Rattle.ht_trace.proofs.GrowthLemmas.{all-at}
 use Rattle.ht_trace.proofs.StackLemmas.{frames_of-more, length-frames_of}
 

@@ -1,30 +1,17 @@
--- What the lines of a trace say, each read in the trace's file version.
-use Rattle.std.specs.Prelude.{ℕ, List, Option, Some, None, option_and_then, slice_get, unwrap_or}
-use Rattle.std.specs.Result.{result_ok}
-use Rattle.std.specs.List.{filter_map}
-use Rattle.ht_lines.specs.Content.{Content, version_line}
+-- What the lines of an interpreted trace say, each read in the trace's file version.
+use Rattle.std.specs.Prelude.{ℕ, List, Option}
+use Rattle.ht_lines.specs.Content.{Content}
 use Rattle.ht_lines.specs.declared.item.Form.TheVariants.{Interpreted}
-use Rattle.ht_lines.specs.Reading.{reading}
-
--- the file version that a version line gives
-abbrev pub version_in : Content → Option ℕ
-version_in (version_line heaptrack file) = Some file
-version_in _ = None
-
--- the file versions that the lines give; a version line reads alike in each file version
-abbrev pub versions : List (List ℕ) → List ℕ
-versions lines = filter_map
-    (λ line. option_and_then version_in (result_ok (reading Interpreted 1 line))) lines
+use Rattle.ht_trace.specs.FormContents as form
 
 -- the file version of a trace, which its first version line gives
 abbrev pub version_of : List (List ℕ) → Option ℕ
-version_of lines = slice_get (versions lines) 0
+version_of lines = form.version_of Interpreted lines
 
--- the file version in which the lines are read: before the version line stand comments alone, which read alike in each
+-- the file version in which the lines are read
 abbrev pub file_version : List (List ℕ) → ℕ
-file_version lines = unwrap_or (version_of lines) 1
+file_version lines = form.file_version Interpreted lines
 
 -- what each line says
 abbrev pub contents : List (List ℕ) → List Content
-contents lines = filter_map (λ line. result_ok (reading Interpreted (file_version lines) line))
-    lines
+contents lines = form.contents Interpreted lines

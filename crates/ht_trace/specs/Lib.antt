@@ -1,3 +1,4 @@
+pub mod FormContents
 pub mod Contents
 pub mod FramesSaid
 pub mod Instruction

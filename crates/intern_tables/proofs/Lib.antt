@@ -1,2 +1,3 @@
 mod Lists
 mod Tables
+pub mod Laws

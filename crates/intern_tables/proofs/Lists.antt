@@ -1,15 +1,12 @@
--- Lemmas on places in a list, and on a list without its repeats.
+-- Lemmas on places in a list.
 use Rattle.std.proofs.Common.{◌≡◌, ℕ, ◌+◌, Bool, true, false, not, cond, ◌||◌, List, [], ◌∷◌, ◌++◌, length, map, filter, None, Some, refl, sym, ap, ◌∙◌, subst, arith, true≢false, append-nil, length-append}
 use Rattle.std.specs.Prelude.{position, nat_lt}
-use Rattle.std.specs.Bool.{Decides}
 use Rattle.std.specs.List.{list_any, prefix_len, position_or_len}
 use Rattle.std.proofs.lemmas.Bool.{cond-true, cond-false, false_from_ne_true, ltb-true}
 use Rattle.std.proofs.lemmas.Bool.Decides.{nat_tests}
 use Rattle.std.proofs.lemmas.List.{length-map}
-use Rattle.std.proofs.lemmas.List.Elements.{filter-append}
 use Rattle.std.proofs.lemmas.List.Folds.{position_or_len_push}
 use Rattle.std.proofs.lemmas.Option.{cond_some}
-use Rattle.intern_tables.specs.WithoutRepeats.{without_repeats}
 
 -- how many elements from the front on pass, in a list that is mapped
 prefix_len-map : {X Y : Type 0} (p : Y → Bool) (f : X → Y) (xs : List X) → prefix_len p (map f xs) ≡ prefix_len (λ x. p (f x)) xs
@@ -60,58 +57,3 @@ position-push p xs y i is =
     let count = length-append xs (y ∷ []) in
     let place : position_or_len p (xs ++ y ∷ []) ≡ i = grind (arith, nat_tests) in
     grind (arith, nat_tests)
-
--- what is left of a list of the elements that differ from x has an element y exactly where the list has
-list_any-filter :
-    {X : Type 0} (same : X → X → Bool) → ((a b : X) → Decides (same a b) (a ≡ b)) → (x y : X) → same y x ≡ false
-    → (xs : List X) → list_any (same y) (filter (λ z. not (same x z)) xs) ≡ list_any (same y) xs
-list_any-filter same decides x y apart [] = refl
-list_any-filter {X} same decides x y apart (z ∷ zs) = by (list_any-filter same decides x y apart zs) (same x z) refl
-  where
-    by : list_any (same y) (filter (λ z. not (same x z)) zs) ≡ list_any (same y) zs → (b : Bool) → same x z ≡ b → list_any (same y) (cond (not b) (z ∷ filter (λ z. not (same x z)) zs) (filter (λ z. not (same x z)) zs)) ≡ (same y z || list_any (same y) zs)
-    by rest true e =
-        let is_x : x ≡ z = (decides x z).0 e in
-        let other : same y z ≡ false = subst (λ (w : X). same y w ≡ false) is_x apart in
-        rest ∙ sym (ap (λ (b : Bool). b || list_any (same y) zs) other)
-    by rest false e = ap (λ (b : Bool). same y z || b) rest
-
--- one more element is appended where it isn't there yet
-pub without_repeats-push :
-    {X : Type 0} (same : X → X → Bool) → ((a b : X) → Decides (same a b) (a ≡ b)) → (xs : List X) (y : X)
-    → without_repeats same (xs ++ y ∷ [])
-    ≡ cond (list_any (same y) (without_repeats same xs)) (without_repeats same xs) (without_repeats same xs ++ y ∷ [])
-without_repeats-push same decides [] y = refl
-without_repeats-push {X} same decides (x ∷ xs) y =
-    ap (λ (zs : List X). x ∷ filter (λ z. not (same x z)) zs) (without_repeats-push same decides xs y)
-    ∙ by (same y x) (list_any (same y) (without_repeats same xs)) refl refl
-  where
-    left_out : same x y ≡ true → filter (λ z. not (same x z)) (without_repeats same xs ++ y ∷ []) ≡ filter (λ z. not (same x z)) (without_repeats same xs)
-    left_out e =
-        filter-append (λ z. not (same x z)) (without_repeats same xs) (y ∷ [])
-        ∙ ap (λ (b : Bool). filter (λ z. not (same x z)) (without_repeats same xs) ++ cond (not b) (y ∷ []) []) e
-        ∙ append-nil (filter (λ z. not (same x z)) (without_repeats same xs))
-
-    kept : same x y ≡ false → filter (λ z. not (same x z)) (without_repeats same xs ++ y ∷ []) ≡ filter (λ z. not (same x z)) (without_repeats same xs) ++ y ∷ []
-    kept e =
-        filter-append (λ z. not (same x z)) (without_repeats same xs) (y ∷ [])
-        ∙ ap (λ (b : Bool). filter (λ z. not (same x z)) (without_repeats same xs) ++ cond (not b) (y ∷ []) []) e
-
-    flip_true : same y x ≡ true → same x y ≡ true
-    flip_true e = (decides x y).1 (sym ((decides y x).0 e))
-
-    flip_false : same y x ≡ false → same x y ≡ false
-    flip_false e = false_from_ne_true (same x y) (λ t. true≢false (sym ((decides y x).1 (sym ((decides x y).0 t))) ∙ e))
-
-    by :
-        (b c : Bool) → same y x ≡ b → list_any (same y) (without_repeats same xs) ≡ c
-        → x ∷ filter (λ z. not (same x z)) (cond c (without_repeats same xs) (without_repeats same xs ++ y ∷ []))
-        ≡ cond (b || list_any (same y) (filter (λ z. not (same x z)) (without_repeats same xs)))
-        (x ∷ filter (λ z. not (same x z)) (without_repeats same xs))
-        (x ∷ (filter (λ z. not (same x z)) (without_repeats same xs) ++ y ∷ []))
-    by true true e f = refl
-    by true false e f = ap (λ (zs : List X). x ∷ zs) (left_out (flip_true e))
-    by false true e f =
-        sym (cond-true _ (x ∷ filter (λ z. not (same x z)) (without_repeats same xs)) (x ∷ (filter (λ z. not (same x z)) (without_repeats same xs) ++ y ∷ [])) (list_any-filter same decides x y e (without_repeats same xs) ∙ f))
-    by false false e f =
-        ap (λ (zs : List X). x ∷ zs) (kept (flip_false e))
-        ∙ sym (cond-false _ (x ∷ filter (λ z. not (same x z)) (without_repeats same xs)) (x ∷ (filter (λ z. not (same x z)) (without_repeats same xs) ++ y ∷ [])) (list_any-filter same decides x y e (without_repeats same xs) ∙ f))

@@ -20,7 +20,8 @@ use Rattle.intern_tables.specs.Distinct.{AreDistinct}
 use Rattle.intern_tables.specs.Keys.{names_of}
 use Rattle.intern_tables.specs.Numbers.{name_at, number_of}
 use Rattle.intern_tables.specs.WithoutRepeats.{without_repeats}
-use Rattle.intern_tables.proofs.Lists.{position-map, list_any-map, position-none, position-end, position-push, without_repeats-push}
+use Rattle.intern_tables.proofs.Lists.{position-map, list_any-map, position-none, position-end, position-push}
+use Rattle.intern_tables.proofs.Laws.{repeats-push}
 
 -- the number of a name, from its place among the keys
 pub number_of-place : (keys : List (Vec ℕ)) (names : List (List ℕ)) (bytes : List ℕ) (place : ℕ) → names_of keys ≡ names → position (λ key. bytes_eq bytes key.items) keys ≡ Some place → number_of names bytes ≡ Some (place + 1)
@@ -156,7 +157,7 @@ grows-append names bytes distinct absent =
     repeats : (came : List (List ℕ)) → names ≡ without_repeats bytes_eq came → names ++ bytes ∷ [] ≡ without_repeats bytes_eq (came ++ bytes ∷ [])
     repeats came same =
         let P : List (List ℕ) → Type 0 = λ xs. list_any (bytes_eq bytes) xs ≡ false in
-        let push = without_repeats-push bytes_eq bytes_eq-Decides came bytes in
+        let push = repeats-push (λ (name : List ℕ). name) bytes_eq bytes_eq-Decides came bytes in
         let pick = cond-false (list_any (bytes_eq bytes) (without_repeats bytes_eq came)) (without_repeats bytes_eq came) (without_repeats bytes_eq came ++ bytes ∷ []) (subst P same absent) in
         ap (λ (xs : List (List ℕ)). xs ++ bytes ∷ []) same ∙ sym pick ∙ sym push
 
@@ -178,6 +179,6 @@ pub repeats-present : (names came : List (List ℕ)) (bytes : List ℕ) → Cont
 repeats-present names came bytes held same =
     let P : List (List ℕ) → Type 0 = λ xs. list_any (bytes_eq bytes) xs ≡ true in
     let present = subst P same (list_any-from_Contains nat_list_eq_equiv bytes names held) in
-    let push = without_repeats-push bytes_eq bytes_eq-Decides came bytes in
+    let push = repeats-push (λ (name : List ℕ). name) bytes_eq bytes_eq-Decides came bytes in
     let pick = cond-true (list_any (bytes_eq bytes) (without_repeats bytes_eq came)) (without_repeats bytes_eq came) (without_repeats bytes_eq came ++ bytes ∷ []) present in
     same ∙ sym pick ∙ sym push

@@ -28,7 +28,8 @@ use Rattle.interpret.specs.RawLedger.{blocks, freed, live_blocks}
 use Rattle.interpret.specs.RawTables.{info_number, infos, same_info}
 use Rattle.interpret.specs.SymbolLine.{Symbol}
 use Rattle.interpret.proofs.FirstLemmas.{place-within}
-use Rattle.interpret.proofs.GrowthLemmas.{gathered-push, infos-push}
+use Rattle.ht_trace.proofs.Laws.{gathered-push}
+use Rattle.interpret.proofs.GrowthLemmas.{infos-push}
 use Rattle.interpret.proofs.KeepLemmas.{Holds, holds-step, none-hold}
 use Rattle.interpret.proofs.LedgerLemmas.{all-append, alloc-event, event_behind, events-append, free-event, info-at, infos-same, interpreted-push, node-quiet, now-held, quiet-events, stays-held}
 use Rattle.interpret.proofs.PointerLemmas.{number-stays}

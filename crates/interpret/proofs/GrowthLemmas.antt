@@ -20,25 +20,10 @@ use Rattle.interpret.specs.RawTables.{KnownIp, call_in, info_in, infos, instruct
 use Rattle.interpret.specs.Resolved.{Resolved, names_called, resolved}
 use Rattle.interpret.specs.SymbolLine.{Symbol}
 use Rattle.interpret.proofs.FirstLemmas.{with-absent, with-held}
-use Rattle.interpret.proofs.RepeatLemmas.{infos-decide, ips-decide, repeats-all, repeats-push}
+use Rattle.ht_trace.proofs.Laws.{filter_map-push, gathered-push}
+use Rattle.intern_tables.proofs.Laws.{repeats-push}
+use Rattle.interpret.proofs.RepeatLemmas.{infos-decide, ips-decide, repeats-all}
 use Rattle.interpret.proofs.TakeLemmas.{resolved-ip}
-
--- an element more brings what it gives after all before it
-pub gathered-push : {X Y : Type 0} (f : List X → X → Option Y) (earlier xs : List X) (x : X) → gathered f earlier (xs ++ x ∷ []) ≡ gathered f earlier xs ++ option_to_list (f (earlier ++ xs) x)
-gathered-push f earlier [] x = append-nil _ ∙ ap (λ before. option_to_list (f before x)) (sym (append-nil earlier))
-gathered-push f earlier (y ∷ ys) x =
-    let more = gathered-push f (earlier ++ y ∷ []) ys x in
-    let same = append_assoc earlier (y ∷ []) ys in
-    ap (λ rest. option_to_list (f earlier y) ++ rest) (more ∙ ap (λ before. gathered f (earlier ++ y ∷ []) ys ++ option_to_list (f before x)) same)
-    ∙ sym (append_assoc (option_to_list (f earlier y)) (gathered f (earlier ++ y ∷ []) ys) (option_to_list (f (earlier ++ y ∷ ys) x)))
-
-cons_option-nil : {Y : Type 0} (o : Option Y) → cons_option o [] ≡ option_to_list o
-cons_option-nil None = refl
-cons_option-nil (Some y) = refl
-
--- an element more at the end adds what it gives
-pub filter_map-push : {X Y : Type 0} (f : X → Option Y) (xs : List X) (x : X) → filter_map f (xs ++ x ∷ []) ≡ filter_map f xs ++ option_to_list (f x)
-filter_map-push f xs x = filter_map-append f xs (x ∷ []) ∙ ap (λ more. filter_map f xs ++ more) (cons_option-nil (f x))
 
 pub modules-push : (said : List Content) (c : Content) → modules (said ++ c ∷ []) ≡ modules_after (modules said) c
 unfolding modules

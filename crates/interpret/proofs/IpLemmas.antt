@@ -14,7 +14,8 @@ use Rattle.interpret.specs.IpLists.{interpreted_ips, ip_of, raw_ips, raw_node_in
 use Rattle.interpret.specs.RawTables.{KnownIp, ip_number, instructions, is_numbered, known, known_of, known_with, new_call, node_in, node_of, nodes, tables_of}
 use Rattle.interpret.specs.Resolved.{Resolved}
 use Rattle.interpret.specs.SymbolLine.{Symbol}
-use Rattle.interpret.proofs.GrowthLemmas.{added, filter_map-push, known-push, nodes-push}
+use Rattle.ht_trace.proofs.Laws.{filter_map-push}
+use Rattle.interpret.proofs.GrowthLemmas.{added, known-push, nodes-push}
 use Rattle.interpret.proofs.ToldLemmas.{AreTables, known_by, known_ip, now-numbered, number-ip}
 
 map-each : {X Y : Type 0} (f g : X → Y) (xs : List X) → ((x : X) → f x ≡ g x) → map f xs ≡ map g xs

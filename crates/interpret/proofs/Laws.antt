@@ -2,5 +2,4 @@
 -- have no fault where there are no symbols.
 pub use Rattle.interpret.proofs.EventLemmas.{event-allocated, event-freed, event-none, events-none, held-none}
 pub use Rattle.interpret.proofs.RawLedgerLemmas.{held-alloc, held-free}
-pub use Rattle.interpret.proofs.GrowthLemmas.{filter_map-push, gathered-push}
 pub use Rattle.interpret.proofs.PlainLemmas.{plain-allocation, plain-node}

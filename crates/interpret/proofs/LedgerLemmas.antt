@@ -26,7 +26,8 @@ use Rattle.interpret.specs.RawContents.{IsRaw}
 use Rattle.interpret.specs.RawTables.{info_in, info_number, infos, new_call, same_info, tables_of}
 use Rattle.interpret.specs.Resolved.{Resolved, instruction_said}
 use Rattle.interpret.specs.SymbolLine.{Symbol}
-use Rattle.interpret.proofs.GrowthLemmas.{gathered-push, infos-push}
+use Rattle.ht_trace.proofs.Laws.{gathered-push}
+use Rattle.interpret.proofs.GrowthLemmas.{infos-push}
 use Rattle.interpret.proofs.PointerLemmas.{held-push}
 use Rattle.interpret.proofs.RepeatLemmas.{infos-decide}
 

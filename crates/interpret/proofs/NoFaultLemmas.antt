@@ -22,7 +22,7 @@ use Rattle.ht_trace.specs.VersionLines.{may_stand_first}
 use Rattle.ht_trace.specs.TableState.{TableState, tables_after}
 use Rattle.ht_trace.specs.TraceLists as lists
 use Rattle.ht_trace.proofs.Laws as told
-use Rattle.ht_trace.proofs.Laws.{no_fault_in}
+use Rattle.ht_trace.proofs.Laws.{gathered-push, no_fault_in}
 use Rattle.interpret.specs.Interpreted.{interpreted_lines, lines_after, lines_read}
 use Rattle.interpret.specs.InterpretedSaid.{interpreted_said, told_after}
 use Rattle.interpret.specs.InterpretedTrace.{AreInterpretable, HasFrames, HasShortTexts, interpreted_trace, lines_from}
@@ -32,10 +32,10 @@ use Rattle.interpret.specs.RawFault as raw_fault_of
 use Rattle.interpret.specs.RawFault.{raw_end_fault, raw_fault}
 use Rattle.interpret.specs.RawTables.{RawTables, infos, known, names, tables_of}
 use Rattle.interpret.specs.SymbolLine.{Symbol}
-use Rattle.interpret.proofs.GrowthLemmas.{gathered-push, infos-push, names-push, tables-push}
+use Rattle.interpret.proofs.GrowthLemmas.{infos-push, names-push, tables-push}
 use Rattle.interpret.proofs.KeepLemmas.{all-hold}
 use Rattle.interpret.proofs.ReadAgainLemmas.{AreFew, IsPassed, Stage, few-after, first-stage, good-line, has-version, no-faults, passed-reads, read-of, stage-step, version-again}
-use Rattle.interpret.proofs.StandLemmas.{raw-writable, reads-by}
+use Rattle.interpret.proofs.StandLemmas.{raw-writable}
 use Rattle.interpret.proofs.WritableLemmas.{allocation-writable, free-writable, node-writable}
 use Rattle.interpret.proofs.GoodLemmas.{AreGood, allocation-good, free-good, node-good, patterns-append, patterns-told, said_tables, suppression-good}
 
@@ -59,7 +59,7 @@ module _ (back : (n : ℕ) → n < 2 ^ 64 → parsed_hex (hexadecimal n) ≡ Som
   block-good v out (c ∷ cs) is all good none =
       let line = written v c in
       let read = reading-written back Interpreted v c all.0 in
-      let reads = told.reads-later v out line c is read in
+      let reads = told.reads-later Interpreted v out line c is read in
       let version = reads.version ∙ ap (λ (o : Option ℕ). option_or o (trace.version_in c)) is in
       let here = line-good out line c (Some v) is refl read good.0 none in
       ap (λ (l : List (List ℕ)). gathered line_fault [] l) (sym (append_assoc out (line ∷ []) (map (written v) cs)))
@@ -94,7 +94,7 @@ module _ (back : (n : ℕ) → n < 2 ^ 64 → parsed_hex (hexadecimal n) ≡ Som
   patterns-front symbols earlier (line ∷ lines) out texts short none stage =
       let parts = no-faults (raw_fault symbols earlier line) (gathered (raw_fault symbols) (earlier ++ line ∷ []) lines) none in
       let here = good-line symbols (version_of earlier) (tables_of symbols (contents earlier)) line parts.0 in
-      let reads = reads-by (version_of earlier) earlier line here.said refl stage.first here.may_stand here.read in
+      let reads = told.reads-by Raw (version_of earlier) earlier line here.said refl stage.first here.may_stand here.read in
       let one = ap (λ (l : List Content). length (lists.patterns l)) reads.said_is in
       let two = ap length (patterns-append (contents earlier) (here.said ∷ [])) in
       let three = length-append (lists.patterns (contents earlier)) (lists.patterns (here.said ∷ [])) in
@@ -151,7 +151,7 @@ module _ (back : (n : ℕ) → n < 2 ^ 64 → parsed_hex (hexadecimal n) ≡ Som
       let reads = read-of (file_version earlier) line here.said here.read in
       let writable = Reads-IsWritable Raw (file_version earlier) line here.said short.0 reads in
       let stage_now = stage-step back symbols earlier out line texts short.0 parts.0 stage in
-      let said_now = reads-by (version_of earlier) earlier line here.said refl stage.first here.may_stand here.read in
+      let said_now = told.reads-by Raw (version_of earlier) earlier line here.said refl stage.first here.may_stand here.read in
       let all : (earlier ++ line ∷ []) ++ lines ≡ earlier ++ line ∷ lines = append_assoc earlier (line ∷ []) lines in
       let rest_few : length (lists.patterns (contents ((earlier ++ line ∷ []) ++ lines))) ≤ most_entries = subst (λ (l : List (List ℕ)). length (lists.patterns (contents l)) ≤ most_entries) (sym all) few in
       let fewer = patterns-front symbols (earlier ++ line ∷ []) lines (out ++ interpreted_lines symbols earlier line) texts short.1 parts.1 stage_now in

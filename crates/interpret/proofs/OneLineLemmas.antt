@@ -17,6 +17,7 @@ use Rattle.interpret.specs.InterpretedTrace.{AreInterpretable, HasShortTexts, in
 use Rattle.interpret.specs.Modules.{LoadedModule, modules, modules_after}
 use Rattle.interpret.specs.RawBlocks.{freed_by, freed_info}
 use Rattle.interpret.specs.RawContents.{contents, file_version, version_of}
+use Rattle.ht_trace.proofs.Laws.{all-push, reads-by}
 use Rattle.interpret.specs.RawFault.{raw_fault}
 use Rattle.interpret.specs.RawTables.{infos, names, new_call, tables_of}
 use Rattle.interpret.specs.Resolved.{Resolved, instruction_said}
@@ -24,7 +25,6 @@ use Rattle.interpret.specs.SymbolLine.{Symbol}
 use Rattle.interpret.proofs.GrowthLemmas.{modules-push, names-push}
 use Rattle.interpret.proofs.LedgerLemmas.{all-append}
 use Rattle.interpret.proofs.ReadAgainLemmas.{Stage, first-stage, good-line, no-faults, read-of, stage-step}
-use Rattle.interpret.proofs.StandLemmas.{all-push, reads-by}
 use Rattle.interpret.proofs.WritableLemmas.{fresh-all}
 
 -- what is written of it
@@ -87,7 +87,7 @@ module _ (back : (n : ℕ) → n < 2 ^ 64 → parsed_hex (hexadecimal n) ≡ Som
       let parts = no-faults (raw_fault symbols earlier line) (gathered (raw_fault symbols) (earlier ++ line ∷ []) lines) none in
       let good = good-line symbols (version_of earlier) (tables_of symbols (contents earlier)) line parts.0 in
       let said_one = Reads-one_line Raw (file_version earlier) line one.0 good.said (read-of (file_version earlier) line good.said good.read) in
-      let reads = reads-by (version_of earlier) earlier line good.said refl stage.first good.may_stand good.read in
+      let reads = reads-by Raw (version_of earlier) earlier line good.said refl stage.first good.may_stand good.read in
       let here = subst (λ (r : Result Content Malformed). AllByRecursion IsOneLine (lines_read symbols (file_version earlier) (contents earlier) line r)) (sym good.read) (lines-one symbols earlier line good.said are one.0) in
       let more : AreOneLine symbols (earlier ++ line ∷ []) = record {
         texts = are.texts;

@@ -13,13 +13,14 @@ use Rattle.ht_trace.specs.LineFault.{most_entries, most_nodes}
 use Rattle.stack_table.specs.Node.{Node}
 use Rattle.stack_table.specs.Stack.{frame_count, outwards, stack_nodes}
 use Rattle.stack_table.proofs.Laws.{frame_count-newest, frame_count-older}
+use Rattle.ht_trace.proofs.Laws.{filter_map-push}
 use Rattle.interpret.specs.FirstAppearances.{with_all, with_new}
 use Rattle.interpret.specs.IpLists.{raw_node_in, raw_nodes}
 use Rattle.interpret.specs.Modules.{LoadedModule, module_of}
 use Rattle.interpret.specs.RawFault.{allocation_fault, content_fault, full_fault, node_fault}
 use Rattle.interpret.specs.RawTables.{KnownIp, RawTables, info_in, infos, instructions, ip_frames, known, known_of, known_with, names, names_with, new_call, node_in, node_of, nodes, same_info, tables_after, tables_of}
 use Rattle.interpret.specs.Resolved.{Resolved, frame_names, frames_of, names_called, resolved, resolved_in}
-use Rattle.interpret.proofs.GrowthLemmas.{added, filter_map-push, infos-push, known-push, names-push, nodes-push, tables-push}
+use Rattle.interpret.proofs.GrowthLemmas.{added, infos-push, known-push, names-push, nodes-push, tables-push}
 use Rattle.interpret.proofs.LedgerLemmas.{all-append}
 
 -- no symbol is found

@@ -9,9 +9,9 @@ use Rattle.std.proofs.lemmas.List.Elements.{filter-append}
 use Rattle.std.proofs.lemmas.List.Folds.{list_any-append}
 use Rattle.std.proofs.lemmas.List.Sums.{sum_by-append}
 use Rattle.ht_lines.specs.Content.{Content, raw_allocation_line, raw_free_line}
+use Rattle.ht_trace.proofs.Laws.{all-push, gathered-push}
 use Rattle.interpret.specs.RawBlocks.{RawBlock, freed_by, held}
 use Rattle.interpret.specs.RawLedger.{block_in, blocks, freed, is_freed, live_blocks}
-use Rattle.interpret.proofs.GrowthLemmas.{gathered-push}
 use Rattle.interpret.proofs.PointerLemmas.{held-push}
 
 -- a block stands once among others, and no other has its place
@@ -39,10 +39,6 @@ blocks-push said c = gathered-push block_in [] said c
 freed-push : (said : List Content) (c : Content) → freed (said ++ c ∷ []) ≡ freed said ++ option_to_list (freed_by said c)
 unfolding freed
 freed-push said c = gathered-push freed_by [] said c
-
-all-push : {X : Type 0} (P : X → Type 0) (xs : List X) (x : X) → AllByRecursion P xs → P x → AllByRecursion P (xs ++ x ∷ [])
-all-push P [] x all here = (here, tt)
-all-push P (y ∷ ys) x all here = (all.0, all-push P ys x all.1 here)
 
 all-more : {X : Type 0} (P Q : X → Type 0) (xs : List X) → ((x : X) → P x → Q x) → AllByRecursion P xs → AllByRecursion Q xs
 all-more P Q [] f all = tt

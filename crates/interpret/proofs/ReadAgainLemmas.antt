@@ -39,7 +39,7 @@ use Rattle.interpret.specs.SymbolLine.{Symbol}
 use Rattle.interpret.proofs.GrowthLemmas.{infos-push, modules-push, names-push, tables-push}
 use Rattle.interpret.proofs.KeepLemmas.{keeps-ledger}
 use Rattle.interpret.proofs.LedgerLemmas.{interpreted-push}
-use Rattle.interpret.proofs.StandLemmas.{all-push, raw-writable, reads-by}
+use Rattle.interpret.proofs.StandLemmas.{raw-writable}
 use Rattle.interpret.proofs.WritableLemmas.{allocation-writable, free-writable, node-writable}
 use Rattle.stack_table.specs.Stack as stacks
 
@@ -125,12 +125,6 @@ good-line symbols version tables line none = by (is_some version || may_stand_fi
     by true is none = of (reading Raw (unwrap_or version 1) line) refl is none
     by false is none = absurd (cc)
 
--- a line of the interpreted trace, read in the file version so far
-read-by : (version : Option ℕ) (out : List (List ℕ)) (line : List ℕ) (said : Content) → trace.version_of out ≡ version → (is_some version ≡ false → AllByRecursion (λ line. may_stand_first line ≡ true) out)
-    → (is_some version || may_stand_first line) ≡ true → reading Interpreted (unwrap_or version 1) line ≡ Ok said → told.Reads out line said
-read-by None out line said is first may read = told.reads-first out line said is (first refl) may read
-read-by (Some version) out line said is first may read = told.reads-later version out line said is read
-
 -- what a line that is passed on says in both forms
 abbrev pub IsPassed : Content → Type 0
 IsPassed (version_line heaptrack file) = ⊥
@@ -191,14 +185,14 @@ record SaysMore (symbols : List Symbol) (lines out : List (List ℕ)) (said : Co
 
 modules-short : (loaded : List LoadedModule) (v : ℕ) (said : Content) → AllByRecursion (λ (m : LoadedModule). length m.name < 2 ^ 64) loaded → IsWritable Raw v said → AllByRecursion (λ (m : LoadedModule). length m.name < 2 ^ 64) (modules_after loaded said)
 modules-short loaded v clear_line all writable = tt
-modules-short loaded v (module_line name start ranges) all writable = all-push (λ (m : LoadedModule). length m.name < 2 ^ 64) loaded _ all writable.0
+modules-short loaded v (module_line name start ranges) all writable = told.all-push (λ (m : LoadedModule). length m.name < 2 ^ 64) loaded _ all writable.0
 modules-short loaded v said all writable = all
 
 next-stage : (symbols : List Symbol) (lines out : List (List ℕ)) (line : List ℕ) (more : List (List ℕ)) (good : IsGoodLine symbols (version_of lines) (tables_of symbols (contents lines)) line) → length line < 2 ^ 32
     → Stage symbols lines out → SaysMore symbols lines out good.said more → Stage symbols (lines ++ line ∷ []) (out ++ more)
 next-stage symbols lines out line more good short stage says =
     let said = good.said in
-    let reads = reads-by (version_of lines) lines line said refl stage.first good.may_stand good.read in
+    let reads = told.reads-by Raw (version_of lines) lines line said refl stage.first good.may_stand good.read in
     let writable = Reads-IsWritable Raw (file_version lines) line said short (read-of (file_version lines) line said good.read) in
     record {
       version = says.version ∙ sym reads.version;
@@ -228,7 +222,7 @@ says-none symbols lines out said stage none told =
 says-one : (symbols : List Symbol) (lines out : List (List ℕ)) (said : Content) (line : List ℕ) → Stage symbols lines out → (is_some (version_of lines) || may_stand_first line) ≡ true → reading Interpreted (file_version lines) line ≡ Ok said
     → told_after symbols (contents lines) said ≡ said ∷ [] → SaysMore symbols lines out said (line ∷ [])
 says-one symbols lines out said line stage may read told =
-    let reads = read-by (version_of lines) out line said stage.version stage.first_out may read in
+    let reads = told.reads-by Interpreted (version_of lines) out line said (sym stage.version) stage.first_out may read in
     let version = reads.version ∙ ap (λ (o : Option ℕ). option_or o (trace.version_in said)) stage.version in
     record {
       version = version;
@@ -247,7 +241,7 @@ module _ (back : (n : ℕ) → n < 2 ^ 64 → parsed_hex (hexadecimal n) ≡ Som
   block-written v out [] is all = (ap (λ (l : List (List ℕ)). trace.version_of l) (append-nil out) ∙ is, ap (λ (l : List (List ℕ)). trace.contents l) (append-nil out) ∙ sym (append-nil (trace.contents out)))
   block-written v out (c ∷ cs) is all =
       let line = written v c in
-      let reads = told.reads-later v out line c is (reading-written back Interpreted v c all.0) in
+      let reads = told.reads-later Interpreted v out line c is (reading-written back Interpreted v c all.0) in
       let rest = block-written v (out ++ line ∷ []) cs (reads.version ∙ ap (λ (o : Option ℕ). option_or o (trace.version_in c)) is) all.1 in
       let lines = append_assoc out (line ∷ []) (map (written v) cs) in (
         ap (λ (l : List (List ℕ)). trace.version_of l) (sym lines) ∙ rest.0,

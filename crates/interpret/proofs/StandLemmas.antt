@@ -11,7 +11,8 @@ use Rattle.ht_lines.specs.Content.{Content, string_line, instruction_line, info_
 use Rattle.ht_lines.specs.Written.{IsWritable}
 use Rattle.ht_lines.specs.declared.item.Form.TheVariants.{Raw}
 use Rattle.ht_lines.specs.Reading.{reading, reading_kind}
-use Rattle.ht_trace.specs.Contents.{version_in}
+use Rattle.ht_trace.specs.FormContents.{version_in}
+use Rattle.ht_trace.proofs.Laws.{Reads, filter_map-push, gathered-push, reads-by}
 use Rattle.ht_trace.specs.Gathered.{gathered}
 use Rattle.ht_trace.specs.declared.error.LineError.{LineError}
 use Rattle.ht_trace.specs.LineFault.{Tells}
@@ -21,102 +22,20 @@ use Rattle.interpret.specs.FirstAppearances.{with_all}
 use Rattle.interpret.specs.Interpreted.{interpreted_lines, lines_for, lines_read, text_of}
 use Rattle.interpret.specs.InterpreterState.{InterpreterState, PointsAs, StandsFor}
 use Rattle.interpret.specs.RawBlocks.{freed_by, freed_info, held}
-use Rattle.interpret.specs.RawContents.{IsRaw, contents, file_version, version_of, versions}
+use Rattle.interpret.specs.RawContents.{IsRaw, contents, file_version, version_of}
 use Rattle.interpret.specs.RawFault.{content_fault, fault_in, raw_fault}
 use Rattle.interpret.specs.Modules.{modules}
 use Rattle.interpret.specs.RawLedger.{KeepsLedger}
 use Rattle.interpret.specs.RawTables.{RawTables, info_in, infos, instructions, known, names, nodes, same_info, tables_after, tables_of}
 use Rattle.interpret.specs.SymbolLine.{Symbol}
 use Rattle.interpret.specs.TakesLine.{HasRead, HasRefused, Takes, freed_at}
-use Rattle.interpret.proofs.GrowthLemmas.{filter_map-push, gathered-push, infos-push, tables-push}
+use Rattle.interpret.proofs.GrowthLemmas.{infos-push, tables-push}
 use Rattle.interpret.proofs.KeepLemmas.{keeps-ledger}
 use Rattle.interpret.proofs.PointerLemmas.{points-push}
 
--- each of a list with one more at its end
-pub all-push : {X : Type 0} (P : X → Type 0) (xs : List X) (x : X) → AllByRecursion P xs → P x → AllByRecursion P (xs ++ x ∷ [])
-all-push P [] x all here = (here, tt)
-all-push P (y ∷ ys) x all here = (all.0, all-push P ys x all.1 here)
-
--- the first of a list with one more at the end
-first-push : {Y : Type 0} (ys : List Y) (o : Option Y) → slice_get (ys ++ option_to_list o) 0 ≡ option_or (slice_get ys 0) o
-first-push [] None = refl
-first-push [] (Some y) = refl
-first-push (y ∷ ys) o = refl
-
--- its first byte is that of a comment or of a version line
-byte_of : (b : ℕ) → (eqb b 35 || eqb b 118) ≡ true → (b ≡ 35) ⊎ (b ≡ 118)
-byte_of b may = grind (arith, nat_tests)
-
--- a line that may stand before the version line reads alike in each file version
-reading-first : (v w : ℕ) (line : List ℕ) → may_stand_first line ≡ true → reading Raw v line ≡ reading Raw w line
-unfolding reading reading_kind
-reading-first v w [] may = absurd (false≢true may)
-reading-first v w (b ∷ rest) may = elim (byte_of b may) [ inl is ↦ rw is refl | inr is ↦ rw is refl ]
-
--- lines that may stand there
-same-readings : (v w : ℕ) (lines : List (List ℕ)) → AllByRecursion (λ line. may_stand_first line ≡ true) lines → filter_map (λ line. result_ok (reading Raw v line)) lines ≡ filter_map (λ line. result_ok (reading Raw w line)) lines
-same-readings v w [] all = refl
-same-readings v w (line ∷ lines) all =
-    ap (λ (read : Result Content Malformed). cons_option (result_ok read) (filter_map (λ line. result_ok (reading Raw v line)) lines)) (reading-first v w line all.0)
-    ∙ ap (λ (rest : List Content). cons_option (result_ok (reading Raw w line)) rest) (same-readings v w lines all.1)
-
--- how the version and the contents of lines change with one more
-pub record Reads (lines : List (List ℕ)) (line : List ℕ) (said : Content) : Type 0 where
-  pub version : version_of (lines ++ line ∷ []) ≡ option_or (version_of lines) (version_in said)
-  pub said_is : contents (lines ++ line ∷ []) ≡ contents lines ++ said ∷ []
-  pub first : is_some (version_of (lines ++ line ∷ [])) ≡ false → AllByRecursion (λ line. may_stand_first line ≡ true) (lines ++ line ∷ [])
-
--- the version of lines with one more, where the versions so far are known
-version-push : (lines : List (List ℕ)) (line : List ℕ) → version_of (lines ++ line ∷ []) ≡ option_or (version_of lines) (option_and_then version_in (result_ok (reading Raw 1 line)))
-version-push lines line =
-    let version_at = λ (line : List ℕ). option_and_then version_in (result_ok (reading Raw 1 line)) in
-    ap (λ (all : List ℕ). slice_get all 0) (filter_map-push version_at lines line) ∙ first-push (versions lines) (version_at line)
-
--- what the lines say in a file version, with one more
-readings-push : (v : ℕ) (lines : List (List ℕ)) (line : List ℕ) (said : Content) → reading Raw v line ≡ Ok said → filter_map (λ line. result_ok (reading Raw v line)) (lines ++ line ∷ []) ≡ filter_map (λ line. result_ok (reading Raw v line)) lines ++ said ∷ []
-readings-push v lines line said read =
-    filter_map-push (λ line. result_ok (reading Raw v line)) lines line
-    ∙ ap (λ (r : Result Content Malformed). filter_map (λ line. result_ok (reading Raw v line)) lines ++ option_to_list (result_ok r)) read
-
--- after the version line its file version stays
-reads-later : (version : ℕ) (lines : List (List ℕ)) (line : List ℕ) (said : Content) → version_of lines ≡ Some version → reading Raw version line ≡ Ok said → Reads lines line said
-reads-later version lines line said is read =
-    let same : version_of (lines ++ line ∷ []) ≡ Some version = version-push lines line ∙ ap (λ (o : Option ℕ). option_or o (option_and_then version_in (result_ok (reading Raw 1 line)))) is in
-    let now : file_version (lines ++ line ∷ []) ≡ version = ap (λ (o : Option ℕ). unwrap_or o 1) same in
-    let before : file_version lines ≡ version = ap (λ (o : Option ℕ). unwrap_or o 1) is in
-    record {
-      version = same ∙ sym (ap (λ (o : Option ℕ). option_or o (version_in said)) is);
-      said_is =
-          ap (λ (v : ℕ). filter_map (λ line. result_ok (reading Raw v line)) (lines ++ line ∷ [])) now
-          ∙ readings-push version lines line said read
-          ∙ ap (λ (v : ℕ). filter_map (λ line. result_ok (reading Raw v line)) lines ++ said ∷ []) (sym before);
-      first = λ none. absurd (false≢true (sym none ∙ ap (λ (o : Option ℕ). is_some o) same));
-    }
-
--- before the version line, and at it, the lines read alike in each file version
-reads-first : (lines : List (List ℕ)) (line : List ℕ) (said : Content) → version_of lines ≡ None → AllByRecursion (λ line. may_stand_first line ≡ true) lines → may_stand_first line ≡ true → reading Raw 1 line ≡ Ok said → Reads lines line said
-reads-first lines line said none before may read =
-    let all = all-push (λ (line : List ℕ). may_stand_first line ≡ true) lines line before may in
-    let one : file_version lines ≡ 1 = ap (λ (o : Option ℕ). unwrap_or o 1) none in
-    let gives = ap (λ (r : Result Content Malformed). option_or (version_of lines) (option_and_then version_in (result_ok r))) read in
-    record {
-      version = version-push lines line ∙ gives;
-      said_is =
-          same-readings (file_version (lines ++ line ∷ [])) 1 (lines ++ line ∷ []) all
-          ∙ readings-push 1 lines line said read
-          ∙ ap (λ (v : ℕ). filter_map (λ line. result_ok (reading Raw v line)) lines ++ said ∷ []) (sym one);
-      first = λ _. all;
-    }
-
--- the line is read in the file version so far, which before the version line may be any
-pub reads-by : (version : Option ℕ) (lines : List (List ℕ)) (line : List ℕ) (said : Content) → version ≡ version_of lines → (is_some version ≡ false → AllByRecursion (λ line. may_stand_first line ≡ true) lines)
-    → (is_some version || may_stand_first line) ≡ true → reading Raw (unwrap_or version 1) line ≡ Ok said → Reads lines line said
-reads-by None lines line said is first may read = reads-first lines line said (sym is) (first refl) may read
-reads-by (Some version) lines line said is first may read = reads-later version lines line said (sym is) read
-
 reads-next : (old : InterpreterState) (symbols : List Symbol) (lines : List (List ℕ)) (line : List ℕ) (said : Content) → StandsFor old symbols lines → (is_some old.version || may_stand_first line) ≡ true → reading Raw (unwrap_or old.version 1) line ≡ Ok said
-    → Reads lines line said
-reads-next old symbols lines line said stands may read = reads-by old.version lines line said stands.version stands.first may read
+    → Reads Raw lines line said
+reads-next old symbols lines line said stands may read = reads-by Raw old.version lines line said stands.version stands.first may read
 
 -- the fault of the line after the lines is that beside the state
 pub fault-is : (old : InterpreterState) (symbols : List Symbol) (lines : List (List ℕ)) (line : List ℕ) → StandsFor old symbols lines → raw_fault symbols lines line ≡ fault_in old.symbols old.version old.tables line

@@ -1,28 +1,20 @@
 -- What the lines of a raw trace say, each read in the trace's file version.
-use Rattle.std.specs.Prelude.{ℕ, List, Option, option_and_then, slice_get, unwrap_or}
-use Rattle.std.specs.Result.{result_ok}
-use Rattle.std.specs.List.{filter_map}
+use Rattle.std.specs.Prelude.{ℕ, List, Option}
 use Rattle.ht_lines.specs.Content.{Content, string_line, instruction_line, info_line, allocation_line, free_line}
 use Rattle.ht_lines.specs.declared.item.Form.TheVariants.{Raw}
-use Rattle.ht_lines.specs.Reading.{reading}
-use Rattle.ht_trace.specs.Contents.{version_in}
-
--- the file versions that the lines give; a version line reads alike in each file version
-abbrev pub versions : List (List ℕ) → List ℕ
-versions lines = filter_map (λ line. option_and_then version_in (result_ok (reading Raw 1 line)))
-    lines
+use Rattle.ht_trace.specs.FormContents as form
 
 -- the file version of a trace, which its first version line gives
 abbrev pub version_of : List (List ℕ) → Option ℕ
-version_of lines = slice_get (versions lines) 0
+version_of lines = form.version_of Raw lines
 
--- the file version in which the lines are read: before the version line stand comments alone, which read alike in each
+-- the file version in which the lines are read
 abbrev pub file_version : List (List ℕ) → ℕ
-file_version lines = unwrap_or (version_of lines) 1
+file_version lines = form.file_version Raw lines
 
 -- what each line says
 abbrev pub contents : List (List ℕ) → List Content
-contents lines = filter_map (λ line. result_ok (reading Raw (file_version lines) line)) lines
+contents lines = form.contents Raw lines
 
 -- no line of a raw trace says a string, an instruction, an info, or an allocation or a free of one
 abbrev pub IsRaw : Content → Type 0

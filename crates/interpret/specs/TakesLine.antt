@@ -4,7 +4,7 @@ use Rattle.std.specs.Option.{option_or}
 use Rattle.ht_lines.specs.Content.{Content, raw_free_line}
 use Rattle.ht_lines.specs.declared.item.Form.TheVariants.{Raw}
 use Rattle.ht_lines.specs.Reading.{reading}
-use Rattle.ht_trace.specs.Contents.{version_in}
+use Rattle.ht_trace.specs.FormContents.{version_in}
 use Rattle.ht_trace.specs.declared.error.LineError.{LineError}
 use Rattle.ht_trace.specs.declared.error.LineError.TheVariants.{NoMemory, TooMany}
 use Rattle.ht_trace.specs.LineFault.{Tells}

@@ -1,3 +1,4 @@
 mod Shares
 mod Keeping
 mod PeakLemmas
+pub mod Laws

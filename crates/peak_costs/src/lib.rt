@@ -8,6 +8,8 @@
 //! - `apply`, `grow_stack` and `grow_info` have the ledger's conditions and answers.
 //! - An event costs at most six changes of cells, which `Steps` counts, at a new peak as well: nothing is copied.
 //! - `sound` says that the shares of all stacks sum to the total, so each is within it.
+//!
+//! The crates above may cite its `proofs/Laws`: the greatest of some numbers, and the first place at which it stands.
 #![tactic(auto)]
 
 mod mark;

@@ -26,7 +26,8 @@ use Rattle.interpret.specs.IpLists.{raw_node_in, raw_nodes}
 use Rattle.interpret.specs.RawContents.{contents, version_of}
 use Rattle.interpret.specs.RawFault.{content_fault, fault_in, raw_fault, reading_fault}
 use Rattle.interpret.specs.RawTables.{RawTables, info_in, tables_of}
-use Rattle.interpret.proofs.Laws.{filter_map-push, gathered-push, plain-allocation, plain-node}
+use Rattle.ht_trace.proofs.Laws.{filter_map-push, gathered-push}
+use Rattle.interpret.proofs.Laws.{plain-allocation, plain-node}
 use Rattle.record_scripts.specs.Events.{Event, allocation, free}
 use Rattle.record_scripts.specs.ModuleLine.{is_module}
 use Rattle.record_scripts.specs.ModuleLines.{IsModuleSaid}

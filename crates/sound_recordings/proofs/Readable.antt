@@ -14,7 +14,7 @@ use Rattle.ht_lines.specs.Written.{IsWritable, written}
 use Rattle.ht_lines.specs.declared.item.Form.TheVariants.{Raw}
 use Rattle.ht_lines.specs.declared.item.Malformed.{Malformed}
 use Rattle.ht_lines.proofs.Laws.{reading-written, written-one_line}
-use Rattle.ht_trace.specs.Contents.{version_in}
+use Rattle.ht_trace.specs.FormContents.{version_in}
 use Rattle.interpret.specs.RawContents.{IsRaw, contents, version_of, versions}
 use Rattle.record_book.proofs.Laws.{line-of}
 

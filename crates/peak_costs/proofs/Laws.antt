@@ -1,4 +1,4 @@
--- That the least number at which a function is greatest is the first place of the greatest of its values.
+-- What the crates above may cite: the greatest of some numbers, and the first place at which it stands.
 use Rattle.std.proofs.Common.{◌≡◌, ◌≢◌, ℕ, ◌+◌, ◌<◌, ◌≤◌, ◌==◌, zero, suc, true, false, map, refl, ap, ◌∙◌, sym, subst, arith, eq-eqb}
 use Rattle.std.proofs.lemmas.Bool.{ne_eqb}
 use Rattle.std.specs.List.{position_or_len, range_with_len}
@@ -40,13 +40,20 @@ place_of f value (suc n) from (suc place) below is before =
     (λ k early. subst (λ i. f i ≢ value) (omega arith) (before (suc k) (omega arith))) in
     rw other (omega (arith, rest))
 
-pub moment_is : (f : ℕ → ℕ) (n moment : ℕ) → moment < n → ((k : ℕ) → k < n → f k ≤ f moment) → ((k : ℕ) → k < moment → f k < f moment)
-    → first_greatest (map f (range_with_len 0 n)) ≡ moment
-moment_is f n moment within at_most least =
+-- the greatest of the values of a function, where one stands that none is above
+pub greatest_is : (f : ℕ → ℕ) (n place : ℕ) → place < n → ((k : ℕ) → k < n → f k ≤ f place) → greatest (map f (range_with_len 0 n)) ≡ f place
+greatest_is f n place within at_most =
     let at : (k : ℕ) → f (0 + k) ≡ f k = λ k. ap f (omega arith) in
-    let most : greatest (map f (range_with_len 0 n)) ≤ f moment =
-    greatest_at_most f n 0 (f moment) (λ k below. subst (λ value. value ≤ f moment) (sym (at k)) (at_most k below)) in
-    let held : f (0 + moment) ≤ greatest (map f (range_with_len 0 n)) = greatest_at_least f n 0 moment within in
-    let value : greatest (map f (range_with_len 0 n)) ≡ f moment = omega (arith, most, held, at moment) in
-    place_of f (greatest (map f (range_with_len 0 n))) n 0 moment within (at moment ∙ sym value)
-    (λ k early same. let less : f k < f moment = least k early in omega (arith, less, same, value, at k))
+    let most : greatest (map f (range_with_len 0 n)) ≤ f place =
+    greatest_at_most f n 0 (f place) (λ k below. subst (λ value. value ≤ f place) (sym (at k)) (at_most k below)) in
+    let held : f (0 + place) ≤ greatest (map f (range_with_len 0 n)) = greatest_at_least f n 0 place within in
+    omega (arith, most, held, at place)
+
+-- and the least number that it stands at is its first place
+pub first_greatest_is : (f : ℕ → ℕ) (n place : ℕ) → place < n → ((k : ℕ) → k < n → f k ≤ f place) → ((k : ℕ) → k < place → f k < f place)
+    → first_greatest (map f (range_with_len 0 n)) ≡ place
+first_greatest_is f n place within at_most least =
+    let at : (k : ℕ) → f (0 + k) ≡ f k = λ k. ap f (omega arith) in
+    let value : greatest (map f (range_with_len 0 n)) ≡ f place = greatest_is f n place within at_most in
+    place_of f (greatest (map f (range_with_len 0 n))) n 0 place within (at place ∙ sym value)
+    (λ k early same. let less : f k < f place = least k early in omega (arith, less, same, value, at k))
