@@ -1,16 +1,11 @@
 -- What one line more adds to the lists of a trace.
-use Rattle.std.proofs.Common.{◌≡◌, ℕ, true, false, eqb, List, [], ◌∷◌, ◌++◌, Option, Some, None, Result, Ok, refl, sym, ap, ◌∙◌, ◌⊎◌, inl, inr, arith, append_assoc, append-nil, length, length-append, subst}
-use Rattle.std.specs.Prelude.{◌||◌, is_some, option_and_then, slice_get, unwrap_or}
+use Rattle.std.proofs.Common.{◌≡◌, ℕ, true, List, [], ◌∷◌, ◌++◌, Option, Some, None, Ok, refl, sym, ap, ◌∙◌, arith, append_assoc, append-nil, length, length-append, subst}
+use Rattle.std.specs.Prelude.{◌||◌, is_some, slice_get, unwrap_or}
 use Rattle.std.specs.Option.{option_or, option_to_list}
-use Rattle.std.specs.Result.{result_ok}
-use Rattle.std.specs.List.{filter_map, cons_option, AllByRecursion}
-use Rattle.std.proofs.lemmas.List.Elements.{filter_map-append}
-use Rattle.std.proofs.lemmas.Bool.{false≢true}
-use Rattle.std.proofs.lemmas.Bool.Decides.{nat_tests}
-use Rattle.ht_lines.specs.declared.item.Malformed.{Malformed}
+use Rattle.std.specs.List.{filter_map}
 use Rattle.ht_lines.specs.Content.{Content, version_line, executable_line, command_line, system_line, string_line, clear_line, module_line, instruction_line, node_line, info_line, allocation_line, free_line, raw_allocation_line, raw_free_line, clock_line, resident_line, attached_line, suppression_line, comment_line, other_line}
 use Rattle.ht_lines.specs.declared.item.Form.TheVariants.{Interpreted}
-use Rattle.ht_lines.specs.Reading.{reading, reading_kind}
+use Rattle.ht_lines.specs.Reading.{reading}
 use Rattle.live_ledger.specs.LedgerState.{HeldInfo}
 use Rattle.live_ledger.specs.declared.event.Event.{Event}
 use Rattle.ht_trace.specs.declared.step.Step.{Step}

@@ -1,6 +1,5 @@
-use Rattle.std.proofs.Common.{Option, ℕ, length, sym, ap, ◌∙◌, arith}
+use Rattle.std.proofs.Common.{Option, ℕ, ap, arith}
 use Rattle.std.specs.Prelude.{unwrap_or}
-use Rattle.ht_trace.specs.StackFrames.{frames_of}
 use Rattle.ht_trace.proofs.StackLemmas.{length-frames_of}
 use Rattle.ht_trace.proofs.stack_frames.replace_by_instruction.Goals as goal
 
