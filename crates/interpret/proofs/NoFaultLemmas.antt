@@ -15,6 +15,7 @@ use Rattle.ht_lines.proofs.Laws.{Reads-IsWritable, reading-item, reading-written
 use Rattle.ht_trace.specs.declared.error.LineError.{LineError}
 use Rattle.ht_trace.specs.declared.error.LineError.TheVariants.{NoVersion}
 use Rattle.ht_trace.specs.Contents as trace
+use Rattle.ht_trace.specs.FormContents.{version_in}
 use Rattle.ht_trace.specs.Gathered.{gathered}
 use Rattle.ht_trace.specs.LineFault as of_trace
 use Rattle.ht_trace.specs.LineFault.{end_fault, line_fault, most_entries}
@@ -60,7 +61,7 @@ module _ (back : (n : ℕ) → n < 2 ^ 64 → parsed_hex (hexadecimal n) ≡ Som
       let line = written v c in
       let read = reading-written back Interpreted v c all.0 in
       let reads = told.reads-later Interpreted v out line c is read in
-      let version = reads.version ∙ ap (λ (o : Option ℕ). option_or o (trace.version_in c)) is in
+      let version = reads.version ∙ ap (λ (o : Option ℕ). option_or o (version_in c)) is in
       let here = line-good out line c (Some v) is refl read good.0 none in
       ap (λ (l : List (List ℕ)). gathered line_fault [] l) (sym (append_assoc out (line ∷ []) (map (written v) cs)))
       ∙ block-good v (out ++ line ∷ []) cs version all.1 (subst (λ (l : List Content). AreGood (Some v) l cs) (sym reads.said_is) good.1) here

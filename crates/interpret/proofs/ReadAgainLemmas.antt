@@ -19,11 +19,12 @@ use Rattle.ht_lines.proofs.Laws.{Reads-IsWritable, reading-item, reading-sides, 
 use Rattle.ht_trace.specs.declared.error.LineError.{LineError}
 use Rattle.ht_trace.specs.declared.error.LineError.TheVariants.{NoVersion, SecondVersion, TooDeep, TooMany, UnknownParent, UnknownTrace}
 use Rattle.ht_trace.specs.Contents as trace
+use Rattle.ht_trace.specs.FormContents.{version_in}
 use Rattle.ht_trace.specs.Gathered.{gathered}
 use Rattle.ht_trace.specs.LineFault.{most_entries, most_nodes}
 use Rattle.ht_trace.specs.VersionLines.{may_stand_first}
 use Rattle.ht_trace.specs.TraceEvents.{events}
-use Rattle.ht_trace.proofs.Laws as told
+use Rattle.ht_trace.proofs.Laws.{all-push, reads-by, reads-later}
 use Rattle.stack_table.specs.Node.{Node}
 use Rattle.interpret.specs.FirstAppearances.{over_fault}
 use Rattle.interpret.specs.Interpreted.{interpreted_lines, lines_after, lines_read}
@@ -179,20 +180,20 @@ pub record Stage (symbols : List Symbol) (lines out : List (List ℕ)) : Type 0 
 
 -- more of them say more
 record SaysMore (symbols : List Symbol) (lines out : List (List ℕ)) (said : Content) (more : List (List ℕ)) : Type 0 where
-  version : trace.version_of (out ++ more) ≡ option_or (version_of lines) (trace.version_in said)
+  version : trace.version_of (out ++ more) ≡ option_or (version_of lines) (version_in said)
   told : trace.contents (out ++ more) ≡ trace.contents out ++ told_after symbols (contents lines) said
-  first : is_some (option_or (version_of lines) (trace.version_in said)) ≡ false → AllByRecursion (λ line. may_stand_first line ≡ true) (out ++ more)
+  first : is_some (option_or (version_of lines) (version_in said)) ≡ false → AllByRecursion (λ line. may_stand_first line ≡ true) (out ++ more)
 
 modules-short : (loaded : List LoadedModule) (v : ℕ) (said : Content) → AllByRecursion (λ (m : LoadedModule). length m.name < 2 ^ 64) loaded → IsWritable Raw v said → AllByRecursion (λ (m : LoadedModule). length m.name < 2 ^ 64) (modules_after loaded said)
 modules-short loaded v clear_line all writable = tt
-modules-short loaded v (module_line name start ranges) all writable = told.all-push (λ (m : LoadedModule). length m.name < 2 ^ 64) loaded _ all writable.0
+modules-short loaded v (module_line name start ranges) all writable = all-push (λ (m : LoadedModule). length m.name < 2 ^ 64) loaded _ all writable.0
 modules-short loaded v said all writable = all
 
 next-stage : (symbols : List Symbol) (lines out : List (List ℕ)) (line : List ℕ) (more : List (List ℕ)) (good : IsGoodLine symbols (version_of lines) (tables_of symbols (contents lines)) line) → length line < 2 ^ 32
     → Stage symbols lines out → SaysMore symbols lines out good.said more → Stage symbols (lines ++ line ∷ []) (out ++ more)
 next-stage symbols lines out line more good short stage says =
     let said = good.said in
-    let reads = told.reads-by Raw (version_of lines) lines line said refl stage.first good.may_stand good.read in
+    let reads = reads-by Raw (version_of lines) lines line said refl stage.first good.may_stand good.read in
     let writable = Reads-IsWritable Raw (file_version lines) line said short (read-of (file_version lines) line said good.read) in
     record {
       version = says.version ∙ sym reads.version;
@@ -209,9 +210,9 @@ next-stage symbols lines out line more good short stage says =
     }
 
 -- no more lines
-says-none : (symbols : List Symbol) (lines out : List (List ℕ)) (said : Content) → Stage symbols lines out → trace.version_in said ≡ None → told_after symbols (contents lines) said ≡ [] → SaysMore symbols lines out said []
+says-none : (symbols : List Symbol) (lines out : List (List ℕ)) (said : Content) → Stage symbols lines out → version_in said ≡ None → told_after symbols (contents lines) said ≡ [] → SaysMore symbols lines out said []
 says-none symbols lines out said stage none told =
-    let same : option_or (version_of lines) (trace.version_in said) ≡ version_of lines = ap (λ (o : Option ℕ). option_or (version_of lines) o) none ∙ or-none (version_of lines) in
+    let same : option_or (version_of lines) (version_in said) ≡ version_of lines = ap (λ (o : Option ℕ). option_or (version_of lines) o) none ∙ or-none (version_of lines) in
     record {
       version = ap (λ (l : List (List ℕ)). trace.version_of l) (append-nil out) ∙ (stage.version ∙ sym same);
       told = ap (λ (l : List (List ℕ)). trace.contents l) (append-nil out) ∙ sym (ap (λ (l : List Content). trace.contents out ++ l) told ∙ append-nil (trace.contents out));
@@ -222,8 +223,8 @@ says-none symbols lines out said stage none told =
 says-one : (symbols : List Symbol) (lines out : List (List ℕ)) (said : Content) (line : List ℕ) → Stage symbols lines out → (is_some (version_of lines) || may_stand_first line) ≡ true → reading Interpreted (file_version lines) line ≡ Ok said
     → told_after symbols (contents lines) said ≡ said ∷ [] → SaysMore symbols lines out said (line ∷ [])
 says-one symbols lines out said line stage may read told =
-    let reads = told.reads-by Interpreted (version_of lines) out line said (sym stage.version) stage.first_out may read in
-    let version = reads.version ∙ ap (λ (o : Option ℕ). option_or o (trace.version_in said)) stage.version in
+    let reads = reads-by Interpreted (version_of lines) out line said (sym stage.version) stage.first_out may read in
+    let version = reads.version ∙ ap (λ (o : Option ℕ). option_or o (version_in said)) stage.version in
     record {
       version = version;
       told = reads.said_is ∙ ap (λ (l : List Content). trace.contents out ++ l) (sym told);
@@ -241,8 +242,8 @@ module _ (back : (n : ℕ) → n < 2 ^ 64 → parsed_hex (hexadecimal n) ≡ Som
   block-written v out [] is all = (ap (λ (l : List (List ℕ)). trace.version_of l) (append-nil out) ∙ is, ap (λ (l : List (List ℕ)). trace.contents l) (append-nil out) ∙ sym (append-nil (trace.contents out)))
   block-written v out (c ∷ cs) is all =
       let line = written v c in
-      let reads = told.reads-later Interpreted v out line c is (reading-written back Interpreted v c all.0) in
-      let rest = block-written v (out ++ line ∷ []) cs (reads.version ∙ ap (λ (o : Option ℕ). option_or o (trace.version_in c)) is) all.1 in
+      let reads = reads-later Interpreted v out line c is (reading-written back Interpreted v c all.0) in
+      let rest = block-written v (out ++ line ∷ []) cs (reads.version ∙ ap (λ (o : Option ℕ). option_or o (version_in c)) is) all.1 in
       let lines = append_assoc out (line ∷ []) (map (written v) cs) in (
         ap (λ (l : List (List ℕ)). trace.version_of l) (sym lines) ∙ rest.0,
         ap (λ (l : List (List ℕ)). trace.contents l) (sym lines) ∙ (rest.1 ∙ (ap (λ (l : List Content). l ++ cs) reads.said_is ∙ append_assoc (trace.contents out) (c ∷ []) cs)),
@@ -253,7 +254,7 @@ module _ (back : (n : ℕ) → n < 2 ^ 64 → parsed_hex (hexadecimal n) ≡ Som
   says-block symbols lines out said v cs stage is told all =
       let version : file_version lines ≡ v = ap (λ (o : Option ℕ). unwrap_or o 1) is in
       let block = block-written v out cs (stage.version ∙ is) all in
-      let some : option_or (version_of lines) (trace.version_in said) ≡ Some v = ap (λ (o : Option ℕ). option_or o (trace.version_in said)) is in
+      let some : option_or (version_of lines) (version_in said) ≡ Some v = ap (λ (o : Option ℕ). option_or o (version_in said)) is in
       subst (λ (n : ℕ). SaysMore symbols lines out said (map (written n) cs)) (sym version)
       (record {
         version = block.0 ∙ sym some;

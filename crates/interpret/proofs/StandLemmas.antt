@@ -1,18 +1,15 @@
 -- That an interpreter stands for one line more.
-use Rattle.std.proofs.Common.{◌≡◌, ℕ, true, false, eqb, List, [], ◌∷◌, ◌++◌, Option, Some, None, Result, Ok, refl, sym, ap, ◌∙◌, ◌⊎◌, inl, inr, arith, append-nil, subst}
-use Rattle.std.specs.Prelude.{◌||◌, is_some, option_and_then, slice_get, unwrap_or}
+use Rattle.std.proofs.Common.{◌≡◌, ℕ, true, List, [], ◌∷◌, ◌++◌, Option, None, Result, Ok, refl, sym, ap, ◌∙◌, append-nil, subst}
+use Rattle.std.specs.Prelude.{◌||◌, is_some, unwrap_or}
 use Rattle.std.specs.Option.{option_or, option_to_list}
-use Rattle.std.specs.Result.{result_ok}
-use Rattle.std.specs.List.{filter_map, cons_option, AllByRecursion}
-use Rattle.std.proofs.lemmas.Bool.{false≢true}
-use Rattle.std.proofs.lemmas.Bool.Decides.{nat_tests}
+use Rattle.std.specs.List.{AllByRecursion}
 use Rattle.ht_lines.specs.declared.item.Malformed.{Malformed}
 use Rattle.ht_lines.specs.Content.{Content, string_line, instruction_line, info_line, allocation_line, free_line, raw_free_line}
 use Rattle.ht_lines.specs.Written.{IsWritable}
 use Rattle.ht_lines.specs.declared.item.Form.TheVariants.{Raw}
-use Rattle.ht_lines.specs.Reading.{reading, reading_kind}
+use Rattle.ht_lines.specs.Reading.{reading}
 use Rattle.ht_trace.specs.FormContents.{version_in}
-use Rattle.ht_trace.proofs.Laws.{Reads, filter_map-push, gathered-push, reads-by}
+use Rattle.ht_trace.proofs.Laws.{Reads, all-push, gathered-push, reads-by}
 use Rattle.ht_trace.specs.Gathered.{gathered}
 use Rattle.ht_trace.specs.declared.error.LineError.{LineError}
 use Rattle.ht_trace.specs.LineFault.{Tells}
