@@ -25,12 +25,12 @@
 //!   pattern by its number, and `suppressions` their count.
 //! - `may_stand_first` says whether a line may stand before the version line; it holds of raw traces as well.
 //!
-//! The crates above may cite its `proofs/Laws`: what one more line says and its fault, and what stays as tables grow. The
-//! tests of these calls are in the crate `ht_trace_tests`.
+//! The crates above may cite its `proofs/Laws`: what one more line of either form says and its fault, and what stays as tables
+//! grow. The tests of these calls are in the crate `ht_trace_tests`.
 //!
 //! | File | Does |
 //! |---|---|
-//! | `tables.rt` | the tables, and what each line adds to them or why it is refused |
+//! | `tables.rt`, `tables/kinds.rt`, `tables/frames.rt` | the tables; what each kind of line adds or why it is refused; frames |
 //! | `version_lines.rt` | which lines may stand before the version line, of both forms of trace |
 //! | `strings.rt`, `instructions.rt`, `infos.rt`, `patterns.rt` | one table each; the nodes are `stack_table`'s |
 //! | `push_frames.rt` | the frames of an instruction line |
