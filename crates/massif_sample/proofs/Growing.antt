@@ -1,5 +1,5 @@
 -- A sampler whose tables grow: it stands for the same events, since what it keeps is of stacks that were there before.
-use Rattle.std.proofs.Common.{◌≡◌, ℕ, zero, suc, ◌+◌, ◌-◌, ◌<◌, ◌≤◌, ◌^◌, List, [], ◌∷◌, ◌++◌, length, map, drop, get_or, eqb, take, ◌⊎◌, inl, inr, Bool, true, false, cond, Option, Some, refl, ap, sym, subst, ◌∙◌, arith}
+use Rattle.std.proofs.Common.{◌≡◌, ℕ, zero, suc, ◌+◌, ◌<◌, ◌≤◌, List, [], ◌∷◌, ◌++◌, length, map, drop, get_or, eqb, take, inl, inr, Bool, true, false, cond, Option, Some, refl, ap, sym, subst, ◌∙◌, arith}
 use Rattle.std.proofs.lemmas.Bool.{cases_lt}
 use Rattle.std.specs.Prelude.{All, slice_get, sum_by}
 use Rattle.std.specs.List.{AllByRecursion, list_any, prefix_len, range_with_len}

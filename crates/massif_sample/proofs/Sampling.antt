@@ -26,7 +26,7 @@ use Rattle.massif_sample.specs.declared.running.Running.{Running}
 use Rattle.massif_sample.specs.FunctionNames.{FunctionNames, ignores}
 use Rattle.massif_sample.specs.Running.{AreFigures, no_figures}
 use Rattle.massif_sample.specs.SamplesState.{SamplesState}
-use Rattle.massif_sample.specs.StandsFor.{AreCostsAt, AreFronts, AreOfStacks, AreSnapshots, IsOfStack, IsSampling, WhereTree}
+use Rattle.massif_sample.specs.StandsFor.{AreCostsAt, AreFronts, AreOfStacks, IsOfStack, IsSampling, WhereTree}
 use Rattle.massif_sample.specs.Counted.{counts}
 use Rattle.massif_sample.specs.Snapshots.{cost_at, shows_tree}
 use Rattle.massif_sample.proofs.Figures.{figures-none}

@@ -1,26 +1,12 @@
 -- The tree of the present place, and when one is taken.
-use Rattle.std.proofs.Common.{◌≡◌, ◌≢◌, ℕ, ◌+◌, ◌≤◌, ◌^◌, List, length, Bool, true, false, cond, sum, refl, ap, subst, ◌∙◌}
+use Rattle.std.proofs.Common.{◌≡◌, ◌≢◌, ◌+◌, Bool, true, false, cond, refl, subst, ◌∙◌}
 use Rattle.std.specs.Prelude.{◌==◌, ◌%◌, nat_le, nat_lt, Result, Ok, Err, IfOk, OnErr, OnOk}
-use Rattle.cost_tree.specs.Costed.{costed}
-use Rattle.ht_trace.specs.TableState.{TableState}
-use Rattle.live_ledger.specs.declared.event.Event.{Event}
-use Rattle.live_ledger.specs.Events.{event_count}
 use Rattle.massif_cull.specs.declared.snapshot.Offer.{Offer}
 use Rattle.massif_cull.specs.declared.snapshot.Taken.{Taken}
 use Rattle.massif_cull.specs.declared.snapshot.Taken.TheVariants.{No, Normal, Detailed, Peak}
 use Rattle.massif_cull.specs.Kept.{Kept, Settings}
 use Rattle.massif_cull.specs.TakenAs.{next_time_after, peak_bound, taken_as}
-use Rattle.massif_file.specs.TreeLine.{TreeLine}
-use Rattle.massif_tree.specs.FunctionLists.{trimmed_before, trimmed_lists}
-use Rattle.massif_tree.specs.MassifTree.{massif_tree}
-use Rattle.massif_sample.specs.declared.options.MassifOptions.{MassifOptions}
-use Rattle.massif_sample.specs.declared.running.Running.{Running}
 use Rattle.massif_sample.specs.Due.{with_tree}
-use Rattle.massif_sample.specs.FunctionNames.{FunctionNames, ignores}
-use Rattle.massif_sample.specs.Options.{tree_options}
-use Rattle.massif_sample.specs.Places.{gross_at}
-use Rattle.massif_sample.specs.Running.{AreFigures}
-use Rattle.massif_sample.specs.Snapshots.{costs_at, tree_at}
 
 -- what is taken, and not as a normal snapshot, has a tree: a peak where it was offered as one, and else it is detailed
 pub taken-with_tree : (settings : Settings) (kept : Kept) (offer : Offer) (taken : Taken) → taken ≡ taken_as settings kept offer → taken ≢ No → taken ≢ Normal → taken_as settings kept offer ≡ with_tree offer.peak

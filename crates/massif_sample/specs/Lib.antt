@@ -19,3 +19,4 @@ pub mod LiveCosts
 pub mod Padded
 pub mod Made
 pub mod HasApplied
+pub mod Taking

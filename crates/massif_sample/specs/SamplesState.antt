@@ -1,5 +1,5 @@
 -- What contracts see of the snapshots of a trace, and what is true of them.
-use Rattle.std.specs.Prelude.{◌≡◌, ℕ, ◌^◌, ◌≤◌, Bool, List}
+use Rattle.std.specs.Prelude.{◌≡◌, ℕ, ◌≤◌, Bool, List}
 use Rattle.cost_history.specs.HistoryState.{HistoryState}
 use Rattle.massif_cull.specs.ArrayState.{ArrayState}
 use Rattle.massif_cull.specs.Entries.{last_time}

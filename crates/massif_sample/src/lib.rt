@@ -25,9 +25,11 @@
 //!
 //! | File | Does |
 //! |---|---|
-//! | `sampler.rt`, `taking.rt` | the sampler; how one event is taken |
+//! | `sampler.rt`, `taking.rt`, `offering.rt` | the sampler; how one event is taken; how a snapshot of a place is offered |
+//! | `stacks.rt` | what is known of the stacks where an event comes |
 //! | `running.rt` | the figures that grow with each event |
-//! | `samples.rt`, `load.rt` | the snapshots that are kept and what their stacks cost; what each shows beside its time and its total |
+//! | `samples.rt`, `tree_places.rt` | the snapshots that are kept and what their stacks cost; which of them have trees |
+//! | `load.rt` | what a snapshot shows beside its time and its total |
 //! | `profile.rt`, `place_tree.rt` | the profile that the kept snapshots make; the tree of one of them |
 //! | `options.rt`, `fault.rt` | what is asked; why an event isn't taken |
 //! | `laws.rt` | the laws |
@@ -36,13 +38,16 @@
 mod fault;
 mod laws;
 mod load;
+mod offering;
 mod options;
 mod place_tree;
 mod profile;
 mod running;
 mod sampler;
 mod samples;
+mod stacks;
 mod taking;
+mod tree_places;
 
 pub use fault::SampleFault;
 pub use laws::{rounded_sizes, sampling_goes_on};

@@ -16,9 +16,11 @@ ghost use Rattle.massif_sample.specs.Sampled.{sampled};
 ghost use Rattle.massif_sample.specs.StandsFor.{AreJudged, StandsFor};
 
 use crate::fault::SampleFault;
+use crate::offering::sample;
 use crate::options::MassifOptions;
 use crate::samples::Samples;
-use crate::taking::{sample, take_event};
+use crate::stacks::Stacks;
+use crate::taking::take_event;
 use cost_tree::FrameTest;
 use hp_num::NoMemory;
 use ht_trace::{FrameAt, Tables};
@@ -170,15 +172,12 @@ impl<A: Fn(&[u8]) -> bool, I: Fn(&[u8]) -> bool> Sampler<A, I> {
         if self.samples.has_failed() {
             return Err(SampleFault::NoMemory);
         }
-        let answer = take_event(
-            &mut self.samples,
-            &self.judged,
-            event,
-            ledger,
+        let stacks = Stacks {
+            judged: &self.judged,
             tables,
-            &self.alloc_fns,
-        );
-        match answer {
+            alloc_fns: &self.alloc_fns,
+        };
+        match take_event(&mut self.samples, &stacks, event, ledger) {
             Ok(()) => Ok(()),
             Err(SampleFault::Event(fault)) => Err(SampleFault::Event(fault)),
             Err(SampleFault::NoMemory) => {

@@ -1,6 +1,6 @@
 //! The snapshots that are kept of a trace, with the figures that the next one would have.
 //! What a tree says, and which stacks are ignored, are no part of it.
-ghost use Rattle.std.specs.Prelude.{◌≡◌, ◌⊎◌, ℕ, ◌+◌, ◌-◌, ◌^◌, ◌<◌, ◌≤◌, List, [], ◌∷◌, ◌++◌, true, false, length, slice_get, Contains, Some, IfNone, IfOk, IfSome, IsErr, OnOk};
+ghost use Rattle.std.specs.Prelude.{◌≡◌, ◌⊎◌, ℕ, ◌+◌, ◌-◌, ◌^◌, ◌<◌, ◌≤◌, List, [], ◌∷◌, ◌++◌, true, false, length, IfNone, IfOk, IfSome, IsErr, OnOk};
 ghost use Rattle.std.specs.Fn.{FnReturnsAt};
 ghost use Rattle.cost_history.specs.Changes as history;
 ghost use Rattle.cost_history.specs.Marks.{candidates};
@@ -11,7 +11,6 @@ ghost use Rattle.live_ledger.specs.declared.event.Event.{Event};
 ghost use Rattle.live_ledger.specs.Events.{event_count};
 ghost use Rattle.massif_cull.specs.declared.snapshot.Offer.{Offer};
 ghost use Rattle.massif_cull.specs.declared.snapshot.Taken.TheVariants.{No, Normal};
-ghost use Rattle.massif_cull.specs.declared.snapshot.SnapEntry.{SnapEntry};
 ghost use Rattle.massif_cull.specs.ArrayState as array;
 ghost use Rattle.massif_cull.specs.KeptOf.{kept_of};
 ghost use Rattle.massif_cull.specs.TakenAs.{taken_as};
@@ -21,7 +20,7 @@ ghost use Rattle.massif_sample.specs.Made.{profile_made};
 ghost use Rattle.massif_sample.specs.Options.{AreInRange, settings_of, tree_options};
 ghost use Rattle.massif_sample.specs.Running.{AreFigures, Follows, HasBlock, no_figures, passed, passes_most, ticked, with_alloc, with_free};
 ghost use Rattle.massif_sample.specs.SamplesState.{IsSound};
-ghost use Rattle.massif_sample.specs.Snapshots.{cost_at, shows_tree};
+ghost use Rattle.massif_sample.specs.Snapshots.{cost_at};
 ghost use Rattle.massif_sample.specs.StandsFor.{AreCostsAt, IsIn, IsOfStack, IsSampling};
 ghost use Rattle.massif_sample.specs.View.{offer_of};
 
@@ -29,11 +28,12 @@ use crate::load::Load;
 use crate::options::MassifOptions;
 use crate::profile::{description, shown_command, take_snaps};
 use crate::running::Running;
+use crate::tree_places::tree_places;
 use cost_history::CostHistory;
 use cost_tree::{FrameTest, Fronts};
 use hp_num::NoMemory;
 use ht_trace::Tables;
-use massif_cull::{Kind, Offer, SnapArray, SnapEntry, Taken};
+use massif_cull::{Offer, SnapArray, Taken};
 use massif_file::Profile;
 use massif_tree::{TreeOptions, add_trimmed};
 use std::alloc::Global;
@@ -373,44 +373,6 @@ impl Samples {
             unit: options.unit,
             snaps,
         })
-    }
-}
-
-/// The places of the snapshots that have a tree, or `NoMemory`.
-fn tree_places(alloc: Global, array: &SnapArray<Load>) -> Result<Vec<u64>, NoMemory>
-    ensures { IfOk result
-        (λ places. (k : ℕ) (entry : SnapEntry) → slice_get array.now.kept.entries k ≡ Some entry
-        → shows_tree entry.kind ≡ true → Contains places.items entry.place) }
-{
-    let mut entries = Vec::with_capacity(alloc, array.len() as usize)?;
-    array.entries_into(&mut entries);
-    places_with_tree(alloc, &entries)
-}
-
-/// Those of the entries that have one.
-fn places_with_tree(alloc: Global, entries: &[SnapEntry]) -> Result<Vec<u64>, NoMemory>
-    ensures { IfOk result
-        (λ places. (k : ℕ) (entry : SnapEntry) → slice_get entries.now k ≡ Some entry
-        → shows_tree entry.kind ≡ true → Contains places.items entry.place) }
-{
-    let mut places = Vec::new(alloc);
-    'entries: for entry in entries {
-        if !has_tree(entry.kind) {
-            continue;
-        }
-        places.push(entry.place)?;
-    }
-    Ok(places)
-}
-
-/// Whether a snapshot of the kind has a tree.
-fn has_tree(kind: Kind) -> bool
-    ensures { result ≡ shows_tree kind }
-{
-    match kind {
-        Kind::Normal => false,
-        Kind::Detailed => true,
-        Kind::Peak => true,
     }
 }
 

@@ -1,4 +1,4 @@
-use Rattle.std.proofs.Common.{◌≡◌, ℕ, ◌≤◌, ◌^◌, true, List, length, ap, sym, ◌∙◌, arith, rules}
+use Rattle.std.proofs.Common.{◌≡◌, ℕ, ◌≤◌, ◌^◌, List, length, ap, sym, ◌∙◌, arith, rules}
 use Rattle.std.specs.Prelude.{Some, slice_index_or, sum}
 use Rattle.std.proofs.lemmas.Result.{IfOk-weaker}
 use Rattle.cost_tree.specs.Costed.{costed}

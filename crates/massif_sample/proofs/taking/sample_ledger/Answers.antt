@@ -1,4 +1,4 @@
-use Rattle.std.proofs.Common.{◌≡◌, ℕ, ◌+◌, ◌<◌, length, arith, rules, ◌∙◌}
+use Rattle.std.proofs.Common.{◌≡◌, ◌<◌, length, arith, rules, ◌∙◌}
 use Rattle.std.proofs.lemmas.Result.{on_ok_weaker}
 use Rattle.live_ledger.specs.Events.{event_count}
 use Rattle.massif_sample.specs.FunctionNames.{ignores}
@@ -9,7 +9,7 @@ use Rattle.massif_sample.proofs.taking.sample_ledger.Goals as goal
 
 pub sample-requires-clause-cost_callable : goal.sample-requires-clause-cost_callable
 sample-requires-clause-cost_callable g c = λ stack below.
-    let held : stack < length c.args.judged.now = omega arith in
+    let held : stack < length c.args.stacks.now.judged.now = omega arith in
     let inside : stack < c.args.ledger.now.stacks = omega arith in
     search rules
 
@@ -20,9 +20,9 @@ returns-clause-sampling g c =
     sampled names events made texts
     (record {
       said = λ stack says below answered.
-          (let cost : says ≡ live_cost c.args.judged.now c.args.ledger.now stack = search rules in
-          cost ∙ live_cost-is c.args.judged.now c.args.ledger.now names c.args.tables.now events stack judged (omega arith) stands);
-      none = λ stack beyond. cost-none c.args.tables.now (ignores c.args.tables.now names) events (event_count events) stack (omega arith) (of-stacks c.args.tables.now events was.stacks);
+          (let cost : says ≡ live_cost c.args.stacks.now.judged.now c.args.ledger.now stack = search rules in
+          cost ∙ live_cost-is c.args.stacks.now.judged.now c.args.ledger.now names c.args.stacks.now.tables.now events stack judged (omega arith) stands);
+      none = λ stack beyond. cost-none c.args.stacks.now.tables.now (ignores c.args.stacks.now.tables.now names) events (event_count events) stack (omega arith) (of-stacks c.args.stacks.now.tables.now events was.stacks);
     })
     was)
     c.sample.ensures.sampling

@@ -14,63 +14,63 @@ use Rattle.massif_sample.proofs.Standing.{due-alloc, fault-counted, fault-passed
 use Rattle.massif_sample.proofs.Trees.{at_ok, both_ok, of_err}
 use Rattle.massif_sample.proofs.taking.take_alloc.Goals as goal
 
-pub returns-then-judged-stack-clause-stands : goal.returns-then-judged-stack-clause-stands
-returns-then-judged-stack-clause-stands g c =
-    let flag : slice_index_or c.args.judged.now c.args.stack false ≡ true = search rules in
+pub returns-then-stacks-stack-clause-stands : goal.returns-then-stacks-stack-clause-stands
+returns-then-stacks-stack-clause-stands g c =
+    let flag : slice_index_or c.args.stacks.now.judged.now c.args.stack false ≡ true = search rules in
     let held : c.args.stack < c.args.ledger.now.stacks = c.in_ok-check.ensures.sound.stack_held c.args.info _ c.requires.held in
     at_ok c.pass.result
     (λ names events texts stands ledger.
-    let ignored = judged-is names c.args.tables.now c.args.judged.now c.args.stack true stands.judged (omega arith) flag in
-    subst (λ (s : SamplesState). StandsFor c.args.judged.now s names c.args.tables.now (events ++ Alloc c.args.info c.args.stack c.args.size ∷ [])) (sym c.pass.ensures.samples)
-    (stands-passed c.args.judged.now c.args.samples.now names c.args.tables.now events (Alloc c.args.info c.args.stack c.args.size) refl (ap not ignored) (omega arith)
-    (figures-passed_alloc c.args.samples.now.options (ignores c.args.tables.now names) events c.args.samples.now.running c.args.info c.args.stack c.args.size ignored stands.sampling.figures)
+    let ignored = judged-is names c.args.stacks.now.tables.now c.args.stacks.now.judged.now c.args.stack true stands.judged (omega arith) flag in
+    subst (λ (s : SamplesState). StandsFor c.args.stacks.now.judged.now s names c.args.stacks.now.tables.now (events ++ Alloc c.args.info c.args.stack c.args.size ∷ [])) (sym c.pass.ensures.samples)
+    (stands-passed c.args.stacks.now.judged.now c.args.samples.now names c.args.stacks.now.tables.now events (Alloc c.args.info c.args.stack c.args.size) refl (ap not ignored) (omega arith)
+    (figures-passed_alloc c.args.samples.now.options (ignores c.args.stacks.now.tables.now names) events c.args.samples.now.running c.args.info c.args.stack c.args.size ignored stands.sampling.figures)
     stands))
 
-pub returns-then-judged-stack-clause-fault : goal.returns-then-judged-stack-clause-fault
-returns-then-judged-stack-clause-fault g c =
-    let flag : slice_index_or c.args.judged.now c.args.stack false ≡ true = search rules in
+pub returns-then-stacks-stack-clause-fault : goal.returns-then-stacks-stack-clause-fault
+returns-then-stacks-stack-clause-fault g c =
+    let flag : slice_index_or c.args.stacks.now.judged.now c.args.stack false ≡ true = search rules in
     let held : c.args.stack < c.args.ledger.now.stacks = c.in_ok-check.ensures.sound.stack_held c.args.info _ c.requires.held in
     λ names events stands ledger.
-    let ignored = judged-is names c.args.tables.now c.args.judged.now c.args.stack true stands.judged (omega arith) flag in
+    let ignored = judged-is names c.args.stacks.now.tables.now c.args.stacks.now.judged.now c.args.stack true stands.judged (omega arith) flag in
     let none : None ≡ fault_of events (Alloc c.args.info c.args.stack c.args.size) = c.in_ok-check.ensures.fault events ledger in
-    tells-ok c.pass.result _ c.pass.ensures.ok (fault-passed c.args.samples.now.options (ignores c.args.tables.now names) events (Alloc c.args.info c.args.stack c.args.size) (sym none) (ap not ignored))
+    tells-ok c.pass.result _ c.pass.ensures.ok (fault-passed c.args.samples.now.options (ignores c.args.stacks.now.tables.now names) events (Alloc c.args.info c.args.stack c.args.size) (sym none) (ap not ignored))
 
 pub returns-in_default-clause-fault : goal.returns-in_default-clause-fault
 returns-in_default-clause-fault g c =
-    let flag : slice_index_or c.args.judged.now c.args.stack false ≡ false = search rules in
+    let flag : slice_index_or c.args.stacks.now.judged.now c.args.stack false ≡ false = search rules in
     let held : c.args.stack < c.args.ledger.now.stacks = c.in_ok-check.ensures.sound.stack_held c.args.info _ c.requires.held in
     let passes : passes_most (with_alloc c.args.samples.now.options c.args.samples.now.running c.args.size) ≡ true = search rules in
     λ names events stands ledger.
-    let counted = judged-is names c.args.tables.now c.args.judged.now c.args.stack false stands.judged (omega arith) flag in
+    let counted = judged-is names c.args.stacks.now.tables.now c.args.stacks.now.judged.now c.args.stack false stands.judged (omega arith) flag in
     let none : None ≡ fault_of events (Alloc c.args.info c.args.stack c.args.size) = c.in_ok-check.ensures.fault events ledger in
-    fault-counted c.args.samples.now.options (ignores c.args.tables.now names) events (Alloc c.args.info c.args.stack c.args.size) _ true refl (sym none) (ap not counted)
-    (figures-alloc c.args.samples.now.options (ignores c.args.tables.now names) events c.args.samples.now.running c.args.info c.args.stack c.args.size counted stands.sampling.figures)
+    fault-counted c.args.samples.now.options (ignores c.args.stacks.now.tables.now names) events (Alloc c.args.info c.args.stack c.args.size) _ true refl (sym none) (ap not counted)
+    (figures-alloc c.args.samples.now.options (ignores c.args.stacks.now.tables.now names) events c.args.samples.now.running c.args.info c.args.stack c.args.size counted stands.sampling.figures)
     passes
 
 pub returns-clause-stands : goal.returns-clause-stands
 returns-clause-stands g c =
-    let flag : slice_index_or c.args.judged.now c.args.stack false ≡ false = search rules in
+    let flag : slice_index_or c.args.stacks.now.judged.now c.args.stack false ≡ false = search rules in
     let held : c.args.stack < c.args.ledger.now.stacks = c.in_ok-check.ensures.sound.stack_held c.args.info _ c.requires.held in
     both_ok c.advance.result
     (λ sampled some names events texts stands ledger.
-    let ignored : ℕ → Bool = ignores c.args.tables.now names in
+    let ignored : ℕ → Bool = ignores c.args.stacks.now.tables.now names in
     let after : List Event = events ++ Alloc c.args.info c.args.stack c.args.size ∷ [] in
-    let counted = judged-is names c.args.tables.now c.args.judged.now c.args.stack false stands.judged (omega arith) flag in
+    let counted = judged-is names c.args.stacks.now.tables.now c.args.stacks.now.judged.now c.args.stack false stands.judged (omega arith) flag in
     let figures = subst (λ (r : Running). AreFigures c.args.samples.now.options ignored after r) (sym c.in-Some.ensures.next)
     (figures-alloc c.args.samples.now.options ignored events c.args.samples.now.running c.args.info c.args.stack c.args.size counted stands.sampling.figures) in
-    stands-alloc c.args.judged.now c.args.samples.now c.advance.new.samples names c.args.tables.now events c.args.info c.args.stack c.args.size counted stands c.advance.ensures.options
+    stands-alloc c.args.stacks.now.judged.now c.args.samples.now c.advance.new.samples names c.args.stacks.now.tables.now events c.args.info c.args.stack c.args.size counted stands c.advance.ensures.options
     (sampled names events (offers c.args.samples.now.options ignored events) texts stands.judged ledger stands.sampling (omega arith) figures)
     some)
     c.advance.ensures.sampling c.advance.ensures.some
 
 pub returns-clause-fault : goal.returns-clause-fault
 returns-clause-fault g c =
-    let flag : slice_index_or c.args.judged.now c.args.stack false ≡ false = search rules in
+    let flag : slice_index_or c.args.stacks.now.judged.now c.args.stack false ≡ false = search rules in
     let held : c.args.stack < c.args.ledger.now.stacks = c.in_ok-check.ensures.sound.stack_held c.args.info _ c.requires.held in
     λ names events stands ledger.
-    let ignored : ℕ → Bool = ignores c.args.tables.now names in
+    let ignored : ℕ → Bool = ignores c.args.stacks.now.tables.now names in
     let after : List Event = events ++ Alloc c.args.info c.args.stack c.args.size ∷ [] in
-    let counted = judged-is names c.args.tables.now c.args.judged.now c.args.stack false stands.judged (omega arith) flag in
+    let counted = judged-is names c.args.stacks.now.tables.now c.args.stacks.now.judged.now c.args.stack false stands.judged (omega arith) flag in
     let none : None ≡ fault_of events (Alloc c.args.info c.args.stack c.args.size) = c.in_ok-check.ensures.fault events ledger in
     let figures = subst (λ (r : Running). AreFigures c.args.samples.now.options ignored after r) (sym c.in-Some.ensures.next)
     (figures-alloc c.args.samples.now.options ignored events c.args.samples.now.running c.args.info c.args.stack c.args.size counted stands.sampling.figures) in
@@ -79,12 +79,12 @@ returns-clause-fault g c =
 
 pub returns-clause-due : goal.returns-clause-due
 returns-clause-due g c =
-    let flag : slice_index_or c.args.judged.now c.args.stack false ≡ false = search rules in
+    let flag : slice_index_or c.args.stacks.now.judged.now c.args.stack false ≡ false = search rules in
     let held : c.args.stack < c.args.ledger.now.stacks = c.in_ok-check.ensures.sound.stack_held c.args.info _ c.requires.held in
     λ err names events texts stands ledger.
-    let ignored : ℕ → Bool = ignores c.args.tables.now names in
+    let ignored : ℕ → Bool = ignores c.args.stacks.now.tables.now names in
     let after : List Event = events ++ Alloc c.args.info c.args.stack c.args.size ∷ [] in
-    let counted = judged-is names c.args.tables.now c.args.judged.now c.args.stack false stands.judged (omega arith) flag in
+    let counted = judged-is names c.args.stacks.now.tables.now c.args.stacks.now.judged.now c.args.stack false stands.judged (omega arith) flag in
     let figures = subst (λ (r : Running). AreFigures c.args.samples.now.options ignored after r) (sym c.in-Some.ensures.next)
     (figures-alloc c.args.samples.now.options ignored events c.args.samples.now.running c.args.info c.args.stack c.args.size counted stands.sampling.figures) in
     due-alloc c.args.samples.now.options ignored events c.args.info c.args.stack c.args.size counted

@@ -11,8 +11,8 @@ returns-in-Tick-clause-stands g c =
     rw c.in-Tick.is
     (at_ok c.tick.result
     (λ names events texts stands ledger.
-    subst (λ (s : SamplesState). StandsFor c.args.judged.now s names c.args.tables.now (events ++ Tick c.in-Tick.ms ∷ [])) (sym c.tick.ensures.samples)
-    (stands-tick c.args.judged.now c.args.samples.now names c.args.tables.now events c.in-Tick.ms stands)))
+    subst (λ (s : SamplesState). StandsFor c.args.stacks.now.judged.now s names c.args.stacks.now.tables.now (events ++ Tick c.in-Tick.ms ∷ [])) (sym c.tick.ensures.samples)
+    (stands-tick c.args.stacks.now.judged.now c.args.samples.now names c.args.stacks.now.tables.now events c.in-Tick.ms stands)))
 
 pub returns-in-Tick-clause-fault : goal.returns-in-Tick-clause-fault
 returns-in-Tick-clause-fault g c = rw c.in-Tick.is (λ names events stands ledger. tells-ok c.tick.result _ c.tick.ensures.ok refl)

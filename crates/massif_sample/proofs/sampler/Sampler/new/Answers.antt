@@ -1,4 +1,4 @@
-use Rattle.std.proofs.Common.{◌≡◌, ◌∙◌, ℕ, ◌+◌, [], length, ap, sym, arith, rules}
+use Rattle.std.proofs.Common.{◌≡◌, ◌∙◌, [], sym, arith, rules}
 use Rattle.massif_sample.specs.FunctionNames.{ignores}
 use Rattle.massif_sample.proofs.Costs.{cost-first}
 use Rattle.massif_sample.proofs.Judging.{stands-new}

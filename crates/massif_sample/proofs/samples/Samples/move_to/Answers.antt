@@ -1,8 +1,7 @@
-use Rattle.std.proofs.Common.{◌≢◌, ℕ, ◌++◌, ◌∷◌, [], subst, sym}
+use Rattle.std.proofs.Common.{ℕ, ◌++◌, ◌∷◌, [], subst, sym}
 use Rattle.live_ledger.specs.Events.{event_count}
 use Rattle.cost_history.specs.HistoryState.{HistoryState, TellsNow}
 use Rattle.massif_sample.specs.FunctionNames.{ignores}
-use Rattle.massif_sample.specs.SamplesState.{SamplesState}
 use Rattle.massif_sample.specs.Snapshots.{cost_at}
 use Rattle.massif_sample.specs.StandsFor.{IsSampling}
 use Rattle.massif_sample.specs.View.{state_of}

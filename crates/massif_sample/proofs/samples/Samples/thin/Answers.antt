@@ -1,6 +1,5 @@
-use Rattle.std.proofs.Common.{ℕ, List, length, subst, sym}
+use Rattle.std.proofs.Common.{length, subst, sym}
 use Rattle.cost_history.specs.HistoryState.{HistoryState}
-use Rattle.massif_sample.specs.SamplesState.{SamplesState}
 use Rattle.massif_sample.specs.StandsFor.{IsSampling}
 use Rattle.massif_sample.specs.View.{state_of}
 use Rattle.massif_sample.proofs.Sampling.{sampling-thinned}

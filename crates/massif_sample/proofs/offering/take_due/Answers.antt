@@ -14,7 +14,7 @@ use Rattle.massif_sample.specs.View.{offer_of}
 use Rattle.massif_sample.proofs.Costs.{said-as}
 use Rattle.massif_sample.proofs.Offers.{offer-now}
 use Rattle.massif_sample.proofs.Trees.{at_err, taken-with_tree}
-use Rattle.massif_sample.proofs.taking.take_due.Goals as goal
+use Rattle.massif_sample.proofs.offering.take_due.Goals as goal
 
 pub returns-then-eq-clause-sampling : goal.returns-then-eq-clause-sampling
 returns-then-eq-clause-sampling g c =

@@ -4,7 +4,7 @@ use Rattle.massif_cull.specs.declared.snapshot.Taken.TheVariants.{No}
 use Rattle.massif_sample.specs.FunctionNames.{ignores}
 use Rattle.massif_sample.specs.StandsFor.{IsSampling}
 use Rattle.massif_sample.proofs.Offers.{offer-now}
-use Rattle.massif_sample.proofs.taking.sample.Goals as goal
+use Rattle.massif_sample.proofs.offering.sample.Goals as goal
 
 pub returns-then-eq-clause-sampling : goal.returns-then-eq-clause-sampling
 returns-then-eq-clause-sampling g c =

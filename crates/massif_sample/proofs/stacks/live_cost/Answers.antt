@@ -2,7 +2,7 @@ use Rattle.std.proofs.Common.{◌≡◌, ℕ, Bool, true, false, cond, ap, sym, 
 use Rattle.std.specs.Prelude.{slice_index_or}
 use Rattle.live_ledger.specs.LedgerState.{figures_at}
 use Rattle.live_ledger.specs.declared.figures.Figures.{Figures}
-use Rattle.massif_sample.proofs.taking.live_cost.Goals as goal
+use Rattle.massif_sample.proofs.stacks.live_cost.Goals as goal
 
 pub returns-then-judged-stack : goal.returns-then-judged-stack
 returns-then-judged-stack c =

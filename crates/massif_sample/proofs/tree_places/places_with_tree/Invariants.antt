@@ -3,7 +3,7 @@ use Rattle.std.proofs.Common.{◌≡◌, ℕ, ◌<◌, true}
 use Rattle.std.specs.Prelude.{slice_get, Contains, Some}
 use Rattle.massif_cull.specs.declared.snapshot.SnapEntry.{SnapEntry}
 use Rattle.massif_sample.specs.Snapshots.{shows_tree}
-use Rattle.massif_sample.proofs.samples.places_with_tree.Given as goal
+use Rattle.massif_sample.proofs.tree_places.places_with_tree.Given as goal
 
 abbrev pub invariant-entries : goal.invariant-entries
 invariant-entries l = (k : ℕ) (entry : SnapEntry) → k < l.entry-index → slice_get l.entries k ≡ Some entry → shows_tree entry.kind ≡ true → Contains l.places.items entry.place
