@@ -4,7 +4,7 @@ use Rattle.std.specs.Prelude.{All, filter, nat_lt, slice_index, sum, sum_by}
 use Rattle.std.specs.List.{range_with_len}
 use Rattle.std.proofs.lemmas.List.FromFn.{fill_by_all, get_or-map-range_with_len, length-map-range_with_len, map-range_with_len_more}
 use Rattle.std.proofs.lemmas.List.Elements.{All-cons, All-filter, All-head, All-nil, All-tail, filter-append}
-use Rattle.std.proofs.lemmas.List.Sums.{sum-map}
+use Rattle.std.proofs.lemmas.List.Sums.{sum-map, sum_by-cons}
 use Rattle.ht_print.specs.declared.entry.Entry.{Entry}
 use Rattle.ht_print.specs.ReportOrder.{in_order, is_before, numbered, ordered_stacks, placed, some_stacks}
 use Rattle.ht_print.proofs.EntryOrder.{in_order-sum, part-sum, sum-mapped}
@@ -40,7 +40,7 @@ placed-all : (P : Entry → Type 0) (entry : Entry) (xs : List Entry) → P entr
 placed-all P entry [] here all = All-cons P entry [] here (All-nil P)
 placed-all P entry (x ∷ xs) here all = place-all P entry x xs (is_before x entry) here all (placed-all P entry xs here (All-tail P x xs all))
 
-in_order-all : (P : Entry → Type 0) (xs : List Entry) → All P xs → All P (in_order xs)
+pub in_order-all : (P : Entry → Type 0) (xs : List Entry) → All P xs → All P (in_order xs)
 in_order-all P [] all = All-nil P
 in_order-all P (x ∷ xs) all = placed-all P x (in_order xs) (All-head P x xs all) (in_order-all P xs (All-tail P x xs all))
 
@@ -66,4 +66,26 @@ stacks-sum figures =
     let ordered = in_order-sum (λ (e : Entry). e.figure) (some_stacks figures) in
     let part = part-sum (λ (entry : Entry). nat_lt 0 entry.figure) (numbered figures) in
     let whole = numbered-sum figures in
+    omega (arith, ordered, part, whole)
+
+-- there are no more of them than figures
+ones : (xs : List Entry) → sum_by (λ (e : Entry). 1) xs ≡ length xs
+ones [] = refl
+ones (x ∷ xs) = sum_by-cons (λ (e : Entry). 1) x xs ∙ (let rest = ones xs in omega (arith, rest))
+
+filter-few : (p : Entry → Bool) (xs : List Entry) → length (filter p xs) ≤ length xs
+filter-few p [] = omega arith
+filter-few p (x ∷ xs) = by (p x) (filter-few p xs)
+  where
+    by : (b : Bool) → length (filter p xs) ≤ length xs → length (cond b (x ∷ filter p xs) (filter p xs)) ≤ length (x ∷ xs)
+    by true rest = omega (arith, rest)
+    by false rest = omega (arith, rest)
+
+pub stacks-few : (figures : List ℕ) → length (ordered_stacks figures) ≤ length figures
+unfolding some_stacks
+stacks-few figures =
+    let ordered : length (ordered_stacks figures) ≡ length (some_stacks figures) =
+    sym (ones (ordered_stacks figures)) ∙ in_order-sum (λ (e : Entry). 1) (some_stacks figures) ∙ ones (some_stacks figures) in
+    let part = filter-few (λ (entry : Entry). nat_lt 0 entry.figure) (numbered figures) in
+    let whole = length-map-range_with_len (entry_at figures) 0 (length figures) in
     omega (arith, ordered, part, whole)

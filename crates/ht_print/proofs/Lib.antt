@@ -10,6 +10,8 @@ mod FlameFigures
 mod EntryOrder
 mod EntryLists
 mod ReportLemmas
+mod PlaceLemmas
+mod LinkLemmas
 mod GroupLemmas
 mod GroupTexts
 mod LeakLemmas

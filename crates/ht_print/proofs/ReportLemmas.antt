@@ -59,6 +59,13 @@ pub suppressed_line-some : (bytes : ℕ) → eqb bytes 0 ≡ false → suppresse
 unfolding suppressed_line
 suppressed_line-some bytes some = cond-false (eqb bytes 0) [] _ some
 
+-- the lines of one more that is shown
+pub shown-more : {X : Type 0} (f : X → List ℕ) (old now new : List ℕ) (xs : List X) (k : ℕ) (d : X) → k < length xs → now ≡ old ++ flat_map f (take k xs) → new ≡ now ++ f (get_or xs k d) → new ≡ old ++ flat_map f (take (k + 1) xs)
+shown-more {X} f old now new xs k d within written added =
+    added ∙ ap (λ (bytes : List ℕ). bytes ++ f (get_or xs k d)) written ∙ append_assoc old (flat_map f (take k xs)) (f (get_or xs k d))
+    ∙ ap (λ (bytes : List ℕ). old ++ bytes)
+    (ap (λ (bytes : List ℕ). flat_map f (take k xs) ++ bytes) (sym (append-nil (f (get_or xs k d)))) ∙ sym (flat_map-append f (take k xs) (get_or xs k d ∷ [])) ∙ ap (λ (ys : List X). flat_map f ys) (sym (take_more xs k d within)))
+
 -- the lines of all that is shown, and how many are left
 pub shown-all : {X : Type 0} (f : X → List ℕ) (old now new label : List ℕ) (xs shown : List X) (k limit left : ℕ) → now ≡ old ++ flat_map f (take k shown) → length shown ≤ k → shown ≡ take limit xs → left ≡ length xs - limit
     → new ≡ now ++ left_line label left → new ≡ old ++ (flat_map f (take limit xs) ++ left_line label (length xs - limit))

@@ -10,5 +10,7 @@ pub mod ReportOrder
 pub mod IsEntry
 pub mod ReportGroups
 pub mod ReportLines
-pub mod IsGroup
+pub mod HasGroups
+pub mod Places
+pub mod PlacedStacks
 pub mod ReportText

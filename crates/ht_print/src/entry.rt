@@ -31,6 +31,7 @@ impl Entry {
 pub(crate) fn ordered_stacks(alloc: Global, figures: &[u64]) -> Result<Vec<Entry>, NoMemory>
     requires few { length figures.now < 2 ^ 32 }
     ensures stacks { IfOk result (λ stacks. stacks.items ≡ ordered_stacks figures.now) }
+    ensures few { IfOk result (λ stacks. length stacks.items < 2 ^ 32) }
 {
     let mut stacks = some_stacks(alloc, figures)?;
     sort(&mut stacks);
@@ -63,7 +64,7 @@ fn add_stack(stacks: &mut Vec<Entry>, figure: u64, stack: u32) -> Result<(), NoM
 }
 
 /// Puts the entries in order.
-fn sort(entries: &mut Vec<Entry>)
+pub(crate) fn sort(entries: &mut Vec<Entry>)
     ensures { entries.new.items ≡ in_order entries.old.items }
 {
     entries.sort_unstable_by(|one, other| one.compare(other));

@@ -1,83 +1,77 @@
-//! The stacks of a section in groups, by the text of their innermost frame. How a group is written is in `report_lines`.
-ghost use Rattle.std.specs.Prelude.{◌≡◌, ℕ, ◌+◌, ◌-◌, ◌^◌, ◌<◌, ◌≤◌, All, IfOk, OnOk, Some, length, map, slice_get, sum_by};
-ghost use Rattle.ht_print.specs.IsGroup.{Adds, AreGroups, IsShared};
-ghost use Rattle.ht_print.specs.ReportGroups.{ordered_groups, place_of, places};
+//! The groups of a section: the stacks of each place as one entry. How a group is written is in `report_lines`.
+ghost use Rattle.std.specs.Prelude.{◌≡◌, ℕ, ◌+◌, ◌^◌, ◌<◌, ◌≤◌, All, IfOk, OnOk, length, sum_by};
+ghost use Rattle.ht_trace.specs.TableState.{TableState};
+ghost use Rattle.ht_print.specs.PlacedStacks.{ArePlaced, groups_up_to};
+ghost use Rattle.ht_print.specs.Places.{TellPlaces};
+ghost use Rattle.ht_print.specs.ReportGroups.{joined, ordered_groups};
 
-use crate::entry::Entry;
+use crate::entry::{Entry, sort};
+use crate::placed_stacks::PlacedStacks;
+use crate::places::Places;
 use hp_num::NoMemory;
-use ht_trace::{Style, Tables};
-use intern_tables::Names;
 use std::alloc::Global;
 
-/// The stacks with the same innermost frame: all of them as one entry, and each.
-#[derive(Debug, Drop)]
-pub(crate) struct Group {
-    pub(crate) entry: Entry,
-    pub(crate) members: Vec<Entry>,
-}
-
-/// The groups of the stacks, in order, or `NoMemory`. The members of a group stand in it as they do among the stacks.
+/// The groups of the stacks, in order, or `NoMemory`.
 pub(crate) fn ordered_groups(
     alloc: Global,
-    tables: &Tables,
-    stacks: &[Entry],
-) -> Result<Vec<Group>, NoMemory>
-    requires held { All (λ stack. stack.stack ≤ length tables.now.nodes) stacks.now }
-    requires bound { sum_by (λ stack. stack.figure) stacks.now ≤ 2 ^ 62 }
-    ensures order { IfOk result
-        (λ groups. map (λ group. group.entry) groups.items ≡ ordered_groups tables.now stacks.now) }
-    ensures members { IfOk result (λ groups. All (IsShared tables.now stacks.now) groups.items) }
+    places: &Places,
+    placed: &PlacedStacks<'_>,
+) -> Result<Vec<Entry>, NoMemory>
+    requires placed { ArePlaced places.now placed.now }
+    requires bound { sum_by (λ stack. stack.figure) placed.now.stacks.now ≤ 2 ^ 62 }
+    ensures { IfOk result (λ groups. (tables : TableState) → TellPlaces tables places.now
+        → All (λ stack. stack.stack ≤ length tables.nodes) placed.now.stacks.now
+        → groups.items ≡ ordered_groups tables placed.now.stacks.now) }
 {
-    let mut groups = share_out(alloc, tables, stacks)?;
-    groups.sort_unstable_by(|one, other| one.entry.compare(&other.entry));
-    Ok(groups)
-}
-
-/// The groups of the stacks, in the order of their first members, or `NoMemory`.
-fn share_out(alloc: Global, tables: &Tables, stacks: &[Entry]) -> Result<Vec<Group>, NoMemory>
-    requires held { All (λ stack. stack.stack ≤ length tables.now.nodes) stacks.now }
-    requires bound { sum_by (λ stack. stack.figure) stacks.now ≤ 2 ^ 62 }
-    ensures groups { IfOk result
-        (λ groups. AreGroups tables.now stacks.now (places tables.now stacks.now) groups.items) }
-{
-    let mut places = Names::new(alloc);
     let mut groups = Vec::new(alloc);
-    let mut text = Vec::new(alloc);
-    'each_stack: for stack in stacks {
-        read_place(tables, stack.stack, &mut text)?;
-        let number = places.intern(&text)?;
-        add(alloc, &mut groups, number - 1, *stack)?;
+    let mut members = Vec::new(alloc);
+    'each_stack: for k in 0..placed.stacks.len() {
+        add_group(places, placed, k, &mut members, &mut groups)?;
     }
+    sort(&mut groups);
     Ok(groups)
 }
 
-/// Replaces `text` by the text of the stack's innermost frame.
-fn read_place(tables: &Tables, stack: u32, text: &mut Vec<u8>) -> Result<(), NoMemory>
-    requires held { stack ≤ length tables.now.nodes }
-    ensures text { OnOk result (text.new.items ≡ place_of tables.now stack) }
+/// Adds the group of a stack's place where it is the first one that has it. `members` is a buffer.
+fn add_group(
+    places: &Places,
+    placed: &PlacedStacks<'_>,
+    k: usize,
+    members: &mut Vec<Entry>,
+    groups: &mut Vec<Entry>,
+) -> Result<(), NoMemory>
+    requires placed { ArePlaced places.now placed.now }
+    requires within { k < length placed.now.stacks.now }
+    requires bound { sum_by (λ stack. stack.figure) placed.now.stacks.now ≤ 2 ^ 62 }
+    ensures { OnOk result ((tables : TableState) → TellPlaces tables places.now
+        → All (λ stack. stack.stack ≤ length tables.nodes) placed.now.stacks.now
+        → groups.old.items ≡ groups_up_to tables placed.now.stacks.now k
+        → groups.new.items ≡ groups_up_to tables placed.now.stacks.now (k + 1)) }
 {
-    text.clear();
-    tables.put_frame(&tables.innermost_frame(stack), Style::Plain, text)
+    if placed.before[k] > 0 {
+        return Ok(());
+    }
+    let number = places.numbers[placed.stacks[k].stack as usize];
+    placed.members_into(places, number, members)?;
+    groups.push(joined(members))?;
+    Ok(())
 }
 
-/// Adds a stack to the group of a place, which is made where it is the next one.
-fn add(alloc: Global, groups: &mut Vec<Group>, place: usize, stack: Entry) -> Result<(), NoMemory>
-    requires within { place ≤ length groups.old.items }
-    requires bound { (group : Group) → slice_get groups.old.items place ≡ Some group
-        → group.entry.figure + stack.figure < 2 ^ 64 }
-    ensures added { OnOk result (Adds groups.old.items groups.new.items place stack) }
+/// The stacks as one entry: the sum of their figures, and the least of them.
+fn joined(stacks: &[Entry]) -> Entry
+    requires bound { sum_by (λ stack. stack.figure) stacks.now ≤ 2 ^ 62 }
+    ensures { result ≡ joined stacks.now }
 {
-    let Some(group) = groups.get_mut(place) else {
-        let mut members = Vec::with_capacity(alloc, 1)?;
-        members.push(stack)?;
-        groups.push(Group {
-            entry: stack,
-            members,
-        })?;
-        return Ok(());
+    let Some((first, others)) = stacks.split_first() else {
+        return Entry {
+            figure: 0,
+            stack: 0,
+        };
     };
-    group.entry.figure += stack.figure;
-    group.entry.stack = group.entry.stack.min(stack.stack);
-    group.members.push(stack)?;
-    Ok(())
+    let mut entry = *first;
+    'each_other: for stack in others {
+        entry.figure += stack.figure;
+        entry.stack = entry.stack.min(stack.stack);
+    }
+    entry
 }

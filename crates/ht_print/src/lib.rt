@@ -47,6 +47,8 @@ mod layout;
 mod least_patterns;
 mod met_frames;
 mod options;
+mod placed_stacks;
+mod places;
 mod report;
 mod report_lines;
 mod scale;

@@ -1,4 +1,6 @@
 //! What a report is to show. How it is written is in `report`.
+ghost use Rattle.std.specs.Prelude.{◌≡◌};
+ghost use Rattle.ht_print.specs.HasGroups.{has_groups};
 
 /// What a report is to show, and how much of it.
 #[derive(Clone, Copy, Debug, PartialEq, Eq)]
@@ -19,4 +21,13 @@ pub struct PrintOptions {
     pub limit: u32,
     /// How many stacks of a group are shown at most.
     pub sub_limit: u32,
+}
+
+impl PrintOptions {
+    /// Whether it has groups of stacks.
+    pub(crate) fn has_groups(&self) -> bool
+        ensures { result ≡ has_groups self.now }
+    {
+        self.merge && (self.allocators || self.peaks || self.leaks || self.temporary)
+    }
 }

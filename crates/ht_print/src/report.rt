@@ -9,7 +9,9 @@ ghost use Rattle.ht_trace.specs.LedgerFits.{IsBeside};
 ghost use Rattle.peak_costs.specs.Peak.{StandsFor};
 ghost use Rattle.peak_costs.specs.PeakState.{IsSound};
 ghost use Rattle.ht_print.specs.FlameCosts.{flame_costs};
+ghost use Rattle.ht_print.specs.HasGroups.{has_groups};
 ghost use Rattle.ht_print.specs.Histogram.{histogram_text};
+ghost use Rattle.ht_print.specs.Places.{HavePlaces};
 ghost use Rattle.ht_print.specs.ReportText.{first_sections, last_sections, leaks_text, report_of_trace, section_text};
 ghost use Rattle.ht_print.specs.Suppressed.{suppressed_stacks};
 
@@ -17,6 +19,7 @@ use crate::flame::{FlameCost, cost_of};
 use crate::histogram::put_histogram;
 use crate::layout::Layout;
 use crate::options::PrintOptions;
+use crate::places::Places;
 use crate::scale::Unit;
 use crate::section::{put_leaks, put_section};
 use crate::summary::put_summary;
@@ -71,14 +74,27 @@ fn put_parts(
 {
     // Says what holds of all peaks.
     let _total = peaks.peak_total();
+    let places = wanted_places(alloc, options, tables)?;
     let layout = Layout {
         options: *options,
         tables,
+        places: &places,
     };
     put_first_sections(alloc, &layout, peaks, out)?;
     put_last_sections(alloc, &layout, peaks, suppressed, out)?;
     put_wanted_histogram(&layout, peaks, out)?;
     put_summary(peaks, out)
+}
+
+/// The places of the stacks where the report has groups of them, or `NoMemory`.
+fn wanted_places(alloc: Global, options: &PrintOptions, tables: &Tables) -> Result<Places, NoMemory>
+    ensures { IfOk result
+        (λ places. HavePlaces (has_groups options.now) tables.now places) }
+{
+    if !options.has_groups() {
+        return Ok(Places::none(alloc));
+    }
+    Places::of(alloc, tables)
 }
 
 /// Appends the sections of calls and of the peak, where they are asked for.
@@ -90,6 +106,8 @@ fn put_first_sections(
     out: &mut Vec<u8>,
 ) -> Result<(), NoMemory>
     requires beside { IsBeside layout.now.tables.now peaks.now.ledger }
+    requires places { HavePlaces (has_groups layout.now.options) layout.now.tables.now
+        layout.now.places.now }
     requires sound { IsSound peaks.now }
     ensures appended { OnOk result
         (out.new.items ≡ out.old.items
@@ -111,6 +129,8 @@ fn put_last_sections(
     out: &mut Vec<u8>,
 ) -> Result<(), NoMemory>
     requires beside { IsBeside layout.now.tables.now peaks.now.ledger }
+    requires places { HavePlaces (has_groups layout.now.options) layout.now.tables.now
+        layout.now.places.now }
     requires sound { IsSound peaks.now }
     requires suppressed { suppressed.now ≡ suppressed_stacks layout.now.tables.now }
     ensures appended { OnOk result
@@ -131,6 +151,8 @@ fn put_calls(
     out: &mut Vec<u8>,
 ) -> Result<(), NoMemory>
     requires beside { IsBeside layout.now.tables.now peaks.now.ledger }
+    requires places { HavePlaces (has_groups layout.now.options) layout.now.tables.now
+        layout.now.places.now }
     requires sound { IsSound peaks.now }
     ensures appended { OnOk result
         (out.new.items ≡ out.old.items
@@ -156,6 +178,8 @@ fn put_peak(
     out: &mut Vec<u8>,
 ) -> Result<(), NoMemory>
     requires beside { IsBeside layout.now.tables.now peaks.now.ledger }
+    requires places { HavePlaces (has_groups layout.now.options) layout.now.tables.now
+        layout.now.places.now }
     requires sound { IsSound peaks.now }
     ensures appended { OnOk result
         (out.new.items ≡ out.old.items
@@ -182,6 +206,8 @@ fn put_wanted_leaks(
     out: &mut Vec<u8>,
 ) -> Result<(), NoMemory>
     requires beside { IsBeside layout.now.tables.now peaks.now.ledger }
+    requires places { HavePlaces (has_groups layout.now.options) layout.now.tables.now
+        layout.now.places.now }
     requires sound { IsSound peaks.now }
     requires suppressed { suppressed.now ≡ suppressed_stacks layout.now.tables.now }
     ensures appended { OnOk result
@@ -206,6 +232,8 @@ fn put_temporary(
     out: &mut Vec<u8>,
 ) -> Result<(), NoMemory>
     requires beside { IsBeside layout.now.tables.now peaks.now.ledger }
+    requires places { HavePlaces (has_groups layout.now.options) layout.now.tables.now
+        layout.now.places.now }
     requires sound { IsSound peaks.now }
     ensures appended { OnOk result
         (out.new.items ≡ out.old.items

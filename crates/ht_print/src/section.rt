@@ -4,14 +4,16 @@
 ghost use Rattle.std.specs.Prelude.{◌≡◌, ℕ, ◌++◌, ◌-◌, ◌+◌, ◌^◌, ◌<◌, ◌≤◌, All, if◌then◌else◌, IfOk, OnOk, length, sum, sum_by};
 ghost use Rattle.hp_num.specs.Extends.{Extends};
 ghost use Rattle.ht_print.specs.IsEntry.{IsEntry};
-ghost use Rattle.ht_print.specs.IsGroup.{IsWritable, groups_lines};
+ghost use Rattle.ht_print.specs.PlacedStacks.{ArePlaced, groups_lines};
+ghost use Rattle.ht_print.specs.Places.{HavePlaces, TellPlaces};
 ghost use Rattle.ht_print.specs.ReportLines.{merged_lines};
 ghost use Rattle.ht_print.specs.ReportText.{leaks_text, section_lines, section_text, stacks_text, suppressed_line, unsuppressed};
 ghost use Rattle.ht_print.specs.Suppressed.{suppressed_stacks};
 
 use crate::entry::{Entry, ordered_stacks};
-use crate::groups::{Group, ordered_groups};
+use crate::groups::ordered_groups;
 use crate::layout::Layout;
+use crate::placed_stacks::PlacedStacks;
 use crate::report_lines::{put_group, put_left, put_stacks, split_shown};
 use crate::scale::{Scale, Unit};
 use crate::suppressed::Suppressed;
@@ -28,6 +30,8 @@ pub(crate) fn put_section(
     figures: &[u64],
     out: &mut Vec<u8>,
 ) -> Result<(), NoMemory>
+    requires places { HavePlaces layout.now.options.merge layout.now.tables.now
+        layout.now.places.now }
     requires as_many { length figures.now ≡ length layout.now.tables.now.nodes + 1 }
     requires few { length figures.now < 2 ^ 32 }
     requires bound { sum figures.now ≤ 2 ^ 62 }
@@ -50,6 +54,8 @@ pub(crate) fn put_leaks(
     live: &[u64],
     out: &mut Vec<u8>,
 ) -> Result<(), NoMemory>
+    requires places { HavePlaces layout.now.options.merge layout.now.tables.now
+        layout.now.places.now }
     requires as_many { length live.now ≡ length layout.now.tables.now.nodes + 1 }
     requires few { length live.now < 2 ^ 32 }
     requires suppressed { suppressed.now ≡ suppressed_stacks layout.now.tables.now }
@@ -112,6 +118,8 @@ fn put_figures(
     figures: &[u64],
     out: &mut Vec<u8>,
 ) -> Result<(), NoMemory>
+    requires places { HavePlaces layout.now.options.merge layout.now.tables.now
+        layout.now.places.now }
     requires as_many { length figures.now ≡ length layout.now.tables.now.nodes + 1 }
     requires few { length figures.now < 2 ^ 32 }
     requires bound { sum figures.now ≤ 2 ^ 62 }
@@ -145,7 +153,10 @@ fn put_entries(
     stacks: &[Entry],
     out: &mut Vec<u8>,
 ) -> Result<(), NoMemory>
+    requires places { HavePlaces layout.now.options.merge layout.now.tables.now
+        layout.now.places.now }
     requires entries { All (IsEntry layout.now.tables.now scale.total) stacks.now }
+    requires few { length stacks.now < 2 ^ 32 }
     requires within { sum_by (λ stack. stack.figure) stacks.now ≤ scale.total }
     requires bound { scale.total ≤ 2 ^ 62 }
     ensures appended { OnOk result
@@ -171,7 +182,9 @@ fn put_merged(
     stacks: &[Entry],
     out: &mut Vec<u8>,
 ) -> Result<(), NoMemory>
+    requires places { TellPlaces layout.now.tables.now layout.now.places.now }
     requires entries { All (IsEntry layout.now.tables.now scale.total) stacks.now }
+    requires few { length stacks.now < 2 ^ 32 }
     requires within { sum_by (λ stack. stack.figure) stacks.now ≤ scale.total }
     requires bound { scale.total ≤ 2 ^ 62 }
     ensures appended { OnOk result
@@ -180,29 +193,37 @@ fn put_merged(
         layout.now.options.sub_limit stacks.now) }
     ensures kept { Extends out.old.items out.new.items }
 {
-    let groups = ordered_groups(alloc, layout.tables, stacks)?;
-    put_groups(alloc, layout, scale, &groups, out)
+    let placed = PlacedStacks::of(alloc, layout.places, stacks)?;
+    let groups = ordered_groups(alloc, layout.places, &placed)?;
+    put_groups(alloc, layout, scale, &placed, &groups, out)
 }
 
-/// Appends the first groups, and how many are left.
+/// Appends the first groups of the stacks, and how many are left.
 fn put_groups(
     alloc: Global,
     layout: &Layout<'_>,
     scale: Scale,
-    groups: &[Group],
+    placed: &PlacedStacks<'_>,
+    groups: &[Entry],
     out: &mut Vec<u8>,
 ) -> Result<(), NoMemory>
-    requires groups { All (IsWritable layout.now.tables.now scale.total) groups.now }
+    requires places { TellPlaces layout.now.tables.now layout.now.places.now }
+    requires placed { ArePlaced layout.now.places.now placed.now }
+    requires entries { All (IsEntry layout.now.tables.now scale.total) placed.now.stacks.now }
+    requires groups { All (IsEntry layout.now.tables.now scale.total) groups.now }
     ensures appended { OnOk result
         (out.new.items ≡ out.old.items
         ++ groups_lines layout.now.tables.now scale layout.now.options.limit
-        layout.now.options.sub_limit groups.now) }
+        layout.now.options.sub_limit placed.now.stacks.now groups.now) }
     ensures kept { Extends out.old.items out.new.items }
 {
+    let mut members = Vec::new(alloc);
     let mut frames = Vec::new(alloc);
     let (shown, left) = split_shown(groups, layout.options.limit);
     'each_group: for group in shown {
-        put_group(layout, scale, group.entry, &group.members, &mut frames, out)?;
+        let number = layout.places.numbers[group.stack as usize];
+        placed.members_into(layout.places, number, &mut members)?;
+        put_group(layout, scale, *group, &members, &mut frames, out)?;
     }
     put_left(b"more places: ", left, out)
 }

@@ -1,22 +1,37 @@
-use Rattle.std.proofs.Common.{ℕ, List, ◌++◌, ◌∙◌, ap, subst, sym}
+use Rattle.std.proofs.Common.{◌≡◌, ◌≤◌, ℕ, List, ◌++◌, length, ◌∙◌, ap, subst, sym}
 use Rattle.std.specs.Prelude.{All}
-use Rattle.std.proofs.lemmas.List.Elements.{All-weaker}
 use Rattle.std.proofs.lemmas.Result.{on_ok_weaker}
-use Rattle.ht_print.specs.declared.groups.Group.{Group}
-use Rattle.ht_print.specs.IsGroup.{IsShared, IsWritable, groups_lines}
-use Rattle.ht_print.proofs.GroupTexts.{merged-are, writable}
+use Rattle.ht_print.specs.declared.entry.Entry.{Entry}
+use Rattle.ht_print.specs.IsEntry.{IsEntry}
+use Rattle.ht_print.specs.PlacedStacks.{groups_lines}
+use Rattle.ht_print.specs.ReportGroups.{ordered_groups}
+use Rattle.ht_print.proofs.GroupTexts.{groups-entries, merged-are}
 use Rattle.ht_print.proofs.section.put_merged.Goals as goal
 
-pub put_groups-requires : goal.put_groups-requires
-put_groups-requires c = record {
-  groups = subst (λ (gs : List Group). All (IsWritable c.args.layout.now.tables.now c.args.scale.total) gs) (sym c.deref.ensures.value) (All-weaker (IsShared c.args.layout.now.tables.now c.args.stacks.now) (IsWritable c.args.layout.now.tables.now c.args.scale.total) (λ group is. writable c.args.layout.now.tables.now c.args.scale.total c.args.stacks.now group c.requires.entries c.requires.within is) _ c.in_ok-groups.ensures.members);
-}
+pub put_groups-requires-clause-groups : goal.put_groups-requires-clause-groups
+put_groups-requires-clause-groups c =
+    let tables = c.args.layout.now.tables.now in
+    let total : ℕ = c.args.scale.total in
+    let stacks : List Entry = c.args.stacks.now in
+    let same = c.in_ok-placed.ensures.stacks in
+    let held : All (λ (e : Entry). e.stack ≤ length tables.nodes) stacks = λ k d within. (c.requires.entries k d within).held in
+    let groups : c.deref.result.now ≡ ordered_groups tables stacks =
+    c.deref.ensures.value ∙ c.in_ok-groups.ensures tables c.requires.places (subst (λ (es : List Entry). All (λ (e : Entry). e.stack ≤ length tables.nodes) es) (sym same) held)
+    ∙ ap (λ (es : List Entry). ordered_groups tables es) same in
+    subst (λ (es : List Entry). All (IsEntry tables total) es) (sym groups) (groups-entries tables total stacks c.requires.entries c.requires.within)
 
 pub returns-clause-appended : goal.returns-clause-appended
 returns-clause-appended c =
+    let tables = c.args.layout.now.tables.now in
+    let options = c.args.layout.now.options in
+    let stacks : List Entry = c.args.stacks.now in
+    let same = c.in_ok-placed.ensures.stacks in
+    let held : All (λ (e : Entry). e.stack ≤ length tables.nodes) stacks = λ k d within. (c.requires.entries k d within).held in
+    let groups : c.deref.result.now ≡ ordered_groups tables stacks =
+    c.deref.ensures.value ∙ c.in_ok-groups.ensures tables c.requires.places (subst (λ (es : List Entry). All (λ (e : Entry). e.stack ≤ length tables.nodes) es) (sym same) held)
+    ∙ ap (λ (es : List Entry). ordered_groups tables es) same in
     on_ok_weaker c.put_groups.result
     (λ added. added
-    ∙ ap (λ (gs : List Group). c.args.out.now.items ++ groups_lines c.args.layout.now.tables.now c.args.scale c.args.layout.now.options.limit c.args.layout.now.options.sub_limit gs) c.deref.ensures.value
-    ∙ ap (λ (bytes : List ℕ). c.args.out.now.items ++ bytes)
-    (merged-are c.args.layout.now.tables.now c.args.scale c.args.layout.now.options.limit c.args.layout.now.options.sub_limit c.args.stacks.now _ c.in_ok-groups.ensures.members c.in_ok-groups.ensures.order))
+    ∙ ap (λ (es : List Entry). c.args.out.now.items ++ groups_lines tables c.args.scale options.limit options.sub_limit es c.deref.result.now) same
+    ∙ ap (λ (bytes : List ℕ). c.args.out.now.items ++ bytes) (merged-are tables c.args.scale options.limit options.sub_limit stacks c.deref.result.now groups))
     c.put_groups.ensures.appended
