@@ -99,7 +99,8 @@ pub(crate) fn read_list<'v, 'a>(
 ) -> Result<&'v [Value<'a>], DhatFault>
     ensures ok { IfOk result (λ list. (needed as_list point key (data_of value.now) ≡ None)
         × (map data_of list.now ≡ list_at key (data_of value.now))) }
-    ensures err { IfErr result (λ fault. needed as_list point key (data_of value.now) ≡ Some fault) }
+    ensures err { IfErr result
+        (λ fault. needed as_list point key (data_of value.now) ≡ Some fault) }
 {
     let Some(found) = member(value, key) else {
         return Err(DhatFault::MissingKey { point, key });
