@@ -1,8 +1,10 @@
 mod Added
+mod DataLemmas
 mod Documents
 mod Findings
 mod KeyOrder
 mod KindLemmas
+mod NumberLemmas
 mod ProfileFindings
 mod ProfileTexts
 mod ReadAgain

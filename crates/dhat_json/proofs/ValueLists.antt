@@ -2,8 +2,10 @@
 use Rattle.std.proofs.Common.{◌≡◌, ℕ, suc, ◌+◌, ◌<◌, ◌≤◌, List, [], ◌∷◌, ◌++◌, length, map, get_or, drop, Some, None, refl, sym, ap, ◌∙◌, Bool, add-one, append_assoc}
 use Rattle.std.proofs.lemmas.List.{drop_more, drop_all, append-nil}
 use Rattle.serde_json.specs.Data.{Data}
-use Rattle.serde_json.specs.View.{view, items_of}
-use Rattle.serde_json.specs.declared.value.Value.{Value}
+use Rattle.std.specs.declared.alloc.Global.{Global}
+use Rattle.json.specs.declared.value.Value.{Value}
+use Rattle.serde_json.specs.View.{items_of}
+use Rattle.dhat_json.specs.DataOf.{data_of}
 use Rattle.dhat_json.specs.declared.fault.DhatFault.{DhatFault}
 use Rattle.dhat_json.specs.DhatFault.{Finding, first_of, point_findings, points_findings}
 use Rattle.dhat_json.specs.ProfileIn.{point_in}
@@ -16,74 +18,74 @@ list_of_items [] = refl
 list_of_items (d ∷ ds) = ap (λ (rest : List Data). d ∷ rest) (list_of_items ds)
 
 -- Nothing was found in the first i values, and what they say was read.
-pub record Passed {A : Type 0} (f : Data → Finding) (g : Data → A) (values : List Value) (i : ℕ) (done : List A) : Type 0 where
-  pub left : first_of (map f (map view values)) ≡ first_of (map f (map view (drop i values)))
-  pub whole : map g (map view values) ≡ done ++ map g (map view (drop i values))
+pub record Passed {A : Type 0} (f : Data → Finding) (g : Data → A) (values : List (Value Global)) (i : ℕ) (done : List A) : Type 0 where
+  pub left : first_of (map f (map data_of values)) ≡ first_of (map f (map data_of (drop i values)))
+  pub whole : map g (map data_of values) ≡ done ++ map g (map data_of (drop i values))
 
-pub passed_none : {A : Type 0} (f : Data → Finding) (g : Data → A) (values : List Value) → Passed f g values 0 []
+pub passed_none : {A : Type 0} (f : Data → Finding) (g : Data → A) (values : List (Value Global)) → Passed f g values 0 []
 passed_none f g values = record { left = refl; whole = refl }
 
 -- the value at the place
-here : (values : List Value) (i : ℕ) (x : Value) → i < length values → x ≡ get_or values i x → drop i values ≡ x ∷ drop (i + 1) values
-here values i x lt is = drop_more values i x lt ∙ ap (λ (y : Value). y ∷ drop (i + 1) values) (sym is)
+here : (values : List (Value Global)) (i : ℕ) (x : Value Global) → i < length values → x ≡ get_or values i x → drop i values ≡ x ∷ drop (i + 1) values
+here values i x lt is = drop_more values i x lt ∙ ap (λ (y : Value Global). y ∷ drop (i + 1) values) (sym is)
 
-pub passed_more : {A : Type 0} (f : Data → Finding) (g : Data → A) (values : List Value) (i : ℕ) (done : List A) (x : Value) → i < length values → x ≡ get_or values i x → Passed f g values i done → f (view x) ≡ None
-    → Passed f g values (i + 1) (done ++ g (view x) ∷ [])
+pub passed_more : {A : Type 0} (f : Data → Finding) (g : Data → A) (values : List (Value Global)) (i : ℕ) (done : List A) (x : Value Global) → i < length values → x ≡ get_or values i x → Passed f g values i done → f (data_of x) ≡ None
+    → Passed f g values (i + 1) (done ++ g (data_of x) ∷ [])
 passed_more {A = A} f g values i done x lt is p none = record {
-  left = p.left ∙ ap (λ (ys : List Value). first_of (map f (map view ys))) (here values i x lt is) ∙ ap (λ (o : Finding). first_of (o ∷ map f (map view (drop (i + 1) values)))) none;
-  whole = p.whole ∙ ap (λ (ys : List Value). done ++ map g (map view ys)) (here values i x lt is) ∙ sym (append_assoc done (g (view x) ∷ []) (map g (map view (drop (i + 1) values))));
+  left = p.left ∙ ap (λ (ys : List (Value Global)). first_of (map f (map data_of ys))) (here values i x lt is) ∙ ap (λ (o : Finding). first_of (o ∷ map f (map data_of (drop (i + 1) values)))) none;
+  whole = p.whole ∙ ap (λ (ys : List (Value Global)). done ++ map g (map data_of ys)) (here values i x lt is) ∙ sym (append_assoc done (g (data_of x) ∷ []) (map g (map data_of (drop (i + 1) values))));
 }
 
-pub passed_fault : {A : Type 0} (f : Data → Finding) (g : Data → A) (values : List Value) (i : ℕ) (done : List A) (x : Value) (fault : DhatFault) → i < length values → x ≡ get_or values i x → Passed f g values i done
-    → f (view x) ≡ Some fault → first_of (map f (map view values)) ≡ Some fault
+pub passed_fault : {A : Type 0} (f : Data → Finding) (g : Data → A) (values : List (Value Global)) (i : ℕ) (done : List A) (x : Value Global) (fault : DhatFault) → i < length values → x ≡ get_or values i x → Passed f g values i done
+    → f (data_of x) ≡ Some fault → first_of (map f (map data_of values)) ≡ Some fault
 passed_fault f g values i done x fault lt is p found =
-    p.left ∙ ap (λ (ys : List Value). first_of (map f (map view ys))) (here values i x lt is) ∙ ap (λ (o : Finding). first_of (o ∷ map f (map view (drop (i + 1) values)))) found
+    p.left ∙ ap (λ (ys : List (Value Global)). first_of (map f (map data_of ys))) (here values i x lt is) ∙ ap (λ (o : Finding). first_of (o ∷ map f (map data_of (drop (i + 1) values)))) found
 
-pub record PassedAll {A : Type 0} (f : Data → Finding) (g : Data → A) (values : List Value) (done : List A) : Type 0 where
-  pub none : first_of (map f (map view values)) ≡ None
-  pub all : done ≡ map g (map view values)
+pub record PassedAll {A : Type 0} (f : Data → Finding) (g : Data → A) (values : List (Value Global)) (done : List A) : Type 0 where
+  pub none : first_of (map f (map data_of values)) ≡ None
+  pub all : done ≡ map g (map data_of values)
 
-pub passed_all : {A : Type 0} (f : Data → Finding) (g : Data → A) (values : List Value) (i : ℕ) (done : List A) → length values ≤ i → Passed f g values i done → PassedAll f g values done
+pub passed_all : {A : Type 0} (f : Data → Finding) (g : Data → A) (values : List (Value Global)) (i : ℕ) (done : List A) → length values ≤ i → Passed f g values i done → PassedAll f g values done
 passed_all {A = A} f g values i done end p = record {
-  none = p.left ∙ ap (λ (ys : List Value). first_of (map f (map view ys))) (drop_all i values end);
-  all = sym (p.whole ∙ ap (λ (ys : List Value). done ++ map g (map view ys)) (drop_all i values end) ∙ append-nil done);
+  none = p.left ∙ ap (λ (ys : List (Value Global)). first_of (map f (map data_of ys))) (drop_all i values end);
+  all = sym (p.whole ∙ ap (λ (ys : List (Value Global)). done ++ map g (map data_of ys)) (drop_all i values end) ∙ append-nil done);
 }
 
 -- ---- points, each of which is told with its number
 
 -- Nothing was found in the first i points, and what they say was read.
-pub record PassedPoints (bklt bkacc : Bool) (frames : ℕ) (values : List Value) (i : ℕ) (done : List Point) : Type 0 where
-  pub left : first_of (points_findings bklt bkacc frames 0 (map view values)) ≡ first_of (points_findings bklt bkacc frames i (map view (drop i values)))
-  pub whole : map (point_in bklt bkacc) (map view values) ≡ done ++ map (point_in bklt bkacc) (map view (drop i values))
+pub record PassedPoints (bklt bkacc : Bool) (frames : ℕ) (values : List (Value Global)) (i : ℕ) (done : List Point) : Type 0 where
+  pub left : first_of (points_findings bklt bkacc frames 0 (map data_of values)) ≡ first_of (points_findings bklt bkacc frames i (map data_of (drop i values)))
+  pub whole : map (point_in bklt bkacc) (map data_of values) ≡ done ++ map (point_in bklt bkacc) (map data_of (drop i values))
 
-pub no_point_passed : (bklt bkacc : Bool) (frames : ℕ) (values : List Value) → PassedPoints bklt bkacc frames values 0 []
+pub no_point_passed : (bklt bkacc : Bool) (frames : ℕ) (values : List (Value Global)) → PassedPoints bklt bkacc frames values 0 []
 no_point_passed bklt bkacc frames values = record { left = refl; whole = refl }
 
-found_next : (bklt bkacc : Bool) (frames : ℕ) (values : List Value) (i : ℕ) (done : List Point) (x : Value) → i < length values → x ≡ get_or values i x → PassedPoints bklt bkacc frames values i done
-    → first_of (points_findings bklt bkacc frames 0 (map view values)) ≡ first_of (first_of (point_findings bklt bkacc frames i (view x)) ∷ points_findings bklt bkacc frames (suc i) (map view (drop (i + 1) values)))
-found_next bklt bkacc frames values i done x lt is p = p.left ∙ ap (λ (ys : List Value). first_of (points_findings bklt bkacc frames i (map view ys))) (here values i x lt is)
+found_next : (bklt bkacc : Bool) (frames : ℕ) (values : List (Value Global)) (i : ℕ) (done : List Point) (x : Value Global) → i < length values → x ≡ get_or values i x → PassedPoints bklt bkacc frames values i done
+    → first_of (points_findings bklt bkacc frames 0 (map data_of values)) ≡ first_of (first_of (point_findings bklt bkacc frames i (data_of x)) ∷ points_findings bklt bkacc frames (suc i) (map data_of (drop (i + 1) values)))
+found_next bklt bkacc frames values i done x lt is p = p.left ∙ ap (λ (ys : List (Value Global)). first_of (points_findings bklt bkacc frames i (map data_of ys))) (here values i x lt is)
 
-pub point_passed : (bklt bkacc : Bool) (frames : ℕ) (values : List Value) (i : ℕ) (done : List Point) (x : Value) → i < length values → x ≡ get_or values i x → PassedPoints bklt bkacc frames values i done
-    → first_of (point_findings bklt bkacc frames i (view x)) ≡ None → PassedPoints bklt bkacc frames values (i + 1) (done ++ point_in bklt bkacc (view x) ∷ [])
+pub point_passed : (bklt bkacc : Bool) (frames : ℕ) (values : List (Value Global)) (i : ℕ) (done : List Point) (x : Value Global) → i < length values → x ≡ get_or values i x → PassedPoints bklt bkacc frames values i done
+    → first_of (point_findings bklt bkacc frames i (data_of x)) ≡ None → PassedPoints bklt bkacc frames values (i + 1) (done ++ point_in bklt bkacc (data_of x) ∷ [])
 point_passed bklt bkacc frames values i done x lt is p none = record {
   left = found_next bklt bkacc frames values i done x lt is p
-      ∙ ap (λ (o : Finding). first_of (o ∷ points_findings bklt bkacc frames (suc i) (map view (drop (i + 1) values)))) none
-      ∙ ap (λ (n : ℕ). first_of (points_findings bklt bkacc frames n (map view (drop (i + 1) values)))) (sym (add-one i));
-  whole = p.whole ∙ ap (λ (ys : List Value). done ++ map (point_in bklt bkacc) (map view ys)) (here values i x lt is)
-      ∙ sym (append_assoc done (point_in bklt bkacc (view x) ∷ []) (map (point_in bklt bkacc) (map view (drop (i + 1) values))));
+      ∙ ap (λ (o : Finding). first_of (o ∷ points_findings bklt bkacc frames (suc i) (map data_of (drop (i + 1) values)))) none
+      ∙ ap (λ (n : ℕ). first_of (points_findings bklt bkacc frames n (map data_of (drop (i + 1) values)))) (sym (add-one i));
+  whole = p.whole ∙ ap (λ (ys : List (Value Global)). done ++ map (point_in bklt bkacc) (map data_of ys)) (here values i x lt is)
+      ∙ sym (append_assoc done (point_in bklt bkacc (data_of x) ∷ []) (map (point_in bklt bkacc) (map data_of (drop (i + 1) values))));
 }
 
-pub point_refused : (bklt bkacc : Bool) (frames : ℕ) (values : List Value) (i : ℕ) (done : List Point) (x : Value) (fault : DhatFault) → i < length values → x ≡ get_or values i x → PassedPoints bklt bkacc frames values i done
-    → first_of (point_findings bklt bkacc frames i (view x)) ≡ Some fault → first_of (points_findings bklt bkacc frames 0 (map view values)) ≡ Some fault
+pub point_refused : (bklt bkacc : Bool) (frames : ℕ) (values : List (Value Global)) (i : ℕ) (done : List Point) (x : Value Global) (fault : DhatFault) → i < length values → x ≡ get_or values i x → PassedPoints bklt bkacc frames values i done
+    → first_of (point_findings bklt bkacc frames i (data_of x)) ≡ Some fault → first_of (points_findings bklt bkacc frames 0 (map data_of values)) ≡ Some fault
 point_refused bklt bkacc frames values i done x fault lt is p found =
-    found_next bklt bkacc frames values i done x lt is p ∙ ap (λ (o : Finding). first_of (o ∷ points_findings bklt bkacc frames (suc i) (map view (drop (i + 1) values)))) found
+    found_next bklt bkacc frames values i done x lt is p ∙ ap (λ (o : Finding). first_of (o ∷ points_findings bklt bkacc frames (suc i) (map data_of (drop (i + 1) values)))) found
 
-pub record PassedAllPoints (bklt bkacc : Bool) (frames : ℕ) (values : List Value) (done : List Point) : Type 0 where
-  pub none : first_of (points_findings bklt bkacc frames 0 (map view values)) ≡ None
-  pub all : done ≡ map (point_in bklt bkacc) (map view values)
+pub record PassedAllPoints (bklt bkacc : Bool) (frames : ℕ) (values : List (Value Global)) (done : List Point) : Type 0 where
+  pub none : first_of (points_findings bklt bkacc frames 0 (map data_of values)) ≡ None
+  pub all : done ≡ map (point_in bklt bkacc) (map data_of values)
 
-pub all_points_passed : (bklt bkacc : Bool) (frames : ℕ) (values : List Value) (i : ℕ) (done : List Point) → length values ≤ i → PassedPoints bklt bkacc frames values i done → PassedAllPoints bklt bkacc frames values done
+pub all_points_passed : (bklt bkacc : Bool) (frames : ℕ) (values : List (Value Global)) (i : ℕ) (done : List Point) → length values ≤ i → PassedPoints bklt bkacc frames values i done → PassedAllPoints bklt bkacc frames values done
 all_points_passed bklt bkacc frames values i done end p = record {
-  none = p.left ∙ ap (λ (ys : List Value). first_of (points_findings bklt bkacc frames i (map view ys))) (drop_all i values end);
-  all = sym (p.whole ∙ ap (λ (ys : List Value). done ++ map (point_in bklt bkacc) (map view ys)) (drop_all i values end) ∙ append-nil done);
+  none = p.left ∙ ap (λ (ys : List (Value Global)). first_of (points_findings bklt bkacc frames i (map data_of ys))) (drop_all i values end);
+  all = sym (p.whole ∙ ap (λ (ys : List (Value Global)). done ++ map (point_in bklt bkacc) (map data_of ys)) (drop_all i values end) ∙ append-nil done);
 }

@@ -1,4 +1,5 @@
 pub mod Adds
+pub mod DataOf
 pub mod DhatFault
 pub mod DhatValue
 pub mod Document

@@ -20,6 +20,7 @@
 //! |---|---|
 //! | `profile.rt`, `lists.rt` | what a file says, as values; its lists |
 //! | `key.rt`, `figure.rt` | its keys, and the figures of a point by their keys |
+//! | `value.rt`, `number.rt` | a JSON value of a document, and its numbers |
 //! | `reader.rt`, `parts.rt`, `point.rt`, `member.rt` | a document, the parts of a profile, its points, one member |
 //! | `writer.rt`, `tokens.rt` | a profile as its one text, and the members of an object one by one |
 //! | `shown.rt` | the shown form of a text |
@@ -33,12 +34,14 @@ mod key;
 mod laws;
 mod lists;
 mod member;
+mod number;
 mod parts;
 mod point;
 mod profile;
 mod reader;
 mod shown;
 mod tokens;
+mod value;
 mod writer;
 
 pub use fault::DhatFault;

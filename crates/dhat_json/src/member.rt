@@ -1,36 +1,29 @@
 //! One member of a JSON value by its key: its value in the kind that the key has, or why there is none.
 //! Which keys there are, and in which order they are read, is decided by the callers.
-ghost use Rattle.std.specs.Prelude.{◌≡◌, List, None, Some, map, option_map, IfOk, IfErr, IfSome, IsUtf8};
-ghost use Rattle.serde_json.specs.Find.{get, as_str, as_bool};
-ghost use Rattle.serde_json.specs.View.{view};
+ghost use Rattle.std.specs.Prelude.{◌≡◌, List, None, Some, map, IfOk, IfErr, IfSome, IsUtf8};
+ghost use Rattle.serde_json.specs.Find.{as_str, as_bool};
+ghost use Rattle.dhat_json.specs.DataOf.{data_of};
 ghost use Rattle.dhat_json.specs.DhatFault.{needed, allowed};
-ghost use Rattle.dhat_json.specs.KeyName.{key_name};
 ghost use Rattle.dhat_json.specs.Kinds.{as_whole, as_list};
 ghost use Rattle.dhat_json.specs.ProfileIn.{found, text_at, whole_at, flag_at, list_at};
 ghost use Rattle.dhat_json.specs.Reads.{Reads};
 
 use crate::fault::DhatFault;
 use crate::key::Key;
+use crate::value::{as_flag, as_list, as_text, as_whole, member};
 use hp_num::Text;
-use serde_json::Value;
+use json::Value;
 use std::alloc::Global;
-
-/// The value at a key.
-pub(crate) fn member<'v>(value: &'v Value, key: Key) -> Option<&'v Value>
-    ensures { option_map (λ v. view v.now) result ≡ get (key_name key) (view value.now) }
-{
-    value.get(key.name())
-}
 
 /// A whole number that must be there.
 pub(crate) fn read_whole(value: &Value, point: Option<u32>, key: Key) -> Result<u64, DhatFault>
-    ensures { Reads result (needed as_whole point key (view value.now))
-        (whole_at key (view value.now)) }
+    ensures { Reads result (needed as_whole point key (data_of value.now))
+        (whole_at key (data_of value.now)) }
 {
     let Some(found) = member(value, key) else {
         return Err(DhatFault::MissingKey { point, key });
     };
-    match found.as_u64() {
+    match as_whole(found) {
         Some(number) => Ok(number),
         None => Err(DhatFault::WrongKind { point, key }),
     }
@@ -38,13 +31,13 @@ pub(crate) fn read_whole(value: &Value, point: Option<u32>, key: Key) -> Result<
 
 /// A whole number of the profile that may be left out.
 pub(crate) fn read_optional_whole(value: &Value, key: Key) -> Result<Option<u64>, DhatFault>
-    ensures { Reads result (allowed as_whole None key (view value.now))
-        (found as_whole key (view value.now)) }
+    ensures { Reads result (allowed as_whole None key (data_of value.now))
+        (found as_whole key (data_of value.now)) }
 {
     let Some(found) = member(value, key) else {
         return Ok(None);
     };
-    match found.as_u64() {
+    match as_whole(found) {
         Some(number) => Ok(Some(number)),
         None => Err(DhatFault::WrongKind { point: None, key }),
     }
@@ -52,13 +45,13 @@ pub(crate) fn read_optional_whole(value: &Value, key: Key) -> Result<Option<u64>
 
 /// A flag of the profile.
 pub(crate) fn read_flag(value: &Value, key: Key) -> Result<bool, DhatFault>
-    ensures { Reads result (needed as_bool None key (view value.now))
-        (flag_at key (view value.now)) }
+    ensures { Reads result (needed as_bool None key (data_of value.now))
+        (flag_at key (data_of value.now)) }
 {
     let Some(found) = member(value, key) else {
         return Err(DhatFault::MissingKey { point: None, key });
     };
-    match found.as_bool() {
+    match as_flag(found) {
         Some(flag) => Ok(flag),
         None => Err(DhatFault::WrongKind { point: None, key }),
     }
@@ -66,14 +59,14 @@ pub(crate) fn read_flag(value: &Value, key: Key) -> Result<bool, DhatFault>
 
 /// A text of the profile.
 pub(crate) fn read_text(alloc: Global, value: &Value, key: Key) -> Result<Text, DhatFault>
-    ensures read { Reads result (needed as_str None key (view value.now))
-        (text_at key (view value.now)) }
+    ensures read { Reads result (needed as_str None key (data_of value.now))
+        (text_at key (data_of value.now)) }
     ensures utf8 { IfOk result IsUtf8 }
 {
     let Some(found) = member(value, key) else {
         return Err(DhatFault::MissingKey { point: None, key });
     };
-    let Some(text) = found.as_str() else {
+    let Some(text) = as_text(found) else {
         return Err(DhatFault::WrongKind { point: None, key });
     };
     Ok(Text::new(alloc, text.as_bytes())?)
@@ -85,35 +78,35 @@ pub(crate) fn read_optional_text(
     value: &Value,
     key: Key,
 ) -> Result<Option<Text>, DhatFault>
-    ensures read { Reads result (allowed as_str None key (view value.now))
-        (found as_str key (view value.now)) }
+    ensures read { Reads result (allowed as_str None key (data_of value.now))
+        (found as_str key (data_of value.now)) }
     ensures utf8 { IfOk result (λ text. IfSome text IsUtf8) }
 {
     let Some(found) = member(value, key) else {
         return Ok(None);
     };
-    let Some(text) = found.as_str() else {
+    let Some(text) = as_text(found) else {
         return Err(DhatFault::WrongKind { point: None, key });
     };
     Ok(Some(Text::new(alloc, text.as_bytes())?))
 }
 
 /// The items of an array that must be there.
-#[tactic(auto, using(crate::proofs::ValueLists::list_of_items))]
-pub(crate) fn read_list<'v>(
-    value: &'v Value,
+pub(crate) fn read_list<'v, 'a>(
+    value: &'v Value<'a>,
     point: Option<u32>,
     key: Key,
-) -> Result<&'v [Value], DhatFault>
-    ensures ok { IfOk result (λ list. (needed as_list point key (view value.now) ≡ None)
-        × (map view list.now ≡ list_at key (view value.now))) }
-    ensures err { IfErr result (λ fault. needed as_list point key (view value.now) ≡ Some fault) }
+) -> Result<&'v [Value<'a>], DhatFault>
+    ensures ok { IfOk result (λ list. (needed as_list point key (data_of value.now) ≡ None)
+        × (map data_of list.now ≡ list_at key (data_of value.now))) }
+    ensures err { IfErr result
+        (λ fault. needed as_list point key (data_of value.now) ≡ Some fault) }
 {
     let Some(found) = member(value, key) else {
         return Err(DhatFault::MissingKey { point, key });
     };
-    match found.as_array() {
-        Some(list) => Ok(list.as_slice()),
+    match as_list(found) {
+        Some(list) => Ok(list),
         None => Err(DhatFault::WrongKind { point, key }),
     }
 }

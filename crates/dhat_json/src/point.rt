@@ -1,6 +1,6 @@
 //! The points of a profile, read from their JSON values: the first fault of the first faulty point is the answer.
 ghost use Rattle.std.specs.Prelude.{◌≡◌, ◌-◌, ◌^◌, ◌<◌, length, map, Some};
-ghost use Rattle.serde_json.specs.View.{view};
+ghost use Rattle.dhat_json.specs.DataOf.{data_of};
 ghost use Rattle.dhat_json.specs.DhatFault.{first_of, frame_finding, frames_findings, life_findings, access_findings, point_findings, points_findings, allowed};
 ghost use Rattle.dhat_json.specs.Kinds.{as_list};
 ghost use Rattle.dhat_json.specs.ProfileIn.{whole_in, list_at, life_in, access_in, part_in, point_in};
@@ -9,9 +9,10 @@ ghost use Rattle.dhat_json.specs.Reads.{Reads};
 use crate::fault::DhatFault;
 use crate::key::Key;
 use crate::lists::{FrameList, Points};
-use crate::member::{member, read_list, read_whole};
+use crate::member::{read_list, read_whole};
 use crate::profile::{Access, Life, Point};
-use serde_json::Value;
+use crate::value::{as_list, as_whole, is_object, member};
+use json::Value;
 use std::alloc::Global;
 
 /// What a profile says of all its points: the parts that they have, and the length of the table of frames.
@@ -30,8 +31,8 @@ pub(crate) fn read_points(
 ) -> Result<Points, DhatFault>
     requires few { length values.now < 2 ^ 32 - 1 }
     ensures { Reads result
-        (first_of (points_findings shape.bklt shape.bkacc shape.frames 0 (map view values.now)))
-        (map (point_in shape.bklt shape.bkacc) (map view values.now)) }
+        (first_of (points_findings shape.bklt shape.bkacc shape.frames 0 (map data_of values.now)))
+        (map (point_in shape.bklt shape.bkacc) (map data_of values.now)) }
 {
     let mut points = Points::new(alloc);
     let mut number: u32 = 0;
@@ -44,10 +45,10 @@ pub(crate) fn read_points(
 
 fn read_point(alloc: Global, value: &Value, shape: Shape, number: u32) -> Result<Point, DhatFault>
     ensures { Reads result
-        (first_of (point_findings shape.bklt shape.bkacc shape.frames number (view value.now)))
-        (point_in shape.bklt shape.bkacc (view value.now)) }
+        (first_of (point_findings shape.bklt shape.bkacc shape.frames number (data_of value.now)))
+        (point_in shape.bklt shape.bkacc (data_of value.now)) }
 {
-    if !value.is_object() {
+    if !is_object(value) {
         return Err(DhatFault::WrongKind {
             point: Some(number),
             key: Key::Pps,
@@ -68,8 +69,8 @@ fn read_point(alloc: Global, value: &Value, shape: Shape, number: u32) -> Result
 }
 
 fn read_life(value: &Value, number: u32, told: bool) -> Result<Option<Life>, DhatFault>
-    ensures { Reads result (first_of (life_findings told number (view value.now)))
-        (part_in told (life_in (view value.now))) }
+    ensures { Reads result (first_of (life_findings told number (data_of value.now)))
+        (part_in told (life_in (data_of value.now))) }
 {
     if !told {
         return Ok(None);
@@ -87,8 +88,8 @@ fn read_life(value: &Value, number: u32, told: bool) -> Result<Option<Life>, Dha
 }
 
 fn read_access(value: &Value, number: u32, told: bool) -> Result<Option<Access>, DhatFault>
-    ensures { Reads result (first_of (access_findings told number (view value.now)))
-        (part_in told (access_in (view value.now))) }
+    ensures { Reads result (first_of (access_findings told number (data_of value.now)))
+        (part_in told (access_in (data_of value.now))) }
 {
     if !told {
         return Ok(None);
@@ -101,10 +102,10 @@ fn read_access(value: &Value, number: u32, told: bool) -> Result<Option<Access>,
 
 // The counts of accesses may be left out, and are dropped where they stand.
 fn check_counts(value: &Value, number: u32) -> Result<(), DhatFault>
-    ensures { Reads result (allowed as_list (Some number) Key.Acc (view value.now)) tt }
+    ensures { Reads result (allowed as_list (Some number) Key.Acc (data_of value.now)) tt }
 {
     match member(value, Key::Acc) {
-        Some(counts) if !counts.is_array() => Err(DhatFault::WrongKind {
+        Some(counts) if as_list(counts).is_none() => Err(DhatFault::WrongKind {
             point: Some(number),
             key: Key::Acc,
         }),
@@ -118,8 +119,8 @@ fn read_frames(
     number: u32,
     frames: usize,
 ) -> Result<FrameList, DhatFault>
-    ensures { Reads result (first_of (frames_findings number frames (view value.now)))
-        (map whole_in (list_at Key.Fs (view value.now))) }
+    ensures { Reads result (first_of (frames_findings number frames (data_of value.now)))
+        (map whole_in (list_at Key.Fs (data_of value.now))) }
 {
     let values = read_list(value, Some(number), Key::Fs)?;
     let mut list = FrameList::new(alloc);
@@ -130,10 +131,10 @@ fn read_frames(
 }
 
 fn read_frame(value: &Value, number: u32, frames: usize) -> Result<u64, DhatFault>
-    ensures { Reads result (frame_finding number frames (view value.now))
-        (whole_in (view value.now)) }
+    ensures { Reads result (frame_finding number frames (data_of value.now))
+        (whole_in (data_of value.now)) }
 {
-    let Some(frame) = value.as_u64() else {
+    let Some(frame) = as_whole(value) else {
         return Err(DhatFault::WrongKind {
             point: Some(number),
             key: Key::Fs,

@@ -2,7 +2,7 @@
 //! the order of the format's checks.
 ghost use Rattle.std.specs.Prelude.{◌≡◌, ◌-◌, ◌^◌, ◌<◌, length, map, Ok, IfOk, IfErr, IfSome, All, IsUtf8};
 ghost use Rattle.serde_json.specs.Find.{as_str};
-ghost use Rattle.serde_json.specs.View.{view};
+ghost use Rattle.dhat_json.specs.DataOf.{data_of};
 ghost use Rattle.dhat_json.specs.declared.profile.Dhat.{Dhat};
 ghost use Rattle.dhat_json.specs.DhatFault.{first_of, version_findings, head_findings, unit_findings, run_findings, table_findings, listed_points_findings, other_kind};
 ghost use Rattle.dhat_json.specs.Document.{document_of, dhat_in, IsDocument};
@@ -15,13 +15,14 @@ use crate::fault::DhatFault;
 use crate::key::Key;
 use crate::lists::{Points, Texts};
 use crate::member::{
-    member, read_flag, read_list, read_optional_text, read_optional_whole, read_text, read_whole,
+    read_flag, read_list, read_optional_text, read_optional_whole, read_text, read_whole,
 };
 use crate::parts::{Head, Run, Units, join_parts};
 use crate::point::{Shape, read_points};
 use crate::profile::{Dhat, VERSION};
+use crate::value::{as_text, as_whole, is_object, member, parse_value};
 use hp_num::Text;
-use serde_json::Value;
+use json::{Scratch, Value};
 use std::alloc::Global;
 
 /// The number of points that can't be numbered any more.
@@ -47,15 +48,18 @@ fn read_document(alloc: Global, bytes: &[u8]) -> Result<Dhat, DhatFault>
     ensures exact { Answers result (document_of bytes.now) }
     ensures texts { IfOk result HasTexts }
 {
-    match Value::from_slice(alloc, bytes) {
+    let Ok(text) = str::from_utf8(bytes) else {
+        return Err(DhatFault::NotJson);
+    };
+    let mut scratch = Scratch::new(alloc);
+    match parse_value(alloc, text, &mut scratch) {
         Ok(value) => read_value(alloc, &value),
-        Err(error) if error.is_memory() => Err(DhatFault::NoMemory),
-        Err(_) => Err(DhatFault::NotJson),
+        Err(fault) => Err(fault),
     }
 }
 
 fn read_value(alloc: Global, value: &Value) -> Result<Dhat, DhatFault>
-    ensures exact { Answers result (dhat_in (view value.now)) }
+    ensures exact { Answers result (dhat_in (data_of value.now)) }
     ensures texts { IfOk result HasTexts }
 {
     let head = read_head(alloc, value)?;
@@ -72,11 +76,11 @@ fn read_value(alloc: Global, value: &Value) -> Result<Dhat, DhatFault>
 }
 
 fn read_head(alloc: Global, value: &Value) -> Result<Head, DhatFault>
-    ensures read { Reads result (first_of (head_findings (view value.now)))
-        (head_in (view value.now)) }
+    ensures read { Reads result (first_of (head_findings (data_of value.now)))
+        (head_in (data_of value.now)) }
     ensures utf8 { IfOk result (λ head. IsUtf8 head.mode × IsUtf8 head.verb) }
 {
-    if !value.is_object() {
+    if !is_object(value) {
         return Err(DhatFault::NotJson);
     }
     check_version(value)?;
@@ -93,7 +97,7 @@ fn read_head(alloc: Global, value: &Value) -> Result<Head, DhatFault>
 }
 
 fn check_version(value: &Value) -> Result<(), DhatFault>
-    ensures { Reads result (first_of (version_findings (view value.now))) tt }
+    ensures { Reads result (first_of (version_findings (data_of value.now))) tt }
 {
     let Some(version) = member(value, Key::DhatFileVersion) else {
         return Err(DhatFault::MissingKey {
@@ -101,15 +105,15 @@ fn check_version(value: &Value) -> Result<(), DhatFault>
             key: Key::DhatFileVersion,
         });
     };
-    match version.as_u64() {
+    match as_whole(version) {
         Some(VERSION) => Ok(()),
         _ => Err(DhatFault::WrongFileVersion),
     }
 }
 
 fn read_units(alloc: Global, value: &Value) -> Result<Units, DhatFault>
-    ensures read { Reads result (first_of (unit_findings (view value.now)))
-        (units_in (view value.now)) }
+    ensures read { Reads result (first_of (unit_findings (data_of value.now)))
+        (units_in (data_of value.now)) }
     ensures utf8 { IfOk result (λ units. IfSome units.bu IsUtf8 × IfSome units.bsu IsUtf8
         × IfSome units.bksu IsUtf8 × IsUtf8 units.tu × IsUtf8 units.mtu) }
 {
@@ -124,8 +128,8 @@ fn read_units(alloc: Global, value: &Value) -> Result<Units, DhatFault>
 }
 
 fn read_run(alloc: Global, value: &Value) -> Result<Run, DhatFault>
-    ensures read { Reads result (first_of (run_findings (view value.now)))
-        (run_in (view value.now)) }
+    ensures read { Reads result (first_of (run_findings (data_of value.now)))
+        (run_in (data_of value.now)) }
     ensures utf8 { IfOk result (λ run. IsUtf8 run.cmd) }
 {
     Ok(Run {
@@ -137,8 +141,8 @@ fn read_run(alloc: Global, value: &Value) -> Result<Run, DhatFault>
 }
 
 fn read_table(alloc: Global, value: &Value) -> Result<Texts, DhatFault>
-    ensures read { Reads result (first_of (table_findings (view value.now)))
-        (map text_in (list_at Key.Ftbl (view value.now))) }
+    ensures read { Reads result (first_of (table_findings (data_of value.now)))
+        (map text_in (list_at Key.Ftbl (data_of value.now))) }
     ensures utf8 { IfOk result (All IsUtf8) }
 {
     let values = read_list(value, None, Key::Ftbl)?;
@@ -151,11 +155,11 @@ fn read_table(alloc: Global, value: &Value) -> Result<Texts, DhatFault>
 
 // One text of the table.
 fn read_entry(alloc: Global, value: &Value) -> Result<Text, DhatFault>
-    ensures read { Reads result (other_kind as_str None Key.Ftbl (view value.now))
-        (text_in (view value.now)) }
+    ensures read { Reads result (other_kind as_str None Key.Ftbl (data_of value.now))
+        (text_in (data_of value.now)) }
     ensures utf8 { IfOk result IsUtf8 }
 {
-    let Some(text) = value.as_str() else {
+    let Some(text) = as_text(value) else {
         return Err(DhatFault::WrongKind {
             point: None,
             key: Key::Ftbl,
@@ -166,8 +170,8 @@ fn read_entry(alloc: Global, value: &Value) -> Result<Text, DhatFault>
 
 fn read_all_points(alloc: Global, value: &Value, shape: Shape) -> Result<Points, DhatFault>
     ensures { Reads result
-        (first_of (listed_points_findings shape.bklt shape.bkacc shape.frames (view value.now)))
-        (map (point_in shape.bklt shape.bkacc) (list_at Key.Pps (view value.now))) }
+        (first_of (listed_points_findings shape.bklt shape.bkacc shape.frames (data_of value.now)))
+        (map (point_in shape.bklt shape.bkacc) (list_at Key.Pps (data_of value.now))) }
 {
     let values = read_list(value, None, Key::Pps)?;
     if values.len() >= TOO_MANY {

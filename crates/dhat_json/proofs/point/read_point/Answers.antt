@@ -1,7 +1,7 @@
 use Rattle.std.proofs.Common.{◌≡◌, ◌++◌, Some, None, ◌∙◌, rules}
 use Rattle.std.proofs.lemmas.Result.{err_from_is_err_and}
 use Rattle.serde_json.specs.Find.{as_object}
-use Rattle.serde_json.specs.View.{view}
+use Rattle.dhat_json.specs.DataOf.{data_of}
 use Rattle.dhat_json.specs.declared.key.Key.TheVariants.{Pps}
 use Rattle.dhat_json.specs.DhatFault.{other_kind, life_findings, access_findings, frames_findings}
 use Rattle.dhat_json.proofs.Findings.{three_passed, first_later, first_stays, fault_follows}
@@ -9,7 +9,7 @@ use Rattle.dhat_json.proofs.point.read_point.Goals as goal
 
 pub returns-in_err-life : goal.returns-in_err-life
 returns-in_err-life c =
-    let d = view c.args.value.now in
+    let d = data_of c.args.value.now in
     let s = c.args.shape in
     let object : other_kind as_object (Some c.args.number) Pps d ≡ None = search rules in
     let life = life_findings s.bklt c.args.number d in
@@ -20,7 +20,7 @@ returns-in_err-life c =
 
 pub returns-in_err-access : goal.returns-in_err-access
 returns-in_err-access c =
-    let d = view c.args.value.now in
+    let d = data_of c.args.value.now in
     let s = c.args.shape in
     let object : other_kind as_object (Some c.args.number) Pps d ≡ None = search rules in
     let life = life_findings s.bklt c.args.number d in
@@ -32,7 +32,7 @@ returns-in_err-access c =
 
 pub returns-in_err-fs : goal.returns-in_err-fs
 returns-in_err-fs c =
-    let d = view c.args.value.now in
+    let d = data_of c.args.value.now in
     let s = c.args.shape in
     let object : other_kind as_object (Some c.args.number) Pps d ≡ None = search rules in
     let life = life_findings s.bklt c.args.number d in
