@@ -17,12 +17,12 @@
 //! How: flame stacks are a walk over the tree of the stacks from the root, with a list of the nodes that are left, the
 //! next one last; a line's texts are found upwards from its node, so that the walk takes about the time of what it
 //! writes. A section is made of the figures of all stacks: those that aren't 0 become entries, which are sorted once
-//! (`ordered_stacks`). Where stacks are merged, they are shared out to groups by the text of their innermost frame,
-//! which is made once a stack and interned; so a group has its stacks in their order, and its sum and least stack while
-//! it is made (`ordered_groups`, `IsShared`). Only what is shown is written, each frame's text straight into the
-//! output. Patterns of suppressions are asked once for a frame: of those in order that don't begin with another, a text
-//! can begin only with the last that isn't behind it (`AreLeast`); what a stack's own instruction and its caller answer
-//! is the stack's answer.
+//! (`ordered_stacks`). Where stacks are merged, the text of an innermost frame is made and interned once a report, and
+//! each stack has its number (`TellPlaces`). By these numbers each stack of a section is linked to the last one before it
+//! with the same text (`ArePlaced`); along the links a group is summed up (`ordered_groups`), and its stacks are found in
+//! their order. Only what is shown is written, each frame's text straight into the output. Patterns of suppressions are
+//! asked once for a frame: of those in order that don't begin with another, a text can begin only with the last that
+//! isn't behind it (`AreLeast`); what a stack's own instruction and its caller answer is the stack's answer.
 //!
 //! The tests of these calls are the crate `ht_print_tests`.
 //!
@@ -32,7 +32,8 @@
 //! | `flame.rt`, `flame_lines.rt` | flame stacks, and the walk that writes them |
 //! | `report.rt`, `options.rt`, `layout.rt` | the report: which parts are asked for, and the figures of each |
 //! | `section.rt` | a section around its entries; the leaks without those of suppressed stacks |
-//! | `entry.rt`, `groups.rt` | the stacks that have a figure, and the order; stacks in groups |
+//! | `entry.rt` | the stacks that have a figure, and the order |
+//! | `places.rt`, `placed_stacks.rt`, `groups.rt` | stacks by their innermost frames' texts: of a trace, of a section, in groups |
 //! | `report_lines.rt`, `scale.rt` | the lines of a stack and of a group; a figure with its unit and its share |
 //! | `suppressed.rt` | which stacks are suppressed |
 //! | `met_frames.rt`, `least_patterns.rt` | in which frames a pattern stands; whether one of some patterns stands in a text |
