@@ -94,6 +94,24 @@ fn shown_of_fronts(
     shown(rt, alloc, &tree)
 }
 
+/// The tree of lists with these costs shows these nodes.
+// A value of many parts is let go by a call, before any `?`: that is one step of the proof.
+fn shows(
+    rt: &impl Abort,
+    alloc: Global,
+    fronts: Fronts,
+    costs: &[u64],
+    depth: u32,
+    nodes: &[u8],
+) -> Result<(), NoMemory>
+    requires { sum costs.now ≤ 2 ^ 62 }
+{
+    let text = shown_of_fronts(rt, alloc, &fronts, costs, depth);
+    drop(fronts);
+    assert_eq!(rt; text?.as_slice(), nodes);
+    Ok(())
+}
+
 fn check_tree(
     rt: &impl Abort,
     alloc: Global,
@@ -105,9 +123,7 @@ fn check_tree(
     requires { sum costs.now ≤ 2 ^ 62 }
 {
     let fronts = fronts_of(rt, alloc, lists)?;
-    let text = shown_of_fronts(rt, alloc, &fronts, costs, depth)?;
-    assert_eq!(rt; text.as_slice(), nodes);
-    Ok(())
+    shows(rt, alloc, fronts, costs, depth, nodes)
 }
 
 // The stacks of the worked trace, from the outermost frame and from the innermost: `main` alone and below `f` are two
@@ -164,29 +180,31 @@ fn fronts_to_a_depth(rt: HostRuntime) -> Result<(), NoMemory> {
     check_tree(&rt, rt.alloc(), b"main||f", &[1, 2, 4], 0, b"0 7 2 0 :\n")
 }
 
+/// Lets the last list go on with the first text of the first list.
+fn push_first(rt: &impl Abort, alloc: Global, fronts: &mut Fronts) -> Result<(), NoMemory> {
+    let mut numbers = Vec::new(alloc);
+    assert!(rt; fronts.len() > 0);
+    fronts.push_first(0, 1, &mut numbers)
+}
+
 // The second list goes on with the first of the first list's two texts.
 #[test]
 fn first_texts_of_a_list(rt: HostRuntime) -> Result<(), NoMemory> {
     let mut fronts = fronts_of(&rt, rt.alloc(), b"a;b|d")?;
-    let mut numbers = Vec::new(rt.alloc());
-    assert!(&rt; fronts.len() > 0);
-    fronts.push_first(0, 1, &mut numbers)?;
-    let text = shown_of_fronts(&rt, rt.alloc(), &fronts, &[1, 2], 4096)?;
+    assert_eq!(rt; push_first(&rt, rt.alloc(), &mut fronts), Ok(()));
     let nodes = b"0 3 0 0 :1,3,\n0 1 0 0 a:2,\n1 1 1 0 b:\n0 2 0 1 d:4,\n3 2 2 1 a:\n";
-    assert_eq!(&rt; text.as_slice(), nodes.as_slice());
-    Ok(())
+    shows(&rt, rt.alloc(), fronts, &[1, 2], 4096, nodes)
 }
 
-/// The tables of the lines of the worked trace, of which each ends with a line feed but the last.
-fn worked_tables(rt: &impl Abort, alloc: Global) -> Result<Tables, LineError> {
+/// Reads the lines of the worked trace, of which each ends with a line feed but the last.
+fn read_worked(rt: &impl Abort, tables: &mut Tables) -> Result<(), LineError> {
     let lines =
         b"v 10500 2\ns app\ns main\ns f\ns a.c\ni 400 1 2 4 14\ni 500 1 3 4 a\nt 1 0\nt 2 1";
-    let mut tables = Tables::new(alloc);
     for line in lines.split(|byte| *byte == b'\n') {
         assert!(rt; line.len() < 1000);
         tables.line(line)?;
     }
-    Ok(tables)
+    Ok(())
 }
 
 /// What the tree of a trace's stacks with these costs shows.
@@ -212,14 +230,17 @@ fn shown_of_trace(
     alloc: Global,
     direction: Direction,
     style: Style,
-) -> Result<Vec<u8>, LineError> {
-    let tables = worked_tables(rt, alloc)?;
-    Ok(shown_of_stacks(rt, alloc, &tables, &[0, 100, 100], direction, style)?)
+) -> Result<Vec<u8>, NoMemory> {
+    let mut tables = Tables::new(alloc);
+    assert_eq!(rt; read_worked(rt, &mut tables), Ok(()));
+    let shown = shown_of_stacks(rt, alloc, &tables, &[0, 100, 100], direction, style);
+    drop(tables);
+    shown
 }
 
 // The stacks of the worked trace, whose texts are those of its frames.
 #[test]
-fn stacks_of_a_trace(rt: HostRuntime) -> Result<(), LineError> {
+fn stacks_of_a_trace(rt: HostRuntime) -> Result<(), NoMemory> {
     let root = shown_of_trace(&rt, rt.alloc(), Direction::FromRoot, Style::Plain)?;
     assert_eq!(rt;
         root.as_slice(),
@@ -236,9 +257,7 @@ fn stacks_of_a_trace(rt: HostRuntime) -> Result<(), LineError> {
 #[test]
 fn no_stacks(rt: HostRuntime) -> Result<(), NoMemory> {
     let fronts = Fronts::new(rt.alloc());
-    let text = shown_of_fronts(&rt, rt.alloc(), &fronts, &[], 4096)?;
-    assert_eq!(rt; text.as_slice(), b"0 0 0 0 :\n".as_slice());
-    Ok(())
+    shows(&rt, rt.alloc(), fronts, &[], 4096, b"0 0 0 0 :\n")
 }
 
 fn cost_at(rt: &impl Abort, costs: &[u64], stack: u32) -> u64

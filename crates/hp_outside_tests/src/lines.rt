@@ -49,23 +49,55 @@ fn limits_of(case: &Case) -> Limits {
     }
 }
 
-/// Four calls give what the case says.
-fn expect(rt: &impl Abort, alloc: Global, case: &Case) -> Result<(), Fail> {
-    let (bytes, piece) = (case.bytes, case.piece.max(1));
-    let mut store = MemStore::new(alloc, piece);
-    store.add("a", bytes.as_bytes())?;
+/// The open file of the case, whose calls may fail, and beside it a file of two bytes.
+fn two_files(rt: &impl Abort, alloc: Global, case: &Case) -> Result<MemStore, Fail>
+    ensures current { IfOk result (λ store. IsSome store.store.left) }
+    ensures opens { IfOk result (λ store. store.store.opens ≡ 1) }
+{
+    let mut store = MemStore::new(alloc, case.piece.max(1));
+    store.add("a", case.bytes.as_bytes())?;
+    store.add("b", b"ef")?;
     store.fail_at(case.failing_call)?;
-    opens(rt, &mut store, "a");
-    let mut reader = LineReader::new(alloc, &limits_of(case))?;
-    let mut lines = Vec::new(alloc);
+    assert_eq!(rt; store.open("a"), Ok(()));
+    Ok(store)
+}
+
+/// Appends the lines that four calls give, each with a line feed, and answers what the last call does.
+fn four_calls(
+    reader: &mut LineReader,
+    store: &mut MemStore,
+    lines: &mut Vec<u8>,
+) -> Result<Result<Option<Span>, LineFault>, Fail>
+    requires current { IsSome store.old.store.left }
+    requires ended { reader.old.ended ≡ true
+        → WhereTold store.old.store.left (λ bytes. bytes ≡ []) }
+{
     let mut last = Ok(None);
     'calls: for _ in 0..4 {
-        last = reader.next(&mut store);
+        last = reader.next(store);
         if let Ok(Some(span)) = last {
             lines.extend_from_slice(reader.line(&span))?;
             lines.push(b'\n')?;
         }
     }
+    Ok(last)
+}
+
+/// Four calls give what the case says.
+fn give(
+    rt: &impl Abort,
+    alloc: Global,
+    case: &Case,
+    reader: &mut LineReader,
+    store: &mut MemStore,
+) -> Result<(), Fail>
+    requires current { IsSome store.old.store.left }
+    requires ended { reader.old.ended ≡ true
+        → WhereTold store.old.store.left (λ bytes. bytes ≡ []) }
+{
+    let (bytes, piece) = (case.bytes, case.piece);
+    let mut lines = Vec::new(alloc);
+    let last = four_calls(reader, store, &mut lines)?;
     assert_eq!(rt;
         lines.as_slice(),
         case.lines.as_bytes(),
@@ -78,6 +110,13 @@ fn expect(rt: &impl Abort, alloc: Global, case: &Case) -> Result<(), Fail> {
         "{bytes:?} by {piece}"
     );
     Ok(())
+}
+
+/// Four calls on a new reader give what the case says.
+fn expect(rt: &impl Abort, alloc: Global, case: &Case) -> Result<(), Fail> {
+    let mut store = two_files(rt, alloc, case)?;
+    let mut reader = LineReader::new(alloc, &limits_of(case))?;
+    give(rt, alloc, case, &mut reader, &mut store)
 }
 
 #[test]
@@ -143,19 +182,6 @@ fn failed_reads(rt: HostRuntime) -> Result<(), Fail> {
         expect(&rt, rt.alloc(), case)?;
     }
     Ok(())
-}
-
-/// The open file of the case, which may fail, and beside it a file of two bytes.
-fn two_files(rt: &impl Abort, alloc: Global, case: &Case) -> Result<MemStore, Fail>
-    ensures current { IfOk result (λ store. IsSome store.store.left) }
-    ensures opens { IfOk result (λ store. store.store.opens ≡ 1) }
-{
-    let mut store = MemStore::new(alloc, 9);
-    store.add("a", case.bytes.as_bytes())?;
-    store.add("b", b"ef")?;
-    store.fail_at(case.failing_call)?;
-    assert_eq!(rt; store.open("a"), Ok(()));
-    Ok(store)
 }
 
 /// The next line is this one, and the first.

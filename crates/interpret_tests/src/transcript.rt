@@ -72,9 +72,12 @@ fn symbols_of(rt: &impl Abort, alloc: Global, table: &[u8], out: &mut Vec<u8>) -
 }
 
 /// Reads a raw trace with these symbols.
+// An interpreter has many parts, so it is let go by a call: that is one step of the proof, and the way through its parts is proved
+// once.
 fn run_trace(rt: &impl Abort, alloc: Global, symbols: Symbols, trace: &[u8], out: &mut Vec<u8>) {
     let mut interpreter = Interpreter::new(alloc, symbols);
     assert_eq!(rt; read_trace(rt, &mut interpreter, trace, out), Ok(()));
+    drop(interpreter);
 }
 
 /// What the lines of a table give, and then those of a raw trace.
@@ -83,6 +86,15 @@ pub fn played(rt: &impl Abort, alloc: Global, table: &[u8], trace: &[u8]) -> Vec
     let symbols = symbols_of(rt, alloc, table, &mut out);
     run_trace(rt, alloc, symbols, trace, &mut out);
     out
+}
+
+/// Takes lines from the front of a text, and answers what is left of it.
+fn take_lines<'a>(interpreter: &mut Interpreter, text: &'a [u8], out: &mut Vec<u8>) -> &'a [u8] {
+    let mut rest = text;
+    'lines: while let Some(bytes) = interpreter.take_front(rest, out) {
+        rest = &rest[bytes..];
+    }
+    rest
 }
 
 /// What the lines of a raw trace give that stand behind its head, where each is taken from the front of the text, and what is
@@ -98,9 +110,7 @@ pub fn played_from_front<'a>(
     let mut interpreter = Interpreter::new(alloc, symbols);
     assert_eq!(rt; read_trace(rt, &mut interpreter, head, &mut out), Ok(()));
     out.clear();
-    let mut rest = text;
-    'lines: while let Some(bytes) = interpreter.take_front(rest, &mut out) {
-        rest = &rest[bytes..];
-    }
+    let rest = take_lines(&mut interpreter, text, &mut out);
+    drop(interpreter);
     (out, rest)
 }

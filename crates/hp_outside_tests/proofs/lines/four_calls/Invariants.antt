@@ -1,10 +1,10 @@
 use Rattle.std.proofs.Common.{◌≡◌, [], true, is_some, IsTrue}
 use Rattle.hp_outside.specs.Taken.{WhereTold}
-use Rattle.hp_outside_tests.proofs.lines.expect.Given as goal
+use Rattle.hp_outside_tests.proofs.lines.four_calls.Given as goal
 
 -- a file is current, and nothing is left of it once its end was seen
 abbrev pub invariant-calls : goal.invariant-calls
-invariant-calls g l = record {
+invariant-calls l = record {
   current : IsTrue (is_some l.store.store.left);
   ended : l.reader.ended ≡ true → WhereTold l.store.store.left (λ bytes. bytes ≡ []);
 }
