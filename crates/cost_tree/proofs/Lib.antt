@@ -3,7 +3,7 @@ mod Prefixes
 mod Sums
 mod Naming
 mod Steps
-mod Edges
+mod Placing
 mod ShapeLists
 mod Listing
 mod Ascents

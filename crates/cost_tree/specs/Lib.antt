@@ -1,4 +1,5 @@
 pub mod Costed
+pub mod EdgeState
 pub mod Shapes
 pub mod Texts
 pub mod Growth

@@ -12,12 +12,12 @@ ghost use Rattle.cost_tree.specs.TreeParts.{IsTree};
 ghost use Rattle.cost_tree.specs.Ways.{IsWayUp};
 ghost use Rattle.intern_tables.specs.Distinct.{AreDistinct};
 
-use crate::edge::{Edge, edge_of};
+use crate::edge::Edge;
+use crate::edges::Edges;
 use crate::node::CostNode;
 use crate::shape::Shape;
 use crate::summing::sum_up;
 use hp_num::NoMemory;
-use indexmap::IndexSet;
 use std::alloc::Global;
 
 /// The nodes so far, and which nodes of a shape they are. Node 0 has no edge, and node n has edge n - 1.
@@ -129,7 +129,7 @@ impl Branches {
     /// `depth` numbers, and to that node's own cost where it has no more. `NoMemory` leaves the tree unfit for use.
     fn add(
         &mut self,
-        edges: &IndexSet<Edge>,
+        edges: &Edges,
         end: usize,
         list: u32,
         cost: u64,
@@ -157,7 +157,7 @@ impl Branches {
     /// yet, and so are those above it. What is left of `path` is beyond it.
     fn number(
         &mut self,
-        edges: &IndexSet<Edge>,
+        edges: &Edges,
         end: usize,
         list: u32,
         depth: usize,
@@ -185,7 +185,7 @@ impl Branches {
     /// The node of a node of the shape that has none yet, below the node of the shape's node above it.
     fn make(
         &mut self,
-        edges: &IndexSet<Edge>,
+        edges: &Edges,
         parent: usize,
         place: usize,
         list: u32,
@@ -201,7 +201,7 @@ impl Branches {
         ensures weight { OnOk result
             (sum_by weight self.new.nodes.items ≡ sum_by weight self.old.nodes.items) }
     {
-        let text = edge_of(edges, place).text;
+        let text = edges.edge_of(place).text;
         let level = self.levels[parent] + 1;
         self.edges.push(Edge { parent, text })?;
         self.nodes.push(CostNode {
@@ -220,7 +220,7 @@ impl Branches {
 /// Replaces `path` by the nodes of the shape from the end up to the first that has a node of the tree, without this one,
 /// and answers its node.
 fn climb(
-    edges: &IndexSet<Edge>,
+    edges: &Edges,
     numbered: &[usize],
     end: usize,
     path: &mut Vec<usize>,
@@ -236,7 +236,7 @@ fn climb(
     let mut place = end;
     'each_node: while numbered[place] == 0 {
         path.push(place)?;
-        place = edge_of(edges, place).parent;
+        place = edges.edge_of(place).parent;
     }
     Ok(numbered[place] - 1)
 }

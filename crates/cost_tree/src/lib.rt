@@ -24,7 +24,7 @@
 //!
 //! | File | Does |
 //! |---|---|
-//! | `shape.rt`, `edge.rt` | lists of numbers that share their fronts; how a node goes on from another |
+//! | `shape.rt`, `edge.rt`, `edges.rt` | lists of numbers that share their fronts; how a node goes on from another, and those that do |
 //! | `fronts.rt` | lists of texts |
 //! | `trace_lists.rt`, `stack_lists.rt`, `root_lists.rt`, `direction.rt` | those of a trace's stacks; from the allocation, and from the root; from which end |
 //! | `costing.rt`, `frame_test.rt` | what each stack costs, and which names are meant, by closures |
@@ -40,6 +40,7 @@ mod children;
 mod costing;
 mod direction;
 mod edge;
+mod edges;
 mod frame_test;
 mod fronts;
 mod held_names;

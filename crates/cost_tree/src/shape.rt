@@ -4,9 +4,9 @@ ghost use Rattle.std.specs.Prelude.{◌≡◌, ℕ, ◌+◌, ◌-◌, ◌^◌, �
 ghost use Rattle.cost_tree.specs.declared.edge.Edge.{Edge};
 ghost use Rattle.cost_tree.specs.Shapes.{AreSteps, IsChild, list_at, numbers_of};
 
-use crate::edge::{Edge, edge_of};
+use crate::edge::Edge;
+use crate::edges::Edges;
 use hp_num::NoMemory;
-use indexmap::IndexSet;
 use std::alloc::Global;
 use std::marker::Model;
 
@@ -15,7 +15,7 @@ use std::marker::Model;
 /// Contracts see the list of the lists.
 #[derive(Debug, Drop)]
 pub struct Shape {
-    pub(crate) edges: IndexSet<Edge>,
+    pub(crate) edges: Edges,
     pub(crate) ends: Vec<usize>,
 }
 
@@ -36,7 +36,7 @@ impl Shape {
         ensures empty { result ≡ [] }
     {
         Shape {
-            edges: IndexSet::new(alloc),
+            edges: Edges::new(alloc),
             ends: Vec::new(alloc),
         }
     }
@@ -107,24 +107,23 @@ impl Shape {
 
 /// The node that goes on from a node by the number, which is made where there is none yet. On `NoMemory` there is none
 /// more.
-fn child_of(edges: &mut IndexSet<Edge>, parent: usize, number: usize) -> Result<usize, NoMemory>
+fn child_of(edges: &mut Edges, parent: usize, number: usize) -> Result<usize, NoMemory>
     ensures child { IfOk result
         (λ n. (place : ℕ) × (n ≡ place + 1)
         × IsChild edges.old.keys edges.new.keys (record { parent = parent; text = number }) place) }
     ensures unchanged { OnErr result (edges.new.keys ≡ edges.old.keys) }
 {
-    let edge = Edge {
+    let place = edges.insert(Edge {
         parent,
         text: number,
-    };
-    let (place, _is_new) = edges.insert_full(edge)?;
+    })?;
     // Says that the next number is one.
     let _count = edges.len();
     Ok(place + 1)
 }
 
 /// Replaces `numbers` by those of the list that ends at a node, the last one first.
-fn ascend(edges: &IndexSet<Edge>, end: usize, numbers: &mut Vec<usize>) -> Result<(), NoMemory>
+fn ascend(edges: &Edges, end: usize, numbers: &mut Vec<usize>) -> Result<(), NoMemory>
     requires steps { AreSteps (λ number. number) edges.now.keys (numbers_of edges.now.keys) }
     requires end { end ≤ length edges.now.keys }
     ensures numbers { OnOk result
@@ -133,7 +132,7 @@ fn ascend(edges: &IndexSet<Edge>, end: usize, numbers: &mut Vec<usize>) -> Resul
     numbers.clear();
     let mut node = end;
     'each_node: while node > 0 {
-        let edge = edge_of(edges, node);
+        let edge = edges.edge_of(node);
         numbers.push(edge.text)?;
         node = edge.parent;
     }

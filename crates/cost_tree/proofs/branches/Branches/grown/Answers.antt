@@ -17,7 +17,7 @@ pub each_list-init : goal.each_list-init
 each_list-init c =
     let keys = c.shape.inside.edges.keys in
     let tree = c.in_ok-branches.branches in
-    let started = subst (λ (k : ℕ). IsStarted k tree) c.len.ensures.len c.in_ok-branches.ensures.started in
+    let started = subst (λ (k : ℕ). IsStarted k tree) c.len.ensures.count c.in_ok-branches.ensures.started in
     let nodes = ap (λ (ns : List CostNode). sum_by weight ns) started.nodes_are in
     record {
       built = IsBuilt-started keys tree started;
