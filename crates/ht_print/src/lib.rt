@@ -48,6 +48,7 @@ mod layout;
 mod least_patterns;
 mod met_frames;
 mod options;
+mod place_table;
 mod placed_stacks;
 mod places;
 mod report;
