@@ -135,7 +135,8 @@ impl PlaceTable {
             ≡ bucket_of (buckets_of tables.now) (place_of tables.now stack) }
         requires inside { bucket < buckets_of tables.now }
         requires new { (n : ℕ) (name : List ℕ) →
-            slice_get (names_of tables.now self.old) n ≡ Some name → name ≢ place_of tables.now stack }
+            slice_get (names_of tables.now self.old) n ≡ Some name
+            → name ≢ place_of tables.now stack }
         ensures table { OnOk result (IsTable tables.now self.new) }
         ensures number { IfOk result (λ number. number ≡ length self.old.stacks.items) }
         ensures stacks { OnOk result (self.new.stacks.items ≡ self.old.stacks.items ++ stack ∷ []) }
