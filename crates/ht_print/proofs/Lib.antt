@@ -11,6 +11,7 @@ mod EntryOrder
 mod EntryLists
 mod ReportLemmas
 mod PlaceLemmas
+mod BucketLemmas
 mod LinkLemmas
 mod GroupLemmas
 mod GroupTexts

@@ -1,20 +1,20 @@
 -- Lemmas on the numbers of places as they are given out, and on what they tell.
-use Rattle.std.proofs.Common.{◌≡◌, ◌≢◌, ℕ, suc, ◌+◌, ◌-◌, ◌<◌, ◌≤◌, inl, inr, eqb, Bool, true, false, List, [], ◌∷◌, ◌++◌, length, map, set, get_or, None, Some, refl, sym, ap, ◌∙◌, subst, arith}
+use Rattle.std.proofs.Common.{◌≡◌, ◌≢◌, ℕ, suc, ◌+◌, ◌<◌, ◌≤◌, inl, inr, eqb, Bool, true, false, List, [], ◌∷◌, ◌++◌, length, map, set, get_or, Some, refl, sym, ap, ◌∙◌, subst, arith}
 use Rattle.std.specs.Prelude.{All, slice_get}
-use Rattle.std.proofs.lemmas.Bool.{cases_lt, cond-false}
+use Rattle.std.proofs.lemmas.Bool.{cases_lt}
 use Rattle.std.proofs.lemmas.Bool.Decides.{nat_tests}
 use Rattle.std.proofs.lemmas.Grind.{get_or-set_at}
 use Rattle.std.proofs.lemmas.List.{get_or-set_other, length-set}
 use Rattle.std.proofs.lemmas.Option.{get_or_from_slice_get, same_Some, slice_get-get_or, slice_get_within}
 use Rattle.intern_tables.specs.Distinct.{AreDistinct}
-use Rattle.intern_tables.specs.Numbers.{name_at}
 use Rattle.ht_trace.specs.FrameText.{frame_text}
 use Rattle.ht_trace.specs.StackFrames.{frames_of, stack_frames}
 use Rattle.ht_trace.specs.TableState.{TableState}
 use Rattle.ht_trace.specs.declared.frame.FrameAt.{FrameAt}
 use Rattle.ht_trace.specs.declared.frame.Style.TheVariants.{Plain}
 use Rattle.ht_print.specs.declared.places.Places.{Places}
-use Rattle.ht_print.specs.Places.{AreKnown, TellPlaces, instruction_place, number_at}
+use Rattle.ht_print.specs.PlaceTable.{AreKnown, instruction_place}
+use Rattle.ht_print.specs.Places.{TellPlaces, number_at}
 use Rattle.ht_print.specs.ReportGroups.{innermost, place_of}
 
 -- a stack's place is that of its own instruction
@@ -45,17 +45,6 @@ known-stays tables names new known stay are = record {
   count = are.count;
   told = λ instruction number is. stay number (instruction_place tables instruction) (are.told instruction number is);
 }
-
--- names that keep their numbers keep their places
-name-at : (names : List (List ℕ)) (n : ℕ) → name_at names (n + 1) ≡ slice_get names n
-name-at names n =
-    let above : eqb (n + 1) 0 ≡ false = grind (arith, nat_tests) in
-    cond-false (eqb (n + 1) 0) None (slice_get names (n + 1 - 1)) above ∙ ap (λ (k : ℕ). slice_get names k) (omega arith)
-
-pub names-stay : (names new : List (List ℕ)) → ((n : ℕ) → n ≤ length names → name_at new n ≡ name_at names n) → (n : ℕ) (name : List ℕ) → slice_get names n ≡ Some name → slice_get new n ≡ Some name
-names-stay names new stay n name is =
-    let within = slice_get_within names n name is in
-    sym (name-at new n) ∙ stay (n + 1) (omega arith) ∙ name-at names n ∙ is
 
 -- one instruction more
 pub known-more : (tables : TableState) (names : List (List ℕ)) (known : List ℕ) (instruction number : ℕ) → slice_get names number ≡ Some (instruction_place tables instruction)

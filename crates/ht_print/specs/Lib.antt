@@ -11,6 +11,7 @@ pub mod IsEntry
 pub mod ReportGroups
 pub mod ReportLines
 pub mod HasGroups
+pub mod PlaceTable
 pub mod Places
 pub mod PlacedStacks
 pub mod ReportText

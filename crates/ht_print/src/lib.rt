@@ -17,7 +17,7 @@
 //! How: flame stacks are a walk over the tree of the stacks from the root, with a list of the nodes that are left, the
 //! next one last; a line's texts are found upwards from its node, so that the walk takes about the time of what it
 //! writes. A section is made of the figures of all stacks: those that aren't 0 become entries, which are sorted once
-//! (`ordered_stacks`). Where stacks are merged, the text of an innermost frame is made and interned once a report, and
+//! (`ordered_stacks`). Where stacks are merged, the text of an innermost frame is made once a report and numbered, and
 //! each stack has its number (`TellPlaces`). By these numbers each stack of a section is linked to the last one before it
 //! with the same text (`ArePlaced`); along the links a group is summed up (`ordered_groups`), and its stacks are found in
 //! their order. Only what is shown is written, each frame's text straight into the output. Patterns of suppressions are
@@ -33,7 +33,8 @@
 //! | `report.rt`, `options.rt`, `layout.rt` | the report: which parts are asked for, and the figures of each |
 //! | `section.rt` | a section around its entries; the leaks without those of suppressed stacks |
 //! | `entry.rt` | the stacks that have a figure, and the order |
-//! | `places.rt`, `placed_stacks.rt`, `groups.rt` | stacks by their innermost frames' texts: of a trace, of a section, in groups |
+//! | `place_table.rt`, `places.rt` | innermost frames' texts by numbers, and those of a trace's stacks |
+//! | `placed_stacks.rt`, `groups.rt` | the stacks of a section by these numbers, and in groups |
 //! | `report_lines.rt`, `scale.rt` | the lines of a stack and of a group; a figure with its unit and its share |
 //! | `suppressed.rt` | which stacks are suppressed |
 //! | `met_frames.rt`, `least_patterns.rt` | in which frames a pattern stands; whether one of some patterns stands in a text |
@@ -48,6 +49,7 @@ mod layout;
 mod least_patterns;
 mod met_frames;
 mod options;
+mod place_table;
 mod placed_stacks;
 mod places;
 mod report;

@@ -3,7 +3,7 @@ use Rattle.std.proofs.lemmas.Result.{on_ok_weaker}
 use Rattle.ht_trace.specs.FrameText.{frame_text}
 use Rattle.ht_trace.specs.declared.frame.Style.TheVariants.{Plain}
 use Rattle.ht_print.proofs.ReportLemmas.{place-first}
-use Rattle.ht_print.proofs.places.read_place.Goals as goal
+use Rattle.ht_print.proofs.place_table.read_place.Goals as goal
 
 pub returns : goal.returns
 returns c = record {
