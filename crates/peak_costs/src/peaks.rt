@@ -169,6 +169,11 @@ impl Peaks {
         ensures steps { steps.new ≤ steps.old + 6 }
         ensures sound { IsSound self.new }
     {
+        if self.saved.has(self.mark.counter, stack) {
+            self.ledger.apply(event)?;
+            self.mark.follow(event, &self.ledger);
+            return Ok(());
+        }
         let before = self.ledger.stack(stack);
         self.ledger.apply(event)?;
         self.saved.save(self.mark.counter, stack, before, steps);

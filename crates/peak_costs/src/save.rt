@@ -1,5 +1,5 @@
 //! What is saved of each stack, before it changes and at most once for each peak.
-ghost use Rattle.std.specs.Prelude.{◌≡◌, ◌+◌, ◌<◌, ◌≤◌, length};
+ghost use Rattle.std.specs.Prelude.{◌≡◌, ◌==◌, ◌+◌, ◌<◌, ◌≤◌, length, slice_index};
 ghost use Rattle.peak_costs.specs.Saved.{saved_after, stamps_after};
 
 use live_ledger::{Cells, Figures, Steps};
@@ -14,6 +14,14 @@ pub struct SavedCells {
 }
 
 impl SavedCells {
+    /// Whether the stack's figures are saved for the peak with this number.
+    pub fn has(&self, counter: u64, stack: u32) -> bool
+        requires { stack < length self.now.stamps }
+        ensures { result ≡ (slice_index self.now.stamps stack == counter) }
+    {
+        self.stamps.at(stack) == counter
+    }
+
     /// Saves the stack's figures and stamps them with the counter, where its stamp isn't the counter.
     pub fn save<L: Ledger>(
         &mut self,
@@ -32,7 +40,7 @@ impl SavedCells {
         ensures stamps { self.new.stamps ≡ stamps_after self.old.stamps counter stack }
         ensures steps { steps.new ≤ steps.old + 3 }
     {
-        if self.stamps.at(stack) == counter {
+        if self.has(counter, stack) {
             return;
         }
         self.live.set(stack, figures.live, steps);
