@@ -14,8 +14,8 @@ use Rattle.ht_lines.specs.Written.{IsWritable, written}
 use Rattle.ht_lines.specs.declared.item.Form.TheVariants.{Raw}
 use Rattle.ht_lines.specs.declared.item.Malformed.{Malformed}
 use Rattle.ht_lines.proofs.Laws.{reading-written, written-one_line}
-use Rattle.ht_trace.specs.FormContents.{version_in}
-use Rattle.interpret.specs.RawContents.{IsRaw, contents, version_of, versions}
+use Rattle.ht_trace.specs.FormContents.{version_in, versions}
+use Rattle.interpret.specs.RawContents.{IsRaw, contents, version_of}
 use Rattle.record_book.proofs.Laws.{line-of}
 
 -- a line of a raw trace of file version 2 says this, and it has no line feed
@@ -48,7 +48,7 @@ module _ (back : (n : ℕ) → n < 2 ^ 64 → parsed_hex (hexadecimal n) ≡ Som
   -- the version line stands first
   pub version-first : (heaptrack : ℕ) (rest : List (List ℕ)) → heaptrack < 2 ^ 64 → version_of (written 2 (version_line heaptrack 2) ∷ rest) ≡ Some 2
   version-first heaptrack rest fits =
-      ap (λ (r : Result Content Malformed). slice_get (cons_option (option_and_then version_in (result_ok r)) (versions rest)) 0)
+      ap (λ (r : Result Content Malformed). slice_get (cons_option (option_and_then version_in (result_ok r)) (versions Raw rest)) 0)
       (reading-written back Raw 1 (version_line heaptrack 2) (fits, omega arith, omega arith))
 
   -- what the lines say
