@@ -1,5 +1,5 @@
 -- What a kept snapshot shows.
-use Rattle.std.specs.Prelude.{ℕ, ◌+◌, ◌-◌, Bool, true, false, List, [], length, map, if◌then◌else◌}
+use Rattle.std.specs.Prelude.{◌≡◌, ℕ, ◌+◌, ◌-◌, Bool, true, false, List, [], length, map, Some, slice_get, if◌then◌else◌}
 use Rattle.std.specs.List.{range_with_len}
 use Rattle.cost_tree.specs.Costed.{costed}
 use Rattle.ht_trace.specs.TableState.{TableState}
@@ -63,3 +63,10 @@ abbrev pub shows_tree : Kind → Bool
 shows_tree kind.Normal = false
 shows_tree kind.Detailed = true
 shows_tree kind.Peak = true
+
+-- the place is that of an entry that shows a tree
+pub record IsTreePlace (entries : List SnapEntry) (place : ℕ) : Type 0 where
+  pub entry : SnapEntry
+  pub held : (k : ℕ) × (slice_get entries k ≡ Some entry)
+  pub shows : shows_tree entry.kind ≡ true
+  pub same : entry.place ≡ place

@@ -12,4 +12,4 @@ returns-clause-sampling c =
     rw (← c.self.view_is)
     (λ names tables events made was.
     subst (λ (h : HistoryState). IsSampling (record old { history = h }) names tables events made) (sym c.thin.ensures.rest)
-    (sampling-thinned old c.thin.new.self.changes (length c.thin.new.self.changes) c.in_ok-places.places.items names tables events made c.in_ok-places.ensures c.thin.ensures.costs was))
+    (sampling-thinned old c.thin.new.self.changes (length c.thin.new.self.changes) c.in_ok-places.places.items names tables events made c.in_ok-places.ensures.all c.thin.ensures.costs was))
