@@ -1,5 +1,5 @@
 -- That the moment of a peak is the first place of the greatest total.
-use Rattle.std.proofs.Common.{◌≡◌, ℕ, ◌+◌, ◌<◌, List, length, arith}
+use Rattle.std.proofs.Common.{◌≡◌, ℕ, ◌+◌, List, length, arith}
 use Rattle.std.proofs.lemmas.List.Sums.{length-filter}
 use Rattle.live_ledger.specs.declared.event.Event.{Event}
 use Rattle.live_ledger.specs.Events.{counted, event_count, is_counted}
