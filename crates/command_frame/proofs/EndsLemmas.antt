@@ -1,5 +1,5 @@
 -- From a run of the words and the delivery of its answer to what every run promises.
-use Rattle.std.proofs.Common.{◌≡◌, ◌≢◌, ◌⊎◌, ℕ, ◌+◌, ◌≤◌, true, List, [], ◌++◌, length, min, take, Option, Some, None, refl, ap, sym, subst, ◌∙◌, inl, inr, arith}
+use Rattle.std.proofs.Common.{◌≡◌, ◌≢◌, ℕ, ◌+◌, ◌≤◌, true, [], ◌++◌, length, min, take, Option, Some, None, refl, ap, sym, subst, ◌∙◌, inl, inr, arith}
 use Rattle.std.proofs.lemmas.Bool.Decides.{eqb_tells}
 use Rattle.std.specs.Io.KnownBytes.{append_known}
 use Rattle.hp_outside.specs.Faults.{Rose}
@@ -7,7 +7,6 @@ use Rattle.hp_outside.specs.Folder.{Folder}
 use Rattle.hp_outside.specs.Taken.{GainsFront, WhereTold}
 use Rattle.command_frame.specs.Answer.{Answer, after, memory_answer, usage_answer}
 use Rattle.command_frame.specs.Delivers.{DeliversTo}
-use Rattle.command_frame.specs.Delivery.{Delivered, GainsFronts}
 use Rattle.command_frame.specs.FirstFault.{Bounds}
 use Rattle.command_frame.specs.Moment.{Moment}
 use Rattle.command_frame.specs.Outside.{ErrRose, Gives, OutRose, Outside, StoreRose}

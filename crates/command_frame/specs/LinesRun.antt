@@ -1,7 +1,6 @@
 -- What taking the lines of a file comes to, once the file was opened.
-use Rattle.std.specs.Prelude.{◌≡◌, ℕ, true, false, List, [], ◌++◌, Option, None, Result, Ok, Err}
+use Rattle.std.specs.Prelude.{◌≡◌, ℕ, List, ◌++◌, Option, Result, Ok, Err}
 use Rattle.std.specs.Io.KnownBytes.{append_known}
-use Rattle.hp_outside.specs.LineReaderState.{LineReaderState}
 use Rattle.hp_outside.specs.Taken.{WhereTold}
 use Rattle.command_frame.specs.declared.lines.FileFault.{FileFault}
 use Rattle.command_frame.specs.declared.lines.FileFault.TheVariants.{LineTooLong, InputTooLong, Taker}
@@ -38,13 +37,3 @@ pub record LinesRun (bounds : Bounds) (report : Report) (start left old now : Op
     (kept_back : List ℕ) (end : FileEnd) : Type 0 where
   pub told : WhereTold start (λ bytes. EndsAt bounds report bytes left end)
   pub gained : Gained old now kept_back (end_output report end)
-
--- a reader of lines at the front of a file
-pub record IsNewReader (reader : LineReaderState) : Type 0 where
-  pub passed : reader.passed ≡ 0
-  pub kept : reader.kept ≡ []
-  pub ended : reader.ended ≡ false
-  pub number : reader.number ≡ 0
-  pub given : reader.given ≡ 0
-  pub line_ended : reader.line_ended ≡ true
-  pub fault : reader.fault ≡ None

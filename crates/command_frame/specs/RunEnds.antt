@@ -3,10 +3,9 @@ use Rattle.std.specs.Prelude.{◌≡◌, ◌≢◌, ◌+◌, ◌≤◌, ℕ, Lis
 use Rattle.std.specs.Io.KnownBytes.{append_known}
 use Rattle.hp_outside.specs.Taken.{GainsFront, WhereTold}
 use Rattle.command_frame.specs.Answer.{Answer, memory_answer, usage_answer}
-use Rattle.command_frame.specs.Delivery.{Delivered, GainsFronts}
+use Rattle.command_frame.specs.Delivery.{GainsFronts}
 use Rattle.command_frame.specs.Outside.{ErrRose, Gives, OutRose, Outside}
 use Rattle.command_frame.specs.RunFacts.{NotRead}
-use Rattle.command_frame.specs.RunsTo.{Taken}
 use Rattle.command_frame.specs.Texts.{Texts}
 
 -- an answer was delivered: whole, or at status 4 in part. `write failed` is told only where standard output lacks bytes of it, and

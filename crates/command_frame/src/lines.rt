@@ -5,7 +5,8 @@ ghost use Rattle.std.specs.Io.KnownBytes.{append_known};
 ghost use Rattle.hp_outside.specs.Faults.{Rose};
 ghost use Rattle.hp_outside.specs.Taken.{GainsFront, WhereTold};
 ghost use Rattle.command_frame.specs.Batch.{HasTakenKept};
-ghost use Rattle.command_frame.specs.LinesRun.{IsNewReader, LinesRun, end_of};
+ghost use Rattle.hp_outside.specs.NewReader.{IsNewReader};
+ghost use Rattle.command_frame.specs.LinesRun.{LinesRun, end_of};
 
 use crate::fault::{Fault, FaultStatus};
 use crate::taker::{LineRefusal, LineTaker};

@@ -72,10 +72,7 @@ impl MassifRequest<'_> {
             (massif_plan (massif_asked_by self.now).settings self.now.trace.now)
             store.old store.new out.old out.new result }
     {
-        let (alloc_fns, ignore_fns) = match self.names(desk.alloc) {
-            Ok(names) => names,
-            Err(NoMemory) => return Err(Halt::no_memory()),
-        };
+        let (alloc_fns, ignore_fns) = self.names(desk.alloc)?;
         let alloc_test = FrameTest::new(move |name: &[u8]| is_named(&alloc_fns, name));
         let ignore_test = FrameTest::new(move |name: &[u8]| is_named(&ignore_fns, name));
         let mut reader = MassifReader::new(

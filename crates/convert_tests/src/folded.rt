@@ -1,6 +1,6 @@
 //! Folded lines. Expected texts are worked out by hand.
 
-use crate::profiles::{DEMO, DETAILED, LARGE, PEAKS, PLACES, dhat_of, massif_of};
+use crate::profiles::{DEMO, LARGE, PEAKS, PLACES, dhat_of, massif_of};
 use convert::{ConvertFault, put_folded_dhat, put_folded_massif};
 use dhat_json::FigureKey;
 use std::alloc::Global;
@@ -98,9 +98,6 @@ fn refuses_massif(
 
 #[test]
 fn trees(rt: HostRuntime) {
-    let detailed =
-        "0x4005BB: main (a.c:10) 8960\nin 3 places, all below massif's threshold (1.00%) 40\n";
-    folds_massif(&rt, rt.alloc(), None, DETAILED, detailed);
     // The last peak: the root keeps 13, the two lines `a` 15 and 7, and `d` nothing.
     let peak = "(no stack) 13\na 22\nb:c;a 10\n?;a 5\ne;d 20\n";
     folds_massif(&rt, rt.alloc(), None, PEAKS, peak);
@@ -110,7 +107,7 @@ fn trees(rt: HostRuntime) {
 
 #[test]
 fn snapshots_without_lines(rt: HostRuntime) {
-    refuses_massif(&rt, rt.alloc(), Some(0), DETAILED, ConvertFault::NoTree);
+    refuses_massif(&rt, rt.alloc(), Some(3), PEAKS, ConvertFault::NoTree);
     refuses_massif(&rt, rt.alloc(), Some(4), PEAKS, ConvertFault::NoTree);
     refuses_massif(&rt, rt.alloc(), None, LARGE, ConvertFault::TooLarge);
 }

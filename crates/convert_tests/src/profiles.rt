@@ -59,31 +59,6 @@ mem_stacks_B=0
 heap_tree=empty
 ";
 
-/// A Massif profile with one detailed snapshot.
-pub(crate) const DETAILED: &[u8] = b"desc: (none)
-cmd: ./a.out
-time_unit: i
-#-----------
-snapshot=0
-#-----------
-time=0
-mem_heap_B=0
-mem_heap_extra_B=0
-mem_stacks_B=0
-heap_tree=empty
-#-----------
-snapshot=1
-#-----------
-time=157300
-mem_heap_B=9000
-mem_heap_extra_B=72
-mem_stacks_B=0
-heap_tree=detailed
-n2: 9000 (heap allocation functions) malloc/new/new[], --alloc-fns, etc.
- n0: 8960 0x4005BB: main (a.c:10)
- n0: 40 in 3 places, all below massif's threshold (1.00%)
-";
-
 /// A Massif profile whose lines keep more than 2^62 bytes together.
 pub(crate) const LARGE: &[u8] = b"desc: d
 cmd: c

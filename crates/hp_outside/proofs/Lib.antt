@@ -1,5 +1,6 @@
 mod Known
 mod HeldFilesLemmas
 mod WindowLemmas
+pub mod Laws
 mod LineLemmas
 mod WholeLinesLemmas

@@ -12,6 +12,7 @@ pub mod Lines
 pub mod Judgement
 pub mod NextLine
 pub mod LineReaderState
+pub mod NewReader
 pub mod WholeLines
 pub mod WindowState
 pub mod FaultTexts

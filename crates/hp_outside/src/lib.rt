@@ -23,7 +23,8 @@
 //! - `Limits`: their ranges are facts of the type.
 //! - `OpenFault`, `LineFault` and `WholeFault` have one text each, which the messages of programs use.
 //!
-//! The tests of these calls are the crate `hp_outside_tests`.
+//! The crates above may cite its `proofs/Laws`: on whole lines in front of other bytes. The tests of these calls are the crate
+//! `hp_outside_tests`.
 //!
 //! | File | Does |
 //! |---|---|

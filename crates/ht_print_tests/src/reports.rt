@@ -119,39 +119,6 @@ fn append_report(
     )
 }
 
-#[test]
-fn reports_on_the_worked_trace(rt: HostRuntime) -> Result<(), Fail> {
-    let want = b"MOST CALLS TO ALLOCATION FUNCTIONS
-1 calls (50.00%) at main (a.c:20)
-  1 calls (50.00%) in stack 1
-1 calls (50.00%) at f (a.c:10)
-  1 calls (50.00%) in stack 2
-    main (a.c:20)
-
-PEAK MEMORY CONSUMERS
-100 bytes (100.00%) at f (a.c:10)
-  100 bytes (100.00%) in stack 2
-    main (a.c:20)
-
-MEMORY LEAKS
-100 bytes (100.00%) at main (a.c:20)
-  100 bytes (100.00%) in stack 1
-
-MOST TEMPORARY ALLOCATIONS
-1 temporary (100.00%) at f (a.c:10)
-  1 temporary (100.00%) in stack 2
-    main (a.c:20)
-
-events: 3
-calls: 2
-temporary: 1
-allocated: 200
-peak: 100 at event 1
-leaked: 100 in 1 blocks
-";
-    reports(&rt, rt.alloc(), &MERGED, WORKED, want)
-}
-
 // Two stacks of one place: the greatest total is reached first while both have live bytes, and each frees once what it has just
 // allocated.
 #[test]

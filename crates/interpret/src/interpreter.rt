@@ -24,7 +24,7 @@ use crate::infos::{AllocationInfo, InfoSet};
 use crate::known_ips::{KnownIps, Numbered};
 use crate::modules::ModuleList;
 use crate::name_table::NameTable;
-use crate::node_lines::{add_held_node, add_new_node};
+use crate::node_lines::{NewNode, add_held_node, add_new_node};
 use crate::pointers::Pointers;
 use crate::resolved::resolve;
 use crate::symbols::Symbols;
@@ -295,8 +295,10 @@ impl Interpreter {
             &mut self.known,
             &mut self.nodes,
             version,
-            &found,
-            parent,
+            &NewNode {
+                instruction: &found,
+                parent,
+            },
             out,
         )?;
         Ok(())

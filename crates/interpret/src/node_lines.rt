@@ -23,6 +23,14 @@ use ht_lines::{Item, put_item};
 use ht_trace::LineError;
 use stack_table::Nodes;
 
+/// A node of an instruction that has no number yet.
+#[derive(Clone, Copy, Debug)]
+pub struct NewNode<'a> {
+    pub instruction: &'a ResolvedIp<'a>,
+    /// The node that it is called from, 0 for none.
+    pub parent: u64,
+}
+
 /// Adds the node of an instruction that has a number, and appends its line.
 ///
 /// `UnknownParent`, `TooDeep` and `TooMany` come as the node table tells them. After an error the nodes and `out` are as they
@@ -70,39 +78,40 @@ pub fn add_new_node(
     known: &mut KnownIps,
     nodes: &mut Nodes,
     version: u8,
-    found: &ResolvedIp,
-    parent: u64,
+    node: &NewNode,
     out: &mut Vec<u8>,
 ) -> Result<(), LineError>
-    requires new { list_any (λ k. found.now.ip == k.ip) known.old ≡ false }
+    requires new { list_any (λ k. node.now.instruction.now.ip == k.ip) known.old ≡ false }
     requires few_names { length names.old ≤ most_entries }
     ensures names { OnOk result
-        (names.new ≡ names_with names.old (Some (resolved_kept found.now))) }
+        (names.new ≡ names_with names.old (Some (resolved_kept node.now.instruction.now))) }
     ensures known { OnOk result
-        (known.new ≡ known_with known.old (Some (resolved_kept found.now))) }
+        (known.new ≡ known_with known.old (Some (resolved_kept node.now.instruction.now))) }
     ensures nodes { OnOk result
         (nodes.new ≡ nodes.old
         ++ record {
           ip = length known.old + 1;
-          parent = parent;
-          frames = frame_count (resolved_kept found.now);
+          parent = node.now.parent;
+          frames = frame_count (resolved_kept node.now.instruction.now);
         } ∷ []) }
     ensures lines { OnOk result (out.new.items ≡ out.old.items
         ++ text_of (map (written version)
         (map string_line (new_in names.old names.new)
-        ++ (instruction_said names.new (resolved_kept found.now)
-        ∷ node_line (length known.old + 1) parent ∷ [])))) }
+        ++ (instruction_said names.new (resolved_kept node.now.instruction.now)
+        ∷ node_line (length known.old + 1) node.now.parent ∷ [])))) }
     ensures no_fault { OnOk result
-        (node_fault nodes.old (frame_count (resolved_kept found.now)) parent
+        (node_fault nodes.old (frame_count (resolved_kept node.now.instruction.now)) node.now.parent
         (lists_fault names.new known.new nodes.new) ≡ None) }
     ensures fault { IfErr result
-        (λ error. Tells error (node_fault nodes.old (frame_count (resolved_kept found.now)) parent
-        (lists_fault (names_with names.old (Some (resolved_kept found.now)))
-        (known_with known.old (Some (resolved_kept found.now)))
+        (λ error. Tells error
+        (node_fault nodes.old (frame_count (resolved_kept node.now.instruction.now))
+        node.now.parent
+        (lists_fault (names_with names.old (Some (resolved_kept node.now.instruction.now)))
+        (known_with known.old (Some (resolved_kept node.now.instruction.now)))
         (nodes.old ++ record {
           ip = length known.old + 1;
-          parent = parent;
-          frames = frame_count (resolved_kept found.now);
+          parent = node.now.parent;
+          frames = frame_count (resolved_kept node.now.instruction.now);
         } ∷ [])))) }
     ensures few_names { length names.new ≤ most_entries }
     ensures few_known { length known.old ≤ most_entries → length known.new ≤ most_entries }
@@ -112,12 +121,16 @@ pub fn add_new_node(
         → (names.new ≡ names.old) × (known.new ≡ known.old) × (nodes.new ≡ nodes.old)) }
     ensures kept { Extends out.old.items out.new.items }
 {
+    let NewNode {
+        instruction,
+        parent,
+    } = *node;
     let number = known.next_number();
-    let frames = found.frame_count();
+    let frames = instruction.frame_count();
     nodes.add(number, parent, frames)?;
-    known.add(found.ip, frames)?;
-    add_names(names, version, found, out)?;
-    put_instruction(names, found, out)?;
+    known.add(instruction.ip, frames)?;
+    add_names(names, version, instruction, out)?;
+    put_instruction(names, instruction, out)?;
     put_item(version, &Item::Node { ip: number, parent }, out)?;
     Ok(())
 }

@@ -1,49 +1,11 @@
-//! Worked pages. Expected texts are worked out by hand.
+//! A worked page. Its text is worked out by hand.
 ghost use Rattle.std.specs.Prelude.{◌≡◌, IfOk};
 
-use crate::worked::{DEMO, DETAILED, profile_of};
+use crate::worked::{DETAILED, profile_of};
 use hp_num::{NoMemory, Text};
 use ms_print::{PageOptions, cell, put_page};
 use std::alloc::Global;
-use std::process::Abort;
 use std::test::Fail;
-
-const DEMO_PAGE: &[u8] =
-    b"--------------------------------------------------------------------------------
-Command:            demo
-Massif arguments:   heapsuite massif
-ms_print arguments: --x=8 --y=4 m.out
---------------------------------------------------------------------------------
-
-
-    B
-  120^  ##   :
-     |  #    :
-     |  #    :
-     |  #    :
-   0 +------->B
-     0    360
-
-Number of snapshots: 5
- Detailed snapshots: [2 (peak)]
-
---------------------------------------------------------------------------------
-  n        time(B)         total(B)   useful-heap(B) extra-heap(B)    stacks(B)
---------------------------------------------------------------------------------
-  0              0                0                0             0            0
-  1            120              120              100            20            0
-  2            120              120              100            20            0
-83.33% (100B) (heap allocation functions) malloc/new/new[], --alloc-fns, etc.
-->83.33% (100B) 0x500: f (a.c:10)
-  ->83.33% (100B) 0x400: main (a.c:20)
-\x20\x20\x20\x20
-
---------------------------------------------------------------------------------
-  n        time(B)         total(B)   useful-heap(B) extra-heap(B)    stacks(B)
---------------------------------------------------------------------------------
-  3            240                0                0             0            0
-  4            360              120              100            20            0
-";
 
 const DETAILED_PAGE: &[u8] =
     b"--------------------------------------------------------------------------------
@@ -89,27 +51,14 @@ fn options(alloc: Global) -> Result<PageOptions, NoMemory>
     })
 }
 
-/// The page of the profile that a text says.
-fn shows(rt: &impl Abort, alloc: Global, text: &[u8], page: &[u8]) -> Result<(), Fail> {
-    let profile = profile_of(alloc, text)?;
-    let mut out = Vec::new(alloc);
-    put_page(&options(alloc)?, &profile, &mut out)?;
-    assert_eq!(rt; out.as_slice(), page);
-    Ok(())
-}
-
 #[test]
-fn worked_pages(rt: HostRuntime) -> Result<(), Fail> {
-    shows(&rt, rt.alloc(), DEMO, DEMO_PAGE)?;
-    shows(&rt, rt.alloc(), DETAILED, DETAILED_PAGE)
-}
-
-#[test]
-fn single_cells(rt: HostRuntime) -> Result<(), Fail> {
-    let profile = profile_of(rt.alloc(), DEMO)?;
+fn worked_page(rt: HostRuntime) -> Result<(), Fail> {
+    let profile = profile_of(rt.alloc(), DETAILED)?;
     let options = options(rt.alloc())?;
-    assert_eq!(rt; cell(&options, &profile, 4, 4), b'#');
-    assert_eq!(rt; cell(&options, &profile, 4, 3), b' ');
-    assert_eq!(rt; cell(&options, &profile, 8, 1), b':');
+    let mut out = Vec::new(rt.alloc());
+    put_page(&options, &profile, &mut out)?;
+    assert_eq!(rt; out.as_slice(), DETAILED_PAGE);
+    assert_eq!(rt; cell(&options, &profile, 8, 4), b'@');
+    assert_eq!(rt; cell(&options, &profile, 7, 4), b' ');
     Ok(())
 }

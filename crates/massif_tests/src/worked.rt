@@ -1,59 +1,10 @@
-//! Worked files of Massif, and their profiles.
+//! A worked file of Massif, and the profile that a text says.
 ghost use Rattle.std.specs.Prelude.{◌≡◌, ℕ, List, [], ◌∷◌, ◌++◌, IfOk, OnOk};
 ghost use Rattle.massif_file.specs.IsWritable.{IsLine, IsWritable};
 ghost use Rattle.massif_file.specs.StandsFor.{StandsFor};
 
 use massif_file::{Profile, ProfileFault, ProfileReader};
 use std::alloc::Global;
-
-/// The profile of a trace of three events.
-pub(crate) const DEMO: &[u8] = b"desc: heapsuite massif
-cmd: demo
-time_unit: B
-#-----------
-snapshot=0
-#-----------
-time=0
-mem_heap_B=0
-mem_heap_extra_B=0
-mem_stacks_B=0
-heap_tree=empty
-#-----------
-snapshot=1
-#-----------
-time=120
-mem_heap_B=100
-mem_heap_extra_B=20
-mem_stacks_B=0
-heap_tree=empty
-#-----------
-snapshot=2
-#-----------
-time=120
-mem_heap_B=100
-mem_heap_extra_B=20
-mem_stacks_B=0
-heap_tree=peak
-n1: 100 (heap allocation functions) malloc/new/new[], --alloc-fns, etc.
- n1: 100 0x500: f (a.c:10)
-  n0: 100 0x400: main (a.c:20)
-#-----------
-snapshot=3
-#-----------
-time=240
-mem_heap_B=0
-mem_heap_extra_B=0
-mem_stacks_B=0
-heap_tree=empty
-#-----------
-snapshot=4
-#-----------
-time=360
-mem_heap_B=100
-mem_heap_extra_B=20
-mem_stacks_B=0
-heap_tree=empty
-";
 
 /// A profile in instructions with a detailed tree, of 22 lines.
 pub(crate) const DETAILED: &[u8] = b"desc: (none)

@@ -6,7 +6,8 @@ ghost use Rattle.hp_outside.specs.Taken.{WhereTold};
 ghost use Rattle.record_scripts.specs.ModuleLines.{AreModuleLines};
 ghost use Rattle.order_check.specs.CheckAnswer.{CheckAnswer};
 ghost use Rattle.order_check.specs.CheckState.{HasTaken};
-ghost use Rattle.order_check.specs.CheckedLines.{IsNewReader, end_verdict};
+ghost use Rattle.hp_outside.specs.NewReader.{IsNewReader};
+ghost use Rattle.order_check.specs.CheckedLines.{end_verdict};
 ghost use Rattle.order_check.specs.Spelling.{IsSpelling};
 
 use crate::order_check::OrderCheck;

@@ -1,7 +1,7 @@
 //! Every call of a run that can fail, failed once: each call on the store, on standard output and on standard error.
 
 use crate::gates::Open;
-use crate::runs::{Setting, append_run, sound};
+use crate::runs::{Run, Setting, append_run, sound};
 use hp_num::{put_bytes, put_dec};
 use std::alloc::Global;
 use std::process::Abort;
@@ -17,40 +17,46 @@ enum Place {
     Err,
 }
 
-/// The call of this number at this place fails. Each file is read in one piece.
-fn failing_at(place: Place, call: u64) -> Setting {
-    let all_sound = Setting {
+/// All calls are sound, and each file is read in one piece.
+fn in_one_piece() -> Setting {
+    Setting {
         piece: 1000,
         ..sound(100)
-    };
-    match place {
-        Place::Store => Setting {
-            failing_store_call: call,
-            ..all_sound
-        },
-        Place::Out => Setting {
-            failing_out_call: call,
-            ..all_sound
-        },
-        Place::Err => Setting {
-            failing_err_call: call,
-            ..all_sound
-        },
     }
 }
 
-/// Appends what a run comes to where this call fails.
+impl Place {
+    /// How a table names it.
+    fn name(self) -> &'static [u8] {
+        match self {
+            Place::Store => b"store",
+            Place::Out => b"out",
+            Place::Err => b"err",
+        }
+    }
+}
+
+/// The run, of whose calls at this place the one of this number fails.
+fn failing_at<'a>(run: &Run<'a>, place: Place, call: u64) -> Run<'a> {
+    let mut failing = *run;
+    match place {
+        Place::Store => failing.setting.failing_store_call = call,
+        Place::Out => failing.setting.failing_out_call = call,
+        Place::Err => failing.setting.failing_err_call = call,
+    }
+    failing
+}
+
+/// Appends what the run comes to where this call fails.
 fn append_failing_run<R: Threads + Wait + Sync>(
     rt: &R,
     alloc: Global,
-    file: &str,
-    words: &str,
+    run: &Run,
     place: Place,
     call: u64,
     all: &mut Vec<u8>,
 ) -> Result<(), Fail> {
-    let setting = failing_at(place, call);
-    append_run(rt, alloc, &setting, file.as_bytes(), words, &Open, all)
+    append_run(rt, alloc, &failing_at(run, place, call), &Open, all)
 }
 
 /// Fails one call after another at this place, up to the first run that comes to what the sound one comes to, and appends
@@ -58,25 +64,23 @@ fn append_failing_run<R: Threads + Wait + Sync>(
 fn put_failures<R: Threads + Wait + Sync>(
     rt: &R,
     alloc: Global,
-    file: &str,
-    words: &str,
+    run: &Run,
     place: Place,
-    name: &str,
     all: &mut Vec<u8>,
 ) -> Result<(), Fail> {
     let mut whole = Vec::new(alloc);
-    append_failing_run(rt, alloc, file, words, place, 0, &mut whole)?;
+    append_failing_run(rt, alloc, run, place, 0, &mut whole)?;
     for call in 1..100 {
-        let mut run = Vec::new(alloc);
-        append_failing_run(rt, alloc, file, words, place, call, &mut run)?;
-        if run.as_slice() == whole.as_slice() {
+        let mut failed = Vec::new(alloc);
+        append_failing_run(rt, alloc, run, place, call, &mut failed)?;
+        if failed.as_slice() == whole.as_slice() {
             break;
         }
-        put_bytes(all, name.as_bytes())?;
+        put_bytes(all, place.name())?;
         put_bytes(all, b" ")?;
         put_dec(all, call)?;
         put_bytes(all, b"\n")?;
-        put_bytes(all, &run)?;
+        put_bytes(all, &failed)?;
     }
     Ok(())
 }
@@ -94,9 +98,14 @@ fn played<R: Threads + Wait + Sync>(
         if let Some(words) = line.strip_prefix("$ ") {
             put_bytes(&mut all, line.as_bytes())?;
             put_bytes(&mut all, b"\n")?;
-            put_failures(rt, alloc, file, words, Place::Store, "store", &mut all)?;
-            put_failures(rt, alloc, file, words, Place::Out, "out", &mut all)?;
-            put_failures(rt, alloc, file, words, Place::Err, "err", &mut all)?;
+            let run = Run {
+                setting: in_one_piece(),
+                script: file.as_bytes(),
+                words,
+            };
+            put_failures(rt, alloc, &run, Place::Store, &mut all)?;
+            put_failures(rt, alloc, &run, Place::Out, &mut all)?;
+            put_failures(rt, alloc, &run, Place::Err, &mut all)?;
         }
     }
     Ok(all)

@@ -1,7 +1,7 @@
 //! Runs whose text is the same whatever the threads do: those of one script, and those that record nothing.
 
 use crate::gates::Open;
-use crate::runs::{append_run, sound};
+use crate::runs::{Run, append_run, sound};
 use hp_num::put_bytes;
 use std::alloc::Global;
 use std::process::Abort;
@@ -34,15 +34,12 @@ fn played<R: Threads + Wait + Sync>(
         if let Some(words) = line.strip_prefix("$ ") {
             put_bytes(&mut all, line.as_bytes())?;
             put_bytes(&mut all, b"\n")?;
-            append_run(
-                rt,
-                alloc,
-                &sound(most_events),
-                &script,
+            let run = Run {
+                setting: sound(most_events),
+                script: &script,
                 words,
-                &Open,
-                &mut all,
-            )?;
+            };
+            append_run(rt, alloc, &run, &Open, &mut all)?;
             script.clear();
         }
     }

@@ -46,39 +46,35 @@ pub const fn sound(most_events: u16) -> Setting {
     }
 }
 
-/// A folder with the file `s`, the scripts `s0`, `s1` and `r`, and the modules file `m`.
-fn folder(alloc: Global, setting: &Setting, script: &[u8]) -> Result<MemStore, Fail>
+/// A run over a folder that has the file `s`, the scripts `s0`, `s1` and `r`, and the modules file `m`.
+#[derive(Clone, Copy)]
+pub struct Run<'a> {
+    pub setting: Setting,
+    /// What `s` has.
+    pub script: &'a [u8],
+    /// The words, which stand between blanks.
+    pub words: &'a str,
+}
+
+/// The folder of a run.
+fn folder(alloc: Global, run: &Run) -> Result<MemStore, Fail>
     ensures unopened { IfOk result (λ store. store.store.opens ≡ 0) }
 {
-    let mut store = MemStore::new(alloc, setting.piece.max(1));
-    store.add("s", script)?;
+    let mut store = MemStore::new(alloc, run.setting.piece.max(1));
+    store.add("s", run.script)?;
     store.add("s0", b"a 1 40 500 400\nf 1\n")?;
     store.add("s1", b"a 1 8 400\n")?;
     store.add("r", b"a 1 10 1\nr 1 20 1\nr 1 20 2\n")?;
     store.add("m", MODULES.as_bytes())?;
-    store.fail_at(setting.failing_store_call)?;
+    store.fail_at(run.setting.failing_store_call)?;
     Ok(store)
 }
 
-/// Runs the words over a folder, whose scripts may have so many events, and gives the status.
-fn status_of<R: Threads + Wait + Sync, G: Gate + Sync>(
-    rt: &R,
-    alloc: Global,
-    words: &[String],
-    most_events: u16,
-    store: &mut MemStore,
-    out: &mut MemSink,
-    err: &mut MemSink,
-    gate: &G,
-) -> u8
-    requires unopened { store.old.store.opens ≡ 0 }
-{
-    let limits = Limits {
-        input: 100_000,
-        line: 1000,
-        order: u64::from(most_events),
-    };
-    heaprec_run(rt, alloc, words, &limits, store, out, err, gate)
+/// What a run reads and writes.
+struct Ends {
+    store: MemStore,
+    out: MemSink,
+    err: MemSink,
 }
 
 /// An output of whose calls one is to fail.
@@ -88,40 +84,56 @@ fn sink(alloc: Global, failing_call: u64) -> Result<MemSink, NoMemory> {
     Ok(sink)
 }
 
+/// The folder of a run, and its empty outputs.
+fn ends(alloc: Global, run: &Run) -> Result<Ends, Fail>
+    ensures unopened { IfOk result (λ ends. ends.store.store.opens ≡ 0) }
+{
+    let out = sink(alloc, run.setting.failing_out_call)?;
+    let err = sink(alloc, run.setting.failing_err_call)?;
+    let store = folder(alloc, run)?;
+    Ok(Ends { store, out, err })
+}
+
+/// Runs the words over a folder, whose scripts may have so many events, and gives the status.
+fn status_of<R: Threads + Wait + Sync, G: Gate + Sync>(
+    rt: &R,
+    alloc: Global,
+    words: &[String],
+    most_events: u16,
+    ends: &mut Ends,
+    gate: &G,
+) -> u8
+    requires unopened { ends.old.store.store.opens ≡ 0 }
+{
+    let limits = Limits {
+        input: 100_000,
+        line: 1000,
+        order: u64::from(most_events),
+    };
+    let Ends { store, out, err } = ends;
+    heaprec_run(rt, alloc, words, &limits, store, out, err, gate)
+}
+
 /// Appends what both outputs got and the status in brackets.
-fn put_run(out: &MemSink, err: &MemSink, status: u8, all: &mut Vec<u8>) -> Result<(), NoMemory> {
-    put_bytes(all, out.bytes())?;
-    put_bytes(all, err.bytes())?;
+fn put_run(ends: &Ends, status: u8, all: &mut Vec<u8>) -> Result<(), NoMemory> {
+    put_bytes(all, ends.out.bytes())?;
+    put_bytes(all, ends.err.bytes())?;
     put_bytes(all, b"[")?;
     put_dec(all, u64::from(status))?;
     put_bytes(all, b"]\n")
 }
 
-/// Runs the words and appends what both outputs got and the status in brackets. The folder has the file `s`, the scripts `s0`,
-/// `s1` and `r`, and the modules file `m`.
+/// Makes the run, and appends what both outputs got and the status in brackets.
 pub fn append_run<R: Threads + Wait + Sync, G: Gate + Sync>(
     rt: &R,
     alloc: Global,
-    setting: &Setting,
-    script: &[u8],
-    words: &str,
+    run: &Run,
     gate: &G,
     all: &mut Vec<u8>,
 ) -> Result<(), Fail> {
-    let list = listed(alloc, words)?;
-    let mut store = folder(alloc, setting, script)?;
-    let mut out = sink(alloc, setting.failing_out_call)?;
-    let mut err = sink(alloc, setting.failing_err_call)?;
-    let status = status_of(
-        rt,
-        alloc,
-        &list,
-        setting.most_events,
-        &mut store,
-        &mut out,
-        &mut err,
-        gate,
-    );
-    put_run(&out, &err, status, all)?;
+    let words = listed(alloc, run.words)?;
+    let mut ends = ends(alloc, run)?;
+    let status = status_of(rt, alloc, &words, run.setting.most_events, &mut ends, gate);
+    put_run(&ends, status, all)?;
     Ok(())
 }

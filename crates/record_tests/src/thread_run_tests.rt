@@ -1,7 +1,7 @@
 //! Runs of two scripts by threads, whose text is one of those that the scripts allow.
 
 use crate::gates::{Counting, Meeting, Open};
-use crate::runs::{append_run, sound};
+use crate::runs::{Run, append_run, sound};
 use hp_num::{NoMemory, put_bytes, put_hex};
 use std::alloc::Global;
 use std::process::Abort;
@@ -49,15 +49,12 @@ t 500 1
 fn records_two_scripts(rt: HostRuntime) -> Result<(), Fail> {
     let alloc = rt.alloc();
     let mut all = Vec::new(alloc);
-    append_run(
-        &rt,
-        alloc,
-        &sound(100),
-        b"",
-        "--summary s0 s1",
-        &Open,
-        &mut all,
-    )?;
+    let run = Run {
+        setting: sound(100),
+        script: b"",
+        words: "--summary s0 s1",
+    };
+    append_run(&rt, alloc, &run, &Open, &mut all)?;
     let is_first = all.as_slice() == FIRST_SCRIPT_FIRST.as_bytes();
     let is_second = all.as_slice() == SECOND_SCRIPT_FIRST.as_bytes();
     assert!(rt; is_first || is_second, "the text is of no order");
@@ -72,6 +69,15 @@ fn put_hundred(text: &mut Vec<u8>) -> Result<(), NoMemory> {
         put_bytes(text, b" 8 400\n")?;
     }
     Ok(())
+}
+
+/// The run of two threads that both do what the script says.
+fn twice(script: &[u8]) -> Run<'_> {
+    Run {
+        setting: sound(200),
+        script,
+        words: "s s",
+    }
 }
 
 /// How many allocations of a trace stand before that of a thread that has so many of the same thread before it, or how many
@@ -109,7 +115,7 @@ fn meet<R: Threads + Wait + Sync + Abort>(
     put_hundred(&mut script)?;
     let gate = Meeting::of(waits);
     let mut trace = Vec::new(alloc);
-    append_run(rt, alloc, &sound(200), &script, "s s", &gate, &mut trace)?;
+    append_run(rt, alloc, &twice(&script), &gate, &mut trace)?;
     assert!(rt; gate.has_met(), "the workers never met");
     assert!(rt; allocations_before(&trace, other, 63) < allocations_before(&trace, waiting, 64));
     assert_eq!(rt; allocations_before(&trace, waiting, 100), 200);
@@ -129,15 +135,7 @@ fn holds_are_numbered(rt: HostRuntime) -> Result<(), Fail> {
     put_hundred(&mut script)?;
     let gate = Counting::new();
     let mut trace = Vec::new(rt.alloc());
-    append_run(
-        &rt,
-        rt.alloc(),
-        &sound(200),
-        &script,
-        "s s",
-        &gate,
-        &mut trace,
-    )?;
+    append_run(&rt, rt.alloc(), &twice(&script), &gate, &mut trace)?;
     assert!(&rt; gate.has_counted(2), "the holds have other numbers");
     Ok(())
 }

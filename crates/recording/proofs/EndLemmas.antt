@@ -1,5 +1,5 @@
 -- From the reading of files to the run of the words, and from there to all that is promised of a run.
-use Rattle.std.proofs.Common.{◌≡◌, ◌≢◌, ◌⊎◌, ℕ, Bool, List, [], ◌∷◌, option_to_list, Option, Some, None, Ok, Err, refl, ap, sym, subst, ◌∙◌, inl, inr, Vec, Result, arith}
+use Rattle.std.proofs.Common.{◌≡◌, ◌≢◌, ◌⊎◌, ℕ, Bool, IsErrAnd, List, [], ◌∷◌, option_to_list, Option, Some, None, Ok, Err, refl, ap, sym, subst, ◌∙◌, inl, inr, Vec, Result, arith}
 use Rattle.std.specs.Io.KnownBytes.{append_known}
 use Rattle.hp_outside.specs.Faults.{Rose}
 use Rattle.hp_outside.specs.Folder.{Folder}
@@ -22,7 +22,7 @@ use Rattle.command_frame.specs.Texts.{Texts, texts_of}
 use Rattle.command_frame.specs.WordsRan.{WordsRan}
 use Rattle.command_frame.proofs.Laws.{TaskEnded, append_nothing, defined_by, gives_as, judged_by, run_ends, silent_by, status_told, told_by, words_not_ran, wrote}
 use Rattle.record_scripts.specs.Job.{Job}
-use Rattle.recording.specs.Answer.{asked_answer, names_asked, names_of, record_plan, task_asked, task_plan, trace_asked}
+use Rattle.recording.specs.Answer.{names_asked, names_of, record_plan, task_asked, task_plan}
 use Rattle.recording.specs.CheckReport.{check_report}
 use Rattle.recording.specs.FileLines.{no_job}
 use Rattle.recording.specs.FilesPlan.{files_front, job_in}
@@ -85,10 +85,11 @@ asked_done may_write desk limit modules scripts summary before now old new job t
     }
 
 -- the files were read, and memory was wanting for a recording
-pub asked_wanting : (may_write : Bool → Job → List ℕ → Type 0) (desk : Desk) (limit : ℕ) (modules : Option (List ℕ)) (scripts : List (List ℕ)) (summary : Bool) (before now : Shown) (old new : Taken) (job : Job) (halt : Halt) → texts_of desk.texts ≡ heaprec_texts
-    → FrontRead desk (files_front modules scripts (no_job limit)) before now old new (Ok job) → halt ≡ record { message = OutOfMemory; status = NoMemory }
-    → WordsRecord may_write (bounds_of desk.limits) limit (Some (asks modules scripts (Records summary))) before now old new (halt_answer heaprec_texts halt)
-asked_wanting may_write desk limit modules scripts summary before now old new job halt texts read is =
+pub asked_wanting : (may_write : Bool → Job → List ℕ → Type 0) (desk : Desk) (limit : ℕ) (modules : Option (List ℕ)) (scripts : List (List ℕ)) (summary : Bool) (before now : Shown) (old new : Taken) (job : Job) {Z : Type 0} (result : Result (Vec ℕ Z) Halt) → texts_of desk.texts ≡ heaprec_texts
+    → FrontRead desk (files_front modules scripts (no_job limit)) before now old new (Ok job) → IsErrAnd result (λ halt. halt ≡ record { message = OutOfMemory; status = NoMemory })
+    → WordsRecord may_write (bounds_of desk.limits) limit (Some (asks modules scripts (Records summary))) before now old new (rest_of heaprec_texts result)
+asked_wanting may_write desk limit modules scripts summary before now old new job (Ok rest) texts read is = absurd is
+asked_wanting may_write desk limit modules scripts summary before now old new job (Err halt) texts read is =
     let leads = read.goes_on [] [] (task_plan [] (Records summary)) in
     let five : (halt_answer heaprec_texts halt).status ≡ 5 = ap (λ (h : Halt). (halt_answer heaprec_texts h).status) is in
     record {

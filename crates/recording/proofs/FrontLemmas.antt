@@ -1,5 +1,5 @@
 -- From the reading of one file to that of the first files of a run.
-use Rattle.std.proofs.Common.{◌≡◌, ◌≢◌, ℕ, ◌+◌, ◌<◌, ◌≤◌, suc, Bor, List, [], ◌∷◌, ◌++◌, length, map, drop, drop-cons, drop_of_length-le, get_or, take, take_all, unwrap_or, Option, None, Some, Result, Ok, Err, refl, ap, sym, subst, ◌∙◌, arith}
+use Rattle.std.proofs.Common.{◌≡◌, ◌≢◌, ℕ, ◌+◌, ◌<◌, ◌≤◌, suc, Bor, IsErrAnd, List, [], ◌∷◌, ◌++◌, length, map, drop, drop-cons, drop_of_length-le, get_or, take, take_all, unwrap_or, Option, None, Some, Result, Ok, Err, refl, ap, sym, subst, ◌∙◌, arith}
 use Rattle.std.specs.Io.KnownBytes.{append_known}
 use Rattle.hp_outside.specs.Faults.{Rose}
 use Rattle.hp_outside.specs.Folder.{Folder, file_of}
@@ -124,9 +124,10 @@ wanting_front : (desk : Desk) (front : Front) (store : Shown) (out : Taken) (hal
     → GoesOn (texts_of desk.texts) (bounds_of desk.limits) store.files front store.moment store.moment (Err halt) → FrontRead desk front store store out out (Err halt)
 wanting_front desk front store out halt is ran = record { goes_on = ran; silent = refl; files = refl; unwritten = λ four. absurd (no_failed_write halt is four); sound = λ other. refl }
 
-pub wanting_file : (desk : Desk) (kind : FileKind) (name : List ℕ) (start : Job) (store : Shown) (out : Taken) (halt : Halt) → halt ≡ record { message = OutOfMemory; status = NoMemory }
-    → FrontRead desk (file_front kind name start) store store out out (Err halt)
-wanting_file desk kind name start store out halt is = wanting_front desk (file_front kind name start) store out halt is (wants_file desk store.files kind name start store.moment halt is)
+pub wanting_file : (desk : Desk) (kind : FileKind) (name : List ℕ) (start : Job) (store : Shown) (out : Taken) (result : Result Job Halt) → IsErrAnd result (λ halt. halt ≡ record { message = OutOfMemory; status = NoMemory })
+    → FrontRead desk (file_front kind name start) store store out out result
+wanting_file desk kind name start store out (Ok job) is = absurd is
+wanting_file desk kind name start store out (Err halt) is = wanting_front desk (file_front kind name start) store out halt is (wants_file desk store.files kind name start store.moment halt is)
 
 wants_files : (desk : Desk) (files : Option Folder) (modules : Option (List ℕ)) (names : List (List ℕ)) (start : Job) (now : Moment) (halt : Halt) → halt ≡ record { message = OutOfMemory; status = NoMemory }
     → 1 ≤ length names → GoesOn (texts_of desk.texts) (bounds_of desk.limits) files (files_front modules names start) now now (Err halt)
@@ -134,9 +135,10 @@ wants_files desk files None [] start now halt is some = absurd (omega (arith, so
 wants_files desk files None (name ∷ names) start now halt is some = λ last more next. wants_file desk files Script name (begun start) now halt is last (names ++ more) (λ read. scripts_plan names read next)
 wants_files desk files (Some modules) names start now halt is some = λ last more next. wants_file desk files Modules modules start now halt is last (names ++ more) (λ read. scripts_plan names read next)
 
-pub wanting_files : (desk : Desk) (modules : Option (List ℕ)) (names : List (List ℕ)) (start : Job) (store : Shown) (out : Taken) (halt : Halt) → halt ≡ record { message = OutOfMemory; status = NoMemory }
-    → 1 ≤ length names → FrontRead desk (files_front modules names start) store store out out (Err halt)
-wanting_files desk modules names start store out halt is some = wanting_front desk (files_front modules names start) store out halt is (wants_files desk store.files modules names start store.moment halt is some)
+pub wanting_files : (desk : Desk) (modules : Option (List ℕ)) (names : List (List ℕ)) (start : Job) (store : Shown) (out : Taken) (result : Result Job Halt) → IsErrAnd result (λ halt. halt ≡ record { message = OutOfMemory; status = NoMemory })
+    → 1 ≤ length names → FrontRead desk (files_front modules names start) store store out out result
+wanting_files desk modules names start store out (Ok job) is some = absurd is
+wanting_files desk modules names start store out (Err halt) is some = wanting_front desk (files_front modules names start) store out halt is (wants_files desk store.files modules names start store.moment halt is some)
 
 -- a file that was read to its end, and one that wasn't
 pub file_passed : (desk : Desk) (kind : FileKind) (name : List ℕ) (start job : Job) {has_taken : List (List ℕ) → Type 0} (before now : Shown) (old new : Taken)

@@ -6,7 +6,6 @@ ghost use Rattle.recording.specs.CheckReport.{check_report};
 
 use crate::trace_reader::TraceReader;
 use command_frame::{Desk, Halt, run_one_file};
-use hp_num::NoMemory;
 use hp_outside::{Sink, Store};
 use order_check::OrderCheck;
 use record_scripts::Scripts;
@@ -25,14 +24,7 @@ pub fn check_trace<S: Store, O: Sink>(
         (one_file name.now (check_report scripts))
         store.old store.new out.old out.new result }
 {
-    let job = match scripts.share() {
-        Ok(job) => job,
-        Err(NoMemory) => return Err(Halt::no_memory()),
-    };
-    let check = match OrderCheck::new(desk.alloc, job) {
-        Ok(check) => check,
-        Err(NoMemory) => return Err(Halt::no_memory()),
-    };
+    let check = OrderCheck::new(desk.alloc, scripts.share()?)?;
     let mut reader = TraceReader { check };
     run_one_file(desk, name, &mut reader, store, out)
 }

@@ -11,7 +11,6 @@ ghost use Rattle.recording.specs.FrontRead.{ReadsFront};
 use crate::one_file::{NamedFile, read_file};
 use crate::reader::FileKind;
 use command_frame::{Desk, Halt};
-use hp_num::NoMemory;
 use hp_outside::{LineReader, Sink, Store};
 use record_scripts::Scripts;
 use std::alloc::Global;
@@ -47,10 +46,7 @@ pub fn read_files<S: Store, O: Sink>(
     ensures modules { IfOk result (λ job. AreModuleLines job.modules) }
     ensures opens { IfOk result (λ job. S.opens store.new ≤ S.opens store.old + 65) }
 {
-    let mut lines = match LineReader::new(desk.alloc, &desk.limits) {
-        Ok(lines) => lines,
-        Err(NoMemory) => return Err(Halt::no_memory()),
-    };
+    let mut lines = LineReader::new(desk.alloc, &desk.limits)?;
     let scripts = Scripts::new(desk.alloc, desk.limits.order);
     let scripts = match read_modules(desk, &mut lines, files.modules, scripts, store, out) {
         Ok(scripts) => scripts,
@@ -158,10 +154,7 @@ fn read_script<S: Store, O: Sink>(
     ensures line { lines.new.line_limit ≡ lines.old.line_limit }
 {
     let mut scripts = scripts;
-    match scripts.begin() {
-        Ok(_) => {}
-        Err(NoMemory) => return Err(Halt::no_memory()),
-    }
+    scripts.begin()?;
     let file = NamedFile {
         kind: FileKind::Script,
         name,

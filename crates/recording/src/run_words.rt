@@ -16,7 +16,6 @@ use crate::record_text::record_text;
 use crate::request::{RecordRequest, RecordTask};
 use command_frame::{Desk, Halt, Outcome};
 use command_words::WordsFault;
-use hp_num::NoMemory;
 use hp_outside::{Sink, Store};
 use order_check::front_laws;
 use record_book::quiet_modules;
@@ -80,10 +79,7 @@ fn run_request<R: Threads + Wait + Sync, S: Store, O: Sink, G: Gate + Sync>(
     };
     match request.task {
         RecordTask::Record { summary } => {
-            match record_text(rt, desk.alloc, scripts, summary, gate) {
-                Ok(text) => Ok(text),
-                Err(NoMemory) => Err(Halt::no_memory()),
-            }
+            Ok(record_text(rt, desk.alloc, scripts, summary, gate)?)
         }
         RecordTask::Check { trace } => {
             front_laws();

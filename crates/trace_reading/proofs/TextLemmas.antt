@@ -1,13 +1,13 @@
 -- The lines of a text, and how far they were read.
-use Rattle.std.proofs.Common.{◌≡◌, ◌≢◌, ℕ, suc, ◌+◌, ◌<◌, ◌≤◌, Bool, true, false, not, cond, ltb, All, List, [], ◌∷◌, ◌++◌, length, take, drop, None, Some, refl, ap, ap₂, sym, subst, ◌∙◌, ne_eqb, append-nil, append_assoc, arith}
+use Rattle.std.proofs.Common.{◌≡◌, ℕ, suc, ◌+◌, ◌<◌, ◌≤◌, Bool, true, false, not, cond, ltb, All, List, [], ◌∷◌, ◌++◌, length, take, drop, None, Some, refl, ap, ap₂, sym, subst, ◌∙◌, append-nil, append_assoc, arith}
 use Rattle.std.proofs.lemmas.Bool.{ltb-true}
 use Rattle.std.proofs.lemmas.List.{take-append-drop}
-use Rattle.std.proofs.lemmas.List.Elements.{All-head, All-tail}
 use Rattle.std.proofs.lemmas.Option.{cond_some}
 use Rattle.std.specs.List.{position, position_or_len}
 use borrow.Author.Tests.{ltb-false}
 use Rattle.hp_outside.specs.Lines.{is_line_feed, lines_of, put_first}
 use Rattle.hp_outside.specs.WholeLines.{IsLineText, text_of_lines}
+use Rattle.hp_outside.proofs.Laws.{lines_of-text}
 use Rattle.command_frame.specs.Batch.{AreGood}
 use Rattle.command_frame.specs.Report.{Report}
 use Rattle.command_frame.specs.Taker.{Tells}
@@ -20,21 +20,6 @@ use Rattle.trace_reading.specs.ReadTrace.{HasRead}
 use Rattle.trace_reading.specs.TraceFault.{told}
 use Rattle.trace_reading.specs.TraceReport.{HaveNoFault, content_fault, trace_report}
 use Rattle.trace_reading.proofs.BatchLemmas.{good_append}
-
--- one line with its line feed
-lines_of-line : (line rest : List ℕ) → IsLineText line → lines_of (line ++ (10 ∷ rest)) ≡ line ∷ lines_of rest
-lines_of-line [] rest text = refl
-lines_of-line (byte ∷ line) rest text =
-    let other : byte ≢ 10 = All-head (λ b. b ≢ 10) byte line text in
-    rw (ne_eqb byte 10 other, lines_of-line line rest (All-tail (λ b. b ≢ 10) byte line text))
-
--- all of them
-lines_of-text : (lines : List (List ℕ)) (rest : List ℕ) → All IsLineText lines → lines_of (text_of_lines lines ++ rest) ≡ lines ++ lines_of rest
-lines_of-text [] rest texts = refl
-lines_of-text (line ∷ lines) rest texts =
-    ap lines_of (append_assoc line (10 ∷ text_of_lines lines) rest)
-    ∙ (lines_of-line line (text_of_lines lines ++ rest) (All-head IsLineText line lines texts)
-    ∙ ap (λ l. line ∷ l) (lines_of-text lines rest (All-tail IsLineText line lines texts)))
 
 -- a text is read as the lines that it was made of
 pub lines_of-whole : (text : List ℕ) (lines : List (List ℕ)) → text ≡ text_of_lines lines → All IsLineText lines → lines_of text ≡ lines

@@ -1,8 +1,8 @@
-use Rattle.command_frame.proofs.Laws.{runs_wanting}
+use Rattle.command_frame.proofs.Laws.{runs_wanting_by}
 use Rattle.recording.proofs.check_trace.check_trace.Goals as goal
 
-pub returns-in-Err : goal.returns-in-Err
-returns-in-Err g c = runs_wanting _ _ _ _ _ _ _ _ c.no_memory.ensures
+pub returns-in_err-share : goal.returns-in_err-share
+returns-in_err-share g c = runs_wanting_by _ _ _ _ _ _ _ _ c.from_residual.ensures.1
 
-pub returns-in-Err-new : goal.returns-in-Err-new
-returns-in-Err-new g c = runs_wanting _ _ _ _ _ _ _ _ c.no_memory-in-Err-new.ensures
+pub returns-in_err-check : goal.returns-in_err-check
+returns-in_err-check g c = runs_wanting_by _ _ _ _ _ _ _ _ c.from_residual-in_err-check.ensures.1

@@ -1,4 +1,4 @@
-use Rattle.std.proofs.Common.{◌^◌, ℕ, List, IfErr, IfOk, map, string_bytes, subst, sym}
+use Rattle.std.proofs.Common.{◌^◌, ℕ, List, IfOk, map, string_bytes, subst, sym}
 use Rattle.command_frame.specs.Outside.{outside}
 use Rattle.recording.specs.HeaprecRan.{HeaprecRan}
 use Rattle.recording.specs.RecordWords.{record_asked}

@@ -5,7 +5,6 @@ use Rattle.hp_outside.specs.Lines.{lines_of}
 use Rattle.hp_outside.specs.Taken.{WhereTold}
 use Rattle.command_frame.specs.Answer.{done}
 use Rattle.command_frame.specs.FirstFault.{bounds_of}
-use Rattle.command_frame.specs.Halts.{halt_answer}
 use Rattle.command_frame.specs.RunsTo.{rest_of, shown, taken}
 use Rattle.recording.specs.FileLines.{no_job}
 use Rattle.recording.specs.FilesPlan.{files_front, job_in}
@@ -29,8 +28,8 @@ returns-in-Err g c =
     asked_halted IsRecorded c.args.desk.now limit (asked_by c.args.request.now) before now old new c.in-Err.halt c.requires.texts
     (subst (λ (names : List (Bor (List ℕ))). FrontRead c.args.desk.now (files_front modules (map (λ name. name.now) names) (no_job limit)) before now old new (Err c.in-Err.halt)) c.deref.ensures.value c.in-Err.ensures.read)
 
-pub returns-in-Ok-record_text : goal.returns-in-Ok-record_text
-returns-in-Ok-record_text g c =
+pub returns-in_ok-record_text-in-Record : goal.returns-in_ok-record_text-in-Record
+returns-in_ok-record_text-in-Record g c =
     let modules = option_copied c.args.request.now.modules in
     let scripts = map (λ name. name.now) c.args.request.now.scripts.items in
     let before = shown g.S.Store c.args.store.now in
@@ -38,18 +37,18 @@ returns-in-Ok-record_text g c =
     let old = taken g.O.Sink c.args.out.now in
     let new = taken g.O.Sink c.read_files.new.out in
     let limit = c.args.desk.now.limits.order in
-    subst (λ (task : Task). WordsRecord IsRecorded (bounds_of c.args.desk.now.limits) limit (Some (asks modules scripts task)) before now old new (done c.in-Ok-record_text.text.items)) (sym (ap task_by c.in-Record.is))
-    (asked_done IsRecorded c.args.desk.now limit modules scripts c.in-Record.summary before now old new c.in-Ok.scripts c.in-Ok-record_text.text.items c.requires.texts
+    subst (λ (task : Task). WordsRecord IsRecorded (bounds_of c.args.desk.now.limits) limit (Some (asks modules scripts task)) before now old new (done c.in_ok-record_text-in-Record.field-0.items)) (sym (ap task_by c.in-Record.is))
+    (asked_done IsRecorded c.args.desk.now limit modules scripts c.in-Record.summary before now old new c.in-Ok.scripts c.in_ok-record_text-in-Record.field-0.items c.requires.texts
     (subst (λ (names : List (Bor (List ℕ))). FrontRead c.args.desk.now (files_front modules (map (λ name. name.now) names) (no_job limit)) before now old new (Ok c.in-Ok.scripts)) c.deref.ensures.value c.in-Ok.ensures.read)
     (record {
       job = c.in-Ok.scripts;
-      may = c.in-Ok-record_text.ensures;
+      may = c.in_ok-record_text-in-Record.ensures;
       count = c.in-Ok.ensures.count ∙ ap (λ (names : List (Bor (List ℕ))). length names) c.deref.ensures.value ∙ sym (length-map c.args.request.now.scripts.items (λ name. name.now));
       told = subst (λ (names : List (Bor (List ℕ))). WhereTold before.files (λ folder. c.in-Ok.scripts ≡ job_in folder modules (map (λ name. name.now) names) limit)) c.deref.ensures.value c.in-Ok.ensures.job;
     }))
 
-pub returns-in-Err-record_text : goal.returns-in-Err-record_text
-returns-in-Err-record_text g c =
+pub returns-in_err-record_text-in-Record : goal.returns-in_err-record_text-in-Record
+returns-in_err-record_text-in-Record g c =
     let modules = option_copied c.args.request.now.modules in
     let scripts = map (λ name. name.now) c.args.request.now.scripts.items in
     let before = shown g.S.Store c.args.store.now in
@@ -57,10 +56,10 @@ returns-in-Err-record_text g c =
     let old = taken g.O.Sink c.args.out.now in
     let new = taken g.O.Sink c.read_files.new.out in
     let limit = c.args.desk.now.limits.order in
-    subst (λ (task : Task). WordsRecord IsRecorded (bounds_of c.args.desk.now.limits) limit (Some (asks modules scripts task)) before now old new (halt_answer heaprec_texts c.no_memory.result)) (sym (ap task_by c.in-Record.is))
-    (asked_wanting IsRecorded c.args.desk.now limit modules scripts c.in-Record.summary before now old new c.in-Ok.scripts c.no_memory.result c.requires.texts
+    subst (λ (task : Task). WordsRecord IsRecorded (bounds_of c.args.desk.now.limits) limit (Some (asks modules scripts task)) before now old new (rest_of heaprec_texts c.from_residual.result)) (sym (ap task_by c.in-Record.is))
+    (asked_wanting IsRecorded c.args.desk.now limit modules scripts c.in-Record.summary before now old new c.in-Ok.scripts c.from_residual.result c.requires.texts
     (subst (λ (names : List (Bor (List ℕ))). FrontRead c.args.desk.now (files_front modules (map (λ name. name.now) names) (no_job limit)) before now old new (Ok c.in-Ok.scripts)) c.deref.ensures.value c.in-Ok.ensures.read)
-    c.no_memory.ensures)
+    c.from_residual.ensures.1)
 
 pub returns-in-Check : goal.returns-in-Check
 returns-in-Check g c =
