@@ -185,10 +185,22 @@ impl<A: Fn(&[u8]) -> bool, I: Fn(&[u8]) -> bool, S: Settled> MassifReader<A, I, 
             Ok(()) => Some(line.bytes),
             Err(SampleFault::Event(_)) => None,
             Err(SampleFault::NoMemory) => {
-                self.sampler = None;
+                self.let_go();
                 Some(line.bytes)
             }
         }
+    }
+
+    /// Lets the sampler go.
+    // A sampler that is let go in the body of the loop over events takes room there, which each event would clear.
+    #[inline(never)]
+    fn let_go(&mut self)
+        ensures tables { self.new.tables ≡ self.old.tables }
+        ensures ledger { self.new.ledger ≡ self.old.ledger }
+        ensures sampler { self.new.sampler ≡ None }
+        ensures settings { self.new.settings ≡ self.old.settings }
+    {
+        self.sampler = None;
     }
 }
 

@@ -88,7 +88,7 @@ cost-other ignored events event n stack is other =
     ∙ sym (cost-now ignored events stack)
 
 -- what isn't false is true
-was-true : (b : Bool) → not b ≡ false → b ≡ true
+pub was-true : (b : Bool) → not b ≡ false → b ≡ true
 was-true true is = refl
 was-true false is = absurd (cc)
 

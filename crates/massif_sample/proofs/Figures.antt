@@ -1,12 +1,12 @@
 -- The figures of a list of events with one more.
 use Rattle.std.proofs.Common.{◌≡◌, ℕ, ◌+◌, ◌≤◌, List, [], ◌∷◌, ◌++◌, Bool, true, false, cond, max, refl, ap, sym, ◌∙◌, arith}
 use Rattle.std.specs.Prelude.{not}
+use Rattle.std.proofs.lemmas.Bool.{false≢true}
 use Rattle.std.proofs.lemmas.List.Sums.{fold_push, sum_by_push}
 use Rattle.live_ledger.specs.declared.event.Event.{Event}
 use Rattle.live_ledger.specs.declared.event.Event.TheVariants.{Alloc, Free, Tick}
 use Rattle.live_ledger.specs.ByInfo.{alloc_weight, free_weight}
 use Rattle.live_ledger.specs.Events.{event_count, is_counted}
-use Rattle.live_ledger.specs.LedgerState.{HeldInfo}
 use Rattle.massif_file.specs.declared.profile.TimeUnit.{TimeUnit}
 use Rattle.massif_file.specs.declared.profile.TimeUnit.TheVariants.{Instructions, Milliseconds, Bytes, Events}
 use Rattle.massif_sample.specs.declared.options.MassifOptions.{MassifOptions}
@@ -15,8 +15,9 @@ use Rattle.massif_sample.specs.Counted.{counts}
 use Rattle.massif_sample.specs.Gross.{gross}
 use Rattle.massif_sample.specs.HeapTotals.{gross_weight, heap_weight}
 use Rattle.massif_sample.specs.Places.{gross_at, heap_at, time_at, up_to}
-use Rattle.massif_sample.specs.Running.{AreFigures, no_figures, passed, ticked, time_after, time_passed, with_alloc, with_free}
+use Rattle.massif_sample.specs.Running.{AreFigures, CanCount, no_figures, passed, past_event, ticked, time_after, time_passed, with_alloc, with_event, with_free}
 use Rattle.massif_sample.specs.Times.{clock, clock_value, moved_bytes, time_in, time_of}
+use Rattle.massif_sample.proofs.Costs.{was-true}
 use Rattle.massif_sample.proofs.UpTo.{count-more, count-tick, sum-now, up_to-all, up_to-tick}
 
 -- before any event
@@ -92,125 +93,47 @@ with-none Milliseconds running = refl
 with-none Instructions running = refl
 
 -- what an info of a stack weighs
-weight-counted : (ignored : ℕ → Bool) (stack bytes : ℕ) → ignored stack ≡ false → cond {A = ℕ} (ignored stack) 0 bytes ≡ bytes
-weight-counted ignored stack bytes is = ap (λ (b : Bool). cond {A = ℕ} b 0 bytes) is
+pub weight-counted : (ignored : ℕ → Bool) (stack bytes : ℕ) → not (ignored stack) ≡ true → cond {A = ℕ} (ignored stack) 0 bytes ≡ bytes
+weight-counted ignored stack bytes is = by_flag (ignored stack) is where
+  by_flag : (b : Bool) → not b ≡ true → cond {A = ℕ} b 0 bytes ≡ bytes
+  by_flag true is = absurd (false≢true is)
+  by_flag false is = refl
 
-weight-ignored : (ignored : ℕ → Bool) (stack bytes : ℕ) → ignored stack ≡ true → cond {A = ℕ} (ignored stack) 0 bytes ≡ 0
-weight-ignored ignored stack bytes is = ap (λ (b : Bool). cond {A = ℕ} b 0 bytes) is
+weight-ignored : (ignored : ℕ → Bool) (stack bytes : ℕ) → not (ignored stack) ≡ false → cond {A = ℕ} (ignored stack) 0 bytes ≡ 0
+weight-ignored ignored stack bytes is = ap (λ (b : Bool). cond {A = ℕ} b 0 bytes) (was-true (ignored stack) is)
 
-once-counted : (ignored : ℕ → Bool) (stack : ℕ) → ignored stack ≡ false → cond {A = ℕ} (not (ignored stack)) 1 0 ≡ 1
-once-counted ignored stack is = ap (λ (b : Bool). cond {A = ℕ} (not b) 1 0) is
-
-none-counted : (ignored : ℕ → Bool) (stack : ℕ) → ignored stack ≡ true → cond {A = ℕ} (not (ignored stack)) 1 0 ≡ 0
-none-counted ignored stack is = ap (λ (b : Bool). cond {A = ℕ} (not b) 1 0) is
-
--- the figures with an allocation that is counted
-pub figures-alloc :
-    (options : MassifOptions) (ignored : ℕ → Bool) (events : List Event) (running : Running) (info stack size : ℕ)
-    → ignored stack ≡ false
+-- the figures behind an allocation or a free: what it changes, by how much it weighs
+figures-push :
+    (options : MassifOptions) (ignored : ℕ → Bool) (events : List Event) (event : Event) (running next : Running) (bytes more : ℕ)
+    → is_counted event ≡ true
+    → clock_value event ≡ 0
+    → moved_bytes options ignored event ≡ bytes
+    → cond {A = ℕ} (counts ignored event) 1 0 ≡ more
+    → next.place ≡ running.place + 1
+    → next.time ≡ time_with options.unit running bytes more
+    → next.clock ≡ running.clock
+    → next.heap + free_weight (heap_weight ignored) event ≡ running.heap + alloc_weight (heap_weight ignored) event
+    → next.gross + free_weight (gross_weight options ignored) event ≡ running.gross + alloc_weight (gross_weight options ignored) event
     → AreFigures options ignored events running
-    → AreFigures options ignored (events ++ Alloc info stack size ∷ []) (with_alloc options running size)
-figures-alloc options ignored events running info stack size counted figures =
-    let event : Event = Alloc info stack size in
-    let heap_is = weight-counted ignored stack size counted in
-    let gross_is = weight-counted ignored stack (gross options size) counted in
-    let moved : moved_bytes options ignored event ≡ gross options size = omega arith in
-    record {
-      place = let count = count-more events event refl in let was = figures.place in omega arith;
-      time = with-once options.unit running (gross options size) ∙ sym (time-behind options ignored events event running (gross options size) 1 refl figures refl moved (once-counted ignored stack counted));
-      clock = let push = clock-push events event in let was = figures.clock in omega arith;
-      heap =
-          let was = figures.heap in
-          let allocs = sum_by_push (alloc_weight (heap_weight ignored)) events event in
-          let frees = sum_by_push (free_weight (heap_weight ignored)) events event in
-          omega arith;
-      gross =
-          let was = figures.gross in
-          let allocs = sum_by_push (alloc_weight (gross_weight options ignored)) events event in
-          let frees = sum_by_push (free_weight (gross_weight options ignored)) events event in
-          omega arith;
-    }
-
--- with a free that is counted
-pub figures-free :
-    (options : MassifOptions) (ignored : ℕ → Bool) (events : List Event) (running : Running) (info stack size : ℕ)
-    → ignored stack ≡ false
-    → size ≤ running.heap
-    → gross options size ≤ running.gross
-    → AreFigures options ignored events running
-    → AreFigures options ignored (events ++ Free info stack size ∷ []) (with_free options running size)
-figures-free options ignored events running info stack size counted heap_within gross_within figures =
-    let event : Event = Free info stack size in
-    let heap_is = weight-counted ignored stack size counted in
-    let gross_is = weight-counted ignored stack (gross options size) counted in
-    let moved : moved_bytes options ignored event ≡ gross options size = omega arith in
-    record {
-      place = let count = count-more events event refl in let was = figures.place in omega arith;
-      time = with-once options.unit running (gross options size) ∙ sym (time-behind options ignored events event running (gross options size) 1 refl figures refl moved (once-counted ignored stack counted));
-      clock = let push = clock-push events event in let was = figures.clock in omega arith;
-      heap =
-          let was = figures.heap in
-          let allocs = sum_by_push (alloc_weight (heap_weight ignored)) events event in
-          let frees = sum_by_push (free_weight (heap_weight ignored)) events event in
-          omega arith;
-      gross =
-          let was = figures.gross in
-          let allocs = sum_by_push (alloc_weight (gross_weight options ignored)) events event in
-          let frees = sum_by_push (free_weight (gross_weight options ignored)) events event in
-          omega arith;
-    }
-
--- an allocation or a free of a stack that is ignored
-record IsPassed (ignored : ℕ → Bool) (event : Event) : Type 0 where
-  counted : is_counted event ≡ true
-  no_value : clock_value event ≡ 0
-  none : cond {A = ℕ} (counts ignored event) 1 0 ≡ 0
-  allocs : (bytes : HeldInfo → ℕ) → alloc_weight (λ held. cond {A = ℕ} (ignored held.stack) 0 (bytes held)) event ≡ 0
-  frees : (bytes : HeldInfo → ℕ) → free_weight (λ held. cond {A = ℕ} (ignored held.stack) 0 (bytes held)) event ≡ 0
-
-passes : (options : MassifOptions) (ignored : ℕ → Bool) (events : List Event) (running : Running) (event : Event)
-    → IsPassed ignored event → AreFigures options ignored events running → AreFigures options ignored (events ++ event ∷ []) (passed options running)
-passes options ignored events running event is figures =
-    let heap_allocs = is.allocs (λ held. held.size) in
-    let heap_frees = is.frees (λ held. held.size) in
-    let gross_allocs = is.allocs (λ held. gross options held.size) in
-    let gross_frees = is.frees (λ held. gross options held.size) in
-    let moved : moved_bytes options ignored event ≡ 0 = omega arith in
-    record {
-      place = let count = count-more events event is.counted in let was = figures.place in omega arith;
-      time = with-none options.unit running ∙ sym (time-behind options ignored events event running 0 0 is.counted figures is.no_value moved is.none);
-      clock = let push = clock-push events event in let none = is.no_value in let was = figures.clock in omega arith;
-      heap =
-          let was = figures.heap in
-          let allocs = sum_by_push (alloc_weight (heap_weight ignored)) events event in
-          let frees = sum_by_push (free_weight (heap_weight ignored)) events event in
-          omega arith;
-      gross =
-          let was = figures.gross in
-          let allocs = sum_by_push (alloc_weight (gross_weight options ignored)) events event in
-          let frees = sum_by_push (free_weight (gross_weight options ignored)) events event in
-          omega arith;
-    }
-
--- the figures with one that isn't counted
-pub figures-passed_alloc :
-    (options : MassifOptions) (ignored : ℕ → Bool) (events : List Event) (running : Running) (info stack size : ℕ)
-    → ignored stack ≡ true → AreFigures options ignored events running → AreFigures options ignored (events ++ Alloc info stack size ∷ []) (passed options running)
-figures-passed_alloc options ignored events running info stack size is figures =
-    passes options ignored events running (Alloc info stack size)
-    (record { counted = refl; no_value = refl; none = none-counted ignored stack is; allocs = λ bytes. weight-ignored ignored stack (bytes (record { stack = stack; size = size })) is; frees = λ bytes. refl })
-    figures
-
-pub figures-passed_free :
-    (options : MassifOptions) (ignored : ℕ → Bool) (events : List Event) (running : Running) (info stack size : ℕ)
-    → ignored stack ≡ true → AreFigures options ignored events running → AreFigures options ignored (events ++ Free info stack size ∷ []) (passed options running)
-figures-passed_free options ignored events running info stack size is figures =
-    passes options ignored events running (Free info stack size)
-    (record { counted = refl; no_value = refl; none = none-counted ignored stack is; allocs = λ bytes. refl; frees = λ bytes. weight-ignored ignored stack (bytes (record { stack = stack; size = size })) is })
-    figures
+    → AreFigures options ignored (events ++ event ∷ []) next
+figures-push options ignored events event running next bytes more is no_value moved once place_is time_is clock_is heap_is gross_is figures = record {
+  place = let count = count-more events event is in let was = figures.place in omega arith;
+  time = time_is ∙ sym (time-behind options ignored events event running bytes more is figures no_value moved once);
+  clock = let push = clock-push events event in let was = figures.clock in omega arith;
+  heap =
+      let was = figures.heap in
+      let allocs = sum_by_push (alloc_weight (heap_weight ignored)) events event in
+      let frees = sum_by_push (free_weight (heap_weight ignored)) events event in
+      omega arith;
+  gross =
+      let was = figures.gross in
+      let allocs = sum_by_push (alloc_weight (gross_weight options ignored)) events event in
+      let frees = sum_by_push (free_weight (gross_weight options ignored)) events event in
+      omega arith;
+}
 
 -- with a clock value
-pub figures-tick :
+figures-tick :
     (options : MassifOptions) (ignored : ℕ → Bool) (events : List Event) (running : Running) (ms : ℕ)
     → AreFigures options ignored events running
     → AreFigures options ignored (events ++ Tick ms ∷ []) (ticked running ms)
@@ -229,6 +152,45 @@ figures-tick options ignored events running ms figures = record {
       let frees = sum_by_push (free_weight (gross_weight options ignored)) events (Tick ms) in
       omega arith;
 }
+
+-- the figures with an event that is counted
+pub figures-counted :
+    (options : MassifOptions) (ignored : ℕ → Bool) (events : List Event) (running : Running) (event : Event)
+    → counts ignored event ≡ true
+    → CanCount options running event
+    → AreFigures options ignored events running
+    → AreFigures options ignored (events ++ event ∷ []) (with_event options running event)
+figures-counted options ignored events running (Alloc info stack size) counted can figures =
+    let heap_is = weight-counted ignored stack size counted in
+    let gross_is = weight-counted ignored stack (gross options size) counted in
+    figures-push options ignored events (Alloc info stack size) running (with_alloc options running size) (gross options size) 1 refl refl (omega arith) (ap (λ (b : Bool). cond {A = ℕ} b 1 0) counted)
+    refl (with-once options.unit running (gross options size)) refl (omega arith) (omega arith) figures
+figures-counted options ignored events running (Free info stack size) counted can figures =
+    let heap_is = weight-counted ignored stack size counted in
+    let gross_is = weight-counted ignored stack (gross options size) counted in
+    let heap_within = can.heap in
+    let gross_within = can.gross_within in
+    figures-push options ignored events (Free info stack size) running (with_free options running size) (gross options size) 1 refl refl (omega arith) (ap (λ (b : Bool). cond {A = ℕ} b 1 0) counted)
+    refl (with-once options.unit running (gross options size)) refl (omega arith) (omega arith) figures
+figures-counted options ignored events running (Tick ms) counted can figures = absurd (false≢true counted)
+
+-- with one that isn't counted
+pub figures-passed :
+    (options : MassifOptions) (ignored : ℕ → Bool) (events : List Event) (running : Running) (event : Event)
+    → counts ignored event ≡ false
+    → AreFigures options ignored events running
+    → AreFigures options ignored (events ++ event ∷ []) (past_event options running event)
+figures-passed options ignored events running (Alloc info stack size) none figures =
+    let heap_is = weight-ignored ignored stack size none in
+    let gross_is = weight-ignored ignored stack (gross options size) none in
+    figures-push options ignored events (Alloc info stack size) running (passed options running) 0 0 refl refl (omega arith) (ap (λ (b : Bool). cond {A = ℕ} b 1 0) none)
+    refl (with-none options.unit running) refl (omega arith) (omega arith) figures
+figures-passed options ignored events running (Free info stack size) none figures =
+    let heap_is = weight-ignored ignored stack size none in
+    let gross_is = weight-ignored ignored stack (gross options size) none in
+    figures-push options ignored events (Free info stack size) running (passed options running) 0 0 refl refl (omega arith) (ap (λ (b : Bool). cond {A = ℕ} b 1 0) none)
+    refl (with-none options.unit running) refl (omega arith) (omega arith) figures
+figures-passed options ignored events running (Tick ms) none figures = figures-tick options ignored events running ms figures
 
 -- the live bytes at the last place are those of the figures
 pub heap-now : (options : MassifOptions) (ignored : ℕ → Bool) (events : List Event) (running : Running) → AreFigures options ignored events running → running.heap ≡ heap_at ignored events (event_count events)

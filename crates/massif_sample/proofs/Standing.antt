@@ -14,7 +14,8 @@ use Rattle.std.specs.Option.{option_or}
 use Rattle.live_ledger.specs.ByInfo.{alloc_weight, free_weight}
 use Rattle.live_ledger.specs.Events.{event_count, is_counted, is_free}
 use Rattle.live_ledger.specs.Faults.{fault_at, fault_of}
-use Rattle.live_ledger.specs.LedgerState.{HeldInfo, LedgerState}
+use Rattle.live_ledger.specs.LedgerState.{HeldInfo, IsHeld, LedgerState}
+use Rattle.live_ledger.specs.Sound.{IsSound}
 use Rattle.massif_cull.specs.declared.snapshot.Offer.{Offer}
 use Rattle.massif_cull.specs.declared.snapshot.Taken.TheVariants.{Detailed, Peak}
 use Rattle.massif_sample.specs.declared.fault.SampleFault.{SampleFault}
@@ -28,129 +29,115 @@ use Rattle.massif_sample.specs.Gross.{gross}
 use Rattle.massif_sample.specs.HeapTotals.{gross_total, gross_weight, heap_weight}
 use Rattle.massif_sample.specs.Offers.{offer_at, offers, offers_of_event, peak_before}
 use Rattle.massif_sample.specs.Options.{AreInRange}
-use Rattle.massif_sample.specs.Running.{AreFigures, HasBlock, passed, passes_most, ticked}
+use Rattle.massif_sample.specs.Running.{AreFigures, CanCount, HasBlock, passes_most, past_event, with_event}
 use Rattle.massif_sample.specs.SampleFault.{Tells, is_too_large, sample_fault, size_fault}
 use Rattle.massif_sample.specs.SamplesState.{SamplesState}
+use Rattle.massif_sample.specs.LiveCosts.{is_judged}
 use Rattle.massif_sample.specs.StandsFor.{AreJudged, IsOfStack, IsSampling, StandsFor}
 use Rattle.massif_sample.specs.Times.{time_of}
-use Rattle.massif_sample.proofs.Figures.{figures-tick}
+use Rattle.massif_sample.proofs.Figures.{figures-counted, figures-passed, weight-counted}
 use Rattle.massif_sample.proofs.GrossSizes.{gross-least, some-alignment}
 use Rattle.massif_sample.proofs.Offers.{offer-front, offers-event, offers-tick}
 use Rattle.massif_sample.proofs.Sampling.{sampling-passed}
 use Rattle.massif_sample.proofs.UpTo.{count-more, up_to-all}
 
--- what was judged of a stack is whether it's ignored
-pub judged-is : (names : FunctionNames) (tables : TableState) (flags : List Bool) (stack : ℕ) (flag : Bool) → AreJudged names tables flags → stack < length flags → slice_index_or flags stack false ≡ flag → ignores tables names stack ≡ flag
-judged-is names tables flags stack flag judged held is = sym (get_or_from_slice_get flags stack (ignores tables names stack) false (judged stack held)) ∙ is
+-- the stack of an event that a ledger holds is one of the tables that it stands beside
+pub of-held : (ledger : LedgerState) (tables : TableState) (event : Event) → IsSound ledger → ledger.stacks ≡ length tables.nodes + 1 → IsHeld ledger event → IsOfStack tables event
+of-held ledger tables (Alloc info stack size) sound count held = let below = sound.stack_held info _ held in omega arith
+of-held ledger tables (Free info stack size) sound count held = let below = sound.stack_held info _ held in omega arith
+of-held ledger tables (Tick ms) sound count held = tt
+
+-- an event is counted where its stack was judged so
+pub counted-is : (names : FunctionNames) (tables : TableState) (flags : List Bool) (event : Event) → length flags ≡ length tables.nodes + 1 → AreJudged names tables flags → IsOfStack tables event
+    → counts (ignores tables names) event ≡ counts (is_judged flags) event
+counted-is names tables flags (Alloc info stack size) count judged of_stack = ap not (sym (get_or_from_slice_get flags stack (ignores tables names stack) false (judged stack (omega arith))))
+counted-is names tables flags (Free info stack size) count judged of_stack = ap not (sym (get_or_from_slice_get flags stack (ignores tables names stack) false (judged stack (omega arith))))
+counted-is names tables flags (Tick ms) count judged of_stack = refl
 
 -- the offers of an event that isn't counted, and of one that is
-offers-of : (options : MassifOptions) (ignored : ℕ → Bool) (events : List Event) (event : Event) (k : ℕ) (counted free : Bool) → counts ignored event ≡ counted → is_free event ≡ free
-    → offers_of_event options ignored events event k ≡ cond counted (cond free (offer_at options ignored events true k ∷ []) [] ++ offer_at options ignored events false (k + 1) ∷ []) []
-offers-of options ignored events event k counted free is_counted free_is =
-    ap (λ (b : Bool). cond b (peak_before options ignored events event k ++ offer_at options ignored events false (k + 1) ∷ []) []) is_counted
-    ∙ ap (λ (b : Bool). cond counted (cond b (offer_at options ignored events true k ∷ []) [] ++ offer_at options ignored events false (k + 1) ∷ []) []) free_is
+offers-of : (options : MassifOptions) (ignored : ℕ → Bool) (events : List Event) (event : Event) (k : ℕ) (counted : Bool) → counts ignored event ≡ counted
+    → offers_of_event options ignored events event k ≡ cond counted (peak_before options ignored events event k ++ offer_at options ignored events false (k + 1) ∷ []) []
+offers-of options ignored events event k counted is =
+    ap (λ (b : Bool). cond b (peak_before options ignored events event k ++ offer_at options ignored events false (k + 1) ∷ []) []) is
+
+no-offers : (options : MassifOptions) (ignored : ℕ → Bool) (events : List Event) (event : Event) → is_counted event ≡ true → counts ignored event ≡ false → offers options ignored (events ++ event ∷ []) ≡ offers options ignored events
+no-offers options ignored events event is none =
+    offers-event options ignored events event is
+    ∙ ap (λ (os : List Offer). offers options ignored events ++ os) (offers-of options ignored (events ++ event ∷ []) event (event_count events) false none)
+    ∙ append-nil (offers options ignored events)
+
+-- an event that isn't counted brings none
+offers-passed : (options : MassifOptions) (ignored : ℕ → Bool) (events : List Event) (event : Event) → counts ignored event ≡ false → offers options ignored (events ++ event ∷ []) ≡ offers options ignored events
+offers-passed options ignored events (Alloc info stack size) none = no-offers options ignored events (Alloc info stack size) refl none
+offers-passed options ignored events (Free info stack size) none = no-offers options ignored events (Free info stack size) refl none
+offers-passed options ignored events (Tick ms) none = offers-tick options ignored events ms
 
 -- behind an event that isn't counted
 pub stands-passed :
     (flags : List Bool) (samples : SamplesState) (names : FunctionNames) (tables : TableState) (events : List Event) (event : Event)
-    → is_counted event ≡ true
     → counts (ignores tables names) event ≡ false
     → IsOfStack tables event
-    → AreFigures samples.options (ignores tables names) (events ++ event ∷ []) (passed samples.options samples.running)
     → StandsFor flags samples names tables events
-    → StandsFor flags (record samples { running = passed samples.options samples.running }) names tables (events ++ event ∷ [])
-stands-passed flags samples names tables events event is none of_stack figures stands =
-    let next : SamplesState = record samples { running = passed samples.options samples.running } in
+    → StandsFor flags (record samples { running = past_event samples.options samples.running event }) names tables (events ++ event ∷ [])
+stands-passed flags samples names tables events event none of_stack stands =
+    let next : SamplesState = record samples { running = past_event samples.options samples.running event } in
     let ignored : ℕ → Bool = ignores tables names in
-    let moved = sampling-passed samples names tables events (offers samples.options ignored events) event (passed samples.options samples.running) stands.sampling of_stack none figures in
-    let same : offers samples.options ignored (events ++ event ∷ []) ≡ offers samples.options ignored events =
-    offers-event samples.options ignored events event is
-    ∙ ap (λ (os : List Offer). offers samples.options ignored events ++ os) (offers-of samples.options ignored (events ++ event ∷ []) event (event_count events) false (is_free event) none refl)
-    ∙ append-nil (offers samples.options ignored events) in
+    let figures = figures-passed samples.options ignored events samples.running event none stands.sampling.figures in
     record {
       judged = stands.judged;
       held = stands.held;
-      sampling = subst (λ (os : List Offer). IsSampling next names tables (events ++ event ∷ []) os) (sym same) moved;
+      sampling = subst (λ (os : List Offer). IsSampling next names tables (events ++ event ∷ []) os) (sym (offers-passed samples.options ignored events event none))
+          (sampling-passed samples names tables events (offers samples.options ignored events) event (past_event samples.options samples.running event) stands.sampling of_stack none figures);
       some = stands.some;
     }
 
--- behind a clock value
-pub stands-tick : (flags : List Bool) (samples : SamplesState) (names : FunctionNames) (tables : TableState) (events : List Event) (ms : ℕ)
-    → StandsFor flags samples names tables events → StandsFor flags (record samples { running = ticked samples.running ms }) names tables (events ++ Tick ms ∷ [])
-stands-tick flags samples names tables events ms stands =
-    let ignored : ℕ → Bool = ignores tables names in
-    record {
-      judged = stands.judged;
-      held = stands.held;
-      sampling = subst (λ (os : List Offer). IsSampling (record samples { running = ticked samples.running ms }) names tables (events ++ Tick ms ∷ []) os) (sym (offers-tick samples.options ignored events ms))
-          (sampling-passed samples names tables events (offers samples.options ignored events) (Tick ms) (ticked samples.running ms) stands.sampling tt refl (figures-tick samples.options ignored events samples.running ms stands.sampling.figures));
-      some = stands.some;
-    }
-
--- behind an event that is counted, of which these offers were made
-stands-counted :
-    (flags : List Bool) (old new : SamplesState) (names : FunctionNames) (tables : TableState) (events : List Event) (event : Event) (made : List Offer)
-    → is_counted event ≡ true
-    → StandsFor flags old names tables events
-    → new.options ≡ old.options
-    → offers_of_event old.options (ignores tables names) (events ++ event ∷ []) event (event_count events) ≡ made
-    → IsSampling new names tables (events ++ event ∷ []) (offers old.options (ignores tables names) events ++ made)
-    → 0 < length new.array.kept.entries
-    → StandsFor flags new names tables (events ++ event ∷ [])
-stands-counted flags old new names tables events event made is stands options_is made_is sampling some =
-    let ignored : ℕ → Bool = ignores tables names in
-    let same : offers new.options ignored (events ++ event ∷ []) ≡ offers old.options ignored events ++ made =
-    ap (λ (o : MassifOptions). offers o ignored (events ++ event ∷ [])) options_is
-    ∙ offers-event old.options ignored events event is
-    ∙ ap (λ (os : List Offer). offers old.options ignored events ++ os) made_is in
-    record {
-      judged = stands.judged;
-      held = stands.held;
-      sampling = subst (λ (os : List Offer). IsSampling new names tables (events ++ event ∷ []) os) (sym same) sampling;
-      some = some;
-    }
+-- what is counted is no clock value
+is-counted : (ignored : ℕ → Bool) (event : Event) → counts ignored event ≡ true → is_counted event ≡ true
+is-counted ignored (Alloc info stack size) counted = refl
+is-counted ignored (Free info stack size) counted = refl
+is-counted ignored (Tick ms) counted = counted
 
 -- the normal offer behind the last event
 last-offer : (options : MassifOptions) (ignored : ℕ → Bool) (events : List Event) (event : Event) → is_counted event ≡ true
     → offer_at options ignored (events ++ event ∷ []) false (event_count events + 1) ≡ offer_at options ignored (events ++ event ∷ []) false (event_count (events ++ event ∷ []))
 last-offer options ignored events event is = sym (ap (offer_at options ignored (events ++ event ∷ []) false) (count-more events event is))
 
-pub stands-alloc :
-    (flags : List Bool) (old new : SamplesState) (names : FunctionNames) (tables : TableState) (events : List Event) (info stack size : ℕ)
-    → ignores tables names stack ≡ false
-    → StandsFor flags old names tables events
-    → new.options ≡ old.options
-    → IsSampling new names tables (events ++ Alloc info stack size ∷ [])
-    (offers old.options (ignores tables names) events ++ offer_at old.options (ignores tables names) (events ++ Alloc info stack size ∷ []) false (event_count (events ++ Alloc info stack size ∷ [])) ∷ [])
-    → 0 < length new.array.kept.entries
-    → StandsFor flags new names tables (events ++ Alloc info stack size ∷ [])
-stands-alloc flags old new names tables events info stack size counted stands options_is sampling some =
-    let event : Event = Alloc info stack size in
-    stands-counted flags old new names tables events event _ refl stands options_is
-    (offers-of old.options (ignores tables names) (events ++ event ∷ []) event (event_count events) true false (ap not counted) refl
-    ∙ ap (λ (o : Offer). o ∷ []) (last-offer old.options (ignores tables names) events event refl))
-    sampling some
+-- the offers with those of an event that is counted
+offers-counted : (options : MassifOptions) (ignored : ℕ → Bool) (events : List Event) (event : Event) → counts ignored event ≡ true
+    → offers options ignored (events ++ event ∷ []) ≡ (offers options ignored events ++ peak_before options ignored events event (event_count events))
+    ++ offer_at options ignored (events ++ event ∷ []) false (event_count (events ++ event ∷ [])) ∷ []
+offers-counted options ignored events event counted =
+    let after : List Event = events ++ event ∷ [] in
+    let is = is-counted ignored event counted in
+    let earlier : List Offer = offers options ignored events in
+    let peak : List Offer = peak_before options ignored events event (event_count events) in
+    offers-event options ignored events event is
+    ∙ ap (λ (os : List Offer). earlier ++ os)
+    (offers-of options ignored after event (event_count events) true counted
+    ∙ ap (λ (o : Offer). cond (is_free event) (o ∷ []) [] ++ offer_at options ignored after false (event_count events + 1) ∷ []) (offer-front options ignored events (event ∷ []) true (event_count events) (omega arith))
+    ∙ ap (λ (o : Offer). peak ++ o ∷ []) (last-offer options ignored events event is))
+    ∙ sym (append_assoc earlier peak (offer_at options ignored after false (event_count after) ∷ []))
 
-pub stands-free :
-    (flags : List Bool) (old new : SamplesState) (names : FunctionNames) (tables : TableState) (events : List Event) (info stack size : ℕ)
-    → ignores tables names stack ≡ false
+-- behind an event that is counted, of which these offers were made
+pub stands-counted :
+    (flags : List Bool) (old new : SamplesState) (names : FunctionNames) (tables : TableState) (events : List Event) (event : Event)
+    → counts (ignores tables names) event ≡ true
     → StandsFor flags old names tables events
     → new.options ≡ old.options
-    → IsSampling new names tables (events ++ Free info stack size ∷ [])
-    ((offers old.options (ignores tables names) events ++ offer_at old.options (ignores tables names) events true (event_count events) ∷ [])
-    ++ offer_at old.options (ignores tables names) (events ++ Free info stack size ∷ []) false (event_count (events ++ Free info stack size ∷ [])) ∷ [])
+    → IsSampling new names tables (events ++ event ∷ [])
+    ((offers old.options (ignores tables names) events ++ peak_before old.options (ignores tables names) events event (event_count events))
+    ++ offer_at old.options (ignores tables names) (events ++ event ∷ []) false (event_count (events ++ event ∷ [])) ∷ [])
     → 0 < length new.array.kept.entries
-    → StandsFor flags new names tables (events ++ Free info stack size ∷ [])
-stands-free flags old new names tables events info stack size counted stands options_is sampling some =
-    let event : Event = Free info stack size in
-    let peak : Offer = offer_at old.options (ignores tables names) events true (event_count events) in
-    let normal : Offer = offer_at old.options (ignores tables names) (events ++ event ∷ []) false (event_count (events ++ event ∷ [])) in
-    stands-counted flags old new names tables events event (peak ∷ normal ∷ []) refl stands options_is
-    (offers-of old.options (ignores tables names) (events ++ event ∷ []) event (event_count events) true true (ap not counted) refl
-    ∙ ap (λ (o : Offer). o ∷ offer_at old.options (ignores tables names) (events ++ event ∷ []) false (event_count events + 1) ∷ []) (offer-front old.options (ignores tables names) events (event ∷ []) true (event_count events) (omega arith))
-    ∙ ap (λ (o : Offer). peak ∷ o ∷ []) (last-offer old.options (ignores tables names) events event refl))
-    (subst (λ (os : List Offer). IsSampling new names tables (events ++ event ∷ []) os) (append_assoc (offers old.options (ignores tables names) events) (peak ∷ []) (normal ∷ [])) sampling)
-    some
+    → StandsFor flags new names tables (events ++ event ∷ [])
+stands-counted flags old new names tables events event counted stands options_is sampling some =
+    let ignored : ℕ → Bool = ignores tables names in
+    let same = ap (λ (o : MassifOptions). offers o ignored (events ++ event ∷ [])) options_is ∙ offers-counted old.options ignored events event counted in
+    record {
+      judged = stands.judged;
+      held = stands.held;
+      sampling = subst (λ (os : List Offer). IsSampling new names tables (events ++ event ∷ []) os) (sym same) sampling;
+      some = some;
+    }
 
 -- an event that the ledger takes
 fault-taken : (options : MassifOptions) (ignored : ℕ → Bool) (events : List Event) (event : Event) (counted : Bool) → fault_of events event ≡ None → counts ignored event ≡ counted
@@ -165,12 +152,12 @@ fault-passed options ignored events event none uncounted = fault-taken options i
 
 -- and one that is counted where the figures behind it pass their bound
 pub fault-counted : (options : MassifOptions) (ignored : ℕ → Bool) (events : List Event) (event : Event) (next : Running) (large : Bool)
-    → is_counted event ≡ true → fault_of events event ≡ None → counts ignored event ≡ true → AreFigures options ignored (events ++ event ∷ []) next → passes_most next ≡ large
+    → fault_of events event ≡ None → counts ignored event ≡ true → AreFigures options ignored (events ++ event ∷ []) next → passes_most next ≡ large
     → sample_fault options ignored events event ≡ cond large (Some ledger_fault.CostTooLarge) None
-fault-counted options ignored events event next large is none counted figures passes =
+fault-counted options ignored events event next large none counted figures passes =
     let after : List Event = events ++ event ∷ [] in
     let gross_is : gross_total options ignored after ≡ next.gross = let was = figures.gross in omega arith in
-    let time_is : time_of options ignored after ≡ next.time = sym (figures.time ∙ ap (time_of options ignored) (up_to-all events event is)) in
+    let time_is : time_of options ignored after ≡ next.time = sym (figures.time ∙ ap (time_of options ignored) (up_to-all events event (is-counted ignored event counted))) in
     let same : is_too_large options ignored after ≡ large =
     ap (λ (g : ℕ). nat_lt (2 ^ 62) g || nat_lt (2 ^ 62) (time_of options ignored after)) gross_is
     ∙ ap (λ (t : ℕ). nat_lt (2 ^ 62) next.gross || nat_lt (2 ^ 62) t) time_is
@@ -189,30 +176,16 @@ tells-none (Err (sample.Event fault)) found only none = absurd (let same : sampl
 tells-none (Err sample.NoMemory) found only none = none
 
 -- an event that is counted calls for a detailed snapshot
-pub due-alloc : (options : MassifOptions) (ignored : ℕ → Bool) (events : List Event) (info stack size : ℕ) → ignored stack ≡ false
-    → IsTakenAs options (offers options ignored events) (offer_at options ignored (events ++ Alloc info stack size ∷ []) false (event_count (events ++ Alloc info stack size ∷ []))) Detailed
-    → IsDue options ignored events (Alloc info stack size)
-due-alloc options ignored events info stack size counted taken =
+pub due-detailed : (options : MassifOptions) (ignored : ℕ → Bool) (events : List Event) (event : Event) → counts ignored event ≡ true
+    → IsTakenAs options (offers options ignored events ++ peak_before options ignored events event (event_count events)) (offer_at options ignored (events ++ event ∷ []) false (event_count (events ++ event ∷ []))) Detailed
+    → IsDue options ignored events event
+due-detailed options ignored events event counted taken =
     inr (record {
-      counted = ap not counted;
+      counted = counted;
       taken =
-          subst (λ (o : Offer). IsTakenAs options (offers options ignored events ++ []) o Detailed) (sym (last-offer options ignored events (Alloc info stack size) refl))
-          (subst (λ (os : List Offer). IsTakenAs options os (offer_at options ignored (events ++ Alloc info stack size ∷ []) false (event_count (events ++ Alloc info stack size ∷ []))) Detailed) (sym (append-nil (offers options ignored events))) taken);
+          subst (λ (o : Offer). IsTakenAs options (offers options ignored events ++ peak_before options ignored events event (event_count events)) o Detailed)
+          (sym (last-offer options ignored events event (is-counted ignored event counted))) taken;
     })
-
-pub due-free : (options : MassifOptions) (ignored : ℕ → Bool) (events : List Event) (info stack size : ℕ) → ignored stack ≡ false
-    → IsTakenAs options (offers options ignored events ++ offer_at options ignored events true (event_count events) ∷ []) (offer_at options ignored (events ++ Free info stack size ∷ []) false (event_count (events ++ Free info stack size ∷ []))) Detailed
-    → IsDue options ignored events (Free info stack size)
-due-free options ignored events info stack size counted taken =
-    inr (record {
-      counted = ap not counted;
-      taken = subst (λ (o : Offer). IsTakenAs options (offers options ignored events ++ offer_at options ignored events true (event_count events) ∷ []) o Detailed) (sym (last-offer options ignored events (Free info stack size) refl)) taken;
-    })
-
-pub due-peak : (options : MassifOptions) (ignored : ℕ → Bool) (events : List Event) (info stack size : ℕ) → ignored stack ≡ false
-    → IsTakenAs options (offers options ignored events) (offer_at options ignored events true (event_count events)) Peak
-    → IsDue options ignored events (Free info stack size)
-due-peak options ignored events info stack size counted taken = inl (record { counted = ap not counted; free = refl; taken = taken })
 
 -- sums of numbers that are sums
 sum-split : (f g h : Event → ℕ) (events : List Event) → ((e : Event) → f e ≡ g e + h e) → sum_by f events ≡ sum_by g events + sum_by h events
@@ -244,10 +217,10 @@ free-split options ignored range (Free i s z) = weight-split options (ignored s)
 free-split options ignored range (Tick ms) = refl
 
 -- a free that a trace can have is of a live block
-pub has-block :
+has-block :
     (options : MassifOptions) (ignored : ℕ → Bool) (events : List Event) (running : Running) (info stack size : ℕ)
     → AreInRange options
-    → ignored stack ≡ false
+    → not (ignored stack) ≡ true
     → AreFigures options ignored events running
     → ((weight : HeldInfo → ℕ) → sum_by (free_weight weight) (events ++ Free info stack size ∷ []) ≤ sum_by (alloc_weight weight) (events ++ Free info stack size ∷ []))
     → HasBlock options running size
@@ -255,9 +228,9 @@ has-block options ignored events running info stack size range counted figures w
     let event : Event = Free info stack size in
     let allocs = λ (weight : HeldInfo → ℕ). sum_by_push (alloc_weight weight) events event in
     let frees = λ (weight : HeldInfo → ℕ). sum_by_push (free_weight weight) events event in
-    let of_heap : cond {A = ℕ} (ignored stack) 0 size ≡ size = ap (λ (b : Bool). cond {A = ℕ} b 0 size) counted in
-    let of_gross : cond {A = ℕ} (ignored stack) 0 (gross options size) ≡ gross options size = ap (λ (b : Bool). cond {A = ℕ} b 0 (gross options size)) counted in
-    let of_extra : cond {A = ℕ} (ignored stack) 0 (gross options size - size) ≡ gross options size - size = ap (λ (b : Bool). cond {A = ℕ} b 0 (gross options size - size)) counted in
+    let of_heap = weight-counted ignored stack size counted in
+    let of_gross = weight-counted ignored stack (gross options size) counted in
+    let of_extra = weight-counted ignored stack (gross options size - size) counted in
     let heap_was = figures.heap in
     let gross_was = figures.gross in
     record {
@@ -271,9 +244,44 @@ has-block options ignored events running info stack size range counted figures w
     }
 
 -- an allocation that has no fault isn't larger than all may be together
-pub size-fits : (ledger : LedgerState) (info stack size : ℕ) → fault_at ledger (Alloc info stack size) ≡ None → size ≤ 2 ^ 62
+size-fits : (ledger : LedgerState) (info stack size : ℕ) → fault_at ledger (Alloc info stack size) ≡ None → size ≤ 2 ^ 62
 size-fits ledger info stack size none =
     elim (leb_tells (suc (2 ^ 62)) (ledger.totals.allocated + size)) [
       | inl large ↦ absurd (let is : cond (nat_lt (2 ^ 62) (ledger.totals.allocated + size)) (Some ledger_fault.CostTooLarge) None ≡ Some ledger_fault.CostTooLarge = ap (λ (b : Bool). cond {A = Option EventFault} b (Some ledger_fault.CostTooLarge) None) large.0 in cc)
       | inr fits ↦ (let below = fits.1 in omega arith)
     ]
+
+-- an event that has no fault can be counted
+can-count :
+    (options : MassifOptions) (ignored : ℕ → Bool) (events : List Event) (running : Running) (ledger : LedgerState) (event : Event)
+    → AreInRange options
+    → counts ignored event ≡ true
+    → AreFigures options ignored events running
+    → fault_at ledger event ≡ None
+    → ((weight : HeldInfo → ℕ) → sum_by (free_weight weight) (events ++ event ∷ []) ≤ sum_by (alloc_weight weight) (events ++ event ∷ []))
+    → CanCount options running event
+can-count options ignored events running ledger (Alloc info stack size) range counted figures none within = size-fits ledger info stack size none
+can-count options ignored events running ledger (Free info stack size) range counted figures none within = has-block options ignored events running info stack size range counted figures within
+can-count options ignored events running ledger (Tick ms) range counted figures none within = tt
+
+-- what is known of an event that is counted: it can be, and the figures behind it
+pub record IsCounted (options : MassifOptions) (ignored : ℕ → Bool) (events : List Event) (event : Event) (running : Running) : Type 0 where
+  pub counted : counts ignored event ≡ true
+  pub can : CanCount options running event
+  pub figures : AreFigures options ignored (events ++ event ∷ []) (with_event options running event)
+
+pub counted-event :
+    (flags : List Bool) (samples : SamplesState) (ledger : LedgerState) (names : FunctionNames) (tables : TableState) (events : List Event) (event : Event)
+    → AreInRange samples.options
+    → length flags ≡ length tables.nodes + 1
+    → IsOfStack tables event
+    → counts (is_judged flags) event ≡ true
+    → fault_at ledger event ≡ None
+    → ((weight : HeldInfo → ℕ) → sum_by (free_weight weight) (events ++ event ∷ []) ≤ sum_by (alloc_weight weight) (events ++ event ∷ []))
+    → StandsFor flags samples names tables events
+    → IsCounted samples.options (ignores tables names) events event samples.running
+counted-event flags samples ledger names tables events event range count of_stack judged none within stands =
+    let ignored : ℕ → Bool = ignores tables names in
+    let counted = counted-is names tables flags event count stands.judged of_stack ∙ judged in
+    let can = can-count samples.options ignored events samples.running ledger event range counted stands.sampling.figures none within in
+    record { counted = counted; can = can; figures = figures-counted samples.options ignored events samples.running event counted can stands.sampling.figures }

@@ -1,6 +1,7 @@
 -- The figures that are kept up event by event, and what an event makes of them.
 use Rattle.std.specs.Prelude.{◌≡◌, ℕ, ◌+◌, ◌-◌, ◌^◌, ◌≤◌, max, nat_lt, ◌||◌, Bool, List, sum_by}
 use Rattle.live_ledger.specs.declared.event.Event.{Event}
+use Rattle.live_ledger.specs.declared.event.Event.TheVariants.{Alloc, Free, Tick}
 use Rattle.live_ledger.specs.ByInfo.{alloc_weight, free_weight}
 use Rattle.live_ledger.specs.Events.{event_count}
 use Rattle.massif_file.specs.declared.profile.TimeUnit.{TimeUnit}
@@ -61,7 +62,7 @@ with_free options running size = record {
   gross = running.gross - gross options size;
 }
 
--- with an event that isn't counted
+-- with an allocation or a free that isn't counted
 abbrev pub passed : MassifOptions → Running → Running
 passed options running = record running
     { place = running.place + 1; time = time_passed options.unit running }
@@ -69,6 +70,18 @@ passed options running = record running
 -- with a clock value
 abbrev pub ticked : Running → ℕ → Running
 ticked running ms = record running { clock = max running.clock ms }
+
+-- with any event that is counted
+abbrev pub with_event : MassifOptions → Running → Event → Running
+with_event options running (Alloc info stack size) = with_alloc options running size
+with_event options running (Free info stack size) = with_free options running size
+with_event options running (Tick ms) = ticked running ms
+
+-- and with any that isn't
+abbrev pub past_event : MassifOptions → Running → Event → Running
+past_event options running (Alloc info stack size) = passed options running
+past_event options running (Free info stack size) = passed options running
+past_event options running (Tick ms) = ticked running ms
 
 -- whether a figure passes 2^62
 abbrev pub passes_most : Running → Bool
@@ -93,6 +106,12 @@ pub record HasBlock (options : MassifOptions) (running : Running) (size : ℕ) :
   pub heap : size ≤ running.heap
   pub gross_within : gross options size ≤ running.gross
   pub extra : running.heap + gross options size ≤ running.gross + size
+
+-- the event can be counted: a block that is freed is live, and one that is allocated isn't larger than all may be together
+abbrev pub CanCount : MassifOptions → Running → Event → Type 0
+CanCount options running (Alloc info stack size) = size ≤ 2 ^ 62
+CanCount options running (Free info stack size) = HasBlock options running size
+CanCount options running (Tick ms) = Unit {0}
 
 -- the figures are sound, no place or time falls, and no time passes 2^62
 pub record Follows (options : MassifOptions) (running next : Running) : Type 0 where

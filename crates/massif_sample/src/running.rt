@@ -1,11 +1,11 @@
 //! The figures of a trace that grow with each event, and what an event makes of them.
 //! Which snapshots are taken is no part of it.
 ghost use Rattle.std.specs.Prelude.{◌≡◌, ◌+◌, ◌-◌, ◌^◌, ◌<◌, ◌≤◌, true, false, IfNone, IfSome};
-ghost use Rattle.massif_sample.specs.Gross.{gross};
 ghost use Rattle.massif_sample.specs.Options.{AreInRange};
-ghost use Rattle.massif_sample.specs.Running.{TimeFits, no_figures, passed, passes_most, ticked, time_after, time_passed, with_alloc, with_free};
+ghost use Rattle.massif_sample.specs.Running.{AreSound, CanCount, TimeFits, no_figures, passed, passes_most, past_event, ticked, time_after, time_passed, with_event};
 
 use crate::options::MassifOptions;
+use live_ledger::Event;
 use massif_file::TimeUnit;
 
 /// The most bytes that are live, and the greatest time.
@@ -41,7 +41,7 @@ impl Running {
     }
 
     /// The figures with a clock value.
-    pub(crate) fn ticked(self, ms: u64) -> Running
+    fn ticked(self, ms: u64) -> Running
         ensures { result ≡ ticked self ms }
     {
         Running {
@@ -51,7 +51,19 @@ impl Running {
     }
 
     /// The figures with an event that isn't counted.
-    pub(crate) fn passed(self, options: &MassifOptions) -> Running
+    pub(crate) fn past_event(self, options: &MassifOptions, event: Event) -> Running
+        requires place { self.place < 2 ^ 32 }
+        ensures { result ≡ past_event options.now self event }
+    {
+        match event {
+            Event::Alloc { .. } => self.passed(options),
+            Event::Free { .. } => self.passed(options),
+            Event::Tick { ms } => self.ticked(ms),
+        }
+    }
+
+    /// The figures with an allocation or a free that isn't counted.
+    fn passed(self, options: &MassifOptions) -> Running
         requires place { self.place < 2 ^ 32 }
         ensures { result ≡ passed options.now self }
     {
@@ -62,45 +74,50 @@ impl Running {
         }
     }
 
-    /// The figures with a block more.
+    /// The figures with an event that is counted.
     #[inline(always)]
-    pub(crate) fn allocated(self, options: &MassifOptions, size: u64) -> Running
+    pub(crate) fn with_event(self, options: &MassifOptions, event: Event) -> Running
         requires options { AreInRange options.now }
+        requires sound { AreSound options.now self }
         requires place { self.place < 2 ^ 32 }
-        requires time { TimeFits options.now.unit self }
-        requires heap { self.heap ≤ 2 ^ 62 }
-        requires gross { self.gross ≤ 2 ^ 62 }
-        requires size { size ≤ 2 ^ 62 }
-        ensures { result ≡ with_alloc options.now self size }
+        requires within { CanCount options.now self event }
+        ensures { result ≡ with_event options.now self event }
     {
-        let bytes = options.gross(size);
-        Running {
-            place: self.place + 1,
-            time: self.time_after(options.unit, bytes),
-            clock: self.clock,
-            heap: self.heap + size,
-            gross: self.gross + bytes,
+        match event {
+            Event::Alloc { size, .. } => {
+                let bytes = options.gross(size);
+                Running {
+                    heap: self.heap + size,
+                    gross: self.gross + bytes,
+                    ..self.farther(options, bytes)
+                }
+            }
+            Event::Free { size, .. } => {
+                let bytes = options.gross(size);
+                Running {
+                    heap: self.heap - size,
+                    gross: self.gross - bytes,
+                    ..self.farther(options, bytes)
+                }
+            }
+            Event::Tick { ms } => self.ticked(ms),
         }
     }
 
-    /// The figures with a live block fewer.
+    /// The figures at the place behind a counted event of so many gross bytes, but for what is live there.
     #[inline(always)]
-    pub(crate) fn freed(self, options: &MassifOptions, size: u64) -> Running
-        requires options { AreInRange options.now }
+    fn farther(self, options: &MassifOptions, bytes: u64) -> Running
         requires place { self.place < 2 ^ 32 }
         requires time { TimeFits options.now.unit self }
-        requires size { size ≤ 2 ^ 62 }
-        requires heap { size ≤ self.heap }
-        requires gross { gross options.now size ≤ self.gross }
-        ensures { result ≡ with_free options.now self size }
+        requires bytes { bytes ≤ 2 ^ 63 }
+        ensures { result
+            ≡ record self
+            { place = self.place + 1; time = time_after options.now.unit self bytes } }
     {
-        let bytes = options.gross(size);
         Running {
             place: self.place + 1,
             time: self.time_after(options.unit, bytes),
-            clock: self.clock,
-            heap: self.heap - size,
-            gross: self.gross - bytes,
+            ..self
         }
     }
 

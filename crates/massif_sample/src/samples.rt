@@ -18,7 +18,7 @@ ghost use Rattle.massif_tree.specs.FirstLists.{first_lists};
 ghost use Rattle.massif_sample.specs.FunctionNames.{FunctionNames, ignores};
 ghost use Rattle.massif_sample.specs.Made.{profile_made};
 ghost use Rattle.massif_sample.specs.Options.{AreInRange, settings_of, tree_options};
-ghost use Rattle.massif_sample.specs.Running.{AreFigures, Follows, HasBlock, no_figures, passed, passes_most, ticked, with_alloc, with_free};
+ghost use Rattle.massif_sample.specs.Running.{AreFigures, CanCount, Follows, no_figures, passes_most, past_event, with_event};
 ghost use Rattle.massif_sample.specs.SamplesState.{IsSound};
 ghost use Rattle.massif_sample.specs.Snapshots.{cost_at};
 ghost use Rattle.massif_sample.specs.StandsFor.{AreCostsAt, IsIn, IsOfStack, IsSampling};
@@ -33,6 +33,7 @@ use cost_history::CostHistory;
 use cost_tree::{FrameTest, Fronts};
 use hp_num::NoMemory;
 use ht_trace::Tables;
+use live_ledger::Event;
 use massif_cull::{Offer, SnapArray, Taken};
 use massif_file::Profile;
 use massif_tree::{TreeOptions, add_trimmed};
@@ -265,34 +266,19 @@ impl Samples {
         self.array.offer(offer, load);
     }
 
-    /// The figures behind an allocation that is counted, or `None` where one of them passes 2^62.
+    /// The figures behind an event that is counted, or `None` where one of them passes 2^62.
     #[inline(always)]
-    pub(crate) fn allocated(&self, size: u64) -> Option<Running>
+    pub(crate) fn behind(&self, event: Event) -> Option<Running>
         requires place { self.now.running.place < 2 ^ 32 }
-        requires size { size ≤ 2 ^ 62 }
+        requires within { CanCount self.now.options self.now.running event }
         ensures next { IfSome result
-            (λ next. next ≡ with_alloc self.now.options self.now.running size) }
+            (λ next. next ≡ with_event self.now.options self.now.running event) }
         ensures fits { IfSome result (λ next. passes_most next ≡ false) }
         ensures follows { IfSome result (λ next. Follows self.now.options self.now.running next) }
         ensures none { IfNone result
-            (passes_most (with_alloc self.now.options self.now.running size) ≡ true) }
+            (passes_most (with_event self.now.options self.now.running event) ≡ true) }
     {
-        self.running.allocated(&self.options, size).bounded()
-    }
-
-    /// The figures behind a free that is counted, or `None` where one of them passes 2^62.
-    #[inline(always)]
-    pub(crate) fn freed(&self, size: u64) -> Option<Running>
-        requires place { self.now.running.place < 2 ^ 32 }
-        requires block { HasBlock self.now.options self.now.running size }
-        ensures next { IfSome result
-            (λ next. next ≡ with_free self.now.options self.now.running size) }
-        ensures fits { IfSome result (λ next. passes_most next ≡ false) }
-        ensures follows { IfSome result (λ next. Follows self.now.options self.now.running next) }
-        ensures none { IfNone result
-            (passes_most (with_free self.now.options self.now.running size) ≡ true) }
-    {
-        self.running.freed(&self.options, size).bounded()
+        self.running.with_event(&self.options, event).bounded()
     }
 
     /// Moves on to the place behind an event of the stack that is counted, which has these figures, and marks the stack.
@@ -319,20 +305,13 @@ impl Samples {
         self.history.make_room()
     }
 
-    /// Moves on to the place behind an event that isn't counted.
-    pub(crate) fn pass(&mut self)
+    /// Moves on behind an event that isn't counted.
+    pub(crate) fn pass(&mut self, event: Event)
         requires place { self.old.running.place < 2 ^ 32 }
         ensures { self.new ≡ record self.old
-            { running = passed self.old.options self.old.running } }
+            { running = past_event self.old.options self.old.running event } }
     {
-        self.running = self.running.passed(&self.options);
-    }
-
-    /// Takes a clock value in milliseconds.
-    pub(crate) fn tick(&mut self, ms: u64)
-        ensures { self.new ≡ record self.old { running = ticked self.old.running ms } }
-    {
-        self.running = self.running.ticked(ms);
+        self.running = self.running.past_event(&self.options, event);
     }
 
     /// The profile of the snapshots, with the command that was profiled. `NoMemory` where memory is wanting, and where it was

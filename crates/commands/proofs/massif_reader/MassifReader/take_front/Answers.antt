@@ -46,7 +46,9 @@ returns-in-Err-NoMemory-clause-taken g c =
     let event = c.in_ok-line.line.event in
     let sound = at_some _ c.in-Some.sampler _ c.in-Some.is c.requires.sound in
     let front = c.in_ok-line.ensures.front tables c.requires.passes sound.2.beside in
-    record {
+    rw c.let_go.ensures.tables
+    (rw c.let_go.ensures.sampler
+    (record {
       line = front.line;
       one_line = front.one_line;
       short = front.short;
@@ -60,4 +62,4 @@ returns-in-Err-NoMemory-clause-taken g c =
           (known_fault _ sample.NoMemory _ c.in-Err-NoMemory.field-0-is (c.in-Err-NoMemory.ensures.fault settings.names (events earlier) at.sampling at.ledger_of)));
       gained = λ earlier has. refl;
       taken = λ earlier has. (front.passes.stands [] earlier has.0, tt);
-    }
+    }))
