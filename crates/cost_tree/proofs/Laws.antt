@@ -12,15 +12,15 @@ use Rattle.intern_tables.specs.Distinct.{AreDistinct}
 use Rattle.cost_tree.specs.declared.scale.Scale.{Scale}
 use Rattle.cost_tree.specs.Children.{children_of}
 use Rattle.cost_tree.specs.Costed.{Costed, costed}
-use Rattle.cost_tree.specs.CostLines.{cost_of, gathered_lines, is_small, kept_fronts, last_of, small_fronts}
+use Rattle.cost_tree.specs.CostLines.{cost_lines, cost_of, gathered_lines, is_small, kept_fronts, last_of, small_fronts}
 use Rattle.cost_tree.specs.Inclusive.{inclusive}
 use Rattle.cost_tree.specs.IsTreeOf.{IsTreeOf}
 use Rattle.cost_tree.specs.NextFronts.{next_fronts}
 use Rattle.cost_tree.specs.Texts.{IsText, texts_of}
 use Rattle.cost_tree.specs.TreeLines.{front_at}
 use Rattle.cost_tree.specs.TreeState.{TreeState}
-use Rattle.cost_tree.proofs.Alike.{IsSameTo-map, IsTreeOf-same, first-alike}
 use Rattle.cost_tree.proofs.Brothers as brothers
+use Rattle.cost_tree.proofs.Cutting as cutting
 use Rattle.cost_tree.proofs.Forests.{IsForest-tree}
 use Rattle.cost_tree.proofs.Lists as lists
 use Rattle.cost_tree.proofs.Needing as needing
@@ -47,14 +47,6 @@ children-next tree stacks depth n front is at shorter = brothers.children-next t
 pub children-none : (tree : TreeState) (stacks : List Costed) (depth n : ℕ) (front : List (List ℕ)) → IsTreeOf tree stacks depth → slice_get tree.fronts n ≡ Some front → depth ≤ length front
     → children_of tree.nodes n ≡ []
 children-none tree stacks depth n front is at longest = brothers.children-none tree stacks depth n front (IsForest-tree tree stacks depth is) at longest
-
--- a tree needs of a list its first texts, one more than its fronts may have
-pub first-texts : (tree : TreeState) (depth : ℕ) (texts : ℕ → List (List ℕ)) (ns costs : List ℕ)
-    → IsTreeOf tree (costed (map (λ n. take (depth + 1) (texts n)) ns) costs) depth → IsTreeOf tree (costed (map texts ns) costs) depth
-first-texts tree depth texts ns costs is =
-    IsTreeOf-same tree (costed (map (λ n. take (depth + 1) (texts n)) ns) costs) (costed (map texts ns) costs) depth
-    (IsSameTo-map depth (λ n. take (depth + 1) (texts n)) texts ns costs (λ k n cost at held. first-alike depth cost (texts n)))
-    is
 
 -- lists by their numbers, and one more
 pub listed-more : {X : Type 0} (f : ℕ → X) (n : ℕ) (old new : List X) → old ≡ map f (range_with_len 0 n) → new ≡ old ++ f n ∷ [] → new ≡ map f (range_with_len 0 (n + 1))
@@ -157,3 +149,8 @@ costed-sum (list ∷ lists) (cost ∷ costs) same =
 -- lists of numbers with the same texts are equal
 pub texts-same : (names : List (List ℕ)) (xs ys : List ℕ) → AreDistinct names → All (IsText names) xs → All (IsText names) ys → texts_of names xs ≡ texts_of names ys → xs ≡ ys
 texts-same = steps.texts-same
+
+-- the lines of a tree need of a list one text more than its fronts may have
+pub lines-first : {X : Type 0} (depth : ℕ) (scale : Scale) (texts : X → List (List ℕ)) (xs : List X) (costs : List ℕ)
+    → cost_lines depth scale (costed (map (λ x. take (depth + 1) (texts x)) xs) costs) ≡ cost_lines depth scale (costed (map texts xs) costs)
+lines-first = cutting.lines-first

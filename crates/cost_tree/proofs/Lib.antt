@@ -25,4 +25,6 @@ mod ChildNodes
 mod Totals
 mod Pushing
 mod Walks
+mod Cutting
+mod Lengthening
 pub mod Laws

@@ -142,7 +142,7 @@ left-smaller {X} W left rest new below x left_is new_is step =
     omega arith
 
 -- lists of elements that agree
-lists-same : {X A : Type 0} (f g : X → List A) (xs : List X) → All (λ x. f x ≡ g x) xs → flat_map f xs ≡ flat_map g xs
+pub lists-same : {X A : Type 0} (f g : X → List A) (xs : List X) → All (λ x. f x ≡ g x) xs → flat_map f xs ≡ flat_map g xs
 lists-same f g [] same = refl
 lists-same {X} {A} f g (x ∷ xs) same =
     ap (λ (ys : List A). ys ++ flat_map f xs) (same 0 x (omega arith))

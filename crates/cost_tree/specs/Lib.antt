@@ -21,5 +21,8 @@ pub mod Needed
 pub mod Order
 pub mod CostLines
 pub mod TreeLines
+pub mod Cuts
+pub mod CutShapes
+pub mod CutState
 pub mod Shares
 pub mod Pendings

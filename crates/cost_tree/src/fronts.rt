@@ -116,7 +116,7 @@ impl Fronts {
 }
 
 /// Appends the numbers to the last list, of which there must be one.
-fn push_numbers(shape: &mut Shape, numbers: &[usize]) -> Result<(), NoMemory>
+pub(crate) fn push_numbers(shape: &mut Shape, numbers: &[usize]) -> Result<(), NoMemory>
     requires begun { 0 < length shape.old }
     ensures gained { OnOk result (LastGains shape.old numbers.now shape.new) }
     ensures texts { (names : List (List ℕ)) → AreTexts names shape.old

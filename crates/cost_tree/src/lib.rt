@@ -14,6 +14,8 @@
 //!   from one end (`lists_towards`). From the root it makes the texts of each node once, and its memory goes by nodes. From
 //!   the allocation it makes no text of a stack that costs nothing, and of each other stack one text more than `depth` at
 //!   most.
+//! - `CutFronts` keeps lists cut behind fronts that have no line: `lengthen` makes them so long that the lines of `of_cut`'s tree
+//!   are those of the whole lists, with these costs.
 //! - A node says its parent, which stands before it, its cost, its own cost and the first stack. `text` is its front's
 //!   last text, and `children_into` gives all its children by ascending number, which is also by ascending first stack.
 //! - `cost_lines` gives the lines of a tree above a threshold, as a list over fronts (`CostLines`): costly fronts first,
@@ -27,6 +29,7 @@
 //! | `shape.rt`, `edge.rt`, `edges.rt` | lists of numbers that share their fronts; how a node goes on from another, and those that do |
 //! | `fronts.rt` | lists of texts |
 //! | `trace_lists.rt`, `stack_lists.rt`, `root_lists.rt`, `direction.rt` | those of a trace's stacks; from the allocation, and from the root; from which end |
+//! | `cut_fronts.rt`, `cut.rt`, `ends.rt` | lists of texts that are cut, and of numbers; what lists cost together that end at one node |
 //! | `costing.rt`, `frame_test.rt` | what each stack costs, and which names are meant, by closures |
 //! | `branches.rt`, `summing.rt` | a tree that grows along a shape; what its nodes cost with those below them |
 //! | `linked.rt`, `links.rt` | its nodes with the links to their children |
@@ -38,9 +41,12 @@
 mod branches;
 mod children;
 mod costing;
+mod cut;
+mod cut_fronts;
 mod direction;
 mod edge;
 mod edges;
+mod ends;
 mod frame_test;
 mod fronts;
 mod held_names;
@@ -58,6 +64,7 @@ mod trace_lists;
 mod tree;
 
 pub use costing::Costing;
+pub use cut_fronts::CutFronts;
 pub use direction::Direction;
 pub use frame_test::FrameTest;
 pub use fronts::Fronts;

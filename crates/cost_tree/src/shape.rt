@@ -1,11 +1,13 @@
 //! Lists of numbers that share their fronts: a front is kept once, as a node, and a list as the node where it ends.
 //! What the numbers stand for, and what the lists cost, are no part of it.
-ghost use Rattle.std.specs.Prelude.{◌≡◌, ℕ, ◌+◌, ◌-◌, ◌^◌, ◌<◌, ◌≤◌, List, [], ◌∷◌, ◌++◌, length, reverse, IfOk, OnOk, OnErr, slice_index_or};
+ghost use Rattle.std.specs.Prelude.{◌≡◌, ℕ, ◌+◌, ◌-◌, ◌^◌, ◌<◌, ◌≤◌, List, [], ◌∷◌, ◌++◌, length, map, reverse, sum, IfOk, OnOk, OnErr, slice_index_or};
 ghost use Rattle.cost_tree.specs.declared.edge.Edge.{Edge};
+ghost use Rattle.cost_tree.specs.CutShapes.{equal_cost};
 ghost use Rattle.cost_tree.specs.Shapes.{AreSteps, IsChild, list_at, numbers_of};
 
 use crate::edge::Edge;
 use crate::edges::Edges;
+use crate::ends::{costs_at, ended_costs};
 use hp_num::NoMemory;
 use std::alloc::Global;
 use std::marker::Model;
@@ -95,6 +97,17 @@ impl Shape {
         ascend(&self.edges, end, numbers)?;
         numbers.reverse();
         Ok(())
+    }
+
+    /// For each list what those cost together that are equal to it, or `NoMemory`.
+    pub(crate) fn shared_costs(&self, alloc: Global, costs: &[u64]) -> Result<Vec<u64>, NoMemory>
+        requires as_many { length costs.now ≡ length self.now }
+        requires bound { sum costs.now ≤ 2 ^ 62 }
+        ensures shared { IfOk result
+            (λ shared. shared.items ≡ map (equal_cost self.now costs.now) self.now) }
+    {
+        let sums = ended_costs(alloc, &self.ends, costs, self.edges.len() + 1)?;
+        costs_at(alloc, &self.ends, &sums)
     }
 
     /// How many lists there are.

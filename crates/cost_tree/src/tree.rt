@@ -7,9 +7,11 @@ ghost use Rattle.cost_tree.specs.Costed.{costed};
 ghost use Rattle.cost_tree.specs.Costs.{AreCosts};
 ghost use Rattle.cost_tree.specs.IsTreeOf.{IsTreeOf};
 ghost use Rattle.cost_tree.specs.StackTexts.{lists_towards};
+ghost use Rattle.cost_tree.specs.Texts.{AreTexts, lists_of};
 ghost use Rattle.cost_tree.specs.TreeLines.{HasLines};
 
 use crate::costing::Costing;
+use crate::cut_fronts::CutFronts;
 use crate::direction::Direction;
 use crate::edge::Edge;
 use crate::fronts::Fronts;
@@ -17,9 +19,11 @@ use crate::held_names::HeldNames;
 use crate::linked::Linked;
 use crate::links::Links;
 use crate::node::CostNode;
+use crate::shape::Shape;
 use crate::trace_lists::trace_lists;
 use hp_num::NoMemory;
 use ht_trace::{Style, Tables};
+use intern_tables::Names;
 use std::alloc::Global;
 use std::marker::Model;
 
@@ -92,6 +96,25 @@ impl<'a> CostTree<'a> {
         CostTree::of_stacks(alloc, tables, &costs, direction, style, depth)
     }
 
+    /// The tree of the lists as they are cut, to fronts of at most `depth` texts, or `NoMemory`.
+    pub fn of_cut<F: Fn(u32) -> u64>(
+        alloc: Global,
+        fronts: &'a CutFronts,
+        costing: &Costing<F>,
+        depth: u32,
+    ) -> Result<CostTree<'a>, NoMemory>
+        requires as_many { costing.now.stacks ≡ length fronts.now.cut }
+        requires stated { (costs : List ℕ)
+            × AreCosts (F.pre costing.now.cost) (F.post costing.now.cost) costing.now.stacks costs }
+        ensures lines { IfOk result
+            (λ tree. (costs : List ℕ)
+            → AreCosts (F.pre costing.now.cost) (F.post costing.now.cost) costing.now.stacks costs
+            → HasLines tree (costed fronts.now.cut costs) depth) }
+    {
+        let costs = costing.list(alloc)?;
+        CostTree::of_lists(alloc, &fronts.names, &fronts.cut.shape, &costs, depth)
+    }
+
     /// The tree of the stacks of a trace with these costs, or `NoMemory`.
     fn of_stacks(
         alloc: Global,
@@ -136,15 +159,31 @@ impl<'a> CostTree<'a> {
         ensures tree { IfOk result (λ tree. IsTreeOf tree (costed fronts.now costs.now) depth) }
         ensures lines { IfOk result (λ tree. HasLines tree (costed fronts.now costs.now) depth) }
     {
-        let names = &fronts.names;
+        CostTree::of_lists(alloc, &fronts.names, &fronts.shape, costs, depth)
+    }
+
+    /// The tree of the lists of texts that the shape's numbers are those of, with these costs, or `NoMemory`.
+    fn of_lists(
+        alloc: Global,
+        names: &'a Names,
+        shape: &Shape,
+        costs: &[u64],
+        depth: u32,
+    ) -> Result<CostTree<'a>, NoMemory>
+        requires texts { AreTexts names.now shape.now }
+        requires as_many { length costs.now ≡ length shape.now }
+        requires bound { sum costs.now ≤ 2 ^ 62 }
+        ensures lines { IfOk result
+            (λ tree. HasLines tree (costed (lists_of names.now shape.now) costs.now) depth) }
+    {
         // Says that no two names are equal, and that there are few lists.
         let _count = names.len();
-        let _lists = fronts.shape.len();
+        let _lists = shape.len();
         let Linked {
             edges,
             nodes,
             links,
-        } = Linked::of(alloc, &fronts.shape, costs, depth as usize)?;
+        } = Linked::of(alloc, shape, costs, depth as usize)?;
         Ok(CostTree {
             names: HeldNames::Lent { names },
             edges,

@@ -7,7 +7,7 @@ ghost use Rattle.massif_tree.specs.FunctionLists.{trimmed_before};
 ghost use Rattle.massif_tree.specs.MassifTree.{massif_tree};
 ghost use Rattle.massif_sample.specs.Padded.{padded};
 
-use cost_tree::{Costing, Fronts};
+use cost_tree::{Costing, CutFronts};
 use hp_num::NoMemory;
 use massif_file::Tree;
 use massif_tree::{TreeOptions, snapshot_tree};
@@ -19,17 +19,19 @@ const MOST: u64 = 0x4000_0000_0000_0000;
 /// The lines of the tree with this total, over the stacks' lists, or `NoMemory`. A stack behind the costs costs nothing.
 pub(crate) fn place_tree(
     alloc: Global,
-    fronts: &Fronts,
+    fronts: &mut CutFronts,
     options: &TreeOptions,
     total: u64,
     costs: &[u64],
 ) -> Result<Tree, NoMemory>
-    ensures { IfOk result
+    ensures lines { IfOk result
         (λ lines. (tables : TableState) (names : List (List ℕ))
-        → fronts.now ≡ first_lists tables names (options.now.depth + 1) (length fronts.now) →
+        → fronts.old.whole
+        ≡ first_lists tables names (options.now.depth + 1) (length fronts.old.whole) →
         lines ≡ massif_tree options.now total
-        (costed (trimmed_before tables names (length fronts.now))
-        (padded (length fronts.now) costs.now))) }
+        (costed (trimmed_before tables names (length fronts.old.whole))
+        (padded (length fronts.old.whole) costs.now))) }
+    ensures whole { fronts.new.whole ≡ fronts.old.whole }
 {
     // What stacks cost together at a place is live there, and a trace allocates at most 2^62 bytes in all. So they always
     // are, and this only tells the bound.

@@ -10,25 +10,46 @@ ghost use Rattle.massif_sample.specs.Snapshots.{mark_of, tree_of};
 use crate::load::Load;
 use crate::place_tree::place_tree;
 use cost_history::Replay;
-use cost_tree::Fronts;
+use cost_tree::{CutFronts, Fronts};
 use hp_num::{NoMemory, Text};
 use massif_cull::{Kind, SnapArray, SnapEntry};
 use massif_file::{HeapTree, Snap, Snaps, Tree};
 use massif_tree::TreeOptions;
 use std::alloc::Global;
 
-/// The snapshots of an array, which it hands out, with the trees of their places over the stacks' lists, or `NoMemory`.
+/// The snapshots of an array, which it hands out, with the trees of their places over the stacks' lists, or `NoMemory`. The lists
+/// are cut where no tree has a line that needs more of them.
 pub(crate) fn take_snaps(
     alloc: Global,
     array: &mut SnapArray<Load>,
-    fronts: &Fronts,
+    fronts: Fronts,
     replay: &mut Replay,
     options: &TreeOptions,
 ) -> Result<Snaps, NoMemory>
     ensures { IfOk result
         (λ snaps. (tables : TableState) (names : List (List ℕ))
-        → fronts.now ≡ first_lists tables names (options.now.depth + 1) (length fronts.now) →
-        snaps ≡ all_made (told_tree options.now tables names (length fronts.now) replay.old.changes)
+        → fronts ≡ first_lists tables names (options.now.depth + 1) (length fronts) →
+        snaps ≡ all_made (told_tree options.now tables names (length fronts) replay.old.changes)
+        array.old.kept.entries array.old.loads) }
+{
+    let mut cut = CutFronts::new(alloc, fronts)?;
+    take_all(alloc, array, &mut cut, replay, options)
+}
+
+/// The snapshots of the array, over lists that are cut.
+fn take_all(
+    alloc: Global,
+    array: &mut SnapArray<Load>,
+    fronts: &mut CutFronts,
+    replay: &mut Replay,
+    options: &TreeOptions,
+) -> Result<Snaps, NoMemory>
+    ensures { IfOk result
+        (λ snaps. (tables : TableState) (names : List (List ℕ))
+        → fronts.old.whole
+        ≡ first_lists tables names (options.now.depth + 1) (length fronts.old.whole) →
+        snaps ≡ all_made
+        (told_tree options.now tables names (length fronts.old.whole) replay.old.changes)
         array.old.kept.entries array.old.loads) }
 {
     let mut snaps = Snaps::new(alloc);
@@ -44,16 +65,19 @@ fn snapshot(
     alloc: Global,
     entry: &SnapEntry,
     load: Load,
-    fronts: &Fronts,
+    fronts: &mut CutFronts,
     replay: &mut Replay,
     options: &TreeOptions,
 ) -> Result<Snap, NoMemory>
     ensures snap { IfOk result
         (λ snap. (tables : TableState) (names : List (List ℕ))
-        → fronts.now ≡ first_lists tables names (options.now.depth + 1) (length fronts.now) →
-        snap ≡ made (told_tree options.now tables names (length fronts.now) replay.old.changes)
+        → fronts.old.whole
+        ≡ first_lists tables names (options.now.depth + 1) (length fronts.old.whole) →
+        snap ≡ made
+        (told_tree options.now tables names (length fronts.old.whole) replay.old.changes)
         entry.now load) }
     ensures changes { replay.new.changes ≡ replay.old.changes }
+    ensures whole { fronts.new.whole ≡ fronts.old.whole }
 {
     let tree = shown_tree(alloc, entry, fronts, replay, options)?;
     Ok(Snap {
@@ -81,16 +105,19 @@ fn mark_of(kind: Kind) -> HeapTree
 fn shown_tree(
     alloc: Global,
     entry: &SnapEntry,
-    fronts: &Fronts,
+    fronts: &mut CutFronts,
     replay: &mut Replay,
     options: &TreeOptions,
 ) -> Result<Tree, NoMemory>
     ensures tree { IfOk result
         (λ shown. (tables : TableState) (names : List (List ℕ))
-        → fronts.now ≡ first_lists tables names (options.now.depth + 1) (length fronts.now) →
+        → fronts.old.whole
+        ≡ first_lists tables names (options.now.depth + 1) (length fronts.old.whole) →
         shown ≡ tree_of entry.now.kind
-        (told_tree options.now tables names (length fronts.now) replay.old.changes entry.now)) }
+        (told_tree options.now tables names (length fronts.old.whole) replay.old.changes
+        entry.now)) }
     ensures changes { replay.new.changes ≡ replay.old.changes }
+    ensures whole { fronts.new.whole ≡ fronts.old.whole }
 {
     match entry.kind {
         Kind::Normal => Ok(Tree::new(alloc)),
@@ -103,16 +130,18 @@ fn shown_tree(
 fn replayed_tree(
     alloc: Global,
     entry: &SnapEntry,
-    fronts: &Fronts,
+    fronts: &mut CutFronts,
     replay: &mut Replay,
     options: &TreeOptions,
 ) -> Result<Tree, NoMemory>
     ensures tree { IfOk result
         (λ shown. (tables : TableState) (names : List (List ℕ))
-        → fronts.now ≡ first_lists tables names (options.now.depth + 1) (length fronts.now) →
-        shown ≡ told_tree options.now tables names (length fronts.now) replay.old.changes
+        → fronts.old.whole
+        ≡ first_lists tables names (options.now.depth + 1) (length fronts.old.whole) →
+        shown ≡ told_tree options.now tables names (length fronts.old.whole) replay.old.changes
         entry.now) }
     ensures changes { replay.new.changes ≡ replay.old.changes }
+    ensures whole { fronts.new.whole ≡ fronts.old.whole }
 {
     replay.move_to(entry.place);
     place_tree(alloc, fronts, options, entry.total, replay.costs())

@@ -345,7 +345,7 @@ impl Samples {
         let desc = description(alloc)?;
         let cmd = shown_command(alloc, cmd)?;
         let mut replay = history.into_replay();
-        let snaps = take_snaps(alloc, &mut array, &fronts, &mut replay, &asked)?;
+        let snaps = take_snaps(alloc, &mut array, fronts, &mut replay, &asked)?;
         Ok(Profile {
             desc,
             cmd,

@@ -1,7 +1,7 @@
 //! Worked trees, and each call once with ample memory.
 ghost use Rattle.std.specs.Prelude.{◌≡◌, ◌+◌, ◌^◌, ◌≤◌, IfOk, length, sum};
 
-use cost_tree::{Costing, FrameTest, Fronts};
+use cost_tree::{Costing, CutFronts, FrameTest, Fronts};
 use hp_num::{NoMemory, put_bytes, put_dec};
 use ht_trace::{LineError, Tables};
 use massif_file::Tree;
@@ -57,15 +57,16 @@ fn tree_of(
     rt: &impl Abort,
     alloc: Global,
     tables: &Tables,
-    fronts: &Fronts,
+    fronts: Fronts,
     costs: &[u64],
 ) -> Result<Vec<u8>, NoMemory>
-    requires count { length fronts.now ≡ length tables.now.nodes + 1 }
+    requires count { length fronts ≡ length tables.now.nodes + 1 }
     requires bound { sum costs.now ≤ 2 ^ 62 }
 {
     assert_eq!(rt; tables.stacks() as usize, costs.len());
     let costing = Costing::new(tables.stacks(), |stack: u32| costs[stack as usize]);
-    let tree = snapshot_tree(alloc, fronts, &costing, &ONE_PERCENT, 120)?;
+    let mut cut = CutFronts::new(alloc, fronts)?;
+    let tree = snapshot_tree(alloc, &mut cut, &costing, &ONE_PERCENT, 120)?;
     shown(rt, alloc, &tree)
 }
 
@@ -73,7 +74,7 @@ fn tree_of(
 fn peak_without(rt: &impl Abort, alloc: Global, name: &[u8]) -> Result<Vec<u8>, LineError> {
     let tables = worked_tables(rt, alloc)?;
     let fronts = texts_without(alloc, &tables, name)?;
-    Ok(tree_of(rt, alloc, &tables, &fronts, &[0, 0, 100])?)
+    Ok(tree_of(rt, alloc, &tables, fronts, &[0, 0, 100])?)
 }
 
 #[test]

@@ -7,20 +7,21 @@ use Rattle.std.proofs.lemmas.Bool.{cases_lt, cond-false, cond-true}
 use Rattle.std.proofs.lemmas.Bool.Decides.{nat_tests}
 use Rattle.std.proofs.lemmas.List.{drop-append-le, get_or_append_left, length-drop, length-map, map-append, take-append-le, take-map, take-take, take_all, take_min}
 use Rattle.std.proofs.lemmas.List.Folds.{prefix_len-append}
-use Rattle.std.proofs.lemmas.List.FromFn.{get_or-map-range_with_len, length-map-range_with_len}
+use Rattle.std.proofs.lemmas.List.FromFn.{get_or-map-range_with_len}
 use Rattle.std.proofs.lemmas.Option.{none-some, same_Some}
 use Rattle.cost_tree.specs.Costed.{costed}
-use Rattle.cost_tree.specs.IsTreeOf.{IsTreeOf}
+use Rattle.cost_tree.specs.CostLines.{FrontLine, cost_lines}
 use Rattle.cost_tree.specs.Needed.{LastGains}
-use Rattle.cost_tree.specs.TreeState.{TreeState}
-use Rattle.cost_tree.proofs.Laws.{first-texts as first_in_tree, listed-more}
+use Rattle.cost_tree.proofs.Laws.{lines-first, listed-more}
 use Rattle.ht_trace.specs.declared.frame.FrameAt.{FrameAt}
 use Rattle.ht_trace.specs.declared.frame.Style.TheVariants.{Addressed}
 use Rattle.ht_trace.specs.FrameText.{frame_text}
 use Rattle.ht_trace.specs.StackFrames.{outer_frames, stack_frames}
 use Rattle.ht_trace.specs.TableState.{TableState}
+use Rattle.massif_tree.specs.declared.options.TreeOptions.{TreeOptions}
 use Rattle.massif_tree.specs.FirstLists.{first_lists, first_texts}
 use Rattle.massif_tree.specs.FunctionLists.{is_listed, trimmed_before, trimmed_texts, without_listed}
+use Rattle.massif_tree.specs.MassifTree.{massif_line, massif_tree, scale_of}
 
 -- where all frames in front are listed, those that are left are those that are left of the others
 without-all : (listed : FrameAt → Bool) (own outer : List FrameAt) → prefix_len listed own ≡ length own → drop (prefix_len listed (own ++ outer)) (own ++ outer) ≡ drop (prefix_len listed outer) outer
@@ -150,16 +151,17 @@ pushed-texts {X} text most n k frames count =
     ∙ sym (take-map text most rest)
     ∙ ap (λ (xs : List X). take most (map text xs)) whole
 
--- a tree of the first texts is one of the trimmed lists
-pub IsTreeOf-trimmed : (tree : TreeState) (tables : TableState) (names : List (List ℕ)) (depth count : ℕ) (costs : List ℕ)
-    → IsTreeOf tree (costed (first_lists tables names (depth + 1) count) costs) depth → IsTreeOf tree (costed (trimmed_before tables names count) costs) depth
-unfolding first_lists trimmed_before
-IsTreeOf-trimmed tree tables names depth count costs is =
-    first_in_tree tree depth (trimmed_texts tables names) (range_with_len 0 count) costs is
-
-pub trimmed-count : (tables : TableState) (names : List (List ℕ)) (count : ℕ) → length (trimmed_before tables names count) ≡ count
-unfolding trimmed_before
-trimmed-count tables names count = length-map-range_with_len (trimmed_texts tables names) 0 count
+-- the tree of the first texts of stacks, cut where no line needs more, is that of all their texts
+pub tree-cut : (options : TreeOptions) (total : ℕ) (tables : TableState) (names : List (List ℕ)) (count : ℕ) (costs : List ℕ) (cut whole : List (List (List ℕ)))
+    → ((depth : ℕ) → cost_lines depth (scale_of options total) (costed cut costs) ≡ cost_lines depth (scale_of options total) (costed whole costs))
+    → whole ≡ first_lists tables names (options.depth + 1) count
+    → massif_tree options total (costed cut costs) ≡ massif_tree options total (costed (trimmed_before tables names count) costs)
+unfolding massif_tree first_lists trimmed_before
+tree-cut options total tables names count costs cut whole same are =
+    ap (λ (lines : List FrontLine). map (massif_line options.threshold) lines)
+    (same options.depth
+    ∙ ap (λ (lists : List (List (List ℕ))). cost_lines options.depth (scale_of options total) (costed lists costs)) are
+    ∙ lines-first options.depth (scale_of options total) (trimmed_texts tables names) (range_with_len 0 count) costs)
 
 -- one stack more
 pub first-more : (tables : TableState) (names : List (List ℕ)) (most count : ℕ) (lists next : List (List (List ℕ)))

@@ -10,7 +10,7 @@ ghost use Rattle.massif_tree.specs.MassifTree.{massif_tree};
 
 use crate::lines::tree_lines;
 use crate::options::TreeOptions;
-use cost_tree::{CostTree, Costing, Fronts};
+use cost_tree::{CostTree, Costing, CutFronts, Scale};
 use hp_num::NoMemory;
 use massif_file::Tree;
 use std::alloc::Global;
@@ -18,26 +18,34 @@ use std::alloc::Global;
 /// The lines of the tree of a trace's first stacks with these costs, or `NoMemory`: each stack has the addressed texts of
 /// its frames, from the innermost on, without its front of allocation functions. The snapshot has this total in bytes.
 ///
-/// The lists are those that `add_trimmed` makes for these options: no text is made here.
+/// The lists are those that `add_trimmed` makes for these options, cut somewhere: they are made longer where lines need it,
+/// and no text is made here.
 pub fn snapshot_tree<F: Fn(u32) -> u64>(
     alloc: Global,
-    fronts: &Fronts,
+    fronts: &mut CutFronts,
     costing: &Costing<F>,
     options: &TreeOptions,
     total: u64,
 ) -> Result<Tree, NoMemory>
-    requires as_many { costing.now.stacks ≡ length fronts.now }
+    requires as_many { costing.now.stacks ≡ length fronts.old.whole }
     requires stated { (costs : List ℕ)
         × AreCosts (F.pre costing.now.cost) (F.post costing.now.cost) costing.now.stacks costs }
     ensures lines { IfOk result
         (λ lines. (tables : TableState) (names : List (List ℕ)) (costs : List ℕ) →
-        fronts.now ≡ first_lists tables names (options.now.depth + 1) (length fronts.now)
+        fronts.old.whole
+        ≡ first_lists tables names (options.now.depth + 1) (length fronts.old.whole)
         → AreCosts (F.pre costing.now.cost) (F.post costing.now.cost) costing.now.stacks costs →
         lines ≡ massif_tree options.now total
-        (costed (trimmed_before tables names (length fronts.now)) costs)) }
+        (costed (trimmed_before tables names (length fronts.old.whole)) costs)) }
+    ensures whole { fronts.new.whole ≡ fronts.old.whole }
 {
+    let scale = Scale {
+        total,
+        threshold: options.threshold,
+    };
+    fronts.lengthen(alloc, costing, scale)?;
     // Says how many lists there may be.
     let _count = fronts.len();
-    let tree = CostTree::of_fronts(alloc, fronts, costing, options.depth)?;
+    let tree = CostTree::of_cut(alloc, fronts, costing, options.depth)?;
     tree_lines(alloc, &tree, options, total)
 }

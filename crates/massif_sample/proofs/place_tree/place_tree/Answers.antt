@@ -39,8 +39,8 @@ snapshot_tree-requires-clause-stated c =
       }),
     )
 
-pub returns : goal.returns
-returns c =
+pub returns-clause-lines : goal.returns-clause-lines
+returns-clause-lines c =
     let costs : List ℕ = c.args.costs.now in
     let fits : sum costs ≤ 2 ^ 62 = search rules in
     let count = padded-count c.len.result costs in
@@ -53,5 +53,5 @@ returns c =
       callable = λ stack below. search rules;
       cost = λ stack cost below says. let told : cost ≡ slice_index_or costs stack 0 = search rules in padded-at c.len.result costs stack below ∙ ap (λ (n : ℕ). Some n) (sym told);
     }))
-    ∙ ap (λ (n : ℕ). massif_tree c.args.options.now c.args.total (costed (trimmed_before tables names (length c.args.fronts.now)) (padded n costs))) c.len.ensures.count)
+    ∙ ap (λ (n : ℕ). massif_tree c.args.options.now c.args.total (costed (trimmed_before tables names (length c.args.fronts.now.whole)) (padded n costs))) c.len.ensures.whole)
     c.snapshot_tree.ensures.lines

@@ -1,18 +1,14 @@
-use Rattle.std.proofs.Common.{List, ap, length, rules, ◌∙◌}
-use Rattle.cost_history.specs.declared.change.Change.{Change}
-use Rattle.massif_sample.specs.Made.{made, told_tree}
-use Rattle.massif_sample.proofs.Making.{made-first, made-none}
+use Rattle.std.proofs.Common.{ℕ, ◌+◌, List, ap, length, sym, ◌∙◌}
+use Rattle.std.proofs.lemmas.Result.{IfOk-weaker}
+use Rattle.massif_tree.specs.FirstLists.{first_lists}
+use Rattle.massif_sample.specs.Made.{all_made, told_tree}
 use Rattle.massif_sample.proofs.profile.take_snaps.Goals as goal
 
-pub each_snapshot-preserved : goal.each_snapshot-preserved
-each_snapshot-preserved c = record {
-  changes = c.snapshot.ensures.changes ∙ c.each_snapshot.invariant.changes;
-  all = λ tables names are.
-      made-first _ _ _ _ _ _ _ _ c.in-Some.entry c.in-Some.load c.in_ok-snap.snap (c.each_snapshot.invariant.all tables names are) c.in-Some.ensures.entry c.in-Some.ensures.load
-      (c.in_ok-snap.ensures.snap tables names are
-      ∙ ap (λ (cs : List Change). made (told_tree c.args.options.now tables names (length c.args.fronts.now) cs) c.in-Some.entry c.in-Some.load) c.each_snapshot.invariant.changes)
-      c.in_ok-push.ensures.appended;
-}
-
 pub returns : goal.returns
-returns c = λ tables names are. made-none _ _ _ _ _ (c.each_snapshot.invariant.all tables names are) (search rules)
+returns c =
+    let whole = c.in_ok-cut.ensures.whole in
+    IfOk-weaker c.take_all.result _ _
+    (λ snaps is tables names are.
+    is tables names (whole ∙ are ∙ ap (λ (ls : List (List (List ℕ))). first_lists tables names (c.args.options.now.depth + 1) (length ls)) (sym whole))
+    ∙ ap (λ (ls : List (List (List ℕ))). all_made (told_tree c.args.options.now tables names (length ls) c.args.replay.now.changes) c.args.array.now.kept.entries c.args.array.now.loads) whole)
+    c.take_all.ensures

@@ -1,0 +1,45 @@
+use Rattle.std.proofs.Common.{◌≡◌, ℕ, ◌+◌, ◌<◌, List, length, replicate, get_or, sym, ap, ◌∙◌, arith}
+use Rattle.std.proofs.lemmas.List.{length-replicate, length-set}
+use Rattle.std.proofs.lemmas.List.Elements.{All-get_or}
+use Rattle.std.proofs.lemmas.Grind.{get_or_default_zero}
+use Rattle.cost_tree.proofs.Lengthening.{ended-room, ended-set, ended-start, zeros-none}
+use Rattle.cost_tree.proofs.ends.ended_costs.Goals as goal
+
+pub each_list-init : goal.each_list-init
+each_list-init c =
+    let zeros : c.in_ok-sums.sums.items ≡ replicate c.args.nodes 0 = c.in_ok-sums.ensures.items_if_clones_equal (λ y same. same) in
+    record {
+      count = ap (λ (ns : List ℕ). length ns) zeros ∙ length-replicate c.args.nodes 0;
+      sums = λ node within. zeros-none c.in_ok-sums.sums.items c.args.nodes node zeros within ∙ sym (ended-start node);
+    }
+
+pub overflow_add-index_mut : goal.overflow_add-index_mut
+overflow_add-index_mut c =
+    let i = c.each_list.list in
+    let ends = c.args.ends.now in
+    let costs = c.args.costs.now in
+    let sums = c.each_list.sums.items in
+    let end : ℕ = get_or ends i 0 in
+    let held : end < c.args.nodes = All-get_or (λ (e : ℕ). e < c.args.nodes) ends i 0 c.each_list-test.true c.requires.held in
+    let count = c.each_list.invariant.count in
+    let value : c.index_mut.result.now ≡ get_or sums end 0 = c.index_mut.ensures.value ∙ get_or_default_zero sums end c.index_mut.result.now (omega arith) in
+    let is = c.each_list.invariant.sums end held in
+    let room = ended-room ends costs i c.requires.as_many c.each_list-test.true in
+    let bound = c.requires.bound in
+    omega arith
+
+pub each_list-preserved : goal.each_list-preserved
+each_list-preserved c =
+    let i = c.each_list.list in
+    let ends = c.args.ends.now in
+    let costs = c.args.costs.now in
+    let sums = c.each_list.sums.items in
+    let end : ℕ = get_or ends i 0 in
+    let held : end < c.args.nodes = All-get_or (λ (e : ℕ). e < c.args.nodes) ends i 0 c.each_list-test.true c.requires.held in
+    let count = c.each_list.invariant.count in
+    let value : c.index_mut.result.now ≡ get_or sums end 0 = c.index_mut.ensures.value ∙ get_or_default_zero sums end c.index_mut.result.now (omega arith) in
+    record {
+      count = length-set sums end (c.index_mut.result.now + get_or costs i 0) ∙ count;
+      sums = λ node within. ended-set sums ends costs i c.index_mut.result.now c.requires.as_many c.each_list-test.true (omega arith) value
+          (λ n inside. c.each_list.invariant.sums n (omega arith)) node (omega arith);
+    }

@@ -1,0 +1,158 @@
+//! Lists of numbers that are cut: each list's first numbers, as many as the lines of trees need.
+//! Which costs a tree has, and what the numbers stand for, is no part of it.
+ghost use Rattle.std.specs.Prelude.{◌≡◌, ℕ, ◌^◌, ◌<◌, ◌≤◌, List, false, length, map, sum, true, IfOk, OnOk};
+ghost use Rattle.cost_tree.specs.Costed.{costed};
+ghost use Rattle.cost_tree.specs.CutShapes.{IsCutOf, left, raised, raised_counts};
+ghost use Rattle.cost_tree.specs.Cuts.{AreEnough, cut_lists};
+ghost use Rattle.cost_tree.specs.Texts.{AreTexts, lists_of};
+ghost use Rattle.intern_tables.specs.Distinct.{AreDistinct};
+
+use crate::fronts::push_numbers;
+use crate::scale::Scale;
+use crate::shape::Shape;
+use hp_num::NoMemory;
+use std::alloc::Global;
+
+/// The first numbers of a shape's lists.
+#[derive(Debug, Drop)]
+pub(crate) struct Cut {
+    pub(crate) shape: Shape,
+    /// How many numbers a list may have here.
+    pub(crate) counts: Vec<usize>,
+    /// How many it has in all.
+    pub(crate) lengths: Vec<usize>,
+}
+
+impl Cut {
+    /// The first number of each list, or `NoMemory`.
+    pub(crate) fn of(alloc: Global, whole: &Shape) -> Result<Cut, NoMemory>
+        ensures cut { IfOk result (λ cut. IsCutOf whole.now cut) }
+    {
+        let lengths = lengths_of(alloc, whole)?;
+        let counts = vec![in alloc; 1; lengths.len()]?;
+        let shape = cut_shape(alloc, whole, &counts)?;
+        Ok(Cut {
+            shape,
+            counts,
+            lengths,
+        })
+    }
+
+    /// Makes the lists as long as lines need them, where they have these costs. On `NoMemory` they are cut somewhere.
+    pub(crate) fn lengthen(
+        &mut self,
+        alloc: Global,
+        whole: &Shape,
+        costs: &[u64],
+        scale: Scale,
+    ) -> Result<(), NoMemory>
+        requires as_many { length costs.now ≡ length whole.now }
+        requires bound { sum costs.now ≤ 2 ^ 62 }
+        requires cut { IsCutOf whole.now self.old }
+        ensures cut { IsCutOf whole.now self.new }
+        ensures enough { OnOk result
+            ((names : List (List ℕ)) (depth : ℕ) → AreDistinct names →
+            AreTexts names whole.now →
+            AreEnough depth scale (costed (lists_of names whole.now) costs.now)
+            (lists_of names whole.now) self.new.counts.items) }
+    {
+        'rounds: while self.lengthen_some(alloc, whole, costs, scale)? {}
+        Ok(())
+    }
+
+    /// Makes the lists longer that cost enough for lines where they are cut, and answers whether there were any. On
+    /// `NoMemory` they are as before.
+    fn lengthen_some(
+        &mut self,
+        alloc: Global,
+        whole: &Shape,
+        costs: &[u64],
+        scale: Scale,
+    ) -> Result<bool, NoMemory>
+        requires as_many { length costs.now ≡ length whole.now }
+        requires bound { sum costs.now ≤ 2 ^ 62 }
+        requires cut { IsCutOf whole.now self.old }
+        ensures cut { IsCutOf whole.now self.new }
+        ensures less { IfOk result
+            (λ some. some ≡ true → left self.new.counts.items self.new.lengths.items
+            < left self.old.counts.items self.old.lengths.items) }
+        ensures enough { IfOk result
+            (λ some. some ≡ false
+            → (names : List (List ℕ)) (depth : ℕ) → AreDistinct names →
+            AreTexts names whole.now →
+            AreEnough depth scale (costed (lists_of names whole.now) costs.now)
+            (lists_of names whole.now) self.new.counts.items) }
+    {
+        let shared = self.shape.shared_costs(alloc, costs)?;
+        let counts = raised_counts(alloc, &self.counts, &self.lengths, &shared, scale)?;
+        if counts[..] == self.counts[..] {
+            return Ok(false);
+        }
+        let shape = cut_shape(alloc, whole, &counts)?;
+        self.shape = shape;
+        self.counts = counts;
+        Ok(true)
+    }
+}
+
+/// How many numbers each list has, or `NoMemory`.
+fn lengths_of(alloc: Global, whole: &Shape) -> Result<Vec<usize>, NoMemory>
+    ensures lengths { IfOk result (λ lengths. lengths.items ≡ map length whole.now) }
+{
+    let mut lengths = Vec::with_capacity(alloc, whole.len() as usize)?;
+    let mut numbers = Vec::new(alloc);
+    'each_list: for list in 0..whole.len() {
+        whole.list_into(list, &mut numbers)?;
+        lengths.push(numbers.len())?;
+    }
+    Ok(lengths)
+}
+
+/// The first so many numbers of each list, or `NoMemory`.
+fn cut_shape(alloc: Global, whole: &Shape, counts: &[usize]) -> Result<Shape, NoMemory>
+    requires as_many { length counts.now ≡ length whole.now }
+    ensures lists { IfOk result (λ shape. shape ≡ cut_lists counts.now whole.now) }
+{
+    let mut shape = Shape::new(alloc);
+    let mut numbers = Vec::new(alloc);
+    'each_list: for list in 0..whole.len() {
+        whole.list_into(list, &mut numbers)?;
+        numbers.truncate(counts[list as usize]);
+        shape.begin()?;
+        push_numbers(&mut shape, &numbers)?;
+    }
+    Ok(shape)
+}
+
+/// How many numbers the lists are to have, where those that end as each does cost so much together, or `NoMemory`.
+fn raised_counts(
+    alloc: Global,
+    counts: &[usize],
+    lengths: &[usize],
+    shared: &[u64],
+    scale: Scale,
+) -> Result<Vec<usize>, NoMemory>
+    requires lengths { length lengths.now ≡ length counts.now }
+    requires shared { length shared.now ≡ length counts.now }
+    ensures raised { IfOk result
+        (λ more. more.items ≡ raised_counts scale counts.now lengths.now shared.now) }
+{
+    let mut more = Vec::with_capacity(alloc, counts.len())?;
+    'each_list: for list in 0..counts.len() {
+        more.push(raised(counts[list], lengths[list], shared[list], scale))?;
+    }
+    Ok(more)
+}
+
+/// Four times as many, or all, where there are more and they cost enough for a line.
+fn raised(count: usize, length: usize, cost: u64, scale: Scale) -> usize
+    ensures { result ≡ raised scale count length cost }
+{
+    if count >= length || scale.is_small(cost) {
+        return count;
+    }
+    if count > length / 4 {
+        return length;
+    }
+    4 * count
+}

@@ -1,0 +1,88 @@
+//! Lists of texts that are cut where the lines of trees need no more of them: behind a front that has no line.
+//! What the lists cost is told for each tree.
+ghost use Rattle.std.specs.Prelude.{◌≡◌, ℕ, ◌^◌, ◌≤◌, List, length, IfOk, OnOk};
+ghost use Rattle.cost_tree.specs.Costed.{costed};
+ghost use Rattle.cost_tree.specs.CostLines.{cost_lines};
+ghost use Rattle.cost_tree.specs.Costs.{AreCosts};
+
+use crate::costing::Costing;
+use crate::cut::Cut;
+use crate::fronts::Fronts;
+use crate::scale::Scale;
+use crate::shape::Shape;
+use hp_num::NoMemory;
+use intern_tables::Names;
+use std::alloc::Global;
+use std::marker::Model;
+
+/// Lists of texts, each of which is cut behind its first texts until a tree needs more.
+///
+/// Contracts see the whole lists, and those that are cut.
+#[derive(Debug, Drop)]
+pub struct CutFronts {
+    pub(crate) names: Names,
+    whole: Shape,
+    pub(crate) cut: Cut,
+}
+
+impl Model for CutFronts {
+    ghost use Rattle.cost_tree.specs.CutState.{CutState, IsCutting};
+    ghost use Rattle.cost_tree.specs.Texts.{lists_of};
+
+    ghost Value = { CutState };
+
+    ghost view = { λ fronts.
+        record {
+          whole = lists_of fronts.names fronts.whole;
+          cut = lists_of fronts.names fronts.cut.shape;
+        } };
+
+    ghost invariant = { λ fronts. IsCutting fronts.names fronts.whole fronts.cut };
+}
+
+impl CutFronts {
+    /// The lists, cut behind their first texts, or `NoMemory`.
+    pub fn new(alloc: Global, fronts: Fronts) -> Result<CutFronts, NoMemory>
+        ensures whole { IfOk result (λ cut. cut.whole ≡ fronts) }
+    {
+        let Fronts { names, shape } = fronts;
+        let cut = Cut::of(alloc, &shape)?;
+        Ok(CutFronts {
+            names,
+            whole: shape,
+            cut,
+        })
+    }
+
+    /// Makes the lists so long that a tree of them has the lines of the whole lists, where stacks have these costs. On
+    /// `NoMemory` they are cut somewhere.
+    pub fn lengthen<F: Fn(u32) -> u64>(
+        &mut self,
+        alloc: Global,
+        costing: &Costing<F>,
+        scale: Scale,
+    ) -> Result<(), NoMemory>
+        requires as_many { costing.now.stacks ≡ length self.old.whole }
+        requires stated { (costs : List ℕ)
+            × AreCosts (F.pre costing.now.cost) (F.post costing.now.cost) costing.now.stacks costs }
+        ensures whole { self.new.whole ≡ self.old.whole }
+        ensures lines { OnOk result
+            ((costs : List ℕ) (depth : ℕ)
+            → AreCosts (F.pre costing.now.cost) (F.post costing.now.cost) costing.now.stacks costs
+            → cost_lines depth scale (costed self.new.cut costs)
+            ≡ cost_lines depth scale (costed self.new.whole costs)) }
+    {
+        let costs = costing.list(alloc)?;
+        // Says that no two names are equal.
+        let _count = self.names.len();
+        self.cut.lengthen(alloc, &self.whole, &costs, scale)
+    }
+
+    /// How many lists there are.
+    pub fn len(&self) -> u32
+        ensures whole { result ≡ length self.now.whole }
+        ensures cut { result ≡ length self.now.cut }
+    {
+        self.whole.len()
+    }
+}
