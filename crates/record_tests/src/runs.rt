@@ -71,6 +71,7 @@ fn folder(alloc: Global, run: &Run) -> Result<MemStore, Fail>
 }
 
 /// What a run reads and writes.
+#[derive(Drop)]
 struct Ends {
     store: MemStore,
     out: MemSink,
@@ -85,7 +86,7 @@ fn sink(alloc: Global, failing_call: u64) -> Result<MemSink, NoMemory> {
 }
 
 /// The folder of a run, and its empty outputs.
-fn ends(alloc: Global, run: &Run) -> Result<Ends, Fail>
+fn ends_of(alloc: Global, run: &Run) -> Result<Ends, Fail>
     ensures unopened { IfOk result (λ ends. ends.store.store.opens ≡ 0) }
 {
     let out = sink(alloc, run.setting.failing_out_call)?;
@@ -132,7 +133,7 @@ pub fn append_run<R: Threads + Wait + Sync, G: Gate + Sync>(
     all: &mut Vec<u8>,
 ) -> Result<(), Fail> {
     let words = listed(alloc, run.words)?;
-    let mut ends = ends(alloc, run)?;
+    let mut ends = ends_of(alloc, run)?;
     let status = status_of(rt, alloc, &words, run.setting.most_events, &mut ends, gate);
     put_run(&ends, status, all)?;
     Ok(())
