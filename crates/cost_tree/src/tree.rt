@@ -108,6 +108,21 @@ impl<'a> CostTree<'a> {
             depth) }
     {
         let fronts = trace_lists(alloc, tables, costs, direction, style, depth)?;
+        CostTree::of_lists(alloc, fronts, costs, depth)
+    }
+
+    /// The tree of the lists with these costs, to fronts of at most `depth` texts, or `NoMemory`. It has their texts for its own,
+    /// and lets go all else of the lists.
+    pub fn of_lists(
+        alloc: Global,
+        fronts: Fronts,
+        costs: &[u64],
+        depth: u32,
+    ) -> Result<CostTree<'a>, NoMemory>
+        requires as_many { length costs.now ≡ length fronts }
+        requires bound { sum costs.now ≤ 2 ^ 62 }
+        ensures tree { IfOk result (λ tree. IsTreeOf tree (costed fronts costs.now) depth) }
+    {
         let Fronts { names, shape } = fronts;
         // Says that no two names are equal.
         let _count = names.len();

@@ -43,6 +43,7 @@
 mod entry;
 mod flame;
 mod flame_lines;
+mod front_text;
 mod groups;
 mod histogram;
 mod layout;
