@@ -1,7 +1,6 @@
 -- Lemmas on the text of a front.
-use Rattle.std.proofs.Common.{◌≡◌, ℕ, ◌+◌, ◌-◌, ◌<◌, List, [], ◌∷◌, ◌++◌, length, map, take, Some, refl, sym, ap, ◌∙◌, arith, append-nil}
+use Rattle.std.proofs.Common.{◌≡◌, ℕ, ◌+◌, ◌-◌, ◌<◌, List, [], ◌∷◌, ◌++◌, length, take, Some, refl, sym, ap, ◌∙◌, arith, append-nil}
 use Rattle.std.specs.Prelude.{codes, slice_get}
-use Rattle.std.specs.List.{flat_map}
 use Rattle.std.proofs.lemmas.Grind.{flat_map-append}
 use Rattle.std.proofs.lemmas.List.{length-append, length-map}
 use Rattle.std.proofs.Math.Seq.{take-append_seam}
@@ -32,8 +31,8 @@ rest-cut tree at node name text rooted above held named is =
     let front : List ℕ = flame_rest (front_at tree node.parent) in
     let own : List ℕ = codes ";" ++ flame_name name in
     let whole : text ≡ front ++ own =
-        is ∙ ap (λ (texts : List (List ℕ)). flame_rest texts) (rooted.longer at node above held) ∙ rest-append (front_at tree node.parent) (last_text tree at ∷ [])
-        ∙ ap (λ (bytes : List ℕ). front ++ bytes) (rest-one (last_text tree at) ∙ ap (λ (bytes : List ℕ). codes ";" ++ flame_name bytes) named) in
+    is ∙ ap (λ (texts : List (List ℕ)). flame_rest texts) (rooted.longer at node above held) ∙ rest-append (front_at tree node.parent) (last_text tree at ∷ [])
+    ∙ ap (λ (bytes : List ℕ). front ++ bytes) (rest-one (last_text tree at) ∙ ap (λ (bytes : List ℕ). codes ";" ++ flame_name bytes) named) in
     let size = ap (λ (bytes : List ℕ). length bytes) whole ∙ length-append front own in
     let own_size = length-name name in
     let left : length text - (length name + 1) ≡ length front = omega (arith, size, own_size) in

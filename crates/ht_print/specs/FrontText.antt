@@ -13,12 +13,13 @@ pub record IsTextOf (tree : TreeState) (front : FrontText) : Type 0 where
 
 -- the text is that of a node's front, and the path leads from another node to node n
 pub record IsBetween (tree : TreeState) (n : ℕ) (text path : List ℕ) (between : Between) : Type 0
-    where
-  pub at_held : between.at < length tree.nodes
-  pub above_held : between.above < length tree.nodes
-  pub text_of : text ≡ flame_rest (front_at tree between.at)
-  pub path_to : front_at tree between.above ++ map (last_text tree) (reverse path) ≡ front_at tree n
-  pub path_held : All (IsBelowRoot tree) path
+  where
+    pub at_held : between.at < length tree.nodes
+    pub above_held : between.above < length tree.nodes
+    pub text_of : text ≡ flame_rest (front_at tree between.at)
+    pub path_to : front_at tree between.above ++ map (last_text tree) (reverse path)
+        ≡ front_at tree n
+    pub path_held : All (IsBelowRoot tree) path
 
 -- the text is that of a front, which the path's nodes lengthen to that of node n
 pub record LeadsTo (tree : TreeState) (n : ℕ) (text path : List ℕ) : Type 0 where

@@ -1,4 +1,4 @@
-use Rattle.std.proofs.Common.{rules, ◌≡◌, ℕ, List, length, ap, arith}
+use Rattle.std.proofs.Common.{rules, ℕ, List}
 use Rattle.std.proofs.lemmas.Result.{IfOk-weaker}
 use Rattle.ht_print.specs.FlameCosts.{flame_costs}
 use Rattle.ht_print.proofs.FlameFigures.{flame_costs-bound, flame_costs-count}

@@ -1,4 +1,4 @@
-use Rattle.std.proofs.Common.{◌≡◌, ◌≤◌, ◌^◌, ℕ, List, ◌++◌, length, subst, sym, ◌∙◌, ap, arith}
+use Rattle.std.proofs.Common.{◌≤◌, ◌^◌, ℕ, List, ◌++◌, length, subst, sym, ◌∙◌, ap}
 use Rattle.std.specs.Prelude.{sum}
 use Rattle.std.proofs.lemmas.Result.{on_ok_weaker}
 use Rattle.cost_tree.specs.declared.direction.Direction.TheVariants.{FromRoot}
@@ -29,8 +29,8 @@ returns-clause-appended c =
     let lists : List (List (List ℕ)) = lists_towards FromRoot Plain c.args.tables in
     let costs : List ℕ = flame_costs c.args.cost c.args.peaks in
     let tree =
-        subst (λ (ls : List (List (List ℕ))). IsTreeOf c.in_ok-tree.tree (costed ls costs) most_frames) c.in_ok-lists.ensures.lists
-        (subst (λ (cs : List ℕ). IsTreeOf c.in_ok-tree.tree (costed c.in_ok-lists.lists cs) most_frames) (c.deref.ensures.value ∙ c.in_ok-costs.ensures.costs) c.in_ok-tree.ensures.tree) in
+    subst (λ (ls : List (List (List ℕ))). IsTreeOf c.in_ok-tree.tree (costed ls costs) most_frames) c.in_ok-lists.ensures.lists
+    (subst (λ (cs : List ℕ). IsTreeOf c.in_ok-tree.tree (costed c.in_ok-lists.lists cs) most_frames) (c.deref.ensures.value ∙ c.in_ok-costs.ensures.costs) c.in_ok-tree.ensures.tree) in
     on_ok_weaker c.put_lines.result (λ added. added (costed lists costs) tree) c.put_lines.ensures.appended
 
 pub returns-clause-trace : goal.returns-clause-trace

@@ -1,4 +1,4 @@
-use Rattle.std.proofs.Common.{rules, ◌≡◌, ◌++◌, ℕ, List, map, reverse, sym, ap, ◌∙◌, append-nil, arith}
+use Rattle.std.proofs.Common.{rules, ◌≡◌, ◌++◌, ℕ, List, map, reverse, ap, ◌∙◌, append-nil, arith}
 use Rattle.ht_print.specs.FlameWalk.{front_at, last_text}
 use Rattle.ht_print.proofs.front_text.FrontText.cut_back.Goals as goal
 
