@@ -19,6 +19,7 @@ use dhat_trace::trace_profile;
 use hp_num::NoMemory;
 use ht_trace::{Step, Tables};
 use std::alloc::Global;
+use std::mem;
 use trace_reading::{ReadTrace, TraceFault};
 
 /// What was read of a trace, and the lifetimes of its blocks, which are grown step by step together.
@@ -92,19 +93,18 @@ impl DhatReader {
         Some(line.bytes)
     }
 
-    /// The profile of what was read, and a line feed. `NoMemory` where memory is wanting.
-    fn profile(&self, alloc: Global) -> Result<Vec<u8>, NoMemory>
-        requires sound { lives_spec.IsSoundReader self.now }
+    /// The profile of what was read, and a line feed. `NoMemory` where memory is wanting. What was read is let go before the
+    /// text is made.
+    fn profile(self, alloc: Global) -> Result<Vec<u8>, NoMemory>
+        requires sound { lives_spec.IsSoundReader self }
         ensures { IfOk result
-            (λ output. (lines : List (List ℕ)) → lives_spec.HasReadLives self.now lines
+            (λ output. (lines : List (List ℕ)) → lives_spec.HasReadLives self lines
             → output.items ≡ dhat_written [] lines) }
     {
-        let dhat = trace_profile(
-            alloc,
-            &self.trace.tables,
-            &self.trace.peaks,
-            &self.lifetimes,
-        )?;
+        let DhatReader { trace, lifetimes } = self;
+        let dhat = trace_profile(alloc, &trace.tables, &trace.peaks, &lifetimes)?;
+        drop(trace);
+        drop(lifetimes);
         let text = profile_text(alloc, &dhat)?;
         let mut output = text.into_bytes();
         output.push(b'\n')?;
@@ -147,7 +147,8 @@ impl LineTaker for DhatReader {
 
 impl LineReport for DhatReader {
     fn finish(&mut self, alloc: Global) -> Result<Vec<u8>, LineRefusal<TraceFault>> {
-        let output = self.profile(alloc)?;
+        let none = DhatReader::new(alloc)?;
+        let output = mem::replace(self, none).profile(alloc)?;
         Ok(output)
     }
 }

@@ -48,7 +48,7 @@ impl TraceWriter for FlameWriter {
 
     ghost text = { λ writer. flame_written writer.cost };
 
-    fn put(&self, tables: &Tables, peaks: &Peaks, out: &mut Vec<u8>) -> Result<(), NoMemory> {
+    fn put(&self, tables: Tables, peaks: Peaks, out: &mut Vec<u8>) -> Result<(), NoMemory> {
         put_flame(self.alloc, self.cost, tables, peaks, out)
     }
 }

@@ -42,9 +42,9 @@ impl TraceWriter for PrintWriter {
 
     ghost text = { λ writer. report_written writer.options };
 
-    fn put(&self, tables: &Tables, peaks: &Peaks, out: &mut Vec<u8>) -> Result<(), NoMemory> {
-        let suppressed = Suppressed::build(self.alloc, tables)?;
-        put_report(self.alloc, &self.options, tables, peaks, &suppressed, out)
+    fn put(&self, tables: Tables, peaks: Peaks, out: &mut Vec<u8>) -> Result<(), NoMemory> {
+        let suppressed = Suppressed::build(self.alloc, &tables)?;
+        put_report(self.alloc, &self.options, &tables, &peaks, &suppressed, out)
     }
 }
 

@@ -36,8 +36,8 @@ impl TraceWriter for SummaryWriter {
 
     ghost text = { λ _. summary_written };
 
-    fn put(&self, _tables: &Tables, peaks: &Peaks, out: &mut Vec<u8>) -> Result<(), NoMemory> {
-        put_summary(peaks, out)
+    fn put(&self, _tables: Tables, peaks: Peaks, out: &mut Vec<u8>) -> Result<(), NoMemory> {
+        put_summary(&peaks, out)
     }
 }
 

@@ -13,7 +13,8 @@
 //! - `CostTree::build` gives it for the stacks of a trace, whose lists are the texts of their frames in a style and
 //!   from one end (`lists_towards`). From the root it makes the texts of each node once, and its memory goes by nodes. From
 //!   the allocation it makes no text of a stack that costs nothing, and of each other stack one text more than `depth` at
-//!   most.
+//!   most. `lists_from_root` and `CostTree::of_lists` are its two steps from the root, for a caller that lets go the tables
+//!   between them.
 //! - `CutFronts` keeps lists cut behind fronts that have no line: `lengthen` makes them so long that the lines of `of_cut`'s tree
 //!   are those of the whole lists, with these costs.
 //! - A node says its parent, which stands before it, its cost, its own cost and the first stack. `text` is its front's
@@ -71,7 +72,7 @@ pub use fronts::Fronts;
 pub use line::{CostLine, Place};
 pub use lines::cost_lines;
 pub use node::CostNode;
-pub use root_lists::repeat_list;
+pub use root_lists::{lists_from_root, repeat_list};
 pub use scale::Scale;
 pub use shape::Shape;
 pub use tree::CostTree;

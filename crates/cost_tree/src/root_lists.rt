@@ -14,7 +14,7 @@ use ht_trace::{FrameAt, Style, Tables};
 use std::alloc::Global;
 
 /// The lists of all stacks, or `NoMemory`.
-pub(crate) fn root_lists(alloc: Global, tables: &Tables, style: Style) -> Result<Fronts, NoMemory>
+pub fn lists_from_root(alloc: Global, tables: &Tables, style: Style) -> Result<Fronts, NoMemory>
     ensures lists { IfOk result (λ fronts. fronts ≡ lists_towards FromRoot style tables.now) }
 {
     let mut fronts = Fronts::new(alloc);

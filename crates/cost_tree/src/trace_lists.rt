@@ -4,7 +4,7 @@ ghost use Rattle.cost_tree.specs.Needed.{StandFor};
 
 use crate::direction::Direction;
 use crate::fronts::Fronts;
-use crate::root_lists::root_lists;
+use crate::root_lists::lists_from_root;
 use crate::stack_lists::{ListForm, stack_lists};
 use hp_num::NoMemory;
 use ht_trace::{Style, Tables};
@@ -29,6 +29,6 @@ pub(crate) fn trace_lists(
             let most = depth as usize + 1;
             stack_lists(alloc, tables, costs, ListForm { style, most })
         }
-        Direction::FromRoot => root_lists(alloc, tables, style),
+        Direction::FromRoot => lists_from_root(alloc, tables, style),
     }
 }

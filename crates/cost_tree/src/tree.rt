@@ -112,7 +112,7 @@ impl<'a> CostTree<'a> {
             → HasLines tree (costed fronts.now.cut costs) depth) }
     {
         let costs = costing.list(alloc)?;
-        CostTree::of_lists(alloc, &fronts.names, &fronts.cut.shape, &costs, depth)
+        CostTree::of_shape(alloc, &fronts.names, &fronts.cut.shape, &costs, depth)
     }
 
     /// The tree of the stacks of a trace with these costs, or `NoMemory`.
@@ -131,6 +131,21 @@ impl<'a> CostTree<'a> {
             depth) }
     {
         let fronts = trace_lists(alloc, tables, costs, direction, style, depth)?;
+        CostTree::of_lists(alloc, fronts, costs, depth)
+    }
+
+    /// The tree of the lists with these costs, to fronts of at most `depth` texts, or `NoMemory`. It has their texts for its own,
+    /// and lets go all else of the lists.
+    pub fn of_lists(
+        alloc: Global,
+        fronts: Fronts,
+        costs: &[u64],
+        depth: u32,
+    ) -> Result<CostTree<'a>, NoMemory>
+        requires as_many { length costs.now ≡ length fronts }
+        requires bound { sum costs.now ≤ 2 ^ 62 }
+        ensures tree { IfOk result (λ tree. IsTreeOf tree (costed fronts costs.now) depth) }
+    {
         let Fronts { names, shape } = fronts;
         // Says that no two names are equal.
         let _count = names.len();
@@ -159,11 +174,11 @@ impl<'a> CostTree<'a> {
         ensures tree { IfOk result (λ tree. IsTreeOf tree (costed fronts.now costs.now) depth) }
         ensures lines { IfOk result (λ tree. HasLines tree (costed fronts.now costs.now) depth) }
     {
-        CostTree::of_lists(alloc, &fronts.names, &fronts.shape, costs, depth)
+        CostTree::of_shape(alloc, &fronts.names, &fronts.shape, costs, depth)
     }
 
     /// The tree of the lists of texts that the shape's numbers are those of, with these costs, or `NoMemory`.
-    fn of_lists(
+    fn of_shape(
         alloc: Global,
         names: &'a Names,
         shape: &Shape,

@@ -6,6 +6,7 @@ mod Sizes
 mod FlameLemmas
 mod FlameTrees
 mod FlameWalks
+mod FrontTexts
 mod FlameFigures
 mod EntryOrder
 mod EntryLists

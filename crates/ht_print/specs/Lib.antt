@@ -6,6 +6,7 @@ pub mod MetFrames
 pub mod FlameCosts
 pub mod FlameText
 pub mod FlameWalk
+pub mod FrontText
 pub mod ReportOrder
 pub mod IsEntry
 pub mod ReportGroups

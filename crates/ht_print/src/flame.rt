@@ -1,6 +1,6 @@
 //! Flame stacks: for each list of texts that some stacks have, a line with what these stacks cost.
 //! How the lines of a tree are written is in `flame_lines`.
-ghost use Rattle.std.specs.Prelude.{◌≡◌, ℕ, ◌+◌, ◌^◌, ◌<◌, ◌≤◌, List, ◌++◌, length, OnErr, OnOk, Some, slice_get};
+ghost use Rattle.std.specs.Prelude.{◌≡◌, ℕ, ◌+◌, ◌^◌, ◌<◌, ◌≤◌, List, ◌++◌, length, IfOk, OnErr, OnOk, Some, slice_get};
 ghost use Rattle.live_ledger.specs.declared.event.Event.{Event};
 ghost use Rattle.peak_costs.specs.Peak.{StandsFor};
 ghost use Rattle.peak_costs.specs.PeakState.{IsSound};
@@ -8,7 +8,7 @@ ghost use Rattle.ht_print.specs.FlameCosts.{flame_costs};
 ghost use Rattle.ht_print.specs.FlameText.{flame_of_trace, flame_text};
 
 use crate::flame_lines::put_lines;
-use cost_tree::{CostTree, Costing, Direction};
+use cost_tree::{CostTree, Costing, lists_from_root};
 use hp_num::NoMemory;
 use ht_trace::{Style, Tables};
 use peak_costs::Peaks;
@@ -32,34 +32,42 @@ pub enum FlameCost {
 /// whose costs have a sum other than 0, these texts with `;` between them, a blank, the sum and a line feed. A `;` within
 /// a text is written `:`.
 ///
-/// There must be as many stacks in the peaks as in the tables. On `NoMemory`, `out` holds what it held before.
+/// There must be as many stacks in the peaks as in the tables, both of which are let go as soon as may be. On `NoMemory`,
+/// `out` holds what it held before.
 pub fn put_flame(
     alloc: Global,
     cost: FlameCost,
-    tables: &Tables,
-    peaks: &Peaks,
+    tables: Tables,
+    peaks: Peaks,
     out: &mut Vec<u8>,
 ) -> Result<(), NoMemory>
-    requires as_many { peaks.now.ledger.stacks ≡ length tables.now.nodes + 1 }
+    requires as_many { peaks.ledger.stacks ≡ length tables.nodes + 1 }
     ensures appended { OnOk result
-        (out.new.items ≡ out.old.items ++ flame_text tables.now (flame_costs cost peaks.now)) }
+        (out.new.items ≡ out.old.items ++ flame_text tables (flame_costs cost peaks)) }
     ensures trace { OnOk result
-        ((events : List Event) → StandsFor peaks.now events
-        → out.new.items ≡ out.old.items ++ flame_of_trace cost tables.now events) }
+        ((events : List Event) → StandsFor peaks events
+        → out.new.items ≡ out.old.items ++ flame_of_trace cost tables events) }
     ensures unchanged { OnErr result (out.new.items ≡ out.old.items) }
+{
+    let costs = costs_of(alloc, cost, &peaks)?;
+    drop(peaks);
+    let lists = lists_from_root(alloc, &tables, Style::Plain)?;
+    drop(tables);
+    let tree = CostTree::of_lists(alloc, lists, &costs, MOST_FRAMES)?;
+    drop(costs);
+    put_lines(alloc, &tree, out)
+}
+
+/// What each stack costs, by ascending number, or `NoMemory`.
+fn costs_of(alloc: Global, cost: FlameCost, peaks: &Peaks) -> Result<Vec<u64>, NoMemory>
+    ensures costs { IfOk result (λ costs. costs.items ≡ flame_costs cost peaks.now) }
+    ensures sound { IsSound peaks.now }
 {
     // Says what holds of all peaks.
     let _total = peaks.peak_total();
-    let costing = Costing::new(tables.stacks(), |stack: u32| cost_of(cost, peaks, stack));
-    let tree = CostTree::build(
-        alloc,
-        tables,
-        &costing,
-        Direction::FromRoot,
-        Style::Plain,
-        MOST_FRAMES,
-    )?;
-    put_lines(alloc, &tree, out)
+    let stacks = peaks.ledger().stacks();
+    let costing = Costing::new(stacks, |stack: u32| cost_of(cost, peaks, stack));
+    costing.list(alloc)
 }
 
 /// What the stack costs.

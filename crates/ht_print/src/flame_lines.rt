@@ -2,16 +2,18 @@
 //! What the tree stands for is no part of it.
 #![tactic(auto, using(crate::proofs::FlameLemmas::extends_same, crate::proofs::FlameLemmas::extends_more, crate::proofs::FlameLemmas::extends_trans))]
 
-ghost use Rattle.std.specs.Prelude.{◌≡◌, ℕ, ◌<◌, All, List, [], ◌++◌, length, map, reverse, OnErr, OnOk, Some, slice_get};
+ghost use Rattle.std.specs.Prelude.{◌≡◌, ◌<◌, List, [], ◌++◌, length, reverse, OnErr, OnOk, Some, slice_get};
 ghost use Rattle.cost_tree.specs.declared.node.CostNode.{CostNode};
 ghost use Rattle.cost_tree.specs.Children.{children_of};
 ghost use Rattle.cost_tree.specs.Costed.{Costed};
 ghost use Rattle.cost_tree.specs.IsTreeOf.{IsTreeOf};
 ghost use Rattle.hp_num.specs.Extends.{Extends};
-ghost use Rattle.ht_print.specs.FlameText.{flame_byte, flame_line, flame_name, flame_of, flame_path, flame_rest};
+ghost use Rattle.ht_print.specs.FlameText.{flame_line, flame_of};
 ghost use Rattle.stack_table.specs.Stack.{most_frames};
-ghost use Rattle.ht_print.specs.FlameWalk.{IsBelowRoot, IsRooted, front_at, last_text};
+ghost use Rattle.ht_print.specs.FlameWalk.{IsRooted, front_at};
+ghost use Rattle.ht_print.specs.FrontText.{IsTextOf};
 
+use crate::front_text::FrontText;
 use cost_tree::CostTree;
 use hp_num::{NoMemory, put_bytes, put_dec};
 use std::alloc::Global;
@@ -43,9 +45,10 @@ fn put_nodes(alloc: Global, tree: &CostTree, out: &mut Vec<u8>) -> Result<(), No
     // The nodes whose lines are still to be written, the next one last.
     let mut left = Vec::new(alloc);
     let mut buffer = Vec::new(alloc);
+    let mut front = FrontText::new(alloc);
     left.push(0)?;
     'each_node: while let Some(n) = left.pop() {
-        put_line(tree, n, &mut buffer, out)?;
+        put_line(tree, n, &mut front, out)?;
         push_children(tree, n, &mut buffer, &mut left)?;
     }
     Ok(())
@@ -68,100 +71,29 @@ fn push_children(
     Ok(())
 }
 
-/// Appends the line of node `n`, where its own cost isn't 0. `path` is a buffer.
+/// Appends the line of node `n`, where its own cost isn't 0. `front` has the text of some node's front.
 fn put_line(
     tree: &CostTree,
     n: usize,
-    path: &mut Vec<usize>,
+    front: &mut FrontText,
     out: &mut Vec<u8>,
 ) -> Result<(), NoMemory>
     requires held { n < length tree.now.nodes }
     requires tree { IsRooted tree.now }
+    requires text { IsTextOf tree.now front.old }
     ensures appended { OnOk result
         ((node : CostNode) → slice_get tree.now.nodes n ≡ Some node
         → out.new.items ≡ out.old.items ++ flame_line (front_at tree.now n) node.own) }
+    ensures text { OnOk result (IsTextOf tree.now front.new) }
     ensures kept { Extends out.old.items out.new.items }
 {
     let own = tree.node(n).own;
     if own == 0 {
         return Ok(());
     }
-    collect_path(tree, n, path)?;
-    put_path(tree, path, out)?;
+    front.go_to(tree, n)?;
+    put_bytes(out, front.path())?;
     put_bytes(out, b" ")?;
     put_dec(out, own)?;
     put_bytes(out, b"\n")
-}
-
-/// Replaces `path` by the nodes from the child of node 0 down to node `n`: none where `n` is node 0.
-fn collect_path(tree: &CostTree, n: usize, path: &mut Vec<usize>) -> Result<(), NoMemory>
-    requires held { n < length tree.now.nodes }
-    requires tree { IsRooted tree.now }
-    ensures texts { OnOk result (map (last_text tree.now) path.new.items ≡ front_at tree.now n) }
-    ensures held { OnOk result (All (IsBelowRoot tree.now) path.new.items) }
-{
-    path.clear();
-    let mut at = n;
-    'upwards: while at != 0 {
-        path.push(at)?;
-        at = tree.node(at).parent;
-    }
-    path.reverse();
-    Ok(())
-}
-
-/// Appends the last texts of the nodes, with semicolons between them.
-fn put_path(tree: &CostTree, path: &[usize], out: &mut Vec<u8>) -> Result<(), NoMemory>
-    requires held { All (IsBelowRoot tree.now) path.now }
-    ensures appended { OnOk result
-        (out.new.items ≡ out.old.items ++ flame_path (map (last_text tree.now) path.now)) }
-    ensures kept { Extends out.old.items out.new.items }
-{
-    let Some((first, rest)) = path.split_first() else {
-        return Ok(());
-    };
-    put_node(tree, *first, out)?;
-    put_rest(tree, rest, out)
-}
-
-/// Appends the last texts of the nodes, with a semicolon before each.
-fn put_rest(tree: &CostTree, rest: &[usize], out: &mut Vec<u8>) -> Result<(), NoMemory>
-    requires held { All (IsBelowRoot tree.now) rest.now }
-    ensures appended { OnOk result
-        (out.new.items ≡ out.old.items ++ flame_rest (map (last_text tree.now) rest.now)) }
-    ensures kept { Extends out.old.items out.new.items }
-{
-    'each_node: for node in rest {
-        put_bytes(out, b";")?;
-        put_node(tree, *node, out)?;
-    }
-    Ok(())
-}
-
-/// Appends the last text of the node.
-fn put_node(tree: &CostTree, n: usize, out: &mut Vec<u8>) -> Result<(), NoMemory>
-    requires held { IsBelowRoot tree.now n }
-    ensures appended { OnOk result
-        (out.new.items ≡ out.old.items ++ flame_name (last_text tree.now n)) }
-    ensures kept { Extends out.old.items out.new.items }
-{
-    put_name(tree.text(n), out)
-}
-
-/// Appends a text with a colon for each semicolon.
-fn put_name(text: &[u8], out: &mut Vec<u8>) -> Result<(), NoMemory>
-    ensures appended { OnOk result (out.new.items ≡ out.old.items ++ flame_name text.now) }
-    ensures kept { Extends out.old.items out.new.items }
-{
-    'each_byte: for byte in text {
-        out.push(plain_byte(*byte))?;
-    }
-    Ok(())
-}
-
-/// A colon for a semicolon, which stands between texts.
-fn plain_byte(byte: u8) -> u8
-    ensures { result ≡ flame_byte byte }
-{
-    if byte == b';' { b':' } else { byte }
 }

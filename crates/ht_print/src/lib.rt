@@ -15,8 +15,9 @@
 //!   frames, and `has` gives one stack's answer.
 //!
 //! How: flame stacks are a walk over the tree of the stacks from the root, with a list of the nodes that are left, the
-//! next one last; a line's texts are found upwards from its node, so that the walk takes about the time of what it
-//! writes. A section is made of the figures of all stacks: those that aren't 0 become entries, which are sorted once
+//! next one last. The text of a node's front is made of the one before it (`FrontText`), which is cut back to what both fronts
+//! begin with, so that a node's text is read once and a line is one append. `put_flame` lets the peaks go once the costs are
+//! taken, and the tables once the texts are made. A section is made of the figures of all stacks: those that aren't 0 become entries, which are sorted once
 //! (`ordered_stacks`). Where stacks are merged, the text of an innermost frame is made once a report and numbered, and
 //! each stack has its number (`TellPlaces`). By these numbers each stack of a section is linked to the last one before it
 //! with the same text (`ArePlaced`); along the links a group is summed up (`ordered_groups`), and its stacks are found in
@@ -29,7 +30,7 @@
 //! | File | Does |
 //! |---|---|
 //! | `summary.rt`, `histogram.rt` | the six lines; the nine ranges of sizes |
-//! | `flame.rt`, `flame_lines.rt` | flame stacks, and the walk that writes them |
+//! | `flame.rt`, `flame_lines.rt`, `front_text.rt` | flame stacks, the walk that writes them, and the text of a front |
 //! | `report.rt`, `options.rt`, `layout.rt` | the report: which parts are asked for, and the figures of each |
 //! | `section.rt` | a section around its entries; the leaks without those of suppressed stacks |
 //! | `entry.rt` | the stacks that have a figure, and the order |
@@ -43,6 +44,7 @@
 mod entry;
 mod flame;
 mod flame_lines;
+mod front_text;
 mod groups;
 mod histogram;
 mod layout;

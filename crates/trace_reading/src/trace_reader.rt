@@ -12,6 +12,7 @@ use command_frame::{Batch, LineRefusal, LineReport, LineTaker};
 use hp_num::NoMemory;
 use ht_trace::Tables;
 use std::alloc::Global;
+use std::mem;
 
 /// What was read of a trace, and what is to be written of it.
 #[derive(Debug, Drop)]
@@ -77,9 +78,10 @@ impl<W: TraceWriter> LineTaker for TraceReader<W> {
 
 impl<W: TraceWriter> LineReport for TraceReader<W> {
     fn finish(&mut self, alloc: Global) -> Result<Vec<u8>, LineRefusal<TraceFault>> {
+        let none = ReadTrace::new(alloc, Tables::new(alloc))?;
+        let ReadTrace { tables, peaks } = mem::replace(&mut self.trace, none);
         let mut output = Vec::new(alloc);
-        self.writer
-            .put(&self.trace.tables, &self.trace.peaks, &mut output)?;
+        self.writer.put(tables, peaks, &mut output)?;
         Ok(output)
     }
 }

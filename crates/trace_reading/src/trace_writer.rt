@@ -15,11 +15,12 @@ pub trait TraceWriter {
     /// The text of a trace with these lines, the patterns of some suppressions being given before them.
     ghost text: { Self → List (List ℕ) → List (List ℕ) → List ℕ };
 
-    /// Appends the text of the trace whose tables and peaks these are. `NoMemory` where memory is wanting.
-    fn put(&self, tables: &Tables, peaks: &Peaks, out: &mut Vec<u8>) -> Result<(), NoMemory>
-        requires beside { IsBeside tables.now peaks.now.ledger }
+    /// Appends the text of the trace whose tables and peaks these are, which it may let go before all of it is made.
+    /// `NoMemory` where memory is wanting.
+    fn put(&self, tables: Tables, peaks: Peaks, out: &mut Vec<u8>) -> Result<(), NoMemory>
+        requires beside { IsBeside tables peaks.ledger }
         ensures appended { OnOk result
-            ((given lines : List (List ℕ)) → StandsAfter tables.now given lines
-            → StandsFor peaks.now (events lines)
+            ((given lines : List (List ℕ)) → StandsAfter tables given lines
+            → StandsFor peaks (events lines)
             → out.new.items ≡ out.old.items ++ text self.now (patterns_of given) lines) };
 }

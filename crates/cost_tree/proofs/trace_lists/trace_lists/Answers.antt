@@ -15,8 +15,8 @@ returns-in-FromAllocation c = record {
 
 pub returns-in-FromRoot : goal.returns-in-FromRoot
 returns-in-FromRoot c = record {
-  lists = IfOk-weaker c.root_lists.result _ _
+  lists = IfOk-weaker c.lists_from_root.result _ _
       (λ fronts is. subst (λ (d : Direction). StandFor d c.args.style c.args.tables.now c.args.costs.now c.args.depth fronts) (sym c.in-FromRoot.is)
       (StandFor-root c.args.style c.args.tables.now c.args.costs.now c.args.depth fronts c.requires.as_many is))
-      c.root_lists.ensures.lists;
+      c.lists_from_root.ensures.lists;
 }

@@ -1,11 +1,11 @@
-use Rattle.std.proofs.Common.{◌≡◌, ℕ, ◌++◌, eqb, false, List, map, sym, ap, ◌∙◌, arith}
+use Rattle.std.proofs.Common.{◌≡◌, ℕ, ◌++◌, eqb, false, List, sym, ap, ◌∙◌, arith}
 use Rattle.std.specs.Prelude.{codes, decimal}
 use Rattle.std.proofs.lemmas.Bool.Decides.{nat_tests}
 use Rattle.std.proofs.lemmas.Option.{same_Some}
 use Rattle.std.proofs.lemmas.Result.{on_ok_weaker}
 use Rattle.cost_tree.specs.declared.node.CostNode.{CostNode}
-use Rattle.ht_print.specs.FlameText.{flame_line, flame_path}
-use Rattle.ht_print.specs.FlameWalk.{front_at, last_text}
+use Rattle.ht_print.specs.FlameText.{flame_line, flame_path, flame_rest}
+use Rattle.ht_print.specs.FlameWalk.{front_at}
 use Rattle.ht_print.proofs.FlameLemmas.{appended-none, flame_line-none, flame_line-some, four-appended}
 use Rattle.ht_print.proofs.flame_lines.put_line.Goals as goal
 
@@ -21,13 +21,13 @@ returns-clause-appended c =
     let front = front_at tree c.args.n in
     let own = c.node-own.result.own in
     let some : eqb own 0 ≡ false = grind (arith, nat_tests) in
-    let path = ap (λ (ns : List ℕ). flame_path (map (last_text tree) ns)) c.deref.ensures.value ∙ ap (λ (xs : List (List ℕ)). flame_path xs) c.in_ok-collect_path.ensures.texts in
-    on_ok_weaker c.put_bytes-2.result (λ added. λ node held.
+    let text = c.in_ok-go_to.ensures.text.text ∙ ap (λ (k : ℕ). flame_rest (front_at tree k)) c.in_ok-go_to.ensures.node in
+    on_ok_weaker c.put_bytes-3.result (λ added. λ node held.
     let same : c.node-own.result ≡ node = same_Some c.node-own.result node (sym c.node-own.ensures.node ∙ held) in
-    four-appended c.args.out.now.items c.put_path.new.out.items c.put_bytes.new.out.items c.put_dec.new.out.items c.put_bytes-2.new.out.items (flame_path front) (codes " ") (decimal own) (codes "\n")
-    (c.in_ok-put_path.ensures.appended ∙ ap (λ (bytes : List ℕ). c.args.out.now.items ++ bytes) path)
-    c.in_ok-put_bytes.ensures.appended
+    four-appended c.args.out.now.items c.put_bytes.new.out.items c.put_bytes-2.new.out.items c.put_dec.new.out.items c.put_bytes-3.new.out.items (flame_path front) (codes " ") (decimal own) (codes "\n")
+    (c.in_ok-put_bytes.ensures.appended ∙ ap (λ (bytes : List ℕ). c.args.out.now.items ++ bytes) (c.path.ensures.path front text))
+    c.in_ok-put_bytes-2.ensures.appended
     c.in_ok-put_dec.ensures.appended
     added
     ∙ ap (λ (bytes : List ℕ). c.args.out.now.items ++ bytes) (sym (flame_line-some front own some) ∙ ap (λ (n : CostNode). flame_line front n.own) same))
-    c.put_bytes-2.ensures.appended
+    c.put_bytes-3.ensures.appended

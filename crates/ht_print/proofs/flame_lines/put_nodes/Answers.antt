@@ -1,4 +1,4 @@
-use Rattle.std.proofs.Common.{◌<◌, [], length, get_or, Some, arith}
+use Rattle.std.proofs.Common.{rules, ◌<◌, [], length, get_or, Some, refl, arith}
 use Rattle.std.proofs.lemmas.List.Elements.{All-pop}
 use Rattle.std.proofs.lemmas.Option.{slice_get-get_or}
 use Rattle.cost_tree.specs.declared.node.CostNode.{CostNode}
@@ -7,13 +7,24 @@ use Rattle.stack_table.specs.Stack.{most_frames}
 use Rattle.cost_tree.proofs.Laws.{children-next, children-none}
 use Rattle.ht_print.specs.FlameText.{flame_line}
 use Rattle.ht_print.specs.FlameWalk.{flame_at, front_at}
-use Rattle.ht_print.proofs.FlameLemmas.{extends_trans}
+use Rattle.ht_print.proofs.FlameLemmas.{extends_same, extends_trans}
 use Rattle.ht_print.proofs.FlameTrees.{IsRooted-of}
+use Rattle.ht_print.proofs.FrontTexts.{text-of-root}
 use Rattle.ht_print.proofs.FlameWalks.{children-are, flame-step, left-held, left-smaller, left-step, size-step, size_at}
 use Rattle.ht_print.proofs.flame_lines.put_nodes.Goals as goal
 
 pub put_line-requires-clause-tree : goal.put_line-requires-clause-tree
 put_line-requires-clause-tree c = IsRooted-of c.args.tree.now c.requires.tree.0 most_frames c.requires.tree.1
+
+pub each_node-init : goal.each_node-init
+each_node-init c =
+    let rooted = IsRooted-of c.args.tree.now c.requires.tree.0 most_frames c.requires.tree.1 in
+    record {
+      held = search rules;
+      kept = extends_same c.args.out.now.items c.args.out.now.items refl;
+      text = text-of-root c.args.tree.now c.new-front.result rooted c.new-front.ensures.node c.new-front.ensures.text;
+      written = search rules;
+    }
 
 pub each_node-smaller : goal.each_node-smaller
 each_node-smaller c =
@@ -41,6 +52,7 @@ each_node-preserved c =
     record {
       held = left-held tree c.pop.new.self.items c.push_children.new.left.items n held.0 (children-are tree c.requires.tree.0 most_frames n c.requires.tree.1) c.in_ok-push_children.ensures.appended;
       kept = extends_trans c.args.out.now.items c.each_node.out.items c.put_line.new.out.items c.each_node.invariant.kept c.put_line.ensures.kept;
+      text = c.in_ok-put_line.ensures.text;
       written = λ stacks is.
           let count = is.count in
           let front_held = slice_get-get_or tree.fronts n [] (omega arith) in

@@ -6,6 +6,7 @@ use Rattle.cost_tree.specs.IsTreeOf.{IsTreeOf}
 use Rattle.hp_num.specs.Extends.{Extends}
 use Rattle.stack_table.specs.Stack.{most_frames}
 use Rattle.ht_print.specs.FlameWalk.{flame_at}
+use Rattle.ht_print.specs.FrontText.{IsTextOf}
 use Rattle.ht_print.proofs.FlameWalks.{size_at}
 use Rattle.ht_print.proofs.flame_lines.put_nodes.Given as goal
 
@@ -13,6 +14,7 @@ abbrev pub invariant-each_node : goal.invariant-each_node
 invariant-each_node l = record {
   held : All (λ m. m < length l.tree.nodes) l.left.items;
   kept : Extends l.initial.out.items l.out.items;
+  text : IsTextOf l.tree l.front;
   written : (stacks : List Costed) → IsTreeOf l.tree stacks most_frames →
       l.out.items ++ flat_map (flame_at most_frames l.tree stacks) (reverse l.left.items) ≡ l.initial.out.items ++ flame_at most_frames l.tree stacks 0;
 }

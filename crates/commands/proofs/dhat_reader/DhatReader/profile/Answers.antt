@@ -23,4 +23,4 @@ returns c = λ lines has.
     ∙ ap (λ (text : List ℕ). text ++ codes "\n")
     (ap (λ v. v.items) c.into_bytes-output.ensures.value
     ∙ (c.in_ok-text.ensures.text
-    ∙ ap dhat_text (c.in_ok-dhat.ensures.trace (events lines) has.read.peaks_of has.lives ∙ ap (λ tables. dhat_of tables (events lines)) (tables_are c.args.self.now.trace lines has.read))))
+    ∙ ap dhat_text (c.in_ok-dhat.ensures.trace (events lines) has.read.peaks_of has.lives ∙ ap (λ tables. dhat_of tables (events lines)) (tables_are c.args.self.trace lines has.read))))

@@ -8,8 +8,8 @@ use Rattle.cost_tree.specs.TreeLines.{HasLines}
 use Rattle.cost_tree.proofs.Lengthening.{cut-named}
 use Rattle.cost_tree.proofs.tree.CostTree.of_cut.Goals as goal
 
-pub of_lists-requires : goal.of_lists-requires
-of_lists-requires g c =
+pub of_shape-requires : goal.of_shape-requires
+of_shape-requires g c =
     let names = c.fronts.inside.names in
     let cut = c.fronts.inside.cut in
     let costs : List ℕ = c.requires.stated.0 in
@@ -23,9 +23,9 @@ of_lists-requires g c =
 
 pub returns : goal.returns
 returns g c = record {
-  lines = IfOk-weaker c.of_lists.result _ _
+  lines = IfOk-weaker c.of_shape.result _ _
       (λ tree has costs are.
       subst (λ (cs : List ℕ). HasLines tree (costed c.args.fronts.now.cut cs) c.args.depth) (c.deref.ensures.value ∙ c.in_ok-costs.ensures.costs costs are)
       (subst (λ (ls : List (List (List ℕ))). HasLines tree (costed ls c.deref.result.now) c.args.depth) (ap (λ (s : CutState). s.cut) c.fronts.view_is) has))
-      c.of_lists.ensures.lines;
+      c.of_shape.ensures.lines;
 }

@@ -2,7 +2,7 @@ use Rattle.std.proofs.Common.{◌≡◌, ℕ, ◌+◌, List, length, map, revers
 use Rattle.std.specs.List.{range_with_len}
 use Rattle.cost_tree.specs.StackTexts.{lists_towards, stack_texts}
 use Rattle.cost_tree.proofs.Needing.{listed-count, root-more}
-use Rattle.cost_tree.proofs.root_lists.root_lists.Goals as goal
+use Rattle.cost_tree.proofs.root_lists.lists_from_root.Goals as goal
 
 pub begin_list-requires : goal.begin_list-requires
 begin_list-requires c =

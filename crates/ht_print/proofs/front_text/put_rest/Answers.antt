@@ -3,7 +3,7 @@ use Rattle.std.specs.Prelude.{codes}
 use Rattle.ht_print.specs.FlameText.{flame_name, flame_rest}
 use Rattle.ht_print.specs.FlameWalk.{last_text}
 use Rattle.ht_print.proofs.FlameLemmas.{appended-more, appended-none, extends_more, extends_same, extends_trans, flame_rest-more, flame_rest-none}
-use Rattle.ht_print.proofs.flame_lines.put_rest.Goals as goal
+use Rattle.ht_print.proofs.front_text.put_rest.Goals as goal
 
 pub each_node-init : goal.each_node-init
 each_node-init c = record {

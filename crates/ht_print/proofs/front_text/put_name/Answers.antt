@@ -1,7 +1,7 @@
 use Rattle.std.proofs.Common.{ap, ◌∙◌, arith, ◌++◌, ◌∷◌, [], take, get_or}
 use Rattle.ht_print.specs.FlameText.{flame_byte, flame_name}
 use Rattle.ht_print.proofs.FlameLemmas.{appended-more, appended-none, flame_name-more, flame_name-none}
-use Rattle.ht_print.proofs.flame_lines.put_name.Goals as goal
+use Rattle.ht_print.proofs.front_text.put_name.Goals as goal
 
 pub each_byte-init : goal.each_byte-init
 each_byte-init c = appended-none c.args.out.now.items (flame_name []) flame_name-none

@@ -1,0 +1,29 @@
+-- The text of a front, as it goes from one node's to another's, for private clauses.
+use Rattle.std.specs.Prelude.{◌≡◌, ℕ, ◌<◌, List, ◌++◌, All, length, map, reverse}
+use Rattle.cost_tree.specs.TreeState.{TreeState}
+use Rattle.ht_print.specs.declared.front_text.Between.{Between}
+use Rattle.ht_print.specs.declared.front_text.FrontText.{FrontText}
+use Rattle.ht_print.specs.FlameText.{flame_rest}
+use Rattle.ht_print.specs.FlameWalk.{IsBelowRoot, front_at, last_text}
+
+-- the text is that of its node's front
+pub record IsTextOf (tree : TreeState) (front : FrontText) : Type 0 where
+  pub within : front.node < length tree.nodes
+  pub text : front.text.items ≡ flame_rest (front_at tree front.node)
+
+-- the text is that of a node's front, and the path leads from another node to node n
+pub record IsBetween (tree : TreeState) (n : ℕ) (text path : List ℕ) (between : Between) : Type 0
+  where
+    pub at_held : between.at < length tree.nodes
+    pub above_held : between.above < length tree.nodes
+    pub text_of : text ≡ flame_rest (front_at tree between.at)
+    pub path_to : front_at tree between.above ++ map (last_text tree) (reverse path)
+        ≡ front_at tree n
+    pub path_held : All (IsBelowRoot tree) path
+
+-- the text is that of a front, which the path's nodes lengthen to that of node n
+pub record LeadsTo (tree : TreeState) (n : ℕ) (text path : List ℕ) : Type 0 where
+  pub front : List (List ℕ)
+  pub text_of : text ≡ flame_rest front
+  pub path_to : front ++ map (last_text tree) path ≡ front_at tree n
+  pub path_held : All (IsBelowRoot tree) path
