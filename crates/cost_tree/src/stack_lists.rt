@@ -19,6 +19,13 @@ pub(crate) struct ListForm {
     pub(crate) most: usize,
 }
 
+/// What the frames of a stack and the text of a frame are read into.
+#[derive(Drop)]
+struct Buffers {
+    frames: Vec<FrameAt>,
+    text: Vec<u8>,
+}
+
 /// The lists of the stacks with these costs, or `NoMemory`. That of a stack which costs nothing is empty, and no text of
 /// it is made.
 pub(crate) fn stack_lists(
@@ -32,32 +39,25 @@ pub(crate) fn stack_lists(
         (λ fronts. fronts ≡ needed_lists FromAllocation form.style tables.now form.most costs.now) }
 {
     let mut fronts = Fronts::new(alloc);
-    let mut frames = Vec::new(alloc);
-    let mut text = Vec::new(alloc);
+    let mut buffers = Buffers {
+        frames: Vec::new(alloc),
+        text: Vec::new(alloc),
+    };
     'each_stack: for stack in 0..tables.stacks() {
         let cost = costs[stack as usize];
-        add_stack(
-            tables,
-            stack,
-            cost,
-            form,
-            &mut fronts,
-            &mut frames,
-            &mut text,
-        )?;
+        add_stack(tables, stack, cost, form, &mut fronts, &mut buffers)?;
     }
     Ok(fronts)
 }
 
-/// Appends the list of the stack. `frames` and `text` are buffers.
+/// Appends the list of the stack.
 fn add_stack(
     tables: &Tables,
     stack: u32,
     cost: u64,
     form: ListForm,
     fronts: &mut Fronts,
-    frames: &mut Vec<FrameAt>,
-    text: &mut Vec<u8>,
+    buffers: &mut Buffers,
 ) -> Result<(), NoMemory>
     requires held { stack ≤ length tables.now.nodes }
     requires few { length fronts.old < 2 ^ 32 - 1 }
@@ -70,17 +70,16 @@ fn add_stack(
     if cost == 0 {
         return Ok(());
     }
-    push_stack(tables, stack, form, fronts, frames, text)
+    push_stack(tables, stack, form, fronts, buffers)
 }
 
-/// Appends the texts of the stack to the last list, of which there must be one. `frames` and `text` are buffers.
+/// Appends the texts of the stack to the last list, of which there must be one.
 fn push_stack(
     tables: &Tables,
     stack: u32,
     form: ListForm,
     fronts: &mut Fronts,
-    frames: &mut Vec<FrameAt>,
-    text: &mut Vec<u8>,
+    buffers: &mut Buffers,
 ) -> Result<(), NoMemory>
     requires held { stack ≤ length tables.now.nodes }
     requires begun { 0 < length fronts.old }
@@ -89,6 +88,7 @@ fn push_stack(
         (take form.most (towards FromAllocation (stack_texts form.style tables.now stack)))
         fronts.new) }
 {
+    let Buffers { frames, text } = buffers;
     tables.frames_into(stack, frames)?;
     frames.truncate(form.most);
     push_texts(tables, frames, form.style, fronts, text)

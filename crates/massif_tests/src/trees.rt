@@ -57,16 +57,15 @@ fn tree_of(
     rt: &impl Abort,
     alloc: Global,
     tables: &Tables,
-    fronts: Fronts,
+    fronts: &mut CutFronts,
     costs: &[u64],
 ) -> Result<Vec<u8>, NoMemory>
-    requires count { length fronts ≡ length tables.now.nodes + 1 }
+    requires count { length fronts.old.whole ≡ length tables.now.nodes + 1 }
     requires bound { sum costs.now ≤ 2 ^ 62 }
 {
     assert_eq!(rt; tables.stacks() as usize, costs.len());
     let costing = Costing::new(tables.stacks(), |stack: u32| costs[stack as usize]);
-    let mut cut = CutFronts::new(alloc, fronts)?;
-    let tree = snapshot_tree(alloc, &mut cut, &costing, &ONE_PERCENT, 120)?;
+    let tree = snapshot_tree(alloc, fronts, &costing, &ONE_PERCENT, 120)?;
     shown(rt, alloc, &tree)
 }
 
@@ -74,7 +73,8 @@ fn tree_of(
 fn peak_without(rt: &impl Abort, alloc: Global, name: &[u8]) -> Result<Vec<u8>, LineError> {
     let tables = worked_tables(rt, alloc)?;
     let fronts = texts_without(alloc, &tables, name)?;
-    Ok(tree_of(rt, alloc, &tables, fronts, &[0, 0, 100])?)
+    let mut fronts = CutFronts::new(alloc, fronts)?;
+    Ok(tree_of(rt, alloc, &tables, &mut fronts, &[0, 0, 100])?)
 }
 
 #[test]

@@ -1,12 +1,15 @@
 -- Lemmas on frames whose functions are listed.
-use Rattle.std.proofs.Common.{◌≡◌, ℕ, zero, suc, ◌<◌, ◌↔◌, ◌||◌, Bool, true, false, List, [], ◌∷◌, length, drop, get_or, Option, refl, sym, ap, ◌∙◌, arith}
+use Rattle.std.proofs.Common.{◌≡◌, ℕ, zero, suc, ◌+◌, ◌<◌, ◌↔◌, ◌||◌, Bool, true, false, eqb, List, [], ◌∷◌, ◌++◌, length, drop, get_or, Option, refl, sym, ap, ◌∙◌, arith}
 use Rattle.std.specs.Prelude.{Contains, IsTrue, slice_get}
 use Rattle.std.specs.List.{list_any, prefix_len}
 use Rattle.std.specs.Option.{option_map_or}
 use Rattle.std.specs.Str.{bytes_eq}
-use Rattle.std.proofs.lemmas.Bool.Decides.{same_from_decides}
+use Rattle.std.proofs.lemmas.Bool.{cond-false}
+use Rattle.std.proofs.lemmas.Bool.Decides.{nat_tests, same_from_decides}
+use Rattle.std.proofs.lemmas.List.Folds.{prefix_len-append}
 use Rattle.std.proofs.lemmas.Map.Views.{Contains-from_any}
 use Rattle.std.proofs.lemmas.Slice.Eq.{bytes_eq-Decides}
+use Rattle.hp_num.proofs.Laws.{slice_get-front}
 use Rattle.ht_trace.specs.declared.frame.FrameAt.{FrameAt}
 use Rattle.ht_trace.specs.StackFrames.{stack_frames}
 use Rattle.ht_trace.specs.TableState.{TableState}
@@ -48,3 +51,15 @@ ignored-is tables alloc_fns ignore_fns stack n frames are front =
     ap answer (first-unlisted all (prefix_len listed all))
     ∙ ap (λ (xs : List FrameAt). answer (slice_get xs (prefix_len listed xs))) (sym are)
     ∙ ap (λ (k : ℕ). answer (slice_get frames k)) (sym front)
+
+-- and where one of the innermost frames is left, off these alone
+pub ignored-own : (tables : TableState) (alloc_fns ignore_fns : List (List ℕ)) (stack n : ℕ) (own outer : List FrameAt)
+    → stack_frames tables.instructions tables.nodes stack ≡ own ++ outer → n ≡ prefix_len (is_listed tables alloc_fns) own → n < length own
+    → is_ignored tables alloc_fns ignore_fns stack ≡ option_map_or (is_listed tables ignore_fns) (slice_get own n) false
+ignored-own tables alloc_fns ignore_fns stack n own outer are front within =
+    let listed : FrameAt → Bool = is_listed tables alloc_fns in
+    let some : prefix_len listed own < length own = omega (arith, front, within) in
+    let part : eqb (prefix_len listed own) (length own) ≡ false = grind (arith, nat_tests) in
+    let whole = prefix_len-append listed own outer ∙ cond-false (eqb (prefix_len listed own) (length own)) (length own + prefix_len listed outer) (prefix_len listed own) part in
+    ignored-is tables alloc_fns ignore_fns stack n (own ++ outer) (sym are) (front ∙ sym whole)
+    ∙ ap (λ (found : Option FrameAt). option_map_or (is_listed tables ignore_fns) found false) (slice_get-front own outer n within)

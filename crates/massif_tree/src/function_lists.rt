@@ -7,14 +7,39 @@ ghost use Rattle.cost_tree.specs.FrameTexts.{AreTexts};
 ghost use Rattle.ht_trace.specs.IsFrame.{IsFrame};
 ghost use Rattle.massif_tree.specs.FunctionLists.{is_ignored, is_listed};
 
+use crate::trimmed_fronts::own_frames_into;
 use cost_tree::FrameTest;
 use hp_num::NoMemory;
 use ht_trace::{FrameAt, Tables};
 
 /// Whether the stack, which must be below `tables.stacks()`, is ignored: the innermost of its frames that stands behind
 /// its front of allocation functions has a function that is to be ignored. `NoMemory` comes where memory is wanting for
-/// the stack's frames, which replace `frames`.
+/// the stack's frames, or for those of its innermost node, which replace `frames`.
 pub fn is_ignored<A: Fn(&[u8]) -> bool, I: Fn(&[u8]) -> bool>(
+    tables: &Tables,
+    stack: u32,
+    alloc_fns: &FrameTest<A>,
+    ignore_fns: &FrameTest<I>,
+    frames: &mut Vec<FrameAt>,
+) -> Result<bool, NoMemory>
+    requires held { stack ≤ length tables.now.nodes }
+    requires alloc_callable { A.IsAlwaysCallable alloc_fns.now.test }
+    requires ignore_callable { I.IsAlwaysCallable ignore_fns.now.test }
+    ensures ignored { IfOk result (λ answer. (alloc_names ignore_names : List (List ℕ)) →
+        AreTexts (FnReturnsAt A.Fn alloc_fns.now.test) alloc_names
+        → AreTexts (FnReturnsAt I.Fn ignore_fns.now.test) ignore_names →
+        answer ≡ is_ignored tables.now alloc_names ignore_names stack) }
+{
+    own_frames_into(tables, stack, frames)?;
+    let front = listed_front(tables, frames, alloc_fns);
+    match frames.get(front) {
+        Some(at) => Ok(is_listed(tables, at, ignore_fns)),
+        None => is_whole_ignored(tables, stack, alloc_fns, ignore_fns, frames),
+    }
+}
+
+/// The same by all frames of the stack, which are read.
+fn is_whole_ignored<A: Fn(&[u8]) -> bool, I: Fn(&[u8]) -> bool>(
     tables: &Tables,
     stack: u32,
     alloc_fns: &FrameTest<A>,

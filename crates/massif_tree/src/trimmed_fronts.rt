@@ -85,7 +85,11 @@ fn add_stack<A: Fn(&[u8]) -> bool>(
 }
 
 /// Replaces `frames` by those of the stack's own node, and answers the stack that this is called from, 0 where there is none.
-fn own_frames_into(tables: &Tables, stack: u32, frames: &mut Vec<FrameAt>) -> Result<u32, NoMemory>
+pub(crate) fn own_frames_into(
+    tables: &Tables,
+    stack: u32,
+    frames: &mut Vec<FrameAt>,
+) -> Result<u32, NoMemory>
     requires held { stack ≤ length tables.now.nodes }
     ensures frames { IfOk result
         (λ caller. stack_frames tables.now.instructions tables.now.nodes stack
