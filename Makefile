@@ -1,9 +1,10 @@
 # Thin: `rt` proves, builds and tests. See README.md.
 PREFIX ?= /usr/local
 
-# How many crates are proved at a time: one on each processor, each with 2 GB of the memory that is free.
-JOBS ?= $(shell awk -v processors="$$(nproc)" '/^MemAvailable/ { fit = int($$2 / 2000000); \
-	print fit < 1 ? 1 : fit < processors ? fit : processors }' /proc/meminfo)
+# How many crates are proved at a time: three for each two processors, since some wait for the crates below them, each with 2 GB of
+# the memory that is free.
+JOBS ?= $(shell awk -v wanted="$$(( $$(nproc) * 3 / 2 ))" '/^MemAvailable/ { fit = int($$2 / 2000000); \
+	print fit < 1 ? 1 : fit < wanted ? fit : wanted }' /proc/meminfo)
 
 PROGRAMS = heapsuite heaprec
 SCRIPTS = heapsuite-symbols heapsuite-compare heapsuite-budget
@@ -17,11 +18,10 @@ demo: build
 	bin/heapsuite summary examples/two-sizes.trace
 
 # Proves what the two programs stand on side by side, and builds bin/heapsuite and bin/heaprec over it. All but two crates wait
-# for hp_num, so that it is proved first, by all processors; then comes the program with the longest chain of crates below it.
+# for hp_num, so that it is proved first, by all processors; then comes the crate that stands on all the others.
 build:
 	cd crates/hp_num && rt lib --jobs $(JOBS)
-	cd crates/heapsuite && rt all check --jobs $(JOBS)
-	cd crates/heaprec && rt all check --jobs $(JOBS)
+	cd crates/suite_tests && rt all check --jobs $(JOBS)
 	cd crates/heapsuite && rt run -- summary ../../examples/two-sizes.trace > /dev/null
 	cd crates/heaprec && rt run -- data/s > /dev/null
 	mkdir -p bin

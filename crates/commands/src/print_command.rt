@@ -1,8 +1,13 @@
 //! The command `print`: by backtrace who calls most, who holds the peak, who leaks and who allocates for a moment. What the
 //! words say of the report is read in `print_words`.
-ghost use Rattle.std.specs.Prelude.{option_map, ◌≡◌, ◌^◌, ◌<◌};
+ghost use Rattle.std.specs.Prelude.{option_map, ◌≡◌, ℕ, ◌^◌, ◌<◌, ◌++◌, List, OnOk};
+ghost use Rattle.ht_trace.specs.LedgerFits.{IsBeside};
+ghost use Rattle.ht_trace.specs.Pattern.{patterns_of};
+ghost use Rattle.ht_trace.specs.StandsFor.{StandsAfter};
+ghost use Rattle.ht_trace.specs.TraceEvents.{events};
+ghost use Rattle.peak_costs.specs.Peak.{StandsFor};
 ghost use Rattle.command_frame.specs.RunsTo.{Runs};
-ghost use Rattle.commands.specs.PrintReport.{print_plan};
+ghost use Rattle.commands.specs.PrintReport.{print_plan, report_written};
 ghost use Rattle.commands.specs.Requests.{print_asked_by};
 ghost use Rattle.commands.specs.PrintWords.{reads_input_twice};
 ghost use Rattle.trace_reading.specs.SuppressionsReport.{names_behind};
@@ -38,13 +43,33 @@ pub struct PrintWriter {
 }
 
 impl TraceWriter for PrintWriter {
-    ghost use Rattle.commands.specs.PrintReport.{report_written};
-
     ghost text = { λ writer. report_written writer.options };
 
     fn put(&self, tables: Tables, peaks: Peaks, out: &mut Vec<u8>) -> Result<(), NoMemory> {
-        let suppressed = Suppressed::build(self.alloc, &tables)?;
-        put_report(self.alloc, &self.options, &tables, &peaks, &suppressed, out)
+        let done = self.put_report(&tables, &peaks, out);
+        drop(tables);
+        drop(peaks);
+        done
+    }
+}
+
+impl PrintWriter {
+    /// Appends the report of the trace whose tables and peaks these are, or `NoMemory`.
+    fn put_report(
+        &self,
+        tables: &Tables,
+        peaks: &Peaks,
+        out: &mut Vec<u8>,
+    ) -> Result<(), NoMemory>
+        requires beside { IsBeside tables.now peaks.now.ledger }
+        ensures appended { OnOk result
+            ((given lines : List (List ℕ)) → StandsAfter tables.now given lines
+            → StandsFor peaks.now (events lines)
+            → out.new.items
+            ≡ out.old.items ++ report_written self.now.options (patterns_of given) lines) }
+    {
+        let suppressed = Suppressed::build(self.alloc, tables)?;
+        put_report(self.alloc, &self.options, tables, peaks, &suppressed, out)
     }
 }
 
