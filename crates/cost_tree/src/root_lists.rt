@@ -1,6 +1,6 @@
 //! The lists of texts of a trace's stacks from their outermost frames on: a stack's list is that of the stack that it is called
 //! from, and the texts of its own node. So texts are made once a node.
-ghost use Rattle.std.specs.Prelude.{◌≡◌, ◌≢◌, ◌==◌, ◌-◌, ◌^◌, ◌<◌, ◌≤◌, All, [], ◌∷◌, ◌++◌, length, map, reverse, if◌then◌else◌, slice_index_or, IfOk, OnOk};
+ghost use Rattle.std.specs.Prelude.{◌≡◌, ◌≢◌, ◌==◌, ◌+◌, ◌-◌, ◌^◌, ◌<◌, ◌≤◌, All, [], ◌∷◌, ◌++◌, length, map, reverse, if◌then◌else◌, slice_index_or, IfOk, OnOk};
 ghost use Rattle.cost_tree.specs.declared.direction.Direction.TheVariants.{FromRoot};
 ghost use Rattle.cost_tree.specs.Needed.{Begins, LastGains};
 ghost use Rattle.cost_tree.specs.StackTexts.{lists_towards};
@@ -16,6 +16,7 @@ use std::alloc::Global;
 /// The lists of all stacks, or `NoMemory`.
 pub fn lists_from_root(alloc: Global, tables: &Tables, style: Style) -> Result<Fronts, NoMemory>
     ensures lists { IfOk result (λ fronts. fronts ≡ lists_towards FromRoot style tables.now) }
+    ensures count { IfOk result (λ fronts. length fronts ≡ length tables.now.nodes + 1) }
 {
     let mut fronts = Fronts::new(alloc);
     let mut frames = Vec::new(alloc);
