@@ -1,6 +1,6 @@
 -- Lemmas on lists that are told step by step.
 use Rattle.std.proofs.Common.{◌≡◌, ◌≢◌, ℕ, zero, suc, ◌-◌, ◌<◌, ◌≤◌, inl, inr, eqb, false, List, [], ◌∷◌, ◌++◌, length, take, get_or, refl, sym, ap, ◌∙◌, subst, arith}
-use Rattle.std.specs.Prelude.{All, Err, Ok, OnErr, OnOk, Result}
+use Rattle.std.specs.Prelude.{All}
 use Rattle.std.proofs.lemmas.Bool.{cond-false}
 use Rattle.std.proofs.lemmas.Bool.Decides.{nat_tests}
 use Rattle.std.proofs.lemmas.List.{get_or-map, length-take, length_push, map-append, same_from_push, take-append-le, take_all}
@@ -90,9 +90,3 @@ AreTold-none names = record {
   texts = All-nil (All (IsText names));
   each = λ place step at. absurd (let within = slice_get_within [] place step at in omega arith);
 }
-
--- whether a list was begun or not, the numbers are those of texts
-pub begun-kept : {T E : Type 0} (result : Result T E) (names old new : List (List ℕ)) (caller : ℕ) → (caller ≢ 0 → caller < length old) → AreTexts names old
-    → OnOk result (new ≡ old ++ caller_list old caller ∷ []) → OnErr result (new ≡ old) → AreTexts names new
-begun-kept (Ok value) names old new caller held are begun same = subst (λ (lists : List (List ℕ)). AreTexts names lists) (sym begun) (begun-held names old caller held are)
-begun-kept (Err fault) names old new caller held are begun same = subst (λ (lists : List (List ℕ)). AreTexts names lists) (sym same) are

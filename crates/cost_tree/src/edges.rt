@@ -44,6 +44,16 @@ impl Edges {
         }
     }
 
+    /// No edges, with room for so many, or `NoMemory`.
+    pub(crate) fn with_capacity(alloc: Global, count: usize) -> Result<Edges, NoMemory>
+        ensures empty { IfOk result (λ edges. edges.keys ≡ []) }
+    {
+        Ok(Edges {
+            edges: Vec::with_capacity(alloc, count)?,
+            places: HashMap::new(alloc),
+        })
+    }
+
     /// How many there are.
     pub(crate) fn len(&self) -> usize
         ensures count { result ≡ length self.now.keys }

@@ -65,7 +65,12 @@ pub fn repeat_list(fronts: &mut Fronts, caller: u32) -> Result<(), NoMemory>
         (fronts.new ≡ fronts.old
         ++ (if caller == 0 then [] else slice_index_or fronts.old caller []) ∷ []) }
 {
-    fronts.shape.begin_with(caller)
+    if caller == 0 {
+        fronts.begin()?;
+        return Ok(());
+    }
+    fronts.repeat(caller)?;
+    Ok(())
 }
 
 /// Appends the texts of the frames to the last list, the last one first. `text` is a buffer.

@@ -43,6 +43,16 @@ impl Shape {
         }
     }
 
+    /// No lists, with room for so many and for as many numbers, or `NoMemory`.
+    pub(crate) fn with_capacity(alloc: Global, count: usize) -> Result<Shape, NoMemory>
+        ensures empty { IfOk result (λ shape. shape ≡ []) }
+    {
+        Ok(Shape {
+            edges: Edges::with_capacity(alloc, count)?,
+            ends: Vec::with_capacity(alloc, count)?,
+        })
+    }
+
     /// Appends an empty list and answers its number. There must be fewer than 2^32 - 1 lists. On `NoMemory` the lists
     /// are as before.
     pub fn begin(&mut self) -> Result<u32, NoMemory>
@@ -79,7 +89,6 @@ impl Shape {
         ensures appended { OnOk result
             (self.new ≡ self.old
             ++ (if caller == 0 then [] else slice_index_or self.old caller []) ∷ []) }
-        ensures unchanged { OnErr result (self.new ≡ self.old) }
     {
         if caller == 0 {
             self.begin()?;

@@ -74,7 +74,8 @@ impl ToldLists {
         ensures same { IfOk result (λ fronts. fronts ≡ self) }
     {
         let ToldLists { names, steps } = self;
-        let mut shape = Shape::new(alloc);
+        // Each step is a list or a number more, so that none is moved while they come.
+        let mut shape = Shape::with_capacity(alloc, steps.len())?;
         'each_step: for step in &steps {
             follow(&mut shape, *step)?;
         }

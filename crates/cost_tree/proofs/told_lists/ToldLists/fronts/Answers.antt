@@ -10,7 +10,7 @@ use Rattle.cost_tree.proofs.told_lists.ToldLists.fronts.Goals as goal
 
 pub each_step-init : goal.each_step-init
 unfolding told
-each_step-init c = c.new-shape.ensures.empty
+each_step-init c = c.in_ok-shape.ensures.empty
 
 pub follow-requires : goal.follow-requires
 follow-requires c =
