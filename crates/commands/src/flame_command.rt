@@ -9,10 +9,11 @@ ghost use Rattle.commands.specs.Requests.{flame_asked_by};
 use crate::asks::Asks;
 use command_frame::{Desk, Halt};
 use command_words::{TakenWords, WordTable};
+use cost_tree::lists_from_root;
 use hp_num::NoMemory;
 use hp_outside::{Sink, Store};
-use ht_print::{FlameCost, put_flame};
-use ht_trace::Tables;
+use ht_print::{FlameCost, put_flame_of_lists, stack_costs};
+use ht_trace::{Style, Tables};
 use peak_costs::Peaks;
 use std::alloc::Global;
 use trace_reading::{TraceWriter, run_trace};
@@ -49,7 +50,11 @@ impl TraceWriter for FlameWriter {
     ghost text = { λ writer. flame_written writer.cost };
 
     fn put(&self, tables: Tables, peaks: Peaks, out: &mut Vec<u8>) -> Result<(), NoMemory> {
-        put_flame(self.alloc, self.cost, tables, peaks, out)
+        let costs = stack_costs(self.alloc, self.cost, &peaks)?;
+        drop(peaks);
+        let lists = lists_from_root(self.alloc, &tables, Style::Plain)?;
+        drop(tables);
+        put_flame_of_lists(self.alloc, lists, costs, out)
     }
 }
 

@@ -1,7 +1,7 @@
 -- Lemmas on a tree along a shape to which a whole list is added.
 use Rattle.std.proofs.Common.{◌≡◌, ℕ, zero, suc, ◌+◌, ◌<◌, ◌≤◌, Bool, true, false, List, [], ◌∷◌, ◌++◌, length, map, get_or, set, take, sum, Some, refl, sym, ap, ◌∙◌, subst, arith}
 use Rattle.std.specs.Prelude.{slice_get, slice_index}
-use Rattle.std.proofs.lemmas.List.{get_or-map, get_or_read, length-map, length-take-le, take_all, take_more}
+use Rattle.std.proofs.lemmas.List.{get_or-map, length-map, length-take-le, take_all, take_more}
 use Rattle.std.proofs.lemmas.List.Sums.{sum_by_push}
 use Rattle.std.proofs.lemmas.Option.{none-some, same_Some, slice_get_within, slice_get-get_or, slice_get_read, get_or_from_slice_get}
 use Rattle.cost_tree.specs.declared.branches.Branches.{Branches}
@@ -144,14 +144,13 @@ AreGrown shape ends costs depth tree n =
     (names : List (List ℕ)) → AreNames names shape
     → IsGrowth names shape tree (first_stacks names (lists_in shape ends) costs n) (first_stacks names (lists_in shape ends) costs n) depth
 
-pub AreGrown-more : (shape : List Edge) (ends costs : List ℕ) (depth : ℕ) (tree new : Branches) (end n : ℕ) → n < length ends → length costs ≡ length ends → end ≡ get_or ends n end
-    → GrowsBy shape end n (slice_index costs n) depth tree new → AreGrown shape ends costs depth tree n → AreGrown shape ends costs depth new (n + 1)
-AreGrown-more shape ends costs depth tree new end n within as_many read grows grown names named =
+pub AreGrown-more : (shape : List Edge) (ends costs : List ℕ) (depth : ℕ) (tree new : Branches) (n : ℕ) → n < length ends → length costs ≡ length ends
+    → GrowsBy shape (slice_index ends n) n (slice_index costs n) depth tree new → AreGrown shape ends costs depth tree n → AreGrown shape ends costs depth new (n + 1)
+AreGrown-more shape ends costs depth tree new n within as_many grows grown names named =
     let next = IsNext-is names shape ends costs n within as_many in
-    let is : end ≡ get_or ends n 0 = get_or_read ends n end within read 0 in
     let added = grows names (first_stacks names (lists_in shape ends) costs n) named next.count (grown names named) in
     let P : List Costed → Type 0 = λ stacks. IsGrowth names shape new stacks stacks depth in
-    subst P (ap (λ (k : ℕ). with_stack (first_stacks names (lists_in shape ends) costs n) (texts_of names (list_at shape k)) (slice_index costs n)) is ∙ sym next.more) added
+    subst P (sym next.more) added
 
 pub AreGrown-free : (shape : List Edge) (ends costs : List ℕ) (depth : ℕ) (tree : Branches) (n : ℕ) → n < length ends → length costs ≡ length ends → slice_index costs n ≡ 0
     → AreGrown shape ends costs depth tree n → AreGrown shape ends costs depth tree (n + 1)

@@ -34,7 +34,8 @@ pub text-named : (names : List (List ℕ)) (n : ℕ) (text : List ℕ) → name_
 unfolding text_of
 text-named names n text is = ap (λ (found : Option (List ℕ)). unwrap_or found []) is
 
-texts-last : (names old new : List (List ℕ)) (number : ℕ) → 0 < length old → AreTexts names old → IsText names number → LastGains old (number ∷ []) new → AreTexts names new
+-- a number of a text more
+pub texts-last : (names old new : List (List ℕ)) (number : ℕ) → 0 < length old → AreTexts names old → IsText names number → LastGains old (number ∷ []) new → AreTexts names new
 texts-last names old new number some are is gains =
     let earlier : List (List ℕ) = take (length old - 1) old in
     let last : List ℕ = get_or old (length old - 1) [] in

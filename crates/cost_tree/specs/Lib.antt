@@ -2,6 +2,7 @@ pub mod Costed
 pub mod EdgeState
 pub mod Shapes
 pub mod Texts
+pub mod Told
 pub mod Growth
 pub mod Ways
 pub mod Building

@@ -6,16 +6,15 @@ ghost use Rattle.cost_tree.specs.declared.node.CostNode.{CostNode};
 ghost use Rattle.cost_tree.specs.Building.{AreReached, GrowsBy, IsBuilt, IsMade, IsStarted};
 ghost use Rattle.cost_tree.specs.Costed.{costed};
 ghost use Rattle.cost_tree.specs.Growth.{HasGrown, counted, ended, weight};
-ghost use Rattle.cost_tree.specs.Shapes.{AreSteps, numbers_of};
+ghost use Rattle.cost_tree.specs.Shapes.{AreSteps, IsShape, lists_in, numbers_of};
 ghost use Rattle.cost_tree.specs.Texts.{AreTexts, lists_of};
 ghost use Rattle.cost_tree.specs.TreeParts.{IsTree};
 ghost use Rattle.cost_tree.specs.Ways.{IsWayUp};
 ghost use Rattle.intern_tables.specs.Distinct.{AreDistinct};
 
 use crate::edge::Edge;
-use crate::edges::Edges;
+use crate::edges::edge_of;
 use crate::node::CostNode;
-use crate::shape::Shape;
 use crate::summing::sum_up;
 use hp_num::NoMemory;
 use std::alloc::Global;
@@ -34,21 +33,24 @@ pub(crate) struct Branches {
 }
 
 impl Branches {
-    /// The nodes of the fronts of at most `depth` numbers of the shape's lists with these costs, or `NoMemory`.
+    /// The nodes of the fronts of at most `depth` numbers of lists with these costs, or `NoMemory`. The lists end at these of
+    /// the nodes to which the edges lead.
     pub(crate) fn of(
         alloc: Global,
-        shape: &Shape,
+        edges: &[Edge],
+        ends: &[usize],
         costs: &[u64],
         depth: usize,
     ) -> Result<Branches, NoMemory>
-        requires as_many { length costs.now ≡ length shape.now }
+        requires shape { IsShape edges.now ends.now }
+        requires as_many { length costs.now ≡ length ends.now }
         requires bound { sum costs.now ≤ 2 ^ 62 }
         ensures tree { IfOk result
             (λ branches. (names : List (List ℕ))
             → AreDistinct names
-            → AreTexts names shape.now
+            → AreTexts names (lists_in edges.now ends.now)
             → IsTree names branches.edges.items branches.nodes.items
-            (costed (lists_of names shape.now) costs.now) depth) }
+            (costed (lists_of names (lists_in edges.now ends.now)) costs.now) depth) }
         ensures some { IfOk result (λ branches. 0 < length branches.nodes.items) }
         ensures lower { IfOk result
             (λ branches. (n : ℕ) (node : CostNode)
@@ -56,7 +58,7 @@ impl Branches {
             → slice_get branches.nodes.items n ≡ Some node
             → node.parent < n) }
     {
-        let mut branches = Branches::grown(alloc, shape, costs, depth)?;
+        let mut branches = Branches::grown(alloc, edges, ends, costs, depth)?;
         sum_up(&mut branches.nodes);
         Ok(branches)
     }
@@ -64,18 +66,20 @@ impl Branches {
     /// The nodes with what the lists cost that end at each or are cut there, and node 0 with what all cost.
     fn grown(
         alloc: Global,
-        shape: &Shape,
+        edges: &[Edge],
+        ends: &[usize],
         costs: &[u64],
         depth: usize,
     ) -> Result<Branches, NoMemory>
-        requires as_many { length costs.now ≡ length shape.now }
+        requires shape { IsShape edges.now ends.now }
+        requires as_many { length costs.now ≡ length ends.now }
         requires bound { sum costs.now ≤ 2 ^ 62 }
         ensures grown { IfOk result
             (λ branches. (names : List (List ℕ))
             → AreDistinct names
-            → AreTexts names shape.now
+            → AreTexts names (lists_in edges.now ends.now)
             → HasGrown names branches.edges.items branches.nodes.items
-            (costed (lists_of names shape.now) costs.now) depth) }
+            (costed (lists_of names (lists_in edges.now ends.now)) costs.now) depth) }
         ensures some { IfOk result (λ branches. 0 < length branches.nodes.items) }
         ensures lower { IfOk result
             (λ branches. (n : ℕ) (node : CostNode)
@@ -85,18 +89,12 @@ impl Branches {
         ensures within { IfOk result
             (λ branches. sum_by weight branches.nodes.items ≤ 3 * 2 ^ 62) }
     {
-        let mut branches = Branches::new(alloc, shape.edges.len())?;
+        let mut branches = Branches::new(alloc, edges.len())?;
         'each_list: for list in 0..costs.len() {
             if costs[list] == 0 {
                 continue;
             }
-            branches.add(
-                &shape.edges,
-                shape.ends[list],
-                list as u32,
-                costs[list],
-                depth,
-            )?;
+            branches.add(edges, ends[list], list as u32, costs[list], depth)?;
         }
         Ok(branches)
     }
@@ -112,12 +110,14 @@ impl Branches {
             own: 0,
             first: 0,
         };
-        let nodes = Vec::from_slice(alloc, &[root])?;
-        let levels = Vec::from_slice(alloc, &[0])?;
+        let mut nodes = Vec::with_capacity(alloc, edges + 1)?;
+        nodes.push(root)?;
+        let mut levels = Vec::with_capacity(alloc, edges + 1)?;
+        levels.push(0)?;
         let mut numbered = vec![in alloc; 0; edges + 1]?;
         numbered[0] = 1;
         Ok(Branches {
-            edges: Vec::new(alloc),
+            edges: Vec::with_capacity(alloc, edges)?,
             nodes,
             levels,
             numbered,
@@ -129,22 +129,22 @@ impl Branches {
     /// `depth` numbers, and to that node's own cost where it has no more. `NoMemory` leaves the tree unfit for use.
     fn add(
         &mut self,
-        edges: &Edges,
+        edges: &[Edge],
         end: usize,
         list: u32,
         cost: u64,
         depth: usize,
     ) -> Result<(), NoMemory>
-        requires steps { AreSteps (λ number. number) edges.now.keys (numbers_of edges.now.keys) }
-        requires end { end ≤ length edges.now.keys }
+        requires steps { AreSteps (λ number. number) edges.now (numbers_of edges.now) }
+        requires end { end ≤ length edges.now }
         requires cost { 0 < cost }
-        requires built { IsBuilt edges.now.keys self.old }
+        requires built { IsBuilt edges.now self.old }
         requires room { sum_by weight self.old.nodes.items + 3 * cost < 2 ^ 64 }
-        ensures built { OnOk result (IsBuilt edges.now.keys self.new) }
+        ensures built { OnOk result (IsBuilt edges.now self.new) }
         ensures weight { OnOk result
             (sum_by weight self.new.nodes.items ≤ sum_by weight self.old.nodes.items + 3 * cost) }
         ensures grown { OnOk result
-            (GrowsBy edges.now.keys end list cost depth self.old self.new) }
+            (GrowsBy edges.now end list cost depth self.old self.new) }
     {
         count(&mut self.nodes[0], list, cost);
         let node = self.number(edges, end, list, depth)?;
@@ -157,20 +157,20 @@ impl Branches {
     /// yet, and so are those above it. What is left of `path` is beyond it.
     fn number(
         &mut self,
-        edges: &Edges,
+        edges: &[Edge],
         end: usize,
         list: u32,
         depth: usize,
     ) -> Result<usize, NoMemory>
-        requires steps { AreSteps (λ number. number) edges.now.keys (numbers_of edges.now.keys) }
-        requires end { end ≤ length edges.now.keys }
-        requires built { IsBuilt edges.now.keys self.old }
-        ensures built { OnOk result (IsBuilt edges.now.keys self.new) }
+        requires steps { AreSteps (λ number. number) edges.now (numbers_of edges.now) }
+        requires end { end ≤ length edges.now }
+        requires built { IsBuilt edges.now self.old }
+        ensures built { OnOk result (IsBuilt edges.now self.new) }
         ensures held { IfOk result (λ n. n < length self.new.nodes.items) }
         ensures weight { OnOk result
             (sum_by weight self.new.nodes.items ≡ sum_by weight self.old.nodes.items) }
         ensures reached { IfOk result
-            (λ n. AreReached edges.now.keys end list depth self.old self.new n) }
+            (λ n. AreReached edges.now end list depth self.old self.new n) }
     {
         let mut node = climb(edges, &self.numbered, end, &mut self.path)?;
         'each_node: while self.levels[node] < depth {
@@ -185,23 +185,23 @@ impl Branches {
     /// The node of a node of the shape that has none yet, below the node of the shape's node above it.
     fn make(
         &mut self,
-        edges: &Edges,
+        edges: &[Edge],
         parent: usize,
         place: usize,
         list: u32,
     ) -> Result<usize, NoMemory>
         requires place { 0 < place }
-        requires within { place ≤ length edges.now.keys }
+        requires within { place ≤ length edges.now }
         requires parent { parent < length self.old.nodes.items }
         requires level { slice_index self.old.levels.items parent < 2 ^ 64 - 1 }
-        requires built { IsBuilt edges.now.keys self.old }
+        requires built { IsBuilt edges.now self.old }
         ensures made { IfOk result
-            (λ n. IsMade edges.now.keys parent place list self.old self.new n) }
-        ensures built { OnOk result (IsBuilt edges.now.keys self.new) }
+            (λ n. IsMade edges.now parent place list self.old self.new n) }
+        ensures built { OnOk result (IsBuilt edges.now self.new) }
         ensures weight { OnOk result
             (sum_by weight self.new.nodes.items ≡ sum_by weight self.old.nodes.items) }
     {
-        let text = edges.edge_of(place).text;
+        let text = edge_of(edges, place).text;
         let level = self.levels[parent] + 1;
         self.edges.push(Edge { parent, text })?;
         self.nodes.push(CostNode {
@@ -220,23 +220,23 @@ impl Branches {
 /// Replaces `path` by the nodes of the shape from the end up to the first that has a node of the tree, without this one,
 /// and answers its node.
 fn climb(
-    edges: &Edges,
+    edges: &[Edge],
     numbered: &[usize],
     end: usize,
     path: &mut Vec<usize>,
 ) -> Result<usize, NoMemory>
-    requires steps { AreSteps (λ number. number) edges.now.keys (numbers_of edges.now.keys) }
-    requires end { end ≤ length edges.now.keys }
-    requires count { length numbered.now ≡ length edges.now.keys + 1 }
+    requires steps { AreSteps (λ number. number) edges.now (numbers_of edges.now) }
+    requires end { end ≤ length edges.now }
+    requires count { length numbered.now ≡ length edges.now + 1 }
     requires root { slice_index numbered.now 0 ≡ 1 }
     ensures way { IfOk result
-        (λ n. IsWayUp edges.now.keys numbered.now end path.new.items n) }
+        (λ n. IsWayUp edges.now numbered.now end path.new.items n) }
 {
     path.clear();
     let mut place = end;
     'each_node: while numbered[place] == 0 {
         path.push(place)?;
-        place = edges.edge_of(place).parent;
+        place = edge_of(edges, place).parent;
     }
     Ok(numbered[place] - 1)
 }

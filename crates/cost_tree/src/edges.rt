@@ -44,6 +44,16 @@ impl Edges {
         }
     }
 
+    /// No edges, with room for so many, or `NoMemory`.
+    pub(crate) fn with_capacity(alloc: Global, count: usize) -> Result<Edges, NoMemory>
+        ensures empty { IfOk result (λ edges. edges.keys ≡ []) }
+    {
+        Ok(Edges {
+            edges: Vec::with_capacity(alloc, count)?,
+            places: HashMap::new(alloc),
+        })
+    }
+
     /// How many there are.
     pub(crate) fn len(&self) -> usize
         ensures count { result ≡ length self.now.keys }
@@ -58,7 +68,22 @@ impl Edges {
         requires held { node ≤ length self.now.keys }
         ensures edge { slice_get self.now.keys (node - 1) ≡ Some result }
     {
-        self.edges[node - 1]
+        edge_of(&self.edges, node)
+    }
+
+    /// All of them, in order.
+    pub(crate) fn list(&self) -> &[Edge]
+        ensures edges { result.now ≡ self.now.keys }
+    {
+        &self.edges
+    }
+
+    /// All of them, in order; the index is let go.
+    pub(crate) fn into_list(self) -> Vec<Edge>
+        ensures edges { result.items ≡ self.keys }
+    {
+        let Edges { edges, places: _ } = self;
+        edges
     }
 
     /// The place of the edge, which is put behind all others where it is new. On `NoMemory` there is none more.
@@ -90,6 +115,15 @@ impl Edges {
         }
         Some(place)
     }
+}
+
+/// The edge of the node, which must be held and not be node 0.
+pub(crate) fn edge_of(edges: &[Edge], node: usize) -> Edge
+    requires some { 0 < node }
+    requires held { node ≤ length edges.now }
+    ensures edge { slice_get edges.now (node - 1) ≡ Some result }
+{
+    edges[node - 1]
 }
 
 /// Whether the edge stands at the place.

@@ -14,7 +14,7 @@
 //!   from one end (`lists_towards`). From the root it makes the texts of each node once, and its memory goes by nodes. From
 //!   the allocation it makes no text of a stack that costs nothing, and of each other stack one text more than `depth` at
 //!   most. `lists_from_root` and `CostTree::of_lists` are its two steps from the root, for a caller that lets go the tables
-//!   between them.
+//!   between them: the first one tells the lists (`ToldLists`), and the second one looks for their fronts.
 //! - `CutFronts` keeps lists cut behind fronts that have no line: `lengthen` makes them so long that the lines of `of_cut`'s tree
 //!   are those of the whole lists, with these costs.
 //! - A node says its parent, which stands before it, its cost, its own cost and the first stack. `text` is its front's
@@ -29,6 +29,7 @@
 //! |---|---|
 //! | `shape.rt`, `edge.rt`, `edges.rt` | lists of numbers that share their fronts; how a node goes on from another, and those that do |
 //! | `fronts.rt` | lists of texts |
+//! | `told_lists.rt`, `list_step.rt` | lists of texts as they are told, and one step of that |
 //! | `trace_lists.rt`, `stack_lists.rt`, `root_lists.rt`, `direction.rt` | those of a trace's stacks; from the allocation, and from the root; from which end |
 //! | `cut_fronts.rt`, `cut.rt`, `ends.rt` | lists of texts that are cut, and of numbers; what lists cost together that end at one node |
 //! | `costing.rt`, `frame_test.rt` | what each stack costs, and which names are meant, by closures |
@@ -55,12 +56,14 @@ mod line;
 mod lines;
 mod linked;
 mod links;
+mod list_step;
 mod node;
 mod root_lists;
 mod scale;
 mod shape;
 mod stack_lists;
 mod summing;
+mod told_lists;
 mod trace_lists;
 mod tree;
 
@@ -75,4 +78,5 @@ pub use node::CostNode;
 pub use root_lists::{lists_from_root, repeat_list};
 pub use scale::Scale;
 pub use shape::Shape;
+pub use told_lists::ToldLists;
 pub use tree::CostTree;

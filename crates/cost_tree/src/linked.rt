@@ -1,15 +1,13 @@
 //! The nodes of a tree with the links to their children, by the numbers of a shape.
-ghost use Rattle.std.specs.Prelude.{◌≡◌, ℕ, ◌^◌, ◌≤◌, List, length, sum, IfOk};
-ghost use Rattle.cost_tree.specs.Costed.{costed};
-ghost use Rattle.cost_tree.specs.Texts.{AreTexts, lists_of};
-ghost use Rattle.cost_tree.specs.TreeParts.{IsLinkedTree};
-ghost use Rattle.intern_tables.specs.Distinct.{AreDistinct};
+ghost use Rattle.std.specs.Prelude.{◌≡◌, ℕ, ◌<◌, List, Some, length, slice_get, IfOk};
+ghost use Rattle.cost_tree.specs.declared.node.CostNode.{CostNode};
+ghost use Rattle.cost_tree.specs.Costed.{Costed};
+ghost use Rattle.cost_tree.specs.TreeParts.{IsLinkedTree, IsTree};
 
 use crate::branches::Branches;
 use crate::edge::Edge;
 use crate::links::Links;
 use crate::node::CostNode;
-use crate::shape::Shape;
 use hp_num::NoMemory;
 use std::alloc::Global;
 
@@ -22,24 +20,28 @@ pub(crate) struct Linked {
 }
 
 impl Linked {
-    /// That of the shape's lists with these costs, to fronts of at most `depth` numbers, or `NoMemory`: for any names of the
-    /// numbers, it is the tree of the lists of these.
-    pub(crate) fn of(
-        alloc: Global,
-        shape: &Shape,
-        costs: &[u64],
-        depth: usize,
-    ) -> Result<Linked, NoMemory>
-        requires as_many { length costs.now ≡ length shape.now }
-        requires bound { sum costs.now ≤ 2 ^ 62 }
+    /// The branches with their links, or `NoMemory`. What they needed to grow is let go first.
+    pub(crate) fn of(alloc: Global, branches: Branches) -> Result<Linked, NoMemory>
+        requires some { 0 < length branches.nodes.items }
+        requires lower { (n : ℕ) (node : CostNode)
+            → 0 < n
+            → slice_get branches.nodes.items n ≡ Some node
+            → node.parent < n }
         ensures tree { IfOk result
-            (λ linked. (names : List (List ℕ))
-            → AreDistinct names
-            → AreTexts names shape.now
-            → IsLinkedTree names linked (costed (lists_of names shape.now) costs.now) depth) }
+            (λ linked. (names : List (List ℕ)) (stacks : List Costed) (depth : ℕ)
+            → IsTree names branches.edges.items branches.nodes.items stacks depth
+            → IsLinkedTree names linked stacks depth) }
     {
-        let branches = Branches::of(alloc, shape, costs, depth)?;
-        let Branches { edges, nodes, .. } = branches;
+        let Branches {
+            edges,
+            nodes,
+            levels,
+            numbered,
+            path,
+        } = branches;
+        drop(levels);
+        drop(numbered);
+        drop(path);
         let links = Links::of(alloc, &nodes)?;
         Ok(Linked {
             edges,

@@ -1,6 +1,6 @@
 //! The lists of texts of a trace's stacks from their outermost frames on: a stack's list is that of the stack that it is called
 //! from, and the texts of its own node. So texts are made once a node.
-ghost use Rattle.std.specs.Prelude.{◌≡◌, ◌≢◌, ◌==◌, ◌-◌, ◌^◌, ◌<◌, ◌≤◌, All, [], ◌∷◌, ◌++◌, length, map, reverse, if◌then◌else◌, slice_index_or, IfOk, OnOk};
+ghost use Rattle.std.specs.Prelude.{◌≡◌, ◌≢◌, ◌==◌, ◌+◌, ◌-◌, ◌^◌, ◌<◌, ◌≤◌, All, [], ◌∷◌, ◌++◌, length, map, reverse, if◌then◌else◌, slice_index_or, IfOk, OnOk};
 ghost use Rattle.cost_tree.specs.declared.direction.Direction.TheVariants.{FromRoot};
 ghost use Rattle.cost_tree.specs.Needed.{Begins, LastGains};
 ghost use Rattle.cost_tree.specs.StackTexts.{lists_towards};
@@ -9,22 +9,24 @@ ghost use Rattle.ht_trace.specs.IsFrame.{IsFrame};
 
 use crate::fronts::Fronts;
 use crate::stack_lists::push_texts;
+use crate::told_lists::ToldLists;
 use hp_num::NoMemory;
 use ht_trace::{FrameAt, Style, Tables};
 use std::alloc::Global;
 
 /// The lists of all stacks, or `NoMemory`.
-pub fn lists_from_root(alloc: Global, tables: &Tables, style: Style) -> Result<Fronts, NoMemory>
-    ensures lists { IfOk result (λ fronts. fronts ≡ lists_towards FromRoot style tables.now) }
+pub fn lists_from_root(alloc: Global, tables: &Tables, style: Style) -> Result<ToldLists, NoMemory>
+    ensures lists { IfOk result (λ lists. lists ≡ lists_towards FromRoot style tables.now) }
+    ensures count { IfOk result (λ lists. length lists ≡ length tables.now.nodes + 1) }
 {
-    let mut fronts = Fronts::new(alloc);
+    let mut lists = ToldLists::new(alloc);
     let mut frames = Vec::new(alloc);
     let mut text = Vec::new(alloc);
     'each_stack: for stack in 0..tables.stacks() {
-        begin_list(tables, stack, &mut fronts, &mut frames)?;
-        push_turned(tables, style, &mut fronts, &mut frames, &mut text)?;
+        begin_list(tables, stack, &mut lists, &mut frames)?;
+        push_turned(tables, style, &mut lists, &mut frames, &mut text)?;
     }
-    Ok(fronts)
+    Ok(lists)
 }
 
 /// Begins the list of the stack with that of the stack that it is called from, and replaces `frames` by those that follow,
@@ -32,23 +34,23 @@ pub fn lists_from_root(alloc: Global, tables: &Tables, style: Style) -> Result<F
 fn begin_list(
     tables: &Tables,
     stack: u32,
-    fronts: &mut Fronts,
+    lists: &mut ToldLists,
     frames: &mut Vec<FrameAt>,
 ) -> Result<(), NoMemory>
     requires held { stack ≤ length tables.now.nodes }
-    requires few { length fronts.old < 2 ^ 32 - 1 }
-    requires before { length fronts.old ≡ stack }
+    requires few { length lists.old < 2 ^ 32 - 1 }
+    requires before { length lists.old ≡ stack }
     ensures begun { OnOk result
-        (Begins tables.now stack frames.new.items fronts.old fronts.new) }
+        (Begins tables.now stack frames.new.items lists.old lists.new) }
     ensures frames { OnOk result (All (λ at. IsFrame tables.now at) frames.new.items) }
 {
     match tables.node(stack) {
         Some((instruction, caller)) => {
-            repeat_list(fronts, caller)?;
+            lists.begin(caller)?;
             tables.instruction_frames_into(instruction, frames)
         }
         None => {
-            fronts.begin()?;
+            lists.begin(0)?;
             tables.frames_into(stack, frames)
         }
     }
@@ -75,18 +77,18 @@ pub fn repeat_list(fronts: &mut Fronts, caller: u32) -> Result<(), NoMemory>
 fn push_turned(
     tables: &Tables,
     style: Style,
-    fronts: &mut Fronts,
+    lists: &mut ToldLists,
     frames: &mut Vec<FrameAt>,
     text: &mut Vec<u8>,
 ) -> Result<(), NoMemory>
     requires frames { All (λ at. IsFrame tables.now at) frames.old.items }
-    requires begun { 0 < length fronts.old }
+    requires begun { 0 < length lists.old }
     ensures gained { OnOk result
-        (LastGains fronts.old (map (frame_text style tables.now) (reverse frames.old.items))
-        fronts.new) }
+        (LastGains lists.old (map (frame_text style tables.now) (reverse frames.old.items))
+        lists.new) }
 {
     turn(frames);
-    push_texts(tables, frames, style, fronts, text)
+    push_texts(tables, frames, style, lists, text)
 }
 
 /// Turns a list that begins at the innermost frame round.

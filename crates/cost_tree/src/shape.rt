@@ -1,6 +1,6 @@
 //! Lists of numbers that share their fronts: a front is kept once, as a node, and a list as the node where it ends.
 //! What the numbers stand for, and what the lists cost, are no part of it.
-ghost use Rattle.std.specs.Prelude.{◌≡◌, ℕ, ◌+◌, ◌-◌, ◌^◌, ◌<◌, ◌≤◌, List, [], ◌∷◌, ◌++◌, length, map, reverse, sum, IfOk, OnOk, OnErr, slice_index_or};
+ghost use Rattle.std.specs.Prelude.{◌≡◌, ◌≢◌, ◌==◌, ℕ, ◌+◌, ◌-◌, ◌^◌, ◌<◌, ◌≤◌, List, [], ◌∷◌, ◌++◌, if◌then◌else◌, length, map, reverse, sum, IfOk, OnOk, OnErr, slice_index_or};
 ghost use Rattle.cost_tree.specs.declared.edge.Edge.{Edge};
 ghost use Rattle.cost_tree.specs.CutShapes.{equal_cost};
 ghost use Rattle.cost_tree.specs.Shapes.{AreSteps, IsChild, list_at, numbers_of};
@@ -43,6 +43,16 @@ impl Shape {
         }
     }
 
+    /// No lists, with room for so many and for as many numbers, or `NoMemory`.
+    pub(crate) fn with_capacity(alloc: Global, count: usize) -> Result<Shape, NoMemory>
+        ensures empty { IfOk result (λ shape. shape ≡ []) }
+    {
+        Ok(Shape {
+            edges: Edges::with_capacity(alloc, count)?,
+            ends: Vec::with_capacity(alloc, count)?,
+        })
+    }
+
     /// Appends an empty list and answers its number. There must be fewer than 2^32 - 1 lists. On `NoMemory` the lists
     /// are as before.
     pub fn begin(&mut self) -> Result<u32, NoMemory>
@@ -70,6 +80,22 @@ impl Shape {
         let end = self.ends[earlier as usize];
         self.ends.push(end)?;
         Ok(number)
+    }
+
+    /// Appends the list of the caller, which must be held; for 0 an empty one. There must be fewer than 2^32 - 1 lists.
+    pub(crate) fn begin_with(&mut self, caller: u32) -> Result<(), NoMemory>
+        requires held { caller ≢ 0 → caller < length self.old }
+        requires few { length self.old < 2 ^ 32 - 1 }
+        ensures appended { OnOk result
+            (self.new ≡ self.old
+            ++ (if caller == 0 then [] else slice_index_or self.old caller []) ∷ []) }
+    {
+        if caller == 0 {
+            self.begin()?;
+            return Ok(());
+        }
+        self.repeat(caller)?;
+        Ok(())
     }
 
     /// Appends the number to the last list, of which there must be one. On `NoMemory` the lists are as before.

@@ -7,7 +7,7 @@ ghost use Rattle.cost_tree.specs.StackTexts.{stack_texts, towards};
 ghost use Rattle.ht_trace.specs.FrameText.{frame_text};
 ghost use Rattle.ht_trace.specs.IsFrame.{IsFrame};
 
-use crate::fronts::Fronts;
+use crate::told_lists::ToldLists;
 use hp_num::NoMemory;
 use ht_trace::{FrameAt, Style, Tables};
 use std::alloc::Global;
@@ -33,21 +33,21 @@ pub(crate) fn stack_lists(
     tables: &Tables,
     costs: &[u64],
     form: ListForm,
-) -> Result<Fronts, NoMemory>
+) -> Result<ToldLists, NoMemory>
     requires as_many { length costs.now ≡ length tables.now.nodes + 1 }
     ensures lists { IfOk result
-        (λ fronts. fronts ≡ needed_lists FromAllocation form.style tables.now form.most costs.now) }
+        (λ lists. lists ≡ needed_lists FromAllocation form.style tables.now form.most costs.now) }
 {
-    let mut fronts = Fronts::new(alloc);
+    let mut lists = ToldLists::new(alloc);
     let mut buffers = Buffers {
         frames: Vec::new(alloc),
         text: Vec::new(alloc),
     };
     'each_stack: for stack in 0..tables.stacks() {
         let cost = costs[stack as usize];
-        add_stack(tables, stack, cost, form, &mut fronts, &mut buffers)?;
+        add_stack(tables, stack, cost, form, &mut lists, &mut buffers)?;
     }
-    Ok(fronts)
+    Ok(lists)
 }
 
 /// Appends the list of the stack.
@@ -56,21 +56,21 @@ fn add_stack(
     stack: u32,
     cost: u64,
     form: ListForm,
-    fronts: &mut Fronts,
+    lists: &mut ToldLists,
     buffers: &mut Buffers,
 ) -> Result<(), NoMemory>
     requires held { stack ≤ length tables.now.nodes }
-    requires few { length fronts.old < 2 ^ 32 - 1 }
+    requires few { length lists.old < 2 ^ 32 - 1 }
     ensures added { OnOk result
-        (fronts.new ≡ fronts.old
+        (lists.new ≡ lists.old
         ++ needed form.most cost (towards FromAllocation (stack_texts form.style tables.now stack))
         ∷ []) }
 {
-    fronts.begin()?;
+    lists.begin(0)?;
     if cost == 0 {
         return Ok(());
     }
-    push_stack(tables, stack, form, fronts, buffers)
+    push_stack(tables, stack, form, lists, buffers)
 }
 
 /// Appends the texts of the stack to the last list, of which there must be one.
@@ -78,20 +78,20 @@ fn push_stack(
     tables: &Tables,
     stack: u32,
     form: ListForm,
-    fronts: &mut Fronts,
+    lists: &mut ToldLists,
     buffers: &mut Buffers,
 ) -> Result<(), NoMemory>
     requires held { stack ≤ length tables.now.nodes }
-    requires begun { 0 < length fronts.old }
+    requires begun { 0 < length lists.old }
     ensures gained { OnOk result
-        (LastGains fronts.old
+        (LastGains lists.old
         (take form.most (towards FromAllocation (stack_texts form.style tables.now stack)))
-        fronts.new) }
+        lists.new) }
 {
     let Buffers { frames, text } = buffers;
     tables.frames_into(stack, frames)?;
     frames.truncate(form.most);
-    push_texts(tables, frames, form.style, fronts, text)
+    push_texts(tables, frames, form.style, lists, text)
 }
 
 /// Appends the texts of the frames to the last list, of which there must be one. `text` is a buffer.
@@ -99,18 +99,18 @@ pub(crate) fn push_texts(
     tables: &Tables,
     frames: &[FrameAt],
     style: Style,
-    fronts: &mut Fronts,
+    lists: &mut ToldLists,
     text: &mut Vec<u8>,
 ) -> Result<(), NoMemory>
     requires frames { All (λ at. IsFrame tables.now at) frames.now }
-    requires begun { 0 < length fronts.old }
+    requires begun { 0 < length lists.old }
     ensures gained { OnOk result
-        (LastGains fronts.old (map (frame_text style tables.now) frames.now) fronts.new) }
+        (LastGains lists.old (map (frame_text style tables.now) frames.now) lists.new) }
 {
     'each_frame: for at in frames {
         text.clear();
         tables.put_frame(at, style, text)?;
-        fronts.push(text)?;
+        lists.push(text)?;
     }
     Ok(())
 }

@@ -3,9 +3,9 @@ ghost use Rattle.std.specs.Prelude.{◌≡◌, ◌+◌, length, IfOk};
 ghost use Rattle.cost_tree.specs.Needed.{StandFor};
 
 use crate::direction::Direction;
-use crate::fronts::Fronts;
 use crate::root_lists::lists_from_root;
 use crate::stack_lists::{ListForm, stack_lists};
+use crate::told_lists::ToldLists;
 use hp_num::NoMemory;
 use ht_trace::{Style, Tables};
 use std::alloc::Global;
@@ -18,10 +18,10 @@ pub(crate) fn trace_lists(
     direction: Direction,
     style: Style,
     depth: u32,
-) -> Result<Fronts, NoMemory>
+) -> Result<ToldLists, NoMemory>
     requires as_many { length costs.now ≡ length tables.now.nodes + 1 }
     ensures lists { IfOk result
-        (λ fronts. StandFor direction style tables.now costs.now depth fronts) }
+        (λ lists. StandFor direction style tables.now costs.now depth lists) }
 {
     match direction {
         Direction::FromAllocation => {

@@ -10,6 +10,7 @@ ghost use Rattle.cost_tree.specs.StackTexts.{lists_towards};
 ghost use Rattle.cost_tree.specs.Texts.{AreTexts, lists_of};
 ghost use Rattle.cost_tree.specs.TreeLines.{HasLines};
 
+use crate::branches::Branches;
 use crate::costing::Costing;
 use crate::cut_fronts::CutFronts;
 use crate::direction::Direction;
@@ -20,6 +21,7 @@ use crate::linked::Linked;
 use crate::links::Links;
 use crate::node::CostNode;
 use crate::shape::Shape;
+use crate::told_lists::ToldLists;
 use crate::trace_lists::trace_lists;
 use hp_num::NoMemory;
 use ht_trace::{Style, Tables};
@@ -130,30 +132,36 @@ impl<'a> CostTree<'a> {
             (λ tree. IsTreeOf tree (costed (lists_towards direction style tables.now) costs.now)
             depth) }
     {
-        let fronts = trace_lists(alloc, tables, costs, direction, style, depth)?;
-        CostTree::of_lists(alloc, fronts, costs, depth)
+        let lists = trace_lists(alloc, tables, costs, direction, style, depth)?;
+        CostTree::of_lists(alloc, lists, costs, depth)
     }
 
     /// The tree of the lists with these costs, to fronts of at most `depth` texts, or `NoMemory`. It has their texts for its own,
     /// and lets go all else of the lists.
     pub fn of_lists(
         alloc: Global,
-        fronts: Fronts,
+        lists: ToldLists,
         costs: &[u64],
         depth: u32,
     ) -> Result<CostTree<'a>, NoMemory>
-        requires as_many { length costs.now ≡ length fronts }
+        requires as_many { length costs.now ≡ length lists }
         requires bound { sum costs.now ≤ 2 ^ 62 }
-        ensures tree { IfOk result (λ tree. IsTreeOf tree (costed fronts costs.now) depth) }
+        ensures tree { IfOk result (λ tree. IsTreeOf tree (costed lists costs.now) depth) }
     {
-        let Fronts { names, shape } = fronts;
+        let Fronts { names, shape } = lists.fronts(alloc)?;
         // Says that no two names are equal.
         let _count = names.len();
+        let Shape { edges, ends } = shape;
+        // The index of the edges is let go before the tree grows.
+        let edges = edges.into_list();
+        let branches = Branches::of(alloc, &edges, &ends, costs, depth as usize)?;
+        drop(edges);
+        drop(ends);
         let Linked {
             edges,
             nodes,
             links,
-        } = Linked::of(alloc, &shape, costs, depth as usize)?;
+        } = Linked::of(alloc, branches)?;
         Ok(CostTree {
             names: HeldNames::Own { names },
             edges,
@@ -194,11 +202,13 @@ impl<'a> CostTree<'a> {
         // Says that no two names are equal, and that there are few lists.
         let _count = names.len();
         let _lists = shape.len();
+        let edges = shape.edges.list();
+        let branches = Branches::of(alloc, edges, &shape.ends, costs, depth as usize)?;
         let Linked {
             edges,
             nodes,
             links,
-        } = Linked::of(alloc, shape, costs, depth as usize)?;
+        } = Linked::of(alloc, branches)?;
         Ok(CostTree {
             names: HeldNames::Lent { names },
             edges,

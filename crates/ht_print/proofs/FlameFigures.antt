@@ -1,17 +1,12 @@
 -- Lemmas on what stacks cost.
-use Rattle.std.proofs.Common.{◌≡◌, ℕ, ◌+◌, ◌^◌, ◌<◌, ◌≤◌, List, length, map, reverse, Some, refl, sym, ap, ◌∙◌, arith}
+use Rattle.std.proofs.Common.{◌≡◌, ℕ, ◌^◌, ◌<◌, ◌≤◌, List, length, map, Some, refl, sym, ap, ◌∙◌, arith}
 use Rattle.std.specs.Prelude.{slice_get, slice_index, slice_index_or, sum}
 use Rattle.std.specs.List.{range_with_len}
 use Rattle.std.proofs.Math.ListN as lists
 use Rattle.std.proofs.lemmas.List.FromFn.{fill_by_all}
 use Rattle.std.proofs.lemmas.List.{length-map}
-use Rattle.std.proofs.lemmas.List.FromFn.{length-map-range_with_len}
 use Rattle.std.proofs.lemmas.List.Sums.{sum-map}
 use Rattle.std.proofs.lemmas.Option.{slice_get-get_or}
-use Rattle.cost_tree.specs.declared.direction.Direction.TheVariants.{FromRoot}
-use Rattle.cost_tree.specs.StackTexts.{lists_towards, stack_texts}
-use Rattle.ht_trace.specs.declared.frame.Style.TheVariants.{Plain}
-use Rattle.ht_trace.specs.TableState.{TableState}
 use Rattle.live_ledger.specs.declared.figures.Figures.{Figures}
 use Rattle.live_ledger.specs.declared.event.Event.{Event}
 use Rattle.live_ledger.specs.InStack.{live_in}
@@ -22,11 +17,6 @@ use Rattle.ht_print.proofs.PeakLemmas.{moment_is}
 use Rattle.ht_print.specs.FlameCosts.{cost_in, flame_costs, trace_costs}
 use Rattle.ht_print.specs.declared.flame.FlameCost.{FlameCost}
 use Rattle.ht_print.specs.declared.flame.FlameCost.TheVariants.{Allocations, Temporary, Leaked, Peak}
-
--- there is a list for each stack
-pub lists-count : (tables : TableState) → length (lists_towards FromRoot Plain tables) ≡ length tables.nodes + 1
-unfolding lists_towards
-lists-count tables = length-map-range_with_len (λ n. reverse (stack_texts Plain tables n)) 0 (length tables.nodes + 1)
 
 -- there is a cost for each stack
 pub flame_costs-count : (cost : FlameCost) (peaks : PeakState) → IsSound peaks → length (flame_costs cost peaks) ≡ peaks.ledger.stacks

@@ -42,10 +42,13 @@ flame_of zero stacks front = flame_line front (own front stacks)
 flame_of (suc more) stacks front = flame_line front (own front stacks)
     ++ flat_map (λ next. flame_of more stacks next) (next_fronts front stacks)
 
+-- the lines of lists of texts with these costs
+unfoldable pub flame_of_lists : List (List (List ℕ)) → List ℕ → List ℕ
+flame_of_lists lists costs = flame_of most_frames (costed lists costs) []
+
 -- the lines of the stacks of a trace, whose texts are read from the outermost frame on
-unfoldable pub flame_text : TableState → List ℕ → List ℕ
-flame_text tables costs = flame_of most_frames (costed (lists_towards FromRoot Plain tables) costs)
-    []
+abbrev pub flame_text : TableState → List ℕ → List ℕ
+flame_text tables costs = flame_of_lists (lists_towards FromRoot Plain tables) costs
 
 -- the lines of a trace with these tables and events
 abbrev pub flame_of_trace : FlameCost → TableState → List Event → List ℕ

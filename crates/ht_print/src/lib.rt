@@ -9,27 +9,30 @@
 //! - `put_histogram`: the nine ranges of sizes (`histogram_text`); its ledger is beside its tables (`IsBeside`).
 //! - `put_flame`: the flame stacks by one of four costs. For each list of texts that some stacks have there is a line
 //!   with these stacks' sum, told by the tables and the peaks (`appended`) and by the tables and the events (`trace`).
+//!   Its steps are calls of their own, for a caller that lets the peaks go after the first and the tables after the second:
+//!   `stack_costs`, `lists_from_root` of `cost_tree`, and `put_flame_of_lists`.
 //! - `put_report`: a report by `PrintOptions`, up to four sections of the stacks, the histogram, and the summary
 //!   (`report_of_trace`).
 //! - `Suppressed::build` answers for each stack whether a pattern of the tables stands in the text of one of its
 //!   frames, and `has` gives one stack's answer.
 //!
-//! How: flame stacks are a walk over the tree of the stacks from the root, with a list of the nodes that are left, the
-//! next one last. The text of a node's front is made of the one before it (`FrontText`), which is cut back to what both fronts
-//! begin with, so that a node's text is read once and a line is one append. `put_flame` lets the peaks go once the costs are
-//! taken, and the tables once the texts are made. A section is made of the figures of all stacks: those that aren't 0 become entries, which are sorted once
-//! (`ordered_stacks`). Where stacks are merged, the text of an innermost frame is made once a report and numbered, and
-//! each stack has its number (`TellPlaces`). By these numbers each stack of a section is linked to the last one before it
-//! with the same text (`ArePlaced`); along the links a group is summed up (`ordered_groups`), and its stacks are found in
-//! their order. Only what is shown is written, each frame's text straight into the output. Patterns of suppressions are
-//! asked once for a frame: of those in order that don't begin with another, a text can begin only with the last that
-//! isn't behind it (`AreLeast`); what a stack's own instruction and its caller answer is the stack's answer.
+//! How: flame stacks are a walk over the tree of the stacks from the root, with a list of the nodes that are left, the next
+//! one last. The text of a node's front is made of the one before it (`FrontText`), which is cut back to what both fronts
+//! begin with, so that a node's text is read once and a line is one append. A section is made of the figures of all stacks:
+//! those that aren't 0 become entries, which are sorted once (`ordered_stacks`). Where stacks are merged, the text of an
+//! innermost frame is made once a report and numbered, and each stack has its number (`TellPlaces`). By these numbers each
+//! stack of a section is linked to the last one before it with the same text (`ArePlaced`); along the links a group is summed
+//! up (`ordered_groups`), and its stacks are found in their order. Only what is shown is written, each frame's text straight
+//! into the output. Patterns of suppressions are asked once for a frame: of those in order that don't begin with another, a
+//! text can begin only with the last that isn't behind it (`AreLeast`); what a stack's own instruction and its caller answer
+//! is the stack's answer.
 //!
 //! The tests of these calls are the crate `ht_print_tests`.
 //!
 //! | File | Does |
 //! |---|---|
 //! | `summary.rt`, `histogram.rt` | the six lines; the nine ranges of sizes |
+//! | `costs.rt` | what each stack costs by one of four figures |
 //! | `flame.rt`, `flame_lines.rt`, `front_text.rt` | flame stacks, the walk that writes them, and the text of a front |
 //! | `report.rt`, `options.rt`, `layout.rt` | the report: which parts are asked for, and the figures of each |
 //! | `section.rt` | a section around its entries; the leaks without those of suppressed stacks |
@@ -41,6 +44,7 @@
 //! | `met_frames.rt`, `least_patterns.rt` | in which frames a pattern stands; whether one of some patterns stands in a text |
 #![tactic(auto)]
 
+mod costs;
 mod entry;
 mod flame;
 mod flame_lines;
@@ -61,7 +65,8 @@ mod section;
 mod summary;
 mod suppressed;
 
-pub use flame::{FlameCost, put_flame};
+pub use costs::stack_costs;
+pub use flame::{FlameCost, put_flame, put_flame_of_lists};
 pub use histogram::put_histogram;
 pub use options::PrintOptions;
 pub use report::put_report;

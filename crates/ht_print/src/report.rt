@@ -2,12 +2,11 @@
 //! How a section is written is in `section`.
 #![tactic(auto, using(crate::proofs::FlameLemmas::extends_same, crate::proofs::FlameLemmas::extends_more, crate::proofs::FlameLemmas::extends_trans))]
 
-ghost use Rattle.std.specs.Prelude.{◌≡◌, ℕ, ◌+◌, ◌^◌, ◌<◌, ◌≤◌, List, [], ◌++◌, codes, if◌then◌else◌, length, sum, IfOk, OnErr, OnOk};
+ghost use Rattle.std.specs.Prelude.{◌≡◌, List, [], ◌++◌, codes, if◌then◌else◌, IfOk, OnErr, OnOk};
 ghost use Rattle.live_ledger.specs.declared.event.Event.{Event};
 ghost use Rattle.hp_num.specs.Extends.{Extends};
 ghost use Rattle.ht_trace.specs.LedgerFits.{IsBeside};
 ghost use Rattle.peak_costs.specs.Peak.{StandsFor};
-ghost use Rattle.peak_costs.specs.PeakState.{IsSound};
 ghost use Rattle.ht_print.specs.FlameCosts.{flame_costs};
 ghost use Rattle.ht_print.specs.HasGroups.{has_groups};
 ghost use Rattle.ht_print.specs.Histogram.{histogram_text};
@@ -15,7 +14,8 @@ ghost use Rattle.ht_print.specs.Places.{HavePlaces};
 ghost use Rattle.ht_print.specs.ReportText.{first_sections, last_sections, leaks_text, report_of_trace, section_text};
 ghost use Rattle.ht_print.specs.Suppressed.{suppressed_stacks};
 
-use crate::flame::{FlameCost, cost_of};
+use crate::costs::stack_costs;
+use crate::flame::FlameCost;
 use crate::histogram::put_histogram;
 use crate::layout::Layout;
 use crate::options::PrintOptions;
@@ -108,7 +108,6 @@ fn put_first_sections(
     requires beside { IsBeside layout.now.tables.now peaks.now.ledger }
     requires places { HavePlaces (has_groups layout.now.options) layout.now.tables.now
         layout.now.places.now }
-    requires sound { IsSound peaks.now }
     ensures appended { OnOk result
         (out.new.items ≡ out.old.items
         ++ first_sections layout.now.options layout.now.tables.now
@@ -131,7 +130,6 @@ fn put_last_sections(
     requires beside { IsBeside layout.now.tables.now peaks.now.ledger }
     requires places { HavePlaces (has_groups layout.now.options) layout.now.tables.now
         layout.now.places.now }
-    requires sound { IsSound peaks.now }
     requires suppressed { suppressed.now ≡ suppressed_stacks layout.now.tables.now }
     ensures appended { OnOk result
         (out.new.items ≡ out.old.items
@@ -153,7 +151,6 @@ fn put_calls(
     requires beside { IsBeside layout.now.tables.now peaks.now.ledger }
     requires places { HavePlaces (has_groups layout.now.options) layout.now.tables.now
         layout.now.places.now }
-    requires sound { IsSound peaks.now }
     ensures appended { OnOk result
         (out.new.items ≡ out.old.items
         ++ (if layout.now.options.allocators
@@ -166,7 +163,7 @@ fn put_calls(
         return Ok(());
     }
     let heading = b"MOST CALLS TO ALLOCATION FUNCTIONS\n";
-    let calls = costs(alloc, FlameCost::Allocations, peaks)?;
+    let calls = stack_costs(alloc, FlameCost::Allocations, peaks)?;
     put_section(alloc, layout, heading, Unit::Calls, &calls, out)
 }
 
@@ -180,7 +177,6 @@ fn put_peak(
     requires beside { IsBeside layout.now.tables.now peaks.now.ledger }
     requires places { HavePlaces (has_groups layout.now.options) layout.now.tables.now
         layout.now.places.now }
-    requires sound { IsSound peaks.now }
     ensures appended { OnOk result
         (out.new.items ≡ out.old.items
         ++ (if layout.now.options.peaks
@@ -193,7 +189,7 @@ fn put_peak(
         return Ok(());
     }
     let heading = b"PEAK MEMORY CONSUMERS\n";
-    let shares = costs(alloc, FlameCost::Peak, peaks)?;
+    let shares = stack_costs(alloc, FlameCost::Peak, peaks)?;
     put_section(alloc, layout, heading, Unit::Bytes, &shares, out)
 }
 
@@ -208,7 +204,6 @@ fn put_wanted_leaks(
     requires beside { IsBeside layout.now.tables.now peaks.now.ledger }
     requires places { HavePlaces (has_groups layout.now.options) layout.now.tables.now
         layout.now.places.now }
-    requires sound { IsSound peaks.now }
     requires suppressed { suppressed.now ≡ suppressed_stacks layout.now.tables.now }
     ensures appended { OnOk result
         (out.new.items ≡ out.old.items
@@ -220,7 +215,7 @@ fn put_wanted_leaks(
     if !layout.options.leaks {
         return Ok(());
     }
-    let live = costs(alloc, FlameCost::Leaked, peaks)?;
+    let live = stack_costs(alloc, FlameCost::Leaked, peaks)?;
     put_leaks(alloc, layout, suppressed, &live, out)
 }
 
@@ -234,7 +229,6 @@ fn put_temporary(
     requires beside { IsBeside layout.now.tables.now peaks.now.ledger }
     requires places { HavePlaces (has_groups layout.now.options) layout.now.tables.now
         layout.now.places.now }
-    requires sound { IsSound peaks.now }
     ensures appended { OnOk result
         (out.new.items ≡ out.old.items
         ++ (if layout.now.options.temporary
@@ -247,7 +241,7 @@ fn put_temporary(
         return Ok(());
     }
     let heading = b"MOST TEMPORARY ALLOCATIONS\n";
-    let temporary = costs(alloc, FlameCost::Temporary, peaks)?;
+    let temporary = stack_costs(alloc, FlameCost::Temporary, peaks)?;
     put_section(alloc, layout, heading, Unit::Temporary, &temporary, out)
 }
 
@@ -268,20 +262,4 @@ fn put_wanted_histogram(
         return Ok(());
     }
     put_histogram(peaks.ledger(), layout.tables, out)
-}
-
-/// What each stack costs, by number, or `NoMemory`.
-fn costs(alloc: Global, cost: FlameCost, peaks: &Peaks) -> Result<Vec<u64>, NoMemory>
-    requires sound { IsSound peaks.now }
-    ensures costs { IfOk result (λ costs. costs.items ≡ flame_costs cost peaks.now) }
-    ensures count { IfOk result (λ costs. length costs.items ≡ peaks.now.ledger.stacks) }
-    ensures few { IfOk result (λ costs. length costs.items < 2 ^ 32) }
-    ensures bound { IfOk result (λ costs. sum costs.items ≤ 2 ^ 62) }
-{
-    let stacks = peaks.ledger().stacks();
-    let mut costs = Vec::with_capacity(alloc, stacks as usize)?;
-    'each_stack: for stack in 0..stacks {
-        costs.push(cost_of(cost, peaks, stack))?;
-    }
-    Ok(costs)
 }

@@ -4,7 +4,7 @@ ghost use Rattle.ht_trace.specs.LedgerFits.{IsBeside};
 
 use crate::trace::{Trace, empty, read};
 use hp_num::NoMemory;
-use ht_print::{PrintOptions, Suppressed, put_report};
+use ht_print::{FlameCost, PrintOptions, Suppressed, put_flame, put_report};
 use std::alloc::Global;
 use std::process::Abort;
 use std::test::Fail;
@@ -117,6 +117,29 @@ fn append_report(
         &suppressed,
         report,
     )
+}
+
+/// Appends the flame stacks of a trace that was read, by its leaks and then by its allocations.
+fn append_flames(alloc: Global, trace: &Trace, flames: &mut Vec<u8>) -> Result<(), NoMemory>
+    requires { IsBeside trace.now.tables trace.now.peaks.ledger }
+{
+    let Trace { tables, peaks } = trace;
+    put_flame(alloc, FlameCost::Leaked, tables, peaks, flames)?;
+    put_flame(alloc, FlameCost::Allocations, tables, peaks, flames)
+}
+
+#[test]
+fn draws_the_same_trace_by_two_costs(rt: HostRuntime) -> Result<(), Fail> {
+    let mut trace = empty(rt.alloc())?;
+    read(&mut trace, WORKED)?;
+    let mut flames = Vec::new(rt.alloc());
+    append_flames(rt.alloc(), &trace, &mut flames)?;
+    let want = b"main (a.c:20) 100
+main (a.c:20) 1
+main (a.c:20);f (a.c:10) 1
+";
+    assert_eq!(&rt; flames.as_slice(), want);
+    Ok(())
 }
 
 // Two stacks of one place: the greatest total is reached first while both have live bytes, and each frees once what it has just

@@ -10,11 +10,11 @@ pub each_node-smaller : goal.each_node-smaller
 each_node-smaller c =
     let numbered = c.args.numbered.now in
     let above = above-root numbered c.each_node.place c.requires.root c.each_node-test.true in
-    parent-before c.args.edges.now.keys (numbers_of c.args.edges.now.keys) c.each_node.place c.edge_of-place.result c.requires.steps above c.edge_of-place.ensures.edge
+    parent-before c.args.edges.now (numbers_of c.args.edges.now) c.each_node.place c.edge_of-place.result c.requires.steps above c.edge_of-place.ensures.edge
 
 pub each_node-preserved : goal.each_node-preserved
 each_node-preserved c =
-    let edges = c.args.edges.now.keys in
+    let edges = c.args.edges.now in
     let numbered = c.args.numbered.now in
     let list : List ℕ = list_at edges c.args.end in
     let above = above-root numbered c.each_node.place c.requires.root c.each_node-test.true in
@@ -25,7 +25,7 @@ each_node-preserved c =
 
 pub returns : goal.returns
 returns c =
-    let edges = c.args.edges.now.keys in
+    let edges = c.args.edges.now in
     let numbered = c.args.numbered.now in
     let list : List ℕ = list_at edges c.args.end in
     let within = node-within edges numbered list c.each_node.path.items c.each_node.place c.requires.steps c.each_node.invariant in

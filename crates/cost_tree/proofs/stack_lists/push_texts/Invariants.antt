@@ -5,6 +5,6 @@ use Rattle.cost_tree.proofs.stack_lists.push_texts.Given as goal
 
 abbrev pub invariant-each_frame : goal.invariant-each_frame
 invariant-each_frame l = record {
-  begun : 0 < length l.fronts;
-  gained : LastGains l.initial.fronts (map (frame_text l.style l.tables) (take l.at-index l.frames)) l.fronts;
+  begun : 0 < length l.lists;
+  gained : LastGains l.initial.lists (map (frame_text l.style l.tables) (take l.at-index l.frames)) l.lists;
 }

@@ -7,7 +7,7 @@ use Rattle.cost_tree.proofs.branches.Branches.grown.Given as goal
 
 abbrev pub invariant-each_list : goal.invariant-each_list
 invariant-each_list l = record {
-  built : IsBuilt l.shape-inside.edges.keys l.branches;
+  built : IsBuilt l.edges l.branches;
   weight : sum_by weight l.branches.nodes.items ≤ 3 * sum (take l.list l.costs);
-  grown : AreGrown l.shape-inside.edges.keys l.shape-inside.ends.items l.costs l.depth l.branches l.list;
+  grown : AreGrown l.edges l.ends l.costs l.depth l.branches l.list;
 }

@@ -12,7 +12,7 @@ use Rattle.cost_tree.proofs.branches.Branches.number.Goals as goal
 
 pub each_node-init : goal.each_node-init
 each_node-init c =
-    let keys = c.args.edges.now.keys in
+    let keys = c.args.edges.now in
     let tree = c.args.self.now in
     let built = c.requires.built in
     let list : List ℕ = list_at keys c.args.end in
@@ -40,7 +40,7 @@ each_node-init c =
 
 pub make-requires-clause-place : goal.make-requires-clause-place
 make-requires-clause-place c =
-    let keys = c.args.edges.now.keys in
+    let keys = c.args.edges.now in
     let now = c.each_node.invariant in
     let list : List ℕ = list_at keys c.args.end in
     let path = c.pop.new.self.items in
@@ -49,7 +49,7 @@ make-requires-clause-place c =
 
 pub make-requires-clause-within : goal.make-requires-clause-within
 make-requires-clause-within c =
-    let keys = c.args.edges.now.keys in
+    let keys = c.args.edges.now in
     let now = c.each_node.invariant in
     let list : List ℕ = list_at keys c.args.end in
     let path = c.pop.new.self.items in
@@ -60,7 +60,7 @@ make-requires-clause-within c =
 
 pub each_node-preserved : goal.each_node-preserved
 each_node-preserved c =
-    let keys = c.args.edges.now.keys in
+    let keys = c.args.edges.now in
     let now = c.each_node.invariant in
     let tree = c.each_node.self in
     let new = c.make.new.self in
@@ -88,7 +88,7 @@ each_node-preserved c =
 
 pub returns-clause-reached : goal.returns-clause-reached
 returns-clause-reached c =
-    let keys = c.args.edges.now.keys in
+    let keys = c.args.edges.now in
     let now = c.each_node.invariant in
     let level = get_or_read c.each_node.self.levels.items c.each_node.node c.index.result.now (omega (arith, now.held, now.built.levels_count)) c.index.ensures 0 in
     AreReached-deep keys c.args.end c.args.list c.args.depth c.args.self.now c.each_node.self c.each_node.node now.left.short (omega (arith, c.each_node-test.false)) now.stages

@@ -9,11 +9,11 @@ use Rattle.cost_tree.proofs.branches.Branches.number.Given as goal
 
 abbrev pub invariant-each_node : goal.invariant-each_node
 invariant-each_node l = record {
-  built : IsBuilt l.edges.keys l.self;
+  built : IsBuilt l.edges l.self;
   held : l.node < length l.self.nodes.items;
   weight : sum_by weight l.self.nodes.items ≡ sum_by weight l.fn.self.nodes.items;
-  left : IsLeft l.edges.keys l.self.numbered.items (list_at l.edges.keys l.end) l.self.path.items;
-  stages : AreStages l.edges.keys (list_at l.edges.keys l.end) l.list l.depth l.fn.self l.self l.self.path.items l.node;
+  left : IsLeft l.edges l.self.numbered.items (list_at l.edges l.end) l.self.path.items;
+  stages : AreStages l.edges (list_at l.edges l.end) l.list l.depth l.fn.self l.self l.self.path.items l.node;
 }
 
 abbrev pub decreases-each_node : goal.decreases-each_node

@@ -1,26 +1,50 @@
-use Rattle.std.proofs.Common.{ℕ, List, length, ap, subst, arith}
+use Rattle.std.proofs.Common.{◌≡◌, ℕ, List, length, sym, ap, ◌∙◌, subst, arith}
 use Rattle.std.proofs.lemmas.List.{length-map}
+use Rattle.cost_tree.specs.declared.edge.Edge.{Edge}
 use Rattle.cost_tree.specs.Costed.{costed}
 use Rattle.cost_tree.specs.IsTreeOf.{IsTreeOf}
-use Rattle.cost_tree.specs.Texts.{fronts_of, texts_of}
+use Rattle.cost_tree.specs.Shapes.{IsShape, list_at, lists_in}
+use Rattle.cost_tree.specs.Texts.{AreTexts, fronts_of, lists_of, texts_of}
 use Rattle.cost_tree.specs.TreeState.{TreeState}
 use Rattle.cost_tree.proofs.tree.CostTree.of_lists.Goals as goal
 
+pub of-requires-clause-shape : goal.of-requires-clause-shape
+of-requires-clause-shape c =
+    let keys = c.deref.ensures.value ∙ c.into_list-edges.ensures.edges in
+    subst (λ (edges : List Edge). IsShape edges c.deref-2.result.now) (sym keys)
+    (subst (λ (ends : List ℕ). IsShape c.shape.inside.edges.keys ends) (sym c.deref-2.ensures.value) c.shape.invariant)
+
 pub of-requires-clause-as_many : goal.of-requires-clause-as_many
 of-requires-clause-as_many c =
-    let kept = length-map c.fronts.inside.shape (texts_of c.fronts.inside.names) in
-    let seen = ap (λ (ls : List (List (List ℕ))). length ls) c.fronts.view_is in
+    let ends = ap (λ (es : List ℕ). length es) c.deref-2.ensures.value in
+    let held = length-map c.shape.inside.ends.items (list_at c.shape.inside.edges.keys) in
+    let listed = ap (λ (ls : List (List ℕ)). length ls) c.shape.view_is in
+    let kept = length-map c.names.inside.shape (texts_of c.names.inside.names) in
+    let seen = ap (λ (ls : List (List (List ℕ))). length ls) (c.names.view_is ∙ c.in_ok-names.ensures.same) in
     omega (arith, c.requires.as_many)
 
 pub invariant_of-result : goal.invariant_of-result
 invariant_of-result c =
-    let is = c.in_ok-edges.ensures.tree c.fronts.inside.names c.len-count.ensures.distinct c.fronts.invariant in
+    let names = c.names.inside.names in
+    let lists : lists_in c.deref.result.now c.deref-2.result.now ≡ c.names.inside.shape =
+    ap (λ (edges : List Edge). lists_in edges c.deref-2.result.now) (c.deref.ensures.value ∙ c.into_list-edges.ensures.edges)
+    ∙ ap (λ (ends : List ℕ). lists_in c.shape.inside.edges.keys ends) c.deref-2.ensures.value
+    ∙ c.shape.view_is in
+    let texts = subst (λ (ls : List (List ℕ)). AreTexts names ls) (sym lists) c.names.invariant in
+    let is = c.in_ok-edges.ensures.tree names _ c.args.depth (c.in_ok-branches.ensures.tree names c.len-count.ensures.distinct texts) in
     record { branches = is.nodes.branches; links = is.links }
 
 pub returns : goal.returns
 returns c =
-    let is = c.in_ok-edges.ensures.tree c.fronts.inside.names c.len-count.ensures.distinct c.fronts.invariant in
-    let tree : TreeState = record { fronts = fronts_of c.fronts.inside.names c.in_ok-edges.field-0.edges.items; nodes = c.in_ok-edges.field-0.nodes.items } in
+    let names = c.names.inside.names in
+    let lists : lists_in c.deref.result.now c.deref-2.result.now ≡ c.names.inside.shape =
+    ap (λ (edges : List Edge). lists_in edges c.deref-2.result.now) (c.deref.ensures.value ∙ c.into_list-edges.ensures.edges)
+    ∙ ap (λ (ends : List ℕ). lists_in c.shape.inside.edges.keys ends) c.deref-2.ensures.value
+    ∙ c.shape.view_is in
+    let texts = subst (λ (ls : List (List ℕ)). AreTexts names ls) (sym lists) c.names.invariant in
+    let is = c.in_ok-edges.ensures.tree names _ c.args.depth (c.in_ok-branches.ensures.tree names c.len-count.ensures.distinct texts) in
+    let tree : TreeState = record { fronts = fronts_of names c.in_ok-edges.field-0.edges.items; nodes = c.in_ok-edges.field-0.nodes.items } in
+    let all = ap (λ (ls : List (List ℕ)). lists_of names ls) lists ∙ c.names.view_is ∙ c.in_ok-names.ensures.same in
     record {
-      tree = subst (λ (ls : List (List (List ℕ))). IsTreeOf tree (costed ls c.args.costs.now) c.args.depth) c.fronts.view_is is.nodes.tree_of;
+      tree = subst (λ (ls : List (List (List ℕ))). IsTreeOf tree (costed ls c.args.costs.now) c.args.depth) all is.nodes.tree_of;
     }

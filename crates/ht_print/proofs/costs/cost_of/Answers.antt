@@ -3,7 +3,7 @@ use Rattle.std.specs.Prelude.{slice_get}
 use Rattle.ht_print.specs.declared.flame.FlameCost.{FlameCost}
 use Rattle.ht_print.specs.FlameCosts.{flame_costs}
 use Rattle.ht_print.proofs.FlameFigures.{share-held}
-use Rattle.ht_print.proofs.flame.cost_of.Goals as goal
+use Rattle.ht_print.proofs.costs.cost_of.Goals as goal
 
 pub returns-in-Peak : goal.returns-in-Peak
 returns-in-Peak c =

@@ -1,6 +1,6 @@
 use Rattle.std.specs.Prelude.{◌≡◌, take}
 use Rattle.ht_print.specs.FlameCosts.{flame_costs}
-use Rattle.ht_print.proofs.report.costs.Given as goal
+use Rattle.ht_print.proofs.costs.stack_costs.Given as goal
 
 -- the costs so far
 abbrev pub invariant-each_stack : goal.invariant-each_stack

@@ -1,0 +1,95 @@
+//! Lists of texts as they are told: with which earlier list each begins, and which texts follow. The fronts that they share are
+//! looked for when all are told, so that what the texts were made of can be let go before.
+ghost use Rattle.std.specs.Prelude.{◌≡◌, ◌≢◌, ◌==◌, ℕ, ◌-◌, ◌^◌, ◌<◌, List, [], ◌∷◌, ◌++◌, if◌then◌else◌, length, IfOk, OnOk, slice_index_or};
+ghost use Rattle.cost_tree.specs.Told.{MayFollow, after};
+
+use crate::fronts::Fronts;
+use crate::list_step::ListStep;
+use crate::shape::Shape;
+use hp_num::NoMemory;
+use intern_tables::Names;
+use std::alloc::Global;
+use std::marker::Model;
+
+/// Lists of texts, numbered from 0. Each distinct text is kept once, and of each list what it begins with and what follows.
+///
+/// Contracts see the list of the lists.
+#[derive(Debug, Drop)]
+pub struct ToldLists {
+    names: Names,
+    steps: Vec<ListStep>,
+}
+
+impl Model for ToldLists {
+    ghost use Rattle.std.specs.Prelude.{ℕ, List};
+    ghost use Rattle.cost_tree.specs.Texts.{lists_of};
+    ghost use Rattle.cost_tree.specs.Told.{AreTold, told};
+
+    ghost Value = { List (List (List ℕ)) };
+
+    ghost view = { λ lists. lists_of lists.names (told lists.steps.items) };
+
+    ghost invariant = { λ lists. AreTold lists.names lists.steps.items };
+}
+
+impl ToldLists {
+    /// No lists. It takes no memory; that of the lists to come is taken from `alloc`.
+    pub(crate) fn new(alloc: Global) -> ToldLists
+        ensures empty { result ≡ [] }
+    {
+        ToldLists {
+            names: Names::new(alloc),
+            steps: Vec::new(alloc),
+        }
+    }
+
+    /// Appends the list of the caller, which must be held; for 0 an empty one. There must be fewer than 2^32 - 1 lists.
+    pub(crate) fn begin(&mut self, caller: u32) -> Result<(), NoMemory>
+        requires held { caller ≢ 0 → caller < length self.old }
+        requires few { length self.old < 2 ^ 32 - 1 }
+        ensures appended { OnOk result
+            (self.new ≡ self.old
+            ++ (if caller == 0 then [] else slice_index_or self.old caller []) ∷ []) }
+    {
+        self.steps.push(ListStep::Begin { caller })?;
+        Ok(())
+    }
+
+    /// Appends the text to the last list, of which there must be one.
+    pub(crate) fn push(&mut self, text: &[u8]) -> Result<(), NoMemory>
+        requires begun { 0 < length self.old }
+        ensures appended { OnOk result
+            ((earlier : List (List (List ℕ))) (last : List (List ℕ))
+            → self.old ≡ earlier ++ last ∷ []
+            → self.new ≡ earlier ++ (last ++ text.now ∷ []) ∷ []) }
+        ensures count { OnOk result (length self.new ≡ length self.old) }
+    {
+        let number = self.names.intern(text)?;
+        self.steps.push(ListStep::Push { number })?;
+        Ok(())
+    }
+
+    /// The same lists with each of their fronts once, or `NoMemory`.
+    pub(crate) fn fronts(self, alloc: Global) -> Result<Fronts, NoMemory>
+        ensures same { IfOk result (λ fronts. fronts ≡ self) }
+    {
+        let ToldLists { names, steps } = self;
+        // Each step is a list or a number more, so that none is moved while they come.
+        let mut shape = Shape::with_capacity(alloc, steps.len())?;
+        'each_step: for step in &steps {
+            follow(&mut shape, *step)?;
+        }
+        Ok(Fronts::from_parts(names, shape))
+    }
+}
+
+/// Goes on by one step.
+fn follow(shape: &mut Shape, step: ListStep) -> Result<(), NoMemory>
+    requires may { MayFollow shape.old step }
+    ensures after { OnOk result (shape.new ≡ after shape.old step) }
+{
+    match step {
+        ListStep::Begin { caller } => shape.begin_with(caller),
+        ListStep::Push { number } => shape.push(number),
+    }
+}

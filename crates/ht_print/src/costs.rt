@@ -1,0 +1,45 @@
+//! What each stack costs by one of four figures, for flame stacks and for the sections of a report.
+ghost use Rattle.std.specs.Prelude.{◌≡◌, ℕ, ◌^◌, ◌<◌, ◌≤◌, List, length, sum, IfOk, Some, slice_get};
+ghost use Rattle.live_ledger.specs.declared.event.Event.{Event};
+ghost use Rattle.peak_costs.specs.Peak.{StandsFor};
+ghost use Rattle.peak_costs.specs.PeakState.{IsSound};
+ghost use Rattle.ht_print.specs.FlameCosts.{flame_costs, trace_costs};
+
+use crate::flame::FlameCost;
+use hp_num::NoMemory;
+use peak_costs::Peaks;
+use std::alloc::Global;
+
+/// What each stack costs, by ascending number, or `NoMemory`.
+pub fn stack_costs(alloc: Global, cost: FlameCost, peaks: &Peaks) -> Result<Vec<u64>, NoMemory>
+    ensures costs { IfOk result (λ costs. costs.items ≡ flame_costs cost peaks.now) }
+    ensures trace { IfOk result
+        (λ costs. (events : List Event) → StandsFor peaks.now events
+        → costs.items ≡ trace_costs cost peaks.now.ledger.stacks events) }
+    ensures count { IfOk result (λ costs. length costs.items ≡ peaks.now.ledger.stacks) }
+    ensures few { IfOk result (λ costs. length costs.items < 2 ^ 32) }
+    ensures bound { IfOk result (λ costs. sum costs.items ≤ 2 ^ 62) }
+{
+    // Says what holds of all peaks.
+    let _total = peaks.peak_total();
+    let stacks = peaks.ledger().stacks();
+    let mut costs = Vec::with_capacity(alloc, stacks as usize)?;
+    'each_stack: for stack in 0..stacks {
+        costs.push(cost_of(cost, peaks, stack))?;
+    }
+    Ok(costs)
+}
+
+/// What the stack costs.
+fn cost_of(cost: FlameCost, peaks: &Peaks, stack: u32) -> u64
+    requires held { stack < peaks.now.ledger.stacks }
+    requires sound { IsSound peaks.now }
+    ensures { slice_get (flame_costs cost peaks.now) stack ≡ Some result }
+{
+    match cost {
+        FlameCost::Allocations => peaks.ledger().stack(stack).calls,
+        FlameCost::Temporary => peaks.ledger().stack(stack).temporary,
+        FlameCost::Leaked => peaks.ledger().stack(stack).live,
+        FlameCost::Peak => peaks.peak_of(stack),
+    }
+}
