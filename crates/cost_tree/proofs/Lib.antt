@@ -6,6 +6,7 @@ mod Steps
 mod Placing
 mod ShapeLists
 mod Listing
+mod Chaining
 mod Ascents
 mod Growing
 mod Stages

@@ -22,6 +22,8 @@ pub mod Order
 pub mod CostLines
 pub mod TreeLines
 pub mod Cuts
+pub mod Following
+pub mod ChainLists
 pub mod CutShapes
 pub mod CutState
 pub mod Shares

@@ -4,8 +4,9 @@ ghost use Rattle.cost_tree.specs.Needed.{StandFor};
 
 use crate::direction::Direction;
 use crate::fronts::Fronts;
+use crate::list_form::ListForm;
 use crate::root_lists::lists_from_root;
-use crate::stack_lists::{ListForm, stack_lists};
+use crate::stack_lists::stack_lists;
 use hp_num::NoMemory;
 use ht_trace::{Style, Tables};
 use std::alloc::Global;
