@@ -7,7 +7,6 @@ use Rattle.cost_tree.specs.declared.edge.Edge.{Edge}
 use Rattle.cost_tree.specs.Shapes.{AreSteps, list_at, next_front, numbers_of}
 use Rattle.cost_tree.specs.Ways.{IsOnWay, IsWay}
 use Rattle.cost_tree.proofs.Lists.{get-push_cases, get-push_old, get-set_other}
-use Rattle.cost_tree.proofs.ShapeLists.{list_at-root}
 
 -- a node that has no number isn't node 0
 pub above-root : (numbered : List ℕ) (node : ℕ) → slice_index numbered 0 ≡ 1 → slice_index numbered node ≡ 0 → 0 < node
@@ -108,33 +107,3 @@ pub node-within : (edges : List Edge) (numbered list path : List ℕ) (node : �
 node-within edges numbered list path node are way =
     let inside = slice_get_within (numbers_of edges) node (take (length list - length path) list) way.front in
     omega (arith, are.count)
-
--- the list that ends at a node is that of the node above and the number of its edge
-list_at-next : (edges : List Edge) (node : ℕ) (edge : Edge) → AreSteps (λ number. number) edges (numbers_of edges) → 0 < node → slice_get edges (node - 1) ≡ Some edge
-    → list_at edges node ≡ list_at edges edge.parent ++ edge.text ∷ []
-list_at-next edges zero edge are above at = absurd (omega arith)
-list_at-next edges (suc place) edge are above at =
-    let lists : List (List ℕ) = numbers_of edges in
-    let back : suc place - 1 ≡ place = omega arith in
-    let next : place + 1 ≡ suc place = omega arith in
-    let E : ℕ → Type 0 = λ k. slice_get edges k ≡ Some edge in
-    let step = are.step place edge (subst E back at) in
-    let F : ℕ → Type 0 = λ k. slice_get lists k ≡ Some (next_front (λ number. number) lists edge) in
-    get_or_from_slice_get lists (suc place) (next_front (λ number. number) lists edge) [] (subst F next step.front)
-
--- on the way from a list's end the numbers come the last one first
-pub ascended : (edges : List Edge) (node : ℕ) (edge : Edge) (numbers whole : List ℕ) → AreSteps (λ number. number) edges (numbers_of edges) → 0 < node → slice_get edges (node - 1) ≡ Some edge
-    → numbers ++ reverse (list_at edges node) ≡ whole → (numbers ++ edge.text ∷ []) ++ reverse (list_at edges edge.parent) ≡ whole
-ascended edges node edge numbers whole are above at is =
-    append_assoc numbers (edge.text ∷ []) (reverse (list_at edges edge.parent))
-    ∙ ap (λ (ns : List ℕ). numbers ++ ns) (sym (reverse-append (list_at edges edge.parent) (edge.text ∷ [])))
-    ∙ ap (λ (ns : List ℕ). numbers ++ reverse ns) (sym (list_at-next edges node edge are above at))
-    ∙ is
-
--- and above the first one there is none
-pub ascended-all : (edges : List Edge) (node : ℕ) (numbers whole : List ℕ) → AreSteps (λ number. number) edges (numbers_of edges) → node ≡ 0
-    → numbers ++ reverse (list_at edges node) ≡ whole → numbers ≡ whole
-ascended-all edges node numbers whole are root is =
-    sym (append-nil numbers)
-    ∙ ap (λ (ns : List ℕ). numbers ++ reverse ns) (sym (ap (λ (k : ℕ). list_at edges k) root ∙ list_at-root edges are))
-    ∙ is

@@ -56,6 +56,10 @@ listed-more = needing.listed-more
 pub take-next : {X : Type 0} (xs : List X) (i : ℕ) (x : X) → slice_get xs i ≡ Some x → take (i + 1) xs ≡ take i xs ++ x ∷ []
 take-next = lists.take-next
 
+-- the first of two lists together
+pub take-both : {X : Type 0} (n : ℕ) (xs ys : List X) → take n (xs ++ ys) ≡ take n xs ++ take (n - length xs) ys
+take-both = lists.take-both
+
 -- the last text of a node's front
 pub last-text : (tree : TreeState) (n : ℕ) (front : List (List ℕ)) (text : List ℕ) → slice_get tree.fronts n ≡ Some (front ++ text ∷ []) → last_of (front_at tree n) ≡ text
 last-text tree n front text held =

@@ -7,6 +7,7 @@ mod Placing
 mod ShapeLists
 mod Listing
 mod Telling
+mod Chaining
 mod Ascents
 mod Growing
 mod Stages

@@ -1,7 +1,9 @@
 -- Lemmas on the element at a place of a list that grew by one, or of which one was replaced.
-use Rattle.std.proofs.Common.{◌≡◌, ◌≢◌, ℕ, zero, suc, ◌+◌, ◌⊎◌, inl, inr, List, [], ◌∷◌, ◌++◌, length, take, set, Some, refl, sym, ap, ◌∙◌, arith, append_assoc}
+use Rattle.std.proofs.Common.{◌≡◌, ◌≢◌, ℕ, zero, suc, ◌+◌, ◌-◌, ◌⊎◌, inl, inr, List, [], ◌∷◌, ◌++◌, length, take, set, Some, refl, sym, ap, ◌∙◌, append-nil, append_assoc, arith}
 use Rattle.std.specs.Prelude.{slice_get}
-use Rattle.std.proofs.lemmas.List.{take_more}
+use Rattle.std.proofs.Math.Seq.{take-append-add}
+use Rattle.std.proofs.lemmas.Bool.{cases_lt}
+use Rattle.std.proofs.lemmas.List.{take-append-le, take_all, take_more}
 use Rattle.std.proofs.lemmas.Option.{none-some, same_Some, slice_get_within, get_or_from_slice_get}
 
 -- an element before the end stays
@@ -55,3 +57,14 @@ take-next xs i x at = take_more xs i x (slice_get_within xs i x at) ∙ ap (λ y
 -- two appends in a row
 pub two-appended : {X : Type 0} (o a b p q : List X) → a ≡ o ++ p → b ≡ a ++ q → b ≡ o ++ (p ++ q)
 two-appended {X} o a b p q p_is q_is = q_is ∙ ap (λ (xs : List X). xs ++ q) p_is ∙ append_assoc o p q
+
+-- the first of two lists together
+pub take-both : {X : Type 0} (n : ℕ) (xs ys : List X) → take n (xs ++ ys) ≡ take n xs ++ take (n - length xs) ys
+take-both {X} n xs ys = elim (cases_lt (length xs) n) [
+  | inr short ↦
+      let none : n - length xs ≡ 0 = omega arith in
+      take-append-le n xs ys short ∙ sym (append-nil (take n xs)) ∙ ap (λ (k : ℕ). take n xs ++ take k ys) (sym none)
+  | inl long ↦
+      let more : n ≡ length xs + (n - length xs) = omega arith in
+      ap (λ (k : ℕ). take k (xs ++ ys)) more ∙ take-append-add xs ys (n - length xs) ∙ ap (λ (zs : List X). zs ++ take (n - length xs) ys) (sym (take_all n xs (omega arith)))
+]

@@ -63,10 +63,6 @@ IsShape-none = record {
         let two = slice_get_within ([] ∷ []) n front at_n in
         omega arith
 
--- the list of node 0
-pub list_at-root : (edges : List Edge) → AreSteps (λ number. number) edges (numbers_of edges) → list_at edges 0 ≡ []
-list_at-root edges are = get_or_from_slice_get (numbers_of edges) 0 [] [] are.root
-
 -- a list more
 pub lists_in-push : (edges : List Edge) (ends : List ℕ) (end : ℕ) → lists_in edges (ends ++ end ∷ []) ≡ lists_in edges ends ++ list_at edges end ∷ []
 lists_in-push edges ends end = map-append (list_at edges) ends (end ∷ [])

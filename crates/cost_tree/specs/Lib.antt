@@ -23,6 +23,8 @@ pub mod Order
 pub mod CostLines
 pub mod TreeLines
 pub mod Cuts
+pub mod Following
+pub mod ChainLists
 pub mod CutShapes
 pub mod CutState
 pub mod Shares

@@ -4,16 +4,17 @@ ghost use Rattle.std.specs.Prelude.{◌≡◌, ℕ, ◌^◌, ◌<◌, ◌≤◌,
 ghost use Rattle.cost_tree.specs.Costed.{costed};
 ghost use Rattle.cost_tree.specs.CutShapes.{IsCutOf, left, raised, raised_counts};
 ghost use Rattle.cost_tree.specs.Cuts.{AreEnough, cut_lists};
+ghost use Rattle.cost_tree.specs.Needed.{LastGains};
 ghost use Rattle.cost_tree.specs.Texts.{AreTexts, lists_of};
 ghost use Rattle.intern_tables.specs.Distinct.{AreDistinct};
 
-use crate::fronts::push_numbers;
+use crate::chains::Chains;
 use crate::scale::Scale;
 use crate::shape::Shape;
 use hp_num::NoMemory;
 use std::alloc::Global;
 
-/// The first numbers of a shape's lists.
+/// The first numbers of lists.
 #[derive(Debug, Drop)]
 pub(crate) struct Cut {
     pub(crate) shape: Shape,
@@ -25,7 +26,7 @@ pub(crate) struct Cut {
 
 impl Cut {
     /// The first number of each list, or `NoMemory`.
-    pub(crate) fn of(alloc: Global, whole: &Shape) -> Result<Cut, NoMemory>
+    pub(crate) fn of(alloc: Global, whole: &Chains) -> Result<Cut, NoMemory>
         ensures cut { IfOk result (λ cut. IsCutOf whole.now cut) }
     {
         let lengths = lengths_of(alloc, whole)?;
@@ -42,7 +43,7 @@ impl Cut {
     pub(crate) fn lengthen(
         &mut self,
         alloc: Global,
-        whole: &Shape,
+        whole: &Chains,
         costs: &[u64],
         scale: Scale,
     ) -> Result<(), NoMemory>
@@ -65,7 +66,7 @@ impl Cut {
     fn lengthen_some(
         &mut self,
         alloc: Global,
-        whole: &Shape,
+        whole: &Chains,
         costs: &[u64],
         scale: Scale,
     ) -> Result<bool, NoMemory>
@@ -96,32 +97,41 @@ impl Cut {
 }
 
 /// How many numbers each list has, or `NoMemory`.
-fn lengths_of(alloc: Global, whole: &Shape) -> Result<Vec<usize>, NoMemory>
+fn lengths_of(alloc: Global, whole: &Chains) -> Result<Vec<usize>, NoMemory>
     ensures lengths { IfOk result (λ lengths. lengths.items ≡ map length whole.now) }
 {
     let mut lengths = Vec::with_capacity(alloc, whole.len() as usize)?;
-    let mut numbers = Vec::new(alloc);
     'each_list: for list in 0..whole.len() {
-        whole.list_into(list, &mut numbers)?;
-        lengths.push(numbers.len())?;
+        lengths.push(whole.count(list))?;
     }
     Ok(lengths)
 }
 
 /// The first so many numbers of each list, or `NoMemory`.
-fn cut_shape(alloc: Global, whole: &Shape, counts: &[usize]) -> Result<Shape, NoMemory>
+fn cut_shape(alloc: Global, whole: &Chains, counts: &[usize]) -> Result<Shape, NoMemory>
     requires as_many { length counts.now ≡ length whole.now }
     ensures lists { IfOk result (λ shape. shape ≡ cut_lists counts.now whole.now) }
 {
     let mut shape = Shape::new(alloc);
     let mut numbers = Vec::new(alloc);
     'each_list: for list in 0..whole.len() {
-        whole.list_into(list, &mut numbers)?;
-        numbers.truncate(counts[list as usize]);
+        whole.list_into(list, counts[list as usize], &mut numbers)?;
         shape.begin()?;
         push_numbers(&mut shape, &numbers)?;
     }
     Ok(shape)
+}
+
+/// Appends the numbers to the last list, of which there must be one.
+fn push_numbers(shape: &mut Shape, numbers: &[usize]) -> Result<(), NoMemory>
+    requires begun { 0 < length shape.old }
+    ensures gained { OnOk result (LastGains shape.old numbers.now shape.new) }
+    ensures count { length shape.new ≡ length shape.old }
+{
+    'each_number: for number in numbers {
+        shape.push(*number)?;
+    }
+    Ok(())
 }
 
 /// How many numbers the lists are to have, where those that end as each does cost so much together, or `NoMemory`.

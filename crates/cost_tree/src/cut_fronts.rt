@@ -5,11 +5,11 @@ ghost use Rattle.cost_tree.specs.Costed.{costed};
 ghost use Rattle.cost_tree.specs.CostLines.{cost_lines};
 ghost use Rattle.cost_tree.specs.Costs.{AreCosts};
 
+use crate::call_chains::CallChains;
+use crate::chains::Chains;
 use crate::costing::Costing;
 use crate::cut::Cut;
-use crate::fronts::Fronts;
 use crate::scale::Scale;
-use crate::shape::Shape;
 use hp_num::NoMemory;
 use intern_tables::Names;
 use std::alloc::Global;
@@ -21,7 +21,7 @@ use std::marker::Model;
 #[derive(Debug, Drop)]
 pub struct CutFronts {
     pub(crate) names: Names,
-    whole: Shape,
+    whole: Chains,
     pub(crate) cut: Cut,
 }
 
@@ -42,14 +42,14 @@ impl Model for CutFronts {
 
 impl CutFronts {
     /// The lists, cut behind their first texts, or `NoMemory`.
-    pub fn new(alloc: Global, fronts: Fronts) -> Result<CutFronts, NoMemory>
+    pub fn new(alloc: Global, fronts: CallChains) -> Result<CutFronts, NoMemory>
         ensures whole { IfOk result (λ cut. cut.whole ≡ fronts) }
     {
-        let Fronts { names, shape } = fronts;
-        let cut = Cut::of(alloc, &shape)?;
+        let CallChains { names, chains, .. } = fronts;
+        let cut = Cut::of(alloc, &chains)?;
         Ok(CutFronts {
             names,
-            whole: shape,
+            whole: chains,
             cut,
         })
     }

@@ -87,44 +87,10 @@ impl Fronts {
         self.shape.push(number)
     }
 
-    /// Appends the first texts of a list, at most `most`, to the last list. The list must be held. No text is made or
-    /// compared; `numbers` is a buffer. After `NoMemory` the last list may have some of them.
-    pub fn push_first(
-        &mut self,
-        list: u32,
-        most: usize,
-        numbers: &mut Vec<usize>,
-    ) -> Result<(), NoMemory>
-        requires held { list < length self.old }
-        ensures appended { OnOk result
-            ((earlier : List (List (List ℕ))) (last : List (List ℕ))
-            → self.old ≡ earlier ++ last ∷ []
-            → self.new ≡ earlier ++ (last ++ take most (slice_index_or self.old list [])) ∷ []) }
-        ensures count { length self.new ≡ length self.old }
-    {
-        self.shape.list_into(list, numbers)?;
-        numbers.truncate(most);
-        push_numbers(&mut self.shape, numbers)
-    }
-
     /// How many lists there are.
     pub fn len(&self) -> u32
         ensures count { result ≡ length self.now }
     {
         self.shape.len()
     }
-}
-
-/// Appends the numbers to the last list, of which there must be one.
-pub(crate) fn push_numbers(shape: &mut Shape, numbers: &[usize]) -> Result<(), NoMemory>
-    requires begun { 0 < length shape.old }
-    ensures gained { OnOk result (LastGains shape.old numbers.now shape.new) }
-    ensures texts { (names : List (List ℕ)) → AreTexts names shape.old
-        → All (IsText names) numbers.now → AreTexts names shape.new }
-    ensures count { length shape.new ≡ length shape.old }
-{
-    'each_number: for number in numbers {
-        shape.push(*number)?;
-    }
-    Ok(())
 }

@@ -4,10 +4,10 @@
 //! What it promises:
 //!
 //! - `Shape` is seen as a list of lists of numbers, and keeps each front of them once; `Fronts` as a list of lists of texts,
-//!   and keeps each distinct text once. A list can be one that came before (`repeat`, and `repeat_list` for a stack's caller), it
-//!   can go on with the first texts of one (`push_first`), and lists of texts can be made of names and a shape of their numbers
-//!   (`from_parts`). `Costing` and `FrameTest` keep a closure, and what it is to answer is said at
-//!   each call that uses it.
+//!   and keeps each distinct text once. A list can be one that came before (`repeat`), and lists of texts can be made of names and
+//!   a shape of their numbers (`from_parts`). `CallChains` is seen as a list of lists of texts too, and keeps of each the texts of
+//!   a stack's own frames, and which earlier list follows them (`push`). `Costing` and `FrameTest` keep a closure, and what it is
+//!   to answer is said at each call that uses it.
 //! - `CostTree::of_fronts` gives the tree of the lists with their costs (`IsTreeOf`): one node for each front of at
 //!   most `depth` texts whose cost isn't 0, and node 0 for the empty one.
 //! - `CostTree::build` gives it for the stacks of a trace, whose lists are the texts of their frames in a style and
@@ -30,7 +30,8 @@
 //! | `shape.rt`, `edge.rt`, `edges.rt` | lists of numbers that share their fronts; how a node goes on from another, and those that do |
 //! | `fronts.rt` | lists of texts |
 //! | `told_lists.rt`, `list_step.rt` | lists of texts as they are told, and one step of that |
-//! | `trace_lists.rt`, `stack_lists.rt`, `root_lists.rt`, `direction.rt` | those of a trace's stacks; from the allocation, and from the root; from which end |
+//! | `chains.rt`, `chain.rt`, `call_chains.rt` | lists of numbers that go on with earlier ones; one of them; those of the texts of frames |
+//! | `trace_lists.rt`, `stack_lists.rt`, `root_lists.rt`, `list_form.rt`, `direction.rt` | those of a trace's stacks; from the allocation, and from the root; in which form, and from which end |
 //! | `cut_fronts.rt`, `cut.rt`, `ends.rt` | lists of texts that are cut, and of numbers; what lists cost together that end at one node |
 //! | `costing.rt`, `frame_test.rt` | what each stack costs, and which names are meant, by closures |
 //! | `branches.rt`, `summing.rt` | a tree that grows along a shape; what its nodes cost with those below them |
@@ -41,6 +42,9 @@
 #![tactic(auto)]
 
 mod branches;
+mod call_chains;
+mod chain;
+mod chains;
 mod children;
 mod costing;
 mod cut;
@@ -56,6 +60,7 @@ mod line;
 mod lines;
 mod linked;
 mod links;
+mod list_form;
 mod list_step;
 mod node;
 mod root_lists;
@@ -67,6 +72,7 @@ mod told_lists;
 mod trace_lists;
 mod tree;
 
+pub use call_chains::CallChains;
 pub use costing::Costing;
 pub use cut_fronts::CutFronts;
 pub use direction::Direction;
@@ -74,8 +80,9 @@ pub use frame_test::FrameTest;
 pub use fronts::Fronts;
 pub use line::{CostLine, Place};
 pub use lines::cost_lines;
+pub use list_form::ListForm;
 pub use node::CostNode;
-pub use root_lists::{lists_from_root, repeat_list};
+pub use root_lists::lists_from_root;
 pub use scale::Scale;
 pub use shape::Shape;
 pub use told_lists::ToldLists;

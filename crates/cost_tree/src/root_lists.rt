@@ -58,7 +58,7 @@ fn begin_list(
 
 /// Appends the list of the stack that a node is called from, which must be held; it is empty for stack 0. There must be
 /// fewer than 2^32 - 1 lists.
-pub fn repeat_list(fronts: &mut Fronts, caller: u32) -> Result<(), NoMemory>
+fn repeat_list(fronts: &mut Fronts, caller: u32) -> Result<(), NoMemory>
     requires held { caller ≢ 0 → caller < length fronts.old }
     requires few { length fronts.old < 2 ^ 32 - 1 }
     ensures appended { OnOk result

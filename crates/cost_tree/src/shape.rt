@@ -114,17 +114,6 @@ impl Shape {
         Ok(())
     }
 
-    /// Replaces `numbers` by those of the list, which must be held. On `NoMemory` it has some of them.
-    pub fn list_into(&self, list: u32, numbers: &mut Vec<usize>) -> Result<(), NoMemory>
-        requires held { list < length self.now }
-        ensures numbers { OnOk result (numbers.new.items ≡ slice_index_or self.now list []) }
-    {
-        let end = self.ends[list as usize];
-        ascend(&self.edges, end, numbers)?;
-        numbers.reverse();
-        Ok(())
-    }
-
     /// For each list what those cost together that are equal to it, or `NoMemory`.
     pub(crate) fn shared_costs(&self, alloc: Global, costs: &[u64]) -> Result<Vec<u64>, NoMemory>
         requires as_many { length costs.now ≡ length self.now }
@@ -159,21 +148,4 @@ fn child_of(edges: &mut Edges, parent: usize, number: usize) -> Result<usize, No
     // Says that the next number is one.
     let _count = edges.len();
     Ok(place + 1)
-}
-
-/// Replaces `numbers` by those of the list that ends at a node, the last one first.
-fn ascend(edges: &Edges, end: usize, numbers: &mut Vec<usize>) -> Result<(), NoMemory>
-    requires steps { AreSteps (λ number. number) edges.now.keys (numbers_of edges.now.keys) }
-    requires end { end ≤ length edges.now.keys }
-    ensures numbers { OnOk result
-        (numbers.new.items ≡ reverse (list_at edges.now.keys end)) }
-{
-    numbers.clear();
-    let mut node = end;
-    'each_node: while node > 0 {
-        let edge = edges.edge_of(node);
-        numbers.push(edge.text)?;
-        node = edge.parent;
-    }
-    Ok(())
 }

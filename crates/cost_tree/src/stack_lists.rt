@@ -7,17 +7,11 @@ ghost use Rattle.cost_tree.specs.StackTexts.{stack_texts, towards};
 ghost use Rattle.ht_trace.specs.FrameText.{frame_text};
 ghost use Rattle.ht_trace.specs.IsFrame.{IsFrame};
 
+use crate::list_form::ListForm;
 use crate::told_lists::ToldLists;
 use hp_num::NoMemory;
 use ht_trace::{FrameAt, Style, Tables};
 use std::alloc::Global;
-
-/// How a stack's list is made: in which style, and of how many texts at most.
-#[derive(Clone, Copy, Debug)]
-pub(crate) struct ListForm {
-    pub(crate) style: Style,
-    pub(crate) most: usize,
-}
 
 /// What the frames of a stack and the text of a frame are read into.
 #[derive(Drop)]

@@ -3,8 +3,9 @@ ghost use Rattle.std.specs.Prelude.{◌≡◌, ◌+◌, length, IfOk};
 ghost use Rattle.cost_tree.specs.Needed.{StandFor};
 
 use crate::direction::Direction;
+use crate::list_form::ListForm;
 use crate::root_lists::lists_from_root;
-use crate::stack_lists::{ListForm, stack_lists};
+use crate::stack_lists::stack_lists;
 use crate::told_lists::ToldLists;
 use hp_num::NoMemory;
 use ht_trace::{Style, Tables};

@@ -30,7 +30,7 @@ fn push_list(rt: &impl Abort, fronts: &mut Fronts, list: &[u8]) -> Result<(), No
 }
 
 /// For each node a line: parent, cost, own cost, first stack, text, and after a colon each child with a comma.
-fn shown(rt: &impl Abort, alloc: Global, tree: &CostTree) -> Result<Vec<u8>, NoMemory> {
+pub(crate) fn shown(rt: &impl Abort, alloc: Global, tree: &CostTree) -> Result<Vec<u8>, NoMemory> {
     let mut out = Vec::new(alloc);
     for n in 0..tree.len() {
         assert!(rt; n < tree.len());
@@ -180,24 +180,8 @@ fn fronts_to_a_depth(rt: HostRuntime) -> Result<(), NoMemory> {
     check_tree(&rt, rt.alloc(), b"main||f", &[1, 2, 4], 0, b"0 7 2 0 :\n")
 }
 
-/// Lets the last list go on with the first text of the first list.
-fn push_first(rt: &impl Abort, alloc: Global, fronts: &mut Fronts) -> Result<(), NoMemory> {
-    let mut numbers = Vec::new(alloc);
-    assert!(rt; fronts.len() > 0);
-    fronts.push_first(0, 1, &mut numbers)
-}
-
-// The second list goes on with the first of the first list's two texts.
-#[test]
-fn first_texts_of_a_list(rt: HostRuntime) -> Result<(), NoMemory> {
-    let mut fronts = fronts_of(&rt, rt.alloc(), b"a;b|d")?;
-    assert_eq!(rt; push_first(&rt, rt.alloc(), &mut fronts), Ok(()));
-    let nodes = b"0 3 0 0 :1,3,\n0 1 0 0 a:2,\n1 1 1 0 b:\n0 2 0 1 d:4,\n3 2 2 1 a:\n";
-    shows(&rt, rt.alloc(), fronts, &[1, 2], 4096, nodes)
-}
-
 /// Reads the lines of the worked trace, of which each ends with a line feed but the last.
-fn read_worked(rt: &impl Abort, tables: &mut Tables) -> Result<(), LineError> {
+pub(crate) fn read_worked(rt: &impl Abort, tables: &mut Tables) -> Result<(), LineError> {
     let lines =
         b"v 10500 2\ns app\ns main\ns f\ns a.c\ni 400 1 2 4 14\ni 500 1 3 4 a\nt 1 0\nt 2 1";
     for line in lines.split(|byte| *byte == b'\n') {

@@ -10,7 +10,7 @@ ghost use Rattle.massif_sample.specs.Snapshots.{mark_of, tree_of};
 use crate::load::Load;
 use crate::place_tree::place_tree;
 use cost_history::Replay;
-use cost_tree::{CutFronts, Fronts};
+use cost_tree::{CallChains, CutFronts};
 use hp_num::{NoMemory, Text};
 use massif_cull::{Kind, SnapArray, SnapEntry};
 use massif_file::{HeapTree, Snap, Snaps, Tree};
@@ -22,7 +22,7 @@ use std::alloc::Global;
 pub(crate) fn take_snaps(
     alloc: Global,
     array: &mut SnapArray<Load>,
-    fronts: Fronts,
+    fronts: CallChains,
     replay: &mut Replay,
     options: &TreeOptions,
 ) -> Result<Snaps, NoMemory>

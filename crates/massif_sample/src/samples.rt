@@ -30,7 +30,7 @@ use crate::profile::{description, shown_command, take_snaps};
 use crate::running::Running;
 use crate::tree_places::tree_places;
 use cost_history::CostHistory;
-use cost_tree::{FrameTest, Fronts};
+use cost_tree::{CallChains, FrameTest};
 use hp_num::NoMemory;
 use ht_trace::Tables;
 use live_ledger::Event;
@@ -48,7 +48,7 @@ pub(crate) struct Samples {
     array: SnapArray<Load>,
     failed: bool,
     /// The first texts of the stacks, as they are trimmed: of all that there were when the last tree was due.
-    fronts: Fronts,
+    fronts: CallChains,
     /// What stacks cost at the places of the snapshots that have a tree.
     history: CostHistory,
     alloc: Global,
@@ -96,7 +96,7 @@ impl Samples {
             running: Running::new(),
             array,
             failed: false,
-            fronts: Fronts::new(alloc),
+            fronts: CallChains::new(alloc),
             history,
             alloc,
         })

@@ -1,7 +1,7 @@
 //! Worked trees, and each call once with ample memory.
 ghost use Rattle.std.specs.Prelude.{◌≡◌, ◌+◌, ◌^◌, ◌≤◌, IfOk, length, sum};
 
-use cost_tree::{Costing, CutFronts, FrameTest, Fronts};
+use cost_tree::{CallChains, Costing, CutFronts, FrameTest};
 use hp_num::{NoMemory, put_bytes, put_dec};
 use ht_trace::{LineError, Tables};
 use massif_file::Tree;
@@ -43,11 +43,11 @@ const ONE_PERCENT: TreeOptions = TreeOptions {
 };
 
 /// The first texts of the stacks, without the front of functions with this name.
-fn texts_without(alloc: Global, tables: &Tables, name: &[u8]) -> Result<Fronts, NoMemory>
+fn texts_without(alloc: Global, tables: &Tables, name: &[u8]) -> Result<CallChains, NoMemory>
     ensures count { IfOk result (λ fronts. length fronts ≡ length tables.now.nodes + 1) }
 {
     let alloc_fns = FrameTest::new(|function: &[u8]| function == name);
-    let mut fronts = Fronts::new(alloc);
+    let mut fronts = CallChains::new(alloc);
     add_trimmed(alloc, tables, &alloc_fns, &ONE_PERCENT, &mut fronts)?;
     Ok(fronts)
 }

@@ -22,7 +22,7 @@ pub each_list-preserved : goal.each_list-preserved
 each_list-preserved c =
     let i = c.each_list.list in
     let numbers : c.deref.result.now ≡ take (get_or c.args.counts.now i 0) (get_or c.args.whole.now i []) =
-    c.deref.ensures.value ∙ c.truncate.ensures.items ∙ ap (λ (ns : List ℕ). take (get_or c.args.counts.now i 0) ns) c.in_ok-list_into.ensures.numbers in
+    c.deref.ensures.value ∙ c.in_ok-list_into.ensures.numbers in
     c.in_ok-push_numbers.ensures.gained c.each_list.shape [] c.in_ok-begin.ensures.appended
     ∙ ap (λ (ns : List ℕ). c.each_list.shape ++ ns ∷ []) numbers
     ∙ cut-more c.args.counts.now c.args.whole.now i c.each_list.shape c.requires.as_many (omega (arith, c.len-list-end.ensures.count)) c.each_list.invariant

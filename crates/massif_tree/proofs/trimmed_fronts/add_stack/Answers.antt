@@ -1,44 +1,78 @@
-use Rattle.std.proofs.Common.{ℕ, List, length, map, take, drop, ap, ◌∙◌, arith}
+use Rattle.std.proofs.Common.{◌≡◌, ℕ, List, [], ◌++◌, None, length, drop, sym, ap, ◌∙◌, arith}
 use Rattle.std.specs.List.{prefix_len}
+use Rattle.std.proofs.lemmas.List.{take_all}
 use Rattle.std.proofs.lemmas.Result.{on_ok_weaker}
+use Rattle.cost_tree.specs.Following.{following}
 use Rattle.ht_trace.specs.declared.frame.FrameAt.{FrameAt}
-use Rattle.ht_trace.specs.declared.frame.Style.TheVariants.{Addressed}
-use Rattle.ht_trace.specs.FrameText.{frame_text}
-use Rattle.massif_tree.specs.FunctionLists.{is_listed}
-use Rattle.massif_tree.proofs.Trimming.{gained-both, list-kept, repeated}
+use Rattle.ht_trace.specs.StackFrames.{outer_frames}
+use Rattle.massif_tree.specs.FunctionLists.{is_listed, without_listed}
+use Rattle.massif_tree.proofs.Trimming.{followed, listed-on, outer-is, outer-none, trimmed-all, trimmed-nothing, trimmed-some, trimmed-whole}
 use Rattle.massif_tree.proofs.trimmed_fronts.add_stack.Goals as goal
 
 pub returns-then-front-len-clause-added : goal.returns-then-front-len-clause-added
 returns-then-front-len-clause-added g c =
     let tables = c.args.tables.now in
-    let own = c.own_frames_into.new.frames.items in
-    let front = c.listed_front-front.result in
-    let caller = c.in_ok-caller.ensures in
-    let count = ap (λ (fs : List FrameAt). length fs) c.deref.ensures.value in
-    on_ok_weaker c.repeat_list.result
+    let most = c.args.most in
+    let stack = c.args.stack in
+    let caller : ℕ = c.in_ok-caller.caller in
+    let outer : List FrameAt = outer_frames tables.instructions tables.nodes caller in
+    let own : List FrameAt = c.deref-then-front-len.result.now in
+    let front : ℕ = c.listed_front-front.result in
+    let lists = c.args.fronts.now in
+    let same : c.deref.result.now ≡ own = c.deref.ensures.value ∙ sym c.deref-then-front-len.ensures.value in
+    let count = ap (λ (fs : List FrameAt). length fs) same in
+    on_ok_weaker c.push_list.result
     (λ appended names are was.
-    repeated tables names c.args.most c.args.stack c.in_ok-caller.caller front own c.args.fronts.now c.repeat_list.new.fronts caller.frames caller.lower
-    (c.listed_front-front.ensures.front names are ∙ ap (λ (fs : List FrameAt). prefix_len (is_listed tables names) fs) c.deref.ensures.value)
-    (omega (arith, c.if-front-len.true, c.len.ensures, c.deref.ensures.len, count)) was appended)
-    c.repeat_list.ensures.appended
+    listed-on tables names most stack (drop front own) (without_listed tables names outer) (following lists c.list_of.result) lists c.push_list.new.fronts
+    (trimmed-all tables names stack caller front own (c.in_ok-caller.ensures.frames ∙ ap (λ (fs : List FrameAt). fs ++ outer) (sym c.deref-then-front-len.ensures.value))
+    (c.listed_front-front.ensures.front names are ∙ ap (λ (fs : List FrameAt). prefix_len (is_listed tables names) fs) same)
+    (omega (arith, c.if-front-len.true, c.len.ensures, c.deref.ensures.len, count)))
+    (followed tables names most stack caller c.list_of.result (without_listed tables names outer) lists was c.in_ok-caller.ensures.lower c.list_of.ensures
+    (λ none. ap (without_listed tables names) (outer-none tables caller none) ∙ trimmed-nothing tables names)
+    (λ some. ap (without_listed tables names) (outer-is tables caller some)))
+    appended)
+    c.push_list.ensures.appended
+
+pub returns-then-lacks_frames-clause-added : goal.returns-then-lacks_frames-clause-added
+returns-then-lacks_frames-clause-added g c =
+    let tables = c.args.tables.now in
+    let most = c.args.most in
+    let stack = c.args.stack in
+    let own : List FrameAt = c.deref.result.now in
+    let outer : List FrameAt = outer_frames tables.instructions tables.nodes c.in_ok-caller.caller in
+    let frames : List FrameAt = c.deref-then-lacks_frames.result.now in
+    let front : ℕ = c.listed_front-front.result in
+    let lists = c.args.fronts.now in
+    on_ok_weaker c.push_list-then-lacks_frames.result
+    (λ appended names are was.
+    listed-on tables names most stack (drop front frames) [] (following lists None) lists c.push_list-then-lacks_frames.new.fronts
+    (trimmed-whole tables names stack front own outer frames (c.in_ok-caller.ensures.frames ∙ ap (λ (fs : List FrameAt). fs ++ outer) (sym c.deref.ensures.value))
+    (c.listed_front-front.ensures.front names are) (omega (arith, c.if-front-len.false, c.len.ensures, c.deref.ensures.len, c.listed_front-front.ensures.within))
+    (c.deref-then-lacks_frames.ensures.value ∙ c.in_ok-frames_into.ensures.of_tables))
+    (sym (take_all most [] (omega arith)))
+    appended)
+    c.push_list-then-lacks_frames.ensures.appended
 
 pub returns-clause-added : goal.returns-clause-added
 returns-clause-added g c =
     let tables = c.args.tables.now in
     let most = c.args.most in
     let stack = c.args.stack in
-    let own = c.own_frames_into.new.frames.items in
-    let front = c.listed_front-front.result in
-    let caller = c.in_ok-caller.ensures in
-    let left = c.in_ok-left.ensures in
-    let texts : List (List ℕ) = take most (map (frame_text Addressed tables) (drop front own)) in
-    let count = ap (λ (fs : List FrameAt). length fs) c.deref.ensures.value in
-    on_ok_weaker c.push_outer.result
-    (λ gained names are was.
-    gained-both tables names most c.in_ok-left.left stack c.in_ok-caller.caller front own c.args.fronts.now c.begin.new.self c.push_own.new.fronts c.push_outer.new.fronts caller.frames
-    (c.listed_front-front.ensures.front names are ∙ ap (λ (fs : List FrameAt). prefix_len (is_listed tables names) fs) c.deref.ensures.value)
-    (omega (arith, c.if-front-len.false, c.len.ensures, c.deref.ensures.len, c.listed_front-front.ensures.within, count))
-    left.left c.in_ok-begin.ensures.appended left.gained
-    (gained names most are (omega (arith, left.left))
-    (λ some. list-kept tables names most stack c.in_ok-caller.caller c.args.fronts.now c.begin.new.self c.push_own.new.fronts texts was c.requires.next (caller.lower some) c.in_ok-begin.ensures.appended left.gained)))
-    c.push_outer.ensures.gained
+    let caller : ℕ = c.in_ok-caller.caller in
+    let outer : List FrameAt = outer_frames tables.instructions tables.nodes caller in
+    let own : List FrameAt = c.deref-2.result.now in
+    let front : ℕ = c.listed_front-front.result in
+    let lists = c.args.fronts.now in
+    let same : c.deref.result.now ≡ own = c.deref.ensures.value ∙ sym c.deref-2.ensures.value in
+    let count = ap (λ (fs : List FrameAt). length fs) same in
+    on_ok_weaker c.push_list-2.result
+    (λ appended names are was.
+    listed-on tables names most stack (drop front own) outer (following lists c.list_of-2.result) lists c.push_list-2.new.fronts
+    (trimmed-some tables names stack front own outer (c.in_ok-caller.ensures.frames ∙ ap (λ (fs : List FrameAt). fs ++ outer) (sym c.deref-2.ensures.value))
+    (c.listed_front-front.ensures.front names are ∙ ap (λ (fs : List FrameAt). prefix_len (is_listed tables names) fs) same)
+    (omega (arith, c.if-front-len.false, c.len.ensures, c.deref.ensures.len, c.listed_front-front.ensures.within, count)))
+    (followed tables names most stack caller c.list_of-2.result outer lists was c.in_ok-caller.ensures.lower c.list_of-2.ensures
+    (outer-none tables caller)
+    (λ some. outer-is tables caller some ∙ sym (c.lacks_frames.ensures.whole c.if-lacks_frames.false some names are)))
+    appended)
+    c.push_list-2.ensures.appended
