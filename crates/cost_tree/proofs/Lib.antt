@@ -25,6 +25,7 @@ mod ChildNodes
 mod Totals
 mod Pushing
 mod Walks
+mod Walking
 mod Cutting
 mod Lengthening
 pub mod Laws

@@ -12,6 +12,7 @@ pub mod Costs
 pub mod FrameTexts
 pub mod Inclusive
 pub mod Children
+pub mod ChildNodes
 pub mod TreeState
 pub mod IsTreeOf
 pub mod View
@@ -21,6 +22,7 @@ pub mod Needed
 pub mod Order
 pub mod CostLines
 pub mod TreeLines
+pub mod AreLinesOf
 pub mod Cuts
 pub mod CutShapes
 pub mod CutState

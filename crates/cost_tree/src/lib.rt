@@ -40,6 +40,7 @@
 #![tactic(auto)]
 
 mod branches;
+mod child_nodes;
 mod children;
 mod costing;
 mod cut;
@@ -52,6 +53,7 @@ mod frame_test;
 mod fronts;
 mod held_names;
 mod line;
+mod line_taker;
 mod lines;
 mod linked;
 mod links;
@@ -70,7 +72,8 @@ pub use direction::Direction;
 pub use frame_test::FrameTest;
 pub use fronts::Fronts;
 pub use line::{CostLine, Place};
-pub use lines::cost_lines;
+pub use line_taker::CostLineTaker;
+pub use lines::{cost_lines, take_lines};
 pub use node::CostNode;
 pub use root_lists::{lists_from_root, repeat_list};
 pub use scale::Scale;

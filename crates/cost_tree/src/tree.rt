@@ -2,6 +2,7 @@
 //! How its nodes are made is in `linked`.
 ghost use Rattle.std.specs.Prelude.{◌≡◌, ◌≢◌, ℕ, ◌+◌, ◌^◌, ◌<◌, ◌≤◌, ◌↔◌, List, [], ◌∷◌, ◌++◌, length, sum, Some, IfOk, OnOk, OnErr, IsOk, AllPairs, Contains, slice_get, vec_capacity};
 ghost use Rattle.cost_tree.specs.declared.node.CostNode.{CostNode};
+ghost use Rattle.cost_tree.specs.ChildNodes.{AreChildNodes};
 ghost use Rattle.cost_tree.specs.Children.{children_of};
 ghost use Rattle.cost_tree.specs.Costed.{costed};
 ghost use Rattle.cost_tree.specs.Costs.{AreCosts};
@@ -10,6 +11,7 @@ ghost use Rattle.cost_tree.specs.StackTexts.{lists_towards};
 ghost use Rattle.cost_tree.specs.Texts.{AreTexts, lists_of};
 ghost use Rattle.cost_tree.specs.TreeLines.{HasLines};
 
+use crate::child_nodes::ChildNodes;
 use crate::costing::Costing;
 use crate::cut_fronts::CutFronts;
 use crate::direction::Direction;
@@ -245,6 +247,21 @@ impl<'a> CostTree<'a> {
             .names()
             .name(self.edges[place].text)
             .unwrap_or(&[])
+    }
+
+    /// The children of node `n`, which must be held.
+    pub(crate) fn child_nodes(&self, n: usize) -> ChildNodes
+        requires held { n < length self.now.nodes }
+        ensures { AreChildNodes result (children_of self.now.nodes n) }
+    {
+        let child = self.links.first_children[n];
+        if child == 0 {
+            return ChildNodes::None;
+        }
+        if self.links.next_brothers[child] == 0 {
+            return ChildNodes::One { child };
+        }
+        ChildNodes::Several
     }
 
     /// Replaces `out` by the children of node `n`, which must be held, by ascending `first`.
