@@ -11,6 +11,7 @@ mod Growing
 mod Stages
 mod Adding
 mod Linking
+mod Beside
 mod Forests
 mod Trees
 mod Needing

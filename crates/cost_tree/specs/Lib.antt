@@ -13,6 +13,7 @@ pub mod FrameTexts
 pub mod Inclusive
 pub mod Children
 pub mod ChildNodes
+pub mod NodeLinks
 pub mod TreeState
 pub mod IsTreeOf
 pub mod View

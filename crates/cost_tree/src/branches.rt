@@ -49,7 +49,8 @@ impl Branches {
             → AreTexts names shape.now
             → IsTree names branches.edges.items branches.nodes.items
             (costed (lists_of names shape.now) costs.now) depth) }
-        ensures some { IfOk result (λ branches. 0 < length branches.nodes.items) }
+        ensures count { IfOk result
+            (λ branches. length branches.nodes.items ≡ length branches.edges.items + 1) }
         ensures lower { IfOk result
             (λ branches. (n : ℕ) (node : CostNode)
             → 0 < n
@@ -76,7 +77,8 @@ impl Branches {
             → AreTexts names shape.now
             → HasGrown names branches.edges.items branches.nodes.items
             (costed (lists_of names shape.now) costs.now) depth) }
-        ensures some { IfOk result (λ branches. 0 < length branches.nodes.items) }
+        ensures count { IfOk result
+            (λ branches. length branches.nodes.items ≡ length branches.edges.items + 1) }
         ensures lower { IfOk result
             (λ branches. (n : ℕ) (node : CostNode)
             → 0 < n
@@ -112,12 +114,15 @@ impl Branches {
             own: 0,
             first: 0,
         };
-        let nodes = Vec::from_slice(alloc, &[root])?;
-        let levels = Vec::from_slice(alloc, &[0])?;
+        // The tree has no more nodes than the shape, so that none is moved while it grows.
+        let mut nodes = Vec::with_capacity(alloc, edges + 1)?;
+        nodes.push(root)?;
+        let mut levels = Vec::with_capacity(alloc, edges + 1)?;
+        levels.push(0)?;
         let mut numbered = vec![in alloc; 0; edges + 1]?;
         numbered[0] = 1;
         Ok(Branches {
-            edges: Vec::new(alloc),
+            edges: Vec::with_capacity(alloc, edges)?,
             nodes,
             levels,
             numbered,

@@ -100,7 +100,7 @@ fn take_pending(
             Ok(CostLine {
                 level,
                 children: count,
-                cost: tree.node(node).cost,
+                cost: tree.cost(node),
                 place: Place::Node { node },
             })
         }
@@ -141,7 +141,7 @@ fn only_child(tree: &CostTree, scale: Scale, level: usize, child: usize) -> Pend
     requires held { child < length tree.now.nodes }
     ensures { result ≡ pending_alone scale tree.now level child }
 {
-    let cost = tree.node(child).cost;
+    let cost = tree.cost(child);
     if !scale.is_small(cost) {
         return Pending::Below { level, node: child };
     }

@@ -40,7 +40,7 @@ impl Linked {
     {
         let branches = Branches::of(alloc, shape, costs, depth)?;
         let Branches { edges, nodes, .. } = branches;
-        let links = Links::of(alloc, &nodes)?;
+        let links = Links::of(alloc, &edges, &nodes)?;
         Ok(Linked {
             edges,
             nodes,

@@ -9,6 +9,7 @@ ghost use Rattle.cost_tree.specs.Costs.{AreCosts};
 ghost use Rattle.cost_tree.specs.IsTreeOf.{IsTreeOf};
 ghost use Rattle.cost_tree.specs.StackTexts.{lists_towards};
 ghost use Rattle.cost_tree.specs.Texts.{AreTexts, lists_of};
+ghost use Rattle.cost_tree.specs.Shares.{cost_at};
 ghost use Rattle.cost_tree.specs.TreeLines.{HasLines};
 
 use crate::child_nodes::ChildNodes;
@@ -228,6 +229,14 @@ impl<'a> CostTree<'a> {
         self.nodes[n]
     }
 
+    /// What node `n` costs, which must be held.
+    pub(crate) fn cost(&self, n: usize) -> u64
+        requires held { n < length self.now.nodes }
+        ensures { result ≡ cost_at self.now n }
+    {
+        self.links.cost(n)
+    }
+
     /// The last text of the front of node `n`, which must be held; it is empty for node 0.
     pub fn text(&self, n: usize) -> &[u8]
         requires held { n < length self.now.nodes }
@@ -240,13 +249,10 @@ impl<'a> CostTree<'a> {
             slice_get self.now.fronts node.parent ≡ Some front
             → slice_get self.now.fronts n ≡ Some (front ++ result.now ∷ []) }
     {
-        let Some(place) = n.checked_sub(1) else {
+        if n == 0 {
             return &[];
-        };
-        self.names
-            .names()
-            .name(self.edges[place].text)
-            .unwrap_or(&[])
+        }
+        self.names.names().name(self.links.text(n)).unwrap_or(&[])
     }
 
     /// The children of node `n`, which must be held.
@@ -254,11 +260,11 @@ impl<'a> CostTree<'a> {
         requires held { n < length self.now.nodes }
         ensures { AreChildNodes result (children_of self.now.nodes n) }
     {
-        let child = self.links.first_children[n];
+        let child = self.links.first_child(n);
         if child == 0 {
             return ChildNodes::None;
         }
-        if self.links.next_brothers[child] == 0 {
+        if self.links.next_brother(child) == 0 {
             return ChildNodes::One { child };
         }
         ChildNodes::Several
@@ -292,10 +298,10 @@ impl<'a> CostTree<'a> {
         ensures room { length out.old.items + length (children_of self.now.nodes n)
             ≤ vec_capacity out.old → IsOk result }
     {
-        let mut child = self.links.first_children[n];
+        let mut child = self.links.first_child(n);
         'each_child: while child != 0 {
             out.push(child)?;
-            child = self.links.next_brothers[child];
+            child = self.links.next_brother(child);
         }
         Ok(())
     }
@@ -306,10 +312,10 @@ impl<'a> CostTree<'a> {
         ensures { result ≡ length (children_of self.now.nodes n) }
     {
         let mut count = 0;
-        let mut child = self.links.first_children[n];
+        let mut child = self.links.first_child(n);
         'each_child: while child != 0 {
             count += 1;
-            child = self.links.next_brothers[child];
+            child = self.links.next_brother(child);
         }
         count
     }
