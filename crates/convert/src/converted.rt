@@ -1,5 +1,5 @@
 //! The Massif profile of a DHAT profile: what was live at the peak, and what was live at the end.
-ghost use Rattle.std.specs.Prelude.{◌≡◌, ◌≢◌, ◌<◌, ◌≤◌, ◌^◌, [], ◌∷◌, length, sum, Some, None, Err, IfErr, IfOk, OnOk};
+ghost use Rattle.std.specs.Prelude.{◌≡◌, ◌≢◌, ◌<◌, ◌≤◌, ◌^◌, [], ◌∷◌, length, sum, true, Some, None, Err, IfErr, IfOk, OnOk};
 ghost use Rattle.cost_tree.specs.IsTreeOf.{IsTreeOf};
 ghost use Rattle.dhat_json.specs.declared.figure.FigureKey.TheVariants.{Eb, Gb};
 ghost use Rattle.dhat_json.specs.IsSound.{IsSound};
@@ -128,7 +128,7 @@ fn live_snaps(alloc: Global, dhat: &Dhat, at_peak: u64, at_end: u64) -> Result<S
 {
     let fronts = fronts_of(alloc, dhat)?;
     let peak_tree = live_tree(alloc, dhat, &fronts, FigureKey::Gb, at_peak)?;
-    let end_tree = live_tree(alloc, dhat, &fronts, FigureKey::Eb, at_end)?;
+    let end_tree = end_tree(alloc, dhat, &fronts, &peak_tree, at_end)?;
     let peak = live_snap(time_of_peak(dhat), at_peak, HeapTree::Peak, peak_tree);
     let end = live_snap(dhat.te, at_end, HeapTree::Detailed, end_tree);
     let mut snaps = Snaps::new(alloc);
@@ -190,6 +190,44 @@ fn live_tree(
         depth: DEPTH,
     };
     tree_lines(alloc, &tree, &options, total)
+}
+
+/// The tree of the end of these fronts, which are the points'. Where as much is live at the end as at the peak, it is the
+/// tree of the peak.
+fn end_tree(
+    alloc: Global,
+    dhat: &Dhat,
+    fronts: &Fronts,
+    peak_tree: &Tree,
+    at_end: u64,
+) -> Result<Tree, NoMemory>
+    requires fronts { fronts.now ≡ point_fronts dhat.now }
+    requires few { length dhat.now.pps < 2 ^ 32 }
+    requires peak { peak_tree.now
+        ≡ massif_tree whole_tree (sum (point_costs Gb dhat.now)) (point_items Gb dhat.now) }
+    requires total { at_end ≡ sum (point_costs Eb dhat.now) }
+    requires within { at_end ≤ 2 ^ 62 }
+    ensures tree { IfOk result
+        (λ tree. tree ≡ massif_tree whole_tree (sum (point_costs Eb dhat.now))
+        (point_items Eb dhat.now)) }
+{
+    if ends_as_at_peak(dhat) {
+        return peak_tree.copy(alloc);
+    }
+    live_tree(alloc, dhat, fronts, FigureKey::Eb, at_end)
+}
+
+/// Whether each point has as much live at the end as at the peak, as in a program that frees nothing.
+fn ends_as_at_peak(dhat: &Dhat) -> bool
+    ensures { result ≡ true → point_costs Eb dhat.now ≡ point_costs Gb dhat.now }
+{
+    'each_point: for place in 0..dhat.pps.len() {
+        let at_end = figure_at(FigureKey::Eb, dhat, place);
+        if at_end != figure_at(FigureKey::Gb, dhat, place) {
+            return false;
+        }
+    }
+    true
 }
 
 /// The tree of costs of these fronts.

@@ -13,6 +13,7 @@ mod Growing
 mod Stages
 mod Adding
 mod Linking
+mod Beside
 mod Forests
 mod Trees
 mod Needing
@@ -27,6 +28,7 @@ mod ChildNodes
 mod Totals
 mod Pushing
 mod Walks
+mod Walking
 mod Cutting
 mod Lengthening
 pub mod Laws

@@ -171,11 +171,11 @@ AreLinksFrom-read nodes firsts nexts m n child d is links above within lower rea
     subst R (sym is) (subst C (sym stored) (AreLinksFrom-more nodes firsts nexts n node (subst M is links) above at (omega arith)))
 
 -- the next child, as it is read
-pub IsWalk-read : (nodes : List CostNode) (firsts nexts : List ℕ) (n child next : ℕ) → AreLinksFrom nodes firsts nexts 1 → IsWalk nodes n child → child ≢ 0 → next ≡ get_or nexts child next
+pub IsWalk-read : (nodes : List CostNode) (firsts nexts : List ℕ) (n child next : ℕ) → AreLinksFrom nodes firsts nexts 1 → IsWalk nodes n child → child ≢ 0 → next ≡ slice_index nexts child
     → IsWalk nodes n next × (chain nodes n child ≡ child ∷ chain nodes n next)
 IsWalk-read nodes firsts nexts n child next links walk some read =
     let P : ℕ → Type 0 = λ k. IsWalk nodes n k × (chain nodes n child ≡ child ∷ chain nodes n k) in
-    subst P (sym (get_or_read nexts child next (omega (arith, walk.within, links.nexts_count)) read 0)) (IsWalk-next nodes firsts nexts n child links walk some)
+    subst P (sym read) (IsWalk-next nodes firsts nexts n child links walk some)
 
 -- the numbers of a range that pass a test
 pub ranged : (p : ℕ → Bool) (a count : ℕ) → All (λ m. (a ≤ m) × ((m < a + count) × (p m ≡ true))) (filter p (range_with_len a count))

@@ -1,5 +1,5 @@
 -- Lemmas on an edge that is sought among the edges, and added where it isn't one of them.
-use Rattle.std.proofs.Common.{◌≡◌, ◌≢◌, ℕ, ◌⊎◌, inl, inr, true, false, ◌==◌, List, [], ◌∷◌, ◌++◌, length, Option, Some, sym, subst, ◌∙◌}
+use Rattle.std.proofs.Common.{◌≡◌, ◌≢◌, ℕ, ◌⊎◌, ◌≤◌, inl, inr, true, false, ◌==◌, List, [], ◌∷◌, ◌++◌, length, Option, Some, sym, ap, subst, ◌∙◌, arith}
 use Rattle.std.specs.Prelude.{slice_get}
 use Rattle.std.proofs.lemmas.Bool.{cases_Bool, and_parts, eqb-true}
 use Rattle.cost_tree.specs.declared.edge.Edge.{Edge}
@@ -41,18 +41,24 @@ placed-same edges before after edge are none same = record {
     | inl next ↦ inl next
     | inr placed ↦ inr (same other (λ is. none place (subst (λ (e : Edge). slice_get edges place ≡ Some e) (sym is) at)) ∙ placed)
   ];
+  earlier = are.earlier;
 }
 
 -- the edges with a new one
 pub placed-push :
     (edges : List Edge) (place_of : Edge → Option ℕ) (edge : Edge)
     → ArePlaced edges place_of
+    → edge.parent ≤ length edges
     → (edge.parent ≡ length edges) ⊎ (place_of edge ≡ Some (length edges))
     → ArePlaced (edges ++ edge ∷ []) place_of
-placed-push edges place_of edge are here = record {
+placed-push edges place_of edge are before here = record {
   each = λ place other at. elim (get-push_cases edges edge place other at) [
     | inl old ↦ are.each place other old
     | inr new ↦ subst (λ (e : Edge). (e.parent ≡ place) ⊎ (place_of e ≡ Some place)) (sym new.1)
         (subst (λ (p : ℕ). (edge.parent ≡ p) ⊎ (place_of edge ≡ Some p)) (sym new.0) here)
+  ];
+  earlier = λ place other at. elim (get-push_cases edges edge place other at) [
+    | inl old ↦ are.earlier place other old
+    | inr new ↦ let is = ap (λ (e : Edge). e.parent) new.1 in let here = new.0 in omega arith
   ];
 }

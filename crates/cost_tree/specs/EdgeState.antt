@@ -1,5 +1,5 @@
 -- What contracts see of the edges of a shape, and where each is found.
-use Rattle.std.specs.Prelude.{◌≡◌, ℕ, ◌==◌, ◌&&◌, ◌⊎◌, Bool, List, Option, Some, slice_get}
+use Rattle.std.specs.Prelude.{◌≡◌, ℕ, ◌==◌, ◌≤◌, ◌&&◌, ◌⊎◌, Bool, List, Option, Some, slice_get}
 use Rattle.cost_tree.specs.declared.edge.Edge.{Edge}
 
 -- the edges in the order in which they came
@@ -10,7 +10,9 @@ pub record EdgeState : Type 0 where
 abbrev pub edge_eq : Edge → Edge → Bool
 edge_eq a b = a.parent == b.parent && a.text == b.text
 
--- each edge begins at the node right before its own, or has its place in an index
+-- each edge begins at an earlier node: at the one right before its own, or it has its place in an index
 pub record ArePlaced (edges : List Edge) (place_of : Edge → Option ℕ) : Type 0 where
   pub each : (place : ℕ) (edge : Edge) → slice_get edges place ≡ Some edge
       → (edge.parent ≡ place) ⊎ (place_of edge ≡ Some place)
+  pub earlier : (place : ℕ) (edge : Edge) → slice_get edges place ≡ Some edge
+      → edge.parent ≤ place

@@ -13,6 +13,8 @@ pub mod Costs
 pub mod FrameTexts
 pub mod Inclusive
 pub mod Children
+pub mod ChildNodes
+pub mod NodeLinks
 pub mod TreeState
 pub mod IsTreeOf
 pub mod View
@@ -22,6 +24,7 @@ pub mod Needed
 pub mod Order
 pub mod CostLines
 pub mod TreeLines
+pub mod AreLinesOf
 pub mod Cuts
 pub mod Following
 pub mod ChainLists

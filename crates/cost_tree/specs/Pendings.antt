@@ -10,7 +10,7 @@ use Rattle.cost_tree.specs.declared.scale.Scale.{Scale}
 use Rattle.cost_tree.specs.Children.{children_of}
 use Rattle.cost_tree.specs.Costed.{Costed}
 use Rattle.cost_tree.specs.CostLines.{FrontLine, front_lines}
-use Rattle.cost_tree.specs.Shares.{cost_at, gathered_in, kept_children, small_children}
+use Rattle.cost_tree.specs.Shares.{cost_at, gathered_in, is_small_at, kept_children, small_children}
 use Rattle.cost_tree.specs.TreeLines.{IsLineOf, front_at, line_at}
 use Rattle.cost_tree.specs.TreeState.{TreeState}
 
@@ -42,6 +42,13 @@ abbrev pub pending_children : Scale → TreeState → ℕ → ℕ → List Pendi
 pending_children scale tree level n =
     pending_gathered level (gathered_in tree (small_children scale tree n))
     ++ reverse (map (Below level) (kept_children scale tree n))
+
+-- what is pending of a child that has no brothers
+abbrev pub pending_alone : Scale → TreeState → ℕ → ℕ → Pending
+pending_alone scale tree level child =
+    if is_small_at scale tree child
+    then Line (gathered_line level (record { places = 1; cost = cost_at tree child }))
+    else Below level child
 
 -- the line of a node with so many children
 abbrev pub node_line : TreeState → ℕ → ℕ → ℕ → CostLine

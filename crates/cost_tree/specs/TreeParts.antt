@@ -3,10 +3,10 @@ use Rattle.std.specs.Prelude.{ℕ, List}
 use Rattle.cost_tree.specs.declared.edge.Edge.{Edge}
 use Rattle.cost_tree.specs.declared.linked.Linked.{Linked}
 use Rattle.cost_tree.specs.declared.node.CostNode.{CostNode}
-use Rattle.cost_tree.specs.Children.{AreLinks}
 use Rattle.cost_tree.specs.Costed.{Costed}
 use Rattle.cost_tree.specs.Growth.{AreBranches}
 use Rattle.cost_tree.specs.IsTreeOf.{IsTreeOf}
+use Rattle.cost_tree.specs.NodeLinks.{AreNodeLinks}
 use Rattle.cost_tree.specs.Texts.{fronts_of}
 
 -- the nodes are those of the edges, and the tree is that of the stacks
@@ -15,9 +15,8 @@ pub record IsTree (names : List (List ℕ)) (edges : List Edge) (nodes : List Co
   pub branches : AreBranches names edges nodes (fronts_of names edges)
   pub tree_of : IsTreeOf (record { fronts = fronts_of names edges; nodes = nodes }) stacks depth
 
--- and each node has its links
+-- and its nodes have their links
 pub record IsLinkedTree (names : List (List ℕ)) (tree : Linked) (stacks : List Costed)
     (depth : ℕ) : Type 0 where
   pub nodes : IsTree names tree.edges.items tree.nodes.items stacks depth
-  pub links : AreLinks tree.nodes.items tree.links.first_children.items
-      tree.links.next_brothers.items
+  pub links : AreNodeLinks tree.edges.items tree.nodes.items tree.links.links.items

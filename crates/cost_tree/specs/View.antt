@@ -1,8 +1,8 @@
 -- How contracts see the fields of a tree.
 use Rattle.cost_tree.specs.declared.tree.CostTree.TheInside.{Inside}
-use Rattle.cost_tree.specs.Children.{AreLinks}
 use Rattle.cost_tree.specs.Growth.{AreBranches}
 use Rattle.cost_tree.specs.HeldNames.{names_in}
+use Rattle.cost_tree.specs.NodeLinks.{AreNodeLinks}
 use Rattle.cost_tree.specs.Texts.{fronts_of}
 use Rattle.cost_tree.specs.TreeState.{TreeState}
 
@@ -17,5 +17,4 @@ state_of tree = record {
 pub record IsWhole (tree : Inside) : Type 0 where
   pub branches : AreBranches (names_in tree.names) tree.edges.items tree.nodes.items
       (fronts_of (names_in tree.names) tree.edges.items)
-  pub links : AreLinks tree.nodes.items tree.links.first_children.items
-      tree.links.next_brothers.items
+  pub links : AreNodeLinks tree.edges.items tree.nodes.items tree.links.links.items

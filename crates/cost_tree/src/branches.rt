@@ -51,7 +51,8 @@ impl Branches {
             → AreTexts names (lists_in edges.now ends.now)
             → IsTree names branches.edges.items branches.nodes.items
             (costed (lists_of names (lists_in edges.now ends.now)) costs.now) depth) }
-        ensures some { IfOk result (λ branches. 0 < length branches.nodes.items) }
+        ensures count { IfOk result
+            (λ branches. length branches.nodes.items ≡ length branches.edges.items + 1) }
         ensures lower { IfOk result
             (λ branches. (n : ℕ) (node : CostNode)
             → 0 < n
@@ -80,7 +81,8 @@ impl Branches {
             → AreTexts names (lists_in edges.now ends.now)
             → HasGrown names branches.edges.items branches.nodes.items
             (costed (lists_of names (lists_in edges.now ends.now)) costs.now) depth) }
-        ensures some { IfOk result (λ branches. 0 < length branches.nodes.items) }
+        ensures count { IfOk result
+            (λ branches. length branches.nodes.items ≡ length branches.edges.items + 1) }
         ensures lower { IfOk result
             (λ branches. (n : ℕ) (node : CostNode)
             → 0 < n
@@ -110,6 +112,7 @@ impl Branches {
             own: 0,
             first: 0,
         };
+        // The tree has no more nodes than the shape, so that none is moved while it grows.
         let mut nodes = Vec::with_capacity(alloc, edges + 1)?;
         nodes.push(root)?;
         let mut levels = Vec::with_capacity(alloc, edges + 1)?;

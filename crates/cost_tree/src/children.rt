@@ -43,7 +43,7 @@ pub(crate) fn split_children(
 {
     let mut gathered = Gathered { places: 0, cost: 0 };
     'each_node: for node in nodes {
-        let cost = tree.node(*node).cost;
+        let cost = tree.cost(*node);
         if scale.is_small(cost) {
             gathered.places += 1;
             gathered.cost += cost;

@@ -14,8 +14,8 @@ use std::marker::Model;
 
 /// Different edges in the order in which they came: node n has the one at place n - 1.
 ///
-/// An edge that leads from a node to the next one is found at its place, and has no entry in the index: so of a list that goes
-/// on by new nodes alone one edge is hashed, however long it is.
+/// Each begins at an earlier node, so the last node has none yet, and an edge that leads from a node to the next one is found at
+/// its place, and has no entry in the index: so of a list that goes on by new nodes alone one edge is hashed, however long it is.
 #[derive(Debug, Drop)]
 pub(crate) struct Edges {
     edges: Vec<Edge>,
@@ -86,8 +86,10 @@ impl Edges {
         edges
     }
 
-    /// The place of the edge, which is put behind all others where it is new. On `NoMemory` there is none more.
+    /// The place of the edge, which is put behind all others where it is new. Its parent must be a node. On `NoMemory` there is
+    /// none more.
     pub(crate) fn insert(&mut self, edge: Edge) -> Result<usize, NoMemory>
+        requires earlier { edge.parent ≤ length self.old.keys }
         ensures child { IfOk result (λ place. IsChild self.old.keys self.new.keys edge place) }
         ensures within { IfOk result (λ place. place < length self.new.keys) }
         ensures unchanged { OnErr result (self.new.keys ≡ self.old.keys) }
@@ -103,9 +105,14 @@ impl Edges {
 
     /// The place of the edge, or `None` where it is new.
     fn find(&self, edge: Edge) -> Option<usize>
+        requires earlier { edge.parent ≤ length self.now.keys }
         ensures found { IfSome result (λ place. slice_get self.now.keys place ≡ Some edge) }
         ensures none { IfNone result ((place : ℕ) → slice_get self.now.keys place ≢ Some edge) }
     {
+        // The last node has no edges yet.
+        if edge.parent == self.edges.len() {
+            return None;
+        }
         if is_at(&self.edges, edge.parent, edge) {
             return Some(edge.parent);
         }

@@ -20,7 +20,7 @@
 //! - A node says its parent, which stands before it, its cost, its own cost and the first stack. `text` is its front's
 //!   last text, and `children_into` gives all its children by ascending number, which is also by ascending first stack.
 //! - `cost_lines` gives the lines of a tree above a threshold, as a list over fronts (`CostLines`): costly fronts first,
-//!   and one line for the others of a node.
+//!   and one line for the others of a node. `take_lines` gives them one by one to what takes them (`CostLineTaker`).
 //!
 //! A text is compared with others once, when it is pushed, and a front once, when its last number is; a tree hashes nothing and
 //! copies no text. The crates above may cite its `proofs/Laws`. The tests of these calls are the crate `cost_tree_tests`.
@@ -35,9 +35,9 @@
 //! | `cut_fronts.rt`, `cut.rt`, `ends.rt` | lists of texts that are cut, and of numbers; what lists cost together that end at one node |
 //! | `costing.rt`, `frame_test.rt` | what each stack costs, and which names are meant, by closures |
 //! | `branches.rt`, `summing.rt` | a tree that grows along a shape; what its nodes cost with those below them |
-//! | `linked.rt`, `links.rt` | its nodes with the links to their children |
+//! | `linked.rt`, `links.rt`, `child_nodes.rt` | its nodes with the links to their children; how many children a node has |
 //! | `tree.rt`, `node.rt`, `held_names.rt` | the tree, one node, and whose names it has |
-//! | `scale.rt`, `line.rt` | what costs are measured by; a line |
+//! | `scale.rt`, `line.rt`, `line_taker.rt` | what costs are measured by; a line; what takes lines |
 //! | `children.rt`, `lines.rt` | which children of a node have lines of their own; the walk that gives the lines |
 #![tactic(auto)]
 
@@ -45,6 +45,7 @@ mod branches;
 mod call_chains;
 mod chain;
 mod chains;
+mod child_nodes;
 mod children;
 mod costing;
 mod cut;
@@ -57,6 +58,7 @@ mod frame_test;
 mod fronts;
 mod held_names;
 mod line;
+mod line_taker;
 mod lines;
 mod linked;
 mod links;
@@ -79,7 +81,8 @@ pub use direction::Direction;
 pub use frame_test::FrameTest;
 pub use fronts::Fronts;
 pub use line::{CostLine, Place};
-pub use lines::cost_lines;
+pub use line_taker::CostLineTaker;
+pub use lines::{cost_lines, take_lines};
 pub use list_form::ListForm;
 pub use node::CostNode;
 pub use root_lists::lists_from_root;

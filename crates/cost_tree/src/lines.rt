@@ -4,12 +4,16 @@ ghost use Rattle.std.specs.Prelude.{◌≡◌, ℕ, ◌<◌, ◌≤◌, ◌^◌,
 ghost use Rattle.cost_tree.specs.Children.{children_of};
 ghost use Rattle.cost_tree.specs.Costed.{Costed};
 ghost use Rattle.cost_tree.specs.CostLines.{cost_lines};
-ghost use Rattle.cost_tree.specs.Pendings.{IsPending, children_below, pending_below, pending_child, pending_children, pending_gathered, pending_line};
+ghost use Rattle.cost_tree.specs.declared.line.CostLine.{CostLine};
+ghost use Rattle.cost_tree.specs.Pendings.{IsPending, children_below, pending_alone, pending_below, pending_child, pending_children, pending_gathered, pending_line};
 ghost use Rattle.cost_tree.specs.Shares.{cost_at};
+ghost use Rattle.cost_tree.specs.AreLinesOf.{AreLinesOf};
 ghost use Rattle.cost_tree.specs.TreeLines.{HasLines, IsLineOf, line_at};
 
+use crate::child_nodes::ChildNodes;
 use crate::children::{Child, Gathered, sort_children, split_children};
 use crate::line::{CostLine, Place};
+use crate::line_taker::CostLineTaker;
 use crate::scale::Scale;
 use crate::tree::CostTree;
 use hp_num::NoMemory;
@@ -44,17 +48,35 @@ pub fn cost_lines(alloc: Global, tree: &CostTree, scale: Scale) -> Result<Vec<Co
         (λ lines. (stacks : List Costed) (depth : ℕ) → HasLines tree.now stacks depth →
         All (IsLineOf tree.now stacks depth) lines.items) }
 {
+    let mut lines = Vec::new(alloc);
+    take_lines(alloc, tree, scale, &mut lines)?;
+    Ok(lines)
+}
+
+/// Gives the lines of the tree, as `cost_lines` does, to a taker one by one.
+pub fn take_lines<T: CostLineTaker>(
+    alloc: Global,
+    tree: &CostTree,
+    scale: Scale,
+    taker: &mut T,
+) -> Result<(), NoMemory>
+    requires tree { (stacks : List Costed) × (depth : ℕ) × HasLines tree.now stacks depth }
+    requires none_yet { T.takes tree.now taker.old [] taker.old }
+    ensures taken { OnOk result
+        ((lines : List CostLine) × AreLinesOf scale tree.now lines
+        × T.takes tree.now taker.old lines taker.new) }
+{
     let mut children = Children {
         nodes: Vec::new(alloc),
         kept: Vec::new(alloc),
     };
-    let mut lines = Vec::new(alloc);
     let mut pending = Vec::new(alloc);
     pending.push(Pending::Below { level: 0, node: 0 })?;
     'each_pending: while let Some(next) = pending.pop() {
-        lines.push(take_pending(tree, scale, next, &mut children, &mut pending)?)?;
+        let line = take_pending(tree, scale, next, &mut children, &mut pending)?;
+        taker.take_line(tree, line)?;
     }
-    Ok(lines)
+    Ok(())
 }
 
 /// The line of what is pending; what stands below it is put in its place, the first one last. `children` are buffers.
@@ -78,7 +100,7 @@ fn take_pending(
             Ok(CostLine {
                 level,
                 children: count,
-                cost: tree.node(node).cost,
+                cost: tree.cost(node),
                 place: Place::Node { node },
             })
         }
@@ -87,8 +109,54 @@ fn take_pending(
 }
 
 /// Appends the children of a node, which stand on this level, the first one last, and answers how many lines they have.
-/// `children` are buffers.
+/// `children` are buffers, and needed only where it has several.
 fn push_children(
+    tree: &CostTree,
+    scale: Scale,
+    level: usize,
+    node: usize,
+    children: &mut Children,
+    pending: &mut Vec<Pending>,
+) -> Result<u32, NoMemory>
+    requires held { node < length tree.now.nodes }
+    requires within { sum_by (cost_at tree.now) (children_of tree.now.nodes node) ≤ 2 ^ 62 }
+    requires few { length (children_of tree.now.nodes node) < 2 ^ 32 }
+    ensures appended { OnOk result
+        (pending.new.items ≡ pending.old.items ++ pending_children scale tree.now level node) }
+    ensures count { IfOk result
+        (λ count. count ≡ length (pending_children scale tree.now level node)) }
+{
+    match tree.child_nodes(node) {
+        ChildNodes::None => Ok(0),
+        ChildNodes::One { child } => {
+            pending.push(only_child(tree, scale, level, child))?;
+            Ok(1)
+        }
+        ChildNodes::Several => push_several(tree, scale, level, node, children, pending),
+    }
+}
+
+/// What is pending of a node that has no brothers and stands on this level.
+fn only_child(tree: &CostTree, scale: Scale, level: usize, child: usize) -> Pending
+    requires held { child < length tree.now.nodes }
+    ensures { result ≡ pending_alone scale tree.now level child }
+{
+    let cost = tree.cost(child);
+    if !scale.is_small(cost) {
+        return Pending::Below { level, node: child };
+    }
+    Pending::Line {
+        line: CostLine {
+            level,
+            children: 0,
+            cost,
+            place: Place::Gathered { places: 1 },
+        },
+    }
+}
+
+/// Appends the children of a node, and answers how many lines they have, as `push_children` does.
+fn push_several(
     tree: &CostTree,
     scale: Scale,
     level: usize,

@@ -1,5 +1,5 @@
 //! The nodes of a tree with the links to their children, by the numbers of a shape.
-ghost use Rattle.std.specs.Prelude.{◌≡◌, ℕ, ◌<◌, List, Some, length, slice_get, IfOk};
+ghost use Rattle.std.specs.Prelude.{◌≡◌, ℕ, ◌+◌, ◌<◌, List, Some, length, slice_get, IfOk};
 ghost use Rattle.cost_tree.specs.declared.node.CostNode.{CostNode};
 ghost use Rattle.cost_tree.specs.Costed.{Costed};
 ghost use Rattle.cost_tree.specs.TreeParts.{IsLinkedTree, IsTree};
@@ -22,7 +22,7 @@ pub(crate) struct Linked {
 impl Linked {
     /// The branches with their links, or `NoMemory`. What they needed to grow is let go first.
     pub(crate) fn of(alloc: Global, branches: Branches) -> Result<Linked, NoMemory>
-        requires some { 0 < length branches.nodes.items }
+        requires count { length branches.nodes.items ≡ length branches.edges.items + 1 }
         requires lower { (n : ℕ) (node : CostNode)
             → 0 < n
             → slice_get branches.nodes.items n ≡ Some node
@@ -42,7 +42,7 @@ impl Linked {
         drop(levels);
         drop(numbered);
         drop(path);
-        let links = Links::of(alloc, &nodes)?;
+        let links = Links::of(alloc, &edges, &nodes)?;
         Ok(Linked {
             edges,
             nodes,

@@ -136,6 +136,7 @@ impl Shape {
 /// The node that goes on from a node by the number, which is made where there is none yet. On `NoMemory` there is none
 /// more.
 fn child_of(edges: &mut Edges, parent: usize, number: usize) -> Result<usize, NoMemory>
+    requires held { parent ≤ length edges.old.keys }
     ensures child { IfOk result
         (λ n. (place : ℕ) × (n ≡ place + 1)
         × IsChild edges.old.keys edges.new.keys (record { parent = parent; text = number }) place) }

@@ -2,15 +2,18 @@
 //! How its nodes are made is in `linked`.
 ghost use Rattle.std.specs.Prelude.{◌≡◌, ◌≢◌, ℕ, ◌+◌, ◌^◌, ◌<◌, ◌≤◌, ◌↔◌, List, [], ◌∷◌, ◌++◌, length, sum, Some, IfOk, OnOk, OnErr, IsOk, AllPairs, Contains, slice_get, vec_capacity};
 ghost use Rattle.cost_tree.specs.declared.node.CostNode.{CostNode};
+ghost use Rattle.cost_tree.specs.ChildNodes.{AreChildNodes};
 ghost use Rattle.cost_tree.specs.Children.{children_of};
 ghost use Rattle.cost_tree.specs.Costed.{costed};
 ghost use Rattle.cost_tree.specs.Costs.{AreCosts};
 ghost use Rattle.cost_tree.specs.IsTreeOf.{IsTreeOf};
 ghost use Rattle.cost_tree.specs.StackTexts.{lists_towards};
 ghost use Rattle.cost_tree.specs.Texts.{AreTexts, lists_of};
+ghost use Rattle.cost_tree.specs.Shares.{cost_at};
 ghost use Rattle.cost_tree.specs.TreeLines.{HasLines};
 
 use crate::branches::Branches;
+use crate::child_nodes::ChildNodes;
 use crate::costing::Costing;
 use crate::cut_fronts::CutFronts;
 use crate::direction::Direction;
@@ -236,6 +239,14 @@ impl<'a> CostTree<'a> {
         self.nodes[n]
     }
 
+    /// What node `n` costs, which must be held.
+    pub(crate) fn cost(&self, n: usize) -> u64
+        requires held { n < length self.now.nodes }
+        ensures { result ≡ cost_at self.now n }
+    {
+        self.links.cost(n)
+    }
+
     /// The last text of the front of node `n`, which must be held; it is empty for node 0.
     pub fn text(&self, n: usize) -> &[u8]
         requires held { n < length self.now.nodes }
@@ -248,13 +259,25 @@ impl<'a> CostTree<'a> {
             slice_get self.now.fronts node.parent ≡ Some front
             → slice_get self.now.fronts n ≡ Some (front ++ result.now ∷ []) }
     {
-        let Some(place) = n.checked_sub(1) else {
+        if n == 0 {
             return &[];
-        };
-        self.names
-            .names()
-            .name(self.edges[place].text)
-            .unwrap_or(&[])
+        }
+        self.names.names().name(self.links.text(n)).unwrap_or(&[])
+    }
+
+    /// The children of node `n`, which must be held.
+    pub(crate) fn child_nodes(&self, n: usize) -> ChildNodes
+        requires held { n < length self.now.nodes }
+        ensures { AreChildNodes result (children_of self.now.nodes n) }
+    {
+        let child = self.links.first_child(n);
+        if child == 0 {
+            return ChildNodes::None;
+        }
+        if self.links.next_brother(child) == 0 {
+            return ChildNodes::One { child };
+        }
+        ChildNodes::Several
     }
 
     /// Replaces `out` by the children of node `n`, which must be held, by ascending `first`.
@@ -285,10 +308,10 @@ impl<'a> CostTree<'a> {
         ensures room { length out.old.items + length (children_of self.now.nodes n)
             ≤ vec_capacity out.old → IsOk result }
     {
-        let mut child = self.links.first_children[n];
+        let mut child = self.links.first_child(n);
         'each_child: while child != 0 {
             out.push(child)?;
-            child = self.links.next_brothers[child];
+            child = self.links.next_brother(child);
         }
         Ok(())
     }
@@ -299,10 +322,10 @@ impl<'a> CostTree<'a> {
         ensures { result ≡ length (children_of self.now.nodes n) }
     {
         let mut count = 0;
-        let mut child = self.links.first_children[n];
+        let mut child = self.links.first_child(n);
         'each_child: while child != 0 {
             count += 1;
-            child = self.links.next_brothers[child];
+            child = self.links.next_brother(child);
         }
         count
     }

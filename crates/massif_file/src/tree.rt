@@ -1,6 +1,6 @@
 //! The lines of a tree. Their labels stand one behind another in one vector, so a line takes no memory of its own.
 //! How the lines are spelled, and which of them make a tree, are no part of it.
-ghost use Rattle.std.specs.Prelude.{◌≡◌, ◌<◌, [], ◌∷◌, ◌++◌, length, slice_get, Some, OnOk, OnErr};
+ghost use Rattle.std.specs.Prelude.{◌≡◌, ◌<◌, [], ◌∷◌, ◌++◌, length, slice_get, Some, IfOk, OnOk, OnErr};
 ghost use Rattle.massif_file.specs.TreeLine.{line_of};
 
 use crate::profile::TreeFields;
@@ -62,6 +62,15 @@ impl Tree {
             count: line.label.len(),
         })?;
         Ok(())
+    }
+
+    /// The same lines, or `NoMemory`.
+    pub fn copy(&self, alloc: Global) -> Result<Tree, NoMemory>
+        ensures lines { IfOk result (λ copy. copy ≡ self.now) }
+    {
+        let entries = Vec::from_slice(alloc, &self.entries)?;
+        let labels = Vec::from_slice(alloc, &self.labels)?;
+        Ok(Tree { entries, labels })
     }
 
     /// How many lines there are.

@@ -1,5 +1,5 @@
 //! A profile written as the text of Massif's output file. Reading such a text is the reader's part.
-ghost use Rattle.std.specs.Prelude.{◌≡◌, ℕ, ◌-◌, ◌^◌, ◌<◌, [], ◌∷◌, ◌++◌, length, take, decimal, codes, vec_len, OnOk, OnErr};
+ghost use Rattle.std.specs.Prelude.{◌≡◌, ℕ, ◌+◌, ◌-◌, ◌^◌, ◌<◌, ◌≤◌, [], ◌∷◌, ◌++◌, length, take, drop, decimal, codes, vec_len, OnOk, OnErr};
 ghost use Rattle.massif_file.specs.Blanks.{blanks};
 ghost use Rattle.massif_file.specs.Fields.{unit_name, mark_name};
 ghost use Rattle.massif_file.specs.TreeLine.{line_of};
@@ -9,7 +9,11 @@ use crate::levels::Levels;
 use crate::lists::Snaps;
 use crate::profile::{HeapTree, Profile, Snap, TimeUnit, TreeFields};
 use crate::tree::Tree;
-use hp_num::{NoMemory, put_bytes, put_dec};
+use hp_num::{NoMemory, decimal_texts, put_bytes, put_dec};
+use itoa::write_digits;
+
+/// The bytes of the longest text before a label: two numbers of 20 digits at most, with what stands around them.
+const LONGEST_HEAD: usize = 44;
 
 /// Appends the profile's text in the form of Massif's output file. On `NoMemory`, `out` holds what it held before.
 ///
@@ -100,11 +104,36 @@ fn put_node(out: &mut Vec<u8>, line: &TreeFields) -> Result<(), NoMemory>
     ensures appended { OnOk result
         (out.new.items ≡ out.old.items ++ text_of (node_text (line_of line.now) ∷ [])) }
 {
-    put_bytes(out, b"n")?;
-    put_dec(out, u64::from(line.children))?;
-    put_bytes(out, b": ")?;
-    put_dec(out, line.bytes)?;
-    put_line(out, b" ", line.label)
+    let mut head = [0; LONGEST_HEAD];
+    let start = write_head(&mut head, u64::from(line.children), line.bytes);
+    put_line(out, &head[start..], line.label)
+}
+
+/// Writes what stands before a line's label at the end of `head`, and answers where it starts.
+fn write_head(head: &mut [u8; LONGEST_HEAD], children: u64, bytes: u64) -> usize
+    ensures within { result < 44 }
+    ensures written { drop result head.new
+        ≡ 110 ∷ (decimal children ++ (58 ∷ 32 ∷ (decimal bytes ++ (32 ∷ [])))) }
+{
+    head[LONGEST_HEAD - 1] = b' ';
+    let bytes_at = write_number(head, LONGEST_HEAD - 1, b' ', bytes);
+    head[bytes_at - 1] = b':';
+    write_number(head, bytes_at - 1, b'n', children)
+}
+
+/// Writes a byte and the digits of the number before a place of `head`, and answers where they start.
+fn write_number(head: &mut [u8; LONGEST_HEAD], end: usize, first: u8, number: u64) -> usize
+    requires room { 21 ≤ end }
+    requires held { end ≤ 44 }
+    ensures below { result < end }
+    ensures most { end ≤ result + 21 }
+    ensures written { drop result head.new ≡ first ∷ (decimal number ++ drop end head.old) }
+{
+    // Says that the digits are few.
+    decimal_texts();
+    let start = write_digits(number, head, end) - 1;
+    head[start] = first;
+    start
 }
 
 fn put_blanks(out: &mut Vec<u8>, count: usize) -> Result<(), NoMemory>

@@ -9,7 +9,7 @@ ghost use Rattle.massif_tree.specs.MassifTree.{label_of, massif_tree};
 
 use crate::labels::{put_gathered, root_label};
 use crate::options::TreeOptions;
-use cost_tree::{CostLine, CostTree, Place, Scale, cost_lines};
+use cost_tree::{CostLine, CostLineTaker, CostTree, Place, Scale, take_lines};
 use hp_num::NoMemory;
 use massif_file::{Tree, TreeFields};
 use std::alloc::Global;
@@ -35,57 +35,49 @@ pub fn tree_lines(
         total,
         threshold: options.threshold,
     };
-    let lines = cost_lines(alloc, tree, scale)?;
-    file_lines(alloc, tree, options.threshold, &lines)
-}
-
-/// The lines of the file for these lines of the tree.
-fn file_lines(
-    alloc: Global,
-    tree: &CostTree,
-    threshold: u64,
-    lines: &[CostLine],
-) -> Result<Tree, NoMemory>
-    requires root { front_at tree.now 0 ≡ [] }
-    requires places { All (λ line. IsPlace tree.now line.place) lines.now }
-    ensures lines { IfOk result (λ made. made ≡ map (line_in threshold tree.now) lines.now) }
-{
-    let mut made = Tree::new(alloc);
-    let mut label = Vec::new(alloc);
-    'each_line: for line in lines {
-        push_line(tree, threshold, line, &mut label, &mut made)?;
-    }
+    let mut lines = FileLines {
+        threshold: options.threshold,
+        made: Tree::new(alloc),
+        label: Vec::new(alloc),
+    };
+    take_lines(alloc, tree, scale, &mut lines)?;
+    let FileLines { made, .. } = lines;
     Ok(made)
 }
 
-/// Appends the line of the file for a line of the tree. A label that has to be made is written into `label`.
-fn push_line(
-    tree: &CostTree,
+/// The lines of the file, made one by one of those of the tree.
+#[derive(Debug, Drop)]
+struct FileLines {
     threshold: u64,
-    line: &CostLine,
-    label: &mut Vec<u8>,
-    made: &mut Tree,
-) -> Result<(), NoMemory>
-    requires root { front_at tree.now 0 ≡ [] }
-    requires place { IsPlace tree.now line.now.place }
-    ensures appended { OnOk result
-        (made.new ≡ made.old ++ line_in threshold tree.now line.now ∷ []) }
-{
-    match line.place {
-        Place::Node { node } => push_labelled(line, node_label(tree, node), made),
-        Place::Gathered { places } => {
-            label.clear();
-            put_gathered(threshold, places, label)?;
-            push_labelled(line, label, made)
+    made: Tree,
+    /// A buffer for a label that has to be made.
+    label: Vec<u8>,
+}
+
+impl CostLineTaker for FileLines {
+    ghost use Rattle.std.specs.Prelude.{◌≡◌, ◌++◌, map};
+    ghost use Rattle.massif_tree.specs.LabelsIn.{line_in};
+
+    ghost takes = { λ tree first lines now. (now.threshold ≡ first.threshold)
+        × (now.made ≡ first.made ++ map (line_in first.threshold tree) lines) };
+
+    fn take_line(&mut self, tree: &CostTree, line: CostLine) -> Result<(), NoMemory> {
+        match line.place {
+            Place::Node { node } => push_labelled(line, node_label(tree, node), &mut self.made),
+            Place::Gathered { places } => {
+                self.label.clear();
+                put_gathered(self.threshold, places, &mut self.label)?;
+                push_labelled(line, &self.label, &mut self.made)
+            }
         }
     }
 }
 
 /// Appends a line with this label.
-fn push_labelled(line: &CostLine, label: &[u8], made: &mut Tree) -> Result<(), NoMemory>
+fn push_labelled(line: CostLine, label: &[u8], made: &mut Tree) -> Result<(), NoMemory>
     ensures appended { OnOk result
         (made.new ≡ made.old
-        ++ record { children = line.now.children; bytes = line.now.cost; label = label.now } ∷ []) }
+        ++ record { children = line.children; bytes = line.cost; label = label.now } ∷ []) }
 {
     made.push(TreeFields {
         children: line.children,

@@ -1,27 +1,37 @@
-use Rattle.std.proofs.Common.{◌≡◌, ℕ, List, Some, Bor, length, refl, sym, ap, ◌∙◌, subst, arith}
+use Rattle.std.proofs.Common.{◌≡◌, ℕ, ◌-◌, List, Some, Bor, length, get_or, sym, ap, ◌∙◌, subst, arith}
 use Rattle.std.specs.Prelude.{slice_get}
-use Rattle.std.proofs.lemmas.Option.{slice_get_read}
+use Rattle.std.proofs.lemmas.Option.{slice_get-get_or}
+use Rattle.cost_tree.specs.declared.edge.Edge.{Edge}
 use Rattle.cost_tree.specs.HeldNames.{names_in}
 use Rattle.cost_tree.specs.Texts.{IsText, fronts_of, text_of}
 use Rattle.cost_tree.specs.TreeState.{TreeState}
+use Rattle.cost_tree.proofs.Beside.{text-beside}
 use Rattle.cost_tree.proofs.Trees.{edge-text, last-text, text-below, text-found}
 use Rattle.cost_tree.proofs.tree.CostTree.text.Goals as goal
+
+-- the edge that stands past the end of a list
+abbrev no_edge : Edge
+no_edge = record { parent = 0; text = 0 }
 
 pub returns-clause-last : goal.returns-clause-last
 returns-clause-last c = λ above.
     let tree = c.self.inside in
     let names : List (List ℕ) = names_in tree.names in
     let edges = tree.edges.items in
-    let edge = c.index.result.now in
+    let place : ℕ = c.args.n - 1 in
+    let edge : Edge = get_or edges place no_edge in
     let count = ap (λ (t : TreeState). length t.nodes) c.self.view_is in
     let nodes_count = c.self.invariant.branches.nodes_count in
-    let at : slice_get edges c.in-Some.place ≡ Some edge = slice_get_read edges (length edges) c.in-Some.place edge refl (omega arith) c.index.ensures in
-    let is_text = edge-text names edges tree.nodes.items (fronts_of names edges) c.in-Some.place edge c.self.invariant.branches (sym at) in
-    let is_read = subst (λ (ns : List (List ℕ)). IsText ns edge.text) (sym c.names.ensures) is_text in
+    let held = c.requires.held in
+    let at : slice_get edges place ≡ Some edge = slice_get-get_or edges place no_edge (omega arith) in
+    let number : c.text.result ≡ edge.text = c.text.ensures ∙ text-beside edges tree.nodes.items tree.links.links.items c.args.n no_edge c.self.invariant.links.beside above (omega arith) in
+    let is_text = edge-text names edges tree.nodes.items (fronts_of names edges) place edge c.self.invariant.branches (sym at) in
+    let is_read = subst (λ (k : ℕ). IsText c.names.result.now k) (sym number) (subst (λ (ns : List (List ℕ)). IsText ns edge.text) (sym c.names.ensures) is_text) in
     let text = ap (λ (name : Bor (List ℕ)). name.now) c.unwrap_or.ensures
-    ∙ text-found c.names.result.now edge.text c.name.result _ (c.name.ensures.found.1 is_read) c.name.ensures.name
-    ∙ ap (λ (ns : List (List ℕ)). text_of ns edge.text) c.names.ensures in
-    let last = last-text names edges tree.nodes.items c.args.n c.in-Some.place edge c.unwrap_or.result.now c.self.invariant.branches above (omega arith) c.in-Some.ensures.1 (sym at) text in
+    ∙ text-found c.names.result.now c.text.result c.name.result _ (c.name.ensures.found.1 is_read) c.name.ensures.name
+    ∙ ap (λ (ns : List (List ℕ)). text_of ns c.text.result) c.names.ensures
+    ∙ ap (λ (k : ℕ). text_of names k) number in
+    let last = last-text names edges tree.nodes.items c.args.n place edge c.unwrap_or.result.now c.self.invariant.branches above (omega arith) (omega arith) (sym at) text in
     (last.0, sym (ap (λ (t : TreeState). slice_get t.fronts c.args.n) c.self.view_is) ∙ last.1)
 
 pub returns-clause-below : goal.returns-clause-below
@@ -29,16 +39,20 @@ returns-clause-below c = λ node front above node_at parent_at.
     let tree = c.self.inside in
     let names : List (List ℕ) = names_in tree.names in
     let edges = tree.edges.items in
-    let edge = c.index.result.now in
+    let place : ℕ = c.args.n - 1 in
+    let edge : Edge = get_or edges place no_edge in
     let count = ap (λ (t : TreeState). length t.nodes) c.self.view_is in
     let nodes_count = c.self.invariant.branches.nodes_count in
-    let at : slice_get edges c.in-Some.place ≡ Some edge = slice_get_read edges (length edges) c.in-Some.place edge refl (omega arith) c.index.ensures in
-    let is_text = edge-text names edges tree.nodes.items (fronts_of names edges) c.in-Some.place edge c.self.invariant.branches (sym at) in
-    let is_read = subst (λ (ns : List (List ℕ)). IsText ns edge.text) (sym c.names.ensures) is_text in
+    let held = c.requires.held in
+    let at : slice_get edges place ≡ Some edge = slice_get-get_or edges place no_edge (omega arith) in
+    let number : c.text.result ≡ edge.text = c.text.ensures ∙ text-beside edges tree.nodes.items tree.links.links.items c.args.n no_edge c.self.invariant.links.beside above (omega arith) in
+    let is_text = edge-text names edges tree.nodes.items (fronts_of names edges) place edge c.self.invariant.branches (sym at) in
+    let is_read = subst (λ (k : ℕ). IsText c.names.result.now k) (sym number) (subst (λ (ns : List (List ℕ)). IsText ns edge.text) (sym c.names.ensures) is_text) in
     let text = ap (λ (name : Bor (List ℕ)). name.now) c.unwrap_or.ensures
-    ∙ text-found c.names.result.now edge.text c.name.result _ (c.name.ensures.found.1 is_read) c.name.ensures.name
-    ∙ ap (λ (ns : List (List ℕ)). text_of ns edge.text) c.names.ensures in
+    ∙ text-found c.names.result.now c.text.result c.name.result _ (c.name.ensures.found.1 is_read) c.name.ensures.name
+    ∙ ap (λ (ns : List (List ℕ)). text_of ns c.text.result) c.names.ensures
+    ∙ ap (λ (k : ℕ). text_of names k) number in
     let node_held = ap (λ (t : TreeState). slice_get t.nodes c.args.n) c.self.view_is ∙ node_at in
     let parent_held = ap (λ (t : TreeState). slice_get t.fronts node.parent) c.self.view_is ∙ parent_at in
     sym (ap (λ (t : TreeState). slice_get t.fronts c.args.n) c.self.view_is)
-    ∙ text-below names edges tree.nodes.items c.args.n c.in-Some.place edge c.unwrap_or.result.now node front c.self.invariant.branches above node_held parent_held (omega arith) (sym at) text
+    ∙ text-below names edges tree.nodes.items c.args.n place edge c.unwrap_or.result.now node front c.self.invariant.branches above node_held parent_held (omega arith) (sym at) text
