@@ -8,6 +8,7 @@ use Rattle.std.proofs.lemmas.List.Elements.{All-cons, All-nil}
 use Rattle.std.proofs.lemmas.Grind.{get_or-set_at}
 use Rattle.std.proofs.lemmas.Option.{get_or_from_slice_get, slice_get-get_or, slice_get_within}
 use Rattle.intern_tables.specs.Numbers.{number_of}
+use Rattle.ht_trace.specs.declared.frame.FrameAt.{FrameAt}
 use Rattle.ht_trace.specs.StackFrames.{frames_of, outer_frames, stack_frames}
 use Rattle.ht_trace.specs.TableState.{TableState}
 use Rattle.dhat_trace.specs.FrameTable.{AddsTexts, Keeps, frame_texts, places_in, profile_frame}
@@ -150,3 +151,10 @@ none_known tables table known count empty = record {
       let none : length places ≡ 0 = ap (λ (ps : List ℕ). length ps) is in
       absurd (omega (arith, some, none));
 }
+
+-- the places that were made of an instruction's frames
+pub made_places : (tables : TableState) (instruction : ℕ) (old new : List (List ℕ)) (frames : List FrameAt) (none places own : List ℕ) → frames ≡ frames_of tables.instructions instruction
+    → none ≡ [] → GainsPlaces old none (map (profile_frame tables) frames) new places → own ≡ places → HavePlaces new (instruction_texts tables instruction) own
+made_places tables instruction old new frames none places own are empty gains is =
+    subst (λ (ps : List ℕ). HavePlaces new (instruction_texts tables instruction) ps) (sym is)
+    (subst (λ (fs : List FrameAt). HavePlaces new (map (profile_frame tables) fs) places) are (gains_all old (map (profile_frame tables) frames) new none places empty gains))

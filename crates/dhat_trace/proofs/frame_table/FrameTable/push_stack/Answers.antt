@@ -9,7 +9,7 @@ use Rattle.dhat_trace.proofs.frame_table.FrameTable.push_stack.Goals as goal
 pub returns-then-stack-eq0-clause-known : goal.returns-then-stack-eq0-clause-known
 returns-then-stack-eq0-clause-known c =
     on_ok_weaker c.push_places.result
-    (λ gains. known_later c.args.tables.now c.args.self.now.texts c.push_places.new.texts c.args.self.now.known.items gains.added.keeps c.requires.known)
+    (λ gains. known_later c.args.tables.now c.args.self.now.texts c.push_places.new.texts c.args.self.now.known gains.added.keeps c.requires.known)
     c.push_places.ensures.gains
 
 pub returns-then-stack-eq0-clause-gains : goal.returns-then-stack-eq0-clause-gains

@@ -8,7 +8,7 @@ use Rattle.dhat_trace.proofs.frame_table.FrameTable.push_stack.Given as goal
 abbrev pub invariant-outwards : goal.invariant-outwards
 invariant-outwards l = record {
   held : l.at ≤ length l.tables.nodes;
-  known : AreKnown l.tables l.self.texts l.self.known.items;
+  known : AreKnown l.tables l.self.texts l.self.known;
   gains : (new : List (List ℕ)) (after : List ℕ) → GainsPlaces l.self.texts l.places (outer_texts l.tables l.at) new after
       → GainsPlaces l.initial.self.texts l.initial.places (frame_texts l.tables l.stack) new after;
 }
