@@ -50,7 +50,7 @@ called_held figures count nodes is =
     (λ k d within. let below = called_below figures count k d within in omega (arith, below, is))
 
 -- what is told of these stacks is told of those that allocated
-pub all_told : (tables : TableState) (figures : ℕ → PointFigures) (count : ℕ) (items : List CalledStack) (table : List (List ℕ)) (places counts : List ℕ) → items ≡ called_with figures (called figures count)
-    → AreBacktraces tables (map (λ (c : CalledStack). c.stack) items) table places counts → AreBacktraces tables (called figures count) table places counts
-all_told tables figures count items table places counts are told =
-    subst (λ (stacks : List ℕ). AreBacktraces tables stacks table places counts) (ap (map (λ (c : CalledStack). c.stack)) are ∙ called_numbers figures (called figures count)) told
+pub all_told : (tables : TableState) (figures : ℕ → PointFigures) (count : ℕ) (items : List CalledStack) (table told : List (List ℕ)) → items ≡ called_with figures (called figures count)
+    → AreBacktraces tables (map (λ (c : CalledStack). c.stack) items) table told → AreBacktraces tables (called figures count) table told
+all_told tables figures count items table told are by_items =
+    subst (λ (stacks : List ℕ). AreBacktraces tables stacks table told) (ap (map (λ (c : CalledStack). c.stack)) are ∙ called_numbers figures (called figures count)) by_items

@@ -33,23 +33,23 @@ use Rattle.dhat_trace.proofs.PointLists.{all_told, called_more}
 use Rattle.dhat_trace.proofs.TextLemmas.{command_is_utf8, literal_is_utf8, table_utf8}
 
 -- what is put together is the profile
-pub profile_is : (tables : TableState) (peaks : PeakState) (lifetimes : LifeState) (te tg : ℕ) (head : Dhat) (cmd : List ℕ) (ftbl : List (List ℕ)) (items : List CalledStack) (places counts : List ℕ)
+pub profile_is : (tables : TableState) (peaks : PeakState) (lifetimes : LifeState) (te tg : ℕ) (head : Dhat) (cmd : List ℕ) (ftbl told : List (List ℕ)) (items : List CalledStack)
     → te ≡ peaks.ledger.totals.events → tg ≡ peaks.moment → peaks.ledger.stacks ≡ length tables.nodes + 1
     → head ≡ heap_profile cmd te tg [] ftbl → cmd ≡ command_text tables.command
     → items ≡ called_with (figures_of peaks lifetimes) (called (figures_of peaks lifetimes) peaks.ledger.stacks)
-    → AreBacktraces tables (map (λ (c : CalledStack). c.stack) items) ftbl places counts
-    → with_points head (points_in items counts places) ≡ profile_of tables peaks.ledger.totals.events peaks.moment (figures_of peaks lifetimes)
+    → AreBacktraces tables (map (λ (c : CalledStack). c.stack) items) ftbl told
+    → with_points head (points_in items told) ≡ profile_of tables peaks.ledger.totals.events peaks.moment (figures_of peaks lifetimes)
 unfolding profile_with
-profile_is tables peaks lifetimes te tg head cmd ftbl items places counts last peak held head_is command items_are told =
+profile_is tables peaks lifetimes te tg head cmd ftbl told items last peak held head_is command items_are by_stacks =
     let figures = figures_of peaks lifetimes in
     let stacks = called figures (length tables.nodes + 1) in
-    let are : AreBacktraces tables (called figures peaks.ledger.stacks) ftbl places counts = all_told tables figures peaks.ledger.stacks items ftbl places counts items_are told in
-    let points : points_in items counts places ≡ points_of (table_of tables stacks) tables figures stacks =
-    ap (λ (cs : List CalledStack). points_in cs counts places) items_are
-    ∙ all_points tables figures (called figures peaks.ledger.stacks) ftbl places counts are
+    let are : AreBacktraces tables (called figures peaks.ledger.stacks) ftbl told = all_told tables figures peaks.ledger.stacks items ftbl told items_are by_stacks in
+    let points : points_in items told ≡ points_of (table_of tables stacks) tables figures stacks =
+    ap (λ (cs : List CalledStack). points_in cs told) items_are
+    ∙ all_points tables figures (called figures peaks.ledger.stacks) ftbl told are
     ∙ ap (λ (n : ℕ). points_of (table_of tables (called figures n)) tables figures (called figures n)) held in
     let table : ftbl ≡ table_of tables stacks = are.table_is ∙ ap (λ (n : ℕ). table_of tables (called figures n)) held in
-    ap (λ (d : Dhat). with_points d (points_in items counts places)) head_is
+    ap (λ (d : Dhat). with_points d (points_in items told)) head_is
     ∙ ap (λ (ps : List Point). heap_profile cmd te tg ps ftbl) points
     ∙ ap (λ (c : List ℕ). heap_profile c te tg (points_of (table_of tables stacks) tables figures stacks) ftbl) command
     ∙ ap₂ (λ (e g : ℕ). heap_profile (command_text tables.command) e g (points_of (table_of tables stacks) tables figures stacks) ftbl) last peak
@@ -138,17 +138,17 @@ texts_writable tables te tg stacks head cmd ftbl head_is command table = subst H
 })
 
 -- it hangs together
-pub profile_sound : (tables : TableState) (peaks : PeakState) (lifetimes : LifeState) (ftbl : List (List ℕ)) (items : List CalledStack) (places counts : List ℕ) → ledger_sound.IsSound peaks.ledger
+pub profile_sound : (tables : TableState) (peaks : PeakState) (lifetimes : LifeState) (ftbl told : List (List ℕ)) (items : List CalledStack) → ledger_sound.IsSound peaks.ledger
     → 4 * peaks.ledger.totals.events + peaks.ledger.stacks < 5 * (2 ^ 32 - 1) → peaks.ledger.stacks ≡ length tables.nodes + 1
     → items ≡ called_with (figures_of peaks lifetimes) (called (figures_of peaks lifetimes) peaks.ledger.stacks)
-    → AreBacktraces tables (map (λ (c : CalledStack). c.stack) items) ftbl places counts
+    → AreBacktraces tables (map (λ (c : CalledStack). c.stack) items) ftbl told
     → IsSound (profile_of tables peaks.ledger.totals.events peaks.moment (figures_of peaks lifetimes))
 unfolding profile_with
-profile_sound tables peaks lifetimes ftbl items places counts sound few held items_are told =
+profile_sound tables peaks lifetimes ftbl told items sound few held items_are by_stacks =
     let figures = figures_of peaks lifetimes in
-    let are = all_told tables figures peaks.ledger.stacks items ftbl places counts items_are told in
+    let are = all_told tables figures peaks.ledger.stacks items ftbl told items_are by_stacks in
     let own : (n : ℕ) → length (points_of (table_of tables (called figures n)) tables figures (called figures n)) ≡ length (called figures n) = λ n. length-map (called figures n) _ in
     subst (λ n. IsSound (profile_with tables peaks.ledger.totals.events peaks.moment figures (called figures n))) held (record {
       few = omega (arith, called_numbered peaks lifetimes sound few, own peaks.ledger.stacks);
-      points = all_sound tables figures (called figures peaks.ledger.stacks) ftbl places counts are;
+      points = all_sound tables figures (called figures peaks.ledger.stacks) ftbl told are;
     })

@@ -1,13 +1,13 @@
--- The frames of stacks, told by their places in the table, one stack after another, for private clauses.
-use Rattle.std.specs.Prelude.{◌≡◌, ℕ, List, length, map}
-use Rattle.std.specs.List.{flat_map}
+-- The frames of stacks, told by their places in the table, for private clauses.
+use Rattle.std.specs.Prelude.{◌≡◌, ℕ, List, [], All, slice_index_or}
 use Rattle.ht_trace.specs.TableState.{TableState}
 use Rattle.dhat_trace.specs.FrameTable.{frame_texts, table_of}
-use Rattle.dhat_trace.specs.KnownPlaces.{HavePlaces}
+use Rattle.dhat_trace.specs.KnownPlaces.{AreTold, HavePlaces}
 
--- the table is that of the stacks, the places are those of their frames, and each stack has so many
+-- the table is that of the stacks, and each of them has the places of its frames
 pub record AreBacktraces (tables : TableState) (stacks : List ℕ) (table : List (List ℕ))
-    (places counts : List ℕ) : Type 0 where
+    (told : List (List ℕ)) : Type 0 where
   pub table_is : table ≡ table_of tables stacks
-  pub places_are : HavePlaces table (flat_map (frame_texts tables) stacks) places
-  pub counts_are : counts ≡ map (λ stack. length (frame_texts tables stack)) stacks
+  pub told_are : AreTold tables table told
+  pub all : All (λ stack. HavePlaces table (frame_texts tables stack)
+      (slice_index_or told stack [])) stacks

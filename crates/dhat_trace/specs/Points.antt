@@ -1,5 +1,5 @@
 -- The points of a trace, one for each stack that allocated.
-use Rattle.std.specs.Prelude.{ℕ, nat_lt, if◌then◌else◌, List, [], ◌∷◌, drop, filter, map, take, Some, None}
+use Rattle.std.specs.Prelude.{ℕ, nat_lt, if◌then◌else◌, List, [], ◌∷◌, filter, map, slice_index_or, Some, None}
 use Rattle.std.specs.List.{range_with_len}
 use Rattle.dhat_json.specs.declared.profile.Point.{Point}
 use Rattle.ht_trace.specs.TableState.{TableState}
@@ -34,9 +34,7 @@ points_of table tables figures stacks = map
 abbrev pub called_with : (ℕ → PointFigures) → List ℕ → List CalledStack
 called_with figures stacks = map (λ stack. record { stack = stack; figures = figures stack }) stacks
 
--- their points, where the places of their frames stand one stack after another, and each has so many
-abbrev pub points_in : List CalledStack → List ℕ → List ℕ → List Point
-points_in [] counts places = []
-points_in (called ∷ stacks) [] places = []
-points_in (called ∷ stacks) (count ∷ counts) places =
-    point_with called.figures (take count places) ∷ points_in stacks counts (drop count places)
+-- their points, where the places of each stack's frames are told
+abbrev pub points_in : List CalledStack → List (List ℕ) → List Point
+points_in stacks told = map
+    (λ called. point_with called.figures (slice_index_or told called.stack [])) stacks

@@ -4,11 +4,11 @@ ghost use Rattle.std.specs.Prelude.{◌≡◌, ℕ, ◌+◌, ◌^◌, ◌<◌, �
 ghost use Rattle.intern_tables.specs.Numbers.{number_of};
 ghost use Rattle.ht_trace.specs.IsFrame.{IsFrame};
 ghost use Rattle.dhat_trace.specs.FrameTable.{AddsTexts, frame_texts, profile_frame};
-ghost use Rattle.dhat_trace.specs.KnownPlaces.{AreKnown, GainsPlaces, HavePlaces, instruction_texts};
+ghost use Rattle.dhat_trace.specs.KnownPlaces.{AreKnown, AreTold, GainsPlaces, HavePlaces, instruction_texts};
 
 use crate::known_places::KnownPlaces;
 use crate::texts::make_utf8;
-use dhat_json::{FrameList, Texts};
+use dhat_json::Texts;
 use hp_num::{NoMemory, Text};
 use ht_trace::{FrameAt, Style, Tables};
 use intern_tables::Names;
@@ -48,18 +48,21 @@ impl FrameTable {
     }
 
     /// Appends the places of the frames of a stack, from the innermost on. A text that is new comes to the end of the table.
+    /// Where the stack is called from one whose places were told before, they go on as those.
     pub(crate) fn push_stack(
         &mut self,
         tables: &Tables,
+        told: &KnownPlaces,
         stack: u32,
-        places: &mut FrameList,
+        places: &mut Vec<u64>,
     ) -> Result<(), NoMemory>
         requires held { stack ≤ length tables.now.nodes }
         requires known { AreKnown tables.now self.old.texts self.old.known }
+        requires told { AreTold tables.now self.old.texts told.now }
         ensures known { OnOk result (AreKnown tables.now self.new.texts self.new.known) }
         ensures gains { OnOk result
-            (GainsPlaces self.old.texts places.old (frame_texts tables.now stack)
-            self.new.texts places.new) }
+            (GainsPlaces self.old.texts places.old.items (frame_texts tables.now stack)
+            self.new.texts places.new.items) }
     {
         if stack == 0 {
             tables.frames_into(stack, &mut self.frames)?;
@@ -73,6 +76,11 @@ impl FrameTable {
         }
         let mut at = stack;
         'outwards: while let Some((instruction, caller)) = tables.node(at) {
+            let known = told.of(at as usize);
+            if known.len() > 0 {
+                places.extend_from_slice(known)?;
+                return Ok(());
+            }
             self.push_instruction(tables, instruction, places)?;
             at = caller;
         }
@@ -84,17 +92,18 @@ impl FrameTable {
         &mut self,
         tables: &Tables,
         instruction: u32,
-        places: &mut FrameList,
+        places: &mut Vec<u64>,
     ) -> Result<(), NoMemory>
         requires held { instruction ≤ length tables.now.instructions }
         requires known { AreKnown tables.now self.old.texts self.old.known }
         ensures known { OnOk result (AreKnown tables.now self.new.texts self.new.known) }
         ensures gains { OnOk result
-            (GainsPlaces self.old.texts places.old (instruction_texts tables.now instruction)
-            self.new.texts places.new) }
+            (GainsPlaces self.old.texts places.old.items
+            (instruction_texts tables.now instruction) self.new.texts places.new.items) }
     {
         self.learn(tables, instruction)?;
-        push_all(self.known.of(instruction as usize), places)
+        places.extend_from_slice(self.known.of(instruction as usize))?;
+        Ok(())
     }
 
     /// Makes the places of an instruction's frames known.
@@ -113,7 +122,7 @@ impl FrameTable {
             return Ok(());
         }
         tables.instruction_frames_into(instruction, &mut self.frames)?;
-        let mut places = FrameList::new(self.alloc);
+        let mut places = Vec::new(self.alloc);
         push_places(
             tables,
             &self.frames,
@@ -121,7 +130,7 @@ impl FrameTable {
             &mut self.text,
             &mut places,
         )?;
-        self.known.set(number, places.as_slice())
+        self.known.set(number, &places)
     }
 
     /// The texts in their order, or `NoMemory`.
@@ -150,25 +159,15 @@ fn push_places(
     frames: &[FrameAt],
     texts: &mut Names,
     text: &mut Vec<u8>,
-    places: &mut FrameList,
+    places: &mut Vec<u64>,
 ) -> Result<(), NoMemory>
     requires frames { All (λ at. IsFrame tables.now at) frames.now }
     ensures gains { OnOk result
-        (GainsPlaces texts.old places.old (map (profile_frame tables.now) frames.now)
-        texts.new places.new) }
+        (GainsPlaces texts.old places.old.items (map (profile_frame tables.now) frames.now)
+        texts.new places.new.items) }
 {
     'each_frame: for at in frames {
         places.push(place_of(tables, at, texts, text)?)?;
-    }
-    Ok(())
-}
-
-/// Appends all of them.
-pub(crate) fn push_all(places: &[u64], out: &mut FrameList) -> Result<(), NoMemory>
-    ensures appended { OnOk result (out.new ≡ out.old ++ places.now) }
-{
-    'each_place: for place in places {
-        out.push(*place)?;
     }
     Ok(())
 }

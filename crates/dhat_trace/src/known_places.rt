@@ -1,12 +1,12 @@
-//! The places of the frames of instructions, kept so that their texts are made once, however many stacks have them.
+//! The places of frames, in a list for each instruction or for each stack, kept so that what is known isn't asked again.
 ghost use Rattle.std.specs.Prelude.{◌≡◌, ◌<◌, [], All, IfOk, OnOk, Some, length, set, slice_get};
 
 use hp_num::NoMemory;
 use std::alloc::Global;
 use std::marker::Model;
 
-/// For each instruction the places of its frames, none before they are set. All of them stand in one vector, since an
-/// allocation for each instruction would take longer than to look for its frames.
+/// For each number, which is that of an instruction or of a stack, the places of its frames, none before they are set. All of
+/// them stand in one vector, since a vector for each number would take as much memory again.
 ///
 /// Contracts see it as the list of these lists.
 #[derive(Debug, Drop)]
@@ -15,7 +15,7 @@ pub(crate) struct KnownPlaces {
     ranges: Vec<PlaceRange>,
 }
 
-/// From which place of the vector up to which one an instruction's places stand.
+/// From which place of the vector up to which one the places of a number stand.
 #[derive(Clone, Copy, Debug)]
 pub(crate) struct PlaceRange {
     pub(crate) start: usize,
@@ -34,7 +34,7 @@ impl Model for KnownPlaces {
 }
 
 impl KnownPlaces {
-    /// So many instructions, of none of which the places are known, or `NoMemory`.
+    /// So many numbers, of none of which the places are known, or `NoMemory`.
     pub(crate) fn new(alloc: Global, count: usize) -> Result<KnownPlaces, NoMemory>
         ensures count { IfOk result (λ known. length known ≡ count) }
         ensures empty { IfOk result (λ known. All (λ places. places ≡ []) known) }
@@ -45,24 +45,24 @@ impl KnownPlaces {
         })
     }
 
-    /// The places of an instruction's frames, or none.
-    pub(crate) fn of(&self, instruction: usize) -> &[u64]
-        requires { instruction < length self.now }
-        ensures { slice_get self.now instruction ≡ Some result.now }
+    /// The places of a number's frames, or none.
+    pub(crate) fn of(&self, number: usize) -> &[u64]
+        requires { number < length self.now }
+        ensures { slice_get self.now number ≡ Some result.now }
     {
-        let range = self.ranges[instruction];
+        let range = self.ranges[number];
         &self.places[range.start..range.end]
     }
 
-    /// Sets the places of an instruction's frames. On `NoMemory` this is of no use any more.
-    pub(crate) fn set(&mut self, instruction: usize, places: &[u64]) -> Result<(), NoMemory>
-        requires { instruction < length self.old }
-        ensures { OnOk result (self.new ≡ set self.old instruction places.now) }
+    /// Sets the places of a number's frames. On `NoMemory` this is of no use any more.
+    pub(crate) fn set(&mut self, number: usize, places: &[u64]) -> Result<(), NoMemory>
+        requires { number < length self.old }
+        ensures { OnOk result (self.new ≡ set self.old number places.now) }
     {
         let start = self.places.len();
         self.places.extend_from_slice(places)?;
         let end = self.places.len();
-        self.ranges[instruction] = PlaceRange { start, end };
+        self.ranges[number] = PlaceRange { start, end };
         Ok(())
     }
 }

@@ -1,5 +1,5 @@
 //! The profile of a trace: its points, their frames, and when it peaked and ended.
-ghost use Rattle.std.specs.Prelude.{◌*◌, ◌≡◌, ◌+◌, ◌-◌, ◌^◌, ◌<◌, ◌≤◌, ◌++◌, ◌∷◌, [], List, All, Ok, IfOk, OnOk, length, map, string_bytes, sum};
+ghost use Rattle.std.specs.Prelude.{◌*◌, ◌≡◌, ◌+◌, ◌-◌, ◌^◌, ◌<◌, ◌≤◌, ◌++◌, ◌∷◌, [], List, All, Ok, IfOk, OnOk, length, map, string_bytes};
 ghost use Rattle.live_ledger.specs.declared.event.Event.{Event};
 ghost use Rattle.dhat_json.specs.declared.profile.Dhat.{Dhat};
 ghost use Rattle.dhat_json.specs.Begun.{with_points};
@@ -15,8 +15,9 @@ ghost use Rattle.dhat_trace.specs.PointFigures.{figures_of};
 ghost use Rattle.dhat_trace.specs.Points.{point_with, points_in};
 ghost use Rattle.dhat_trace.specs.ProfileTexts.{command_text};
 
-use crate::backtraces::Backtraces;
-use crate::frame_table::{FrameTable, push_all};
+use crate::backtraces::backtraces;
+use crate::frame_table::FrameTable;
+use crate::known_places::KnownPlaces;
 use crate::points::{CalledStack, PointFigures, called_stacks};
 use crate::texts::command_text;
 use dhat_json::{Dhat, FrameList, Point, PointWriter, Points, Texts};
@@ -70,7 +71,7 @@ pub fn trace_profile_text(
 /// What the tables tell of stacks: their frames, the texts of these, and the command.
 #[derive(Debug, Drop)]
 struct Told {
-    backtraces: Backtraces,
+    backtraces: KnownPlaces,
     ftbl: Texts,
     cmd: Text,
 }
@@ -80,11 +81,11 @@ fn told_stacks(alloc: Global, tables: Tables, stacks: &[CalledStack]) -> Result<
     requires held { All (λ called. called.stack ≤ length tables.nodes) stacks.now }
     ensures backtraces { IfOk result
         (λ told. AreBacktraces tables (map (λ called. called.stack) stacks.now) told.ftbl
-        told.backtraces.places told.backtraces.counts.items) }
+        told.backtraces) }
     ensures cmd { IfOk result (λ told. told.cmd ≡ command_text tables.command) }
 {
     let mut table = FrameTable::new(alloc, &tables)?;
-    let backtraces = Backtraces::new(alloc, &tables, stacks, &mut table)?;
+    let backtraces = backtraces(alloc, &tables, stacks, &mut table)?;
     let cmd = command_text(alloc, &tables)?;
     drop(tables);
     let ftbl = table.into_texts()?;
@@ -100,26 +101,22 @@ fn written(
     alloc: Global,
     head: Dhat,
     stacks: &[CalledStack],
-    backtraces: &Backtraces,
+    backtraces: &KnownPlaces,
 ) -> Result<String, NoMemory>
     requires texts { HasTexts head }
-    requires counts { length backtraces.now.counts.items ≡ length stacks.now }
-    requires places { sum backtraces.now.counts.items ≤ length backtraces.now.places }
+    requires held { All (λ called. called.stack < length backtraces.now) stacks.now }
     ensures text { IfOk result
-        (λ text. string_bytes text ≡ dhat_text (with_points head
-        (points_in stacks.now backtraces.now.counts.items backtraces.now.places))) }
+        (λ text. string_bytes text
+        ≡ dhat_text (with_points head (points_in stacks.now backtraces.now))) }
     ensures reads_back { IfOk result
-        (λ text. IsSound (with_points head
-        (points_in stacks.now backtraces.now.counts.items backtraces.now.places))
-        → document_of (string_bytes text) ≡ Ok (with_points head
-        (points_in stacks.now backtraces.now.counts.items backtraces.now.places))) }
+        (λ text. IsSound (with_points head (points_in stacks.now backtraces.now))
+        → document_of (string_bytes text)
+        ≡ Ok (with_points head (points_in stacks.now backtraces.now))) }
 {
     let mut writer = PointWriter::new(alloc, head)?;
-    let mut left = backtraces.places.as_slice();
-    'each_stack: for at in 0..stacks.len() {
-        let (places, behind) = left.split_at(backtraces.counts[at]);
-        put_point(alloc, stacks[at].figures, places, &mut writer)?;
-        left = behind;
+    'each_stack: for called in stacks {
+        let places = backtraces.of(called.stack as usize);
+        put_point(alloc, called.figures, places, &mut writer)?;
     }
     writer.finish()
 }
@@ -135,8 +132,7 @@ fn put_point(
         → HasWritten writer.new
         (with_points dhat (dhat.pps ++ point_with figures places.now ∷ []))) }
 {
-    let mut fs = FrameList::new(alloc);
-    push_all(places, &mut fs)?;
+    let fs = frame_list(alloc, places)?;
     writer.put(&Point {
         tb: figures.tb,
         tbk: figures.tbk,
@@ -144,6 +140,17 @@ fn put_point(
         access: None,
         fs,
     })
+}
+
+/// The list of these places.
+fn frame_list(alloc: Global, places: &[u64]) -> Result<FrameList, NoMemory>
+    ensures { IfOk result (λ list. list ≡ places.now) }
+{
+    let mut list = FrameList::new(alloc);
+    'each_place: for place in places {
+        list.push(*place)?;
+    }
+    Ok(list)
 }
 
 /// The profile of a heap with this command, this last time and this time of the peak, this table, and no points.

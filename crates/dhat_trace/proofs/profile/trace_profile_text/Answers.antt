@@ -1,5 +1,6 @@
-use Rattle.std.proofs.Common.{◌≡◌, ◌≤◌, List, Ok, length, ap, ◌∙◌, sym, subst, map, string_bytes}
+use Rattle.std.proofs.Common.{◌≡◌, ◌<◌, ◌≤◌, List, Ok, length, ap, ◌∙◌, sym, subst, map, string_bytes, arith}
 use Rattle.std.proofs.lemmas.Result.{IfOk-weaker}
+use Rattle.std.proofs.lemmas.List.Elements.{All-weaker}
 use Rattle.std.specs.Prelude.{All}
 use Rattle.dhat_json.specs.declared.profile.Dhat.{Dhat}
 use Rattle.dhat_json.specs.Begun.{with_points}
@@ -12,7 +13,6 @@ use Rattle.dhat_trace.specs.declared.points.CalledStack.{CalledStack}
 use Rattle.dhat_trace.specs.DhatOf.{profile_of}
 use Rattle.dhat_trace.specs.PointFigures.{figures_of}
 use Rattle.dhat_trace.specs.Points.{points_in}
-use Rattle.dhat_trace.proofs.BacktraceLemmas.{places_enough}
 use Rattle.dhat_trace.proofs.PointLists.{called_held}
 use Rattle.dhat_trace.proofs.ProfileLemmas.{profile_is, profile_sound, texts_writable, trace_is}
 use Rattle.dhat_trace.proofs.profile.trace_profile_text.Goals as goal
@@ -31,20 +31,25 @@ written-requires-clause-texts c =
     texts_writable c.args.tables _ _ (map (λ (s : CalledStack). s.stack) c.deref.result.now) c.in_ok-head.head c.in_ok-told.told.cmd c.in_ok-told.told.ftbl
     c.in_ok-head.ensures c.in_ok-told.ensures.cmd c.in_ok-told.ensures.backtraces.table_is
 
-pub written-requires-clause-places : goal.written-requires-clause-places
-written-requires-clause-places c = places_enough c.args.tables _ c.in_ok-told.told.ftbl _ _ c.in_ok-told.ensures.backtraces
+pub written-requires-clause-held : goal.written-requires-clause-held
+written-requires-clause-held c =
+    let figures = figures_of c.args.peaks c.args.lifetimes in
+    let count = c.in_ok-told.ensures.backtraces.told_are.count in
+    subst (λ (items : List CalledStack). All (λ (s : CalledStack). s.stack < length c.in_ok-told.told.backtraces) items) (sym (c.deref-2.ensures.value ∙ c.in_ok-stacks.ensures))
+    (All-weaker (λ (s : CalledStack). s.stack ≤ length c.args.tables.nodes) (λ (s : CalledStack). s.stack < length c.in_ok-told.told.backtraces) (λ s held. omega (arith, held, count))
+    _ (called_held figures c.args.peaks.ledger.stacks (length c.args.tables.nodes) c.requires.peaks))
 
 -- what was put together
 whole : (c : After-drop-stacks-2)
-    → with_points c.in_ok-head.head (points_in c.deref-2.result.now c.in_ok-told.told.backtraces.counts.items c.in_ok-told.told.backtraces.places)
+    → with_points c.in_ok-head.head (points_in c.deref-2.result.now c.in_ok-told.told.backtraces)
     ≡ profile_of c.args.tables c.args.peaks.ledger.totals.events c.args.peaks.moment (figures_of c.args.peaks c.args.lifetimes)
 whole c =
     let last : c.totals-te.result.events ≡ c.args.peaks.ledger.totals.events =
     ap (λ (t : Totals). t.events) c.totals-te.ensures.value ∙ ap (λ (l : LedgerState). l.totals.events) c.ledger.ensures in
     let items = c.deref-2.ensures.value ∙ c.in_ok-stacks.ensures in
     let same = c.deref.ensures.value ∙ sym c.deref-2.ensures.value in
-    profile_is c.args.tables c.args.peaks c.args.lifetimes c.totals-te.result.events c.peak_moment-tg.result c.in_ok-head.head c.in_ok-told.told.cmd c.in_ok-told.told.ftbl c.deref-2.result.now
-    c.in_ok-told.told.backtraces.places c.in_ok-told.told.backtraces.counts.items last c.peak_moment-tg.ensures.value c.requires.peaks c.in_ok-head.ensures c.in_ok-told.ensures.cmd items
+    profile_is c.args.tables c.args.peaks c.args.lifetimes c.totals-te.result.events c.peak_moment-tg.result c.in_ok-head.head c.in_ok-told.told.cmd c.in_ok-told.told.ftbl c.in_ok-told.told.backtraces c.deref-2.result.now
+    last c.peak_moment-tg.ensures.value c.requires.peaks c.in_ok-head.ensures c.in_ok-told.ensures.cmd items
     (rw (← same) c.in_ok-told.ensures.backtraces)
 
 pub returns-clause-profile : goal.returns-clause-profile
@@ -56,7 +61,7 @@ returns-clause-trace c = IfOk-weaker c.written.result _ _
 
 pub returns-clause-reads_back : goal.returns-clause-reads_back
 returns-clause-reads_back c =
-    let sound = profile_sound c.args.tables c.args.peaks c.args.lifetimes c.in_ok-told.told.ftbl c.deref.result.now c.in_ok-told.told.backtraces.places c.in_ok-told.told.backtraces.counts.items
+    let sound = profile_sound c.args.tables c.args.peaks c.args.lifetimes c.in_ok-told.told.ftbl c.in_ok-told.told.backtraces c.deref.result.now
     c.peak_moment-tg.ensures.sound.ledger c.requires.few c.requires.peaks (c.deref.ensures.value ∙ c.in_ok-stacks.ensures) c.in_ok-told.ensures.backtraces in
     IfOk-weaker c.written.result _ _
     (λ text is. subst (λ (dhat : Dhat). IsSound dhat → document_of (string_bytes text) ≡ Ok dhat) (whole c) is sound) c.written.ensures.reads_back
