@@ -13,9 +13,8 @@ ghost use Rattle.commands.specs.ReadLives as lives_spec;
 ghost use Rattle.trace_reading.specs.TraceReport.{trace_report};
 
 use command_frame::{Batch, LineRefusal, LineReport, LineTaker};
-use dhat_json::profile_text;
 use dhat_metrics::Lifetimes;
-use dhat_trace::trace_profile;
+use dhat_trace::trace_profile_text;
 use hp_num::NoMemory;
 use ht_trace::{Step, Tables};
 use std::alloc::Global;
@@ -93,8 +92,7 @@ impl DhatReader {
         Some(line.bytes)
     }
 
-    /// The profile of what was read, and a line feed. `NoMemory` where memory is wanting. What was read is let go before the
-    /// text is made.
+    /// The profile of what was read, and a line feed. `NoMemory` where memory is wanting.
     fn profile(self, alloc: Global) -> Result<Vec<u8>, NoMemory>
         requires sound { lives_spec.IsSoundReader self }
         ensures { IfOk result
@@ -102,10 +100,8 @@ impl DhatReader {
             → output.items ≡ dhat_written [] lines) }
     {
         let DhatReader { trace, lifetimes } = self;
-        let dhat = trace_profile(alloc, &trace.tables, &trace.peaks, &lifetimes)?;
-        drop(trace);
-        drop(lifetimes);
-        let text = profile_text(alloc, &dhat)?;
+        let ReadTrace { tables, peaks } = trace;
+        let text = trace_profile_text(alloc, tables, peaks, lifetimes)?;
         let mut output = text.into_bytes();
         output.push(b'\n')?;
         Ok(output)

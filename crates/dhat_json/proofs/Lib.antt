@@ -1,4 +1,5 @@
 mod Added
+mod BegunTexts
 mod DataLemmas
 mod Documents
 mod Findings

@@ -1,4 +1,5 @@
 pub mod Adds
+pub mod Begun
 pub mod DataOf
 pub mod DhatFault
 pub mod DhatValue
@@ -11,6 +12,7 @@ pub mod IsSound
 pub mod KeyName
 pub mod Kinds
 pub mod Parts
+pub mod PointWriter
 pub mod ProfileIn
 pub mod Reads
 pub mod Shown

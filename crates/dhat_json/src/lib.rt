@@ -8,7 +8,8 @@
 //!   taken (`only`), and what was read may be written (`writable`: points are few enough to be numbered, have the parts
 //!   that the profile tells of, and frames within the table).
 //! - `DhatFault::put_message` appends what is told of a fault.
-//! - `profile_text` gives exactly `dhat_text`, which reads as the same profile (`reads_back`).
+//! - `profile_text` gives exactly `dhat_text`, which reads as the same profile (`reads_back`). `PointWriter` gives the same text
+//!   of a profile whose points come one by one, so that they need not be held at once.
 //! - The laws: `dhat_documents` says that a JSON value says one profile or has a fault and not both, and
 //!   `dhat_round_trip` that the value of every sound profile says that profile.
 //! - `Point::figure` gives a figure by its key, `Dhat::has_figures` whether the points have it. `put_shown` appends the
@@ -22,7 +23,7 @@
 //! | `key.rt`, `figure.rt` | its keys, and the figures of a point by their keys |
 //! | `value.rt`, `number.rt` | a JSON value of a document, and its numbers |
 //! | `reader.rt`, `parts.rt`, `point.rt`, `member.rt` | a document, the parts of a profile, its points, one member |
-//! | `writer.rt`, `tokens.rt` | a profile as its one text, and the members of an object one by one |
+//! | `writer.rt`, `point_writer.rt`, `tokens.rt` | a profile as its one text, point by point, and the members of an object one by one |
 //! | `shown.rt` | the shown form of a text |
 //! | `fault.rt` | why a document is no profile, and what is told of it |
 //! | `laws.rt` | the laws |
@@ -37,6 +38,7 @@ mod member;
 mod number;
 mod parts;
 mod point;
+mod point_writer;
 mod profile;
 mod reader;
 mod shown;
@@ -49,6 +51,7 @@ pub use figure::FigureKey;
 pub use key::Key;
 pub use laws::{dhat_documents, dhat_round_trip, shown_texts};
 pub use lists::{FrameList, Points, Texts};
+pub use point_writer::PointWriter;
 pub use profile::{Access, Dhat, Life, Point};
 pub use reader::read_profile;
 pub use shown::put_shown;

@@ -1,16 +1,15 @@
 //! A profile written as its one JSON text. The keys of each object are written in the order of their bytes.
-ghost use Rattle.std.specs.Prelude.{◌≡◌, Ok, Some, map, IfOk, OnOk, string_bytes};
+ghost use Rattle.std.specs.Prelude.{◌≡◌, ◌++◌, [], Ok, Some, IfOk, OnOk, string_bytes};
 ghost use Rattle.std.specs.Option.{option_map};
-ghost use Rattle.serde_json.specs.Data.{array};
-ghost use Rattle.serde_json.specs.View.{items_of};
 ghost use Rattle.dhat_json.specs.Adds.{Adds, AddsValue};
+ghost use Rattle.dhat_json.specs.Begun.{HasBegun, HasTimes, IsTextOf, with_points};
+ghost use Rattle.dhat_json.specs.declared.profile.Dhat.{Dhat};
 ghost use Rattle.dhat_json.specs.DhatValue.{dhat_value, dhat_text, point_value};
 ghost use Rattle.dhat_json.specs.Document.{document_of, value_of};
 ghost use Rattle.dhat_json.specs.IsSound.{IsWritable, HasTexts};
-ghost use Rattle.dhat_json.specs.Groups.{unit_members, run_members, points_member, time_members, first_members, peak_members, count_members, last_members};
+ghost use Rattle.dhat_json.specs.Groups.{unit_members, run_members, time_members, first_members, peak_members, count_members, last_members};
 
 use crate::key::Key;
-use crate::lists::Points;
 use crate::profile::{Dhat, Point, VERSION};
 use crate::tokens::{
     put_flag, put_frames, put_optional_text, put_optional_whole, put_table, put_text, put_whole,
@@ -28,25 +27,49 @@ pub fn profile_text(alloc: Global, dhat: &Dhat) -> Result<String, NoMemory>
         (λ text. value_of (string_bytes text) ≡ Some (dhat_value dhat.now)) }
     ensures reads_back { IfOk result (λ text. document_of (string_bytes text) ≡ Ok dhat.now) }
 {
+    let mut out = begun(alloc, dhat)?;
+    put_points(&mut out, dhat.pps.as_slice())?;
+    ended(out, dhat)
+}
+
+/// The text of the profile up to its points, and none of these.
+pub(crate) fn begun(alloc: Global, dhat: &Dhat) -> Result<Writer, NoMemory>
+    requires { HasTexts dhat.now }
+    ensures { IfOk result (λ out. HasBegun out (with_points dhat.now [])) }
+{
     let mut out = Writer::new(Vec::new(alloc));
-    put_profile(&mut out, dhat)?;
+    out.begin_object()?;
+    put_units(&mut out, dhat)?;
+    put_run(&mut out, dhat)?;
+    out.key(Key::Pps.name())?;
+    out.begin_array()?;
+    Ok(out)
+}
+
+fn put_points(out: &mut Writer, points: &[Point]) -> Result<(), NoMemory>
+    ensures { OnOk result ((dhat : Dhat) → HasBegun out.old dhat
+        → HasBegun out.new (with_points dhat (dhat.pps ++ points.now))) }
+{
+    for point in points {
+        put_point(out, point)?;
+    }
+    Ok(())
+}
+
+/// The text with what stands behind the points, which is that of the profile.
+pub(crate) fn ended(mut out: Writer, dhat: &Dhat) -> Result<String, NoMemory>
+    requires texts { HasTexts dhat.now }
+    requires alone { out.before ≡ [] }
+    ensures { IfOk result (λ text. (whole : Dhat) → HasBegun out whole → HasTimes dhat.now whole
+        → IsTextOf whole (string_bytes text)) }
+{
+    out.end_array()?;
+    put_times(&mut out, dhat)?;
+    out.end_object()?;
     let Ok(text) = String::from_utf8(out.into_inner()) else {
         unreachable!();
     };
     Ok(text)
-}
-
-fn put_profile(out: &mut Writer, dhat: &Dhat) -> Result<(), NoMemory>
-    requires { HasTexts dhat.now }
-    ensures { OnOk result (AddsValue out.old out.new (dhat_value dhat.now)) }
-{
-    out.begin_object()?;
-    put_units(out, dhat)?;
-    put_run(out, dhat)?;
-    put_points(out, &dhat.pps)?;
-    put_times(out, dhat)?;
-    out.end_object()?;
-    Ok(())
 }
 
 fn put_units(out: &mut Writer, dhat: &Dhat) -> Result<(), NoMemory>
@@ -83,26 +106,7 @@ fn put_times(out: &mut Writer, dhat: &Dhat) -> Result<(), NoMemory>
     put_text(out, Key::Verb, &dhat.verb)
 }
 
-fn put_points(out: &mut Writer, points: &Points) -> Result<(), NoMemory>
-    ensures { OnOk result (Adds out.old out.new (points_member points.now)) }
-{
-    out.key(Key::Pps.name())?;
-    put_all_points(out, points.as_slice())
-}
-
-fn put_all_points(out: &mut Writer, points: &[Point]) -> Result<(), NoMemory>
-    ensures { OnOk result
-        (AddsValue out.old out.new (array (items_of (map point_value points.now)))) }
-{
-    out.begin_array()?;
-    for point in points {
-        put_point(out, point)?;
-    }
-    out.end_array()?;
-    Ok(())
-}
-
-fn put_point(out: &mut Writer, point: &Point) -> Result<(), NoMemory>
+pub(crate) fn put_point(out: &mut Writer, point: &Point) -> Result<(), NoMemory>
     ensures { OnOk result (AddsValue out.old out.new (point_value point.now)) }
 {
     out.begin_object()?;

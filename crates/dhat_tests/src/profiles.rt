@@ -1,10 +1,6 @@
 //! The profile of a trace without lines. Those of worked traces are tried through the program.
-ghost use Rattle.std.specs.Prelude.{IfOk};
-ghost use Rattle.dhat_json.specs.IsSound.{IsWritable};
-
-use dhat_json::{Dhat, profile_text};
 use dhat_metrics::Lifetimes;
-use dhat_trace::trace_profile;
+use dhat_trace::trace_profile_text;
 use hp_num::NoMemory;
 use ht_trace::Tables;
 use peak_costs::Peaks;
@@ -15,18 +11,11 @@ use std::test::Fail;
 const EMPTY: &str =
     r#"{"Mtu":"Mevents","bkacc":false,"bklt":true,"cmd":"(none)","dhatFileVersion":2,"ftbl":["[root]"],"mode":"heap","pid":0,"pps":[],"te":0,"tg":0,"tu":"events","tuth":500,"verb":"Allocated"}"#;
 
-fn empty_profile(alloc: Global) -> Result<Dhat, NoMemory>
-    ensures { IfOk result IsWritable }
-{
+/// The text of the profile of no lines.
+fn empty_text(alloc: Global) -> Result<String, NoMemory> {
     let peaks = Peaks::new(alloc)?;
     let lifetimes = Lifetimes::new(alloc)?;
-    let tables = Tables::new(alloc);
-    trace_profile(alloc, &tables, &peaks, &lifetimes)
-}
-
-fn empty_text(alloc: Global) -> Result<String, NoMemory> {
-    let dhat = empty_profile(alloc)?;
-    profile_text(alloc, &dhat)
+    trace_profile_text(alloc, Tables::new(alloc), peaks, lifetimes)
 }
 
 #[test]

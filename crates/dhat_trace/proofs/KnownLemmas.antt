@@ -8,10 +8,11 @@ use Rattle.std.proofs.lemmas.List.Elements.{All-cons, All-nil}
 use Rattle.std.proofs.lemmas.Grind.{get_or-set_at}
 use Rattle.std.proofs.lemmas.Option.{get_or_from_slice_get, slice_get-get_or, slice_get_within}
 use Rattle.intern_tables.specs.Numbers.{number_of}
+use Rattle.ht_trace.specs.declared.frame.FrameAt.{FrameAt}
 use Rattle.ht_trace.specs.StackFrames.{frames_of, outer_frames, stack_frames}
 use Rattle.ht_trace.specs.TableState.{TableState}
 use Rattle.dhat_trace.specs.FrameTable.{AddsTexts, Keeps, frame_texts, places_in, profile_frame}
-use Rattle.dhat_trace.specs.KnownPlaces.{AreKnown, GainsPlaces, HavePlaces, instruction_texts}
+use Rattle.dhat_trace.specs.KnownPlaces.{AreLists, GainsPlaces, HavePlaces, instruction_texts}
 use Rattle.dhat_trace.proofs.PlaceLemmas.{adds_again, adds_more, adds_none, place_is, place_within}
 
 -- they stay where a table keeps them
@@ -114,39 +115,46 @@ outer_none tables zero unheld within = refl
 outer_none tables (suc stack) unheld within = absurd (unheld (omega arith, within))
 
 -- what is known stays known
-pub known_later : (tables : TableState) (old new known : List (List ℕ)) → Keeps old new → AreKnown tables old known → AreKnown tables new known
-known_later tables old new known keeps are = record {
+pub known_later : (texts_of : ℕ → List (List ℕ)) (count : ℕ) (old new known : List (List ℕ)) → Keeps old new → AreLists texts_of count old known → AreLists texts_of count new known
+known_later texts_of count old new known keeps are = record {
   count = are.count;
-  told = λ instruction places held some. places_stay old new keeps (instruction_texts tables instruction) places (are.told instruction places held some);
+  told = λ number places held some. places_stay old new keeps (texts_of number) places (are.told number places held some);
 }
 
--- one instruction more is known
-pub known_more : (tables : TableState) (table known : List (List ℕ)) (number : ℕ) (own : List ℕ) → AreKnown tables table known → HavePlaces table (instruction_texts tables number) own
-    → AreKnown tables table (set known number own)
-known_more tables table known number own are held = record {
+-- one number more is known
+pub known_more : (texts_of : ℕ → List (List ℕ)) (count : ℕ) (table known : List (List ℕ)) (number : ℕ) (own : List ℕ) → AreLists texts_of count table known → HavePlaces table (texts_of number) own
+    → AreLists texts_of count table (set known number own)
+known_more texts_of count table known number own are held = record {
   count = length-set known number own ∙ are.count;
-  told = λ instruction places is some. by instruction places is some (eqb instruction number) refl;
+  told = λ other places is some. by other places is some (eqb other number) refl;
 }
   where
-    by : (instruction : ℕ) (places : List ℕ) → slice_get (set known number own) instruction ≡ Some places → 0 < length places → (b : Bool) → eqb instruction number ≡ b
-        → HavePlaces table (instruction_texts tables instruction) places
-    by instruction places is some true test =
-        let same : instruction ≡ number = grind (arith, nat_tests) in
-        let within : instruction < length known = omega (arith, slice_get_within (set known number own) instruction places is, length-set known number own) in
-        let there : own ≡ places = sym (get_or-set_at known number instruction own [] same (omega (arith, within, same))) ∙ get_or_from_slice_get (set known number own) instruction places [] is in
-        subst (λ (n : ℕ). HavePlaces table (instruction_texts tables n) places) (sym same) (subst (HavePlaces table (instruction_texts tables number)) there held)
-    by instruction places is some false test =
-        let other : instruction ≢ number = grind (arith, nat_tests) in
-        let within : instruction < length known = omega (arith, slice_get_within (set known number own) instruction places is, length-set known number own) in
-        let there : get_or known instruction [] ≡ places = sym (get_or-set_other known number instruction own [] other) ∙ get_or_from_slice_get (set known number own) instruction places [] is in
-        are.told instruction places (slice_get-get_or known instruction [] within ∙ ap Some there) some
+    by : (other : ℕ) (places : List ℕ) → slice_get (set known number own) other ≡ Some places → 0 < length places → (b : Bool) → eqb other number ≡ b
+        → HavePlaces table (texts_of other) places
+    by other places is some true test =
+        let same : other ≡ number = grind (arith, nat_tests) in
+        let within : other < length known = omega (arith, slice_get_within (set known number own) other places is, length-set known number own) in
+        let there : own ≡ places = sym (get_or-set_at known number other own [] same (omega (arith, within, same))) ∙ get_or_from_slice_get (set known number own) other places [] is in
+        subst (λ (n : ℕ). HavePlaces table (texts_of n) places) (sym same) (subst (HavePlaces table (texts_of number)) there held)
+    by other places is some false test =
+        let differs : other ≢ number = grind (arith, nat_tests) in
+        let within : other < length known = omega (arith, slice_get_within (set known number own) other places is, length-set known number own) in
+        let there : get_or known other [] ≡ places = sym (get_or-set_other known number other own [] differs) ∙ get_or_from_slice_get (set known number own) other places [] is in
+        are.told other places (slice_get-get_or known other [] within ∙ ap Some there) some
 
 -- nothing is known of empty lists
-pub none_known : (tables : TableState) (table known : List (List ℕ)) → length known ≡ length tables.instructions + 1 → All (λ places. places ≡ []) known → AreKnown tables table known
-none_known tables table known count empty = record {
-  count = count;
-  told = λ instruction places held some.
-      let is : places ≡ [] = sym (get_or_from_slice_get known instruction places [] held) ∙ empty instruction [] (slice_get_within known instruction places held) in
+pub none_known : (texts_of : ℕ → List (List ℕ)) (count : ℕ) (table known : List (List ℕ)) → length known ≡ count → All (λ places. places ≡ []) known → AreLists texts_of count table known
+none_known texts_of count table known size empty = record {
+  count = size;
+  told = λ number places held some.
+      let is : places ≡ [] = sym (get_or_from_slice_get known number places [] held) ∙ empty number [] (slice_get_within known number places held) in
       let none : length places ≡ 0 = ap (λ (ps : List ℕ). length ps) is in
       absurd (omega (arith, some, none));
 }
+
+-- the places that were made of an instruction's frames
+pub made_places : (tables : TableState) (instruction : ℕ) (old new : List (List ℕ)) (frames : List FrameAt) (none places own : List ℕ) → frames ≡ frames_of tables.instructions instruction
+    → none ≡ [] → GainsPlaces old none (map (profile_frame tables) frames) new places → own ≡ places → HavePlaces new (instruction_texts tables instruction) own
+made_places tables instruction old new frames none places own are empty gains is =
+    subst (λ (ps : List ℕ). HavePlaces new (instruction_texts tables instruction) ps) (sym is)
+    (subst (λ (fs : List FrameAt). HavePlaces new (map (profile_frame tables) fs) places) are (gains_all old (map (profile_frame tables) frames) new none places empty gains))

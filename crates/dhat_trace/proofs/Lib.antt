@@ -1,7 +1,9 @@
 mod FigureLemmas
 mod Repeats
 mod PlaceLemmas
+mod RangeLemmas
 mod KnownLemmas
+mod BacktraceLemmas
 mod PointLists
 mod TextLemmas
 mod ProfileLemmas

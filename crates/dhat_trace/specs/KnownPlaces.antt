@@ -3,7 +3,7 @@ use Rattle.std.specs.Prelude.{◌≡◌, ℕ, ◌+◌, ◌<◌, List, [], ◌∷
 use Rattle.intern_tables.specs.Numbers.{number_of}
 use Rattle.ht_trace.specs.StackFrames.{frames_of}
 use Rattle.ht_trace.specs.TableState.{TableState}
-use Rattle.dhat_trace.specs.FrameTable.{AddsTexts, profile_frame}
+use Rattle.dhat_trace.specs.FrameTable.{AddsTexts, frame_texts, profile_frame}
 
 -- the texts of the frames of an instruction, from the innermost on
 abbrev pub instruction_texts : TableState → ℕ → List (List ℕ)
@@ -25,9 +25,17 @@ pub record GainsPlaces (old : List (List ℕ)) (before : List ℕ) (texts new : 
   pub told : (front : List (List ℕ)) → HavePlaces old front before
       → HavePlaces new (front ++ texts) after
 
--- each instruction has a list: that of the places of its frames, unless it is empty still
-pub record AreKnown (tables : TableState) (table : List (List ℕ)) (known : List (List ℕ)) : Type
-    0 where
-  pub count : length known ≡ length tables.instructions + 1
-  pub told : (instruction : ℕ) (places : List ℕ) → slice_get known instruction ≡ Some places
-      → 0 < length places → HavePlaces table (instruction_texts tables instruction) places
+-- each number has a list: that of the places of its texts, unless it is empty still
+pub record AreLists (texts_of : ℕ → List (List ℕ)) (numbers : ℕ) (table : List (List ℕ))
+    (lists : List (List ℕ)) : Type 0 where
+  pub count : length lists ≡ numbers
+  pub told : (number : ℕ) (places : List ℕ) → slice_get lists number ≡ Some places
+      → 0 < length places → HavePlaces table (texts_of number) places
+
+-- those of instructions
+abbrev pub AreKnown : TableState → List (List ℕ) → List (List ℕ) → Type 0
+AreKnown tables = AreLists (instruction_texts tables) (length tables.instructions + 1)
+
+-- those of stacks
+abbrev pub AreTold : TableState → List (List ℕ) → List (List ℕ) → Type 0
+AreTold tables = AreLists (frame_texts tables) (length tables.nodes + 1)

@@ -3,11 +3,12 @@
 ghost use Rattle.std.specs.Prelude.{◌≡◌, ℕ, ◌+◌, ◌^◌, ◌<◌, ◌≤◌, ◌++◌, List, [], ◌∷◌, All, IfOk, OnOk, Some, codes, length, map, slice_get};
 ghost use Rattle.intern_tables.specs.Numbers.{number_of};
 ghost use Rattle.ht_trace.specs.IsFrame.{IsFrame};
-ghost use Rattle.dhat_trace.specs.FrameTable.{AddsTexts, Keeps, frame_texts, profile_frame, places_in};
-ghost use Rattle.dhat_trace.specs.KnownPlaces.{AreKnown, GainsPlaces, HavePlaces, instruction_texts};
+ghost use Rattle.dhat_trace.specs.FrameTable.{AddsTexts, frame_texts, profile_frame};
+ghost use Rattle.dhat_trace.specs.KnownPlaces.{AreKnown, AreTold, GainsPlaces, HavePlaces, instruction_texts};
 
+use crate::known_places::KnownPlaces;
 use crate::texts::make_utf8;
-use dhat_json::{FrameList, Texts};
+use dhat_json::Texts;
 use hp_num::{NoMemory, Text};
 use ht_trace::{FrameAt, Style, Tables};
 use intern_tables::Names;
@@ -21,7 +22,7 @@ const ROOT: &[u8] = b"[root]";
 #[derive(Debug, Drop)]
 pub(crate) struct FrameTable {
     pub(crate) texts: Names,
-    pub(crate) known: Vec<FrameList>,
+    pub(crate) known: KnownPlaces,
     frames: Vec<FrameAt>,
     text: Vec<u8>,
     alloc: Global,
@@ -32,11 +33,11 @@ impl FrameTable {
     pub(crate) fn new(alloc: Global, tables: &Tables) -> Result<FrameTable, NoMemory>
         ensures root { IfOk result (λ table. table.texts ≡ codes "[root]" ∷ []) }
         ensures known { IfOk result
-            (λ table. AreKnown tables.now table.texts table.known.items) }
+            (λ table. AreKnown tables.now table.texts table.known) }
     {
         let mut texts = Names::new(alloc);
         texts.intern(ROOT)?;
-        let known = empty_lists(alloc, tables.instructions() as usize + 1)?;
+        let known = KnownPlaces::new(alloc, tables.instructions() as usize + 1)?;
         Ok(FrameTable {
             texts,
             known,
@@ -46,37 +47,22 @@ impl FrameTable {
         })
     }
 
-    /// The places of the frames of a stack, from the innermost on. A text that is new comes to the end of the table.
-    pub(crate) fn places_of(&mut self, tables: &Tables, stack: u32) -> Result<FrameList, NoMemory>
-        requires held { stack ≤ length tables.now.nodes }
-        requires known { AreKnown tables.now self.old.texts self.old.known.items }
-        ensures known { OnOk result (AreKnown tables.now self.new.texts self.new.known.items) }
-        ensures added { OnOk result
-            (AddsTexts self.old.texts (frame_texts tables.now stack) self.new.texts) }
-        ensures places { IfOk result
-            (λ places. (table : List (List ℕ)) → Keeps self.new.texts table
-            → places ≡ places_in table (frame_texts tables.now stack)) }
-        ensures within { IfOk result
-            (λ places. All (λ place. place < length self.new.texts) places) }
-    {
-        let mut places = FrameList::new(self.alloc);
-        self.push_stack(tables, stack, &mut places)?;
-        Ok(places)
-    }
-
-    /// Appends the places of the frames of a stack, from the innermost on.
-    fn push_stack(
+    /// Appends the places of the frames of a stack, from the innermost on. A text that is new comes to the end of the table.
+    /// Where the stack is called from one whose places were told before, they go on as those.
+    pub(crate) fn push_stack(
         &mut self,
         tables: &Tables,
+        told: &KnownPlaces,
         stack: u32,
-        places: &mut FrameList,
+        places: &mut Vec<u64>,
     ) -> Result<(), NoMemory>
         requires held { stack ≤ length tables.now.nodes }
-        requires known { AreKnown tables.now self.old.texts self.old.known.items }
-        ensures known { OnOk result (AreKnown tables.now self.new.texts self.new.known.items) }
+        requires known { AreKnown tables.now self.old.texts self.old.known }
+        requires told { AreTold tables.now self.old.texts told.now }
+        ensures known { OnOk result (AreKnown tables.now self.new.texts self.new.known) }
         ensures gains { OnOk result
-            (GainsPlaces self.old.texts places.old (frame_texts tables.now stack)
-            self.new.texts places.new) }
+            (GainsPlaces self.old.texts places.old.items (frame_texts tables.now stack)
+            self.new.texts places.new.items) }
     {
         if stack == 0 {
             tables.frames_into(stack, &mut self.frames)?;
@@ -90,6 +76,11 @@ impl FrameTable {
         }
         let mut at = stack;
         'outwards: while let Some((instruction, caller)) = tables.node(at) {
+            let known = told.of(at as usize);
+            if known.len() > 0 {
+                places.extend_from_slice(known)?;
+                return Ok(());
+            }
             self.push_instruction(tables, instruction, places)?;
             at = caller;
         }
@@ -101,36 +92,37 @@ impl FrameTable {
         &mut self,
         tables: &Tables,
         instruction: u32,
-        places: &mut FrameList,
+        places: &mut Vec<u64>,
     ) -> Result<(), NoMemory>
         requires held { instruction ≤ length tables.now.instructions }
-        requires known { AreKnown tables.now self.old.texts self.old.known.items }
-        ensures known { OnOk result (AreKnown tables.now self.new.texts self.new.known.items) }
+        requires known { AreKnown tables.now self.old.texts self.old.known }
+        ensures known { OnOk result (AreKnown tables.now self.new.texts self.new.known) }
         ensures gains { OnOk result
-            (GainsPlaces self.old.texts places.old (instruction_texts tables.now instruction)
-            self.new.texts places.new) }
+            (GainsPlaces self.old.texts places.old.items
+            (instruction_texts tables.now instruction) self.new.texts places.new.items) }
     {
         self.learn(tables, instruction)?;
-        push_all(self.known[instruction as usize].as_slice(), places)
+        places.extend_from_slice(self.known.of(instruction as usize))?;
+        Ok(())
     }
 
     /// Makes the places of an instruction's frames known.
     fn learn(&mut self, tables: &Tables, instruction: u32) -> Result<(), NoMemory>
         requires held { instruction ≤ length tables.now.instructions }
-        requires known { AreKnown tables.now self.old.texts self.old.known.items }
-        ensures known { OnOk result (AreKnown tables.now self.new.texts self.new.known.items) }
+        requires known { AreKnown tables.now self.old.texts self.old.known }
+        ensures known { OnOk result (AreKnown tables.now self.new.texts self.new.known) }
         ensures added { OnOk result
             (AddsTexts self.old.texts (instruction_texts tables.now instruction) self.new.texts) }
         ensures told { OnOk result
-            ((places : List ℕ) → slice_get self.new.known.items instruction ≡ Some places
+            ((places : List ℕ) → slice_get self.new.known instruction ≡ Some places
             → HavePlaces self.new.texts (instruction_texts tables.now instruction) places) }
     {
         let number = instruction as usize;
-        if self.known[number].len() > 0 {
+        if self.known.of(number).len() > 0 {
             return Ok(());
         }
         tables.instruction_frames_into(instruction, &mut self.frames)?;
-        let mut places = FrameList::new(self.alloc);
+        let mut places = Vec::new(self.alloc);
         push_places(
             tables,
             &self.frames,
@@ -138,20 +130,27 @@ impl FrameTable {
             &mut self.text,
             &mut places,
         )?;
-        self.known[number] = places;
-        Ok(())
+        self.known.set(number, &places)
     }
 
     /// The texts in their order, or `NoMemory`.
-    pub(crate) fn texts(&self) -> Result<Texts, NoMemory>
-        ensures texts { IfOk result (λ texts. texts ≡ self.now.texts) }
+    pub(crate) fn into_texts(self) -> Result<Texts, NoMemory>
+        ensures texts { IfOk result (λ texts. texts ≡ self.texts) }
     {
-        let mut texts = Texts::new(self.alloc);
-        'each_text: for place in 0..self.texts.len() {
-            texts.push(text_at(self.alloc, &self.texts, place)?)?;
-        }
-        Ok(texts)
+        let FrameTable { texts, alloc, .. } = self;
+        copied_texts(alloc, &texts)
     }
+}
+
+/// Copies of the texts, in their order.
+fn copied_texts(alloc: Global, names: &Names) -> Result<Texts, NoMemory>
+    ensures texts { IfOk result (λ texts. texts ≡ names.now) }
+{
+    let mut texts = Texts::new(alloc);
+    'each_text: for place in 0..names.len() {
+        texts.push(text_at(alloc, names, place)?)?;
+    }
+    Ok(texts)
 }
 
 /// Appends the places of the frames. The texts that the table lacks are added to it; `text` is a buffer.
@@ -160,39 +159,17 @@ fn push_places(
     frames: &[FrameAt],
     texts: &mut Names,
     text: &mut Vec<u8>,
-    places: &mut FrameList,
+    places: &mut Vec<u64>,
 ) -> Result<(), NoMemory>
     requires frames { All (λ at. IsFrame tables.now at) frames.now }
     ensures gains { OnOk result
-        (GainsPlaces texts.old places.old (map (profile_frame tables.now) frames.now)
-        texts.new places.new) }
+        (GainsPlaces texts.old places.old.items (map (profile_frame tables.now) frames.now)
+        texts.new places.new.items) }
 {
     'each_frame: for at in frames {
         places.push(place_of(tables, at, texts, text)?)?;
     }
     Ok(())
-}
-
-/// Appends all of them.
-fn push_all(places: &[u64], out: &mut FrameList) -> Result<(), NoMemory>
-    ensures appended { OnOk result (out.new ≡ out.old ++ places.now) }
-{
-    'each_place: for place in places {
-        out.push(*place)?;
-    }
-    Ok(())
-}
-
-/// So many empty lists.
-fn empty_lists(alloc: Global, count: usize) -> Result<Vec<FrameList>, NoMemory>
-    ensures count { IfOk result (λ lists. length lists.items ≡ count) }
-    ensures empty { IfOk result (λ lists. All (λ list. list ≡ []) lists.items) }
-{
-    let mut lists = Vec::with_capacity(alloc, count)?;
-    'each_list: for _ in 0..count {
-        lists.push_reserved(FrameList::new(alloc));
-    }
-    Ok(lists)
 }
 
 /// The place of a frame's text, which is added where the table lacks it. `text` is a buffer.

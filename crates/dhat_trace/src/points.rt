@@ -1,16 +1,12 @@
-//! The points of a trace: one for each stack that allocated.
-ghost use Rattle.std.specs.Prelude.{◌≡◌, ◌+◌, ◌-◌, ◌^◌, ◌<◌, ◌≤◌, ◌++◌, ◌∷◌, [], ℕ, List, IfOk, OnOk, codes, length};
-ghost use Rattle.dhat_trace.specs.FrameTable.{table_of};
-ghost use Rattle.dhat_trace.specs.KnownPlaces.{AreKnown};
-ghost use Rattle.dhat_trace.specs.Points.{ArePoints, called, if_called};
+//! The stacks that have a point, which are those that allocated, and the figures of each.
+ghost use Rattle.std.specs.Prelude.{◌≡◌, ◌+◌, ◌-◌, ◌<◌, ◌++◌, ◌∷◌, [], ℕ, List, IfOk, OnOk, length};
+ghost use Rattle.dhat_trace.specs.Points.{called, called_with, if_called};
 ghost use Rattle.dhat_trace.specs.declared.points.PointFigures.{PointFigures};
 ghost use Rattle.dhat_trace.specs.PointFigures as figures_spec;
 
-use crate::frame_table::FrameTable;
-use dhat_json::{Life, Point, Points};
+use dhat_json::Life;
 use dhat_metrics::Lifetimes;
 use hp_num::NoMemory;
-use ht_trace::Tables;
 use peak_costs::Peaks;
 use std::alloc::Global;
 
@@ -22,58 +18,45 @@ pub(crate) struct PointFigures {
     pub(crate) life: Life,
 }
 
-/// The points of all stacks that allocated, by ascending number. The texts of their frames come to the table, which has
-/// the root alone before.
-pub(crate) fn all_points(
-    alloc: Global,
-    tables: &Tables,
-    peaks: &Peaks,
-    lifetimes: &Lifetimes,
-    table: &mut FrameTable,
-) -> Result<Points, NoMemory>
-    requires peaks { peaks.now.ledger.stacks ≡ length tables.now.nodes + 1 }
-    requires lifetimes { length lifetimes.now.figures ≡ length tables.now.nodes + 1 }
-    requires root { table.old.texts ≡ codes "[root]" ∷ [] }
-    requires known { AreKnown tables.now table.old.texts table.old.known.items }
-    ensures points { IfOk result
-        (λ points. let figures = figures_spec.figures_of peaks.now lifetimes.now in
-        ArePoints tables.now figures (called figures (length tables.now.nodes + 1)) table.new.texts
-        points) }
-{
-    let mut points = Points::new(alloc);
-    'each_stack: for stack in 0..tables.stacks() {
-        let figures = figures_of(peaks, lifetimes, stack);
-        add_point(tables, stack, figures, table, &mut points)?;
-    }
-    Ok(points)
+/// A stack that allocated.
+#[derive(Clone, Copy, Debug)]
+pub(crate) struct CalledStack {
+    pub(crate) stack: u32,
+    pub(crate) figures: PointFigures,
 }
 
-/// Appends the point of the stack, where it allocated.
-fn add_point(
-    tables: &Tables,
+/// All stacks that allocated, by ascending number, or `NoMemory`.
+pub(crate) fn called_stacks(
+    alloc: Global,
+    peaks: &Peaks,
+    lifetimes: &Lifetimes,
+) -> Result<Vec<CalledStack>, NoMemory>
+    requires lifetimes { length lifetimes.now.figures ≡ peaks.now.ledger.stacks }
+    ensures { IfOk result
+        (λ stacks. let figures = figures_spec.figures_of peaks.now lifetimes.now in
+        stacks.items ≡ called_with figures (called figures peaks.now.ledger.stacks)) }
+{
+    let mut stacks = Vec::new(alloc);
+    'each_stack: for stack in 0..peaks.ledger().stacks() {
+        let figures = figures_of(peaks, lifetimes, stack);
+        add_stack(stack, figures, &mut stacks)?;
+    }
+    Ok(stacks)
+}
+
+/// Appends the stack, where it allocated.
+fn add_stack(
     stack: u32,
     figures: PointFigures,
-    table: &mut FrameTable,
-    points: &mut Points,
+    stacks: &mut Vec<CalledStack>,
 ) -> Result<(), NoMemory>
-    requires held { stack ≤ length tables.now.nodes }
-    requires known { AreKnown tables.now table.old.texts table.old.known.items }
-    ensures known { OnOk result (AreKnown tables.now table.new.texts table.new.known.items) }
-    ensures added { OnOk result ((all : ℕ → PointFigures) (stacks : List ℕ) → all stack ≡ figures
-        → ArePoints tables.now all stacks table.old.texts points.old
-        → ArePoints tables.now all (stacks ++ if_called all stack) table.new.texts points.new) }
+    ensures { OnOk result ((all : ℕ → PointFigures) → all stack ≡ figures
+        → stacks.new.items ≡ stacks.old.items ++ called_with all (if_called all stack)) }
 {
     if figures.tbk == 0 {
         return Ok(());
     }
-    let fs = table.places_of(tables, stack)?;
-    points.push(Point {
-        tb: figures.tb,
-        tbk: figures.tbk,
-        life: Some(figures.life),
-        access: None,
-        fs,
-    })?;
+    stacks.push(CalledStack { stack, figures })?;
     Ok(())
 }
 

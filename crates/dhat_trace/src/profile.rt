@@ -1,16 +1,26 @@
 //! The profile of a trace: its points, their frames, and when it peaked and ended.
-ghost use Rattle.std.specs.Prelude.{◌*◌, ◌≡◌, ◌+◌, ◌-◌, ◌^◌, ◌<◌, List, IfOk, length};
+ghost use Rattle.std.specs.Prelude.{◌*◌, ◌≡◌, ◌+◌, ◌-◌, ◌^◌, ◌<◌, ◌≤◌, ◌++◌, ◌∷◌, [], List, All, Ok, IfOk, OnOk, length, map, string_bytes};
 ghost use Rattle.live_ledger.specs.declared.event.Event.{Event};
-ghost use Rattle.dhat_json.specs.IsSound.{IsWritable};
+ghost use Rattle.dhat_json.specs.declared.profile.Dhat.{Dhat};
+ghost use Rattle.dhat_json.specs.Begun.{with_points};
+ghost use Rattle.dhat_json.specs.DhatValue.{dhat_text};
+ghost use Rattle.dhat_json.specs.Document.{document_of};
+ghost use Rattle.dhat_json.specs.IsSound.{HasTexts, IsSound};
+ghost use Rattle.dhat_json.specs.PointWriter.{HasWritten};
 ghost use Rattle.dhat_metrics.specs.StandsFor as life_spec;
 ghost use Rattle.peak_costs.specs.Peak as peak_spec;
+ghost use Rattle.dhat_trace.specs.Backtraces.{AreBacktraces};
 ghost use Rattle.dhat_trace.specs.DhatOf.{dhat_of, heap_profile, profile_of};
 ghost use Rattle.dhat_trace.specs.PointFigures.{figures_of};
+ghost use Rattle.dhat_trace.specs.Points.{point_with, points_in};
+ghost use Rattle.dhat_trace.specs.ProfileTexts.{command_text};
 
+use crate::backtraces::backtraces;
 use crate::frame_table::FrameTable;
-use crate::points::all_points;
+use crate::known_places::KnownPlaces;
+use crate::points::{CalledStack, PointFigures, called_stacks};
 use crate::texts::command_text;
-use dhat_json::{Dhat, Points, Texts};
+use dhat_json::{Dhat, FrameList, Point, PointWriter, Points, Texts};
 use dhat_metrics::Lifetimes;
 use hp_num::{NoMemory, Text};
 use ht_trace::Tables;
@@ -20,49 +30,132 @@ use std::alloc::Global;
 /// How many events a block must live so that its life is worth a remark.
 const SHORT_LIFE: u64 = 500;
 
-/// The DHAT profile of a trace: its command, how many allocations and frees it has (`te`), after how many of them the most
-/// bytes were live (`tg`), a point for each stack that allocated, by ascending stack, and the table of their frames, which
-/// begins with `[root]` and has each text where it first comes. Times are numbers of events. A text of the trace that isn't
-/// UTF-8 has `?` for each byte that isn't ASCII. `NoMemory` where memory is wanting.
+/// The text of the DHAT profile of a trace: its command, how many allocations and frees it has (`te`), after how many of them
+/// the most bytes were live (`tg`), a point for each stack that allocated, by ascending stack, and the table of their frames,
+/// which begins with `[root]` and has each text where it first comes. Times are numbers of events. A text of the trace that
+/// isn't UTF-8 has `?` for each byte that isn't ASCII. `NoMemory` where memory is wanting. What the trace was read into is let
+/// go as soon as it isn't needed.
 ///
 /// Peaks and lifetimes must have as many stacks as the tables. Allocations and frees on the one hand and stacks on the other
 /// must not both be 2^32 - 1 or more, so that the points can be numbered; of a file within the limits they aren't.
-pub fn trace_profile(
+pub fn trace_profile_text(
     alloc: Global,
-    tables: &Tables,
-    peaks: &Peaks,
-    lifetimes: &Lifetimes,
-) -> Result<Dhat, NoMemory>
-    requires peaks { peaks.now.ledger.stacks ≡ length tables.now.nodes + 1 }
-    requires lifetimes { length lifetimes.now.figures ≡ length tables.now.nodes + 1 }
-    requires few { 4 * peaks.now.ledger.totals.events + peaks.now.ledger.stacks < 5 * (2 ^ 32 - 1) }
+    tables: Tables,
+    peaks: Peaks,
+    lifetimes: Lifetimes,
+) -> Result<String, NoMemory>
+    requires peaks { peaks.ledger.stacks ≡ length tables.nodes + 1 }
+    requires lifetimes { length lifetimes.figures ≡ length tables.nodes + 1 }
+    requires few { 4 * peaks.ledger.totals.events + peaks.ledger.stacks < 5 * (2 ^ 32 - 1) }
     ensures profile { IfOk result
-        (λ dhat. dhat ≡ profile_of tables.now peaks.now.ledger.totals.events peaks.now.moment
-        (figures_of peaks.now lifetimes.now)) }
+        (λ text. string_bytes text ≡ dhat_text (profile_of tables peaks.ledger.totals.events
+        peaks.moment (figures_of peaks lifetimes))) }
     ensures trace { IfOk result
-        (λ dhat. (events : List Event) → peak_spec.StandsFor peaks.now events
-        → life_spec.StandsFor lifetimes.now events
-        → dhat ≡ dhat_of tables.now events) }
-    ensures writable { IfOk result (λ dhat. IsWritable dhat) }
+        (λ text. (events : List Event) → peak_spec.StandsFor peaks events
+        → life_spec.StandsFor lifetimes events
+        → string_bytes text ≡ dhat_text (dhat_of tables events)) }
+    ensures reads_back { IfOk result
+        (λ text. document_of (string_bytes text) ≡ Ok (profile_of tables
+        peaks.ledger.totals.events peaks.moment (figures_of peaks lifetimes))) }
 {
-    let mut table = FrameTable::new(alloc, tables)?;
-    let pps = all_points(alloc, tables, peaks, lifetimes, &mut table)?;
-    let ftbl = table.texts()?;
-    let cmd = command_text(alloc, tables)?;
+    let stacks = called_stacks(alloc, &peaks, &lifetimes)?;
     let te = peaks.ledger().totals().events;
-    heap_profile(alloc, cmd, te, peaks.peak_moment(), pps, ftbl)
+    let tg = peaks.peak_moment();
+    drop(peaks);
+    drop(lifetimes);
+    let told = told_stacks(alloc, tables, &stacks)?;
+    let head = heap_profile(alloc, told.cmd, te, tg, told.ftbl)?;
+    written(alloc, head, &stacks, &told.backtraces)
 }
 
-/// The profile of a heap with this command, this last time and this time of the peak, these points and this table.
-fn heap_profile(
-    alloc: Global,
-    cmd: Text,
-    te: u64,
-    tg: u64,
-    pps: Points,
+/// What the tables tell of stacks: their frames, the texts of these, and the command.
+#[derive(Debug, Drop)]
+struct Told {
+    backtraces: KnownPlaces,
     ftbl: Texts,
-) -> Result<Dhat, NoMemory>
-    ensures { IfOk result (λ dhat. dhat ≡ heap_profile cmd te tg pps ftbl) }
+    cmd: Text,
+}
+
+/// What the tables, which are let go, tell of these stacks.
+fn told_stacks(alloc: Global, tables: Tables, stacks: &[CalledStack]) -> Result<Told, NoMemory>
+    requires held { All (λ called. called.stack ≤ length tables.nodes) stacks.now }
+    ensures backtraces { IfOk result
+        (λ told. AreBacktraces tables (map (λ called. called.stack) stacks.now) told.ftbl
+        told.backtraces) }
+    ensures cmd { IfOk result (λ told. told.cmd ≡ command_text tables.command) }
+{
+    let mut table = FrameTable::new(alloc, &tables)?;
+    let backtraces = backtraces(alloc, &tables, stacks, &mut table)?;
+    let cmd = command_text(alloc, &tables)?;
+    drop(tables);
+    let ftbl = table.into_texts()?;
+    Ok(Told {
+        backtraces,
+        ftbl,
+        cmd,
+    })
+}
+
+/// The text of the profile with the points of these stacks.
+fn written(
+    alloc: Global,
+    head: Dhat,
+    stacks: &[CalledStack],
+    backtraces: &KnownPlaces,
+) -> Result<String, NoMemory>
+    requires texts { HasTexts head }
+    requires held { All (λ called. called.stack < length backtraces.now) stacks.now }
+    ensures text { IfOk result
+        (λ text. string_bytes text
+        ≡ dhat_text (with_points head (points_in stacks.now backtraces.now))) }
+    ensures reads_back { IfOk result
+        (λ text. IsSound (with_points head (points_in stacks.now backtraces.now))
+        → document_of (string_bytes text)
+        ≡ Ok (with_points head (points_in stacks.now backtraces.now))) }
+{
+    let mut writer = PointWriter::new(alloc, head)?;
+    'each_stack: for called in stacks {
+        let places = backtraces.of(called.stack as usize);
+        put_point(alloc, called.figures, places, &mut writer)?;
+    }
+    writer.finish()
+}
+
+/// Puts the point with these figures and the frames at these places.
+fn put_point(
+    alloc: Global,
+    figures: PointFigures,
+    places: &[u64],
+    writer: &mut PointWriter,
+) -> Result<(), NoMemory>
+    ensures { OnOk result ((dhat : Dhat) → HasWritten writer.old dhat
+        → HasWritten writer.new
+        (with_points dhat (dhat.pps ++ point_with figures places.now ∷ []))) }
+{
+    let fs = frame_list(alloc, places)?;
+    writer.put(&Point {
+        tb: figures.tb,
+        tbk: figures.tbk,
+        life: Some(figures.life),
+        access: None,
+        fs,
+    })
+}
+
+/// The list of these places.
+fn frame_list(alloc: Global, places: &[u64]) -> Result<FrameList, NoMemory>
+    ensures { IfOk result (λ list. list ≡ places.now) }
+{
+    let mut list = FrameList::new(alloc);
+    'each_place: for place in places {
+        list.push(*place)?;
+    }
+    Ok(list)
+}
+
+/// The profile of a heap with this command, this last time and this time of the peak, this table, and no points.
+fn heap_profile(alloc: Global, cmd: Text, te: u64, tg: u64, ftbl: Texts) -> Result<Dhat, NoMemory>
+    ensures { IfOk result (λ dhat. dhat ≡ heap_profile cmd te tg [] ftbl) }
 {
     let mode = Text::new(alloc, b"heap")?;
     let verb = Text::new(alloc, b"Allocated")?;
@@ -83,7 +176,7 @@ fn heap_profile(
         pid: 0,
         te,
         tg: Some(tg),
-        pps,
+        pps: Points::new(alloc),
         ftbl,
     })
 }

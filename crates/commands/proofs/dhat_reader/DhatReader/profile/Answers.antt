@@ -22,5 +22,4 @@ returns c = λ lines has.
     c.in_ok-push.ensures.items
     ∙ ap (λ (text : List ℕ). text ++ codes "\n")
     (ap (λ v. v.items) c.into_bytes-output.ensures.value
-    ∙ (c.in_ok-text.ensures.text
-    ∙ ap dhat_text (c.in_ok-dhat.ensures.trace (events lines) has.read.peaks_of has.lives ∙ ap (λ tables. dhat_of tables (events lines)) (tables_are c.args.self.trace lines has.read))))
+    ∙ (c.in_ok-text.ensures.trace (events lines) has.read.peaks_of has.lives ∙ ap (λ tables. dhat_text (dhat_of tables (events lines))) (tables_are c.args.self.trace lines has.read)))

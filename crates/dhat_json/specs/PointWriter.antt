@@ -1,0 +1,11 @@
+-- What a writer of points has written so far.
+use Rattle.dhat_json.specs.declared.point_writer.PointWriter.{PointWriter}
+use Rattle.dhat_json.specs.declared.profile.Dhat.{Dhat}
+use Rattle.dhat_json.specs.Begun.{HasBegun, HasTimes}
+use Rattle.dhat_json.specs.IsSound.{HasTexts}
+
+-- the writer has written the profile up to its last point, and keeps what stands behind the points
+pub record HasWritten (writer : PointWriter) (dhat : Dhat) : Type 0 where
+  pub begun : HasBegun writer.out dhat
+  pub times : HasTimes writer.head dhat
+  pub texts : HasTexts writer.head

@@ -1,0 +1,61 @@
+//! A profile's text whose points come one by one, so that they need not be held at once.
+ghost use Rattle.std.specs.Prelude.{◌≡◌, ◌++◌, ◌∷◌, [], Ok, Some, IfOk, OnOk, string_bytes};
+ghost use Rattle.dhat_json.specs.declared.profile.Dhat.{Dhat};
+ghost use Rattle.dhat_json.specs.Begun.{with_points};
+ghost use Rattle.dhat_json.specs.DhatValue.{dhat_text, dhat_value};
+ghost use Rattle.dhat_json.specs.Document.{document_of, value_of};
+ghost use Rattle.dhat_json.specs.IsSound.{HasTexts, IsSound};
+ghost use Rattle.dhat_json.specs.PointWriter.{HasWritten};
+
+use crate::lists::{Points, Texts};
+use crate::profile::{Dhat, Point};
+use crate::writer::{begun, ended, put_point};
+use hp_num::NoMemory;
+use json::Writer;
+use std::alloc::Global;
+
+/// The text of a profile so far: all that stands before its points, and the points that were put.
+#[derive(Drop)]
+pub struct PointWriter {
+    pub(crate) out: Writer,
+    pub(crate) head: Dhat,
+}
+
+impl PointWriter {
+    /// Begins the text of this profile with none of its points, or answers `NoMemory`. Points and table are let go.
+    pub fn new(alloc: Global, dhat: Dhat) -> Result<PointWriter, NoMemory>
+        requires texts { HasTexts dhat }
+        ensures begun { IfOk result (λ writer. HasWritten writer (with_points dhat [])) }
+    {
+        let out = begun(alloc, &dhat)?;
+        let head = Dhat {
+            pps: Points::new(alloc),
+            ftbl: Texts::new(alloc),
+            ..dhat
+        };
+        Ok(PointWriter { out, head })
+    }
+
+    /// Puts a point behind the others. After `NoMemory` the writer is of no use.
+    pub fn put(&mut self, point: &Point) -> Result<(), NoMemory>
+        ensures more { OnOk result ((dhat : Dhat) → HasWritten self.old dhat
+            → HasWritten self.new (with_points dhat (dhat.pps ++ point.now ∷ []))) }
+    {
+        put_point(&mut self.out, point)
+    }
+
+    /// The text of the profile with the points that were put, which is that of `profile_text`: read again it is the same
+    /// profile, where this is sound. `NoMemory` where memory is wanting.
+    pub fn finish(self) -> Result<String, NoMemory>
+        requires begun { (dhat : Dhat) × HasWritten self dhat }
+        ensures text { IfOk result (λ text. (dhat : Dhat) → HasWritten self dhat
+            → string_bytes text ≡ dhat_text dhat) }
+        ensures value { IfOk result (λ text. (dhat : Dhat) → HasWritten self dhat
+            → value_of (string_bytes text) ≡ Some (dhat_value dhat)) }
+        ensures reads_back { IfOk result (λ text. (dhat : Dhat) → HasWritten self dhat
+            → IsSound dhat → document_of (string_bytes text) ≡ Ok dhat) }
+    {
+        let PointWriter { out, head } = self;
+        ended(out, &head)
+    }
+}

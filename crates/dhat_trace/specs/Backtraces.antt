@@ -1,0 +1,13 @@
+-- The frames of stacks, told by their places in the table, for private clauses.
+use Rattle.std.specs.Prelude.{◌≡◌, ℕ, List, [], All, slice_index_or}
+use Rattle.ht_trace.specs.TableState.{TableState}
+use Rattle.dhat_trace.specs.FrameTable.{frame_texts, table_of}
+use Rattle.dhat_trace.specs.KnownPlaces.{AreTold, HavePlaces}
+
+-- the table is that of the stacks, and each of them has the places of its frames
+pub record AreBacktraces (tables : TableState) (stacks : List ℕ) (table : List (List ℕ))
+    (told : List (List ℕ)) : Type 0 where
+  pub table_is : table ≡ table_of tables stacks
+  pub told_are : AreTold tables table told
+  pub all : All (λ stack. HavePlaces table (frame_texts tables stack)
+      (slice_index_or told stack [])) stacks
