@@ -1,7 +1,7 @@
 -- Lemmas on a list's way up along a shape.
-use Rattle.std.proofs.Common.{◌≡◌, ◌≢◌, ℕ, zero, suc, ◌+◌, ◌-◌, ◌<◌, ◌≤◌, inl, inr, List, [], ◌∷◌, ◌++◌, length, take, get_or, reverse, set, Some, sym, ap, ◌∙◌, subst, append_assoc, append-nil, arith}
+use Rattle.std.proofs.Common.{◌≡◌, ◌≢◌, ℕ, zero, suc, ◌+◌, ◌-◌, ◌<◌, ◌≤◌, inl, inr, List, [], ◌∷◌, ◌++◌, length, take, get_or, set, Some, sym, ap, ◌∙◌, subst, arith}
 use Rattle.std.specs.Prelude.{slice_get, slice_index}
-use Rattle.std.proofs.lemmas.List.{length-take-le, length_push, reverse-append, take-append-le, take-take, take_all}
+use Rattle.std.proofs.lemmas.List.{length-take-le, length_push, take-append-le, take-take, take_all}
 use Rattle.std.proofs.lemmas.Option.{none-some, same_Some, slice_get_within, slice_get-get_or, get_or_from_slice_get}
 use Rattle.cost_tree.specs.declared.edge.Edge.{Edge}
 use Rattle.cost_tree.specs.Shapes.{AreSteps, list_at, next_front, numbers_of}

@@ -1,8 +1,7 @@
 //! Lists of texts, as those that a tree is built of.
 //! What the lists cost is told when a tree is built.
-ghost use Rattle.std.specs.Prelude.{◌≡◌, ℕ, ◌+◌, ◌-◌, ◌^◌, ◌<◌, All, List, [], ◌∷◌, ◌++◌, length, take, IfOk, OnOk, OnErr, slice_index_or};
-ghost use Rattle.cost_tree.specs.Needed.{LastGains};
-ghost use Rattle.cost_tree.specs.Texts.{AreTexts, IsText, lists_of};
+ghost use Rattle.std.specs.Prelude.{◌≡◌, ℕ, ◌+◌, ◌-◌, ◌^◌, ◌<◌, List, [], ◌∷◌, ◌++◌, length, IfOk, OnOk, OnErr, slice_index_or};
+ghost use Rattle.cost_tree.specs.Texts.{AreTexts, lists_of};
 
 use crate::shape::Shape;
 use hp_num::NoMemory;

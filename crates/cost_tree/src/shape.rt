@@ -3,7 +3,7 @@
 ghost use Rattle.std.specs.Prelude.{◌≡◌, ◌≢◌, ◌==◌, ℕ, ◌+◌, ◌-◌, ◌^◌, ◌<◌, ◌≤◌, List, [], ◌∷◌, ◌++◌, if◌then◌else◌, length, map, reverse, sum, IfOk, OnOk, OnErr, slice_index_or};
 ghost use Rattle.cost_tree.specs.declared.edge.Edge.{Edge};
 ghost use Rattle.cost_tree.specs.CutShapes.{equal_cost};
-ghost use Rattle.cost_tree.specs.Shapes.{AreSteps, IsChild, list_at, numbers_of};
+ghost use Rattle.cost_tree.specs.Shapes.{IsChild};
 
 use crate::edge::Edge;
 use crate::edges::Edges;

@@ -1,18 +1,19 @@
 -- Lemmas on the trimmed lists of stacks, and on what a tree needs of them.
-use Rattle.std.proofs.Common.{◌≡◌, ◌≢◌, ℕ, zero, suc, ◌+◌, ◌-◌, ◌<◌, ◌==◌, if◌then◌else◌, eqb, Bool, true, false, List, [], ◌∷◌, ◌++◌, length, map, take, drop, drop_of_length-le, get_or, Option, None, Some, refl, sym, ap, ◌∙◌, append-nil, arith}
+use Rattle.std.proofs.Common.{◌≡◌, ◌≢◌, ℕ, zero, suc, ◌+◌, ◌-◌, ◌<◌, ◌==◌, if◌then◌else◌, eqb, inl, inr, Bool, true, false, List, [], ◌∷◌, ◌++◌, length, map, take, drop, drop_of_length-le, get_or, Option, None, Some, refl, sym, ap, subst, ◌∙◌, append-nil, arith}
 use Rattle.std.specs.Prelude.{slice_get}
 use Rattle.std.specs.List.{prefix_len, range_with_len}
 use Rattle.std.proofs.Math.Seq.{drop-append-add}
-use Rattle.std.proofs.lemmas.Bool.{cond-false, cond-true}
+use Rattle.std.proofs.lemmas.Bool.{cases_lt, cond-false, cond-true}
 use Rattle.std.proofs.lemmas.Bool.Decides.{nat_tests}
-use Rattle.std.proofs.lemmas.List.{drop-append-le, map-append, take-take, take_all}
+use Rattle.std.proofs.lemmas.List.{drop-append-le, length_push, map-append, take-take, take_all}
 use Rattle.std.proofs.lemmas.List.Folds.{prefix_len-append}
 use Rattle.std.proofs.lemmas.List.FromFn.{get_or-map-range_with_len}
-use Rattle.std.proofs.lemmas.Option.{none-some, same_Some}
+use Rattle.std.proofs.lemmas.Option.{none-some, same_Some, slice_get_within}
 use Rattle.cost_tree.specs.Costed.{costed}
 use Rattle.cost_tree.specs.CostLines.{FrontLine, cost_lines}
 use Rattle.cost_tree.specs.Following.{following}
 use Rattle.cost_tree.proofs.Laws.{lines-first, listed-more, take-both}
+use Rattle.hp_num.proofs.Laws.{slice_get-end, slice_get-front}
 use Rattle.ht_trace.specs.declared.frame.FrameAt.{FrameAt}
 use Rattle.ht_trace.specs.declared.frame.Style.TheVariants.{Addressed}
 use Rattle.ht_trace.specs.FrameText.{frame_text}
@@ -22,6 +23,7 @@ use Rattle.massif_tree.specs.declared.options.TreeOptions.{TreeOptions}
 use Rattle.massif_tree.specs.FirstLists.{first_lists, first_texts}
 use Rattle.massif_tree.specs.FunctionLists.{is_listed, trimmed, trimmed_before, trimmed_texts, without_listed}
 use Rattle.massif_tree.specs.MassifTree.{massif_line, massif_tree, scale_of}
+use Rattle.massif_tree.specs.Whole.{AreWhole, IsWhole}
 
 -- where all frames in front are listed, those that are left are those that are left of the others
 without-all : (listed : FrameAt → Bool) (own outer : List FrameAt) → prefix_len listed own ≡ length own → drop (prefix_len listed (own ++ outer)) (own ++ outer) ≡ drop (prefix_len listed outer) outer
@@ -119,9 +121,33 @@ trimmed-whole tables names stack n own outer frames split front some are =
     ∙ ap (λ (fs : List FrameAt). drop n fs) (sym split ∙ sym are)
     ∙ sym (append-nil (drop n frames))
 
+-- it isn't trimmed where the first of its own isn't listed
+pub trimmed-not : (tables : TableState) (names : List (List ℕ)) (stack n : ℕ) (own outer : List FrameAt) → stack_frames tables.instructions tables.nodes stack ≡ own ++ outer
+    → n ≡ prefix_len (is_listed tables names) own → n < length own → n ≡ 0 → IsWhole tables names stack
+trimmed-not tables names stack n own outer frames front some none =
+    trimmed-some tables names stack n own outer frames front some
+    ∙ ap (λ (k : ℕ). drop k own ++ outer) none
+    ∙ sym frames
+
+-- what is known of stacks with one more
+pub whole-more : (tables : TableState) (names : List (List ℕ)) (next : ℕ) (old new : List Bool) (flag : Bool) → new ≡ old ++ flag ∷ [] → AreWhole tables names next old → (flag ≡ true → IsWhole tables names next)
+    → AreWhole tables names (next + 1) new
+whole-more tables names next old new flag is are last = λ place n at found.
+    let count = ap (λ (flags : List Bool). length flags) is in
+    let more = length_push old flag in
+    let here : slice_get (old ++ flag ∷ []) place ≡ Some true = ap (λ (flags : List Bool). slice_get flags place) (sym is) ∙ found in
+    elim (cases_lt place (length old)) [
+      | inl before ↦ are place n (omega arith) (sym (slice_get-front old (flag ∷ []) place before) ∙ here)
+      | inr behind ↦
+          let within = slice_get_within (old ++ flag ∷ []) place true here in
+          let end : place ≡ length old = omega arith in
+          let same : n ≡ next = omega arith in
+          subst (λ (k : ℕ). IsWhole tables names k) (sym same) (last (same_Some flag true (sym (slice_get-end old flag place end) ∙ here)))
+    ]
+
 -- a stack isn't trimmed where its innermost frame isn't listed
 pub trimmed-none : (tables : TableState) (names : List (List ℕ)) (stack : ℕ) (innermost : FrameAt) → slice_get (stack_frames tables.instructions tables.nodes stack) 0 ≡ Some innermost → is_listed tables names innermost ≡ false
-    → trimmed tables names stack ≡ stack_frames tables.instructions tables.nodes stack
+    → IsWhole tables names stack
 unfolding without_listed
 trimmed-none tables names stack innermost at unlisted =
     let frames : List FrameAt = stack_frames tables.instructions tables.nodes stack in

@@ -1,5 +1,6 @@
 pub mod FunctionLists
 pub mod FirstLists
+pub mod Whole
 pub mod Labels
 pub mod MassifTree
 pub mod IsShown

@@ -1,7 +1,7 @@
 //! The trimmed lists of a trace's stacks, as far as a tree needs them: they are made once, and each tree is built of them. A
 //! stack's list is made of the texts of its own node, and goes on with that of the stack that it is called from, so texts are made
 //! once a node. What a stack costs, and what a tree says, are no part of it.
-ghost use Rattle.std.specs.Prelude.{◌≡◌, ◌≢◌, ◌==◌, ℕ, ◌+◌, ◌-◌, ◌^◌, ◌<◌, ◌≤◌, if◌then◌else◌, List, All, None, Some, [], ◌∷◌, ◌++◌, drop, false, length, map, take, IfOk, IfSome, OnOk};
+ghost use Rattle.std.specs.Prelude.{◌≡◌, ◌≢◌, ◌==◌, ℕ, ◌+◌, ◌-◌, ◌^◌, ◌<◌, ◌≤◌, if◌then◌else◌, List, All, None, Some, [], ◌∷◌, ◌++◌, drop, false, true, length, map, slice_get, take, IfOk, IfSome, OnOk};
 ghost use Rattle.std.specs.Fn.{FnReturnsAt};
 ghost use Rattle.cost_tree.specs.Following.{following};
 ghost use Rattle.cost_tree.specs.FrameTexts.{AreTexts};
@@ -10,7 +10,7 @@ ghost use Rattle.ht_trace.specs.FrameText.{frame_text};
 ghost use Rattle.ht_trace.specs.IsFrame.{IsFrame};
 ghost use Rattle.ht_trace.specs.StackFrames.{outer_frames, stack_frames};
 ghost use Rattle.massif_tree.specs.FirstLists.{first_lists, first_texts};
-ghost use Rattle.massif_tree.specs.FunctionLists.{trimmed};
+ghost use Rattle.massif_tree.specs.Whole.{AreWhole, IsWhole};
 
 use crate::function_lists::{is_listed, listed_front};
 use crate::options::TreeOptions;
@@ -18,6 +18,14 @@ use cost_tree::{CallChains, FrameTest, ListForm};
 use hp_num::NoMemory;
 use ht_trace::{FrameAt, Style, Tables};
 use std::alloc::Global;
+
+/// What is kept while lists are appended.
+#[derive(Debug, Drop)]
+struct Buffers {
+    frames: Vec<FrameAt>,
+    /// Of the stacks whose lists were appended last, whether nothing is trimmed of them: so their callees needn't look again.
+    whole: Vec<bool>,
+}
 
 /// Appends the lists of the stacks of the tables that have none yet: the first texts of each as it is trimmed, one more
 /// than a tree with these options is deep, which says that a stack goes on. After `NoMemory` the lists are unfit for use.
@@ -37,43 +45,77 @@ pub fn add_trimmed<A: Fn(&[u8]) -> bool>(
     ensures count { OnOk result (length fronts.new ≡ length tables.now.nodes + 1) }
 {
     let most = options.depth as usize + 1;
-    let mut frames = Vec::new(alloc);
+    let mut buffers = Buffers {
+        frames: Vec::new(alloc),
+        whole: Vec::new(alloc),
+    };
     'each_stack: for stack in fronts.len()..tables.stacks() {
-        add_stack(tables, stack, alloc_fns, most, fronts, &mut frames)?;
+        let is_whole = add_stack(tables, stack, alloc_fns, most, fronts, &mut buffers)?;
+        buffers.whole.push(is_whole)?;
     }
     Ok(())
 }
 
-/// Appends the list of the stack, which is the next one. Where the list of the stack that it is called from lacks frames, as it
-/// begins with an allocation function's, this one goes on with none, and has the texts of all frames. `frames` is a buffer.
+/// Appends the list of the stack, which is the next one, and answers whether nothing is trimmed of it, as far as that is known.
+/// Where the list of the stack that it is called from lacks frames, as it begins with an allocation function's, this one goes on
+/// with none, and has the texts of all frames.
 fn add_stack<A: Fn(&[u8]) -> bool>(
     tables: &Tables,
     stack: u32,
     alloc_fns: &FrameTest<A>,
     most: usize,
     fronts: &mut CallChains,
-    frames: &mut Vec<FrameAt>,
-) -> Result<(), NoMemory>
+    buffers: &mut Buffers,
+) -> Result<bool, NoMemory>
     requires held { stack ≤ length tables.now.nodes }
     requires next { length fronts.old ≡ stack }
     requires few { stack < 2 ^ 32 - 1 }
     requires callable { A.IsAlwaysCallable alloc_fns.now.test }
+    requires known { (names : List (List ℕ)) → AreTexts (FnReturnsAt A.Fn alloc_fns.now.test) names
+        → AreWhole tables.now names stack buffers.old.whole.items }
     ensures added { OnOk result
         ((names : List (List ℕ)) → AreTexts (FnReturnsAt A.Fn alloc_fns.now.test) names
         → fronts.old ≡ first_lists tables.now names most stack
         → fronts.new ≡ fronts.old ++ first_texts tables.now names most stack ∷ []) }
     ensures count { OnOk result (length fronts.new ≡ length fronts.old + 1) }
+    ensures whole { IfOk result
+        (λ whole. whole ≡ true
+        → (names : List (List ℕ)) → AreTexts (FnReturnsAt A.Fn alloc_fns.now.test) names →
+        IsWhole tables.now names stack) }
+    ensures kept { buffers.new.whole.items ≡ buffers.old.whole.items }
 {
-    let caller = own_frames_into(tables, stack, frames)?;
-    let front = listed_front(tables, frames, alloc_fns);
-    if front == frames.len() {
-        return push_list(tables, frames, front, most, list_of(caller), fronts);
+    let caller = own_frames_into(tables, stack, &mut buffers.frames)?;
+    let front = listed_front(tables, &buffers.frames, alloc_fns);
+    if front == buffers.frames.len() {
+        push_list(
+            tables,
+            &buffers.frames,
+            front,
+            most,
+            list_of(caller),
+            fronts,
+        )?;
+        return Ok(false);
     }
-    if lacks_frames(tables, caller, alloc_fns) {
-        tables.frames_into(stack, frames)?;
-        return push_list(tables, frames, front, most, None, fronts);
+    if lacks_frames(
+        tables,
+        caller,
+        alloc_fns,
+        flag_of(&buffers.whole, stack, caller),
+    ) {
+        tables.frames_into(stack, &mut buffers.frames)?;
+        push_list(tables, &buffers.frames, front, most, None, fronts)?;
+        return Ok(front == 0);
     }
-    push_list(tables, frames, front, most, list_of(caller), fronts)
+    push_list(
+        tables,
+        &buffers.frames,
+        front,
+        most,
+        list_of(caller),
+        fronts,
+    )?;
+    Ok(front == 0)
 }
 
 /// Replaces `frames` by those of the stack's own node, and answers the stack that this is called from, 0 where there is none.
@@ -102,22 +144,38 @@ pub(crate) fn own_frames_into(
     }
 }
 
-/// Whether the list of the stack that a node is called from lacks frames of it: its innermost one is an allocation function's.
-/// Stack 0 has none to lack.
+/// What is kept of a stack: the flags are those of the stacks right before the next one.
+fn flag_of(whole: &[bool], next: u32, stack: u32) -> Option<bool>
+    ensures flag { IfSome result
+        (λ flag. (place : ℕ) × (place + next ≡ stack + length whole.now)
+        × (slice_get whole.now place ≡ Some flag)) }
+{
+    let place = (stack as usize + whole.len()).checked_sub(next as usize)?;
+    whole.get(place).copied()
+}
+
+/// Whether the list of the stack that a node is called from lacks frames of it: its innermost one is an allocation function's,
+/// as is known, or is looked up. Stack 0 has none to lack.
 fn lacks_frames<A: Fn(&[u8]) -> bool>(
     tables: &Tables,
     caller: u32,
     alloc_fns: &FrameTest<A>,
+    known: Option<bool>,
 ) -> bool
     requires held { caller ≤ length tables.now.nodes }
     requires callable { A.IsAlwaysCallable alloc_fns.now.test }
+    requires known { known ≡ Some true
+        → (names : List (List ℕ)) → AreTexts (FnReturnsAt A.Fn alloc_fns.now.test) names →
+        IsWhole tables.now names caller }
     ensures whole { result ≡ false → caller ≢ 0
         → (names : List (List ℕ)) → AreTexts (FnReturnsAt A.Fn alloc_fns.now.test) names →
-        trimmed tables.now names caller
-        ≡ stack_frames tables.now.instructions tables.now.nodes caller }
+        IsWhole tables.now names caller }
 {
     if caller == 0 {
         return false;
+    }
+    if let Some(is_whole) = known {
+        return !is_whole;
     }
     let innermost = tables.innermost_frame(caller);
     is_listed(tables, &innermost, alloc_fns)
