@@ -134,7 +134,7 @@ fn draws_the_same_trace_by_two_costs(rt: HostRuntime) -> Result<(), Fail> {
     read(&mut trace, WORKED)?;
     let mut flames = Vec::new(rt.alloc());
     append_flames(rt.alloc(), &trace, &mut flames)?;
-    let want = b"main (a.c:20) 100
+    let want: &[u8] = b"main (a.c:20) 100
 main (a.c:20) 1
 main (a.c:20);f (a.c:10) 1
 ";

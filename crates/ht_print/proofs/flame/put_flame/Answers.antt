@@ -21,5 +21,5 @@ returns-clause-trace c =
     (λ added events stands. added
     ∙ ap (λ (lists : List (List (List ℕ))). c.args.out.now.items ++ flame_of_lists lists c.in_ok-costs.costs.items) c.in_ok-lists.ensures.lists
     ∙ ap (λ (costs : List ℕ). c.args.out.now.items ++ flame_of_lists (lists_towards FromRoot Plain c.args.tables.now) costs)
-        (c.in_ok-costs.ensures.trace events stands ∙ ap (λ (stacks : ℕ). trace_costs c.args.cost stacks events) c.requires.as_many))
+    (c.in_ok-costs.ensures.trace events stands ∙ ap (λ (stacks : ℕ). trace_costs c.args.cost stacks events) c.requires.as_many))
     c.put_flame_of_lists.ensures.appended
