@@ -1,8 +1,8 @@
 //! Worked documents, read and written, and documents that are refused. Expected values are worked out by hand.
 
 use dhat_json::{
-    DhatFault, FigureKey, FrameList, Life, Point, Points, Texts, dhat_documents, dhat_round_trip,
-    profile_text, put_shown, read_profile, shown_texts,
+    DhatFault, FigureKey, FrameList, Life, Point, PointWriter, Points, Texts, dhat_documents,
+    dhat_round_trip, profile_text, put_shown, read_profile, shown_texts,
 };
 use hp_num::{NoMemory, Text};
 use std::alloc::Global;
@@ -83,6 +83,23 @@ fn writes_what_it_read(rt: HostRuntime) {
     writes_again(&rt, rt.alloc(), DEMO, DEMO);
     writes_again(&rt, rt.alloc(), DOCUMENT, WRITTEN);
     writes_again(&rt, rt.alloc(), AD_HOC, AD_HOC_WRITTEN);
+}
+
+/// The text of the document's profile, whose one point is put by itself.
+fn written_by_points(rt: &impl Abort, alloc: Global, document: &str) -> Result<String, NoMemory> {
+    let points = read_profile(alloc, document.as_bytes()).expect(rt, "a profile");
+    let head = read_profile(alloc, document.as_bytes()).expect(rt, "a profile");
+    assert!(rt; points.pps.len() == 1);
+    let mut writer = PointWriter::new(alloc, head)?;
+    writer.put(points.pps.at(0))?;
+    writer.finish()
+}
+
+#[test]
+fn writes_point_by_point(rt: HostRuntime) -> Result<(), NoMemory> {
+    let text = written_by_points(&rt, rt.alloc(), DOCUMENT)?;
+    assert!(rt; text.as_str() == WRITTEN);
+    Ok(())
 }
 
 /// Why the document is no profile.

@@ -38,14 +38,12 @@ pub adds_none : (table : List (List ℕ)) → AddsTexts table [] table
 adds_none table = record {
   first_places = λ came is. is ∙ ap (without_repeats bytes_eq) (sym (append-nil came));
   keeps = λ text number is. is;
-  none_lost = omega arith;
 }
 
 pub adds_more : (old one new : List (List ℕ)) (texts more : List (List ℕ)) → AddsTexts old texts one → AddsTexts one more new → AddsTexts old (texts ++ more) new
 adds_more old one new texts more first second = record {
   first_places = λ came is. second.first_places (came ++ texts) (first.first_places came is) ∙ ap (without_repeats bytes_eq) (append_assoc came texts more);
   keeps = keeps_later old one new first.keeps second.keeps;
-  none_lost = omega (arith, first.none_lost, second.none_lost);
 }
 
 -- a text that the table has
@@ -55,7 +53,6 @@ adds_again table text place is =
     record {
       first_places = λ came same. repeated table came text (list_any_at (bytes_eq text) table place [] there.0 there.1) same;
       keeps = λ other number held. held;
-      none_lost = omega arith;
     }
 
 -- one element more

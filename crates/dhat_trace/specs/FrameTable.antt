@@ -1,5 +1,5 @@
 -- The table of frames, in which each text has a place, from 0.
-use Rattle.std.specs.Prelude.{◌≡◌, ℕ, ◌≤◌, List, ◌∷◌, ◌++◌, length, map, position, unwrap_or, codes, Some}
+use Rattle.std.specs.Prelude.{◌≡◌, ℕ, List, ◌∷◌, ◌++◌, map, position, unwrap_or, codes, Some}
 use Rattle.std.specs.List.{flat_map}
 use Rattle.std.specs.Str.{bytes_eq}
 use Rattle.intern_tables.specs.Numbers.{number_of}
@@ -44,4 +44,3 @@ pub record AddsTexts (old : List (List ℕ)) (texts : List (List ℕ)) (new : Li
   pub first_places : (came : List (List ℕ)) → old ≡ without_repeats bytes_eq came
       → new ≡ without_repeats bytes_eq (came ++ texts)
   pub keeps : Keeps old new
-  pub none_lost : length old ≤ length new
