@@ -1,6 +1,6 @@
 //! Lists of numbers that share their fronts: a front is kept once, as a node, and a list as the node where it ends.
 //! What the numbers stand for, and what the lists cost, are no part of it.
-ghost use Rattle.std.specs.Prelude.{◌≡◌, ◌≢◌, ◌==◌, ℕ, ◌+◌, ◌-◌, ◌^◌, ◌<◌, ◌≤◌, List, [], ◌∷◌, ◌++◌, if◌then◌else◌, length, map, reverse, sum, IfOk, OnOk, OnErr, slice_index_or};
+ghost use Rattle.std.specs.Prelude.{◌≡◌, ◌≢◌, ◌==◌, ℕ, ◌+◌, ◌-◌, ◌^◌, ◌<◌, ◌≤◌, List, [], ◌∷◌, ◌++◌, if◌then◌else◌, length, map, sum, IfOk, OnOk, OnErr, slice_index_or};
 ghost use Rattle.cost_tree.specs.declared.edge.Edge.{Edge};
 ghost use Rattle.cost_tree.specs.CutShapes.{equal_cost};
 ghost use Rattle.cost_tree.specs.Shapes.{IsChild};
