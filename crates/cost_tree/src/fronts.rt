@@ -1,6 +1,6 @@
 //! Lists of texts, as those that a tree is built of.
 //! What the lists cost is told when a tree is built.
-ghost use Rattle.std.specs.Prelude.{◌≡◌, ℕ, ◌+◌, ◌-◌, ◌^◌, ◌<◌, List, [], ◌∷◌, ◌++◌, length, IfOk, OnOk, OnErr, slice_index_or};
+ghost use Rattle.std.specs.Prelude.{◌≡◌, ℕ, ◌+◌, ◌-◌, ◌^◌, ◌<◌, List, [], ◌∷◌, ◌++◌, length, IfOk, OnOk, OnErr};
 ghost use Rattle.cost_tree.specs.Texts.{AreTexts, lists_of};
 
 use crate::shape::Shape;
@@ -57,19 +57,6 @@ impl Fronts {
         ensures unchanged { OnErr result (self.new ≡ self.old) }
     {
         self.shape.begin()
-    }
-
-    /// Appends a list that is equal to an earlier one, which must be held, and answers its number. There must be fewer
-    /// than 2^32 - 1 lists. On `NoMemory` the lists are as before.
-    pub fn repeat(&mut self, earlier: u32) -> Result<u32, NoMemory>
-        requires held { earlier < length self.old }
-        requires few { length self.old < 2 ^ 32 - 1 }
-        ensures appended { OnOk result
-            (self.new ≡ self.old ++ slice_index_or self.old earlier [] ∷ []) }
-        ensures number { IfOk result (λ n. n ≡ length self.old) }
-        ensures unchanged { OnErr result (self.new ≡ self.old) }
-    {
-        self.shape.repeat(earlier)
     }
 
     /// Appends the text to the last list, of which there must be one. On `NoMemory` the lists are as before.

@@ -4,8 +4,8 @@
 //! What it promises:
 //!
 //! - `Shape` is seen as a list of lists of numbers, and keeps each front of them once; `Fronts` as a list of lists of texts,
-//!   and keeps each distinct text once. A list can be one that came before (`repeat`), and lists of texts can be made of names and
-//!   a shape of their numbers (`from_parts`). `CallChains` is seen as a list of lists of texts too, and keeps of each the texts of
+//!   and keeps each distinct text once. Lists of texts can be made of names and a shape of their
+//!   numbers (`from_parts`). `CallChains` is seen as a list of lists of texts too, and keeps of each the texts of
 //!   a stack's own frames, and which earlier list follows them (`push`). `Costing` and `FrameTest` keep a closure, and what it is
 //!   to answer is said at each call that uses it.
 //! - `CostTree::of_fronts` gives the tree of the lists with their costs (`IsTreeOf`): one node for each front of at

@@ -1,13 +1,12 @@
 //! The lists of texts of a trace's stacks from their outermost frames on: a stack's list is that of the stack that it is called
 //! from, and the texts of its own node. So texts are made once a node.
-ghost use Rattle.std.specs.Prelude.{◌≡◌, ◌≢◌, ◌==◌, ◌+◌, ◌-◌, ◌^◌, ◌<◌, ◌≤◌, All, [], ◌∷◌, ◌++◌, length, map, reverse, if◌then◌else◌, slice_index_or, IfOk, OnOk};
+ghost use Rattle.std.specs.Prelude.{◌≡◌, ◌+◌, ◌-◌, ◌^◌, ◌<◌, ◌≤◌, All, length, map, reverse, IfOk, OnOk};
 ghost use Rattle.cost_tree.specs.declared.direction.Direction.TheVariants.{FromRoot};
 ghost use Rattle.cost_tree.specs.Needed.{Begins, LastGains};
 ghost use Rattle.cost_tree.specs.StackTexts.{lists_towards};
 ghost use Rattle.ht_trace.specs.FrameText.{frame_text};
 ghost use Rattle.ht_trace.specs.IsFrame.{IsFrame};
 
-use crate::fronts::Fronts;
 use crate::stack_lists::push_texts;
 use crate::told_lists::ToldLists;
 use hp_num::NoMemory;
@@ -54,23 +53,6 @@ fn begin_list(
             tables.frames_into(stack, frames)
         }
     }
-}
-
-/// Appends the list of the stack that a node is called from, which must be held; it is empty for stack 0. There must be
-/// fewer than 2^32 - 1 lists.
-fn repeat_list(fronts: &mut Fronts, caller: u32) -> Result<(), NoMemory>
-    requires held { caller ≢ 0 → caller < length fronts.old }
-    requires few { length fronts.old < 2 ^ 32 - 1 }
-    ensures appended { OnOk result
-        (fronts.new ≡ fronts.old
-        ++ (if caller == 0 then [] else slice_index_or fronts.old caller []) ∷ []) }
-{
-    if caller == 0 {
-        fronts.begin()?;
-        return Ok(());
-    }
-    fronts.repeat(caller)?;
-    Ok(())
 }
 
 /// Appends the texts of the frames to the last list, the last one first. `text` is a buffer.

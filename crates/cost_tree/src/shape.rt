@@ -68,7 +68,7 @@ impl Shape {
 
     /// Appends a list that is equal to an earlier one, which must be held, and answers its number. There must be fewer
     /// than 2^32 - 1 lists. On `NoMemory` the lists are as before.
-    pub fn repeat(&mut self, earlier: u32) -> Result<u32, NoMemory>
+    fn repeat(&mut self, earlier: u32) -> Result<u32, NoMemory>
         requires held { earlier < length self.old }
         requires few { length self.old < 2 ^ 32 - 1 }
         ensures appended { OnOk result
