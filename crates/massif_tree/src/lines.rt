@@ -1,8 +1,8 @@
 //! The lines of a snapshot's tree, as its file has them.
 //! Which places have lines of their own, and in which order, is `cost_tree`'s part.
-ghost use Rattle.std.specs.Prelude.{◌≡◌, ◌<◌, [], ◌∷◌, ◌++◌, List, All, length, map, IfOk, OnOk};
+ghost use Rattle.std.specs.Prelude.{◌≡◌, ◌<◌, [], ◌∷◌, ◌++◌, List, length, map, IfOk, OnOk};
 ghost use Rattle.cost_tree.specs.Costed.{Costed};
-ghost use Rattle.cost_tree.specs.TreeLines.{IsPlace, front_at};
+ghost use Rattle.cost_tree.specs.TreeLines.{front_at};
 ghost use Rattle.massif_tree.specs.IsShown.{IsShown};
 ghost use Rattle.massif_tree.specs.LabelsIn.{line_in};
 ghost use Rattle.massif_tree.specs.MassifTree.{label_of, massif_tree};
