@@ -55,12 +55,7 @@ impl TraceWriter for PrintWriter {
 
 impl PrintWriter {
     /// Appends the report of the trace whose tables and peaks these are, or `NoMemory`.
-    fn put_report(
-        &self,
-        tables: &Tables,
-        peaks: &Peaks,
-        out: &mut Vec<u8>,
-    ) -> Result<(), NoMemory>
+    fn put_report(&self, tables: &Tables, peaks: &Peaks, out: &mut Vec<u8>) -> Result<(), NoMemory>
         requires beside { IsBeside tables.now peaks.now.ledger }
         ensures appended { OnOk result
             ((given lines : List (List ℕ)) → StandsAfter tables.now given lines
