@@ -1,5 +1,5 @@
 //! Lists that go on with those of callers, and the tree of them as they are cut.
-ghost use Rattle.std.specs.Prelude.{◌^◌, ◌≤◌, sum};
+ghost use Rattle.std.specs.Prelude.{◌≡◌, ◌^◌, ◌≤◌, length, sum};
 
 use crate::trees::{read_worked, shown};
 use cost_tree::{CallChains, CostTree, Costing, CutFronts, ListForm, Scale};
@@ -34,21 +34,21 @@ fn worked_chains(
 fn shown_of_cut(
     rt: &impl Abort,
     alloc: Global,
-    chains: CallChains,
+    cut: &mut CutFronts,
     costs: &[u64],
     threshold: u64,
 ) -> Result<Vec<u8>, NoMemory>
-    requires { sum costs.now ≤ 2 ^ 62 }
+    requires count { length cut.old.whole ≡ length costs.now }
+    requires bound { sum costs.now ≤ 2 ^ 62 }
 {
-    let mut cut = CutFronts::new(alloc, chains)?;
-    assert_eq!(rt; cut.len() as usize, costs.len());
     let costing = Costing::new(cut.len(), |stack: u32| costs[stack as usize]);
     let scale = Scale {
         total: 200,
         threshold,
     };
     cut.lengthen(alloc, &costing, scale)?;
-    let tree = CostTree::of_cut(alloc, &cut, &costing, 4096)?;
+    assert_eq!(rt; cut.len(), costing.stacks());
+    let tree = CostTree::of_cut(alloc, cut, &costing, 4096)?;
     shown(rt, alloc, &tree)
 }
 
@@ -63,7 +63,11 @@ fn shown_of_worked(
     assert_eq!(rt; read_worked(rt, &mut tables), Ok(()));
     let chains = worked_chains(rt, alloc, &tables, most);
     drop(tables);
-    shown_of_cut(rt, alloc, chains?, &[100, 100], threshold)
+    let mut cut = CutFronts::new(alloc, chains?)?;
+    assert_eq!(rt; cut.len(), 2);
+    let shown = shown_of_cut(rt, alloc, &mut cut, &[100, 100], threshold);
+    drop(cut);
+    shown
 }
 
 #[test]
