@@ -46,7 +46,8 @@ impl TraceWriter for PrintWriter {
     ghost text = { λ writer. report_written writer.options };
 
     fn put(&self, tables: Tables, peaks: Peaks, out: &mut Vec<u8>) -> Result<(), NoMemory> {
-        let done = self.put_report(&tables, &peaks, out);
+        let done = self.append_report(&tables, &peaks, out);
+        // At one exit and by name: a proof goes through all parts of what an exit lets go.
         drop(tables);
         drop(peaks);
         done
@@ -55,7 +56,12 @@ impl TraceWriter for PrintWriter {
 
 impl PrintWriter {
     /// Appends the report of the trace whose tables and peaks these are, or `NoMemory`.
-    fn put_report(&self, tables: &Tables, peaks: &Peaks, out: &mut Vec<u8>) -> Result<(), NoMemory>
+    fn append_report(
+        &self,
+        tables: &Tables,
+        peaks: &Peaks,
+        out: &mut Vec<u8>,
+    ) -> Result<(), NoMemory>
         requires beside { IsBeside tables.now peaks.now.ledger }
         ensures appended { OnOk result
             ((given lines : List (List ℕ)) → StandsAfter tables.now given lines

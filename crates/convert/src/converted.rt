@@ -192,8 +192,8 @@ fn live_tree(
     tree_lines(alloc, &tree, &options, total)
 }
 
-/// The tree of the end of these fronts, which are the points'. Where as much is live at the end as at the peak, it is the
-/// tree of the peak.
+/// The tree of the end of these fronts, which are the points'. Where each point has as much live at the end as at the peak, it is
+/// the tree of the peak.
 fn end_tree(
     alloc: Global,
     dhat: &Dhat,

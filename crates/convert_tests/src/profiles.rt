@@ -10,6 +10,10 @@ use std::process::Abort;
 pub(crate) const DEMO: &str =
     r#"{"Mtu":"Mevents","bkacc":false,"bklt":true,"cmd":"demo","dhatFileVersion":2,"ftbl":["[root]","0x400: main (a.c:20)","0x500: f (a.c:10)"],"mode":"heap","pid":0,"pps":[{"eb":100,"ebk":1,"fs":[1],"gb":0,"gbk":0,"mb":100,"mbk":1,"tb":100,"tbk":1,"tl":0},{"eb":0,"ebk":0,"fs":[2,1],"gb":100,"gbk":1,"mb":100,"mbk":1,"tb":100,"tbk":1,"tl":1}],"te":3,"tg":1,"tu":"events","tuth":500,"verb":"Allocated"}"#;
 
+/// A DHAT profile with a stack that is live at the peak and at the end.
+pub(crate) const LASTING: &str =
+    r#"{"dhatFileVersion":2,"mode":"heap","verb":"Allocated","bklt":true,"bkacc":false,"tu":"instrs","Mtu":"Minstr","cmd":"demo","pid":7,"te":30,"tg":10,"ftbl":["[root]","0x400: main (a.c:20)","0x500: f (a.c:10)"],"pps":[{"tb":64,"tbk":2,"tl":40,"mb":64,"mbk":2,"gb":64,"gbk":2,"eb":64,"ebk":2,"fs":[2,1]}]}"#;
+
 /// A DHAT profile with equal lists, a point without frames, a semicolon, and figures that are too large.
 pub(crate) const PLACES: &str =
     r#"{"dhatFileVersion":2,"mode":"copy","verb":"Copied","bklt":false,"bkacc":false,"tu":"instrs","Mtu":"Minstr","cmd":"","pid":7,"te":9,"ftbl":["[root]","a","b;c"," c\n",""],"pps":[{"tb":0,"tbk":0,"fs":[2,1]},{"tb":40,"tbk":4611686018427387904,"fs":[1]},{"tb":0,"tbk":1,"fs":[3]},{"tb":3,"tbk":0,"fs":[2,1]},{"tb":2,"tbk":0,"fs":[]},{"tb":10,"tbk":0,"fs":[1]}]}"#;

@@ -62,15 +62,6 @@ impl Edges {
         self.edges.len()
     }
 
-    /// The edge of the node, which must be held and not be node 0.
-    pub(crate) fn edge_of(&self, node: usize) -> Edge
-        requires some { 0 < node }
-        requires held { node ≤ length self.now.keys }
-        ensures edge { slice_get self.now.keys (node - 1) ≡ Some result }
-    {
-        edge_of(&self.edges, node)
-    }
-
     /// All of them, in order.
     pub(crate) fn list(&self) -> &[Edge]
         ensures edges { result.now ≡ self.now.keys }

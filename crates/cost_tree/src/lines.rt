@@ -53,7 +53,7 @@ pub fn cost_lines(alloc: Global, tree: &CostTree, scale: Scale) -> Result<Vec<Co
     Ok(lines)
 }
 
-/// Gives the lines of the tree, as `cost_lines` does, to a taker one by one.
+/// Gives the lines of the tree, which must be as `cost_lines` says, to a taker one by one. After `NoMemory` the taker is of no use.
 pub fn take_lines<T: CostLineTaker>(
     alloc: Global,
     tree: &CostTree,

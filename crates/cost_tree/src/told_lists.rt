@@ -11,7 +11,8 @@ use intern_tables::Names;
 use std::alloc::Global;
 use std::marker::Model;
 
-/// Lists of texts, numbered from 0. Each distinct text is kept once, and of each list what it begins with and what follows.
+/// Lists of texts, numbered from 0, as `lists_from_root` gives them. Each distinct text is kept once, and of each list what it begins
+/// with and what follows.
 ///
 /// Contracts see the list of the lists.
 #[derive(Debug, Drop)]

@@ -1,4 +1,4 @@
--- The places of the frames of instructions, which are kept so that texts are made once, for private clauses.
+-- The places of the frames of instructions and of stacks, which are kept so that texts are made once, for private clauses.
 use Rattle.std.specs.Prelude.{◌≡◌, ℕ, ◌+◌, ◌<◌, List, [], ◌∷◌, ◌++◌, length, map, slice_get, Some}
 use Rattle.intern_tables.specs.Numbers.{number_of}
 use Rattle.ht_trace.specs.StackFrames.{frames_of}

@@ -10,7 +10,7 @@ use hp_num::NoMemory;
 use peak_costs::Peaks;
 use std::alloc::Global;
 
-/// What each stack costs, by ascending number, or `NoMemory`.
+/// What each stack costs, by ascending number, or `NoMemory`: blocks where allocations or temporary ones are asked for, and else bytes.
 pub fn stack_costs(alloc: Global, cost: FlameCost, peaks: &Peaks) -> Result<Vec<u64>, NoMemory>
     ensures costs { IfOk result (λ costs. costs.items ≡ flame_costs cost peaks.now) }
     ensures trace { IfOk result
