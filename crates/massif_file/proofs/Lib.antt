@@ -1,6 +1,7 @@
 mod Complete
 mod EntryLemmas
 mod Lent
+mod LabelLemmas
 mod LevelTexts
 mod LineLemmas
 mod NoTruncation

@@ -7,6 +7,7 @@ pub mod IsProfile
 pub mod IsRight
 pub mod IsWritable
 pub mod Items
+pub mod LabelSpans
 pub mod LastTime
 pub mod Leads
 pub mod Levels

@@ -15,7 +15,8 @@
 //!
 //! | File | Does |
 //! |---|---|
-//! | `profile.rt`, `lists.rt`, `tree.rt` | what a file says, as values; its snapshots; the lines of a tree |
+//! | `profile.rt`, `lists.rt` | what a file says, as values; its snapshots |
+//! | `tree.rt`, `labels.rt` | the lines of a tree; their labels |
 //! | `reader.rt`, `reading.rt` | the reader; one short step for each line that may come next |
 //! | `line.rt`, `levels.rt` | what single lines say; how many lines of a tree are still to come |
 //! | `writer.rt` | a profile as text |
@@ -24,6 +25,7 @@
 #![tactic(auto)]
 
 mod fault;
+mod labels;
 mod laws;
 mod levels;
 mod line;
