@@ -1,6 +1,7 @@
 -- How the text of a profile grows, piece by piece.
-use Rattle.std.proofs.Common.{◌≡◌, ℕ, zero, suc, ◌+◌, ◌-◌, ◌<◌, List, [], ◌∷◌, ◌++◌, length, get_or, drop, take, replicate, arith, refl, sym, ap, ◌∙◌, append_assoc, add-one, drop-cons}
-use Rattle.std.proofs.lemmas.List.{take_all}
+use Rattle.std.proofs.Common.{◌≡◌, ℕ, zero, suc, ◌+◌, ◌-◌, ◌<◌, ◌≤◌, List, [], ◌∷◌, ◌++◌, length, get_or, drop, take, replicate, set, arith, refl, sym, ap, ◌∙◌, append_assoc, add-one, drop-cons}
+use Rattle.std.proofs.lemmas.Grind.{drop-set_at}
+use Rattle.std.proofs.lemmas.List.{drop-append-le, drop-replicate, length-take-le, take-append-drop, take_all}
 use Rattle.massif_file.specs.TreeLine.{TreeLine}
 use Rattle.massif_file.specs.declared.profile.Snap.{Snap}
 use Rattle.massif_file.specs.Blanks.{blanks}
@@ -37,17 +38,27 @@ snaps_step n snaps snap lt e =
     ∙ text_of_append (snap_lines n snap) (snaps_lines (suc n) (drop (suc n) snaps))
     ∙ ap (λ (k : ℕ). text_of (snap_lines n snap) ++ text_of (snaps_lines k (drop k snaps))) (sym (add-one n))
 
--- the text of the lines of a tree from one on begins with its own
+-- a line feed and the text of the lines of a tree from one on begin with the line feed and its own line
 pub tree_step : (i : ℕ) (levels : List ℕ) (lines : List TreeLine) (line : TreeLine) → i < length lines → line ≡ get_or lines i line
-    → text_of (tree_lines levels (drop i lines)) ≡ (blanks (length levels - 1) ++ (node_text line ++ 10 ∷ [])) ++ text_of (tree_lines (after_line line.children levels) (drop (i + 1) lines))
+    → 10 ∷ text_of (tree_lines levels (drop i lines)) ≡ (10 ∷ (blanks (length levels - 1) ++ node_text line)) ++ (10 ∷ text_of (tree_lines (after_line line.children levels) (drop (i + 1) lines)))
 tree_step i levels lines line lt e =
     let d : drop i lines ≡ line ∷ drop (suc i) lines = drop-cons lines i line lt ∙ ap (λ (l : TreeLine). l ∷ drop (suc i) lines) (sym e) in
-    let rest : ℕ → List ℕ = λ (k : ℕ). text_of (tree_lines (after_line line.children levels) (drop k lines)) in
-    ap (λ (ls : List TreeLine). text_of (tree_lines levels ls)) d
-    ∙ append_assoc (blanks (length levels - 1)) (node_text line) (10 ∷ rest (suc i))
-    ∙ ap (λ (t : List ℕ). blanks (length levels - 1) ++ t) (sym (append_assoc (node_text line) (10 ∷ []) (rest (suc i))))
-    ∙ sym (append_assoc (blanks (length levels - 1)) (node_text line ++ 10 ∷ []) (rest (suc i)))
-    ∙ ap (λ (k : ℕ). (blanks (length levels - 1) ++ (node_text line ++ 10 ∷ [])) ++ rest k) (sym (add-one i))
+    ap (λ (ls : List TreeLine). 10 ∷ text_of (tree_lines levels ls)) d
+    ∙ ap (λ (k : ℕ). (10 ∷ (blanks (length levels - 1) ++ node_text line)) ++ (10 ∷ text_of (tree_lines (after_line line.children levels) (drop k lines)))) (sym (add-one i))
+
+-- a line feed and blanks before what stands at the end of a text that has only blanks before it
+pub front_is : (text : List ℕ) (head level : ℕ) → level < head → head ≤ length text → take head text ≡ replicate head 32
+    → drop (head - level - 1) (set text (head - level - 1) 10) ≡ 10 ∷ (blanks level ++ drop head text)
+front_is text head level below within blank =
+    let start : ℕ = head - level - 1 in
+    let before = ap length blank in
+    let all : take head text ++ drop head text ≡ text = take-append-drop head text in
+    drop-set_at text start start 10 (omega arith) (omega arith)
+    ∙ ap (λ (k : ℕ). 10 ∷ drop k text) {x = start + 1} {y = head - level} (omega arith)
+    ∙ ap (λ (t : List ℕ). 10 ∷ drop (head - level) t) (sym all)
+    ∙ ap (λ (t : List ℕ). 10 ∷ t) (drop-append-le (head - level) (take head text) (drop head text) (omega (arith, length-take-le head text within)))
+    ∙ ap (λ (t : List ℕ). 10 ∷ (drop (head - level) t ++ drop head text)) blank
+    ∙ ap (λ (t : List ℕ). 10 ∷ (t ++ drop head text)) (drop-replicate (head - level) head 32 ∙ ap (λ (k : ℕ). replicate k 32) {x = head - (head - level)} {y = level} (omega arith) ∙ blanks_are level)
 
 -- pieces that were written one after another
 pub chain_2 : (o p q a b : List ℕ) → p ≡ o ++ a → q ≡ p ++ b → q ≡ o ++ (a ++ b)

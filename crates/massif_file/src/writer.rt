@@ -3,7 +3,7 @@ ghost use Rattle.std.specs.Prelude.{◌≡◌, ℕ, ◌+◌, ◌-◌, ◌^◌, �
 ghost use Rattle.massif_file.specs.Blanks.{blanks};
 ghost use Rattle.massif_file.specs.Fields.{unit_name, mark_name};
 ghost use Rattle.massif_file.specs.TreeLine.{line_of};
-ghost use Rattle.massif_file.specs.MassifText.{head_lines, massif_text, node_text, size_lines, snap_lines, snaps_lines, text_of, tree_lines};
+ghost use Rattle.massif_file.specs.MassifText.{head_lines, mark_lines, massif_text, node_text, size_lines, snap_lines, snaps_lines, text_of, tree_lines};
 
 use crate::levels::Levels;
 use crate::lists::Snaps;
@@ -12,8 +12,12 @@ use crate::tree::Tree;
 use hp_num::{NoMemory, decimal_texts, put_bytes, put_dec};
 use itoa::write_digits;
 
-/// The bytes of the longest text before a label: two numbers of 20 digits at most, with what stands around them.
-const LONGEST_HEAD: usize = 44;
+/// The greatest level whose blanks are written together with a line's numbers, which is the last level of a tree that is read.
+const USUAL_LEVEL: usize = 256;
+
+/// The bytes of the longest text before a label at such a level: a line feed, the blanks, and two numbers of 20 digits at most
+/// with what stands around them.
+const LONGEST_FRONT: usize = 1 + USUAL_LEVEL + 44;
 
 /// Appends the profile's text in the form of Massif's output file. On `NoMemory`, `out` holds what it held before.
 ///
@@ -59,8 +63,7 @@ fn put_snap(out: &mut Vec<u8>, n: u64, snap: &Snap) -> Result<(), NoMemory>
 {
     put_head(out, n, snap.time)?;
     put_sizes(out, snap)?;
-    put_line(out, b"heap_tree=", mark_name(snap.mark))?;
-    put_tree(out, &snap.tree)
+    put_marked_tree(out, snap)
 }
 
 fn put_head(out: &mut Vec<u8>, n: u64, time: u64) -> Result<(), NoMemory>
@@ -83,56 +86,101 @@ fn put_sizes(out: &mut Vec<u8>, snap: &Snap) -> Result<(), NoMemory>
     put_number(out, b"mem_stacks_B=", snap.stacks)
 }
 
+// The mark and the lines of the tree.
+fn put_marked_tree(out: &mut Vec<u8>, snap: &Snap) -> Result<(), NoMemory>
+    ensures kept { take (vec_len out.old) out.new.items ≡ out.old.items }
+    ensures appended { OnOk result
+        (out.new.items ≡ out.old.items ++ text_of (mark_lines snap.now)) }
+{
+    put_bytes(out, b"heap_tree=")?;
+    put_bytes(out, mark_name(snap.mark))?;
+    put_tree(out, &snap.tree)
+}
+
+// The line feed of the line before, and the lines of the tree.
 fn put_tree(out: &mut Vec<u8>, tree: &Tree) -> Result<(), NoMemory>
     ensures kept { take (vec_len out.old) out.new.items ≡ out.old.items }
     ensures appended { OnOk result
-        (out.new.items ≡ out.old.items ++ text_of (tree_lines (1 ∷ []) tree.now)) }
+        (out.new.items ≡ out.old.items ++ (10 ∷ text_of (tree_lines (1 ∷ []) tree.now))) }
 {
     let mut levels = Levels::new(*out.allocator());
     levels.begin()?;
     'each_line: for place in 0..tree.len() {
         let line = tree.at(place);
-        put_blanks(out, levels.len().saturating_sub(1))?;
-        put_node(out, &line)?;
+        put_node(out, levels.len().saturating_sub(1), &line)?;
         levels.line(line.children)?;
     }
-    Ok(())
+    put_bytes(out, b"\n")
 }
 
-fn put_node(out: &mut Vec<u8>, line: &TreeFields) -> Result<(), NoMemory>
+// The line feed of the line before, and the line at this level but for its own line feed.
+fn put_node(out: &mut Vec<u8>, level: usize, line: &TreeFields) -> Result<(), NoMemory>
+    requires few { level < 2 ^ 63 }
     ensures kept { take (vec_len out.old) out.new.items ≡ out.old.items }
     ensures appended { OnOk result
-        (out.new.items ≡ out.old.items ++ text_of (node_text (line_of line.now) ∷ [])) }
+        (out.new.items ≡ out.old.items ++ (10 ∷ (blanks level ++ node_text (line_of line.now)))) }
 {
-    let mut head = [0; LONGEST_HEAD];
-    let start = write_head(&mut head, u64::from(line.children), line.bytes);
-    put_line(out, &head[start..], line.label)
+    put_front(out, level, u64::from(line.children), line.bytes)?;
+    put_bytes(out, line.label)
 }
 
-/// Writes what stands before a line's label at the end of `head`, and answers where it starts.
-fn write_head(head: &mut [u8; LONGEST_HEAD], children: u64, bytes: u64) -> usize
-    ensures within { result < 44 }
-    ensures written { drop result head.new
-        ≡ 110 ∷ (decimal children ++ (58 ∷ 32 ∷ (decimal bytes ++ (32 ∷ [])))) }
+// What stands before the label of a line at this level, and before it the line feed of the line before.
+fn put_front(out: &mut Vec<u8>, level: usize, children: u64, bytes: u64) -> Result<(), NoMemory>
+    requires few { level < 2 ^ 63 }
+    ensures kept { take (vec_len out.old) out.new.items ≡ out.old.items }
+    ensures appended { OnOk result
+        (out.new.items ≡ out.old.items ++ (10 ∷ (blanks level
+        ++ node_text (record { children = children; bytes = bytes; label = [] })))) }
 {
-    head[LONGEST_HEAD - 1] = b' ';
-    let bytes_at = write_number(head, LONGEST_HEAD - 1, b' ', bytes);
-    head[bytes_at - 1] = b':';
-    write_number(head, bytes_at - 1, b'n', children)
+    let mut front = [b' '; LONGEST_FRONT];
+    let head = write_head(&mut front, children, bytes);
+    if level > USUAL_LEVEL {
+        return put_parts(out, level, &front[head..]);
+    }
+    let start = head - level - 1;
+    front[start] = b'\n';
+    put_bytes(out, &front[start..])
 }
 
-/// Writes a byte and the digits of the number before a place of `head`, and answers where they start.
-fn write_number(head: &mut [u8; LONGEST_HEAD], end: usize, first: u8, number: u64) -> usize
+// The same part by part, for any level.
+fn put_parts(out: &mut Vec<u8>, level: usize, head: &[u8]) -> Result<(), NoMemory>
+    requires few { level < 2 ^ 63 }
+    ensures kept { take (vec_len out.old) out.new.items ≡ out.old.items }
+    ensures appended { OnOk result
+        (out.new.items ≡ out.old.items ++ (10 ∷ (blanks level ++ head.now))) }
+{
+    put_bytes(out, b"\n")?;
+    put_blanks(out, level)?;
+    put_bytes(out, head)
+}
+
+/// Writes what stands between a line's blanks and its label at the end of `front`, and answers where it starts.
+fn write_head(front: &mut [u8; LONGEST_FRONT], children: u64, bytes: u64) -> usize
+    ensures room { 257 ≤ result }
+    ensures within { result < 301 }
+    ensures written { drop result front.new
+        ≡ node_text (record { children = children; bytes = bytes; label = [] }) }
+    ensures before { take result front.new ≡ take result front.old }
+{
+    front[LONGEST_FRONT - 1] = b' ';
+    let bytes_at = write_number(front, LONGEST_FRONT - 1, b' ', bytes);
+    front[bytes_at - 1] = b':';
+    write_number(front, bytes_at - 1, b'n', children)
+}
+
+/// Writes a byte and the digits of the number before a place of `front`, and answers where they start.
+fn write_number(front: &mut [u8; LONGEST_FRONT], end: usize, first: u8, number: u64) -> usize
     requires room { 21 ≤ end }
-    requires held { end ≤ 44 }
+    requires held { end ≤ 301 }
     ensures below { result < end }
     ensures most { end ≤ result + 21 }
-    ensures written { drop result head.new ≡ first ∷ (decimal number ++ drop end head.old) }
+    ensures written { drop result front.new ≡ first ∷ (decimal number ++ drop end front.old) }
+    ensures before { take result front.new ≡ take result front.old }
 {
     // Says that the digits are few.
     decimal_texts();
-    let start = write_digits(number, head, end) - 1;
-    head[start] = first;
+    let start = write_digits(number, front, end) - 1;
+    front[start] = first;
     start
 }
 

@@ -5,7 +5,7 @@ use Rattle.std.proofs.lemmas.Option.{get_or_from_slice_get}
 use Rattle.massif_file.specs.Blanks.{blanks}
 use Rattle.massif_file.specs.MassifText.{node_text, text_of, tree_lines}
 use Rattle.massif_file.specs.TreeLine.{line_of}
-use Rattle.massif_file.proofs.WrittenLemmas.{goes_on, tree_step, chain_2}
+use Rattle.massif_file.proofs.WrittenLemmas.{goes_on, tree_step}
 use Rattle.massif_file.proofs.writer.put_tree.Goals as goal
 
 pub each_line-preserved : goal.each_line-preserved
@@ -15,11 +15,11 @@ each_line-preserved c =
     let line = line_of c.at-line.result in
     let within : place < length tree = omega (arith, c.len-place-end.ensures.length) in
     let level = c.saturating_sub.ensures ∙ ap (λ (n : ℕ). n - 1) c.len.ensures.count in
-    let front = chain_2 _ _ _ _ _ c.in_ok-put_blanks.ensures.appended c.in_ok-put_node.ensures.appended ∙ ap (λ (k : ℕ). c.each_line.out.items ++ (blanks k ++ (node_text line ++ 10 ∷ []))) level in
+    let front = c.in_ok-put_node.ensures.appended ∙ ap (λ (k : ℕ). c.each_line.out.items ++ (10 ∷ (blanks k ++ node_text line))) level in
     let step = tree_step place c.each_line.levels tree line within (sym (get_or_from_slice_get tree place line line c.at-line.ensures.item)) in
     record {
       kept = grind (arith, common_steps);
       written =
-          ap (λ (l : List ℕ). c.put_node.new.out.items ++ text_of (tree_lines l (drop (place + 1) tree))) c.in_ok-line.ensures
-          ∙ goes_on _ _ c.args.out.now.items _ _ _ (text_of (tree_lines (1 ∷ []) tree)) front step c.each_line.invariant.written;
+          ap (λ (l : List ℕ). c.put_node.new.out.items ++ (10 ∷ text_of (tree_lines l (drop (place + 1) tree)))) c.in_ok-line.ensures
+          ∙ goes_on _ _ c.args.out.now.items _ _ _ (10 ∷ text_of (tree_lines (1 ∷ []) tree)) front step c.each_line.invariant.written;
     }

@@ -6,14 +6,14 @@ use Rattle.massif_file.proofs.writer.write_head.Goals as goal
 
 pub returns-clause-written : goal.returns-clause-written
 returns-clause-written c =
-    let head : List ℕ = c.args.head.now in
-    let mid : List ℕ = c.write_number-bytes_at.new.head in
+    let front : List ℕ = c.args.front.now in
+    let mid : List ℕ = c.write_number-bytes_at.new.front in
     let at : ℕ = c.write_number-bytes_at.result in
-    let long : length head ≡ 44 = omega arith in
-    let mid_long : length mid ≡ 44 = omega arith in
+    let long : length front ≡ 301 = omega arith in
+    let mid_long : length mid ≡ 301 = omega arith in
     let below = c.write_number-bytes_at.ensures.below in
     let most = c.write_number-bytes_at.ensures.most in
-    let blank : drop 43 (set head 43 32) ≡ 32 ∷ [] = drop-set_at head 43 43 32 (omega arith) (omega arith) ∙ ap (λ (t : List ℕ). 32 ∷ t) (drop_all 44 head (omega arith)) in
+    let blank : drop 300 (set front 300 32) ≡ 32 ∷ [] = drop-set_at front 300 300 32 (omega arith) (omega arith) ∙ ap (λ (t : List ℕ). 32 ∷ t) (drop_all 301 front (omega arith)) in
     let colon : drop (at - 1) (set mid (at - 1) 58) ≡ 58 ∷ drop at mid =
     drop-set_at mid (at - 1) (at - 1) 58 (omega arith) (omega arith) ∙ ap (λ (n : ℕ). 58 ∷ drop n mid) {x = at - 1 + 1} {y = at} (omega arith) in
     c.write_number.ensures.written
