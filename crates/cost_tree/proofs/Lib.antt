@@ -30,5 +30,6 @@ mod Pushing
 mod Walks
 mod Walking
 mod Cutting
+mod Levels
 mod Lengthening
 pub mod Laws

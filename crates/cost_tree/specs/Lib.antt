@@ -24,6 +24,7 @@ pub mod Needed
 pub mod Order
 pub mod CostLines
 pub mod TreeLines
+pub mod IsShownAs
 pub mod AreLinesOf
 pub mod Cuts
 pub mod Following

@@ -13,7 +13,7 @@ use std::marker::Model;
 ///
 /// Contracts see the list of the lists.
 #[derive(Debug, Drop)]
-pub(crate) struct Chains {
+pub struct Chains {
     /// The own numbers of one list after the other.
     numbers: Vec<usize>,
     chains: Vec<Chain>,
@@ -34,7 +34,7 @@ impl Model for Chains {
 
 impl Chains {
     /// No lists. It takes no memory; that of the lists to come is taken from `alloc`.
-    pub(crate) fn new(alloc: Global) -> Chains
+    pub fn new(alloc: Global) -> Chains
         ensures empty { result ≡ [] }
     {
         Chains {
@@ -69,6 +69,15 @@ impl Chains {
             count,
         });
         Ok(())
+    }
+
+    /// Appends a list of these numbers. There must be fewer than 2^32 - 1 lists. On `NoMemory` the lists are as before.
+    pub fn push_list(&mut self, numbers: &[usize]) -> Result<(), NoMemory>
+        requires few { length self.old < 2 ^ 32 - 1 }
+        ensures appended { OnOk result (self.new ≡ self.old ++ numbers.now ∷ []) }
+        ensures unchanged { OnErr result (self.new ≡ self.old) }
+    {
+        self.push(numbers, None, numbers.len())
     }
 
     /// How many numbers the list has that another goes on with.
@@ -107,7 +116,7 @@ impl Chains {
     }
 
     /// How many lists there are.
-    pub(crate) fn len(&self) -> u32
+    pub fn len(&self) -> u32
         ensures count { result ≡ length self.now }
     {
         self.chains.len() as u32

@@ -189,7 +189,7 @@ impl<'a> CostTree<'a> {
     }
 
     /// The tree of the lists of texts that the shape's numbers are those of, with these costs, or `NoMemory`.
-    fn of_shape(
+    pub(crate) fn of_shape(
         alloc: Global,
         names: &'a Names,
         shape: &Shape,
@@ -263,6 +263,13 @@ impl<'a> CostTree<'a> {
             return &[];
         }
         self.names.names().name(self.links.text(n)).unwrap_or(&[])
+    }
+
+    /// The number of that text; 0 for node 0.
+    pub(crate) fn text_number(&self, n: usize) -> usize
+        requires held { n < length self.now.nodes }
+    {
+        self.links.text(n)
     }
 
     /// The children of node `n`, which must be held.
