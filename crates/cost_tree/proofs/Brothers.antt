@@ -26,7 +26,7 @@ abbrev none : Costed
 none = record { texts = []; cost = 0 }
 
 -- the texts of a stack that is there
-texts_at-held : (stacks : List Costed) (n : ℕ) → n < length stacks → texts_at stacks n ≡ (get_or stacks n none).texts
+pub texts_at-held : (stacks : List Costed) (n : ℕ) → n < length stacks → texts_at stacks n ≡ (get_or stacks n none).texts
 texts_at-held stacks n within = ap (λ found. option_map_or (λ (s : Costed). s.texts) found []) (slice_get-get_or stacks n none within)
 
 -- the front of a list that is one text longer begins with the front

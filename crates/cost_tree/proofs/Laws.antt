@@ -60,17 +60,20 @@ take-next = lists.take-next
 pub take-both : {X : Type 0} (n : ℕ) (xs ys : List X) → take n (xs ++ ys) ≡ take n xs ++ take (n - length xs) ys
 take-both = lists.take-both
 
--- the last text of a node's front
-pub last-text : (tree : TreeState) (n : ℕ) (front : List (List ℕ)) (text : List ℕ) → slice_get tree.fronts n ≡ Some (front ++ text ∷ []) → last_of (front_at tree n) ≡ text
-last-text tree n front text held =
-    let is = get_or_from_slice_get tree.fronts n (front ++ text ∷ []) [] held in
+-- the last text of a front
+pub last-push : (front : List (List ℕ)) (text : List ℕ) → last_of (front ++ text ∷ []) ≡ text
+last-push front text =
     let count = length_push front text in
     let place : length (front ++ text ∷ []) - 1 ≡ length front = omega arith in
-    ap last_of is ∙ ap (λ (k : ℕ). get_or (front ++ text ∷ []) k []) place ∙ at_end front
+    ap (λ (k : ℕ). get_or (front ++ text ∷ []) k []) place ∙ at_end front
   where
     at_end : (xs : List (List ℕ)) → get_or (xs ++ text ∷ []) (length xs) [] ≡ text
     at_end [] = refl
     at_end (x ∷ xs) = at_end xs
+
+-- and of a node's front
+pub last-text : (tree : TreeState) (n : ℕ) (front : List (List ℕ)) (text : List ℕ) → slice_get tree.fronts n ≡ Some (front ++ text ∷ []) → last_of (front_at tree n) ≡ text
+last-text tree n front text held = ap last_of (get_or_from_slice_get tree.fronts n (front ++ text ∷ []) [] held) ∙ last-push front text
 
 -- what holds of the fronts that are one text longer holds of those with lines of their own
 pub kept-all : (P : List (List ℕ) → Type 0) (scale : Scale) (stacks : List Costed) (front : List (List ℕ)) → All P (next_fronts front stacks) → All P (kept_fronts scale stacks front)

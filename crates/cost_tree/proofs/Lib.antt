@@ -29,7 +29,11 @@ mod Totals
 mod Pushing
 mod Walks
 mod Walking
+mod Firsts
 mod Cutting
+mod Alone
+mod Tailing
+mod Forking
 mod Levels
 mod Lengthening
 pub mod Laws

@@ -1,10 +1,11 @@
 -- A tree that has grown, but for its costs: its fronts, their order, and its texts.
-use Rattle.std.proofs.Common.{◌≡◌, ℕ, zero, suc, ◌+◌, ◌-◌, ◌<◌, inl, inr, true, ◌&&◌, List, [], ◌∷◌, ◌++◌, length, take, get_or, Option, None, Some, Bor, sym, ap, ◌∙◌, subst, arith}
+use Rattle.std.proofs.Common.{◌≡◌, ℕ, zero, suc, ◌+◌, ◌-◌, ◌<◌, ◌≤◌, inl, inr, true, false, ◌&&◌, Bool, cond, eqb, List, [], ◌∷◌, ◌++◌, length, take, get_or, Option, None, Some, Bor, sym, ap, ◌∙◌, subst, arith}
 use Rattle.std.specs.Prelude.{IfSome, IsSome, slice_get, nat_lt, unwrap_or}
-use Rattle.std.proofs.lemmas.Bool.{cases_eq, and_parts, false≢true}
+use Rattle.std.proofs.lemmas.Bool.{cases_eq, cases_lt, and_parts, false≢true}
+use Rattle.std.proofs.lemmas.Bool.Decides.{nat_tests}
 use Rattle.std.proofs.lemmas.List.{length_push}
 use Rattle.std.proofs.lemmas.List.Sums.{passes_at_first}
-use Rattle.std.proofs.lemmas.Option.{same_Some, slice_get_within, slice_get-get_or, get_or_from_slice_get}
+use Rattle.std.proofs.lemmas.Option.{same_Some, slice_get_past, slice_get_within, slice_get-get_or, get_or_from_slice_get}
 use Rattle.intern_tables.specs.Numbers.{name_at}
 use Rattle.cost_tree.specs.declared.edge.Edge.{Edge}
 use Rattle.cost_tree.specs.declared.node.CostNode.{CostNode}
@@ -132,6 +133,24 @@ pub text-found : (names : List (List ℕ)) (number : ℕ) (found : Option (Bor (
 unfolding text_of
 text-found names number (Some name) other some is = sym (ap (λ (held : Option (List ℕ)). unwrap_or held []) is)
 text-found names number None other some is = absurd (false≢true some)
+
+-- the same, and none where no name has the number
+pub text-read : (names : List (List ℕ)) (number : ℕ) (found : Option (Bor (List ℕ))) (other : Bor (List ℕ)) → (((1 ≤ number) × (number ≤ length names)) → IsSome found) → IfSome found (λ name. name_at names number ≡ Some name.now) → other.now ≡ []
+    → (unwrap_or found other).now ≡ text_of names number
+unfolding text_of
+text-read names number (Some name) other held is none = sym (ap (λ (read : Option (List ℕ)). unwrap_or read []) is)
+text-read names zero None other held is none = none
+text-read names (suc n) None other held is none =
+    let above : eqb (suc n) 0 ≡ false = grind (arith, nat_tests) in
+    let back : suc n - 1 ≡ n = omega arith in
+    none
+    ∙ sym (ap (λ (read : Option (List ℕ)). unwrap_or read [])
+    (ap (λ (b : Bool). cond {A = Option (List ℕ)} b None (slice_get names (suc n - 1))) above
+    ∙ ap (λ (k : ℕ). slice_get names k) back
+    ∙ slice_get_past names n past))
+  where
+    past : length names ≤ n
+    past = elim (cases_lt n (length names)) [ inl less ↦ absurd (false≢true (held (omega arith, omega arith))) | inr no_less ↦ no_less ]
 
 -- the last text of a front is that of its node's edge
 pub last-text : (names : List (List ℕ)) (edges : List Edge) (nodes : List CostNode) (n place : ℕ) (edge : Edge) (text : List ℕ)

@@ -31,5 +31,8 @@ pub mod Following
 pub mod ChainLists
 pub mod CutShapes
 pub mod CutState
+pub mod Alone
+pub mod Tails
+pub mod TreeTails
 pub mod Shares
 pub mod Pendings

@@ -108,7 +108,7 @@ fn lengths_of(alloc: Global, whole: &Chains) -> Result<Vec<usize>, NoMemory>
 }
 
 /// The first so many numbers of each list, or `NoMemory`.
-pub(crate) fn cut_shape(alloc: Global, whole: &Chains, counts: &[usize]) -> Result<Shape, NoMemory>
+fn cut_shape(alloc: Global, whole: &Chains, counts: &[usize]) -> Result<Shape, NoMemory>
     requires as_many { length counts.now ≡ length whole.now }
     ensures lists { IfOk result (λ shape. shape ≡ cut_lists counts.now whole.now) }
 {

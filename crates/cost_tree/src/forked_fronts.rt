@@ -1,10 +1,12 @@
 //! Lists of texts that are kept as a tree up to where each goes on alone.
 //! What the lists cost, and which lines they have, is told for each tree.
 ghost use Rattle.std.specs.Prelude.{◌≡◌, length, IfOk};
+ghost use Rattle.cost_tree.specs.Alone.{IsForking};
 ghost use Rattle.cost_tree.specs.Texts.{AreTexts, lists_of};
 
 use crate::chains::Chains;
 use crate::cut::Cut;
+use crate::scale::Scale;
 use hp_num::NoMemory;
 use intern_tables::Names;
 use std::alloc::Global;
@@ -22,14 +24,14 @@ pub struct ForkedFronts {
 
 impl Model for ForkedFronts {
     ghost use Rattle.std.specs.Prelude.{ℕ, List};
-    ghost use Rattle.cost_tree.specs.CutState.{IsCutting};
+    ghost use Rattle.cost_tree.specs.Alone.{IsForking};
     ghost use Rattle.cost_tree.specs.Texts.{lists_of};
 
     ghost Value = { List (List (List ℕ)) };
 
     ghost view = { λ fronts. lists_of fronts.names fronts.whole };
 
-    ghost invariant = { λ fronts. IsCutting fronts.names fronts.whole fronts.cut };
+    ghost invariant = { λ fronts. IsForking fronts.names fronts.whole fronts.cut };
 }
 
 impl ForkedFronts {
@@ -38,7 +40,7 @@ impl ForkedFronts {
         requires texts { AreTexts names lists }
         ensures lists { IfOk result (λ fronts. fronts ≡ lists_of names lists) }
     {
-        let cut = Cut::of(alloc, &lists)?;
+        let cut = forked(alloc, &names, &lists)?;
         Ok(ForkedFronts {
             names,
             whole: lists,
@@ -52,4 +54,22 @@ impl ForkedFronts {
     {
         self.whole.len()
     }
+}
+
+/// The lists as they are cut where they go on alone, or `NoMemory`.
+fn forked(alloc: Global, names: &Names, lists: &Chains) -> Result<Cut, NoMemory>
+    requires texts { AreTexts names.now lists.now }
+    ensures cut { IfOk result (λ cut. IsForking names.now lists.now cut) }
+{
+    let costs: Vec<u64> = vec![in alloc; 1; lists.len() as usize]?;
+    // Where each list costs 1, a front that one list alone begins with is too small for a line, and each other one isn't.
+    let shared = Scale {
+        total: 1,
+        threshold: 20_000,
+    };
+    // Says that no two names are equal.
+    let _count = names.len();
+    let mut cut = Cut::of(alloc, lists)?;
+    cut.lengthen(alloc, lists, &costs, shared)?;
+    Ok(cut)
 }

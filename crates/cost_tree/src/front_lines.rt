@@ -1,14 +1,18 @@
 //! The lines of lists of texts with their costs, each with what it shows.
 //! How a line is written is the business of the callers.
-ghost use Rattle.std.specs.Prelude.{◌≡◌, ℕ, ◌^◌, ◌≤◌, List, [], length, sum, IfOk};
+ghost use Rattle.std.specs.Prelude.{◌≡◌, ℕ, ◌^◌, ◌≤◌, All, List, [], length, map, sum, IfOk};
+ghost use Rattle.std.specs.List.{flat_map};
+ghost use Rattle.cost_tree.specs.declared.line.CostLine.{CostLine};
+ghost use Rattle.cost_tree.specs.AreLinesOf.{AreLinesOf};
 ghost use Rattle.cost_tree.specs.Costed.{Costed, costed};
 ghost use Rattle.cost_tree.specs.CostLines.{cost_lines};
 ghost use Rattle.cost_tree.specs.Costs.{AreCosts};
 ghost use Rattle.cost_tree.specs.IsShownAs.{IsLevelled, IsPlaceOf, IsShownAs};
+ghost use Rattle.cost_tree.specs.Texts.{lists_of};
 ghost use Rattle.cost_tree.specs.TreeLines.{HasLines, IsPlace, front_at, line_at, shown_at};
+ghost use Rattle.cost_tree.specs.TreeTails.{tailed_at};
 
 use crate::costing::Costing;
-use crate::cut::cut_shape;
 use crate::forked_fronts::ForkedFronts;
 use crate::front_line_taker::FrontLineTaker;
 use crate::line::{CostLine, Place};
@@ -16,6 +20,7 @@ use crate::line_taker::CostLineTaker;
 use crate::lines::take_lines;
 use crate::scale::Scale;
 use crate::shown_line::{ShownLine, ShownPlace};
+use crate::tails::CutLists;
 use crate::tree::CostTree;
 use hp_num::NoMemory;
 use std::alloc::Global;
@@ -58,46 +63,78 @@ fn take_costed<T: FrontLineTaker + Drop>(
     ensures taken { IfOk result
         (λ after. T.takes taker (cost_lines depth scale (costed fronts.now costs.now)) after) }
 {
-    let shape = cut_shape(alloc, &fronts.whole, &fronts.cut.lengths)?;
-    let tree = CostTree::of_shape(alloc, &fronts.names, &shape, costs, depth)?;
-    take_shown(alloc, &tree, scale, taker)
+    let lists = CutLists {
+        names: &fronts.names,
+        whole: &fronts.whole,
+        counts: &fronts.cut.counts,
+        depth: depth as usize,
+    };
+    let tree = CostTree::of_shape(alloc, &fronts.names, &fronts.cut.shape, costs, depth)?;
+    take_tailed(alloc, &tree, scale, lists, taker)
 }
 
-/// Gives the lines of the tree.
-fn take_shown<T: FrontLineTaker + Drop>(
+/// Gives the lines of the tree, and behind that of a front those of the list that goes on alone from there.
+fn take_tailed<T: FrontLineTaker + Drop>(
     alloc: Global,
     tree: &CostTree,
     scale: Scale,
+    lists: CutLists,
     taker: T,
 ) -> Result<T, NoMemory>
     requires tree { (stacks : List Costed) × (depth : ℕ) × HasLines tree.now stacks depth }
     requires none_yet { T.takes taker [] taker }
     ensures taken { IfOk result
-        (λ after. (stacks : List Costed) (depth : ℕ) → HasLines tree.now stacks depth
-        → T.takes taker (cost_lines depth scale stacks) after) }
+        (λ after. (lines : List CostLine) × AreLinesOf scale tree.now lines
+        × (All IsLevelled (map (line_at tree.now) lines)
+        → T.takes taker
+        (flat_map (tailed_at lists.entry.depth (lists_of lists.entry.names.now lists.entry.whole.now)
+        lists.entry.counts.now tree.now) lines) after)) }
 {
-    let mut lines = NodeLines { taker };
+    let mut lines = TailedLines {
+        lists,
+        numbers: Vec::new(alloc),
+        taker,
+    };
     take_lines(alloc, tree, scale, &mut lines)?;
-    let NodeLines { taker } = lines;
+    let TailedLines { taker, .. } = lines;
     Ok(taker)
 }
 
-/// Takes the lines of a tree's nodes, and shows them to a taker.
+/// Takes the lines of a tree, and shows them to a taker, with those of the lists that go on alone.
 #[derive(Drop)]
-struct NodeLines<T: FrontLineTaker + Drop> {
+struct TailedLines<'a, T: FrontLineTaker + Drop> {
+    lists: CutLists<'a>,
+    /// A buffer for the numbers of a list.
+    numbers: Vec<usize>,
     taker: T,
 }
 
-impl<T: FrontLineTaker + Drop> CostLineTaker for NodeLines<T> {
-    ghost use Rattle.std.specs.Prelude.{All, map};
+impl<'a, T: FrontLineTaker + Drop> CostLineTaker for TailedLines<'a, T> {
+    ghost use Rattle.std.specs.Prelude.{◌≡◌, All, map};
+    ghost use Rattle.std.specs.List.{flat_map};
     ghost use Rattle.cost_tree.specs.IsShownAs.{IsLevelled};
+    ghost use Rattle.cost_tree.specs.Texts.{lists_of};
     ghost use Rattle.cost_tree.specs.TreeLines.{line_at};
+    ghost use Rattle.cost_tree.specs.TreeTails.{tailed_at};
 
-    ghost takes = { λ tree first lines now. All IsLevelled (map (line_at tree) lines)
-        → T.takes first.taker (map (line_at tree) lines) now.taker };
+    ghost takes = { λ tree first lines now. (now.lists ≡ first.lists)
+        × (All IsLevelled (map (line_at tree) lines)
+        → T.takes first.taker
+        (flat_map (tailed_at first.lists.depth
+        (lists_of first.lists.names.now first.lists.whole.now) first.lists.counts.now tree) lines)
+        now.taker) };
 
     fn take_line(&mut self, tree: &CostTree, line: CostLine) -> Result<(), NoMemory> {
-        self.taker.take_line(shown_line(tree, line))
+        let shown = shown_line(tree, line);
+        let Some(list) = self.lists.going_on(tree, line) else {
+            return self.taker.take_line(shown);
+        };
+        let TailedLines {
+            lists,
+            numbers,
+            taker,
+        } = self;
+        lists.take_with_tail(list, shown, numbers, taker)
     }
 }
 

@@ -74,6 +74,7 @@ mod shape;
 mod shown_line;
 mod stack_lists;
 mod summing;
+mod tails;
 mod told_lists;
 mod trace_lists;
 mod tree;

@@ -1,52 +1,63 @@
-use Rattle.std.proofs.Common.{◌≡◌, ℕ, List, [], ◌∷◌, length, map, refl, sym, ap, ◌∙◌, subst, arith}
-use Rattle.std.proofs.lemmas.List.{length-map, take_all}
+use Rattle.std.proofs.Common.{◌≡◌, ℕ, List, length, map, sym, ap, ◌∙◌, subst}
+use Rattle.std.specs.Prelude.{All}
+use Rattle.std.specs.List.{flat_map}
+use Rattle.std.proofs.lemmas.List.{length-map}
 use Rattle.std.proofs.lemmas.Result.{IfOk-weaker}
-use Rattle.cost_tree.specs.Costed.{costed}
-use Rattle.cost_tree.specs.CostLines.{cost_lines}
+use Rattle.cost_tree.specs.Costed.{Costed, costed}
+use Rattle.cost_tree.specs.CostLines.{FrontLine, cost_lines}
 use Rattle.cost_tree.specs.Cuts.{cut_lists}
+use Rattle.cost_tree.specs.IsShownAs.{IsLevelled}
 use Rattle.cost_tree.specs.Texts.{AreTexts, lists_of, texts_of}
+use Rattle.cost_tree.specs.TreeLines.{HasLines}
+use Rattle.cost_tree.specs.TreeTails.{tailed_at}
+use Rattle.cost_tree.proofs.Lengthening.{cut-count, cut-named, cut-texts}
+use Rattle.cost_tree.proofs.Levels.{lines-levelled}
+use Rattle.cost_tree.proofs.Tailing.{AreForked, tree-tailed}
 use Rattle.cost_tree.proofs.front_lines.take_costed.Goals as goal
-
--- all of each list
-all-left : (lists : List (List ℕ)) → cut_lists (map length lists) lists ≡ lists
-unfolding cut_lists
-all-left [] = refl
-all-left (list ∷ lists) =
-    ap (λ (ns : List ℕ). ns ∷ cut_lists (map length lists) lists) (take_all (length list) list (omega arith))
-    ∙ ap (λ (ls : List (List ℕ)). list ∷ ls) (all-left lists)
-
-whole-left : (shape whole : List (List ℕ)) (counts lengths : List ℕ) → shape ≡ cut_lists counts whole → counts ≡ lengths → lengths ≡ map length whole → shape ≡ whole
-whole-left shape whole counts lengths is same all =
-    is ∙ ap (λ (ks : List ℕ). cut_lists ks whole) (same ∙ all) ∙ all-left whole
 
 pub of_shape-requires-clause-texts : goal.of_shape-requires-clause-texts
 of_shape-requires-clause-texts g c =
     let inside = c.fronts.inside in
-    subst (λ (ls : List (List ℕ)). AreTexts inside.names ls)
-    (sym (whole-left c.in_ok-shape.shape inside.whole c.deref.result.now inside.cut.lengths.items c.in_ok-shape.ensures.lists c.deref.ensures.value c.fronts.invariant.cut_of.lengths))
-    c.fronts.invariant.texts
+    subst (AreTexts inside.names) (sym c.fronts.invariant.cut_of.lists) (cut-named inside.names inside.cut.counts.items inside.whole c.fronts.invariant.texts)
 
 pub of_shape-requires-clause-as_many : goal.of_shape-requires-clause-as_many
 of_shape-requires-clause-as_many g c =
     let inside = c.fronts.inside in
+    let is = c.fronts.invariant.cut_of in
     c.requires.as_many
     ∙ sym (ap (λ (ls : List (List (List ℕ))). length ls) c.fronts.view_is)
     ∙ length-map inside.whole (texts_of inside.names)
-    ∙ sym (ap (λ (ls : List (List ℕ)). length ls)
-    (whole-left c.in_ok-shape.shape inside.whole c.deref.result.now inside.cut.lengths.items c.in_ok-shape.ensures.lists c.deref.ensures.value c.fronts.invariant.cut_of.lengths))
+    ∙ sym (cut-count inside.cut.counts.items inside.whole is.count)
+    ∙ sym (ap (λ (ls : List (List ℕ)). length ls) is.lists)
 
 pub returns : goal.returns
 returns g c =
     let inside = c.fronts.inside in
+    let names = inside.names in
+    let counts = inside.cut.counts.items in
     let costs = c.args.costs.now in
-    let same : lists_of inside.names c.in_ok-shape.shape ≡ c.args.fronts.now =
-    ap (λ (ls : List (List ℕ)). lists_of inside.names ls)
-    (whole-left c.in_ok-shape.shape inside.whole c.deref.result.now inside.cut.lengths.items c.in_ok-shape.ensures.lists c.deref.ensures.value c.fronts.invariant.cut_of.lengths)
-    ∙ c.fronts.view_is in
+    let depth = c.args.depth in
+    let scale = c.args.scale in
+    let tree = c.in_ok-tree.tree in
+    let is = c.fronts.invariant.cut_of in
+    let lists : List (List (List ℕ)) = lists_of names inside.whole in
+    let cuts : List Costed = costed (cut_lists counts lists) costs in
+    let forked : AreForked lists counts costs = record {
+      count = is.count ∙ sym (length-map inside.whole (texts_of names));
+      costs_count = c.requires.as_many ∙ sym (ap (λ (ls : List (List (List ℕ))). length ls) c.fronts.view_is);
+      some = is.some;
+      alone = c.fronts.invariant.alone;
+    } in
+    let has : HasLines tree cuts depth =
+    subst (λ (ls : List (List (List ℕ))). HasLines tree (costed ls costs) depth) (ap (λ (ls : List (List ℕ)). lists_of names ls) is.lists ∙ cut-texts names counts inside.whole) c.in_ok-tree.ensures.lines in
     record {
-      taken = IfOk-weaker c.take_shown.result _ _
+      taken = IfOk-weaker c.take_tailed.result _ _
           (λ after taken.
-          subst (λ (ls : List (List (List ℕ))). g.T.FrontLineTaker.takes c.args.taker (cost_lines c.args.depth c.args.scale (costed ls costs)) after) same
-          (taken (costed (lists_of inside.names c.in_ok-shape.shape) costs) c.args.depth c.in_ok-tree.ensures.lines))
-          c.take_shown.ensures.taken;
+          let levelled = subst (λ (ls : List FrontLine). All IsLevelled ls) (sym (taken.1.all cuts depth has)) (lines-levelled depth scale cuts) in
+          subst (λ (ls : List FrontLine). g.T.FrontLineTaker.takes c.args.taker ls after)
+          (ap (λ (ks : List ℕ). flat_map (tailed_at depth lists ks tree) taken.0) c.deref.ensures.value
+          ∙ tree-tailed tree depth scale lists counts costs taken.0 forked has taken.1
+          ∙ ap (λ (ls : List (List (List ℕ))). cost_lines depth scale (costed ls costs)) c.fronts.view_is)
+          (taken.2 levelled))
+          c.take_tailed.ensures.taken;
     }
