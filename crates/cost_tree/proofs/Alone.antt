@@ -9,7 +9,7 @@ use Rattle.cost_tree.specs.declared.scale.Scale.{Scale}
 use Rattle.cost_tree.specs.Costed.{Costed}
 use Rattle.cost_tree.specs.CostLines.{FrontLine, a_front, cost_of, front_line, front_lines, gathered_lines, is_small, kept_fronts, last_of, small_fronts}
 use Rattle.cost_tree.specs.Inclusive.{has_front, inclusive, least}
-use Rattle.cost_tree.specs.NextFronts.{longer_front, next_fronts, opens, texts_at}
+use Rattle.cost_tree.specs.NextFronts.{longer_front, next_fronts, texts_at}
 use Rattle.cost_tree.specs.Order.{by_cost}
 use Rattle.cost_tree.specs.Tails.{tail_line}
 use Rattle.cost_tree.proofs.Alike.{inclusive-cons}

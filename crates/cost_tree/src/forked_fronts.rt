@@ -12,7 +12,8 @@ use intern_tables::Names;
 use std::alloc::Global;
 use std::marker::Model;
 
-/// Lists of texts, numbered from 0.
+/// Lists of texts, numbered from 0. A tree has a node for each front that several of them share, and no more than a few for those
+/// that one of them alone begins with.
 ///
 /// Contracts see the list of the lists.
 #[derive(Debug, Drop)]

@@ -1,6 +1,6 @@
 //! What takes the lines of fronts, one after another, each with what it shows.
 //! Which lines there are is no part of it, and no more is whether a tree has a node for each.
-ghost use Rattle.std.specs.Prelude.{◌≡◌, ◌∷◌, [], ◌++◌, List, OnOk};
+ghost use Rattle.std.specs.Prelude.{◌∷◌, [], ◌++◌, List, OnOk};
 ghost use Rattle.cost_tree.specs.CostLines.{FrontLine};
 ghost use Rattle.cost_tree.specs.IsShownAs.{IsShownAs};
 

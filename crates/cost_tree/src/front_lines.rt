@@ -87,8 +87,9 @@ fn take_tailed<T: FrontLineTaker + Drop>(
         (λ after. (lines : List CostLine) × AreLinesOf scale tree.now lines
         × (All IsLevelled (map (line_at tree.now) lines)
         → T.takes taker
-        (flat_map (tailed_at lists.entry.depth (lists_of lists.entry.names.now lists.entry.whole.now)
-        lists.entry.counts.now tree.now) lines) after)) }
+        (flat_map (tailed_at lists.entry.depth
+        (lists_of lists.entry.names.now lists.entry.whole.now) lists.entry.counts.now tree.now)
+        lines) after)) }
 {
     let mut lines = TailedLines {
         lists,

@@ -3,8 +3,8 @@
 //!
 //! What it promises:
 //!
-//! - `Shape` is seen as a list of lists of numbers, and keeps each front of them once; `Fronts` as a list of lists of texts,
-//!   and keeps each distinct text once. Lists of texts can be made of names and a shape of their
+//! - `Shape` and `Chains` are seen as lists of lists of numbers, and a shape keeps each front of them once; `Fronts` as a list of
+//!   lists of texts, and keeps each distinct text once. Lists of texts can be made of names and a shape of their
 //!   numbers (`from_parts`). `CallChains` is seen as a list of lists of texts too, and keeps of each the texts of
 //!   a stack's own frames, and which earlier list follows them (`push`). `Costing` and `FrameTest` keep a closure, and what it is
 //!   to answer is said at each call that uses it.
@@ -21,6 +21,8 @@
 //!   last text, and `children_into` gives all its children by ascending number, which is also by ascending first stack.
 //! - `cost_lines` gives the lines of a tree above a threshold, as a list over fronts (`CostLines`): costly fronts first,
 //!   and one line for the others of a node. `take_lines` gives them one by one to what takes them (`CostLineTaker`).
+//! - `take_front_lines` gives the same lines of lists with costs, without a tree that has a node for each: `ForkedFronts` keeps lists cut
+//!   where they go on alone, and the lines behind that are made of their texts. `FrontLineTaker` takes each with its front's last text.
 //!
 //! A text is compared with others once, when it is pushed, and a front once, when its last number is; a tree hashes nothing and
 //! copies no text. The crates above may cite its `proofs/Laws`. The tests of these calls are the crate `cost_tree_tests`.
@@ -33,12 +35,14 @@
 //! | `chains.rt`, `chain.rt`, `call_chains.rt` | lists of numbers that go on with earlier ones; one of them; those of the texts of frames |
 //! | `trace_lists.rt`, `stack_lists.rt`, `root_lists.rt`, `list_form.rt`, `direction.rt` | those of a trace's stacks; from the allocation, and from the root; in which form, and from which end |
 //! | `cut_fronts.rt`, `cut.rt`, `ends.rt` | lists of texts that are cut, and of numbers; what lists cost together that end at one node |
+//! | `forked_fronts.rt`, `tails.rt` | lists of texts that are cut where they go on alone; the lines of their texts behind that |
 //! | `costing.rt`, `frame_test.rt` | what each stack costs, and which names are meant, by closures |
 //! | `branches.rt`, `summing.rt` | a tree that grows along a shape; what its nodes cost with those below them |
 //! | `linked.rt`, `links.rt`, `child_nodes.rt` | its nodes with the links to their children; how many children a node has |
 //! | `tree.rt`, `node.rt`, `held_names.rt` | the tree, one node, and whose names it has |
 //! | `scale.rt`, `line.rt`, `line_taker.rt` | what costs are measured by; a line; what takes lines |
 //! | `children.rt`, `lines.rt` | which children of a node have lines of their own; the walk that gives the lines |
+//! | `shown_line.rt`, `front_line_taker.rt`, `front_lines.rt` | a line with what it shows; what takes such lines; those of lists |
 #![tactic(auto)]
 
 mod branches;

@@ -1,6 +1,5 @@
 //! One line of a tree as what takes it sees it: with the text of its front, and no tree beside it.
 //! Which lines there are is no part of it.
-ghost use Rattle.std.specs.Prelude.{◌≡◌};
 
 /// What a line says the cost of.
 #[derive(Clone, Copy, Debug)]

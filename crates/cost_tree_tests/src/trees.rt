@@ -55,7 +55,7 @@ fn show_figures(
     put_bytes(out, tree.text(n))
 }
 
-fn put_figure(figure: u64, out: &mut Vec<u8>) -> Result<(), NoMemory> {
+pub(crate) fn put_figure(figure: u64, out: &mut Vec<u8>) -> Result<(), NoMemory> {
     put_dec(out, figure)?;
     put_bytes(out, b" ")
 }

@@ -1,0 +1,170 @@
+//! Lines of lists that go on alone behind a front, and of those that share fronts.
+ghost use Rattle.std.specs.Prelude.{◌^◌, ◌≤◌, All, IfOk, sum};
+ghost use Rattle.cost_tree.specs.Texts.{AreTexts, IsText};
+
+use crate::trees::put_figure;
+use cost_tree::{
+    Chains, Costing, ForkedFronts, FrontLineTaker, Scale, ShownLine, ShownPlace, take_front_lines,
+};
+use hp_num::{NoMemory, put_bytes, put_dec};
+use intern_tables::Names;
+use std::alloc::Global;
+use std::process::Abort;
+
+/// Writes a line for each one that it takes: its level, how many lines belong to it, its cost, and its text, or in brackets how many
+/// fronts are gathered.
+#[derive(Drop)]
+struct WrittenLines {
+    out: Vec<u8>,
+}
+
+impl FrontLineTaker for WrittenLines {
+    ghost takes = { λ _ _ _. Unit {0} };
+
+    fn take_line(&mut self, line: ShownLine) -> Result<(), NoMemory> {
+        put_figure(line.level as u64, &mut self.out)?;
+        put_figure(u64::from(line.children), &mut self.out)?;
+        put_figure(line.cost, &mut self.out)?;
+        put_place(line.shown, &mut self.out)
+    }
+}
+
+fn put_place(shown: ShownPlace, out: &mut Vec<u8>) -> Result<(), NoMemory> {
+    match shown {
+        ShownPlace::Front { text, .. } => put_bytes(out, text)?,
+        ShownPlace::Gathered { places } => {
+            put_bytes(out, b"[")?;
+            put_dec(out, places)?;
+            put_bytes(out, b"]")?;
+        }
+    }
+    put_bytes(out, b"\n")
+}
+
+/// The texts of the lists: lists between `|`, texts between `;`.
+fn names_of(alloc: Global, lists: &[u8]) -> Result<Names, NoMemory> {
+    let mut names = Names::new(alloc);
+    for text in lists.split(|byte| *byte == b'|' || *byte == b';') {
+        names.intern(text)?;
+    }
+    Ok(names)
+}
+
+/// The numbers of a list's texts, each of which must be a name; an empty list has none.
+fn numbers_of(alloc: Global, names: &Names, list: &[u8]) -> Result<Vec<usize>, NoMemory>
+    ensures { IfOk result (λ numbers. All (IsText names.now) numbers.items) }
+{
+    let mut numbers = Vec::new(alloc);
+    if list.is_empty() {
+        return Ok(numbers);
+    }
+    'each_text: for text in list.split(|byte| *byte == b';') {
+        let Some(number) = names.find(text) else {
+            return Ok(numbers);
+        };
+        numbers.push(number)?;
+    }
+    Ok(numbers)
+}
+
+fn chains_of(alloc: Global, names: &Names, lists: &[u8]) -> Result<Chains, NoMemory>
+    ensures { IfOk result (λ chains. AreTexts names.now chains) }
+{
+    let mut chains = Chains::new(alloc);
+    'each_list: for list in lists.split(|byte| *byte == b'|') {
+        if chains.len() == u32::MAX {
+            return Ok(chains);
+        }
+        let numbers = numbers_of(alloc, names, list)?;
+        chains.push_list(&numbers)?;
+    }
+    Ok(chains)
+}
+
+fn fronts_of(alloc: Global, lists: &[u8]) -> Result<ForkedFronts, NoMemory> {
+    let names = names_of(alloc, lists)?;
+    let chains = chains_of(alloc, &names, lists)?;
+    ForkedFronts::new(alloc, names, chains)
+}
+
+/// What is written of the lines of lists with these costs, to so many texts, where the total is 53.
+fn written(
+    rt: &impl Abort,
+    alloc: Global,
+    fronts: &ForkedFronts,
+    costs: &[u64],
+    threshold: u64,
+    depth: u32,
+) -> Result<Vec<u8>, NoMemory>
+    requires { sum costs.now ≤ 2 ^ 62 }
+{
+    assert_eq!(rt; fronts.len() as usize, costs.len());
+    let costing = Costing::new(fronts.len(), |stack: u32| costs[stack as usize]);
+    let scale = Scale {
+        total: 53,
+        threshold,
+    };
+    let lines = WrittenLines {
+        out: Vec::new(alloc),
+    };
+    let WrittenLines { out } = take_front_lines(alloc, fronts, &costing, scale, depth, lines)?;
+    Ok(out)
+}
+
+// Of the lists, two share `a;b`, two are equal, one is empty and one costs nothing. Behind `h` a list goes on alone, and
+// behind the first four texts of the first list, which is cut there.
+fn check_lines(
+    rt: &impl Abort,
+    alloc: Global,
+    threshold: u64,
+    depth: u32,
+    lines: &[u8],
+) -> Result<(), NoMemory> {
+    let lists = b"a;b;c;d;e|a;b;f;g|h;i;j;k;l|m;n|m;n||p;q;r;s";
+    let fronts = fronts_of(alloc, lists)?;
+    let out = written(
+        rt,
+        alloc,
+        &fronts,
+        &[10, 20, 5, 7, 8, 3, 0],
+        threshold,
+        depth,
+    );
+    drop(fronts);
+    assert_eq!(rt; out?.as_slice(), lines);
+    Ok(())
+}
+
+#[test]
+fn lists_that_go_on_alone(rt: HostRuntime) -> Result<(), NoMemory> {
+    check_lines(
+        &rt,
+        rt.alloc(),
+        0,
+        6,
+        b"0 3 53 \n1 1 30 a\n2 2 30 b\n3 1 20 f\n4 0 20 g\n3 1 10 c\n4 1 10 d\n5 0 10 e\n1 1 15 m\n2 0 15 n\n1 1 5 h\n2 1 5 i\n3 1 5 j\n4 1 5 k\n5 0 5 l\n",
+    )
+}
+
+#[test]
+fn tails_to_a_depth(rt: HostRuntime) -> Result<(), NoMemory> {
+    check_lines(
+        &rt,
+        rt.alloc(),
+        0,
+        3,
+        b"0 3 53 \n1 1 30 a\n2 2 30 b\n3 0 20 f\n3 0 10 c\n1 1 15 m\n2 0 15 n\n1 1 5 h\n2 1 5 i\n3 0 5 j\n",
+    )
+}
+
+// 20% of the total: `c` and `h` are too small for lines, and what goes on alone behind them has none.
+#[test]
+fn tails_above_a_threshold(rt: HostRuntime) -> Result<(), NoMemory> {
+    check_lines(
+        &rt,
+        rt.alloc(),
+        2000,
+        6,
+        b"0 3 53 \n1 1 30 a\n2 2 30 b\n3 1 20 f\n4 0 20 g\n3 0 10 [1]\n1 1 15 m\n2 0 15 n\n1 0 5 [1]\n",
+    )
+}
