@@ -1,6 +1,5 @@
 //! The Massif profile of a DHAT profile: what was live at the peak, and what was live at the end.
 ghost use Rattle.std.specs.Prelude.{◌≡◌, ◌≢◌, ◌<◌, ◌≤◌, ◌^◌, [], ◌∷◌, length, sum, true, Some, None, Err, IfErr, IfOk, OnOk};
-ghost use Rattle.cost_tree.specs.IsTreeOf.{IsTreeOf};
 ghost use Rattle.dhat_json.specs.declared.figure.FigureKey.TheVariants.{Eb, Gb};
 ghost use Rattle.dhat_json.specs.IsSound.{IsSound};
 ghost use Rattle.dhat_view.specs.PointCosts.{point_costs};
@@ -14,12 +13,13 @@ ghost use Rattle.convert.specs.Converted.{command_of, converted, peak_time, snap
 ghost use Rattle.convert.specs.Items.{point_items};
 
 use crate::fault::ConvertFault;
-use cost_tree::{CostTree, Costing, Fronts};
+use crate::point_lists::point_lists;
+use cost_tree::{Costing, ForkedFronts};
 use dhat_json::{Dhat, FigureKey, put_shown, shown_texts};
-use dhat_view::{figure_at, figures_sum, fronts_of};
+use dhat_view::{figure_at, figures_sum};
 use hp_num::{NoMemory, Text};
 use massif_file::{HeapTree, Profile, Snap, Snaps, TimeUnit, Tree};
-use massif_tree::{TreeOptions, massif_trees, tree_lines};
+use massif_tree::{TreeOptions, forked_lines, massif_trees};
 use std::alloc::Global;
 
 /// The greatest number that is converted.
@@ -126,7 +126,7 @@ fn live_snaps(alloc: Global, dhat: &Dhat, at_peak: u64, at_end: u64) -> Result<S
         (λ snaps. snaps ≡ snap_of (peak_time dhat.now) Peak Gb dhat.now
         ∷ snap_of dhat.now.te Detailed Eb dhat.now ∷ []) }
 {
-    let fronts = fronts_of(alloc, dhat)?;
+    let fronts = point_lists(alloc, dhat)?;
     let peak_tree = live_tree(alloc, dhat, &fronts, FigureKey::Gb, at_peak)?;
     let end_tree = end_tree(alloc, dhat, &fronts, &peak_tree, at_end)?;
     let peak = live_snap(time_of_peak(dhat), at_peak, HeapTree::Peak, peak_tree);
@@ -172,24 +172,26 @@ fn live_snap(time: u64, heap: u64, mark: HeapTree, tree: Tree) -> Snap
 fn live_tree(
     alloc: Global,
     dhat: &Dhat,
-    fronts: &Fronts,
+    fronts: &ForkedFronts,
     key: FigureKey,
     total: u64,
 ) -> Result<Tree, NoMemory>
     requires fronts { fronts.now ≡ point_fronts dhat.now }
-    requires few { length dhat.now.pps < 2 ^ 32 }
     requires total { total ≡ sum (point_costs key dhat.now) }
     requires within { total ≤ 2 ^ 62 }
     ensures tree { IfOk result
         (λ tree. tree ≡ massif_tree whole_tree (sum (point_costs key dhat.now))
         (point_items key dhat.now)) }
 {
-    let tree = points_tree(alloc, dhat, fronts, key)?;
+    let costing = Costing::new(
+        fronts.len(),
+        |point: u32| figure_at(key, dhat, point as usize),
+    );
     let options = TreeOptions {
         threshold: 0,
         depth: DEPTH,
     };
-    tree_lines(alloc, &tree, &options, total)
+    forked_lines(alloc, fronts, &costing, &options, total)
 }
 
 /// The tree of the end of these fronts, which are the points'. Where each point has as much live at the end as at the peak, it is
@@ -197,12 +199,11 @@ fn live_tree(
 fn end_tree(
     alloc: Global,
     dhat: &Dhat,
-    fronts: &Fronts,
+    fronts: &ForkedFronts,
     peak_tree: &Tree,
     at_end: u64,
 ) -> Result<Tree, NoMemory>
     requires fronts { fronts.now ≡ point_fronts dhat.now }
-    requires few { length dhat.now.pps < 2 ^ 32 }
     requires peak { peak_tree.now
         ≡ massif_tree whole_tree (sum (point_costs Gb dhat.now)) (point_items Gb dhat.now) }
     requires total { at_end ≡ sum (point_costs Eb dhat.now) }
@@ -228,22 +229,4 @@ fn ends_as_at_peak(dhat: &Dhat) -> bool
         }
     }
     true
-}
-
-/// The tree of costs of these fronts.
-fn points_tree<'a>(
-    alloc: Global,
-    dhat: &Dhat,
-    fronts: &'a Fronts,
-    key: FigureKey,
-) -> Result<CostTree<'a>, NoMemory>
-    requires fronts { fronts.now ≡ point_fronts dhat.now }
-    requires within { sum (point_costs key dhat.now) ≤ 2 ^ 62 }
-    ensures tree { IfOk result (λ tree. IsTreeOf tree (point_items key dhat.now) 200) }
-{
-    let costing = Costing::new(
-        fronts.len(),
-        |point: u32| figure_at(key, dhat, point as usize),
-    );
-    CostTree::of_fronts(alloc, fronts, &costing, DEPTH)
 }

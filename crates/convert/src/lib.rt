@@ -18,6 +18,7 @@
 //! | File | Does |
 //! |---|---|
 //! | `points.rt`, `massif.rt`, `converted.rt` | the three conversions |
+//! | `point_lists.rt` | the lists of which trees are made |
 //! | `list_sums.rt`, `lines.rt` | sums by lists of shown texts under numbers; their lines |
 //! | `chosen.rt` | which snapshot is folded |
 //! | `left_bytes.rt`, `path.rt` | what children leave of a line's bytes; the labels from the root down to a line |
@@ -32,6 +33,7 @@ mod lines;
 mod list_sums;
 mod massif;
 mod path;
+mod point_lists;
 mod points;
 
 pub use converted::massif_of_dhat;

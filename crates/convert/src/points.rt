@@ -100,7 +100,7 @@ fn point_sums(alloc: Global, key: FigureKey, dhat: &Dhat) -> Result<ListSums, No
 }
 
 /// Replaces `list` by the numbers of the frames' texts.
-fn number_frames(
+pub(crate) fn number_frames(
     numbers: &[usize],
     frames: &FrameList,
     list: &mut Vec<usize>,

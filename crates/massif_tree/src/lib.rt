@@ -7,7 +7,8 @@
 //!   frame has a function that is to be ignored.
 //! - `tree_lines` gives the lines of a tree of costs (`massif_tree`): a line for each front whose share of the
 //!   snapshot's total reaches the threshold, the costly ones first, and one for the others together. Each is made of
-//!   one line of `cost_tree`.
+//!   one line of `cost_tree`. `forked_lines` gives them of lists of texts that have nodes only up to where each goes on alone, and
+//!   keeps the label of lines with one text once.
 //! - `add_trimmed` makes the lists of a trace's stacks as they are trimmed, once for each stack and of at most one text more
 //!   than a tree is deep, and `snapshot_tree` gives the lines of the tree of such lists. A stack's list goes on with that of
 //!   the stack that it is called from, so texts are made once a node.
@@ -23,10 +24,12 @@
 //! | `function_lists.rt` | what allocation functions leave of a stack, and which stacks are ignored |
 //! | `trimmed_fronts.rt`, `snapshot.rt` | the trimmed lists of a trace's stacks; the tree of such lists |
 //! | `labels.rt`, `lines.rt` | the labels that name no frame; the lines of a tree |
+//! | `forked_tree.rt` | the lines of lists that go on alone |
 //! | `options.rt` | what is asked of a tree |
 //! | `tree_laws.rt` | the law |
 #![tactic(auto)]
 
+mod forked_tree;
 mod function_lists;
 mod labels;
 mod lines;
@@ -35,6 +38,7 @@ mod snapshot;
 mod tree_laws;
 mod trimmed_fronts;
 
+pub use forked_tree::forked_lines;
 pub use function_lists::is_ignored;
 pub use lines::tree_lines;
 pub use options::TreeOptions;

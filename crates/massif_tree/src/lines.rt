@@ -2,10 +2,12 @@
 //! Which places have lines of their own, and in which order, is `cost_tree`'s part.
 ghost use Rattle.std.specs.Prelude.{◌≡◌, ◌<◌, [], ◌∷◌, ◌++◌, List, length, map, IfOk, OnOk};
 ghost use Rattle.cost_tree.specs.Costed.{Costed};
+ghost use Rattle.cost_tree.specs.CostLines.{gathered};
 ghost use Rattle.cost_tree.specs.TreeLines.{front_at};
+ghost use Rattle.massif_file.specs.TreeLine.{line_of};
 ghost use Rattle.massif_tree.specs.IsShown.{IsShown};
 ghost use Rattle.massif_tree.specs.LabelsIn.{line_in};
-ghost use Rattle.massif_tree.specs.MassifTree.{label_of, massif_tree};
+ghost use Rattle.massif_tree.specs.MassifTree.{label_of, massif_line, massif_tree};
 
 use crate::labels::{put_gathered, root_label};
 use crate::options::TreeOptions;
@@ -35,23 +37,51 @@ pub fn tree_lines(
         total,
         threshold: options.threshold,
     };
-    let mut lines = FileLines {
-        threshold: options.threshold,
-        made: Tree::new(alloc),
-        label: Vec::new(alloc),
-    };
+    let mut lines = FileLines::new(alloc, options.threshold);
     take_lines(alloc, tree, scale, &mut lines)?;
     let FileLines { made, .. } = lines;
     Ok(made)
 }
 
-/// The lines of the file, made one by one of those of the tree.
+/// The lines of the file, made one by one.
 #[derive(Debug, Drop)]
-struct FileLines {
+pub(crate) struct FileLines {
     threshold: u64,
-    made: Tree,
+    pub(crate) made: Tree,
     /// A buffer for a label that has to be made.
     label: Vec<u8>,
+}
+
+impl FileLines {
+    /// None yet; places are gathered below this threshold, in hundredths of a percent.
+    pub(crate) fn new(alloc: Global, threshold: u64) -> FileLines
+        ensures threshold { result.threshold ≡ threshold }
+        ensures none { result.made ≡ [] }
+    {
+        FileLines {
+            threshold,
+            made: Tree::new(alloc),
+            label: Vec::new(alloc),
+        }
+    }
+
+    /// Appends the line of so many places that are gathered.
+    pub(crate) fn push_gathered(
+        &mut self,
+        children: u32,
+        cost: u64,
+        places: u64,
+    ) -> Result<(), NoMemory>
+        ensures threshold { OnOk result (self.new.threshold ≡ self.old.threshold) }
+        ensures appended { OnOk result
+            (self.new.made ≡ self.old.made
+            ++ massif_line self.old.threshold
+            (record { level = 0; children = children; cost = cost; shown = gathered places }) ∷ []) }
+    {
+        self.label.clear();
+        put_gathered(self.threshold, places, &mut self.label)?;
+        self.made.push(labelled(children, cost, &self.label))
+    }
 }
 
 impl CostLineTaker for FileLines {
@@ -63,27 +93,25 @@ impl CostLineTaker for FileLines {
 
     fn take_line(&mut self, tree: &CostTree, line: CostLine) -> Result<(), NoMemory> {
         match line.place {
-            Place::Node { node } => push_labelled(line, node_label(tree, node), &mut self.made),
-            Place::Gathered { places } => {
-                self.label.clear();
-                put_gathered(self.threshold, places, &mut self.label)?;
-                push_labelled(line, &self.label, &mut self.made)
+            Place::Node { node } => {
+                let label = node_label(tree, node);
+                self.made.push(labelled(line.children, line.cost, label))
             }
+            Place::Gathered { places } => self.push_gathered(line.children, line.cost, places),
         }
     }
 }
 
-/// Appends a line with this label.
-fn push_labelled(line: CostLine, label: &[u8], made: &mut Tree) -> Result<(), NoMemory>
-    ensures appended { OnOk result
-        (made.new ≡ made.old
-        ++ record { children = line.children; bytes = line.cost; label = label.now } ∷ []) }
+/// The line with this label.
+pub(crate) fn labelled(children: u32, cost: u64, label: &[u8]) -> TreeFields<'_>
+    ensures { line_of result
+        ≡ record { children = children; bytes = cost; label = label.now } }
 {
-    made.push(TreeFields {
-        children: line.children,
-        bytes: line.cost,
+    TreeFields {
+        children,
+        bytes: cost,
         label,
-    })
+    }
 }
 
 /// The label of a node: that of the root, or the last text of its front.

@@ -1,4 +1,4 @@
-use Rattle.std.proofs.Common.{List, ◌++◌, map, sym, ap, ◌∙◌, arith}
+use Rattle.std.proofs.Common.{ℕ, List, ◌++◌, map, sym, ap, ◌∙◌, arith}
 use Rattle.std.proofs.lemmas.Simd.{map-map}
 use Rattle.cost_tree.specs.CostLines.{FrontLine}
 use Rattle.cost_tree.specs.TreeLines.{HasLines, line_at}
@@ -18,7 +18,8 @@ returns c =
       lines = λ stacks shown.
           let has : HasLines tree stacks depth = record { tree_of = shown.tree_of; few = shown.few; within = shown.within; shallow = omega arith } in
           taken.2.1
-          ∙ ap (λ (ls : List TreeLine). ls ++ map (line_in threshold tree) taken.0) c.new.ensures.empty
+          ∙ ap (λ (made : List TreeLine). made ++ map (line_in c.new-lines.result.threshold tree) taken.0) c.new-lines.ensures.none
+          ∙ ap (λ (least : ℕ). map (line_in least tree) taken.0) c.new-lines.ensures.threshold
           ∙ sym (map-map (massif_line threshold) (line_at tree) taken.0)
           ∙ ap (λ (ls : List FrontLine). map (massif_line threshold) ls) (taken.1.all stacks depth has);
     }
