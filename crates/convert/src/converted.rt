@@ -1,5 +1,5 @@
 //! The Massif profile of a DHAT profile: what was live at the peak, and what was live at the end.
-ghost use Rattle.std.specs.Prelude.{◌≡◌, ◌≢◌, ◌<◌, ◌≤◌, ◌^◌, [], ◌∷◌, length, sum, true, Some, None, Err, IfErr, IfOk, OnOk};
+ghost use Rattle.std.specs.Prelude.{◌≡◌, ◌≢◌, ◌≤◌, ◌^◌, [], ◌∷◌, sum, true, Some, None, Err, IfErr, IfOk, OnOk};
 ghost use Rattle.dhat_json.specs.declared.figure.FigureKey.TheVariants.{Eb, Gb};
 ghost use Rattle.dhat_json.specs.IsSound.{IsSound};
 ghost use Rattle.dhat_view.specs.PointCosts.{point_costs};

@@ -4,22 +4,18 @@
 ghost use Rattle.std.specs.Prelude.{◌≡◌, ◌≢◌, ◌<◌, ◌≤◌, ◌^◌, ◌++◌, All, List, length, map, slice_index, sum, Some, None, Err, IfErr, IfOk, OnErr, OnOk};
 ghost use Rattle.cost_tree.specs.Costed.{Costed};
 ghost use Rattle.dhat_json.specs.IsSound.{IsSound};
-ghost use Rattle.dhat_json.specs.Shown.{shown};
 ghost use Rattle.dhat_view.specs.PointCosts.{point_costs};
 ghost use Rattle.hp_num.specs.Extends.{Extends};
-ghost use Rattle.intern_tables.specs.Distinct.{AreDistinct};
 ghost use Rattle.convert.specs.AreFolded.{AreFolded};
 ghost use Rattle.convert.specs.ConvertFault.{folded_fault};
 ghost use Rattle.convert.specs.Folded.{folded_text, lines_text};
 ghost use Rattle.convert.specs.Items.{point_items};
-ghost use Rattle.cost_tree.specs.Texts.{IsText, texts_of};
-ghost use Rattle.dhat_view.specs.Numbers.{AreNumbers};
 ghost use Rattle.convert.specs.Numbers.{AreSums};
 
 use crate::fault::ConvertFault;
 use crate::lines::put_lines;
 use crate::list_sums::ListSums;
-use dhat_json::{Dhat, FigureKey, FrameList, Texts};
+use dhat_json::{Dhat, FigureKey, FrameList};
 use dhat_view::{ShownTexts, figure_at, figures_sum, shown_table};
 use hp_num::NoMemory;
 use std::alloc::Global;

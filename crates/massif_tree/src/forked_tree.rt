@@ -1,5 +1,5 @@
-//! The lines of a snapshot's tree over lists of texts, each made of what `cost_tree` shows, so that a list needs no nodes
-//! where it goes on alone. Which places have lines of their own, and in which order, is `cost_tree`'s part.
+//! The lines of a snapshot's tree over lists of texts, each made of what `cost_tree` shows of it, with no tree beside it.
+//! Which places have lines of their own, and in which order, is `cost_tree`'s part.
 ghost use Rattle.std.specs.Prelude.{◌≡◌, ◌<◌, ℕ, List, length, IfOk, OnOk};
 ghost use Rattle.cost_tree.specs.Costed.{costed};
 ghost use Rattle.cost_tree.specs.CostLines.{last_of};

@@ -7,8 +7,8 @@
 //!   frame has a function that is to be ignored.
 //! - `tree_lines` gives the lines of a tree of costs (`massif_tree`): a line for each front whose share of the
 //!   snapshot's total reaches the threshold, the costly ones first, and one for the others together. Each is made of
-//!   one line of `cost_tree`. `forked_lines` gives them of lists of texts that have nodes only up to where each goes on alone, and
-//!   keeps the label of lines with one text once.
+//!   one line of `cost_tree`. `forked_lines` gives them of whole lists of texts (`ForkedFronts`), and keeps a label once that
+//!   many lines have.
 //! - `add_trimmed` makes the lists of a trace's stacks as they are trimmed, once for each stack and of at most one text more
 //!   than a tree is deep, and `snapshot_tree` gives the lines of the tree of such lists. A stack's list goes on with that of
 //!   the stack that it is called from, so texts are made once a node.
@@ -24,7 +24,7 @@
 //! | `function_lists.rt` | what allocation functions leave of a stack, and which stacks are ignored |
 //! | `trimmed_fronts.rt`, `snapshot.rt` | the trimmed lists of a trace's stacks; the tree of such lists |
 //! | `labels.rt`, `lines.rt` | the labels that name no frame; the lines of a tree |
-//! | `forked_tree.rt` | the lines of lists that go on alone |
+//! | `forked_tree.rt` | the lines of the tree of whole lists |
 //! | `options.rt` | what is asked of a tree |
 //! | `tree_laws.rt` | the law |
 #![tactic(auto)]

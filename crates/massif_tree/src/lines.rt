@@ -2,12 +2,12 @@
 //! Which places have lines of their own, and in which order, is `cost_tree`'s part.
 ghost use Rattle.std.specs.Prelude.{◌≡◌, ◌<◌, [], ◌∷◌, ◌++◌, List, length, map, IfOk, OnOk};
 ghost use Rattle.cost_tree.specs.Costed.{Costed};
-ghost use Rattle.cost_tree.specs.CostLines.{gathered};
 ghost use Rattle.cost_tree.specs.TreeLines.{front_at};
 ghost use Rattle.massif_file.specs.TreeLine.{line_of};
 ghost use Rattle.massif_tree.specs.IsShown.{IsShown};
+ghost use Rattle.massif_tree.specs.Labels.{gathered_label};
 ghost use Rattle.massif_tree.specs.LabelsIn.{line_in};
-ghost use Rattle.massif_tree.specs.MassifTree.{label_of, massif_line, massif_tree};
+ghost use Rattle.massif_tree.specs.MassifTree.{label_of, massif_tree};
 
 use crate::labels::{put_gathered, root_label};
 use crate::options::TreeOptions;
@@ -74,9 +74,11 @@ impl FileLines {
     ) -> Result<(), NoMemory>
         ensures threshold { OnOk result (self.new.threshold ≡ self.old.threshold) }
         ensures appended { OnOk result
-            (self.new.made ≡ self.old.made
-            ++ massif_line self.old.threshold
-            (record { level = 0; children = children; cost = cost; shown = gathered places }) ∷ []) }
+            (self.new.made ≡ self.old.made ++ record {
+              children = children;
+              bytes = cost;
+              label = gathered_label self.old.threshold places;
+            } ∷ []) }
     {
         self.label.clear();
         put_gathered(self.threshold, places, &mut self.label)?;

@@ -1,4 +1,4 @@
-use Rattle.std.proofs.Common.{ℕ, List, [], ◌∷◌, ◌++◌, map, take, ap, sym, ◌∙◌, subst}
+use Rattle.std.proofs.Common.{ℕ, List, map, take, sym, subst}
 use Rattle.dhat_json.specs.Shown.{shown}
 use Rattle.massif_file.specs.TreeLine.{TreeLine, line_of}
 use Rattle.dhat_view.specs.Numbers.{AreNumbers}
