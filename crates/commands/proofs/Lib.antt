@@ -2,11 +2,4 @@ mod AskedLemmas
 mod SilentLemmas
 mod GenLemmas
 mod KeepLemmas
-mod DocumentLemmas
-mod LifeLemmas
-mod WordLemmas
-mod NameLemmas
-mod MassifLemmas
-mod MassifFileLemmas
-mod SampleLemmas
 mod HasRunLemmas

@@ -2,10 +2,10 @@
 use Rattle.std.proofs.Common.{ℕ, List, Option, Some, None, true, refl}
 use Rattle.command_frame.specs.Silent.{IsSilent}
 use Rattle.trace_gen.specs.Sizes.{Sizes}
-use Rattle.commands.specs.declared.convert_words.Conversion.{Conversion}
-use Rattle.commands.specs.declared.convert_words.Conversion.TheVariants.{FoldedDhat, FoldedMassif, MassifOfDhat}
+use Rattle.profile_reading.specs.declared.conversion.Conversion.{Conversion}
+use Rattle.profile_reading.specs.declared.conversion.Conversion.TheVariants.{FoldedDhat, FoldedMassif, MassifOfDhat}
+use Rattle.profile_reading.specs.ConvertReport.{conversion_plan}
 use Rattle.commands.specs.Asked.{Convert, Dhat, DhatView, Flame, Gen, Help, Massif, Page, Print, Summary}
-use Rattle.commands.specs.ConvertReport.{conversion_plan}
 use Rattle.commands.specs.ConvertWords.{ConvertAsked}
 use Rattle.commands.specs.FlameWords.{FlameAsked}
 use Rattle.commands.specs.MassifWords.{MassifAsked}

@@ -5,9 +5,10 @@ use Rattle.std.specs.Str.{bytes_eq}
 use Rattle.command_frame.specs.Plan.{Ends, Plan}
 use Rattle.command_frame.specs.Report.{Writes}
 use Rattle.command_frame.specs.Task.{Task, task_names}
-use Rattle.commands.specs.ConvertReport.{convert_plan}
+use Rattle.trace_profiles.specs.DhatReport.{dhat_plan}
+use Rattle.trace_profiles.specs.MassifReport.{massif_plan}
+use Rattle.trace_reading.specs.SuppressionsReport.{names_behind}
 use Rattle.commands.specs.ConvertWords.{ConvertAsked, convert_asked}
-use Rattle.commands.specs.DhatReport.{dhat_plan}
 use Rattle.commands.specs.DhatWords.{dhat_trace}
 use Rattle.commands.specs.FlameReport.{flame_plan}
 use Rattle.commands.specs.FlameWords.{FlameAsked, flame_asked}
@@ -15,17 +16,14 @@ use Rattle.commands.specs.GenReport.{gen_plan}
 use Rattle.commands.specs.GenWords.{GenAsked, gen_asked}
 use Rattle.commands.specs.InterpretReport.{interpret_files, interpret_plan}
 use Rattle.commands.specs.InterpretWords.{InterpretAsked, interpret_asked}
-use Rattle.commands.specs.MassifReport.{massif_plan}
 use Rattle.commands.specs.MassifWords.{MassifAsked, massif_asked}
-use Rattle.commands.specs.PageReport.{page_plan}
 use Rattle.commands.specs.PageWords.{PageAsked, page_asked}
 use Rattle.commands.specs.PrintReport.{print_plan}
 use Rattle.commands.specs.PrintWords.{PrintAsked, print_asked}
+use Rattle.commands.specs.ProfilePlans.{convert_plan, page_plan, view_plan}
 use Rattle.commands.specs.SummaryReport.{summary_plan}
 use Rattle.commands.specs.SummaryWords.{summary_trace}
-use Rattle.trace_reading.specs.SuppressionsReport.{names_behind}
 use Rattle.commands.specs.Texts.{heapsuite_texts}
-use Rattle.commands.specs.ViewReport.{view_plan}
 use Rattle.commands.specs.ViewWords.{ViewAsked, view_asked}
 
 pub data Asked : Type 0 where

@@ -5,8 +5,8 @@ use Rattle.std.specs.Str.{bytes_eq}
 use Rattle.command_words.specs.TableApp.{Table}
 use Rattle.command_words.specs.WordsTaken.{only_file_in, value_in, words_taken}
 use Rattle.dhat_json.specs.declared.figure.FigureKey.{FigureKey}
-use Rattle.commands.specs.declared.convert_words.Conversion.{Conversion}
-use Rattle.commands.specs.declared.convert_words.Conversion.TheVariants.{FoldedDhat, FoldedMassif, MassifOfDhat}
+use Rattle.profile_reading.specs.declared.conversion.Conversion.{Conversion}
+use Rattle.profile_reading.specs.declared.conversion.Conversion.TheVariants.{FoldedDhat, FoldedMassif, MassifOfDhat}
 use Rattle.commands.specs.declared.convert_words.FileKind.{FileKind}
 use Rattle.commands.specs.declared.convert_words.FileKind.TheVariants as from
 use Rattle.commands.specs.declared.convert_words.Target.{Target}

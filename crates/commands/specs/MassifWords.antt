@@ -1,15 +1,15 @@
 -- The words of `massif`.
-use Rattle.std.specs.Prelude.{◌≡◌, ◌≢◌, ◌≤◌, ℕ, List, [], ◌∷◌, codes, true, Option, Some, None, if◌then◌else◌, refl, unwrap_or}
+use Rattle.std.specs.Prelude.{◌≡◌, ℕ, List, [], ◌∷◌, codes, true, Option, Some, None, if◌then◌else◌, refl, unwrap_or}
 use Rattle.std.specs.Int.{is_power_of_two}
 use Rattle.std.specs.Option.{option_and_then, option_map}
 use Rattle.std.specs.Str.{bytes_eq}
 use Rattle.command_words.specs.TableApp.{Table}
 use Rattle.command_words.specs.WordsTaken.{only_file_in, value_in, words_taken}
 use Rattle.massif_file.specs.declared.profile.TimeUnit.{TimeUnit}
-use Rattle.massif_file.specs.declared.profile.TimeUnit.TheVariants.{Instructions, Milliseconds, Bytes, Events}
+use Rattle.massif_file.specs.declared.profile.TimeUnit.TheVariants.{Milliseconds, Bytes, Events}
 use Rattle.massif_sample.specs.declared.options.MassifOptions.{MassifOptions}
-use Rattle.commands.specs.MassifSettings.{MassifSettings}
-use Rattle.commands.specs.NameList.{names_in}
+use Rattle.trace_profiles.specs.MassifSettings.{MassifSettings, settings_of}
+use Rattle.trace_profiles.specs.NameList.{names_in}
 use Rattle.commands.specs.NumberWords.{number_or, percent_or}
 use Rattle.commands.specs.PrintWords.{by_setting}
 
@@ -71,32 +71,9 @@ options_given value =
       unit = unit;
     })))))))))
 
--- the numbers are within the ranges of their options
-pub record AreWithin (options : MassifOptions) : Type 0 where
-  pub threshold : options.threshold ≤ 10000
-  pub inaccuracy : options.inaccuracy ≤ 10000
-  pub detailed_freq_least : 1 ≤ options.detailed_freq
-  pub detailed_freq_most : options.detailed_freq ≤ 1000000
-  pub max_least : 10 ≤ options.max_snapshots
-  pub max_most : options.max_snapshots ≤ 1000
-  pub depth_least : 1 ≤ options.depth
-  pub depth_most : options.depth ≤ 200
-  pub admin : options.admin ≤ 1024
-  pub alignment : is_power_of_two options.alignment ≡ true
-  pub alignment_most : options.alignment ≤ 4096
-  pub unit : options.unit ≢ Instructions
-
 -- the names that an option gives: none where it isn't given
 abbrev pub names_or : Option (List ℕ) → List (List ℕ)
 names_or list = names_in (unwrap_or list [])
-
--- what options and two lists of names settle
-abbrev pub settings_of : MassifOptions → List (List ℕ) → List (List ℕ) → MassifSettings
-settings_of options alloc_fns ignore_fns
-    = record {
-      options = options;
-      names = record { alloc_fns = alloc_fns; ignore_fns = ignore_fns };
-    }
 
 -- what a file and the values of the options ask for
 abbrev pub massif_given : Option (List ℕ) → (List ℕ → Option (List ℕ)) → Option MassifAsked

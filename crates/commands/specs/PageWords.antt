@@ -1,6 +1,5 @@
 -- The words of `ms_print`.
-use Rattle.std.specs.Prelude.{ℕ, List, [], ◌∷◌, codes, true, nat_eq, if◌then◌else◌, Option}
-use Rattle.std.specs.List.{join_by}
+use Rattle.std.specs.Prelude.{ℕ, List, [], ◌∷◌, codes, true, Option}
 use Rattle.std.specs.Option.{option_and_then, option_map}
 use Rattle.command_words.specs.TableApp.{Table}
 use Rattle.command_words.specs.WordsTaken.{only_file_in, value_in, words_taken}
@@ -46,11 +45,3 @@ page_asked words =
     page_of words (only_file_in rows) (percent_or (value_in rows (codes "threshold")))
     (columns_or (value_in rows (codes "x"))) (rows_or (value_in rows (codes "y"))))
     (words_taken page_table words)
-
--- a blank stands before each word but the first
-abbrev pub before_word : ℕ → List ℕ
-before_word place = if nat_eq place 0 then [] else codes " "
-
--- the words as the page shows them
-unfoldable pub shown_words : List (List ℕ) → List ℕ
-shown_words words = join_by (λ word. word) (codes " ") words

@@ -2,11 +2,12 @@
 use Rattle.std.specs.Prelude.{map, string_bytes}
 use Rattle.std.specs.Option.{option_copied, option_map}
 use Rattle.trace_gen.specs.Sizes.{sizes_of}
+use Rattle.trace_profiles.specs.SettingsIn.{settings_in}
 use Rattle.commands.specs.declared.convert_command.ConvertRequest.{ConvertRequest}
 use Rattle.commands.specs.declared.dhat_view_command.DhatViewRequest.{DhatViewRequest}
 use Rattle.commands.specs.declared.flame_command.FlameRequest.{FlameRequest}
 use Rattle.commands.specs.declared.gen_command.GenRequest.{GenRequest}
-use Rattle.commands.specs.declared.massif_request.MassifRequest.{MassifRequest}
+use Rattle.commands.specs.declared.massif_command.MassifRequest.{MassifRequest}
 use Rattle.commands.specs.declared.page_command.PageRequest.{PageRequest}
 use Rattle.commands.specs.declared.print_command.PrintRequest.{PrintRequest}
 use Rattle.commands.specs.declared.words.Request.{Request}
@@ -15,8 +16,7 @@ use Rattle.commands.specs.Asked.{Asked, Convert, Dhat, DhatView, Flame, Gen, Hel
 use Rattle.commands.specs.ConvertWords.{ConvertAsked}
 use Rattle.commands.specs.FlameWords.{FlameAsked}
 use Rattle.commands.specs.GenWords.{GenAsked}
-use Rattle.commands.specs.MassifWords.{MassifAsked, settings_of}
-use Rattle.commands.specs.NameList.{names_in}
+use Rattle.commands.specs.MassifWords.{MassifAsked}
 use Rattle.commands.specs.PageWords.{PageAsked}
 use Rattle.commands.specs.PrintWords.{PrintAsked}
 use Rattle.commands.specs.ViewWords.{ViewAsked}
@@ -33,11 +33,7 @@ print_asked_by print
 -- what a request of `massif` asks for
 abbrev pub massif_asked_by : MassifRequest → MassifAsked
 massif_asked_by massif
-    = record {
-      trace = massif.trace.now;
-      settings = settings_of massif.options (names_in massif.alloc_fns.now)
-          (names_in massif.ignore_fns.now);
-    }
+    = record { trace = massif.trace.now; settings = settings_in massif.settings }
 
 -- what a request of `dhat_view` asks for
 abbrev pub view_asked_by : DhatViewRequest → ViewAsked

@@ -2,15 +2,12 @@
 //! words say of the conversion is read in `convert_words`.
 ghost use Rattle.std.specs.Prelude.{◌^◌, ◌<◌, [], ◌∷◌};
 ghost use Rattle.command_frame.specs.RunsTo.{Runs};
-ghost use Rattle.commands.specs.ConvertReport.{convert_plan};
+ghost use Rattle.commands.specs.ProfilePlans.{convert_plan};
 ghost use Rattle.commands.specs.Requests.{convert_asked_by};
 
-use crate::convert_reports::{FoldedPoints, FoldedSnapshot, PointsOverTime};
-use crate::convert_words::Conversion;
-use crate::dhat_file::run_dhat_file;
-use crate::massif_file_taker::run_massif_file;
 use command_frame::{Desk, Halt};
 use hp_outside::{Sink, Store};
+use profile_reading::{Conversion, run_conversion};
 
 /// What `convert` is to do.
 #[derive(Clone, Copy, Debug)]
@@ -34,14 +31,6 @@ impl ConvertRequest<'_> {
             (convert_plan (convert_asked_by self.now))
             store.old store.new out.old out.new result }
     {
-        match self.conversion {
-            Conversion::FoldedDhat(key) => {
-                run_dhat_file(desk, self.file, FoldedPoints { key }, store)
-            }
-            Conversion::FoldedMassif(snapshot) => {
-                run_massif_file(desk, self.file, FoldedSnapshot { snapshot }, store, out)
-            }
-            Conversion::MassifOfDhat => run_dhat_file(desk, self.file, PointsOverTime, store),
-        }
+        run_conversion(desk, self.file, self.conversion, store, out)
     }
 }

@@ -8,6 +8,7 @@ use crate::key_words::key_or;
 use crate::number_words::number_if_given;
 use command_words::{TakenWords, WordTable};
 use dhat_json::FigureKey;
+use profile_reading::Conversion;
 
 /// The option that says what kind of file is read.
 const FROM: &str = "from";
@@ -40,17 +41,6 @@ pub enum FileKind {
 pub enum Target {
     Folded,
     Massif,
-}
-
-/// Which conversion is made, and by which of the options that have an effect on it.
-#[derive(Clone, Copy, Debug)]
-pub enum Conversion {
-    /// A DHAT profile as folded lines, by a figure of its points.
-    FoldedDhat(FigureKey),
-    /// A Massif file as folded lines: the snapshot with a number, or the last peak or detailed one.
-    FoldedMassif(Option<u32>),
-    /// A DHAT profile as a Massif file.
-    MassifOfDhat,
 }
 
 impl<'a> Asks<'a> for ConvertRequest<'a> {

@@ -1,13 +1,13 @@
 //! The command `dhat`: one trace as a DHAT profile.
 ghost use Rattle.std.specs.Prelude.{◌^◌, ◌<◌, [], ◌∷◌};
 ghost use Rattle.command_frame.specs.RunsTo.{Runs};
-ghost use Rattle.commands.specs.DhatReport.{dhat_plan};
+ghost use Rattle.trace_profiles.specs.DhatReport.{dhat_plan};
 
 use crate::asks::Asks;
-use crate::dhat_reader::DhatReader;
-use command_frame::{Desk, Halt, run_one_file};
+use command_frame::{Desk, Halt};
 use command_words::{TakenWords, WordTable};
 use hp_outside::{Sink, Store};
+use trace_profiles::run_dhat;
 
 /// One file, and no option.
 const WORDS: WordTable<'static> = WordTable {
@@ -65,7 +65,6 @@ impl DhatRequest<'_> {
             (dhat_plan self.now.trace.now)
             store.old store.new out.old out.new result }
     {
-        let mut reader = DhatReader::new(desk.alloc)?;
-        run_one_file(desk, self.trace, &mut reader, store, out)
+        run_dhat(desk, self.trace, store, out)
     }
 }

@@ -1,27 +1,28 @@
 //! The command `massif`: Massif's snapshots of a trace, as a Massif file. What the words say of them is read in
 //! `massif_words`.
-ghost use Rattle.std.specs.Prelude.{◌≡◌, ◌^◌, ◌<◌, IfOk, [], ◌∷◌};
-ghost use Rattle.std.specs.Str.{bytes_eq};
-ghost use Rattle.intern_tables.specs.WithoutRepeats.{without_repeats};
+ghost use Rattle.std.specs.Prelude.{◌≡◌, ◌^◌, ◌<◌, [], ◌∷◌};
 ghost use Rattle.command_frame.specs.RunsTo.{Runs};
 ghost use Rattle.command_words.specs.WordsTaken.{rows_in, value_in};
-ghost use Rattle.commands.specs.MassifReport.{massif_plan};
+ghost use Rattle.trace_profiles.specs.MassifReport.{massif_plan};
+ghost use Rattle.trace_profiles.specs.NameList.{names_in};
 ghost use Rattle.commands.specs.MassifWords.{names_or};
-ghost use Rattle.commands.specs.NameList.{names_in};
 ghost use Rattle.commands.specs.Requests.{massif_asked_by};
 
 use crate::asks::Asks;
-use crate::massif_reader::{MassifReader, Settled};
-use crate::massif_request::MassifRequest;
 use crate::massif_words::{ALLOC_FNS, IGNORE_FNS, WORDS, options_in};
-use crate::name_list::{is_named, names_of};
-use command_frame::{Desk, Halt, run_one_file};
+use command_frame::{Desk, Halt};
 use command_words::{TakenWords, WordTable};
-use cost_tree::FrameTest;
-use hp_num::NoMemory;
 use hp_outside::{Sink, Store};
-use intern_tables::Names;
-use std::alloc::Global;
+use trace_profiles::{SampleSettings, run_massif};
+
+/// What `massif` is to do.
+#[derive(Clone, Copy, Debug)]
+pub struct MassifRequest<'a> {
+    /// The name of the trace.
+    pub trace: &'a str,
+    /// How its snapshots are taken.
+    pub settings: SampleSettings<'a>,
+}
 
 impl<'a> Asks<'a> for MassifRequest<'a> {
     ghost use Rattle.command_words.specs.TableApp.{table_of};
@@ -48,12 +49,12 @@ impl<'a> Asks<'a> for MassifRequest<'a> {
         let options = options_in(taken)?;
         let alloc_fns = list_in(taken, ALLOC_FNS);
         let ignore_fns = list_in(taken, IGNORE_FNS);
-        Some(MassifRequest {
-            trace,
+        let settings = SampleSettings {
             options,
             alloc_fns,
             ignore_fns,
-        })
+        };
+        Some(MassifRequest { trace, settings })
     }
 
     ghost asked_is = { asked_by_table };
@@ -72,34 +73,8 @@ impl MassifRequest<'_> {
             (massif_plan (massif_asked_by self.now).settings self.now.trace.now)
             store.old store.new out.old out.new result }
     {
-        let (alloc_fns, ignore_fns) = self.names(desk.alloc)?;
-        let alloc_test = FrameTest::new(move |name: &[u8]| is_named(&alloc_fns, name));
-        let ignore_test = FrameTest::new(move |name: &[u8]| is_named(&ignore_fns, name));
-        let mut reader = MassifReader::new(
-            desk.alloc,
-            self.options,
-            alloc_test,
-            ignore_test,
-            *self,
-        )?;
-        run_one_file(desk, self.trace, &mut reader, store, out)
+        run_massif(desk, self.trace, self.settings, store, out)
     }
-
-    /// The names of both lists of functions, which the tests of names keep. `NoMemory` where memory is wanting.
-    fn names(&self, alloc: Global) -> Result<(Names, Names), NoMemory>
-        ensures alloc_fns { IfOk result
-            (λ names. names.0 ≡ without_repeats bytes_eq (names_in self.now.alloc_fns.now)) }
-        ensures ignore_fns { IfOk result
-            (λ names. names.1 ≡ without_repeats bytes_eq (names_in self.now.ignore_fns.now)) }
-    {
-        let alloc_fns = names_of(alloc, self.alloc_fns.as_bytes())?;
-        let ignore_fns = names_of(alloc, self.ignore_fns.as_bytes())?;
-        Ok((alloc_fns, ignore_fns))
-    }
-}
-
-impl Settled for MassifRequest<'_> {
-    ghost settings = { λ request. (massif_asked_by request).settings };
 }
 
 /// The list of names that an option gives: the empty one where it isn't given.

@@ -2,7 +2,8 @@
 ghost use Rattle.std.specs.Prelude.{◌≡◌, ◌≢◌, ◌≤◌, codes, option_map, true, IfSome};
 ghost use Rattle.std.specs.Int.{is_power_of_two};
 ghost use Rattle.command_words.specs.WordsTaken.{rows_in, value_in};
-ghost use Rattle.commands.specs.MassifWords.{AreWithin, alignment_or, options_given, unit_named, unit_or};
+ghost use Rattle.trace_profiles.specs.AreWithin.{AreWithin};
+ghost use Rattle.commands.specs.MassifWords.{alignment_or, options_given, unit_named, unit_or};
 
 use crate::number_words::{number_or, percent_or};
 use command_words::{TakenWords, WordTable};

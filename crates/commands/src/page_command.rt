@@ -1,17 +1,15 @@
 //! The command `ms_print`: the page of a Massif file.
 ghost use Rattle.std.specs.Prelude.{◌^◌, ◌<◌, [], ◌∷◌};
 ghost use Rattle.command_frame.specs.RunsTo.{Runs};
-ghost use Rattle.commands.specs.PageReport.{page_plan};
+ghost use Rattle.commands.specs.ProfilePlans.{page_plan};
 ghost use Rattle.commands.specs.Requests.{page_asked_by};
 
 use crate::asks::Asks;
-use crate::massif_file_taker::run_massif_file;
 use crate::number_words::{number_or, percent_or};
-use crate::page_report::PageReport;
-use crate::page_size::PageSize;
 use command_frame::{Desk, Halt};
 use command_words::{TakenWords, WordTable};
 use hp_outside::{Sink, Store};
+use profile_reading::{PageReport, PageSize, run_massif_file};
 
 /// The option that says which share is shown by itself.
 const THRESHOLD: &str = "threshold";

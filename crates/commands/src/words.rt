@@ -10,7 +10,7 @@ use crate::dhat_view_command::DhatViewRequest;
 use crate::flame_command::FlameRequest;
 use crate::gen_command::GenRequest;
 use crate::interpret_command::InterpretRequest;
-use crate::massif_request::MassifRequest;
+use crate::massif_command::MassifRequest;
 use crate::page_command::PageRequest;
 use crate::print_command::PrintRequest;
 use crate::summary_command::SummaryRequest;

@@ -1,0 +1,23 @@
+-- What is done with the file of a command over one profile.
+use Rattle.command_frame.specs.Plan.{Plan}
+use Rattle.profile_reading.specs.ConvertReport.{conversion_plan}
+use Rattle.profile_reading.specs.DhatFileReport.{dhat_file_plan}
+use Rattle.profile_reading.specs.MassifFileReport.{massif_file_plan}
+use Rattle.profile_reading.specs.PageReport.{page_verdict, shown_words}
+use Rattle.profile_reading.specs.ViewReport.{view_verdict}
+use Rattle.commands.specs.ConvertWords.{ConvertAsked}
+use Rattle.commands.specs.PageWords.{PageAsked}
+use Rattle.commands.specs.ViewWords.{ViewAsked}
+
+-- one Massif file is read, and its page written with the words that ask for it
+abbrev pub page_plan : PageAsked → Plan
+page_plan asked = massif_file_plan asked.file
+    (page_verdict asked.threshold asked.x asked.y (shown_words asked.words))
+
+-- one profile is read, and its view written
+abbrev pub view_plan : ViewAsked → Plan
+view_plan asked = dhat_file_plan asked.profile (view_verdict asked.key asked.threshold asked.depth)
+
+-- one file is read, and what it is converted to written
+abbrev pub convert_plan : ConvertAsked → Plan
+convert_plan asked = conversion_plan asked.file asked.conversion

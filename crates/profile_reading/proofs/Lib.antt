@@ -1,0 +1,3 @@
+mod MassifFileLemmas
+mod WordLemmas
+mod DocumentLemmas

@@ -1,0 +1,4 @@
+mod LifeLemmas
+mod NameLemmas
+mod MassifLemmas
+mod SampleLemmas

@@ -1,0 +1,25 @@
+use Rattle.std.proofs.Common.{◌++◌, ap, sym, subst, ◌∙◌}
+use Rattle.std.specs.Option.{option_to_list}
+use Rattle.ht_trace.specs.declared.step.Step.{Step}
+use Rattle.ht_trace.specs.StepOf.{event_of}
+use Rattle.massif_sample.specs.declared.fault.SampleFault.TheVariants as sample
+use Rattle.massif_sample.specs.StandsFor as sample_spec
+use Rattle.trace_profiles.specs.MassifReport.{sampler_fault}
+use Rattle.trace_profiles.proofs.SampleLemmas.{event_told, fault_by_options, known_fault}
+use Rattle.trace_profiles.proofs.massif_reader.follow.Goals as goal
+
+pub returns-in-Ok-clause-sampling : goal.returns-in-Ok-clause-sampling
+returns-in-Ok-clause-sampling g c = λ names taken stated stands figures.
+    subst (λ (s : Step). sample_spec.StandsFor c.event.new.self.judged.items c.event.new.self.samples names c.args.tables.now (taken ++ option_to_list (event_of s))) (sym c.in-Event.is)
+    (c.in-Ok.ensures.stands names taken stated stands figures)
+
+pub returns-in-Ok-clause-no_fault : goal.returns-in-Ok-clause-no_fault
+returns-in-Ok-clause-no_fault g c = λ settings taken same stands figures.
+    ap (λ (s : Step). sampler_fault settings c.args.tables.now taken (event_of s)) c.in-Event.is
+    ∙ fault_by_options _ settings c.args.tables.now taken c.in-Event.event _ same (c.in-Ok.ensures.fault settings.names taken stands figures)
+
+pub returns-in-Err-Event-clause-fault : goal.returns-in-Err-Event-clause-fault
+returns-in-Err-Event-clause-fault g c = λ settings taken same stands figures.
+    ap (λ (s : Step). event_told (sampler_fault settings c.args.tables.now taken (event_of s))) c.in-Event.is
+    ∙ ap event_told (fault_by_options _ settings c.args.tables.now taken c.in-Event.event _ same
+    (known_fault _ (sample.Event c.in-Err-Event.fault) _ c.in-Err-Event.field-0-is (c.in-Err-Event.ensures.fault settings.names taken stands figures)))
