@@ -73,7 +73,7 @@ impl MassifRequest<'_> {
             (massif_plan (massif_asked_by self.now).settings self.now.trace.now)
             store.old store.new out.old out.new result }
     {
-        run_massif(desk, self.trace, self.settings, store, out)
+        run_massif(desk, self.trace, &self.settings, store, out)
     }
 }
 

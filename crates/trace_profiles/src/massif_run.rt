@@ -21,13 +21,13 @@ use std::alloc::Global;
 pub fn run_massif<S: Store, O: Sink>(
     desk: &Desk,
     name: &str,
-    settings: SampleSettings,
+    settings: &SampleSettings,
     store: &mut S,
     out: &mut O,
 ) -> Result<Vec<u8>, Halt>
     requires { S.opens store.old < 2 ^ 63 }
     ensures { Runs S.Store O.Sink desk.now (name.now ∷ [])
-        (massif_plan (settings_in settings) name.now)
+        (massif_plan (settings_in settings.now) name.now)
         store.old store.new out.old out.new result }
 {
     let (alloc_fns, ignore_fns) = settings.names(desk.alloc)?;
@@ -38,7 +38,7 @@ pub fn run_massif<S: Store, O: Sink>(
         settings.options,
         alloc_test,
         ignore_test,
-        settings,
+        *settings,
     )?;
     run_one_file(desk, name, &mut reader, store, out)
 }

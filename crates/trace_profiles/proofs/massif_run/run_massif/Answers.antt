@@ -9,18 +9,18 @@ use Rattle.trace_profiles.proofs.massif_run.run_massif.Goals as goal
 
 pub new-alloc_test-requires-clause-stated : goal.new-alloc_test-requires-clause-stated
 new-alloc_test-requires-clause-stated g c = (
-  names_in c.args.settings.alloc_fns.now,
+  names_in c.args.settings.now.alloc_fns.now,
   record { answer = λ name answer says. (let e = says.shows in let s = says.says in let is = c.in_ok-alloc_fns.ensures.alloc_fns in search rules) },
 )
 
 pub new-ignore_test-requires-clause-stated : goal.new-ignore_test-requires-clause-stated
 new-ignore_test-requires-clause-stated g c = (
-  names_in c.args.settings.ignore_fns.now,
+  names_in c.args.settings.now.ignore_fns.now,
   record { answer = λ name answer says. (let e = says.shows in let s = says.says in let is = c.in_ok-alloc_fns.ensures.ignore_fns in search rules) },
 )
 
 pub new-requires-clause-options : goal.new-requires-clause-options
-new-requires-clause-options g c = in-range c.args.settings.options c.args.settings.within
+new-requires-clause-options g c = in-range c.args.settings.now.options c.args.settings.now.within
 
 pub returns : goal.returns
 returns g c = subst (λ settings. RunsTo c.args.desk.now (c.args.name.now ∷ []) (massif_plan (settings_in settings) c.args.name.now)
