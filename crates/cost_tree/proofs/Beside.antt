@@ -1,12 +1,14 @@
 -- Lemmas on what stands of each node side by side.
-use Rattle.std.proofs.Common.{◌≡◌, ℕ, zero, suc, ◌+◌, ◌-◌, ◌<◌, List, [], ◌∷◌, ◌++◌, length, map, take, set, get_or, sym, ap, ◌∙◌, append_assoc, arith}
-use Rattle.std.specs.Prelude.{slice_index}
+use Rattle.std.proofs.Common.{◌≡◌, ℕ, zero, suc, ◌+◌, ◌-◌, ◌<◌, List, [], ◌∷◌, ◌++◌, length, map, take, drop, set, get_or, Some, refl, sym, ap, ◌∙◌, append_assoc, arith}
+use Rattle.std.specs.Prelude.{slice_get, slice_index}
+use Rattle.std.specs.List.{zip}
 use Rattle.std.proofs.lemmas.List.{get_or-map, map-set, map_push, take_more}
 use Rattle.std.proofs.Math.Seq.{map-set_same}
 use Rattle.cost_tree.specs.declared.edge.Edge.{Edge}
 use Rattle.cost_tree.specs.declared.links.Link.{Link}
 use Rattle.cost_tree.specs.declared.node.CostNode.{CostNode}
-use Rattle.cost_tree.specs.NodeLinks.{AreBeside, costs_in, firsts_in, nexts_in, texts_in}
+use Rattle.cost_tree.specs.Growth.{AreBranches}
+use Rattle.cost_tree.specs.NodeLinks.{AreBeside, costs_in, edge_in, edges_in, firsts_in, nexts_in, texts_in}
 
 -- what stands for the front of a list, with what stands for its next element
 pub one-more : {X Y : Type 0} (f : X → ℕ) (g : Y → ℕ) (front : List ℕ) (xs : List X) (ys new : List Y) (i : ℕ) (x : X) (y : Y)
@@ -57,3 +59,26 @@ text-beside edges nodes links (suc place) edge beside above within =
     ap (λ (ks : List ℕ). slice_index ks (suc place)) beside.texts
     ∙ get_or-map (λ (e : Edge). e.text) edges place edge 0 (omega arith)
     ∙ ap (λ (k : ℕ). (get_or edges k edge).text) {x = place} {y = suc place - 1} (omega arith)
+
+-- nodes and links that say the parents and the texts of edges give these
+zipped : (edges : List Edge) (nodes : List CostNode) (links : List Link) → length nodes ≡ length edges
+    → ((place : ℕ) (edge : Edge) (node : CostNode) → slice_get edges place ≡ Some edge → slice_get nodes place ≡ Some node → node.parent ≡ edge.parent)
+    → texts_in links ≡ map (λ edge. edge.text) edges → map (λ both. edge_in both.0 both.1) (zip nodes links) ≡ edges
+zipped [] [] links count parents texts = refl
+zipped [] (node ∷ nodes) links count parents texts = absurd (omega arith)
+zipped (edge ∷ edges) [] links count parents texts = absurd (omega arith)
+zipped (edge ∷ edges) (node ∷ nodes) [] count parents texts = let none = ap (λ (ks : List ℕ). length ks) texts in absurd (omega arith)
+zipped (edge ∷ edges) (node ∷ nodes) (link ∷ links) count parents texts =
+    ap (λ (k : ℕ). record { parent = k; text = link.text } ∷ map (λ both. edge_in both.0 both.1) (zip nodes links)) (parents 0 edge node refl refl)
+    ∙ ap (λ (k : ℕ). record { parent = edge.parent; text = k } ∷ map (λ both. edge_in both.0 both.1) (zip nodes links)) (ap (λ (ks : List ℕ). get_or ks 0 0) texts)
+    ∙ ap (λ (es : List Edge). edge ∷ es) (zipped edges nodes links (omega arith) (λ place. parents (suc place)) (ap (λ (ks : List ℕ). drop 1 ks) texts))
+
+pub edges-beside : (names : List (List ℕ)) (edges : List Edge) (nodes : List CostNode) (fronts : List (List (List ℕ))) (links : List Link) → AreBranches names edges nodes fronts → AreBeside edges nodes links → edges_in nodes links ≡ edges
+unfolding edges_in
+edges-beside names edges [] fronts links are beside = let count = are.nodes_count in absurd (omega arith)
+edges-beside names edges (node ∷ nodes) fronts [] are beside = let none = ap (λ (ks : List ℕ). length ks) beside.texts in absurd (omega arith)
+edges-beside names edges (node ∷ nodes) fronts (link ∷ links) are beside =
+    let count = are.nodes_count in
+    zipped edges nodes links (omega arith)
+    (λ place edge child at child_at. are.parent place edge child at (ap (λ (k : ℕ). slice_get (node ∷ nodes) k) {x = place + 1} {y = suc place} (omega arith) ∙ child_at))
+    (ap (λ (ks : List ℕ). drop 1 ks) beside.texts)

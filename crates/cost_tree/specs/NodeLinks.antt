@@ -1,5 +1,6 @@
 -- What stands of each node side by side, for private clauses.
-use Rattle.std.specs.Prelude.{◌≡◌, ℕ, List, ◌∷◌, map}
+use Rattle.std.specs.Prelude.{◌≡◌, ℕ, List, ◌∷◌, drop, map}
+use Rattle.std.specs.List.{zip}
 use Rattle.cost_tree.specs.declared.edge.Edge.{Edge}
 use Rattle.cost_tree.specs.declared.links.Link.{Link}
 use Rattle.cost_tree.specs.declared.node.CostNode.{CostNode}
@@ -18,6 +19,13 @@ costs_in links = map (λ link. link.cost) links
 
 abbrev pub texts_in : List Link → List ℕ
 texts_in links = map (λ link. link.text) links
+
+-- how a node goes on from its parent, and how all do but node 0, which has none
+abbrev pub edge_in : CostNode → Link → Edge
+edge_in node link = record { parent = node.parent; text = link.text }
+
+unfoldable pub edges_in : List CostNode → List Link → List Edge
+edges_in nodes links = map (λ both. edge_in both.0 both.1) (zip (drop 1 nodes) (drop 1 links))
 
 -- they are those of the nodes and of their edges; node 0 has no edge
 pub record AreBeside (edges : List Edge) (nodes : List CostNode) (links : List Link) : Type 0 where

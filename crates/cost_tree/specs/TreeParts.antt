@@ -6,7 +6,7 @@ use Rattle.cost_tree.specs.declared.node.CostNode.{CostNode}
 use Rattle.cost_tree.specs.Costed.{Costed}
 use Rattle.cost_tree.specs.Growth.{AreBranches}
 use Rattle.cost_tree.specs.IsTreeOf.{IsTreeOf}
-use Rattle.cost_tree.specs.NodeLinks.{AreNodeLinks}
+use Rattle.cost_tree.specs.NodeLinks.{AreNodeLinks, edges_in}
 use Rattle.cost_tree.specs.Texts.{fronts_of}
 
 -- the nodes are those of the edges, and the tree is that of the stacks
@@ -18,5 +18,7 @@ pub record IsTree (names : List (List ℕ)) (edges : List Edge) (nodes : List Co
 -- and its nodes have their links
 pub record IsLinkedTree (names : List (List ℕ)) (tree : Linked) (stacks : List Costed)
     (depth : ℕ) : Type 0 where
-  pub nodes : IsTree names tree.edges.items tree.nodes.items stacks depth
-  pub links : AreNodeLinks tree.edges.items tree.nodes.items tree.links.links.items
+  pub nodes : IsTree names (edges_in tree.nodes.items tree.links.links.items) tree.nodes.items
+      stacks depth
+  pub links : AreNodeLinks (edges_in tree.nodes.items tree.links.links.items) tree.nodes.items
+      tree.links.links.items

@@ -5,16 +5,14 @@ ghost use Rattle.cost_tree.specs.Costed.{Costed};
 ghost use Rattle.cost_tree.specs.TreeParts.{IsLinkedTree, IsTree};
 
 use crate::branches::Branches;
-use crate::edge::Edge;
 use crate::links::Links;
 use crate::node::CostNode;
 use hp_num::NoMemory;
 use std::alloc::Global;
 
-/// A tree but for the names of its texts. Node 0 has no edge, and node n has edge n - 1.
+/// A tree but for the names of its texts.
 #[derive(Debug, Drop)]
 pub(crate) struct Linked {
-    pub(crate) edges: Vec<Edge>,
     pub(crate) nodes: Vec<CostNode>,
     pub(crate) links: Links,
 }
@@ -43,10 +41,6 @@ impl Linked {
         drop(numbered);
         drop(path);
         let links = Links::of(alloc, &edges, &nodes)?;
-        Ok(Linked {
-            edges,
-            nodes,
-            links,
-        })
+        Ok(Linked { nodes, links })
     }
 }

@@ -17,7 +17,6 @@ use crate::child_nodes::ChildNodes;
 use crate::costing::Costing;
 use crate::cut_fronts::CutFronts;
 use crate::direction::Direction;
-use crate::edge::Edge;
 use crate::fronts::Fronts;
 use crate::held_names::HeldNames;
 use crate::linked::Linked;
@@ -37,7 +36,6 @@ use std::marker::Model;
 #[derive(Debug, Drop)]
 pub struct CostTree<'a> {
     names: HeldNames<'a>,
-    edges: Vec<Edge>,
     nodes: Vec<CostNode>,
     links: Links,
 }
@@ -160,14 +158,9 @@ impl<'a> CostTree<'a> {
         let branches = Branches::of(alloc, &edges, &ends, costs, depth as usize)?;
         drop(edges);
         drop(ends);
-        let Linked {
-            edges,
-            nodes,
-            links,
-        } = Linked::of(alloc, branches)?;
+        let Linked { nodes, links } = Linked::of(alloc, branches)?;
         Ok(CostTree {
             names: HeldNames::Own { names },
-            edges,
             nodes,
             links,
         })
@@ -207,14 +200,9 @@ impl<'a> CostTree<'a> {
         let _lists = shape.len();
         let edges = shape.edges.list();
         let branches = Branches::of(alloc, edges, &shape.ends, costs, depth as usize)?;
-        let Linked {
-            edges,
-            nodes,
-            links,
-        } = Linked::of(alloc, branches)?;
+        let Linked { nodes, links } = Linked::of(alloc, branches)?;
         Ok(CostTree {
             names: HeldNames::Lent { names },
-            edges,
             nodes,
             links,
         })

@@ -3,6 +3,7 @@ use Rattle.std.proofs.lemmas.List.{length-map}
 use Rattle.cost_tree.specs.declared.edge.Edge.{Edge}
 use Rattle.cost_tree.specs.Costed.{costed}
 use Rattle.cost_tree.specs.IsTreeOf.{IsTreeOf}
+use Rattle.cost_tree.specs.NodeLinks.{edges_in}
 use Rattle.cost_tree.specs.Shapes.{IsShape, list_at, lists_in}
 use Rattle.cost_tree.specs.Texts.{AreTexts, fronts_of, lists_of, texts_of}
 use Rattle.cost_tree.specs.TreeState.{TreeState}
@@ -31,7 +32,7 @@ invariant_of-result c =
     ∙ ap (λ (ends : List ℕ). lists_in c.shape.inside.edges.keys ends) c.deref-2.ensures.value
     ∙ c.shape.view_is in
     let texts = subst (λ (ls : List (List ℕ)). AreTexts names ls) (sym lists) c.names.invariant in
-    let is = c.in_ok-edges.ensures.tree names _ c.args.depth (c.in_ok-branches.ensures.tree names c.len-count.ensures.distinct texts) in
+    let is = c.in_ok-nodes.ensures.tree names _ c.args.depth (c.in_ok-branches.ensures.tree names c.len-count.ensures.distinct texts) in
     record { branches = is.nodes.branches; links = is.links }
 
 pub returns : goal.returns
@@ -42,8 +43,8 @@ returns c =
     ∙ ap (λ (ends : List ℕ). lists_in c.shape.inside.edges.keys ends) c.deref-2.ensures.value
     ∙ c.shape.view_is in
     let texts = subst (λ (ls : List (List ℕ)). AreTexts names ls) (sym lists) c.names.invariant in
-    let is = c.in_ok-edges.ensures.tree names _ c.args.depth (c.in_ok-branches.ensures.tree names c.len-count.ensures.distinct texts) in
-    let tree : TreeState = record { fronts = fronts_of names c.in_ok-edges.field-0.edges.items; nodes = c.in_ok-edges.field-0.nodes.items } in
+    let is = c.in_ok-nodes.ensures.tree names _ c.args.depth (c.in_ok-branches.ensures.tree names c.len-count.ensures.distinct texts) in
+    let tree : TreeState = record { fronts = fronts_of names (edges_in c.in_ok-nodes.field-0.nodes.items c.in_ok-nodes.field-0.links.links.items); nodes = c.in_ok-nodes.field-0.nodes.items } in
     let all = ap (λ (ls : List (List ℕ)). lists_of names ls) lists ∙ c.names.view_is ∙ c.in_ok-names.ensures.same in
     record {
       tree = subst (λ (ls : List (List (List ℕ))). IsTreeOf tree (costed ls c.args.costs.now) c.args.depth) all is.nodes.tree_of;

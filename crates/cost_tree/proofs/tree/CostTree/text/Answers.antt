@@ -5,6 +5,7 @@ use Rattle.cost_tree.specs.declared.edge.Edge.{Edge}
 use Rattle.cost_tree.specs.HeldNames.{names_in}
 use Rattle.cost_tree.specs.Texts.{IsText, fronts_of, text_of}
 use Rattle.cost_tree.specs.TreeState.{TreeState}
+use Rattle.cost_tree.specs.View.{edges_of}
 use Rattle.cost_tree.proofs.Beside.{text-beside}
 use Rattle.cost_tree.proofs.Trees.{edge-text, last-text, text-below, text-found}
 use Rattle.cost_tree.proofs.tree.CostTree.text.Goals as goal
@@ -17,7 +18,7 @@ pub returns-clause-last : goal.returns-clause-last
 returns-clause-last c = λ above.
     let tree = c.self.inside in
     let names : List (List ℕ) = names_in tree.names in
-    let edges = tree.edges.items in
+    let edges : List Edge = edges_of tree in
     let place : ℕ = c.args.n - 1 in
     let edge : Edge = get_or edges place no_edge in
     let count = ap (λ (t : TreeState). length t.nodes) c.self.view_is in
@@ -38,7 +39,7 @@ pub returns-clause-below : goal.returns-clause-below
 returns-clause-below c = λ node front above node_at parent_at.
     let tree = c.self.inside in
     let names : List (List ℕ) = names_in tree.names in
-    let edges = tree.edges.items in
+    let edges : List Edge = edges_of tree in
     let place : ℕ = c.args.n - 1 in
     let edge : Edge = get_or edges place no_edge in
     let count = ap (λ (t : TreeState). length t.nodes) c.self.view_is in
