@@ -1,10 +1,11 @@
 -- What a tree needs of the stacks' lists of texts.
-use Rattle.std.specs.Prelude.{◌≡◌, ℕ, ◌==◌, ◌+◌, if◌then◌else◌, List, [], ◌∷◌, ◌++◌, length, map, take, slice_index, ◌≢◌, ◌<◌, slice_index_or}
+use Rattle.std.specs.Prelude.{◌≡◌, ℕ, ◌==◌, ◌+◌, if◌then◌else◌, List, [], ◌∷◌, ◌++◌, length, map, take, slice_index, ◌≢◌, ◌<◌}
 use Rattle.std.specs.List.{range_with_len}
 use Rattle.cost_tree.specs.declared.direction.Direction.{Direction}
 use Rattle.cost_tree.specs.Costed.{costed}
 use Rattle.cost_tree.specs.IsTreeOf.{IsTreeOf}
 use Rattle.cost_tree.specs.StackTexts.{lists_towards, stack_texts, towards}
+use Rattle.cost_tree.specs.Told.{caller_list}
 use Rattle.cost_tree.specs.TreeState.{TreeState}
 use Rattle.ht_trace.specs.declared.frame.FrameAt.{FrameAt}
 use Rattle.ht_trace.specs.declared.frame.Style.{Style}
@@ -37,7 +38,7 @@ pub record Begins (tables : TableState) (stack : ℕ) (own : List FrameAt)
   pub lower : caller ≢ 0 → caller < stack
   pub frames : stack_frames tables.instructions tables.nodes stack
       ≡ own ++ outer_frames tables.instructions tables.nodes caller
-  pub begun : new ≡ old ++ (if caller == 0 then [] else slice_index_or old caller []) ∷ []
+  pub begun : new ≡ old ++ caller_list old caller ∷ []
 
 -- a tree of these lists is that of the stacks
 pub record StandFor (direction : Direction) (style : Style) (tables : TableState)

@@ -1,9 +1,10 @@
 //! Lists of numbers that share their fronts: a front is kept once, as a node, and a list as the node where it ends.
 //! What the numbers stand for, and what the lists cost, are no part of it.
-ghost use Rattle.std.specs.Prelude.{◌≡◌, ◌≢◌, ◌==◌, ℕ, ◌+◌, ◌-◌, ◌^◌, ◌<◌, ◌≤◌, List, [], ◌∷◌, ◌++◌, if◌then◌else◌, length, map, sum, IfOk, OnOk, OnErr, slice_index_or};
+ghost use Rattle.std.specs.Prelude.{◌≡◌, ◌≢◌, ℕ, ◌+◌, ◌-◌, ◌^◌, ◌<◌, ◌≤◌, List, [], ◌∷◌, ◌++◌, length, map, sum, IfOk, OnOk, OnErr};
 ghost use Rattle.cost_tree.specs.declared.edge.Edge.{Edge};
 ghost use Rattle.cost_tree.specs.CutShapes.{equal_cost};
 ghost use Rattle.cost_tree.specs.Shapes.{IsChild};
+ghost use Rattle.cost_tree.specs.Told.{caller_list};
 
 use crate::edge::Edge;
 use crate::edges::Edges;
@@ -66,35 +67,19 @@ impl Shape {
         Ok(number)
     }
 
-    /// Appends a list that is equal to an earlier one, which must be held, and answers its number. There must be fewer
-    /// than 2^32 - 1 lists. On `NoMemory` the lists are as before.
-    fn repeat(&mut self, earlier: u32) -> Result<u32, NoMemory>
-        requires held { earlier < length self.old }
-        requires few { length self.old < 2 ^ 32 - 1 }
-        ensures appended { OnOk result
-            (self.new ≡ self.old ++ slice_index_or self.old earlier [] ∷ []) }
-        ensures number { IfOk result (λ n. n ≡ length self.old) }
-        ensures unchanged { OnErr result (self.new ≡ self.old) }
-    {
-        let number = self.ends.len() as u32;
-        let end = self.ends[earlier as usize];
-        self.ends.push(end)?;
-        Ok(number)
-    }
-
     /// Appends the list of the caller, which must be held; for 0 an empty one. There must be fewer than 2^32 - 1 lists.
     pub(crate) fn begin_with(&mut self, caller: u32) -> Result<(), NoMemory>
         requires held { caller ≢ 0 → caller < length self.old }
         requires few { length self.old < 2 ^ 32 - 1 }
         ensures appended { OnOk result
-            (self.new ≡ self.old
-            ++ (if caller == 0 then [] else slice_index_or self.old caller []) ∷ []) }
+            (self.new ≡ self.old ++ caller_list self.old caller ∷ []) }
     {
         if caller == 0 {
             self.begin()?;
             return Ok(());
         }
-        self.repeat(caller)?;
+        let end = self.ends[caller as usize];
+        self.ends.push(end)?;
         Ok(())
     }
 

@@ -1,7 +1,7 @@
 //! Lists of texts as they are told: with which earlier list each begins, and which texts follow. The fronts that they share are
 //! looked for when all are told, so that what the texts were made of can be let go before.
-ghost use Rattle.std.specs.Prelude.{◌≡◌, ◌≢◌, ◌==◌, ℕ, ◌-◌, ◌^◌, ◌<◌, List, [], ◌∷◌, ◌++◌, if◌then◌else◌, length, IfOk, OnOk, slice_index_or};
-ghost use Rattle.cost_tree.specs.Told.{MayFollow, after};
+ghost use Rattle.std.specs.Prelude.{◌≡◌, ◌≢◌, ℕ, ◌-◌, ◌^◌, ◌<◌, List, [], ◌∷◌, ◌++◌, length, IfOk, OnOk};
+ghost use Rattle.cost_tree.specs.Told.{MayFollow, after, caller_list};
 
 use crate::fronts::Fronts;
 use crate::list_step::ListStep;
@@ -49,8 +49,7 @@ impl ToldLists {
         requires held { caller ≢ 0 → caller < length self.old }
         requires few { length self.old < 2 ^ 32 - 1 }
         ensures appended { OnOk result
-            (self.new ≡ self.old
-            ++ (if caller == 0 then [] else slice_index_or self.old caller []) ∷ []) }
+            (self.new ≡ self.old ++ caller_list self.old caller ∷ []) }
     {
         self.steps.push(ListStep::Begin { caller })?;
         Ok(())
