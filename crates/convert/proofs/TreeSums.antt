@@ -3,13 +3,13 @@ use Rattle.std.proofs.Common.{◌≡◌, ◌≢◌, ◌⊎◌, ℕ, zero, suc, �
 use Rattle.std.specs.Prelude.{All, AllPairs, Contains, slice_get}
 use Rattle.std.specs.List.{flat_map}
 use Rattle.std.proofs.lemmas.List.{get_or-map, length-map, length-take, length_push, map-append, take-append-le, take-take, take_all}
-use Rattle.std.proofs.lemmas.List.Elements.{All-append, All-cons, All-head, All-nil, All-tail, All-weaker, Contains-append_cases, Contains-append_left, Contains-append_right}
+use Rattle.std.proofs.lemmas.List.Elements.{All-cons, All-head, All-nil, All-tail, All-weaker, Contains-append_cases, Contains-append_left, Contains-append_right}
 use Rattle.std.proofs.lemmas.Option.{slice_get-get_or, slice_get_within, get_or_from_slice_get}
 use Rattle.cost_tree.specs.declared.scale.Scale.{Scale}
 use Rattle.cost_tree.specs.Costed.{Costed}
 use Rattle.cost_tree.specs.CostLines.{FrontLine, Shown, a_front, gathered, cost_lines, front_line, front_lines, gathered_lines, kept_fronts, last_of}
 use Rattle.cost_tree.specs.Inclusive.{inclusive}
-use Rattle.cost_tree.proofs.Laws.{inclusive-longer, kept-all, kept-apart, kept-held, kept-next, kept-some, next-texts, small-none}
+use Rattle.cost_tree.proofs.Laws.{All-flat, inclusive-longer, kept-all, kept-apart, kept-held, kept-next, kept-some, next-texts, small-none}
 use Rattle.dhat_json.specs.Shown.{shown}
 use Rattle.massif_file.specs.TreeLine.{TreeLine}
 use Rattle.massif_tree.specs.declared.options.TreeOptions.{TreeOptions}
@@ -263,10 +263,6 @@ lines-walk zero scale stacks all front = ap (map front_in) (lines-none scale sta
 lines-walk (suc more) scale stacks all front =
     ap (map front_in) (lines-whole more scale stacks front all)
     ∙ ap (λ (rest : List (List (List ℕ))). front ∷ rest) (map-flat front_in (front_lines more scale stacks) (walk more scale stacks) (kept_fronts scale stacks front) (lines-walk more scale stacks all))
-
-All-flat : {X A : Type 0} (P : A → Type 0) (f : X → List A) (xs : List X) → All (λ (x : X). All P (f x)) xs → All P (flat_map f xs)
-All-flat P f [] all = All-nil P
-All-flat P f (x ∷ xs) all = All-append P (f x) (flat_map f xs) (All-head (λ y. All P (f y)) x xs all) (All-flat P f xs (All-tail (λ y. All P (f y)) x xs all))
 
 abbrev HasSum : List Costed → FrontLine → Type 0
 HasSum stacks line = line.cost ≡ inclusive (front_in line) stacks

@@ -9,7 +9,7 @@ use Rattle.cost_tree.specs.Costed.{Costed}
 use Rattle.cost_tree.specs.CostLines.{FrontLine, cost_lines, cost_of, front_line, front_lines, gathered_lines, kept_fronts, small_fronts}
 use Rattle.cost_tree.specs.Inclusive.{inclusive}
 use Rattle.cost_tree.specs.NextFronts.{longer_front, next_fronts, opens, texts_at}
-use Rattle.cost_tree.proofs.Laws.{kept-all, lines-few, small-within}
+use Rattle.cost_tree.proofs.Laws.{All-flat, kept-all, lines-few, small-within}
 use Rattle.ht_trace.specs.declared.frame.FrameAt.{FrameAt}
 use Rattle.ht_trace.specs.declared.frame.Style.TheVariants.{Addressed}
 use Rattle.ht_trace.specs.FrameText.{frame_text}
@@ -83,11 +83,6 @@ gathered-writable threshold stacks level (next ∷ more) within =
     All-cons (MayStand threshold) _ []
     (record { children = omega arith; bytes = within; label = gathered-text threshold (length (next ∷ more)) })
     (All-nil (MayStand threshold))
-
--- what holds of each element's list holds of all of them in a row
-All-flat : {X A : Type 0} (P : A → Type 0) (f : X → List A) (xs : List X) → All (λ x. All P (f x)) xs → All P (flat_map f xs)
-All-flat P f [] all = All-nil P
-All-flat P f (x ∷ xs) all = All-append P (f x) (flat_map f xs) (All-head (λ y. All P (f y)) x xs all) (All-flat P f xs (All-tail (λ y. All P (f y)) x xs all))
 
 -- the lines of a front of such texts
 front-writable : (more threshold : ℕ) (scale : Scale) (stacks : List Costed) (front : List (List ℕ)) → MayWrite stacks → All IsText front → All (MayStand threshold) (front_lines more scale stacks front)
