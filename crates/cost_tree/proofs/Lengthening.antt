@@ -2,7 +2,7 @@
 use Rattle.std.proofs.Common.{◌≡◌, ℕ, zero, suc, ◌+◌, ◌*◌, ◌<◌, ◌≤◌, ◌⊎◌, inl, inr, ◌&&◌, not, Bool, true, false, eqb, cond, List, [], ◌∷◌, ◌++◌, length, map, min, replicate, set, take, get_or, Some, refl, sym, ap, ◌∙◌, subst, sum, arith}
 use Rattle.std.specs.Prelude.{All, nat_lt, slice_get, slice_index}
 use Rattle.std.specs.Str.{bytes_eq}
-use Rattle.std.proofs.lemmas.Bool.{both_ways, cases_Bool, cases_eq, cases_lt, eq-eqb, eqb-true, lt-ltb, ltb-true, ne_eqb}
+use Rattle.std.proofs.lemmas.Bool.{both_ways, cases_Bool, cases_eq, cases_lt, cond_both, eq-eqb, eqb-true, lt-ltb, ltb-true, ne_eqb}
 use Rattle.std.proofs.lemmas.Bool.Decides.{same_from_decides}
 use Rattle.std.proofs.lemmas.Grind.{get_or-set_at}
 use Rattle.std.proofs.lemmas.List.{get_or-replicate, get_or-set_other, length-map, length-take, map-append, take-map, take-take, take_more}
@@ -15,7 +15,7 @@ use Rattle.cost_tree.specs.declared.edge.Edge.{Edge}
 use Rattle.cost_tree.specs.declared.scale.Scale.{Scale}
 use Rattle.cost_tree.specs.Costed.{Costed, costed}
 use Rattle.cost_tree.specs.CostLines.{cost_of, is_small}
-use Rattle.cost_tree.specs.CutShapes.{AreCutAlike, ended_cost, equal_cost, left, raised, raised_counts}
+use Rattle.cost_tree.specs.CutShapes.{AreCutAlike, ended_cost, equal_cost, left, next_count, raised, raised_counts}
 use Rattle.cost_tree.specs.Cuts.{AreEnough, IsEnough, cut_lists}
 use Rattle.cost_tree.specs.Inclusive.{has_front, inclusive}
 use Rattle.cost_tree.specs.Shapes.{AreSteps, list_at, lists_in, numbers_of}
@@ -118,13 +118,18 @@ raised-get scale (c ∷ counts) (l ∷ lengths) (x ∷ costs) (suc k) new at =
     let rest = raised-get scale counts lengths costs k new at in
     record { count = rest.count; most = rest.most; cost = rest.cost; count_at = rest.count_at; most_at = rest.most_at; cost_at = rest.cost_at; is = rest.is }
 
+-- more come next
+next-more : (count : ℕ) → 0 < count → count < next_count count
+unfolding next_count
+next-more count above = cond_both (eqb count 1) 2 (4 * count) (λ (n : ℕ). count < n) (λ one. let is = eqb-true count 1 one in omega arith) (λ more. omega arith)
+
 -- a count stays, or the list goes on and costs enough
 record Stays (scale : Scale) (count most cost : ℕ) : Type 0 where
   is : raised scale count most cost ≡ count
   small : count < most → is_small scale cost ≡ true
 
 record Rises (scale : Scale) (count most cost : ℕ) : Type 0 where
-  is : raised scale count most cost ≡ min (4 * count) most
+  is : raised scale count most cost ≡ min (next_count count) most
   more : count < most
   large : is_small scale cost ≡ false
 
@@ -132,13 +137,13 @@ raised-cases : (scale : Scale) (count most cost : ℕ) → Stays scale count mos
 raised-cases scale count most cost =
     elim (cases_lt count most) [
       | inl more ↦ elim (cases_Bool (is_small scale cost)) [
-        | inl small ↦ inl (record { is = chosen (nat_lt count most) (is_small scale cost) (lt-ltb count most more) ∙ ap (λ (b : Bool). cond {A = ℕ} (not b) (min (4 * count) most) count) small; small = λ less. small })
-        | inr large ↦ inr (record { is = chosen (nat_lt count most) (is_small scale cost) (lt-ltb count most more) ∙ ap (λ (b : Bool). cond {A = ℕ} (not b) (min (4 * count) most) count) large; more = more; large = large })
+        | inl small ↦ inl (record { is = chosen (nat_lt count most) (is_small scale cost) (lt-ltb count most more) ∙ ap (λ (b : Bool). cond {A = ℕ} (not b) (min (next_count count) most) count) small; small = λ less. small })
+        | inr large ↦ inr (record { is = chosen (nat_lt count most) (is_small scale cost) (lt-ltb count most more) ∙ ap (λ (b : Bool). cond {A = ℕ} (not b) (min (next_count count) most) count) large; more = more; large = large })
       ]
-      | inr all ↦ inl (record { is = ap (λ (b : Bool). cond {A = ℕ} (b && not (is_small scale cost)) (min (4 * count) most) count) (no_less all); small = λ less. absurd (omega arith) })
+      | inr all ↦ inl (record { is = ap (λ (b : Bool). cond {A = ℕ} (b && not (is_small scale cost)) (min (next_count count) most) count) (no_less all); small = λ less. absurd (omega arith) })
     ]
   where
-    chosen : (b small : Bool) → b ≡ true → cond {A = ℕ} (b && not small) (min (4 * count) most) count ≡ cond {A = ℕ} (not small) (min (4 * count) most) count
+    chosen : (b small : Bool) → b ≡ true → cond {A = ℕ} (b && not small) (min (next_count count) most) count ≡ cond {A = ℕ} (not small) (min (next_count count) most) count
     chosen true small is = refl
     chosen false small is = absurd (both_ways false refl is)
 
@@ -165,7 +170,7 @@ raised-some scale counts lengths costs some k new at =
     let same = old.is in
     elim (raised-cases scale old.count old.most old.cost) [
       | inl stays ↦ let is = stays.is in omega arith
-      | inr rises ↦ let is = rises.is in let more = rises.more in omega arith
+      | inr rises ↦ let is = rises.is in let more = rises.more in let next = next-more old.count above in omega arith
     ]
 
 -- what the counts of lists are, with their lengths and what those cost that end as they do
@@ -206,7 +211,8 @@ raised-alike scale whole counts costs some alike = λ s t count' other' list beg
       | inr rises ↦
           let rise = rises.is in
           let more = rises.more in
-          let four : count' ≡ 4 * one.count = omega arith in
+          let next = next-more one.count above in
+          let further : count' ≡ next_count one.count = omega arith in
           let same_now : take one.count begins ≡ take one.count list =
           sym (take-take one.count count' begins (omega arith)) ∙ ap (λ (xs : List ℕ). take one.count xs) same ∙ take-take one.count count' list (omega arith) in
           let counts_same : two.count ≡ one.count = alike s t one.count two.count list begins s_at t_at one.count_at two.count_at (omega arith) same_now in
@@ -216,7 +222,7 @@ raised-alike scale whole counts costs some alike = λ s t count' other' list beg
           let second = length-take count' list in
           elim (raised-cases scale two.count two.most two.cost) [
             | inl stays' ↦ absurd (both_ways (is_small scale one.cost) rises.large (ap (λ (n : ℕ). is_small scale n) (sym costs_same) ∙ stays'.small (omega arith)))
-            | inr rises' ↦ let rise' = rises'.is in omega arith
+            | inr rises' ↦ let rise' = rises'.is in let next_same = ap next_count counts_same in omega arith
           ]
     ]
 
@@ -229,6 +235,7 @@ raised-left scale (k ∷ counts) [] costs some same as_many = absurd (omega arit
 raised-left scale (k ∷ counts) (l ∷ lengths) [] some same as_many = absurd (omega arith)
 raised-left scale (k ∷ counts) (l ∷ lengths) (c ∷ costs) some same as_many =
     let above = some 0 k refl in
+    let next = next-more k above in
     elim (raised-left scale counts lengths costs (λ n count at. some (suc n) count at) (omega arith) (omega arith)) [
       | inl rest ↦
           let rests = ap (λ (ks : List ℕ). left ks lengths) rest in
@@ -350,7 +357,7 @@ raised-enough scale names whole counts costs some alike as_many none distinct na
           | inl stays ↦
               ap (λ (ts : List (List ℕ)). is_small scale (cost_of stacks ts)) front
               ∙ less-small scale (cost_of stacks (texts_of names (take count list))) (f (take count list)) within (ap (λ (n : ℕ). is_small scale n) (sym cost) ∙ stays.small (omega arith))
-          | inr rises ↦ let rise = rises.is in let more = rises.more in absurd (omega arith)
+          | inr rises ↦ let rise = rises.is in let more = rises.more in let next = next-more raised_at.count (omega arith) in absurd (omega arith)
         ]
 
 -- what lists cost that end at a node, and one more

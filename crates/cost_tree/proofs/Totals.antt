@@ -241,7 +241,7 @@ node-cost : (names : List (List ℕ)) (edges : List Edge) (nodes summed : List C
     → Behind (fronts_of names edges) summed stacks n → 0 < n → slice_get (fronts_of names edges) n ≡ Some front → slice_get summed n ≡ Some node → node.cost ≡ inclusive front stacks
 node-cost names edges nodes summed stacks depth n front node has sums behind above front_at node_at =
     let fronts : List (List (List ℕ)) = fronts_of names edges in
-    let tree : TreeState = record { fronts = fronts; nodes = nodes } in
+    let tree : TreeState = record { names = names; fronts = fronts; nodes = nodes } in
     let inside = slice_get_within summed n node node_at in
     let count = sums.count in
     let old : CostNode = get_or nodes n no_node in

@@ -74,7 +74,7 @@ HasEdge-is names edges nodes fronts (suc place) node are above at =
 
 -- a node stands below its parent
 pub below-is : (names : List (List ℕ)) (edges : List Edge) (nodes : List CostNode) (n : ℕ) (front : List (List ℕ)) (node : CostNode) → AreBranches names edges nodes (fronts_of names edges)
-    → 0 < n → slice_get (fronts_of names edges) n ≡ Some front → slice_get nodes n ≡ Some node → IsBelow (record { fronts = fronts_of names edges; nodes = nodes }) n front node
+    → 0 < n → slice_get (fronts_of names edges) n ≡ Some front → slice_get nodes n ≡ Some node → IsBelow (record { names = names; fronts = fronts_of names edges; nodes = nodes }) n front node
 below-is names edges nodes n front node are above front_at node_at =
     let fronts : List (List (List ℕ)) = fronts_of names edges in
     let edge = HasEdge-is names edges nodes fronts n node are above node_at in
@@ -86,7 +86,7 @@ below-is names edges nodes n front node are above front_at node_at =
       longer = sym (get_or_from_slice_get fronts n front [] front_at) ∙ get_or_from_slice_get fronts n (edge.parent_front ++ text_of names edge.edge.text ∷ []) [] edge.front;
     }
 
-pub IsForest-grown : (names : List (List ℕ)) (edges : List Edge) (nodes : List CostNode) (stacks : List Costed) (depth : ℕ) → HasGrown names edges nodes stacks depth → IsForest (record { fronts = fronts_of names edges; nodes = nodes }) stacks depth
+pub IsForest-grown : (names : List (List ℕ)) (edges : List Edge) (nodes : List CostNode) (stacks : List Costed) (depth : ℕ) → HasGrown names edges nodes stacks depth → IsForest (record { names = names; fronts = fronts_of names edges; nodes = nodes }) stacks depth
 IsForest-grown names edges nodes stacks depth has =
     let are = has.branches in
     let grown = has.grown in

@@ -27,10 +27,14 @@ left [] lengths = 0
 left (count ∷ counts) [] = 0
 left (count ∷ counts) (most ∷ lengths) = (most - count) + left counts lengths
 
+-- how many numbers come next, where so many don't do: lists that begin alike mostly differ in what comes second
+unfoldable pub next_count : ℕ → ℕ
+next_count count = if count == 1 then 2 else 4 * count
+
 -- more of a list that is cut, where those that end as it does cost enough together for a line
 abbrev pub raised : Scale → ℕ → ℕ → ℕ → ℕ
 raised scale count most cost =
-    if nat_lt count most && not (is_small scale cost) then min (4 * count) most else count
+    if nat_lt count most && not (is_small scale cost) then min (next_count count) most else count
 
 -- of all lists
 unfoldable pub raised_counts : Scale → List ℕ → List ℕ → List ℕ → List ℕ

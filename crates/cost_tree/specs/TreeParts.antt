@@ -13,7 +13,8 @@ use Rattle.cost_tree.specs.Texts.{fronts_of}
 pub record IsTree (names : List (List ℕ)) (edges : List Edge) (nodes : List CostNode)
     (stacks : List Costed) (depth : ℕ) : Type 0 where
   pub branches : AreBranches names edges nodes (fronts_of names edges)
-  pub tree_of : IsTreeOf (record { fronts = fronts_of names edges; nodes = nodes }) stacks depth
+  pub tree_of : IsTreeOf (record { names = names; fronts = fronts_of names edges; nodes = nodes })
+      stacks depth
 
 -- and its nodes have their links
 pub record IsLinkedTree (names : List (List ℕ)) (tree : Linked) (stacks : List Costed)

@@ -2,7 +2,8 @@
 use Rattle.std.specs.Prelude.{ℕ, List}
 use Rattle.cost_tree.specs.declared.node.CostNode.{CostNode}
 
--- the fronts of the nodes, and what they cost, both by the nodes' numbers
+-- the texts of fronts by their numbers, and by the nodes' numbers their fronts and what they cost
 pub record TreeState : Type 0 where
+  pub names : List (List ℕ)
   pub fronts : List (List (List ℕ))
   pub nodes : List CostNode

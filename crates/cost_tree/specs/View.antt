@@ -12,9 +12,10 @@ use Rattle.cost_tree.specs.TreeState.{TreeState}
 abbrev pub edges_of : Inside → List Edge
 edges_of tree = edges_in tree.nodes.items tree.links.links.items
 
--- the fronts that the edges give, and the nodes
+-- the texts, the fronts that the edges give, and the nodes
 abbrev pub state_of : Inside → TreeState
 state_of tree = record {
+  names = names_in tree.names;
   fronts = fronts_of (names_in tree.names) (edges_of tree);
   nodes = tree.nodes.items;
 }

@@ -1,8 +1,8 @@
 //! Lists of numbers that are cut: each list's first numbers, as many as the lines of trees need.
 //! Which costs a tree has, and what the numbers stand for, is no part of it.
-ghost use Rattle.std.specs.Prelude.{◌≡◌, ℕ, ◌^◌, ◌<◌, ◌≤◌, List, false, length, map, sum, true, IfOk, OnOk};
+ghost use Rattle.std.specs.Prelude.{◌≡◌, ℕ, ◌^◌, ◌<◌, ◌≤◌, List, false, length, map, min, sum, true, IfOk, OnOk};
 ghost use Rattle.cost_tree.specs.Costed.{costed};
-ghost use Rattle.cost_tree.specs.CutShapes.{IsCutOf, left, raised, raised_counts};
+ghost use Rattle.cost_tree.specs.CutShapes.{IsCutOf, left, next_count, raised, raised_counts};
 ghost use Rattle.cost_tree.specs.Cuts.{AreEnough, cut_lists};
 ghost use Rattle.cost_tree.specs.Needed.{LastGains};
 ghost use Rattle.cost_tree.specs.Texts.{AreTexts, lists_of};
@@ -154,12 +154,24 @@ fn raised_counts(
     Ok(more)
 }
 
-/// Four times as many, or all, where there are more and they cost enough for a line.
+/// More, or all, where there are more and they cost enough for a line.
 fn raised(count: usize, length: usize, cost: u64, scale: Scale) -> usize
     ensures { result ≡ raised scale count length cost }
 {
     if count >= length || scale.is_small(cost) {
         return count;
+    }
+    next_count(count, length)
+}
+
+/// Two behind one, since lists that begin alike mostly differ in what comes second, and else four times as many, or all.
+#[tactic(auto, unfolding(crate::specs::CutShapes::next_count))]
+fn next_count(count: usize, length: usize) -> usize
+    requires more { count < length }
+    ensures { result ≡ min (next_count count) length }
+{
+    if count == 1 {
+        return 2;
     }
     if count > length / 4 {
         return length;

@@ -38,11 +38,11 @@ pub fn take_front_lines<F: Fn(u32) -> u64, T: FrontLineTaker + Drop>(
     requires as_many { costing.now.stacks ≡ length fronts.now }
     requires stated { (costs : List ℕ)
         × AreCosts (F.pre costing.now.cost) (F.post costing.now.cost) costing.now.stacks costs }
-    requires none_yet { T.takes taker [] taker }
     ensures taken { IfOk result
         (λ after. (costs : List ℕ)
         → AreCosts (F.pre costing.now.cost) (F.post costing.now.cost) costing.now.stacks costs
-        → T.takes taker (cost_lines depth scale (costed fronts.now costs)) after) }
+        → (names : List (List ℕ))
+        × T.takes names taker (cost_lines depth scale (costed fronts.now costs)) after) }
 {
     let costs = costing.list(alloc)?;
     take_costed(alloc, fronts, &costs, scale, depth, taker)
@@ -59,10 +59,12 @@ fn take_costed<T: FrontLineTaker + Drop>(
 ) -> Result<T, NoMemory>
     requires as_many { length costs.now ≡ length fronts.now }
     requires bound { sum costs.now ≤ 2 ^ 62 }
-    requires none_yet { T.takes taker [] taker }
     ensures taken { IfOk result
-        (λ after. T.takes taker (cost_lines depth scale (costed fronts.now costs.now)) after) }
+        (λ after. (names : List (List ℕ))
+        × T.takes names taker (cost_lines depth scale (costed fronts.now costs.now)) after) }
 {
+    let mut told = taker;
+    told.take_texts(&fronts.names)?;
     let lists = CutLists {
         names: &fronts.names,
         whole: &fronts.whole,
@@ -70,7 +72,7 @@ fn take_costed<T: FrontLineTaker + Drop>(
         depth: depth as usize,
     };
     let tree = CostTree::of_shape(alloc, &fronts.names, &fronts.cut.shape, costs, depth)?;
-    take_tailed(alloc, &tree, scale, lists, taker)
+    take_tailed(alloc, &tree, scale, lists, told)
 }
 
 /// Gives the lines of the tree, and behind that of a front those of the list that goes on alone from there.
@@ -82,11 +84,12 @@ fn take_tailed<T: FrontLineTaker + Drop>(
     taker: T,
 ) -> Result<T, NoMemory>
     requires tree { (stacks : List Costed) × (depth : ℕ) × HasLines tree.now stacks depth }
-    requires none_yet { T.takes taker [] taker }
     ensures taken { IfOk result
         (λ after. (lines : List CostLine) × AreLinesOf scale tree.now lines
-        × (All IsLevelled (map (line_at tree.now) lines)
-        → T.takes taker
+        × ((first : T) → tree.now.names ≡ lists.entry.names.now
+        → T.takes lists.entry.names.now first [] taker
+        → All IsLevelled (map (line_at tree.now) lines)
+        → T.takes lists.entry.names.now first
         (flat_map (tailed_at lists.entry.depth
         (lists_of lists.entry.names.now lists.entry.whole.now) lists.entry.counts.now tree.now)
         lines) after)) }
@@ -111,7 +114,7 @@ struct TailedLines<'a, T: FrontLineTaker + Drop> {
 }
 
 impl<'a, T: FrontLineTaker + Drop> CostLineTaker for TailedLines<'a, T> {
-    ghost use Rattle.std.specs.Prelude.{◌≡◌, All, map};
+    ghost use Rattle.std.specs.Prelude.{◌≡◌, [], All, map};
     ghost use Rattle.std.specs.List.{flat_map};
     ghost use Rattle.cost_tree.specs.IsShownAs.{IsLevelled};
     ghost use Rattle.cost_tree.specs.Texts.{lists_of};
@@ -119,8 +122,10 @@ impl<'a, T: FrontLineTaker + Drop> CostLineTaker for TailedLines<'a, T> {
     ghost use Rattle.cost_tree.specs.TreeTails.{tailed_at};
 
     ghost takes = { λ tree first lines now. (now.lists ≡ first.lists)
-        × (All IsLevelled (map (line_at tree) lines)
-        → T.takes first.taker
+        × ((begun : T) → tree.names ≡ first.lists.names.now
+        → T.takes first.lists.names.now begun [] first.taker
+        → All IsLevelled (map (line_at tree) lines)
+        → T.takes first.lists.names.now begun
         (flat_map (tailed_at first.lists.depth
         (lists_of first.lists.names.now first.lists.whole.now) first.lists.counts.now tree) lines)
         now.taker) };
@@ -143,7 +148,8 @@ impl<'a, T: FrontLineTaker + Drop> CostLineTaker for TailedLines<'a, T> {
 fn shown_line<'a>(tree: &'a CostTree, line: CostLine) -> ShownLine<'a>
     requires root { front_at tree.now 0 ≡ [] }
     requires place { IsPlace tree.now line.place }
-    ensures { IsLevelled (line_at tree.now line) → IsShownAs result (line_at tree.now line) }
+    ensures { IsLevelled (line_at tree.now line)
+        → IsShownAs tree.now.names result (line_at tree.now line) }
 {
     ShownLine {
         level: line.level,
@@ -157,7 +163,7 @@ fn shown_line<'a>(tree: &'a CostTree, line: CostLine) -> ShownLine<'a>
 fn shown_place<'a>(tree: &'a CostTree, place: Place) -> ShownPlace<'a>
     requires root { front_at tree.now 0 ≡ [] }
     requires place { IsPlace tree.now place }
-    ensures { IsPlaceOf result (shown_at tree.now place) }
+    ensures { IsPlaceOf tree.now.names result (shown_at tree.now place) }
 {
     match place {
         Place::Node { node } => ShownPlace::Front {

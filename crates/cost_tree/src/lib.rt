@@ -22,7 +22,8 @@
 //! - `cost_lines` gives the lines of a tree above a threshold, as a list over fronts (`CostLines`): costly fronts first,
 //!   and one line for the others of a node. `take_lines` gives them one by one to what takes them (`CostLineTaker`).
 //! - `take_front_lines` gives the same lines of lists with costs, without a tree that has a node for each: `ForkedFronts` keeps lists cut
-//!   where they go on alone, and the lines behind that are made of their texts. `FrontLineTaker` takes each with its front's last text.
+//!   where they go on alone, and the lines behind that are made of their texts. `FrontLineTaker` takes the
+//!   texts, and then each line with its front's last text and the number of that.
 //!
 //! A text is compared with others once, when it is pushed, and a front once, when its last number is; a tree hashes nothing and
 //! copies no text. The crates above may cite its `proofs/Laws`. The tests of these calls are the crate `cost_tree_tests`.

@@ -4,7 +4,7 @@
 /// What a line says the cost of.
 #[derive(Clone, Copy, Debug)]
 pub enum ShownPlace<'a> {
-    /// A front, by its last text and the number of that text, by which it is known again: the empty front has no text, and 0.
+    /// A front, by its last text and the number of that text: the empty front has no text, and 0.
     Front { text: &'a [u8], number: usize },
     /// So many fronts that go on from one, whose shares are all below the threshold.
     Gathered { places: u64 },

@@ -75,8 +75,9 @@ impl<'a> CutLists<'a> {
         requires held { list < length self.now.whole.now }
         ensures taken { OnOk result
             ((front_line : FrontLine) (first : T) (lines : List FrontLine)
-            → IsShownAs line.entry front_line → T.takes first lines taker.old
-            → T.takes first
+            → IsShownAs self.now.names.now line.entry front_line
+            → T.takes self.now.names.now first lines taker.old
+            → T.takes self.now.names.now first
             (lines ++ with_tail self.now.depth (lists_of self.now.names.now self.now.whole.now)
             (Some list) front_line) taker.new) }
     {
@@ -106,9 +107,9 @@ fn take_tail<T: FrontLineTaker>(
     taker: &mut T,
 ) -> Result<(), NoMemory>
     ensures taken { OnOk result
-        ((first : T) (lines : List FrontLine) → T.takes first lines taker.old
-        → T.takes first (lines ++ tail_lines (texts_of names.now numbers.now) cost count)
-        taker.new) }
+        ((first : T) (lines : List FrontLine) → T.takes names.now first lines taker.old
+        → T.takes names.now first
+        (lines ++ tail_lines (texts_of names.now numbers.now) cost count) taker.new) }
 {
     'each_text: for place in count..numbers.len() {
         taker.take_line(tail_line(names, numbers, cost, place))?;
@@ -119,7 +120,8 @@ fn take_tail<T: FrontLineTaker>(
 /// The line of the texts up to this place.
 fn tail_line<'a>(names: &'a Names, numbers: &[usize], cost: u64, place: usize) -> ShownLine<'a>
     requires within { place < length numbers.now }
-    ensures { IsShownAs result (tail_line (texts_of names.now numbers.now) cost (place + 1)) }
+    ensures { IsShownAs names.now result
+        (tail_line (texts_of names.now numbers.now) cost (place + 1)) }
 {
     let level = place + 1;
     let number = numbers[place];

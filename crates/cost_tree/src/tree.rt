@@ -8,9 +8,10 @@ ghost use Rattle.cost_tree.specs.Costed.{costed};
 ghost use Rattle.cost_tree.specs.Costs.{AreCosts};
 ghost use Rattle.cost_tree.specs.IsTreeOf.{IsTreeOf};
 ghost use Rattle.cost_tree.specs.StackTexts.{lists_towards};
-ghost use Rattle.cost_tree.specs.Texts.{AreTexts, lists_of};
+ghost use Rattle.cost_tree.specs.CostLines.{last_of};
+ghost use Rattle.cost_tree.specs.Texts.{AreTexts, lists_of, text_of};
 ghost use Rattle.cost_tree.specs.Shares.{cost_at};
-ghost use Rattle.cost_tree.specs.TreeLines.{HasLines};
+ghost use Rattle.cost_tree.specs.TreeLines.{HasLines, front_at};
 
 use crate::branches::Branches;
 use crate::child_nodes::ChildNodes;
@@ -194,6 +195,7 @@ impl<'a> CostTree<'a> {
         requires bound { sum costs.now ≤ 2 ^ 62 }
         ensures lines { IfOk result
             (λ tree. HasLines tree (costed (lists_of names.now shape.now) costs.now) depth) }
+        ensures names { IfOk result (λ tree. tree.names ≡ names.now) }
     {
         // Says that no two names are equal, and that there are few lists.
         let _count = names.len();
@@ -256,6 +258,7 @@ impl<'a> CostTree<'a> {
     /// The number of that text; 0 for node 0.
     pub(crate) fn text_number(&self, n: usize) -> usize
         requires held { n < length self.now.nodes }
+        ensures number { text_of self.now.names result ≡ last_of (front_at self.now n) }
     {
         self.links.text(n)
     }

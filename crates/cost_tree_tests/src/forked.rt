@@ -19,7 +19,11 @@ struct WrittenLines {
 }
 
 impl FrontLineTaker for WrittenLines {
-    ghost takes = { λ _ _ _. Unit {0} };
+    ghost takes = { λ _ _ _ _. Unit {0} };
+
+    fn take_texts(&mut self, _names: &Names) -> Result<(), NoMemory> {
+        Ok(())
+    }
 
     fn take_line(&mut self, line: ShownLine) -> Result<(), NoMemory> {
         put_figure(line.level as u64, &mut self.out)?;

@@ -52,12 +52,14 @@ returns g c =
     subst (λ (ls : List (List (List ℕ))). HasLines tree (costed ls costs) depth) (ap (λ (ls : List (List ℕ)). lists_of names ls) is.lists ∙ cut-texts names counts inside.whole) c.in_ok-tree.ensures.lines in
     record {
       taken = IfOk-weaker c.take_tailed.result _ _
-          (λ after taken.
-          let levelled = subst (λ (ls : List FrontLine). All IsLevelled ls) (sym (taken.1.all cuts depth has)) (lines-levelled depth scale cuts) in
-          subst (λ (ls : List FrontLine). g.T.FrontLineTaker.takes c.args.taker ls after)
-          (ap (λ (ks : List ℕ). flat_map (tailed_at depth lists ks tree) taken.0) c.deref.ensures.value
-          ∙ tree-tailed tree depth scale lists counts costs taken.0 forked has taken.1
-          ∙ ap (λ (ls : List (List (List ℕ))). cost_lines depth scale (costed ls costs)) c.fronts.view_is)
-          (taken.2 levelled))
+          (λ after taken. (
+            names,
+            (let levelled = subst (λ (ls : List FrontLine). All IsLevelled ls) (sym (taken.1.all cuts depth has)) (lines-levelled depth scale cuts) in
+                subst (λ (ls : List FrontLine). g.T.FrontLineTaker.takes names c.args.taker ls after)
+                (ap (λ (ks : List ℕ). flat_map (tailed_at depth lists ks tree) taken.0) c.deref.ensures.value
+                ∙ tree-tailed tree depth scale lists counts costs taken.0 forked has taken.1
+                ∙ ap (λ (ls : List (List (List ℕ))). cost_lines depth scale (costed ls costs)) c.fronts.view_is)
+                (taken.2 c.args.taker c.in_ok-tree.ensures.names c.in_ok-take_texts.ensures.taken levelled)),
+          ))
           c.take_tailed.ensures.taken;
     }

@@ -1,4 +1,4 @@
-use Rattle.std.proofs.Common.{ℕ, ◌+◌, List, [], Bor, take, cond, get_or, refl, sym, ap, ◌∙◌, arith}
+use Rattle.std.proofs.Common.{◌≡◌, ℕ, ◌+◌, List, [], Bor, take, cond, get_or, refl, sym, ap, ◌∙◌, arith}
 use Rattle.std.specs.Prelude.{nat_lt}
 use Rattle.std.proofs.lemmas.List.{get_or-map, length-map, length-take, take_more}
 use Rattle.cost_tree.specs.CostLines.{last_of}
@@ -16,14 +16,19 @@ returns c =
     let count = length-map numbers (text_of names) in
     let first = length-take (place + 1) texts in
     let within = c.requires.within in
+    let said : text_of names (get_or numbers place 0) ≡ last_of (take (place + 1) texts) =
+    sym (get_or-map (text_of names) numbers place 0 [] within)
+    ∙ sym (last-push (take place texts) (get_or texts place []))
+    ∙ ap last_of (sym (take_more texts place [] (omega arith))) in
     record {
       levelled = omega arith;
       level = refl;
       children = c.lines_below.ensures ∙ ap (λ (n : ℕ). cond {A = ℕ} (nat_lt (place + 1) n) 1 0) (sym count);
       cost = refl;
-      place = ap (λ (name : Bor (List ℕ)). name.now) c.unwrap_or.ensures
-          ∙ text-read names (get_or numbers place 0) c.name.result _ c.name.ensures.found.1 c.name.ensures.name refl
-          ∙ sym (get_or-map (text_of names) numbers place 0 [] within)
-          ∙ sym (last-push (take place texts) (get_or texts place []))
-          ∙ ap last_of (sym (take_more texts place [] (omega arith)));
+      place = (
+        ap (λ (name : Bor (List ℕ)). name.now) c.unwrap_or.ensures
+            ∙ text-read names (get_or numbers place 0) c.name.result _ c.name.ensures.found.1 c.name.ensures.name refl
+            ∙ said,
+        said,
+      );
     }

@@ -5,9 +5,10 @@ use Rattle.std.proofs.lemmas.Result.{on_ok_weaker}
 use Rattle.std.specs.List.{flat_map}
 use Rattle.std.specs.Prelude.{All}
 use Rattle.cost_tree.specs.declared.line.CostLine.{CostLine}
+use Rattle.cost_tree.specs.declared.shown_line.ShownLine.{ShownLine}
 use Rattle.cost_tree.specs.declared.tails.CutLists.{CutLists}
 use Rattle.cost_tree.specs.CostLines.{FrontLine}
-use Rattle.cost_tree.specs.IsShownAs.{IsLevelled}
+use Rattle.cost_tree.specs.IsShownAs.{IsLevelled, IsShownAs}
 use Rattle.cost_tree.specs.Tails.{going_on, with_tail}
 use Rattle.cost_tree.specs.Texts.{lists_of}
 use Rattle.cost_tree.specs.TreeLines.{line_at}
@@ -35,6 +36,10 @@ with-line lists first tree lines line given same is =
 levels : (tree : TreeState) (lines : List CostLine) (line : CostLine) → All IsLevelled (map (line_at tree) (lines ++ line ∷ [])) → All IsLevelled (map (line_at tree) lines) × IsLevelled (line_at tree line)
 levels tree lines line all = All-pop IsLevelled (map (line_at tree) (lines ++ line ∷ [])) (map (line_at tree) lines) (Some (line_at tree line)) (map_push (line_at tree) lines line) all
 
+-- what is shown by the tree's texts is shown by these
+shown-named : {names : List (List ℕ)} (tree : TreeState) → tree.names ≡ names → (shown : ShownLine) (line : FrontLine) → IsShownAs tree.names shown line → IsShownAs names shown line
+shown-named tree named shown line is = subst (λ (texts : List (List ℕ)). IsShownAs texts shown line) named is
+
 pub returns-in_default : goal.returns-in_default
 returns-in_default g c =
     let tree = c.args.tree.now in
@@ -45,10 +50,11 @@ returns-in_default g c =
       taken = on_ok_weaker c.take_line.result
           (λ taken first lines before. (
             before.0,
-            (λ levelled.
+            (λ begun named none levelled.
                 let parts = levels tree lines line levelled in
-                subst (λ (ls : List FrontLine). g.T.FrontLineTaker.takes first.taker ls c.take_line.new.self) (with-line lists first.lists tree lines line (line_at tree line ∷ []) before.0 is)
-                (taken (line_at tree line) first.taker (flat_map (stood first.lists tree) lines) (c.shown_line-shown.ensures parts.1) (before.1 parts.0))),
+                let names = first.lists.names.now in
+                subst (λ (ls : List FrontLine). g.T.FrontLineTaker.takes names begun ls c.take_line.new.self) (with-line lists first.lists tree lines line (line_at tree line ∷ []) before.0 is)
+                (taken names (line_at tree line) begun (flat_map (stood first.lists tree) lines) (shown-named tree named c.shown_line-shown.result (line_at tree line) (c.shown_line-shown.ensures parts.1)) (before.1 begun named none parts.0))),
           ))
           c.take_line.ensures.taken;
     }
@@ -63,10 +69,14 @@ returns g c =
       taken = on_ok_weaker c.take_with_tail.result
           (λ taken first lines before. (
             before.0,
-            (λ levelled.
+            (λ begun named none levelled.
                 let parts = levels tree lines line levelled in
-                subst (λ (ls : List FrontLine). g.T.FrontLineTaker.takes first.taker ls c.take_with_tail.new.taker) (with-line lists first.lists tree lines line _ before.0 is)
-                (taken (line_at tree line) first.taker (flat_map (stood first.lists tree) lines) (c.shown_line-shown.ensures parts.1) (before.1 parts.0))),
+                let same : first.lists.names.now ≡ lists.names.now = ap (λ (ls : CutLists). ls.names.now) (sym before.0) in
+                let T : List (List ℕ) → List FrontLine → Type 0 = λ names ls. g.T.FrontLineTaker.takes names begun ls c.take_with_tail.new.taker in
+                subst (λ (ls : List FrontLine). T first.lists.names.now ls) (with-line lists first.lists tree lines line _ before.0 is)
+                (subst (λ (names : List (List ℕ)). T names (flat_map (stood first.lists tree) lines ++ with_tail lists.depth (lists_of lists.names.now lists.whole.now) (Some c.in-Some.list) (line_at tree line))) (sym same)
+                (taken (line_at tree line) begun (flat_map (stood first.lists tree) lines) (shown-named tree (named ∙ same) c.shown_line-shown.result (line_at tree line) (c.shown_line-shown.ensures parts.1))
+                (subst (λ (names : List (List ℕ)). g.T.FrontLineTaker.takes names begun (flat_map (stood first.lists tree) lines) c.args.self.now.taker) same (before.1 begun named none parts.0))))),
           ))
           c.take_with_tail.ensures.taken;
     }

@@ -44,7 +44,7 @@ returns c =
     ∙ c.shape.view_is in
     let texts = subst (λ (ls : List (List ℕ)). AreTexts names ls) (sym lists) c.names.invariant in
     let is = c.in_ok-nodes.ensures.tree names _ c.args.depth (c.in_ok-branches.ensures.tree names c.len-count.ensures.distinct texts) in
-    let tree : TreeState = record { fronts = fronts_of names (edges_in c.in_ok-nodes.field-0.nodes.items c.in_ok-nodes.field-0.links.links.items); nodes = c.in_ok-nodes.field-0.nodes.items } in
+    let tree : TreeState = record { names = names; fronts = fronts_of names (edges_in c.in_ok-nodes.field-0.nodes.items c.in_ok-nodes.field-0.links.links.items); nodes = c.in_ok-nodes.field-0.nodes.items } in
     let all = ap (λ (ls : List (List ℕ)). lists_of names ls) lists ∙ c.names.view_is ∙ c.in_ok-names.ensures.same in
     record {
       tree = subst (λ (ls : List (List (List ℕ))). IsTreeOf tree (costed ls c.args.costs.now) c.args.depth) all is.nodes.tree_of;

@@ -1,4 +1,4 @@
-use Rattle.std.proofs.Common.{◌≡◌, ℕ, ◌^◌, ◌<◌, List, length, sym, ap, ◌∙◌, subst, arith}
+use Rattle.std.proofs.Common.{◌≡◌, ℕ, ◌^◌, ◌<◌, List, length, refl, sym, ap, ◌∙◌, subst, arith}
 use Rattle.std.proofs.lemmas.List.{length-map}
 use Rattle.cost_tree.specs.declared.edge.Edge.{Edge}
 use Rattle.cost_tree.specs.Costed.{costed}
@@ -50,7 +50,8 @@ returns c =
     let count = costed-count lists costs (omega arith) in
     let whole = costed-sum lists costs (omega arith) in
     let bound = c.requires.bound in
-    let tree : TreeState = record { fronts = fronts_of names (edges_in c.in_ok-nodes.field-0.nodes.items c.in_ok-nodes.field-0.links.links.items); nodes = c.in_ok-nodes.field-0.nodes.items } in
+    let tree : TreeState = record { names = names; fronts = fronts_of names (edges_in c.in_ok-nodes.field-0.nodes.items c.in_ok-nodes.field-0.links.links.items); nodes = c.in_ok-nodes.field-0.nodes.items } in
     record {
       lines = record { tree_of = subst (λ (ls : List (List ℕ)). IsTreeOf tree (costed (lists_of names ls) costs) c.args.depth) same is.nodes.tree_of; few = omega arith; within = omega arith; shallow = omega arith };
+      names = refl;
     }
