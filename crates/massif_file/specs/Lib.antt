@@ -8,6 +8,7 @@ pub mod IsRight
 pub mod IsWritable
 pub mod Items
 pub mod LabelSpans
+pub mod LabelledLines
 pub mod LastTime
 pub mod Leads
 pub mod Levels

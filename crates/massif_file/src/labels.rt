@@ -42,21 +42,19 @@ impl Labels {
         }
     }
 
-    /// Appends a label, and answers its number. On `NoMemory` the labels are as before.
-    pub(crate) fn push(&mut self, label: &[u8]) -> Result<usize, NoMemory>
+    /// Appends a label. On `NoMemory` the labels are as before.
+    pub(crate) fn push(&mut self, label: &[u8]) -> Result<(), NoMemory>
         ensures appended { OnOk result (self.new ≡ self.old ++ label.now ∷ []) }
-        ensures number { IfOk result (λ number. number ≡ length self.old) }
         ensures unchanged { OnErr result (self.new ≡ self.old) }
     {
         self.spans.reserve(1)?;
-        let number = self.spans.len();
         let start = self.bytes.len();
         self.bytes.extend_from_slice(label)?;
         self.spans.push(Span {
             start,
             count: label.len(),
         })?;
-        Ok(number)
+        Ok(())
     }
 
     /// The same labels, or `NoMemory`.
@@ -66,6 +64,13 @@ impl Labels {
         let spans = Vec::from_slice(alloc, &self.spans)?;
         let bytes = Vec::from_slice(alloc, &self.bytes)?;
         Ok(Labels { spans, bytes })
+    }
+
+    /// How many labels there are.
+    pub(crate) fn len(&self) -> usize
+        ensures count { result ≡ length self.now }
+    {
+        self.spans.len()
     }
 
     /// The label with this number, which is below the number of labels.

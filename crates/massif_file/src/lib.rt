@@ -16,7 +16,7 @@
 //! | File | Does |
 //! |---|---|
 //! | `profile.rt`, `lists.rt` | what a file says, as values; its snapshots |
-//! | `tree.rt`, `labels.rt` | the lines of a tree; their labels |
+//! | `tree.rt`, `labelled_tree.rt`, `labels.rt` | the lines of a tree; with labels by numbers; their labels |
 //! | `reader.rt`, `reading.rt` | the reader; one short step for each line that may come next |
 //! | `line.rt`, `levels.rt` | what single lines say; how many lines of a tree are still to come |
 //! | `writer.rt` | a profile as text |
@@ -25,6 +25,7 @@
 #![tactic(auto)]
 
 mod fault;
+mod labelled_tree;
 mod labels;
 mod laws;
 mod levels;
@@ -37,6 +38,7 @@ mod tree;
 mod writer;
 
 pub use fault::ProfileFault;
+pub use labelled_tree::LabelledTree;
 pub use laws::{massif_profiles, massif_round_trip};
 pub use lists::Snaps;
 pub use profile::{HeapTree, Profile, Snap, TimeUnit, TreeFields};

@@ -1,0 +1,8 @@
+-- Lines of a tree, and the labels that further lines may have.
+use Rattle.std.specs.Prelude.{ℕ, List}
+use Rattle.massif_file.specs.TreeLine.{TreeLine}
+
+-- the labels by their numbers, which begin at 0, and the lines
+pub record LabelledLines : Type 0 where
+  pub labels : List (List ℕ)
+  pub lines : List TreeLine
