@@ -1,5 +1,6 @@
 pub mod Appends
 pub mod Forests
+pub mod KnownTexts
 pub mod LabelTexts
 pub mod Listed
 pub mod OneLine

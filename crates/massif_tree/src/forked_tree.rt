@@ -1,23 +1,23 @@
 //! The lines of a snapshot's tree over lists of texts, each made of what `cost_tree` shows of it, with no tree beside it.
 //! Which places have lines of their own, and in which order, is `cost_tree`'s part.
-ghost use Rattle.std.specs.Prelude.{◌≡◌, ◌<◌, ℕ, List, length, IfOk, OnOk};
+ghost use Rattle.std.specs.Prelude.{◌≡◌, ◌∷◌, [], ◌++◌, ℕ, List, length, slice_index_or, IfOk, OnOk};
 ghost use Rattle.cost_tree.specs.Costed.{costed};
 ghost use Rattle.cost_tree.specs.CostLines.{last_of};
 ghost use Rattle.cost_tree.specs.Costs.{AreCosts};
+ghost use Rattle.cost_tree.specs.Texts.{text_of};
+ghost use Rattle.massif_tree.specs.KnownLabels.{HoldTexts};
 ghost use Rattle.massif_tree.specs.MassifTree.{label_of, massif_tree};
 
-use crate::labels::root_label;
-use crate::lines::{FileLines, labelled};
+use crate::labels::{put_gathered_label, root_label};
+use crate::lines::labelled;
 use crate::options::TreeOptions;
 use cost_tree::{
     Costing, ForkedFronts, FrontLineTaker, Scale, ShownLine, ShownPlace, take_front_lines,
 };
 use hp_num::NoMemory;
-use massif_file::Tree;
+use intern_tables::Names;
+use massif_file::{LabelledTree, Tree};
 use std::alloc::Global;
-
-/// Stands for no line: it is above each place.
-const NO_LINE: usize = usize::MAX;
 
 /// The lines of the tree of these lists with these costs, or `NoMemory`, as `tree_lines` says. The total is in bytes.
 pub fn forked_lines<F: Fn(u32) -> u64>(
@@ -40,76 +40,114 @@ pub fn forked_lines<F: Fn(u32) -> u64>(
         threshold: options.threshold,
     };
     let taker = ForkedLines {
-        lines: FileLines::new(alloc, options.threshold),
-        first_places: Vec::new(alloc),
+        threshold: options.threshold,
+        made: LabelledTree::new(alloc),
+        root: 0,
+        label: Vec::new(alloc),
     };
     let taken = take_front_lines(alloc, fronts, costing, scale, options.depth, taker)?;
-    let ForkedLines { lines, .. } = taken;
-    let FileLines { made, .. } = lines;
-    Ok(made)
+    let ForkedLines { made, .. } = taken;
+    Ok(made.into_tree())
 }
 
-/// The lines of the file, made one by one of those of fronts.
+/// The lines of the file, made one by one of those of fronts. A text is a label once, by its own number.
 #[derive(Debug, Drop)]
 struct ForkedLines {
-    lines: FileLines,
-    /// By the number of a text the place of the first line that has it, or `NO_LINE`. No clause rests on it.
-    first_places: Vec<usize>,
+    threshold: u64,
+    made: LabelledTree,
+    /// The number of the root's label, which is above those of the texts.
+    root: usize,
+    /// A buffer for a label that has to be made.
+    label: Vec<u8>,
 }
 
 impl FrontLineTaker for ForkedLines {
-    ghost use Rattle.std.specs.Prelude.{◌≡◌, ◌++◌, map};
+    ghost use Rattle.std.specs.Prelude.{◌≡◌, ◌++◌, [], map};
+    ghost use Rattle.massif_tree.specs.KnownLabels.{HoldTexts};
     ghost use Rattle.massif_tree.specs.MassifTree.{massif_line};
 
-    ghost takes = { λ first lines now. (now.lines.threshold ≡ first.lines.threshold)
-        × (now.lines.made ≡ first.lines.made ++ map (massif_line first.lines.threshold) lines) };
+    ghost takes = { λ texts first lines now. first.made.labels ≡ []
+        → (now.threshold ≡ first.threshold) × HoldTexts texts now.root now.made.labels
+        × (now.made.lines ≡ first.made.lines ++ map (massif_line first.threshold) lines) };
 
+    fn take_texts(&mut self, names: &Names) -> Result<(), NoMemory> {
+        self.made.add_label(b"")?;
+        add_names(&mut self.made, names)?;
+        self.root = self.made.label_count();
+        self.made.add_label(root_label())?;
+        Ok(())
+    }
+
+    #[inline(always)]
     fn take_line(&mut self, line: ShownLine) -> Result<(), NoMemory> {
         match line.shown {
-            ShownPlace::Front { text, number } => {
-                let place = self.lines.made.len();
-                let like = first_place(&mut self.first_places, number, place)?;
-                let label = front_label(line.level, text);
-                self.lines
-                    .made
-                    .push_like(labelled(line.children, line.cost, label), like)
+            ShownPlace::Front { number, .. } => {
+                let label = label_number(self.root, line.level, number);
+                push_known(&mut self.made, line.children, line.cost, label)?;
+                Ok(())
             }
             ShownPlace::Gathered { places } => {
-                self.lines.push_gathered(line.children, line.cost, places)
+                put_gathered_label(self.threshold, places, &mut self.label)?;
+                let gathered = labelled(line.children, line.cost, &self.label);
+                self.made.push_line(gathered)?;
+                Ok(())
             }
         }
     }
 }
 
-/// The label of a front of so many texts, of which this one is the last: that of the root where there are none.
-fn front_label<'a>(level: usize, text: &'a [u8]) -> &'a [u8]
-    ensures label { (front : List (List ℕ)) → level ≡ length front → text.now ≡ last_of front
-        → result.now ≡ label_of front }
+/// Adds the names as labels, in the order of their numbers.
+fn add_names(made: &mut LabelledTree, names: &Names) -> Result<(), NoMemory>
+    ensures labels { OnOk result (made.new.labels ≡ made.old.labels ++ names.now) }
+    ensures lines { OnOk result (made.new.lines ≡ made.old.lines) }
 {
-    if level == 0 {
-        return root_label();
-    }
-    text
-}
-
-/// The place of the first line with the text of this number, which is the given one where there was none before.
-fn first_place(
-    first_places: &mut Vec<usize>,
-    number: usize,
-    place: usize,
-) -> Result<usize, NoMemory> {
-    hold(first_places, number)?;
-    let first = first_places[number].min(place);
-    first_places[number] = first;
-    Ok(first)
-}
-
-/// Makes room for the number.
-fn hold(first_places: &mut Vec<usize>, number: usize) -> Result<(), NoMemory>
-    ensures held { OnOk result (number < length first_places.new.items) }
-{
-    if number >= first_places.len() {
-        first_places.resize(number.saturating_add(1), NO_LINE)?;
+    // Says that the numbers fit.
+    let _count = names.len();
+    let mut place = 0;
+    'each_name: while let Some(name) = names.name(place + 1) {
+        made.add_label(name)?;
+        place += 1;
     }
     Ok(())
+}
+
+/// The number of the label of a front of so many texts, of which the last one has this number: that of the root's label where
+/// there are none, and that of the empty label where no text has the number.
+#[inline(always)]
+fn label_number(root: usize, level: usize, number: usize) -> usize
+    ensures label { (texts labels front : List (List ℕ)) → HoldTexts texts root labels
+        → level ≡ length front → text_of texts number ≡ last_of front
+        → slice_index_or labels result [] ≡ label_of front }
+{
+    if level == 0 {
+        return root;
+    }
+    if number < root {
+        return number;
+    }
+    0
+}
+
+/// Appends a line with the label of this number, or with an empty one where there is none.
+#[inline(always)]
+fn push_known(
+    made: &mut LabelledTree,
+    children: u32,
+    bytes: u64,
+    label: usize,
+) -> Result<(), NoMemory>
+    ensures held { OnOk result
+        ((texts : List (List ℕ)) (root : ℕ) → HoldTexts texts root made.old.labels
+        → HoldTexts texts root made.new.labels) }
+    ensures line { OnOk result
+        (made.new.lines ≡ made.old.lines ++ record {
+          children = children;
+          bytes = bytes;
+          label = slice_index_or made.old.labels label [];
+        } ∷ []) }
+{
+    if label < made.label_count() {
+        return made.push(children, bytes, label);
+    }
+    made.push_line(labelled(children, bytes, b""))
 }

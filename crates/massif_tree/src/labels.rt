@@ -13,8 +13,20 @@ pub(crate) fn root_label() -> &'static [u8]
     b"(heap allocation functions) malloc/new/new[], --alloc-fns, etc."
 }
 
+/// Puts the label of so many places that are gathered below the threshold in the place of what the buffer holds.
+pub(crate) fn put_gathered_label(
+    threshold: u64,
+    places: u64,
+    label: &mut Vec<u8>,
+) -> Result<(), NoMemory>
+    ensures label { OnOk result (label.new.items ≡ gathered_label threshold places) }
+{
+    label.clear();
+    put_gathered(threshold, places, label)
+}
+
 /// Appends the label of so many places that are gathered below the threshold, in hundredths of a percent.
-pub(crate) fn put_gathered(threshold: u64, places: u64, out: &mut Vec<u8>) -> Result<(), NoMemory>
+fn put_gathered(threshold: u64, places: u64, out: &mut Vec<u8>) -> Result<(), NoMemory>
     ensures appended { OnOk result
         (out.new.items ≡ out.old.items ++ gathered_label threshold places) }
 {

@@ -5,11 +5,10 @@ ghost use Rattle.cost_tree.specs.Costed.{Costed};
 ghost use Rattle.cost_tree.specs.TreeLines.{front_at};
 ghost use Rattle.massif_file.specs.TreeLine.{line_of};
 ghost use Rattle.massif_tree.specs.IsShown.{IsShown};
-ghost use Rattle.massif_tree.specs.Labels.{gathered_label};
 ghost use Rattle.massif_tree.specs.LabelsIn.{line_in};
 ghost use Rattle.massif_tree.specs.MassifTree.{label_of, massif_tree};
 
-use crate::labels::{put_gathered, root_label};
+use crate::labels::{put_gathered_label, root_label};
 use crate::options::TreeOptions;
 use cost_tree::{CostLine, CostLineTaker, CostTree, Place, Scale, take_lines};
 use hp_num::NoMemory;
@@ -45,16 +44,16 @@ pub fn tree_lines(
 
 /// The lines of the file, made one by one.
 #[derive(Debug, Drop)]
-pub(crate) struct FileLines {
+struct FileLines {
     threshold: u64,
-    pub(crate) made: Tree,
+    made: Tree,
     /// A buffer for a label that has to be made.
     label: Vec<u8>,
 }
 
 impl FileLines {
     /// None yet; places are gathered below this threshold, in hundredths of a percent.
-    pub(crate) fn new(alloc: Global, threshold: u64) -> FileLines
+    fn new(alloc: Global, threshold: u64) -> FileLines
         ensures threshold { result.threshold ≡ threshold }
         ensures none { result.made ≡ [] }
     {
@@ -63,26 +62,6 @@ impl FileLines {
             made: Tree::new(alloc),
             label: Vec::new(alloc),
         }
-    }
-
-    /// Appends the line of so many places that are gathered.
-    pub(crate) fn push_gathered(
-        &mut self,
-        children: u32,
-        cost: u64,
-        places: u64,
-    ) -> Result<(), NoMemory>
-        ensures threshold { OnOk result (self.new.threshold ≡ self.old.threshold) }
-        ensures appended { OnOk result
-            (self.new.made ≡ self.old.made ++ record {
-              children = children;
-              bytes = cost;
-              label = gathered_label self.old.threshold places;
-            } ∷ []) }
-    {
-        self.label.clear();
-        put_gathered(self.threshold, places, &mut self.label)?;
-        self.made.push(labelled(children, cost, &self.label))
     }
 }
 
@@ -99,7 +78,11 @@ impl CostLineTaker for FileLines {
                 let label = node_label(tree, node);
                 self.made.push(labelled(line.children, line.cost, label))
             }
-            Place::Gathered { places } => self.push_gathered(line.children, line.cost, places),
+            Place::Gathered { places } => {
+                put_gathered_label(self.threshold, places, &mut self.label)?;
+                self.made
+                    .push(labelled(line.children, line.cost, &self.label))
+            }
         }
     }
 }

@@ -1,4 +1,4 @@
-use Rattle.std.proofs.Common.{ℕ, List, ◌++◌, map, ap, ◌∙◌}
+use Rattle.std.proofs.Common.{List, ◌++◌, map, ap, ◌∙◌}
 use Rattle.cost_tree.specs.Costed.{costed}
 use Rattle.cost_tree.specs.CostLines.{FrontLine, cost_lines}
 use Rattle.massif_file.specs.TreeLine.{TreeLine}
@@ -9,8 +9,8 @@ pub returns : goal.returns
 unfolding massif_tree
 returns g c = record {
   lines = λ costs are.
-      let lines : List FrontLine = cost_lines c.args.options.now.depth (scale_of c.args.options.now c.args.total) (costed c.args.fronts.now costs) in
-      (c.in_ok-taken.ensures.taken costs are).1
-      ∙ ap (λ (made : List TreeLine). made ++ map (massif_line c.new.result.threshold) lines) c.new.ensures.none
-      ∙ ap (λ (threshold : ℕ). map (massif_line threshold) lines) c.new.ensures.threshold;
+      let options = c.args.options.now in
+      let lines : List FrontLine = cost_lines options.depth (scale_of options c.args.total) (costed c.args.fronts.now costs) in
+      let made = (c.in_ok-taken.ensures.taken costs are).1 c.new.ensures.no_labels in
+      c.into_tree.ensures.lines ∙ made.2 ∙ ap (λ (before : List TreeLine). before ++ map (massif_line options.threshold) lines) c.new.ensures.no_lines;
 }
