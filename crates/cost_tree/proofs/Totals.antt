@@ -277,6 +277,11 @@ costs-are names edges nodes summed stacks depth (suc fuel) n front node has sums
     (λ m f other later f_at other_at. costs-are names edges nodes summed stacks depth fuel m f other has sums (omega arith) (omega arith) f_at other_at)
     above front_at node_at
 
+-- a tree of the same edges and nodes
+pub IsTree-same : (names : List (List ℕ)) (edges other : List Edge) (nodes others : List CostNode) (stacks : List Costed) (depth : ℕ) → other ≡ edges → others ≡ nodes → IsTree names edges nodes stacks depth → IsTree names other others stacks depth
+IsTree-same names edges other nodes others stacks depth same alike is =
+    subst (λ (es : List Edge). IsTree names es others stacks depth) (sym same) (subst (λ (ns : List CostNode). IsTree names edges ns stacks depth) (sym alike) is)
+
 -- the tree with its costs
 pub IsTree-summed : (names : List (List ℕ)) (edges : List Edge) (nodes summed : List CostNode) (stacks : List Costed) (depth : ℕ) → HasGrown names edges nodes stacks depth → AreSums nodes summed → IsTree names edges summed stacks depth
 IsTree-summed names edges nodes summed stacks depth has sums =

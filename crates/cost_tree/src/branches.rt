@@ -1,6 +1,6 @@
 //! A tree that grows along a shape, by one list after another: each list's way up to a node that the tree has, and then
 //! the nodes that are missing, downwards. What nodes cost with those below them is summed up when all lists are in.
-ghost use Rattle.std.specs.Prelude.{◌≡◌, ℕ, ◌*◌, ◌+◌, ◌-◌, ◌^◌, ◌<◌, ◌≤◌, List, [], ◌∷◌, ◌++◌, length, IfOk, OnOk, Some, slice_get, slice_index, slice_set, sum, sum_by};
+ghost use Rattle.std.specs.Prelude.{◌≡◌, ℕ, ◌*◌, ◌+◌, ◌-◌, ◌^◌, ◌<◌, ◌≤◌, List, [], ◌∷◌, length, IfOk, OnOk, Some, slice_get, slice_index, sum, sum_by};
 ghost use Rattle.cost_tree.specs.declared.edge.Edge.{Edge};
 ghost use Rattle.cost_tree.specs.declared.node.CostNode.{CostNode};
 ghost use Rattle.cost_tree.specs.Building.{AreReached, GrowsBy, IsBuilt, IsMade, IsStarted};
@@ -34,9 +34,9 @@ pub(crate) struct Branches {
 
 impl Branches {
     /// The nodes of the fronts of at most `depth` numbers of lists with these costs, or `NoMemory`. The lists end at these of
-    /// the nodes to which the edges lead.
+    /// the nodes to which the edges lead. The nodes are made in the vectors of the room.
     pub(crate) fn of(
-        alloc: Global,
+        room: Branches,
         edges: &[Edge],
         ends: &[usize],
         costs: &[u64],
@@ -59,14 +59,14 @@ impl Branches {
             → slice_get branches.nodes.items n ≡ Some node
             → node.parent < n) }
     {
-        let mut branches = Branches::grown(alloc, edges, ends, costs, depth)?;
+        let mut branches = Branches::grown(room, edges, ends, costs, depth)?;
         sum_up(&mut branches.nodes);
         Ok(branches)
     }
 
     /// The nodes with what the lists cost that end at each or are cut there, and node 0 with what all cost.
     fn grown(
-        alloc: Global,
+        room: Branches,
         edges: &[Edge],
         ends: &[usize],
         costs: &[u64],
@@ -91,7 +91,7 @@ impl Branches {
         ensures within { IfOk result
             (λ branches. sum_by weight branches.nodes.items ≤ 3 * 2 ^ 62) }
     {
-        let mut branches = Branches::new(alloc, edges.len())?;
+        let mut branches = room.started(edges.len())?;
         'each_list: for list in 0..costs.len() {
             if costs[list] == 0 {
                 continue;
@@ -101,8 +101,19 @@ impl Branches {
         Ok(branches)
     }
 
-    /// Node 0 alone, along a shape with so many edges, or `NoMemory`.
-    fn new(alloc: Global, edges: usize) -> Result<Branches, NoMemory>
+    /// No nodes. It takes no memory; that of the nodes to come is taken from `alloc`.
+    pub(crate) fn new(alloc: Global) -> Branches {
+        Branches {
+            edges: Vec::new(alloc),
+            nodes: Vec::new(alloc),
+            levels: Vec::new(alloc),
+            numbered: Vec::new(alloc),
+            path: Vec::new(alloc),
+        }
+    }
+
+    /// Node 0 alone, along a shape with so many edges, in the place of what is held, or `NoMemory`.
+    fn started(self, edges: usize) -> Result<Branches, NoMemory>
         requires few { edges < 2 ^ 63 }
         ensures started { IfOk result (λ branches. IsStarted edges branches) }
     {
@@ -112,20 +123,30 @@ impl Branches {
             own: 0,
             first: 0,
         };
+        let mut started = self;
         // The tree has no more nodes than the shape, so that none is moved while it grows.
-        let mut nodes = Vec::with_capacity(alloc, edges + 1)?;
-        nodes.push(root)?;
-        let mut levels = Vec::with_capacity(alloc, edges + 1)?;
-        levels.push(0)?;
-        let mut numbered = vec![in alloc; 0; edges + 1]?;
-        numbered[0] = 1;
-        Ok(Branches {
-            edges: Vec::with_capacity(alloc, edges)?,
-            nodes,
-            levels,
-            numbered,
+        start(&mut started.nodes, edges + 1, root)?;
+        start(&mut started.levels, edges + 1, 0)?;
+        started.edges.clear();
+        started.edges.reserve(edges)?;
+        started.numbered.clear();
+        started.numbered.resize(edges + 1, 0)?;
+        started.numbered[0] = 1;
+        Ok(started)
+    }
+
+    /// The same without what only a growing tree needs.
+    pub(crate) fn settled(self, alloc: Global) -> Branches
+        ensures edges { result.edges.items ≡ self.edges.items }
+        ensures nodes { result.nodes.items ≡ self.nodes.items }
+    {
+        Branches {
+            edges: self.edges,
+            nodes: self.nodes,
+            levels: Vec::new(alloc),
+            numbered: Vec::new(alloc),
             path: Vec::new(alloc),
-        })
+        }
     }
 
     /// Adds the list that ends at a node of the shape and costs something: its cost to node 0, to the node of its first
@@ -218,6 +239,16 @@ impl Branches {
         self.numbered[place] = node + 1;
         Ok(node)
     }
+}
+
+/// Replaces what the vector holds by its first element, and gives it room for so many.
+fn start<T: Drop>(vector: &mut Vec<T>, count: usize, first: T) -> Result<(), NoMemory>
+    ensures first { OnOk result (vector.new.items ≡ first ∷ []) }
+{
+    vector.clear();
+    vector.reserve(count)?;
+    vector.push(first)?;
+    Ok(())
 }
 
 /// Replaces `path` by the nodes of the shape from the end up to the first that has a node of the tree, without this one,

@@ -1,5 +1,5 @@
 //! The children of a node as lines show them: the costly ones by descending cost, and the others gathered.
-ghost use Rattle.std.specs.Prelude.{◌≡◌, ◌<◌, ◌≤◌, ◌^◌, ◌++◌, All, AllPairs, List, length, map, sum_by, OnOk, IfOk, filter};
+ghost use Rattle.std.specs.Prelude.{◌≡◌, ◌<◌, ◌≤◌, ◌^◌, ◌++◌, All, AllPairs, length, map, sum_by, OnOk, IfOk, filter};
 ghost use Rattle.cost_tree.specs.Order.{by_cost};
 ghost use Rattle.cost_tree.specs.Shares.{child_at, cost_at, gathered_in, is_kept_at, is_small_at};
 

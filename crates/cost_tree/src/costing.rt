@@ -1,5 +1,5 @@
 //! What each stack costs, by a closure that is kept.
-ghost use Rattle.std.specs.Prelude.{◌≡◌, ℕ, ◌^◌, ◌<◌, ◌≤◌, List, Some, IfOk, slice_get, sum};
+ghost use Rattle.std.specs.Prelude.{◌≡◌, ℕ, ◌<◌, List, Some, IfOk, OnOk, slice_get};
 ghost use Rattle.cost_tree.specs.Costs.{AreCosts};
 
 use hp_num::NoMemory;
@@ -44,6 +44,23 @@ impl<F: Fn(u32) -> u64> Costing<F> {
         (self.cost)(stack)
     }
 
+    /// Replaces `costs` by those of all stacks, in their order.
+    pub(crate) fn list_into(&self, costs: &mut Vec<u64>) -> Result<(), NoMemory>
+        requires stated { (costs : List ℕ)
+            × AreCosts (F.pre self.now.cost) (F.post self.now.cost) self.now.stacks costs }
+        ensures costs { OnOk result
+            ((list : List ℕ)
+            → AreCosts (F.pre self.now.cost) (F.post self.now.cost) self.now.stacks list
+            → costs.new.items ≡ list) }
+    {
+        costs.clear();
+        costs.reserve(self.stacks as usize)?;
+        for stack in 0..self.stacks {
+            costs.push(self.of(stack))?;
+        }
+        Ok(())
+    }
+
     /// The costs of all stacks, in their order, or `NoMemory`.
     pub(crate) fn list(&self, alloc: Global) -> Result<Vec<u64>, NoMemory>
         requires stated { (costs : List ℕ)
@@ -53,10 +70,8 @@ impl<F: Fn(u32) -> u64> Costing<F> {
             → AreCosts (F.pre self.now.cost) (F.post self.now.cost) self.now.stacks costs
             → list.items ≡ costs) }
     {
-        let mut costs = Vec::with_capacity(alloc, self.stacks as usize)?;
-        for stack in 0..self.stacks {
-            costs.push(self.of(stack))?;
-        }
+        let mut costs = Vec::new(alloc);
+        self.list_into(&mut costs)?;
         Ok(costs)
     }
 }

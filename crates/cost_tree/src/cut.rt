@@ -9,10 +9,12 @@ ghost use Rattle.cost_tree.specs.Texts.{AreTexts, lists_of};
 ghost use Rattle.intern_tables.specs.Distinct.{AreDistinct};
 
 use crate::chains::Chains;
+use crate::room::CutRoom;
 use crate::scale::Scale;
 use crate::shape::Shape;
 use hp_num::NoMemory;
 use std::alloc::Global;
+use std::mem;
 
 /// The first numbers of lists.
 #[derive(Debug, Drop)]
@@ -46,6 +48,7 @@ impl Cut {
         whole: &Chains,
         costs: &[u64],
         scale: Scale,
+        room: &mut CutRoom,
     ) -> Result<(), NoMemory>
         requires as_many { length costs.now ≡ length whole.now }
         requires bound { sum costs.now ≤ 2 ^ 62 }
@@ -57,7 +60,7 @@ impl Cut {
             AreEnough depth scale (costed (lists_of names whole.now) costs.now)
             (lists_of names whole.now) self.new.counts.items) }
     {
-        'rounds: while self.lengthen_some(alloc, whole, costs, scale)? {}
+        'rounds: while self.lengthen_some(alloc, whole, costs, scale, room)? {}
         Ok(())
     }
 
@@ -69,6 +72,7 @@ impl Cut {
         whole: &Chains,
         costs: &[u64],
         scale: Scale,
+        room: &mut CutRoom,
     ) -> Result<bool, NoMemory>
         requires as_many { length costs.now ≡ length whole.now }
         requires bound { sum costs.now ≤ 2 ^ 62 }
@@ -84,14 +88,15 @@ impl Cut {
             AreEnough depth scale (costed (lists_of names whole.now) costs.now)
             (lists_of names whole.now) self.new.counts.items) }
     {
-        let shared = self.shape.shared_costs(alloc, costs)?;
-        let counts = raised_counts(alloc, &self.counts, &self.lengths, &shared, scale)?;
+        let CutRoom { ended, counts } = room;
+        self.shape.ended_costs_into(costs, ended)?;
+        raised_counts_into(&self.counts, &self.lengths, &ended.of_lists, scale, counts)?;
         if counts[..] == self.counts[..] {
             return Ok(false);
         }
-        let shape = cut_shape(alloc, whole, &counts)?;
+        let shape = cut_shape(alloc, whole, counts)?;
         self.shape = shape;
-        self.counts = counts;
+        mem::swap(&mut self.counts, counts);
         Ok(true)
     }
 }
@@ -134,24 +139,25 @@ fn push_numbers(shape: &mut Shape, numbers: &[usize]) -> Result<(), NoMemory>
     Ok(())
 }
 
-/// How many numbers the lists are to have, where those that end as each does cost so much together, or `NoMemory`.
-fn raised_counts(
-    alloc: Global,
+/// Replaces `more` by how many numbers the lists are to have, where those that end as each does cost so much together.
+fn raised_counts_into(
     counts: &[usize],
     lengths: &[usize],
     shared: &[u64],
     scale: Scale,
-) -> Result<Vec<usize>, NoMemory>
+    more: &mut Vec<usize>,
+) -> Result<(), NoMemory>
     requires lengths { length lengths.now ≡ length counts.now }
     requires shared { length shared.now ≡ length counts.now }
-    ensures raised { IfOk result
-        (λ more. more.items ≡ raised_counts scale counts.now lengths.now shared.now) }
+    ensures raised { OnOk result
+        (more.new.items ≡ raised_counts scale counts.now lengths.now shared.now) }
 {
-    let mut more = Vec::with_capacity(alloc, counts.len())?;
+    more.clear();
+    more.reserve(counts.len())?;
     'each_list: for list in 0..counts.len() {
         more.push(raised(counts[list], lengths[list], shared[list], scale))?;
     }
-    Ok(more)
+    Ok(())
 }
 
 /// More, or all, where there are more and they cost enough for a line.

@@ -1,6 +1,6 @@
 //! Lists of texts that are cut where the lines of trees need no more of them: behind a front that has no line.
 //! What the lists cost is told for each tree.
-ghost use Rattle.std.specs.Prelude.{◌≡◌, ℕ, ◌^◌, ◌≤◌, List, length, IfOk, OnOk};
+ghost use Rattle.std.specs.Prelude.{◌≡◌, ℕ, List, length, IfOk, OnOk};
 ghost use Rattle.cost_tree.specs.Costed.{costed};
 ghost use Rattle.cost_tree.specs.CostLines.{cost_lines};
 ghost use Rattle.cost_tree.specs.Costs.{AreCosts};
@@ -9,11 +9,13 @@ use crate::call_chains::CallChains;
 use crate::chains::Chains;
 use crate::costing::Costing;
 use crate::cut::Cut;
+use crate::room::TreeRoom;
 use crate::scale::Scale;
 use hp_num::NoMemory;
 use intern_tables::Names;
 use std::alloc::Global;
 use std::marker::Model;
+use std::mem;
 
 /// Lists of texts, each of which is cut behind its first texts until a tree needs more.
 ///
@@ -23,6 +25,7 @@ pub struct CutFronts {
     pub(crate) names: Names,
     whole: Chains,
     pub(crate) cut: Cut,
+    room: TreeRoom,
 }
 
 impl Model for CutFronts {
@@ -51,6 +54,7 @@ impl CutFronts {
             names,
             whole: chains,
             cut,
+            room: TreeRoom::new(alloc),
         })
     }
 
@@ -72,10 +76,25 @@ impl CutFronts {
             → cost_lines depth scale (costed self.new.cut costs)
             ≡ cost_lines depth scale (costed self.new.whole costs)) }
     {
-        let costs = costing.list(alloc)?;
+        let TreeRoom { costs, cut, .. } = &mut self.room;
+        costing.list_into(costs)?;
         // Says that no two names are equal.
         let _count = self.names.len();
-        self.cut.lengthen(alloc, &self.whole, &costs, scale)
+        self.cut.lengthen(alloc, &self.whole, costs, scale, cut)
+    }
+
+    /// Hands out the room for the next tree, and has none until it's given back by `put_room`.
+    pub fn take_room(&mut self, alloc: Global) -> TreeRoom
+        ensures same { self.new ≡ self.old }
+    {
+        mem::replace(&mut self.room, TreeRoom::new(alloc))
+    }
+
+    /// Keeps the room for the next tree.
+    pub fn put_room(&mut self, room: TreeRoom)
+        ensures same { self.new ≡ self.old }
+    {
+        self.room = room;
     }
 
     /// How many lists there are.

@@ -1,39 +1,64 @@
 //! What lists cost together that end at one node.
-ghost use Rattle.std.specs.Prelude.{◌≡◌, ℕ, ◌^◌, ◌<◌, ◌≤◌, All, length, map, slice_index, sum, IfOk};
+ghost use Rattle.std.specs.Prelude.{◌≡◌, ℕ, ◌^◌, ◌<◌, ◌≤◌, All, length, map, slice_index, sum, OnOk};
 ghost use Rattle.cost_tree.specs.CutShapes.{ended_cost};
 
 use hp_num::NoMemory;
 use std::alloc::Global;
 
-/// For each of so many nodes what the lists cost that end at it, or `NoMemory`.
-pub(crate) fn ended_costs(
-    alloc: Global,
+/// What lists cost together that end at one node.
+#[derive(Debug, Drop)]
+pub(crate) struct EndedCosts {
+    /// For each node.
+    pub(crate) at_nodes: Vec<u64>,
+    /// For each list what those cost that end where it does.
+    pub(crate) of_lists: Vec<u64>,
+}
+
+impl EndedCosts {
+    /// Those of no lists. It takes no memory.
+    pub(crate) fn new(alloc: Global) -> EndedCosts {
+        EndedCosts {
+            at_nodes: Vec::new(alloc),
+            of_lists: Vec::new(alloc),
+        }
+    }
+}
+
+/// Replaces `sums` by what the lists cost that end at each of so many nodes.
+pub(crate) fn ended_costs_into(
     ends: &[usize],
     costs: &[u64],
     nodes: usize,
-) -> Result<Vec<u64>, NoMemory>
+    sums: &mut Vec<u64>,
+) -> Result<(), NoMemory>
     requires held { All (λ end. end < nodes) ends.now }
     requires as_many { length costs.now ≡ length ends.now }
     requires bound { sum costs.now ≤ 2 ^ 62 }
-    ensures count { IfOk result (λ sums. length sums.items ≡ nodes) }
-    ensures sums { IfOk result (λ sums. (node : ℕ) → node < nodes →
-        slice_index sums.items node ≡ ended_cost ends.now costs.now node) }
+    ensures count { OnOk result (length sums.new.items ≡ nodes) }
+    ensures sums { OnOk result ((node : ℕ) → node < nodes →
+        slice_index sums.new.items node ≡ ended_cost ends.now costs.now node) }
 {
-    let mut sums = vec![in alloc; 0; nodes]?;
+    sums.clear();
+    sums.resize(nodes, 0)?;
     'each_list: for list in 0..ends.len() {
         sums[ends[list]] += costs[list];
     }
-    Ok(sums)
+    Ok(())
 }
 
-/// For each list what stands at the node where it ends, or `NoMemory`.
-pub(crate) fn costs_at(alloc: Global, ends: &[usize], sums: &[u64]) -> Result<Vec<u64>, NoMemory>
+/// Replaces `costs` by what stands at the node where each list ends.
+pub(crate) fn costs_at_into(
+    ends: &[usize],
+    sums: &[u64],
+    costs: &mut Vec<u64>,
+) -> Result<(), NoMemory>
     requires held { All (λ end. end < length sums.now) ends.now }
-    ensures costs { IfOk result (λ costs. costs.items ≡ map (slice_index sums.now) ends.now) }
+    ensures costs { OnOk result (costs.new.items ≡ map (slice_index sums.now) ends.now) }
 {
-    let mut costs = Vec::with_capacity(alloc, ends.len())?;
+    costs.clear();
+    costs.reserve(ends.len())?;
     'each_list: for list in 0..ends.len() {
         costs.push(sums[ends[list]])?;
     }
-    Ok(costs)
+    Ok(())
 }

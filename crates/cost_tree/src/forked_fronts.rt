@@ -6,6 +6,7 @@ ghost use Rattle.cost_tree.specs.Texts.{AreTexts, lists_of};
 
 use crate::chains::Chains;
 use crate::cut::Cut;
+use crate::room::CutRoom;
 use crate::scale::Scale;
 use hp_num::NoMemory;
 use intern_tables::Names;
@@ -71,6 +72,6 @@ fn forked(alloc: Global, names: &Names, lists: &Chains) -> Result<Cut, NoMemory>
     // Says that no two names are equal.
     let _count = names.len();
     let mut cut = Cut::of(alloc, lists)?;
-    cut.lengthen(alloc, lists, &costs, shared)?;
+    cut.lengthen(alloc, lists, &costs, shared, &mut CutRoom::new(alloc))?;
     Ok(cut)
 }

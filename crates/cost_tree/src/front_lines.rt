@@ -18,6 +18,7 @@ use crate::front_line_taker::FrontLineTaker;
 use crate::line::{CostLine, Place};
 use crate::line_taker::CostLineTaker;
 use crate::lines::take_lines;
+use crate::room::NodeRoom;
 use crate::scale::Scale;
 use crate::shown_line::{ShownLine, ShownPlace};
 use crate::tails::CutLists;
@@ -71,7 +72,9 @@ fn take_costed<T: FrontLineTaker + Drop>(
         counts: &fronts.cut.counts,
         depth: depth as usize,
     };
-    let tree = CostTree::of_shape(alloc, &fronts.names, &fronts.cut.shape, costs, depth)?;
+    let ForkedFronts { names, cut, .. } = fronts;
+    let room = &mut NodeRoom::new(alloc);
+    let tree = CostTree::of_shape(alloc, names, &cut.shape, costs, depth, room)?;
     take_tailed(alloc, &tree, scale, lists, told)
 }
 

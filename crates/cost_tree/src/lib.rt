@@ -16,7 +16,8 @@
 //!   most. `lists_from_root` and `CostTree::of_lists` are its two steps from the root, for a caller that lets go the tables
 //!   between them: the first one tells the lists (`ToldLists`), and the second one looks for their fronts.
 //! - `CutFronts` keeps lists cut behind fronts that have no line: `lengthen` makes them so long that the lines of `of_cut`'s tree
-//!   are those of the whole lists, with these costs.
+//!   are those of the whole lists, with these costs. It keeps the vectors that trees are made in, too, so that one tree after
+//!   another takes memory anew only where it's larger (`take_room`, `into_room` and `put_room`).
 //! - A node says its parent, which stands before it, its cost, its own cost and the first stack. `text` is its front's
 //!   last text, and `children_into` gives all its children by ascending number, which is also by ascending first stack.
 //! - `cost_lines` gives the lines of a tree above a threshold, as a list over fronts (`CostLines`): costly fronts first,
@@ -41,6 +42,7 @@
 //! | `branches.rt`, `summing.rt` | a tree that grows along a shape; what its nodes cost with those below them |
 //! | `linked.rt`, `links.rt`, `child_nodes.rt` | its nodes with the links to their children; how many children a node has |
 //! | `tree.rt`, `node.rt`, `held_names.rt` | the tree, one node, and whose names it has |
+//! | `room.rt` | the vectors that trees are made in, one after another |
 //! | `scale.rt`, `line.rt`, `line_taker.rt` | what costs are measured by; a line; what takes lines |
 //! | `children.rt`, `lines.rt` | which children of a node have lines of their own; the walk that gives the lines |
 //! | `shown_line.rt`, `front_line_taker.rt`, `front_lines.rt` | a line with what it shows; what takes such lines; those of lists |
@@ -73,6 +75,7 @@ mod links;
 mod list_form;
 mod list_step;
 mod node;
+mod room;
 mod root_lists;
 mod scale;
 mod shape;
@@ -99,6 +102,7 @@ pub use line_taker::CostLineTaker;
 pub use lines::{cost_lines, take_lines};
 pub use list_form::ListForm;
 pub use node::CostNode;
+pub use room::TreeRoom;
 pub use root_lists::lists_from_root;
 pub use scale::Scale;
 pub use shape::Shape;

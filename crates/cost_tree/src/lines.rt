@@ -1,6 +1,6 @@
 //! The lines of a tree: that of a node stands before those of its children.
 //! Where a tree comes from, and how a line is written, are no part of it.
-ghost use Rattle.std.specs.Prelude.{◌≡◌, ℕ, ◌<◌, ◌≤◌, ◌^◌, ◌∷◌, [], ◌++◌, All, List, length, map, IfOk, OnOk, reverse, sum_by};
+ghost use Rattle.std.specs.Prelude.{◌≡◌, ℕ, ◌<◌, ◌≤◌, ◌^◌, [], ◌++◌, All, List, length, map, IfOk, OnOk, reverse, sum_by};
 ghost use Rattle.cost_tree.specs.Children.{children_of};
 ghost use Rattle.cost_tree.specs.Costed.{Costed};
 ghost use Rattle.cost_tree.specs.CostLines.{cost_lines};

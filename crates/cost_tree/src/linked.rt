@@ -5,21 +5,28 @@ ghost use Rattle.cost_tree.specs.Costed.{Costed};
 ghost use Rattle.cost_tree.specs.TreeParts.{IsLinkedTree, IsTree};
 
 use crate::branches::Branches;
-use crate::links::Links;
+use crate::links::{Link, Links};
 use crate::node::CostNode;
 use hp_num::NoMemory;
 use std::alloc::Global;
+use std::mem;
 
 /// A tree but for the names of its texts.
 #[derive(Debug, Drop)]
 pub(crate) struct Linked {
     pub(crate) nodes: Vec<CostNode>,
     pub(crate) links: Links,
+    /// What the nodes were made in.
+    pub(crate) room: Branches,
 }
 
 impl Linked {
-    /// The branches with their links, or `NoMemory`. What they needed to grow is let go first.
-    pub(crate) fn of(alloc: Global, branches: Branches) -> Result<Linked, NoMemory>
+    /// The branches with their links, which are made in this vector, or `NoMemory`.
+    pub(crate) fn of(
+        alloc: Global,
+        links: Vec<Link>,
+        branches: Branches,
+    ) -> Result<Linked, NoMemory>
         requires count { length branches.nodes.items ≡ length branches.edges.items + 1 }
         requires lower { (n : ℕ) (node : CostNode)
             → 0 < n
@@ -30,17 +37,9 @@ impl Linked {
             → IsTree names branches.edges.items branches.nodes.items stacks depth
             → IsLinkedTree names linked stacks depth) }
     {
-        let Branches {
-            edges,
-            nodes,
-            levels,
-            numbered,
-            path,
-        } = branches;
-        drop(levels);
-        drop(numbered);
-        drop(path);
-        let links = Links::of(alloc, &edges, &nodes)?;
-        Ok(Linked { nodes, links })
+        let links = Links::of(links, &branches.edges, &branches.nodes)?;
+        let mut room = branches;
+        let nodes = mem::replace(&mut room.nodes, Vec::new(alloc));
+        Ok(Linked { nodes, links, room })
     }
 }

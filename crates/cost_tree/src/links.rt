@@ -8,7 +8,6 @@ ghost use Rattle.cost_tree.specs.NodeLinks.{AreBeside, AreNodeLinks, costs_in, f
 use crate::edge::Edge;
 use crate::node::CostNode;
 use hp_num::NoMemory;
-use std::alloc::Global;
 
 /// What is read of a node.
 #[derive(Clone, Copy, Debug)]
@@ -30,14 +29,14 @@ pub(crate) struct Links {
 
 impl Links {
     /// The links of the nodes, each of which stands behind its parent, or `NoMemory`. Node 0 has no edge, and node n has edge
-    /// n - 1.
-    pub(crate) fn of(alloc: Global, edges: &[Edge], nodes: &[CostNode]) -> Result<Links, NoMemory>
+    /// n - 1. They are made in the vector of the room.
+    pub(crate) fn of(room: Vec<Link>, edges: &[Edge], nodes: &[CostNode]) -> Result<Links, NoMemory>
         requires count { length nodes.now ≡ length edges.now + 1 }
         requires lower { (n : ℕ) (node : CostNode) → 0 < n → slice_get nodes.now n ≡ Some node
             → node.parent < n }
         ensures links { IfOk result (λ links. AreNodeLinks edges.now nodes.now links.links.items) }
     {
-        let mut links = unlinked(alloc, edges, nodes)?;
+        let mut links = unlinked(room, edges, nodes)?;
         link_up(nodes, &mut links);
         Ok(Links { links })
     }
@@ -76,13 +75,15 @@ impl Links {
 }
 
 /// What is read of the nodes, with no links yet.
-fn unlinked(alloc: Global, edges: &[Edge], nodes: &[CostNode]) -> Result<Vec<Link>, NoMemory>
+fn unlinked(room: Vec<Link>, edges: &[Edge], nodes: &[CostNode]) -> Result<Vec<Link>, NoMemory>
     requires count { length nodes.now ≡ length edges.now + 1 }
     ensures beside { IfOk result (λ links. AreBeside edges.now nodes.now links.items) }
     ensures none { IfOk result
         (λ links. firsts_in links.items ≡ replicate (length nodes.now) 0) }
 {
-    let mut links = Vec::with_capacity(alloc, nodes.len())?;
+    let mut links = room;
+    links.clear();
+    links.reserve(nodes.len())?;
     links.push(alone(nodes[0].cost, 0))?;
     'each_edge: for place in 0..edges.len() {
         links.push(alone(nodes[place + 1].cost, edges[place].text))?;

@@ -8,7 +8,7 @@ ghost use Rattle.cost_tree.specs.Told.{caller_list};
 
 use crate::edge::Edge;
 use crate::edges::Edges;
-use crate::ends::{costs_at, ended_costs};
+use crate::ends::{EndedCosts, costs_at_into, ended_costs_into};
 use hp_num::NoMemory;
 use std::alloc::Global;
 use std::marker::Model;
@@ -99,15 +99,20 @@ impl Shape {
         Ok(())
     }
 
-    /// For each list what those cost together that are equal to it, or `NoMemory`.
-    pub(crate) fn shared_costs(&self, alloc: Global, costs: &[u64]) -> Result<Vec<u64>, NoMemory>
+    /// Replaces `ended` by what the lists cost: for each list what those cost together that are equal to it.
+    pub(crate) fn ended_costs_into(
+        &self,
+        costs: &[u64],
+        ended: &mut EndedCosts,
+    ) -> Result<(), NoMemory>
         requires as_many { length costs.now ≡ length self.now }
         requires bound { sum costs.now ≤ 2 ^ 62 }
-        ensures shared { IfOk result
-            (λ shared. shared.items ≡ map (equal_cost self.now costs.now) self.now) }
+        ensures shared { OnOk result
+            (ended.new.of_lists.items ≡ map (equal_cost self.now costs.now) self.now) }
     {
-        let sums = ended_costs(alloc, &self.ends, costs, self.edges.len() + 1)?;
-        costs_at(alloc, &self.ends, &sums)
+        let nodes = self.edges.len() + 1;
+        ended_costs_into(&self.ends, costs, nodes, &mut ended.at_nodes)?;
+        costs_at_into(&self.ends, &ended.at_nodes, &mut ended.of_lists)
     }
 
     /// How many lists there are.

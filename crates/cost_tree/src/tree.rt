@@ -1,6 +1,6 @@
 //! The tree of inclusive costs, and what its nodes say.
 //! How its nodes are made is in `linked`.
-ghost use Rattle.std.specs.Prelude.{◌≡◌, ◌≢◌, ℕ, ◌+◌, ◌^◌, ◌<◌, ◌≤◌, ◌↔◌, List, [], ◌∷◌, ◌++◌, length, sum, Some, IfOk, OnOk, OnErr, IsOk, AllPairs, Contains, slice_get, vec_capacity};
+ghost use Rattle.std.specs.Prelude.{◌≡◌, ℕ, ◌+◌, ◌^◌, ◌<◌, ◌≤◌, List, [], ◌∷◌, ◌++◌, length, sum, Some, IfOk, OnOk, OnErr, IsOk, AllPairs, Contains, slice_get, vec_capacity};
 ghost use Rattle.cost_tree.specs.declared.node.CostNode.{CostNode};
 ghost use Rattle.cost_tree.specs.ChildNodes.{AreChildNodes};
 ghost use Rattle.cost_tree.specs.Children.{children_of};
@@ -23,6 +23,7 @@ use crate::held_names::HeldNames;
 use crate::linked::Linked;
 use crate::links::Links;
 use crate::node::CostNode;
+use crate::room::{NodeRoom, TreeRoom};
 use crate::shape::Shape;
 use crate::told_lists::ToldLists;
 use crate::trace_lists::trace_lists;
@@ -31,6 +32,7 @@ use ht_trace::{Style, Tables};
 use intern_tables::Names;
 use std::alloc::Global;
 use std::marker::Model;
+use std::mem;
 
 /// The fronts of some stacks' texts, each with what the stacks cost that begin with it. Its texts are those of the lists that
 /// it was made of, or its own where it was built of a trace.
@@ -100,12 +102,14 @@ impl<'a> CostTree<'a> {
         CostTree::of_stacks(alloc, tables, &costs, direction, style, depth)
     }
 
-    /// The tree of the lists as they are cut, to fronts of at most `depth` texts, or `NoMemory`.
+    /// The tree of the lists as they are cut, to fronts of at most `depth` texts, or `NoMemory`. It's made in the vectors of the
+    /// room, which `into_room` gives back.
     pub fn of_cut<F: Fn(u32) -> u64>(
         alloc: Global,
         fronts: &'a CutFronts,
         costing: &Costing<F>,
         depth: u32,
+        room: &mut TreeRoom,
     ) -> Result<CostTree<'a>, NoMemory>
         requires as_many { costing.now.stacks ≡ length fronts.now.cut }
         requires stated { (costs : List ℕ)
@@ -115,8 +119,17 @@ impl<'a> CostTree<'a> {
             → AreCosts (F.pre costing.now.cost) (F.post costing.now.cost) costing.now.stacks costs
             → HasLines tree (costed fronts.now.cut costs) depth) }
     {
-        let costs = costing.list(alloc)?;
-        CostTree::of_shape(alloc, &fronts.names, &fronts.cut.shape, &costs, depth)
+        let TreeRoom { costs, nodes, .. } = room;
+        costing.list_into(costs)?;
+        let CutFronts { names, cut, .. } = fronts;
+        CostTree::of_shape(alloc, names, &cut.shape, costs, depth, nodes)
+    }
+
+    /// Puts the vectors of the tree into the room.
+    pub fn into_room(self, room: &mut TreeRoom) {
+        let CostTree { nodes, links, .. } = self;
+        room.nodes.branches.nodes = nodes;
+        room.nodes.links = links.links;
     }
 
     /// The tree of the stacks of a trace with these costs, or `NoMemory`.
@@ -156,10 +169,12 @@ impl<'a> CostTree<'a> {
         let Shape { edges, ends } = shape;
         // The index of the edges is let go before the tree grows.
         let edges = edges.into_list();
-        let branches = Branches::of(alloc, &edges, &ends, costs, depth as usize)?;
+        let room = Branches::new(alloc);
+        let grown = Branches::of(room, &edges, &ends, costs, depth as usize)?;
         drop(edges);
         drop(ends);
-        let Linked { nodes, links } = Linked::of(alloc, branches)?;
+        let branches = grown.settled(alloc);
+        let Linked { nodes, links, .. } = Linked::of(alloc, Vec::new(alloc), branches)?;
         Ok(CostTree {
             names: HeldNames::Own { names },
             nodes,
@@ -179,16 +194,19 @@ impl<'a> CostTree<'a> {
         ensures tree { IfOk result (λ tree. IsTreeOf tree (costed fronts.now costs.now) depth) }
         ensures lines { IfOk result (λ tree. HasLines tree (costed fronts.now costs.now) depth) }
     {
-        CostTree::of_shape(alloc, &fronts.names, &fronts.shape, costs, depth)
+        let Fronts { names, shape } = fronts;
+        CostTree::of_shape(alloc, names, shape, costs, depth, &mut NodeRoom::new(alloc))
     }
 
-    /// The tree of the lists of texts that the shape's numbers are those of, with these costs, or `NoMemory`.
+    /// The tree of the lists of texts that the shape's numbers are those of, with these costs, or `NoMemory`. The room keeps
+    /// what it needed but its nodes and links.
     pub(crate) fn of_shape(
         alloc: Global,
         names: &'a Names,
         shape: &Shape,
         costs: &[u64],
         depth: u32,
+        room: &mut NodeRoom,
     ) -> Result<CostTree<'a>, NoMemory>
         requires texts { AreTexts names.now shape.now }
         requires as_many { length costs.now ≡ length shape.now }
@@ -201,8 +219,15 @@ impl<'a> CostTree<'a> {
         let _count = names.len();
         let _lists = shape.len();
         let edges = shape.edges.list();
-        let branches = Branches::of(alloc, edges, &shape.ends, costs, depth as usize)?;
-        let Linked { nodes, links } = Linked::of(alloc, branches)?;
+        let NodeRoom { branches, links } = mem::replace(room, NodeRoom::new(alloc));
+        let branches = Branches::of(branches, edges, &shape.ends, costs, depth as usize)?;
+        let linked = Linked::of(alloc, links, branches)?;
+        let Linked {
+            nodes,
+            links,
+            room: branches,
+        } = linked;
+        room.branches = branches;
         Ok(CostTree {
             names: HeldNames::Lent { names },
             nodes,

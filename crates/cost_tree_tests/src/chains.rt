@@ -2,7 +2,7 @@
 ghost use Rattle.std.specs.Prelude.{◌≡◌, ◌^◌, ◌≤◌, length, sum};
 
 use crate::trees::{read_worked, shown};
-use cost_tree::{CallChains, CostTree, Costing, CutFronts, ListForm, Scale};
+use cost_tree::{CallChains, CostTree, Costing, CutFronts, ListForm, Scale, TreeRoom};
 use hp_num::NoMemory;
 use ht_trace::{Style, Tables};
 use std::alloc::Global;
@@ -35,6 +35,7 @@ fn shown_of_cut(
     rt: &impl Abort,
     alloc: Global,
     cut: &mut CutFronts,
+    room: &mut TreeRoom,
     costs: &[u64],
     threshold: u64,
 ) -> Result<Vec<u8>, NoMemory>
@@ -48,7 +49,7 @@ fn shown_of_cut(
     };
     cut.lengthen(alloc, &costing, scale)?;
     assert_eq!(rt; cut.len(), costing.stacks());
-    let tree = CostTree::of_cut(alloc, cut, &costing, 4096)?;
+    let tree = CostTree::of_cut(alloc, cut, &costing, 4096, room)?;
     shown(rt, alloc, &tree)
 }
 
@@ -64,8 +65,9 @@ fn shown_of_worked(
     let chains = worked_chains(rt, alloc, &tables, most);
     drop(tables);
     let mut cut = CutFronts::new(alloc, chains?)?;
+    let mut room = cut.take_room(alloc);
     assert_eq!(rt; cut.len(), 2);
-    let shown = shown_of_cut(rt, alloc, &mut cut, &[100, 100], threshold);
+    let shown = shown_of_cut(rt, alloc, &mut cut, &mut room, &[100, 100], threshold);
     drop(cut);
     shown
 }

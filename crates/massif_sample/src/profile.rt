@@ -1,5 +1,5 @@
 //! The profile that the kept snapshots make.
-ghost use Rattle.std.specs.Prelude.{◌≡◌, ℕ, ◌+◌, ◌++◌, List, length, IfOk};
+ghost use Rattle.std.specs.Prelude.{◌≡◌, ℕ, ◌+◌, List, length, IfOk};
 ghost use Rattle.ht_trace.specs.TableState.{TableState};
 ghost use Rattle.massif_file.specs.Blanks.{without_blanks};
 ghost use Rattle.massif_tree.specs.FirstLists.{first_lists};

@@ -1,6 +1,6 @@
 //! The frames that allocation functions leave of a stack, and which stacks are ignored.
 //! The lists of names are asked as they come, and what a stack costs is no part of it.
-ghost use Rattle.std.specs.Prelude.{◌≡◌, ℕ, ◌+◌, ◌≤◌, List, All, length, take, IfOk};
+ghost use Rattle.std.specs.Prelude.{◌≡◌, ℕ, ◌≤◌, List, All, length, IfOk};
 ghost use Rattle.std.specs.Fn.{FnReturnsAt};
 ghost use Rattle.std.specs.List.{prefix_len};
 ghost use Rattle.cost_tree.specs.FrameTexts.{AreTexts};

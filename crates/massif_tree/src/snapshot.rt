@@ -46,6 +46,10 @@ pub fn snapshot_tree<F: Fn(u32) -> u64>(
     fronts.lengthen(alloc, costing, scale)?;
     // Says how many lists there may be.
     let _count = fronts.len();
-    let tree = CostTree::of_cut(alloc, fronts, costing, options.depth)?;
-    tree_lines(alloc, &tree, options, total)
+    let mut room = fronts.take_room(alloc);
+    let tree = CostTree::of_cut(alloc, fronts, costing, options.depth, &mut room)?;
+    let lines = tree_lines(alloc, &tree, options, total)?;
+    tree.into_room(&mut room);
+    fronts.put_room(room);
+    Ok(lines)
 }

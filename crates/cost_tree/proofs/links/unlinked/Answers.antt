@@ -9,7 +9,7 @@ use Rattle.cost_tree.proofs.links.unlinked.Goals as goal
 
 pub each_edge-init : goal.each_edge-init
 each_edge-init c =
-    let pushed : c.push.new.self.items ≡ c.alone.result ∷ [] = c.in_ok-push.ensures.items ∙ ap (λ (ls : List Link). ls ++ c.alone.result ∷ []) c.in_ok-links.ensures.items in
+    let pushed : c.push.new.self.items ≡ c.alone.result ∷ [] = c.in_ok-push.ensures.items ∙ ap (λ (ls : List Link). ls ++ c.alone.result ∷ []) (c.reserve.ensures.items ∙ c.clear.ensures.items) in
     record {
       costs = one-more (λ (node : CostNode). node.cost) (λ (link : Link). link.cost) [] c.args.nodes.now [] c.push.new.self.items 0 _ c.alone.result refl (omega arith) pushed (ap (λ (link : Link). link.cost) c.alone.ensures);
       texts = ap (λ (ls : List Link). Rattle.cost_tree.specs.NodeLinks.texts_in ls) pushed ∙ ap (λ (link : Link). link.text ∷ []) c.alone.ensures;

@@ -1,4 +1,5 @@
 use Rattle.std.proofs.Common.{◌≡◌, ◌≢◌, ℕ, ◌<◌, inl, inr, List, length, map, sym, ap, subst, ◌∙◌, rules}
+use Rattle.std.specs.Global.{Vec}
 use Rattle.std.specs.Prelude.{slice_get}
 use Rattle.std.proofs.lemmas.List.{length-map}
 use Rattle.cost_tree.specs.CutShapes.{AreCutAlike, equal_cost, left}
@@ -10,14 +11,14 @@ use Rattle.cost_tree.proofs.cut.Cut.lengthen_some.Goals as goal
 as-many : (whole shape : List (List ℕ)) (counts costs : List ℕ) → length counts ≡ length whole → shape ≡ cut_lists counts whole → length (map (equal_cost shape costs) shape) ≡ length counts
 as-many whole shape counts costs same is = length-map shape (equal_cost shape costs) ∙ ap (λ (ls : List (List ℕ)). length ls) is ∙ cut-count counts whole same ∙ sym same
 
-pub shared_costs-requires-clause-as_many : goal.shared_costs-requires-clause-as_many
-shared_costs-requires-clause-as_many c =
+pub ended_costs_into-requires-clause-as_many : goal.ended_costs_into-requires-clause-as_many
+ended_costs_into-requires-clause-as_many c =
     c.requires.as_many ∙ sym (cut-count c.args.self.now.counts.items c.args.whole.now c.requires.cut.count) ∙ sym (ap (λ (ls : List (List ℕ)). length ls) c.requires.cut.lists)
 
-pub raised_counts-requires-clause-shared : goal.raised_counts-requires-clause-shared
-raised_counts-requires-clause-shared c =
+pub raised_counts_into-requires-clause-shared : goal.raised_counts_into-requires-clause-shared
+raised_counts_into-requires-clause-shared c =
     let old = c.args.self.now in
-    ap (λ (ns : List ℕ). length ns) (c.deref-3.ensures.value ∙ c.in_ok-shared.ensures.shared)
+    ap (λ (ns : List ℕ). length ns) (c.deref-3.ensures.value ∙ c.in_ok-ended_costs_into.ensures.shared)
     ∙ as-many c.args.whole.now old.shape old.counts.items c.args.costs.now c.requires.cut.count c.requires.cut.lists
     ∙ sym (ap (λ (ns : List ℕ). length ns) c.deref.ensures.value)
 
@@ -26,9 +27,9 @@ returns-then-eq-clause-enough c = λ none names depth distinct named.
     let old = c.args.self.now in
     let cut = c.requires.cut in
     let whole = c.args.whole.now in
-    let is = raised-from c.args.scale whole old.shape old.counts.items old.lengths.items c.in_ok-shared.shared.items c.args.costs.now _ _ _ c.in_ok-counts.counts.items
-    cut.lengths cut.lists c.in_ok-shared.ensures.shared c.deref.ensures.value c.deref-2.ensures.value c.deref-3.ensures.value c.in_ok-counts.ensures.raised in
-    let same : c.in_ok-counts.counts.items ≡ old.counts.items = search rules in
+    let is = raised-from c.args.scale whole old.shape old.counts.items old.lengths.items c.ended_costs_into.new.ended.of_lists.items c.args.costs.now _ _ _ c.raised_counts_into.new.more.items
+    cut.lengths cut.lists c.in_ok-ended_costs_into.ensures.shared c.deref.ensures.value c.deref-2.ensures.value c.deref-3.ensures.value c.in_ok-raised_counts_into.ensures.raised in
+    let same : c.raised_counts_into.new.more.items ≡ old.counts.items = search rules in
     raised-enough c.args.scale names whole old.counts.items c.args.costs.now cut.some cut.alike cut.count (sym is ∙ same) distinct named depth
 
 pub cut_shape-requires : goal.cut_shape-requires
@@ -36,8 +37,8 @@ cut_shape-requires c =
     let old = c.args.self.now in
     let cut = c.requires.cut in
     let whole = c.args.whole.now in
-    let is = raised-from c.args.scale whole old.shape old.counts.items old.lengths.items c.in_ok-shared.shared.items c.args.costs.now _ _ _ c.in_ok-counts.counts.items
-    cut.lengths cut.lists c.in_ok-shared.ensures.shared c.deref.ensures.value c.deref-2.ensures.value c.deref-3.ensures.value c.in_ok-counts.ensures.raised in
+    let is = raised-from c.args.scale whole old.shape old.counts.items old.lengths.items c.ended_costs_into.new.ended.of_lists.items c.args.costs.now _ _ _ c.raised_counts_into.new.more.items
+    cut.lengths cut.lists c.in_ok-ended_costs_into.ensures.shared c.deref.ensures.value c.deref-2.ensures.value c.deref-3.ensures.value c.in_ok-raised_counts_into.ensures.raised in
     let shared : List ℕ = map (equal_cost (cut_lists old.counts.items whole) c.args.costs.now) (cut_lists old.counts.items whole) in
     record {
       as_many = ap (λ (ns : List ℕ). length ns) (c.deref-6.ensures.value ∙ is)
@@ -51,8 +52,9 @@ returns-clause-cut c =
     let old = c.args.self.now in
     let cut = c.requires.cut in
     let whole = c.args.whole.now in
-    let is = raised-from c.args.scale whole old.shape old.counts.items old.lengths.items c.in_ok-shared.shared.items c.args.costs.now _ _ _ c.in_ok-counts.counts.items
-    cut.lengths cut.lists c.in_ok-shared.ensures.shared c.deref.ensures.value c.deref-2.ensures.value c.deref-3.ensures.value c.in_ok-counts.ensures.raised in
+    let swapped : c.swap.new.x.items ≡ c.raised_counts_into.new.more.items = ap (λ (v : Vec ℕ). v.items) c.swap.ensures.x_after in
+    let is = swapped ∙ raised-from c.args.scale whole old.shape old.counts.items old.lengths.items c.ended_costs_into.new.ended.of_lists.items c.args.costs.now _ _ _ c.raised_counts_into.new.more.items
+    cut.lengths cut.lists c.in_ok-ended_costs_into.ensures.shared c.deref.ensures.value c.deref-2.ensures.value c.deref-3.ensures.value c.in_ok-raised_counts_into.ensures.raised in
     let shared : List ℕ = map (equal_cost (cut_lists old.counts.items whole) c.args.costs.now) (cut_lists old.counts.items whole) in
     record {
       count = ap (λ (ns : List ℕ). length ns) is
@@ -60,7 +62,7 @@ returns-clause-cut c =
           (length-map (cut_lists old.counts.items whole) (equal_cost (cut_lists old.counts.items whole) c.args.costs.now) ∙ cut-count old.counts.items whole cut.count ∙ sym cut.count)
           ∙ cut.count;
       lengths = cut.lengths;
-      lists = c.in_ok-shape.ensures.lists ∙ ap (λ (ks : List ℕ). cut_lists ks whole) c.deref-6.ensures.value;
+      lists = c.in_ok-shape.ensures.lists ∙ ap (λ (ks : List ℕ). cut_lists ks whole) (c.deref-6.ensures.value ∙ sym swapped);
       some = λ k count at. raised-some c.args.scale old.counts.items (map length whole) shared cut.some k count (ap (λ (ks : List ℕ). slice_get ks k) (sym is) ∙ at);
       alike = subst (AreCutAlike whole) (sym is) (raised-alike c.args.scale whole old.counts.items c.args.costs.now cut.some cut.alike);
     }
@@ -70,13 +72,14 @@ returns-clause-less c = λ some.
     let old = c.args.self.now in
     let cut = c.requires.cut in
     let whole = c.args.whole.now in
-    let is = raised-from c.args.scale whole old.shape old.counts.items old.lengths.items c.in_ok-shared.shared.items c.args.costs.now _ _ _ c.in_ok-counts.counts.items
-    cut.lengths cut.lists c.in_ok-shared.ensures.shared c.deref.ensures.value c.deref-2.ensures.value c.deref-3.ensures.value c.in_ok-counts.ensures.raised in
+    let swapped : c.swap.new.x.items ≡ c.raised_counts_into.new.more.items = ap (λ (v : Vec ℕ). v.items) c.swap.ensures.x_after in
+    let is = swapped ∙ raised-from c.args.scale whole old.shape old.counts.items old.lengths.items c.ended_costs_into.new.ended.of_lists.items c.args.costs.now _ _ _ c.raised_counts_into.new.more.items
+    cut.lengths cut.lists c.in_ok-ended_costs_into.ensures.shared c.deref.ensures.value c.deref-2.ensures.value c.deref-3.ensures.value c.in_ok-raised_counts_into.ensures.raised in
     let shared : List ℕ = map (equal_cost (cut_lists old.counts.items whole) c.args.costs.now) (cut_lists old.counts.items whole) in
-    let other : c.in_ok-counts.counts.items ≢ old.counts.items = search rules in
+    let other : c.raised_counts_into.new.more.items ≢ old.counts.items = search rules in
     elim (raised-left c.args.scale old.counts.items (map length whole) shared cut.some (length-map whole length ∙ sym cut.count)
     (length-map (cut_lists old.counts.items whole) (equal_cost (cut_lists old.counts.items whole) c.args.costs.now) ∙ cut-count old.counts.items whole cut.count ∙ sym cut.count)) [
-      | inl same ↦ absurd (other (is ∙ same))
-      | inr less ↦ subst (λ (ls : List ℕ). left c.in_ok-counts.counts.items ls < left old.counts.items ls) (sym cut.lengths)
+      | inl same ↦ absurd (other (sym swapped ∙ is ∙ same))
+      | inr less ↦ subst (λ (ls : List ℕ). left c.swap.new.x.items ls < left old.counts.items ls) (sym cut.lengths)
           (subst (λ (ks : List ℕ). left ks (map length whole) < left old.counts.items (map length whole)) (sym is) less)
     ]

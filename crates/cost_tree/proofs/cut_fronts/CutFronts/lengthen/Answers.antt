@@ -20,6 +20,6 @@ returns-clause-lines g c =
     (ap (λ (lists : List (List ℕ)). lists_of names lists) c.lengthen.ensures.cut.lists ∙ cut-texts names counts whole)
     ∙ lines-cut depth scale (lists_of names whole) counts costs
     (subst (λ (cs : List ℕ). AreEnough depth scale (costed (lists_of names whole) cs) (lists_of names whole) counts)
-    (c.deref.ensures.value ∙ c.in_ok-costs.ensures.costs costs are)
+    (c.deref.ensures.value ∙ c.in_ok-list_into.ensures.costs costs are)
     (enough names depth c.len-count.ensures.distinct c.self.invariant.texts)))
     c.lengthen.ensures.enough

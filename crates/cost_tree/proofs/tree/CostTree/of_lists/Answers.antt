@@ -7,6 +7,7 @@ use Rattle.cost_tree.specs.NodeLinks.{edges_in}
 use Rattle.cost_tree.specs.Shapes.{IsShape, list_at, lists_in}
 use Rattle.cost_tree.specs.Texts.{AreTexts, fronts_of, lists_of, texts_of}
 use Rattle.cost_tree.specs.TreeState.{TreeState}
+use Rattle.cost_tree.proofs.Totals.{IsTree-same}
 use Rattle.cost_tree.proofs.tree.CostTree.of_lists.Goals as goal
 
 pub of-requires-clause-shape : goal.of-requires-clause-shape
@@ -32,7 +33,8 @@ invariant_of-result c =
     ∙ ap (λ (ends : List ℕ). lists_in c.shape.inside.edges.keys ends) c.deref-2.ensures.value
     ∙ c.shape.view_is in
     let texts = subst (λ (ls : List (List ℕ)). AreTexts names ls) (sym lists) c.names.invariant in
-    let is = c.in_ok-nodes.ensures.tree names _ c.args.depth (c.in_ok-branches.ensures.tree names c.len-count.ensures.distinct texts) in
+    let grown = c.in_ok-grown.ensures.tree names c.len-count.ensures.distinct texts in
+    let is = c.in_ok-nodes.ensures.tree names _ c.args.depth (IsTree-same names _ _ _ _ _ c.args.depth c.settled-branches.ensures.edges c.settled-branches.ensures.nodes grown) in
     record { branches = is.nodes.branches; links = is.links }
 
 pub returns : goal.returns
@@ -43,7 +45,8 @@ returns c =
     ∙ ap (λ (ends : List ℕ). lists_in c.shape.inside.edges.keys ends) c.deref-2.ensures.value
     ∙ c.shape.view_is in
     let texts = subst (λ (ls : List (List ℕ)). AreTexts names ls) (sym lists) c.names.invariant in
-    let is = c.in_ok-nodes.ensures.tree names _ c.args.depth (c.in_ok-branches.ensures.tree names c.len-count.ensures.distinct texts) in
+    let grown = c.in_ok-grown.ensures.tree names c.len-count.ensures.distinct texts in
+    let is = c.in_ok-nodes.ensures.tree names _ c.args.depth (IsTree-same names _ _ _ _ _ c.args.depth c.settled-branches.ensures.edges c.settled-branches.ensures.nodes grown) in
     let tree : TreeState = record { names = names; fronts = fronts_of names (edges_in c.in_ok-nodes.field-0.nodes.items c.in_ok-nodes.field-0.links.links.items); nodes = c.in_ok-nodes.field-0.nodes.items } in
     let all = ap (λ (ls : List (List ℕ)). lists_of names ls) lists ∙ c.names.view_is ∙ c.in_ok-names.ensures.same in
     record {

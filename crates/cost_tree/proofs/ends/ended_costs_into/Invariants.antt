@@ -1,7 +1,7 @@
 use Rattle.std.proofs.Common.{◌≡◌, ℕ, ◌<◌, length, take}
 use Rattle.std.specs.Prelude.{slice_index}
 use Rattle.cost_tree.specs.CutShapes.{ended_cost}
-use Rattle.cost_tree.proofs.ends.ended_costs.Given as goal
+use Rattle.cost_tree.proofs.ends.ended_costs_into.Given as goal
 
 -- the sums are those of the lists so far
 abbrev pub invariant-each_list : goal.invariant-each_list

@@ -1,6 +1,6 @@
 use Rattle.std.proofs.Common.{◌≡◌, map, take}
 use Rattle.std.specs.Prelude.{slice_index}
-use Rattle.cost_tree.proofs.ends.costs_at.Given as goal
+use Rattle.cost_tree.proofs.ends.costs_at_into.Given as goal
 
 abbrev pub invariant-each_list : goal.invariant-each_list
 invariant-each_list l = l.costs.items ≡ map (slice_index l.sums) (take l.list l.ends)

@@ -1,7 +1,7 @@
 use Rattle.std.proofs.Common.{ℕ, List, [], ◌∷◌, ◌++◌, sym, ap, ◌∙◌, arith}
 use Rattle.std.proofs.lemmas.List.{take_all}
 use Rattle.cost_tree.proofs.Lists.{take-next}
-use Rattle.cost_tree.proofs.costing.Costing.list.Goals as goal
+use Rattle.cost_tree.proofs.costing.Costing.list_into.Goals as goal
 
 pub loop-stack-preserved : goal.loop-stack-preserved
 loop-stack-preserved g c = λ costs are.

@@ -2,10 +2,10 @@ use Rattle.std.proofs.Common.{ℕ, List, ◌++◌, [], ◌∷◌, take, sym, ap,
 use Rattle.std.proofs.lemmas.List.{take_all}
 use Rattle.cost_tree.specs.CutShapes.{raised_counts}
 use Rattle.cost_tree.proofs.Lengthening.{raised-more, raised-start}
-use Rattle.cost_tree.proofs.cut.raised_counts.Goals as goal
+use Rattle.cost_tree.proofs.cut.raised_counts_into.Goals as goal
 
 pub each_list-init : goal.each_list-init
-each_list-init c = c.in_ok-more.ensures.items ∙ sym (raised-start c.args.scale)
+each_list-init c = c.reserve.ensures.items ∙ c.clear.ensures.items ∙ sym (raised-start c.args.scale)
 
 pub each_list-preserved : goal.each_list-preserved
 each_list-preserved c =

@@ -1,16 +1,16 @@
-use Rattle.std.proofs.Common.{◌≡◌, ℕ, ◌+◌, ◌<◌, List, length, replicate, get_or, sym, ap, ◌∙◌, arith}
+use Rattle.std.proofs.Common.{◌≡◌, ℕ, ◌+◌, ◌<◌, List, length, replicate, get_or, sym, ap, ◌∙◌, arith, rules}
 use Rattle.std.proofs.lemmas.List.{length-replicate, length-set}
 use Rattle.std.proofs.lemmas.List.Elements.{All-get_or}
 use Rattle.std.proofs.lemmas.Grind.{get_or_default_zero}
 use Rattle.cost_tree.proofs.Lengthening.{ended-room, ended-set, ended-start, zeros-none}
-use Rattle.cost_tree.proofs.ends.ended_costs.Goals as goal
+use Rattle.cost_tree.proofs.ends.ended_costs_into.Goals as goal
 
 pub each_list-init : goal.each_list-init
 each_list-init c =
-    let zeros : c.in_ok-sums.sums.items ≡ replicate c.args.nodes 0 = c.in_ok-sums.ensures.items_if_clones_equal (λ y same. same) in
+    let zeros : c.resize.new.self.items ≡ replicate c.args.nodes 0 = search rules in
     record {
       count = ap (λ (ns : List ℕ). length ns) zeros ∙ length-replicate c.args.nodes 0;
-      sums = λ node within. zeros-none c.in_ok-sums.sums.items c.args.nodes node zeros within ∙ sym (ended-start node);
+      sums = λ node within. zeros-none c.resize.new.self.items c.args.nodes node zeros within ∙ sym (ended-start node);
     }
 
 pub overflow_add-index_mut : goal.overflow_add-index_mut
