@@ -1,7 +1,8 @@
 -- What stacks cost at a place, and the tree that is built of it at the end, when there may be more stacks.
-use Rattle.std.proofs.Common.{◌≡◌, ℕ, zero, suc, ◌+◌, ◌-◌, ◌<◌, ◌≤◌, List, [], ◌∷◌, length, map, sum, refl, ap, sym, ◌∙◌, arith}
-use Rattle.std.specs.Prelude.{slice_get, slice_index, slice_index_or, Some, sum_by}
+use Rattle.std.proofs.Common.{◌≡◌, ℕ, zero, suc, ◌+◌, ◌-◌, ◌<◌, ◌≤◌, if◌then◌else◌, Bool, true, false, List, [], ◌∷◌, length, map, sum, refl, ap, sym, ◌∙◌, arith}
+use Rattle.std.specs.Prelude.{◌==◌, slice_get, slice_index, slice_index_or, Some, sum_by}
 use Rattle.std.specs.List.{range_with_len}
+use Rattle.std.proofs.lemmas.Bool.{eqb-true}
 use Rattle.std.proofs.lemmas.List.{get_or_past}
 use Rattle.std.proofs.lemmas.List.FromFn.{get_or-map-range_with_len, length-map-range_with_len}
 use Rattle.std.proofs.lemmas.List.Sums.{sum-map, sum_by-cons}
@@ -9,11 +10,14 @@ use Rattle.std.proofs.lemmas.Option.{slice_get-get_or}
 use Rattle.cost_history.specs.declared.change.Change.{Change}
 use Rattle.cost_history.specs.Changes as history
 use Rattle.cost_tree.specs.Costed.{Costed, costed}
+use Rattle.cost_tree.specs.CostLines.{cost_lines, front_lines, gathered_lines, kept_fronts, small_fronts}
+use Rattle.cost_tree.specs.NextFronts.{next_fronts}
 use Rattle.ht_trace.specs.TableState.{TableState}
 use Rattle.live_ledger.specs.declared.event.Event.{Event}
 use Rattle.massif_tree.specs.FunctionLists.{trimmed_before, trimmed_lists, trimmed_texts}
-use Rattle.massif_tree.specs.MassifTree.{massif_tree}
-use Rattle.massif_tree.proofs.Laws.{range-parts, tree-idle}
+use Rattle.massif_tree.specs.declared.options.TreeOptions.{TreeOptions}
+use Rattle.massif_tree.specs.MassifTree.{massif_line, massif_tree, scale_of}
+use Rattle.massif_tree.proofs.Laws.{AreIdle, range-parts, tree-idle}
 use Rattle.massif_sample.specs.declared.options.MassifOptions.{MassifOptions}
 use Rattle.massif_sample.specs.FunctionNames.{FunctionNames, ignores}
 use Rattle.massif_sample.specs.Options.{tree_options}
@@ -77,6 +81,38 @@ padded-within count costs =
     let same = ap sum (map-same f g 0 count (λ k low high. ap (λ (j : ℕ). slice_index_or costs j 0) (let next : k ≡ k - 0 = omega arith in next))) in
     let rest = rest-within costs 0 count in
     omega arith
+
+-- stacks cost nothing that cost nothing together
+idle-costed : (lists : List (List (List ℕ))) (costs : List ℕ) → sum costs ≡ 0 → AreIdle (costed lists costs)
+unfolding costed
+idle-costed [] costs none = tt
+idle-costed (texts ∷ lists) [] none = tt
+idle-costed (texts ∷ lists) (cost ∷ costs) none =
+    let whole = sum_by-cons (λ (k : ℕ). k) cost costs in (omega arith, idle-costed lists costs (omega arith))
+
+-- the tree of no stacks has one line by any total
+no-stacks : (options : TreeOptions) (a b : ℕ) → massif_tree options a [] ≡ massif_tree options b []
+unfolding massif_tree cost_lines front_lines kept_fronts small_fronts gathered_lines next_fronts
+no-stacks options a b = by_depth options.depth
+  where
+    by_depth : (depth : ℕ) → map (massif_line options.threshold) (front_lines depth (scale_of options a) [] []) ≡ map (massif_line options.threshold) (front_lines depth (scale_of options b) [] [])
+    by_depth zero = refl
+    by_depth (suc depth) = refl
+
+-- so has that of stacks that cost nothing
+tree-free : (options : TreeOptions) (a b : ℕ) (stacks : List Costed) → AreIdle stacks → massif_tree options a stacks ≡ massif_tree options b stacks
+tree-free options a b stacks idle = tree-idle options a [] stacks idle ∙ no-stacks options a b ∙ sym (tree-idle options b [] stacks idle)
+
+pub tree-shared : (options : TreeOptions) (total live count : ℕ) (lists : List (List (List ℕ))) (costs : List ℕ) → live ≡ sum costs
+    → massif_tree options (if live == 0 then 1 else total) (costed lists (padded count costs)) ≡ massif_tree options total (costed lists (padded count costs))
+tree-shared options total live count lists costs is = by_test (live == 0) refl
+  where
+    by_test : (none : Bool) → (live == 0) ≡ none
+        → massif_tree options (if none then 1 else total) (costed lists (padded count costs)) ≡ massif_tree options total (costed lists (padded count costs))
+    by_test true none =
+        tree-free options 1 total (costed lists (padded count costs))
+        (idle-costed lists (padded count costs) (let zero_live = eqb-true live 0 none in let within = padded-within count costs in omega arith))
+    by_test false some = refl
 
 -- costs that are those of a place
 pub padded-told : (count : ℕ) (costs : List ℕ) (changes : List Change) (place : ℕ) → ((stack : ℕ) → slice_index costs stack ≡ history.cost_at changes place stack) → padded count costs ≡ told count changes place

@@ -1,5 +1,5 @@
 //! The tree of a place that was kept, of what each stack cost there.
-ghost use Rattle.std.specs.Prelude.{◌≡◌, ℕ, ◌+◌, ◌^◌, ◌≤◌, true, List, length, slice_index_or, sum, IfOk};
+ghost use Rattle.std.specs.Prelude.{◌≡◌, ℕ, ◌+◌, ◌==◌, ◌^◌, ◌≤◌, if◌then◌else◌, List, length, slice_index_or, sum, IfOk, IfSome};
 ghost use Rattle.cost_tree.specs.Costed.{costed};
 ghost use Rattle.ht_trace.specs.TableState.{TableState};
 ghost use Rattle.massif_tree.specs.FirstLists.{first_lists};
@@ -33,27 +33,39 @@ pub(crate) fn place_tree(
         (padded (length fronts.old.whole) costs.now))) }
     ensures whole { fronts.new.whole ≡ fronts.old.whole }
 {
-    // What stacks cost together at a place is live there, and a trace allocates at most 2^62 bytes in all. So they always
-    // are, and this only tells the bound.
-    if !are_bounded(costs) {
+    // What stacks cost together at a place is live there, and a trace allocates at most 2^62 bytes in all. So it always
+    // has a sum, and this only tells the bound.
+    let Some(live) = bounded_sum(costs) else {
         return Err(NoMemory);
-    }
+    };
     let costing = Costing::new(fronts.len(), |stack: u32| cost_at(costs, stack));
-    snapshot_tree(alloc, fronts, &costing, options, total)
+    snapshot_tree(alloc, fronts, &costing, options, shared_total(total, live))
 }
 
-/// Whether the costs sum to at most 2^62.
-fn are_bounded(costs: &[u64]) -> bool
-    ensures { result ≡ true → sum costs.now ≤ 2 ^ 62 }
+/// What the costs sum to, or `None` where it's more than 2^62.
+fn bounded_sum(costs: &[u64]) -> Option<u64>
+    ensures sum { IfSome result (λ live. live ≡ sum costs.now) }
+    ensures bound { IfSome result (λ live. sum costs.now ≤ 2 ^ 62) }
 {
     let mut total: u64 = 0;
     for cost in costs {
         if *cost > MOST - total {
-            return false;
+            return None;
         }
         total += *cost;
     }
-    true
+    Some(total)
+}
+
+/// The total that shares are of. Where nothing is live a tree has one line by any total; but by a total of 0 no share is
+/// small, and each stack's list would be made as long as it is.
+fn shared_total(total: u64, live: u64) -> u64
+    ensures { result ≡ if live == 0 then 1 else total }
+{
+    if live == 0 {
+        return 1;
+    }
+    total
 }
 
 /// What the stack costs, and 0 where it has no cost.

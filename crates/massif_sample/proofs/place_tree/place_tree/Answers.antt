@@ -2,10 +2,11 @@ use Rattle.std.proofs.Common.{◌≡◌, ℕ, ◌≤◌, ◌^◌, List, length, 
 use Rattle.std.specs.Prelude.{Some, slice_index_or, sum}
 use Rattle.std.proofs.lemmas.Result.{IfOk-weaker}
 use Rattle.cost_tree.specs.Costed.{costed}
+use Rattle.ht_trace.specs.TableState.{TableState}
 use Rattle.massif_tree.specs.FunctionLists.{trimmed_before}
 use Rattle.massif_tree.specs.MassifTree.{massif_tree}
 use Rattle.massif_sample.specs.Padded.{padded}
-use Rattle.massif_sample.proofs.AtPlace.{padded-at, padded-count, padded-within}
+use Rattle.massif_sample.proofs.AtPlace.{padded-at, padded-count, padded-within, tree-shared}
 use Rattle.massif_sample.proofs.place_tree.place_tree.Goals as goal
 
 pub new-costing-requires : goal.new-costing-requires
@@ -44,6 +45,7 @@ returns-clause-lines c =
     let costs : List ℕ = c.args.costs.now in
     let fits : sum costs ≤ 2 ^ 62 = search rules in
     let count = padded-count c.len.result costs in
+    let lists : TableState → List (List ℕ) → List (List (List ℕ)) = λ tables names. trimmed_before tables names (length c.args.fronts.now.whole) in
     IfOk-weaker c.snapshot_tree.result _ _
     (λ lines is tables names are.
     is tables names (padded c.len.result costs) are
@@ -53,5 +55,7 @@ returns-clause-lines c =
       callable = λ stack below. search rules;
       cost = λ stack cost below says. let told : cost ≡ slice_index_or costs stack 0 = search rules in padded-at c.len.result costs stack below ∙ ap (λ (n : ℕ). Some n) (sym told);
     }))
-    ∙ ap (λ (n : ℕ). massif_tree c.args.options.now c.args.total (costed (trimmed_before tables names (length c.args.fronts.now.whole)) (padded n costs))) c.len.ensures.whole)
+    ∙ ap (λ (t : ℕ). massif_tree c.args.options.now t (costed (lists tables names) (padded c.len.result costs))) c.shared_total.ensures
+    ∙ tree-shared c.args.options.now c.args.total c.in-Some.live c.len.result (lists tables names) costs c.in-Some.ensures.sum
+    ∙ ap (λ (n : ℕ). massif_tree c.args.options.now c.args.total (costed (lists tables names) (padded n costs))) c.len.ensures.whole)
     c.snapshot_tree.ensures.lines

@@ -1,5 +1,5 @@
 use Rattle.std.proofs.Common.{◌≡◌, ◌≤◌, ◌^◌, take, sum}
-use Rattle.massif_sample.proofs.place_tree.are_bounded.Given as goal
+use Rattle.massif_sample.proofs.place_tree.bounded_sum.Given as goal
 
 abbrev pub invariant-loop-cost : goal.invariant-loop-cost
 invariant-loop-cost l = record {
