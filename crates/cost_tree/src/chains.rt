@@ -45,12 +45,7 @@ impl Chains {
 
     /// Appends a list: these numbers, and then those of an earlier list, if any, but at most `most`. There must be fewer
     /// than 2^32 - 1 lists. On `NoMemory` the lists are as before.
-    pub(crate) fn push(
-        &mut self,
-        own: &[usize],
-        next: Option<u32>,
-        most: usize,
-    ) -> Result<(), NoMemory>
+    pub fn push(&mut self, own: &[usize], next: Option<u32>, most: usize) -> Result<(), NoMemory>
         requires earlier { IfSome next (λ list. list < length self.old) }
         requires few { length self.old < 2 ^ 32 - 1 }
         ensures appended { OnOk result
@@ -92,7 +87,7 @@ impl Chains {
     }
 
     /// How many numbers the list has, which must be held.
-    pub(crate) fn count(&self, list: u32) -> usize
+    pub fn count(&self, list: u32) -> usize
         requires held { list < length self.now }
         ensures count { result ≡ length (slice_index_or self.now list []) }
     {
@@ -101,7 +96,7 @@ impl Chains {
 
     /// Replaces `numbers` by the first ones of the list, which must be held: at most `most`. No more are read. On
     /// `NoMemory` it has some of them.
-    pub(crate) fn list_into(
+    pub fn list_into(
         &self,
         list: u32,
         most: usize,
