@@ -1,28 +1,21 @@
 -- The frames of stacks, and the points that have them.
-use Rattle.std.proofs.Common.{◌≡◌, ◌≢◌, ℕ, ◌+◌, ◌<◌, ◌≤◌, eqb, Bool, true, false, List, [], ◌∷◌, ◌++◌, codes, get_or, length, map, set, take, Some, refl, ap, ap₂, ◌∙◌, sym, subst, arith, append-nil}
-use Rattle.std.specs.Prelude.{All, slice_get}
+use Rattle.std.proofs.Common.{◌≡◌, ℕ, ◌+◌, ◌<◌, true, false, List, [], ◌∷◌, ◌++◌, codes, get_or, length, map, take, refl, ap, ap₂, ◌∙◌, sym, subst, append-nil}
+use Rattle.std.specs.Prelude.{All}
 use Rattle.std.specs.List.{flat_map}
 use Rattle.std.specs.Str.{bytes_eq}
-use Rattle.std.proofs.lemmas.Bool.Decides.{nat_tests}
-use Rattle.std.proofs.lemmas.Grind.{flat_map-append, get_or-set_at}
-use Rattle.std.proofs.lemmas.List.{get_or-set_other, map_push, take_more}
+use Rattle.std.proofs.lemmas.Grind.{flat_map-append}
+use Rattle.std.proofs.lemmas.List.{map_push, take_more}
 use Rattle.std.proofs.lemmas.List.Elements.{All-append, All-cons, All-head, All-nil, All-tail, All-weaker}
-use Rattle.std.proofs.lemmas.Option.{get_or_from_slice_get}
 use Rattle.dhat_json.specs.declared.profile.Point.{Point}
 use Rattle.dhat_json.specs.IsSound.{IsSoundPoint}
 use Rattle.ht_trace.specs.TableState.{TableState}
 use Rattle.intern_tables.specs.WithoutRepeats.{without_repeats}
 use Rattle.dhat_trace.specs.declared.points.CalledStack.{CalledStack}
 use Rattle.dhat_trace.specs.declared.points.PointFigures.{PointFigures}
-use Rattle.dhat_trace.specs.Backtraces.{AreBacktraces}
-use Rattle.dhat_trace.specs.FrameTable.{AddsTexts, Keeps, frame_texts, places_in, table_of}
-use Rattle.dhat_trace.specs.KnownPlaces.{GainsPlaces, HavePlaces}
+use Rattle.dhat_trace.specs.Backtraces.{AreBacktraces, IsTelling, IsTold}
+use Rattle.dhat_trace.specs.FrameTable.{AddsTexts, frame_texts, places_in, table_of}
 use Rattle.dhat_trace.specs.Points.{called_with, point_with, points_in, points_of}
-use Rattle.dhat_trace.proofs.KnownLemmas.{gains_all, known_later, known_more, places_are, places_stay, places_within}
-
--- the stack has the places of its frames
-abbrev IsTold : TableState → List (List ℕ) → List (List ℕ) → ℕ → Type 0
-IsTold tables table told stack = HavePlaces table (frame_texts tables stack) (get_or told stack [])
+use Rattle.dhat_trace.proofs.KnownLemmas.{places_are, places_within}
 
 -- the table with the texts of one stack more
 table_more : (tables : TableState) (stacks : List ℕ) (stack : ℕ) (old new : List (List ℕ)) → old ≡ table_of tables stacks → AddsTexts old (frame_texts tables stack) new
@@ -32,48 +25,29 @@ table_more tables stacks stack old new is adds =
     adds.first_places (codes "[root]" ∷ flat_map (frame_texts tables) stacks) is ∙ ap (λ (texts : List (List ℕ)). without_repeats bytes_eq (codes "[root]" ∷ texts))
     (sym (flat_map-append (frame_texts tables) stacks (stack ∷ []) ∙ ap (λ (texts : List (List ℕ)). flat_map (frame_texts tables) stacks ++ texts) (append-nil (frame_texts tables stack))))
 
--- a stack that was told stays so where another one is told
-still_told : (tables : TableState) (old new told : List (List ℕ)) (stack : ℕ) (own : List ℕ) → Keeps old new → stack < length told → HavePlaces new (frame_texts tables stack) own
-    → (other : ℕ) → IsTold tables old told other → IsTold tables new (set told stack own) other
-still_told tables old new told stack own keeps within held other was = by (eqb other stack) refl
-  where
-    by : (b : Bool) → eqb other stack ≡ b → IsTold tables new (set told stack own) other
-    by true test =
-        let same : other ≡ stack = grind (arith, nat_tests) in
-        subst (λ (places : List ℕ). HavePlaces new (frame_texts tables other) places) (sym (get_or-set_at told stack other own [] same within))
-        (subst (λ (n : ℕ). HavePlaces new (frame_texts tables n) own) (sym same) held)
-    by false test =
-        let differs : other ≢ stack = grind (arith, nat_tests) in
-        subst (λ (places : List ℕ). HavePlaces new (frame_texts tables other) places) (sym (get_or-set_other told stack other own [] differs))
-        (places_stay old new keeps (frame_texts tables other) (get_or told other []) was)
-
 -- one stack more
-one_more : (tables : TableState) (stacks : List ℕ) (stack : ℕ) (old new told : List (List ℕ)) (own : List ℕ) → stack ≤ length tables.nodes → AreBacktraces tables stacks old told
-    → AddsTexts old (frame_texts tables stack) new → HavePlaces new (frame_texts tables stack) own → AreBacktraces tables (stacks ++ stack ∷ []) new (set told stack own)
-one_more tables stacks stack old new told own node are adds held =
-    let within : stack < length told = omega (arith, node, are.told_are.count) in
-    let later = IsTold tables new (set told stack own) in
-    let count = length tables.nodes + 1 in
+one_more : (tables : TableState) (stacks : List ℕ) (stack : ℕ) (old new told more : List (List ℕ)) → AreBacktraces tables stacks old told → AddsTexts old (frame_texts tables stack) new
+    → IsTelling tables stack old told new more → AreBacktraces tables (stacks ++ stack ∷ []) new more
+one_more tables stacks stack old new told more are adds tells =
+    let later = IsTold tables new more in
     record {
       table_is = table_more tables stacks stack old new are.table_is adds;
-      told_are = known_more (frame_texts tables) count new told stack own (known_later (frame_texts tables) count old new told adds.keeps are.told_are) held;
-      all = All-append later stacks (stack ∷ []) (All-weaker (IsTold tables old told) later (still_told tables old new told stack own adds.keeps within held) stacks are.all)
-          (All-cons later stack [] (subst (HavePlaces new (frame_texts tables stack)) (sym (get_or-set_at told stack stack own [] refl within)) held) (All-nil later));
+      told_are = tells.told_are;
+      all = All-append later stacks (stack ∷ []) (All-weaker (IsTold tables old told) later tells.kept stacks are.all) (All-cons later stack [] tells.own (All-nil later));
     }
 
 -- those of the first stacks of a list, and of one more
-pub next_backtraces : (tables : TableState) (stacks : List CalledStack) (at : ℕ) (called : CalledStack) (old new told more : List (List ℕ)) (none own : List ℕ) → at < length stacks
-    → (get_or stacks at called).stack ≤ length tables.nodes → AreBacktraces tables (map (λ (c : CalledStack). c.stack) (take at stacks)) old told
-    → none ≡ [] → GainsPlaces old none (frame_texts tables (get_or stacks at called).stack) new own → more ≡ set told (get_or stacks at called).stack own
+pub next_backtraces : (tables : TableState) (stacks : List CalledStack) (at : ℕ) (called : CalledStack) (old new told more : List (List ℕ)) → at < length stacks
+    → AreBacktraces tables (map (λ (c : CalledStack). c.stack) (take at stacks)) old told
+    → AddsTexts old (frame_texts tables (get_or stacks at called).stack) new → IsTelling tables (get_or stacks at called).stack old told new more
     → AreBacktraces tables (map (λ (c : CalledStack). c.stack) (take (at + 1) stacks)) new more
-next_backtraces tables stacks at called old new told more none own within node are empty gains is =
+next_backtraces tables stacks at called old new told more within are adds tells =
     let numbers : CalledStack → ℕ = λ c. c.stack in
     let next = get_or stacks at called in
     let longer : map numbers (take (at + 1) stacks) ≡ map numbers (take at stacks) ++ next.stack ∷ [] =
     ap (map numbers) (take_more stacks at called within) ∙ map_push numbers (take at stacks) next in
     subst (λ (ns : List ℕ). AreBacktraces tables ns new more) (sym longer)
-    (subst (AreBacktraces tables (map numbers (take at stacks) ++ next.stack ∷ []) new) (sym is)
-    (one_more tables (map numbers (take at stacks)) next.stack old new told own node are gains.added (gains_all old (frame_texts tables next.stack) new none own empty gains)))
+    (one_more tables (map numbers (take at stacks)) next.stack old new told more are adds tells)
 
 -- the points of the stacks
 points_are : (tables : TableState) (table told : List (List ℕ)) (figures : ℕ → PointFigures) (stacks : List ℕ) → All (IsTold tables table told) stacks
@@ -110,10 +84,10 @@ all_sound tables figures stacks table told are =
     subst (λ (t : List (List ℕ)). All (IsSoundPoint true false (length t)) (points_of t tables figures stacks)) are.table_is (points_sound tables table told figures stacks are.all)
 
 -- the points of the first stacks of a list, and one more
-pub next_points : (stacks : List CalledStack) (told : List (List ℕ)) (at : ℕ) (called : CalledStack) (places : List ℕ) → at < length stacks → slice_get told (get_or stacks at called).stack ≡ Some places
+pub next_points : (stacks : List CalledStack) (told : List (List ℕ)) (at : ℕ) (called : CalledStack) (places : List ℕ) → at < length stacks → places ≡ get_or told (get_or stacks at called).stack []
     → points_in (take at stacks) told ++ point_with (get_or stacks at called).figures places ∷ [] ≡ points_in (take (at + 1) stacks) told
 next_points stacks told at called places within is =
     let next = get_or stacks at called in
     let point : CalledStack → Point = λ c. point_with c.figures (get_or told c.stack []) in
-    ap (λ (ps : List ℕ). points_in (take at stacks) told ++ point_with next.figures ps ∷ []) (sym (get_or_from_slice_get told next.stack places [] is))
+    ap (λ (ps : List ℕ). points_in (take at stacks) told ++ point_with next.figures ps ∷ []) is
     ∙ sym (ap (map point) (take_more stacks at called within) ∙ map_push point (take at stacks) next)

@@ -60,7 +60,7 @@ gains_none table places = record {
   told = λ front held. subst (λ (texts : List (List ℕ)). HavePlaces table texts places) (sym (append-nil front)) held;
 }
 
-pub gains_more : (old one new texts more : List (List ℕ)) (first second third : List ℕ) → GainsPlaces old first texts one second → GainsPlaces one second more new third
+gains_more : (old one new texts more : List (List ℕ)) (first second third : List ℕ) → GainsPlaces old first texts one second → GainsPlaces one second more new third
     → GainsPlaces old first (texts ++ more) new third
 gains_more old one new texts more first second third before behind = record {
   added = adds_more old one new texts more before.added behind.added;
@@ -72,7 +72,7 @@ pub gains_all : (old texts new : List (List ℕ)) (before after : List ℕ) → 
 gains_all old texts new before after none gains = gains.told [] (subst (HavePlaces old []) (sym none) tt)
 
 -- texts that came, with their places
-pub gains_told : (old texts new : List (List ℕ)) (before places after : List ℕ) → AddsTexts old texts new → HavePlaces new texts places → after ≡ before ++ places
+gains_told : (old texts new : List (List ℕ)) (before places after : List ℕ) → AddsTexts old texts new → HavePlaces new texts places → after ≡ before ++ places
     → GainsPlaces old before texts new after
 gains_told old texts new before places after added held appended = record {
   added = added;

@@ -2,7 +2,9 @@ mod FigureLemmas
 mod Repeats
 mod PlaceLemmas
 mod RangeLemmas
+mod NumberLemmas
 mod KnownLemmas
+mod LegLemmas
 mod BacktraceLemmas
 mod PointLists
 mod TextLemmas

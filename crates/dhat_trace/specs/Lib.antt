@@ -2,6 +2,8 @@ pub mod ProfileTexts
 pub mod FrameTable
 pub mod PlaceRanges
 pub mod KnownPlaces
+pub mod ListNumbers
+pub mod Legs
 pub mod Backtraces
 pub mod PointFigures
 pub mod Points

@@ -1,24 +1,26 @@
 //! The frames of the stacks that have a point, told by their places in the table of frames.
-ghost use Rattle.std.specs.Prelude.{◌≡◌, ◌≤◌, ◌∷◌, [], All, IfOk, codes, length, map};
+ghost use Rattle.std.specs.Prelude.{◌≡◌, ◌≤◌, ◌∷◌, [], All, IfOk, OnOk, codes, length, map};
 ghost use Rattle.dhat_trace.specs.declared.points.CalledStack.{CalledStack};
-ghost use Rattle.dhat_trace.specs.Backtraces.{AreBacktraces};
-ghost use Rattle.dhat_trace.specs.KnownPlaces.{AreKnown};
+ghost use Rattle.dhat_trace.specs.Backtraces.{AreBacktraces, IsTelling};
+ghost use Rattle.dhat_trace.specs.FrameTable.{AddsTexts, frame_texts};
+ghost use Rattle.dhat_trace.specs.KnownPlaces.{AreKnown, AreTold};
 
 use crate::frame_table::FrameTable;
-use crate::known_places::KnownPlaces;
+use crate::leg::Leg;
 use crate::points::CalledStack;
+use crate::told_places::ToldPlaces;
 use hp_num::NoMemory;
 use ht_trace::Tables;
 use std::alloc::Global;
 
-/// The places of the frames of each of these stacks, and none of other stacks, or `NoMemory`. The texts of the frames come
-/// to the table, which has the root alone before.
+/// The places of the frames of each of these stacks, or `NoMemory`. The texts of the frames come to the table, which has the
+/// root alone before.
 pub(crate) fn backtraces(
     alloc: Global,
     tables: &Tables,
     stacks: &[CalledStack],
     table: &mut FrameTable,
-) -> Result<KnownPlaces, NoMemory>
+) -> Result<ToldPlaces, NoMemory>
     requires held { All (λ called. called.stack ≤ length tables.now.nodes) stacks.now }
     requires root { table.old.texts ≡ codes "[root]" ∷ [] }
     requires known { AreKnown tables.now table.old.texts table.old.known }
@@ -26,12 +28,51 @@ pub(crate) fn backtraces(
         (λ told. AreBacktraces tables.now (map (λ called. called.stack) stacks.now)
         table.new.texts told) }
 {
-    let mut told = KnownPlaces::new(alloc, tables.stacks() as usize)?;
+    let mut told = ToldPlaces::new(alloc, tables.stacks() as usize)?;
     let mut places = Vec::new(alloc);
+    let mut legs = Vec::new(alloc);
     'each_stack: for called in stacks {
-        places.clear();
-        table.push_stack(tables, &told, called.stack, &mut places)?;
-        told.set(called.stack as usize, &places)?;
+        tell_stack(
+            tables,
+            called.stack,
+            table,
+            &mut places,
+            &mut legs,
+            &mut told,
+        )?;
     }
     Ok(told)
+}
+
+/// Tells the places of a stack's frames, and those of the stacks at which a leg of the way outwards begins: each list has its
+/// own places up to the next leg, and goes on with the list of that. So what stacks share is told once, whatever is inside it.
+/// `places` and `legs` are buffers.
+fn tell_stack(
+    tables: &Tables,
+    stack: u32,
+    table: &mut FrameTable,
+    places: &mut Vec<usize>,
+    legs: &mut Vec<Leg>,
+    told: &mut ToldPlaces,
+) -> Result<(), NoMemory>
+    requires held { stack ≤ length tables.now.nodes }
+    requires known { AreKnown tables.now table.old.texts table.old.known }
+    requires told { AreTold tables.now table.old.texts told.old }
+    ensures known { OnOk result (AreKnown tables.now table.new.texts table.new.known) }
+    ensures added { OnOk result
+        (AddsTexts table.old.texts (frame_texts tables.now stack) table.new.texts) }
+    ensures told { OnOk result
+        (IsTelling tables.now stack table.old.texts told.old table.new.texts told.new) }
+{
+    let mut next = table.gather(tables, told, stack, places, legs)?;
+    let mut end = places.len();
+    'inwards: while let Some(leg) = legs.pop() {
+        // Each leg starts before those behind it. That it does is asked here, so that no clause has to tell it.
+        if leg.start < end {
+            told.set(leg.stack as usize, &places[leg.start..end], next)?;
+            next = Some(leg.stack);
+            end = leg.start;
+        }
+    }
+    told.set(stack as usize, &places[..end], next)
 }

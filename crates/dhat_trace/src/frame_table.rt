@@ -1,13 +1,17 @@
 //! The table of frames: each text once, under its place, in the order in which stacks bring them. The places of an
 //! instruction's frames are kept, so that the texts of its frames are made once, however many stacks have it.
-ghost use Rattle.std.specs.Prelude.{◌≡◌, ℕ, ◌+◌, ◌^◌, ◌<◌, ◌≤◌, ◌++◌, List, [], ◌∷◌, All, IfOk, OnOk, Some, codes, length, map, slice_get};
+ghost use Rattle.std.specs.Prelude.{◌≡◌, ℕ, ◌+◌, ◌^◌, ◌<◌, ◌≤◌, ◌++◌, List, [], ◌∷◌, All, IfOk, IfSome, OnOk, Some, codes, length, map, slice_get};
 ghost use Rattle.intern_tables.specs.Numbers.{number_of};
 ghost use Rattle.ht_trace.specs.IsFrame.{IsFrame};
-ghost use Rattle.dhat_trace.specs.FrameTable.{AddsTexts, frame_texts, profile_frame};
+ghost use Rattle.cost_tree.specs.Following.{following};
+ghost use Rattle.dhat_trace.specs.FrameTable.{AddsTexts, profile_frame};
+ghost use Rattle.dhat_trace.specs.Legs.{IsGathered};
 ghost use Rattle.dhat_trace.specs.KnownPlaces.{AreKnown, AreTold, GainsPlaces, HavePlaces, instruction_texts};
 
 use crate::known_places::KnownPlaces;
+use crate::leg::{Leg, note_leg};
 use crate::texts::make_utf8;
+use crate::told_places::ToldPlaces;
 use dhat_json::Texts;
 use hp_num::{NoMemory, Text};
 use ht_trace::{FrameAt, Style, Tables};
@@ -25,6 +29,7 @@ pub(crate) struct FrameTable {
     pub(crate) known: KnownPlaces,
     frames: Vec<FrameAt>,
     text: Vec<u8>,
+    outer: Vec<usize>,
     alloc: Global,
 }
 
@@ -43,67 +48,55 @@ impl FrameTable {
             known,
             frames: Vec::new(alloc),
             text: Vec::new(alloc),
+            outer: Vec::new(alloc),
             alloc,
         })
     }
 
-    /// Appends the places of the frames of a stack, from the innermost on. A text that is new comes to the end of the table.
-    /// Where the stack is called from one whose places were told before, they go on as those.
-    pub(crate) fn push_stack(
+    /// Replaces `places` by those of the frames of a stack, from the innermost on, and `legs` by where a leg of the way outwards
+    /// begins. A text that is new comes to the end of the table. Where the stack is called from one that was told before, the
+    /// places go on as that one's, which are appended or whose stack is answered.
+    pub(crate) fn gather(
         &mut self,
         tables: &Tables,
-        told: &KnownPlaces,
+        told: &ToldPlaces,
         stack: u32,
-        places: &mut Vec<u64>,
-    ) -> Result<(), NoMemory>
+        places: &mut Vec<usize>,
+        legs: &mut Vec<Leg>,
+    ) -> Result<Option<u32>, NoMemory>
         requires held { stack ≤ length tables.now.nodes }
         requires known { AreKnown tables.now self.old.texts self.old.known }
         requires told { AreTold tables.now self.old.texts told.now }
         ensures known { OnOk result (AreKnown tables.now self.new.texts self.new.known) }
-        ensures gains { OnOk result
-            (GainsPlaces self.old.texts places.old.items (frame_texts tables.now stack)
-            self.new.texts places.new.items) }
+        ensures next { IfOk result (λ next. IfSome next (λ other. other < length told.now)) }
+        ensures gathered { IfOk result
+            (λ next. IsGathered tables.now stack self.old.texts self.new.texts
+            (places.new.items ++ following told.now next) legs.new.items) }
     {
+        places.clear();
+        legs.clear();
         if stack == 0 {
             tables.frames_into(stack, &mut self.frames)?;
-            return push_places(
+            push_places(
                 tables,
                 &self.frames,
                 &mut self.texts,
                 &mut self.text,
                 places,
-            );
+            )?;
+            return Ok(None);
         }
         let mut at = stack;
         'outwards: while let Some((instruction, caller)) = tables.node(at) {
-            let known = told.of(at as usize);
-            if known.len() > 0 {
-                places.extend_from_slice(known)?;
-                return Ok(());
+            if told.count(at as usize) > 0 {
+                return told.go_on(at, &mut self.outer, places);
             }
-            self.push_instruction(tables, instruction, places)?;
+            note_leg(at, places.len(), legs)?;
+            self.learn(tables, instruction)?;
+            places.extend_from_slice(self.known.of(instruction as usize))?;
             at = caller;
         }
-        Ok(())
-    }
-
-    /// Appends the places of the frames of an instruction, from the innermost on.
-    fn push_instruction(
-        &mut self,
-        tables: &Tables,
-        instruction: u32,
-        places: &mut Vec<u64>,
-    ) -> Result<(), NoMemory>
-        requires held { instruction ≤ length tables.now.instructions }
-        requires known { AreKnown tables.now self.old.texts self.old.known }
-        ensures known { OnOk result (AreKnown tables.now self.new.texts self.new.known) }
-        ensures gains { OnOk result
-            (GainsPlaces self.old.texts places.old.items
-            (instruction_texts tables.now instruction) self.new.texts places.new.items) }
-    {
-        self.learn(tables, instruction)?;
-        places.extend_from_slice(self.known.of(instruction as usize))?;
-        Ok(())
+        Ok(None)
     }
 
     /// Makes the places of an instruction's frames known.
@@ -159,7 +152,7 @@ fn push_places(
     frames: &[FrameAt],
     texts: &mut Names,
     text: &mut Vec<u8>,
-    places: &mut Vec<u64>,
+    places: &mut Vec<usize>,
 ) -> Result<(), NoMemory>
     requires frames { All (λ at. IsFrame tables.now at) frames.now }
     ensures gains { OnOk result
@@ -178,7 +171,7 @@ fn place_of(
     at: &FrameAt,
     texts: &mut Names,
     text: &mut Vec<u8>,
-) -> Result<u64, NoMemory>
+) -> Result<usize, NoMemory>
     requires frame { IsFrame tables.now at.now }
     ensures added { OnOk result
         (AddsTexts texts.old (profile_frame tables.now at.now ∷ []) texts.new) }
@@ -189,7 +182,7 @@ fn place_of(
     tables.put_frame(at, Style::Addressed, text)?;
     make_utf8(text);
     let number = texts.intern(text)?;
-    Ok(number as u64 - 1)
+    Ok(number - 1)
 }
 
 /// A copy of the text at a place of the table.

@@ -1,17 +1,17 @@
-//! The places of frames, in a list for each instruction or for each stack, kept so that what is known isn't asked again.
+//! The places of frames, in a list for each instruction, kept so that what is known isn't asked again.
 ghost use Rattle.std.specs.Prelude.{◌≡◌, ◌<◌, [], All, IfOk, OnOk, Some, length, set, slice_get};
 
 use hp_num::NoMemory;
 use std::alloc::Global;
 use std::marker::Model;
 
-/// For each number, which is that of an instruction or of a stack, the places of its frames, none before they are set. All of
-/// them stand in one vector, since a vector for each number would take as much memory again.
+/// For the number of each instruction the places of its frames, none before they are set. All of them stand in one vector,
+/// since a vector for each number would take as much memory again.
 ///
 /// Contracts see it as the list of these lists.
 #[derive(Debug, Drop)]
 pub(crate) struct KnownPlaces {
-    places: Vec<u64>,
+    places: Vec<usize>,
     ranges: Vec<PlaceRange>,
 }
 
@@ -46,7 +46,7 @@ impl KnownPlaces {
     }
 
     /// The places of a number's frames, or none.
-    pub(crate) fn of(&self, number: usize) -> &[u64]
+    pub(crate) fn of(&self, number: usize) -> &[usize]
         requires { number < length self.now }
         ensures { slice_get self.now number ≡ Some result.now }
     {
@@ -55,7 +55,7 @@ impl KnownPlaces {
     }
 
     /// Sets the places of a number's frames. On `NoMemory` this is of no use any more.
-    pub(crate) fn set(&mut self, number: usize, places: &[u64]) -> Result<(), NoMemory>
+    pub(crate) fn set(&mut self, number: usize, places: &[usize]) -> Result<(), NoMemory>
         requires { number < length self.old }
         ensures { OnOk result (self.new ≡ set self.old number places.now) }
     {

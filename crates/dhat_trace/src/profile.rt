@@ -17,9 +17,9 @@ ghost use Rattle.dhat_trace.specs.ProfileTexts.{command_text};
 
 use crate::backtraces::backtraces;
 use crate::frame_table::FrameTable;
-use crate::known_places::KnownPlaces;
 use crate::points::{CalledStack, PointFigures, called_stacks};
 use crate::texts::command_text;
+use crate::told_places::ToldPlaces;
 use dhat_json::{Dhat, FrameList, Point, PointWriter, Points, Texts};
 use dhat_metrics::Lifetimes;
 use hp_num::{NoMemory, Text};
@@ -71,7 +71,7 @@ pub fn trace_profile_text(
 /// What the tables tell of stacks: their frames, the texts of these, and the command.
 #[derive(Debug, Drop)]
 struct Told {
-    backtraces: KnownPlaces,
+    backtraces: ToldPlaces,
     ftbl: Texts,
     cmd: Text,
 }
@@ -101,7 +101,7 @@ fn written(
     alloc: Global,
     head: Dhat,
     stacks: &[CalledStack],
-    backtraces: &KnownPlaces,
+    backtraces: &ToldPlaces,
 ) -> Result<String, NoMemory>
     requires texts { HasTexts head }
     requires held { All (λ called. called.stack < length backtraces.now) stacks.now }
@@ -114,9 +114,10 @@ fn written(
         ≡ Ok (with_points head (points_in stacks.now backtraces.now))) }
 {
     let mut writer = PointWriter::new(alloc, head)?;
+    let mut places = Vec::new(alloc);
     'each_stack: for called in stacks {
-        let places = backtraces.of(called.stack as usize);
-        put_point(alloc, called.figures, places, &mut writer)?;
+        backtraces.places_into(called.stack as usize, &mut places)?;
+        put_point(alloc, called.figures, &places, &mut writer)?;
     }
     writer.finish()
 }
@@ -125,7 +126,7 @@ fn written(
 fn put_point(
     alloc: Global,
     figures: PointFigures,
-    places: &[u64],
+    places: &[usize],
     writer: &mut PointWriter,
 ) -> Result<(), NoMemory>
     ensures { OnOk result ((dhat : Dhat) → HasWritten writer.old dhat
@@ -143,12 +144,12 @@ fn put_point(
 }
 
 /// The list of these places.
-fn frame_list(alloc: Global, places: &[u64]) -> Result<FrameList, NoMemory>
+fn frame_list(alloc: Global, places: &[usize]) -> Result<FrameList, NoMemory>
     ensures { IfOk result (λ list. list ≡ places.now) }
 {
     let mut list = FrameList::new(alloc);
     'each_place: for place in places {
-        list.push(*place)?;
+        list.push(*place as u64)?;
     }
     Ok(list)
 }

@@ -1,4 +1,4 @@
-use Rattle.std.proofs.Common.{◌+◌, List, length, map, set, ap, ◌∙◌, subst, arith}
+use Rattle.std.proofs.Common.{◌+◌, List, length, map, subst, arith}
 use Rattle.std.proofs.lemmas.List.{take_all}
 use Rattle.std.proofs.lemmas.List.Elements.{All-nil}
 use Rattle.dhat_trace.specs.declared.points.CalledStack.{CalledStack}
@@ -23,10 +23,9 @@ each_stack-init c =
 
 pub each_stack-preserved : goal.each_stack-preserved
 each_stack-preserved c = record {
-  known = c.in_ok-push_stack.ensures.known;
-  are = next_backtraces c.args.tables.now c.args.stacks.now c.each_stack.called-index _ c.each_stack.table.texts c.push_stack.new.self.texts c.each_stack.told c.set.new.self
-      c.clear.new.self.items c.push_stack.new.places.items (omega arith) (c.requires.held c.each_stack.called-index _ (omega arith)) c.each_stack.invariant.are c.clear.ensures.items
-      c.in_ok-push_stack.ensures.gains (c.in_ok-set.ensures ∙ ap (set c.each_stack.told _) c.deref.ensures.value);
+  known = c.in_ok-tell_stack.ensures.known;
+  are = next_backtraces c.args.tables.now c.args.stacks.now c.each_stack.called-index _ c.each_stack.table.texts c.tell_stack.new.table.texts c.each_stack.told c.tell_stack.new.told
+      (omega arith) c.each_stack.invariant.are c.in_ok-tell_stack.ensures.added c.in_ok-tell_stack.ensures.told;
 }
 
 pub returns : goal.returns

@@ -1,4 +1,4 @@
-use Rattle.std.proofs.Common.{◌≡◌, List, Ok, subst, string_bytes, arith, take}
+use Rattle.std.proofs.Common.{◌≡◌, List, Ok, ◌∙◌, subst, string_bytes, arith, take}
 use Rattle.std.proofs.lemmas.List.{take_all}
 use Rattle.std.proofs.lemmas.Result.{IfOk-weaker}
 use Rattle.dhat_json.specs.declared.profile.Point.{Point}
@@ -17,7 +17,7 @@ each_stack-preserved c =
     let stacks = c.args.stacks.now in
     let told = c.args.backtraces.now in
     let at = c.each_stack.called-index in
-    subst (λ (points : List Point). HasWritten c.put_point.new.writer (with_points c.args.head points)) (next_points stacks told at _ c.of-places.result.now (omega arith) c.of-places.ensures)
+    subst (λ (points : List Point). HasWritten c.put_point.new.writer (with_points c.args.head points)) (next_points stacks told at _ c.deref.result.now (omega arith) (c.deref.ensures.value ∙ c.in_ok-places_into.ensures.places))
     (c.in_ok-put_point.ensures (with_points c.args.head (points_in (take at stacks) told)) c.each_stack.invariant)
 
 pub returns-clause-text : goal.returns-clause-text
