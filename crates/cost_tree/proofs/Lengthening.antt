@@ -118,6 +118,20 @@ raised-get scale (c ∷ counts) (l ∷ lengths) (x ∷ costs) (suc k) new at =
     let rest = raised-get scale counts lengths costs k new at in
     record { count = rest.count; most = rest.most; cost = rest.cost; count_at = rest.count_at; most_at = rest.most_at; cost_at = rest.cost_at; is = rest.is }
 
+-- where no count is another one than before, that at a place isn't
+pub raised-none : (scale : Scale) (counts lengths costs : List ℕ) (k : ℕ) → length lengths ≡ length counts → length costs ≡ length counts → k < length counts
+    → raised_counts scale counts lengths costs ≡ counts → raised scale (get_or counts k 0) (get_or lengths k 0) (get_or costs k 0) ≡ get_or counts k 0
+raised-none scale counts lengths costs k same as_many within none =
+    let count_at = slice_get-get_or counts k 0 within in
+    let most_at = slice_get-get_or lengths k 0 (omega arith) in
+    let cost_at = slice_get-get_or costs k 0 (omega arith) in
+    let old = raised-get scale counts lengths costs k (get_or counts k 0) (ap (λ (ks : List ℕ). slice_get ks k) none ∙ count_at) in
+    let count : old.count ≡ get_or counts k 0 = same_Some old.count (get_or counts k 0) (sym old.count_at ∙ count_at) in
+    let most : old.most ≡ get_or lengths k 0 = same_Some old.most (get_or lengths k 0) (sym old.most_at ∙ most_at) in
+    let cost : old.cost ≡ get_or costs k 0 = same_Some old.cost (get_or costs k 0) (sym old.cost_at ∙ cost_at) in
+    sym (old.is ∙ ap (λ (n : ℕ). raised scale n old.most old.cost) count ∙ ap (λ (n : ℕ). raised scale (get_or counts k 0) n old.cost) most
+    ∙ ap (λ (n : ℕ). raised scale (get_or counts k 0) (get_or lengths k 0) n) cost)
+
 -- more come next
 next-more : (count : ℕ) → 0 < count → count < next_count count
 unfolding next_count

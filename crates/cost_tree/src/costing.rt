@@ -56,7 +56,7 @@ impl<F: Fn(u32) -> u64> Costing<F> {
         costs.clear();
         costs.reserve(self.stacks as usize)?;
         for stack in 0..self.stacks {
-            costs.push(self.of(stack))?;
+            costs.push_reserved(self.of(stack));
         }
         Ok(())
     }

@@ -1,6 +1,6 @@
 //! Lists of numbers that are cut: each list's first numbers, as many as the lines of trees need.
 //! Which costs a tree has, and what the numbers stand for, is no part of it.
-ghost use Rattle.std.specs.Prelude.{◌≡◌, ℕ, ◌^◌, ◌<◌, ◌≤◌, List, false, length, map, min, sum, true, IfOk, OnOk};
+ghost use Rattle.std.specs.Prelude.{◌≡◌, ◌≢◌, ℕ, ◌^◌, ◌<◌, ◌≤◌, List, false, length, map, min, sum, true, IfOk, OnOk};
 ghost use Rattle.cost_tree.specs.Costed.{costed};
 ghost use Rattle.cost_tree.specs.CutShapes.{IsCutOf, left, next_count, raised, raised_counts};
 ghost use Rattle.cost_tree.specs.Cuts.{AreEnough, cut_lists};
@@ -90,10 +90,10 @@ impl Cut {
     {
         let CutRoom { ended, counts } = room;
         self.shape.ended_costs_into(costs, ended)?;
-        raised_counts_into(&self.counts, &self.lengths, &ended.of_lists, scale, counts)?;
-        if counts[..] == self.counts[..] {
+        if !is_some_raised(&self.counts, &self.lengths, &ended.of_lists, scale) {
             return Ok(false);
         }
+        raised_counts_into(&self.counts, &self.lengths, &ended.of_lists, scale, counts)?;
         let shape = cut_shape(alloc, whole, counts)?;
         self.shape = shape;
         mem::swap(&mut self.counts, counts);
@@ -137,6 +137,23 @@ fn push_numbers(shape: &mut Shape, numbers: &[usize]) -> Result<(), NoMemory>
         shape.push(*number)?;
     }
     Ok(())
+}
+
+/// Whether a list is to have more numbers, where those that end as each does cost so much together.
+fn is_some_raised(counts: &[usize], lengths: &[usize], shared: &[u64], scale: Scale) -> bool
+    requires lengths { length lengths.now ≡ length counts.now }
+    requires shared { length shared.now ≡ length counts.now }
+    ensures none { result ≡ false
+        → raised_counts scale counts.now lengths.now shared.now ≡ counts.now }
+    ensures some { result ≡ true
+        → raised_counts scale counts.now lengths.now shared.now ≢ counts.now }
+{
+    'each_list: for list in 0..counts.len() {
+        if raised(counts[list], lengths[list], shared[list], scale) != counts[list] {
+            return true;
+        }
+    }
+    false
 }
 
 /// Replaces `more` by how many numbers the lists are to have, where those that end as each does cost so much together.

@@ -58,7 +58,7 @@ pub(crate) fn costs_at_into(
     costs.clear();
     costs.reserve(ends.len())?;
     'each_list: for list in 0..ends.len() {
-        costs.push(sums[ends[list]])?;
+        costs.push_reserved(sums[ends[list]]);
     }
     Ok(())
 }

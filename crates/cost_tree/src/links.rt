@@ -84,9 +84,9 @@ fn unlinked(room: Vec<Link>, edges: &[Edge], nodes: &[CostNode]) -> Result<Vec<L
     let mut links = room;
     links.clear();
     links.reserve(nodes.len())?;
-    links.push(alone(nodes[0].cost, 0))?;
+    links.push_reserved(alone(nodes[0].cost, 0));
     'each_edge: for place in 0..edges.len() {
-        links.push(alone(nodes[place + 1].cost, edges[place].text))?;
+        links.push_reserved(alone(nodes[place + 1].cost, edges[place].text));
     }
     Ok(links)
 }

@@ -1,8 +1,8 @@
-use Rattle.std.proofs.Common.{◌≡◌, ◌≢◌, ℕ, ◌<◌, inl, inr, List, length, map, sym, ap, subst, ◌∙◌, rules}
+use Rattle.std.proofs.Common.{◌≡◌, ℕ, ◌<◌, inl, inr, List, length, map, refl, sym, ap, subst, ◌∙◌}
 use Rattle.std.specs.Global.{Vec}
 use Rattle.std.specs.Prelude.{slice_get}
 use Rattle.std.proofs.lemmas.List.{length-map}
-use Rattle.cost_tree.specs.CutShapes.{AreCutAlike, equal_cost, left}
+use Rattle.cost_tree.specs.CutShapes.{AreCutAlike, equal_cost, left, raised_counts}
 use Rattle.cost_tree.specs.Cuts.{cut_lists}
 use Rattle.cost_tree.proofs.Lengthening.{cut-count, raised-alike, raised-count, raised-enough, raised-from, raised-left, raised-some}
 use Rattle.cost_tree.proofs.cut.Cut.lengthen_some.Goals as goal
@@ -15,22 +15,28 @@ pub ended_costs_into-requires-clause-as_many : goal.ended_costs_into-requires-cl
 ended_costs_into-requires-clause-as_many c =
     c.requires.as_many ∙ sym (cut-count c.args.self.now.counts.items c.args.whole.now c.requires.cut.count) ∙ sym (ap (λ (ls : List (List ℕ)). length ls) c.requires.cut.lists)
 
-pub raised_counts_into-requires-clause-shared : goal.raised_counts_into-requires-clause-shared
-raised_counts_into-requires-clause-shared c =
+pub is_some_raised-requires-clause-shared : goal.is_some_raised-requires-clause-shared
+is_some_raised-requires-clause-shared c =
     let old = c.args.self.now in
     ap (λ (ns : List ℕ). length ns) (c.deref-3.ensures.value ∙ c.in_ok-ended_costs_into.ensures.shared)
     ∙ as-many c.args.whole.now old.shape old.counts.items c.args.costs.now c.requires.cut.count c.requires.cut.lists
     ∙ sym (ap (λ (ns : List ℕ). length ns) c.deref.ensures.value)
 
-pub returns-then-eq-clause-enough : goal.returns-then-eq-clause-enough
-returns-then-eq-clause-enough c = λ none names depth distinct named.
+pub raised_counts_into-requires-clause-shared : goal.raised_counts_into-requires-clause-shared
+raised_counts_into-requires-clause-shared c =
+    let old = c.args.self.now in
+    ap (λ (ns : List ℕ). length ns) (c.deref-6.ensures.value ∙ c.in_ok-ended_costs_into.ensures.shared)
+    ∙ as-many c.args.whole.now old.shape old.counts.items c.args.costs.now c.requires.cut.count c.requires.cut.lists
+    ∙ sym (ap (λ (ns : List ℕ). length ns) c.deref-4.ensures.value)
+
+pub returns-then-not-is_some_raised-clause-enough : goal.returns-then-not-is_some_raised-clause-enough
+returns-then-not-is_some_raised-clause-enough c = λ none names depth distinct named.
     let old = c.args.self.now in
     let cut = c.requires.cut in
     let whole = c.args.whole.now in
-    let is = raised-from c.args.scale whole old.shape old.counts.items old.lengths.items c.ended_costs_into.new.ended.of_lists.items c.args.costs.now _ _ _ c.raised_counts_into.new.more.items
-    cut.lengths cut.lists c.in_ok-ended_costs_into.ensures.shared c.deref.ensures.value c.deref-2.ensures.value c.deref-3.ensures.value c.in_ok-raised_counts_into.ensures.raised in
-    let same : c.raised_counts_into.new.more.items ≡ old.counts.items = search rules in
-    raised-enough c.args.scale names whole old.counts.items c.args.costs.now cut.some cut.alike cut.count (sym is ∙ same) distinct named depth
+    let is = raised-from c.args.scale whole old.shape old.counts.items old.lengths.items c.ended_costs_into.new.ended.of_lists.items c.args.costs.now _ _ _ c.deref.result.now
+    cut.lengths cut.lists c.in_ok-ended_costs_into.ensures.shared c.deref.ensures.value c.deref-2.ensures.value c.deref-3.ensures.value (sym (c.is_some_raised.ensures.none c.if-not-is_some_raised.true)) in
+    raised-enough c.args.scale names whole old.counts.items c.args.costs.now cut.some cut.alike cut.count (sym is ∙ c.deref.ensures.value) distinct named depth
 
 pub cut_shape-requires : goal.cut_shape-requires
 cut_shape-requires c =
@@ -38,10 +44,10 @@ cut_shape-requires c =
     let cut = c.requires.cut in
     let whole = c.args.whole.now in
     let is = raised-from c.args.scale whole old.shape old.counts.items old.lengths.items c.ended_costs_into.new.ended.of_lists.items c.args.costs.now _ _ _ c.raised_counts_into.new.more.items
-    cut.lengths cut.lists c.in_ok-ended_costs_into.ensures.shared c.deref.ensures.value c.deref-2.ensures.value c.deref-3.ensures.value c.in_ok-raised_counts_into.ensures.raised in
+    cut.lengths cut.lists c.in_ok-ended_costs_into.ensures.shared c.deref-4.ensures.value c.deref-5.ensures.value c.deref-6.ensures.value c.in_ok-raised_counts_into.ensures.raised in
     let shared : List ℕ = map (equal_cost (cut_lists old.counts.items whole) c.args.costs.now) (cut_lists old.counts.items whole) in
     record {
-      as_many = ap (λ (ns : List ℕ). length ns) (c.deref-6.ensures.value ∙ is)
+      as_many = ap (λ (ns : List ℕ). length ns) (c.deref-7.ensures.value ∙ is)
           ∙ raised-count c.args.scale old.counts.items (map length whole) shared (length-map whole length ∙ sym cut.count)
           (length-map (cut_lists old.counts.items whole) (equal_cost (cut_lists old.counts.items whole) c.args.costs.now) ∙ cut-count old.counts.items whole cut.count ∙ sym cut.count)
           ∙ cut.count;
@@ -54,7 +60,7 @@ returns-clause-cut c =
     let whole = c.args.whole.now in
     let swapped : c.swap.new.x.items ≡ c.raised_counts_into.new.more.items = ap (λ (v : Vec ℕ). v.items) c.swap.ensures.x_after in
     let is = swapped ∙ raised-from c.args.scale whole old.shape old.counts.items old.lengths.items c.ended_costs_into.new.ended.of_lists.items c.args.costs.now _ _ _ c.raised_counts_into.new.more.items
-    cut.lengths cut.lists c.in_ok-ended_costs_into.ensures.shared c.deref.ensures.value c.deref-2.ensures.value c.deref-3.ensures.value c.in_ok-raised_counts_into.ensures.raised in
+    cut.lengths cut.lists c.in_ok-ended_costs_into.ensures.shared c.deref-4.ensures.value c.deref-5.ensures.value c.deref-6.ensures.value c.in_ok-raised_counts_into.ensures.raised in
     let shared : List ℕ = map (equal_cost (cut_lists old.counts.items whole) c.args.costs.now) (cut_lists old.counts.items whole) in
     record {
       count = ap (λ (ns : List ℕ). length ns) is
@@ -62,7 +68,7 @@ returns-clause-cut c =
           (length-map (cut_lists old.counts.items whole) (equal_cost (cut_lists old.counts.items whole) c.args.costs.now) ∙ cut-count old.counts.items whole cut.count ∙ sym cut.count)
           ∙ cut.count;
       lengths = cut.lengths;
-      lists = c.in_ok-shape.ensures.lists ∙ ap (λ (ks : List ℕ). cut_lists ks whole) (c.deref-6.ensures.value ∙ sym swapped);
+      lists = c.in_ok-shape.ensures.lists ∙ ap (λ (ks : List ℕ). cut_lists ks whole) (c.deref-7.ensures.value ∙ sym swapped);
       some = λ k count at. raised-some c.args.scale old.counts.items (map length whole) shared cut.some k count (ap (λ (ks : List ℕ). slice_get ks k) (sym is) ∙ at);
       alike = subst (AreCutAlike whole) (sym is) (raised-alike c.args.scale whole old.counts.items c.args.costs.now cut.some cut.alike);
     }
@@ -74,12 +80,15 @@ returns-clause-less c = λ some.
     let whole = c.args.whole.now in
     let swapped : c.swap.new.x.items ≡ c.raised_counts_into.new.more.items = ap (λ (v : Vec ℕ). v.items) c.swap.ensures.x_after in
     let is = swapped ∙ raised-from c.args.scale whole old.shape old.counts.items old.lengths.items c.ended_costs_into.new.ended.of_lists.items c.args.costs.now _ _ _ c.raised_counts_into.new.more.items
-    cut.lengths cut.lists c.in_ok-ended_costs_into.ensures.shared c.deref.ensures.value c.deref-2.ensures.value c.deref-3.ensures.value c.in_ok-raised_counts_into.ensures.raised in
+    cut.lengths cut.lists c.in_ok-ended_costs_into.ensures.shared c.deref-4.ensures.value c.deref-5.ensures.value c.deref-6.ensures.value c.in_ok-raised_counts_into.ensures.raised in
     let shared : List ℕ = map (equal_cost (cut_lists old.counts.items whole) c.args.costs.now) (cut_lists old.counts.items whole) in
-    let other : c.raised_counts_into.new.more.items ≢ old.counts.items = search rules in
+    let asked = raised-from c.args.scale whole old.shape old.counts.items old.lengths.items c.ended_costs_into.new.ended.of_lists.items c.args.costs.now _ _ _
+    (raised_counts c.args.scale c.deref.result.now c.deref-2.result.now c.deref-3.result.now)
+    cut.lengths cut.lists c.in_ok-ended_costs_into.ensures.shared c.deref.ensures.value c.deref-2.ensures.value c.deref-3.ensures.value refl in
+    let other = c.is_some_raised.ensures.some c.if-not-is_some_raised.false in
     elim (raised-left c.args.scale old.counts.items (map length whole) shared cut.some (length-map whole length ∙ sym cut.count)
     (length-map (cut_lists old.counts.items whole) (equal_cost (cut_lists old.counts.items whole) c.args.costs.now) ∙ cut-count old.counts.items whole cut.count ∙ sym cut.count)) [
-      | inl same ↦ absurd (other (sym swapped ∙ is ∙ same))
+      | inl same ↦ absurd (other (asked ∙ same ∙ sym c.deref.ensures.value))
       | inr less ↦ subst (λ (ls : List ℕ). left c.swap.new.x.items ls < left old.counts.items ls) (sym cut.lengths)
           (subst (λ (ks : List ℕ). left ks (map length whole) < left old.counts.items (map length whole)) (sym is) less)
     ]
