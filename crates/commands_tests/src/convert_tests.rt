@@ -104,6 +104,56 @@ fn documents(rt: HostRuntime) -> Result<(), Fail> {
     expect(&rt, rt.alloc(), &sound(""), DOCUMENTS)
 }
 
+/// A profile with equal lists, a point without frames, a semicolon, and figures that are too large.
+const PLACES: &str =
+    "{\"dhatFileVersion\":2,\"mode\":\"copy\",\"verb\":\"Copied\",\"bklt\":false,\"bkacc\":false,\"tu\":\"instrs\",\"Mtu\":\"Minstr\",\"cmd\":\"\",\"pid\":7,\"te\":9,\"ftbl\":[\"[root]\",\"a\",\"b;c\",\" c\\n\",\"\"],\"pps\":[{\"tb\":0,\"tbk\":0,\"fs\":[2,1]},{\"tb\":40,\"tbk\":4611686018427387904,\"fs\":[1]},{\"tb\":0,\"tbk\":1,\"fs\":[3]},{\"tb\":3,\"tbk\":0,\"fs\":[2,1]},{\"tb\":2,\"tbk\":0,\"fs\":[]},{\"tb\":10,\"tbk\":0,\"fs\":[1]}]}\n";
+
+// Lists come by the first point that has one and a figure other than 0.
+const OF_PLACES: &str = "$ convert t
+a 50
+a;b:c 3
+(no stack) 2
+[0]
+$ convert --key=gb t
+heapsuite: t: no figures for gb
+[1]
+$ convert --key=tbk t
+heapsuite: t: figures too large
+[6]
+$ convert --to=massif t
+heapsuite: t: no figures for gb
+[1]
+";
+
+#[test]
+fn places(rt: HostRuntime) -> Result<(), Fail> {
+    expect(&rt, rt.alloc(), &sound(PLACES), OF_PLACES)
+}
+
+/// A profile with a stack that is live at the peak and at the end.
+const LASTING: &str =
+    "{\"dhatFileVersion\":2,\"mode\":\"heap\",\"verb\":\"Allocated\",\"bklt\":true,\"bkacc\":false,\"tu\":\"instrs\",\"Mtu\":\"Minstr\",\"cmd\":\"demo\",\"pid\":7,\"te\":30,\"tg\":10,\"ftbl\":[\"[root]\",\"0x400: main (a.c:20)\",\"0x500: f (a.c:10)\"],\"pps\":[{\"tb\":64,\"tbk\":2,\"tl\":40,\"mb\":64,\"mbk\":2,\"gb\":64,\"gbk\":2,\"eb\":64,\"ebk\":2,\"fs\":[2,1]}]}\n";
+
+const OF_LASTING: &str = "$ convert --to=massif t
+desc: heapsuite convert
+cmd: demo
+time_unit: i
+snapshot=0 time=10 mem_heap_B=64 mem_heap_extra_B=0 mem_stacks_B=0 heap_tree=peak
+n1: 64 (heap allocation functions) malloc/new/new[], --alloc-fns, etc.
+ n1: 64 0x500: f (a.c:10)
+  n0: 64 0x400: main (a.c:20)
+snapshot=1 time=30 mem_heap_B=64 mem_heap_extra_B=0 mem_stacks_B=0 heap_tree=detailed
+n1: 64 (heap allocation functions) malloc/new/new[], --alloc-fns, etc.
+ n1: 64 0x500: f (a.c:10)
+  n0: 64 0x400: main (a.c:20)
+[0]
+";
+
+#[test]
+fn lasting_stack(rt: HostRuntime) -> Result<(), Fail> {
+    expect(&rt, rt.alloc(), &sound(LASTING), OF_LASTING)
+}
+
 const WORKED_FILE: &str = "$ convert --from=massif t
 0x400: main (a.c:20);0x500: f (a.c:10) 100
 [0]
@@ -196,4 +246,72 @@ heapsuite: t: figures too large
 #[test]
 fn trees(rt: HostRuntime) -> Result<(), Fail> {
     expect(&rt, rt.alloc(), &sound(SECOND_FILE), TREES)
+}
+
+/// A file with a detailed snapshot before its peak and an earlier peak, in whose last tree children have more bytes than a line
+/// has.
+const PEAKS: &str = "desc: d
+cmd: c
+time_unit: i
+snapshot=0
+time=0
+mem_heap_B=9
+mem_heap_extra_B=0
+mem_stacks_B=0
+heap_tree=peak
+n1: 9 (root)
+ n0: 9 first
+snapshot=1
+time=1
+mem_heap_B=9
+mem_heap_extra_B=0
+mem_stacks_B=0
+heap_tree=detailed
+n0: 9 (root)
+snapshot=2
+time=2
+mem_heap_B=60
+mem_heap_extra_B=0
+mem_stacks_B=0
+heap_tree=peak
+n3: 60 (root)
+ n2: 30 a
+  n0: 10 b;c
+  n0: 5
+ n1: 10 d
+  n0: 20 e
+ n0: 7 a
+snapshot=3
+time=3
+mem_heap_B=0
+mem_heap_extra_B=0
+mem_stacks_B=0
+heap_tree=empty
+";
+
+// Of the last peak the root keeps 13, the two lines `a` 15 and 7, and `d` nothing.
+const OF_PEAKS: &str = "$ convert --from=massif t
+(no stack) 13
+a 22
+b:c;a 10
+?;a 5
+e;d 20
+[0]
+$ convert --from=massif --snapshot=0 t
+first 9
+[0]
+$ convert --from=massif --snapshot=1 t
+(no stack) 9
+[0]
+$ convert --from=massif --snapshot=3 t
+heapsuite: t: no tree
+[1]
+$ convert --from=massif --snapshot=4 t
+heapsuite: t: no tree
+[1]
+";
+
+#[test]
+fn peaks(rt: HostRuntime) -> Result<(), Fail> {
+    expect(&rt, rt.alloc(), &sound(PEAKS), OF_PEAKS)
 }

@@ -1,4 +1,5 @@
-//! `dhat` over the worked trace, over one of no lines, and over one whose blocks live on, and its refusals.
+//! `dhat` over the worked trace, over one of no lines, over one whose blocks live on, with a clock value that is no event, and over
+//! one with two sizes in one stack, and its refusals.
 
 use crate::transcript::{expect, sound};
 use std::test::Fail;
@@ -17,10 +18,22 @@ $ dhat t
 > a 8 1
 > + 0
 > + 0
+> c 5
 > - 0
 > + 1
 $ dhat t
 {\"Mtu\":\"Mevents\",\"bkacc\":false,\"bklt\":true,\"cmd\":\"(none)\",\"dhatFileVersion\":2,\"ftbl\":[\"[root]\",\"(no stack)\",\"0x400: ???\"],\"mode\":\"heap\",\"pid\":0,\"pps\":[{\"eb\":16,\"ebk\":1,\"fs\":[1],\"gb\":32,\"gbk\":2,\"mb\":32,\"mbk\":2,\"tb\":32,\"tbk\":2,\"tl\":4},{\"eb\":8,\"ebk\":1,\"fs\":[2],\"gb\":0,\"gbk\":0,\"mb\":8,\"mbk\":1,\"tb\":8,\"tbk\":1,\"tl\":0}],\"te\":4,\"tg\":2,\"tu\":\"events\",\"tuth\":500,\"verb\":\"Allocated\"}
+[0]
+> v 10500 2
+> a 1 0
+> a 9 0
+> + 0
+> + 0
+> - 0
+> - 0
+> + 1
+$ dhat t
+{\"Mtu\":\"Mevents\",\"bkacc\":false,\"bklt\":true,\"cmd\":\"(none)\",\"dhatFileVersion\":2,\"ftbl\":[\"[root]\",\"(no stack)\"],\"mode\":\"heap\",\"pid\":0,\"pps\":[{\"eb\":9,\"ebk\":1,\"fs\":[1],\"gb\":9,\"gbk\":1,\"mb\":9,\"mbk\":1,\"tb\":11,\"tbk\":3,\"tl\":4}],\"te\":5,\"tg\":5,\"tu\":\"events\",\"tuth\":500,\"verb\":\"Allocated\"}
 [0]
 > v 10500 2
 > a 64 0

@@ -1,6 +1,6 @@
-//! `interpret` over a worked raw trace with its symbols, its refusals, and a read that fails.
+//! `interpret` over worked raw traces with their symbols, its refusals, and a read that fails.
 
-use crate::transcript::{Setting, append_run, expect, sound};
+use crate::transcript::{Setting, expect, sound};
 use std::test::Fail;
 
 const INTERPRETED: &str = "> v 10500 2
@@ -75,25 +75,175 @@ fn interprets_and_refuses(rt: HostRuntime) -> Result<(), Fail> {
     expect(&rt, rt.alloc(), &sound(""), INTERPRETED)
 }
 
+// Each line alone says no symbol. Then lines meet a symbol before them.
+const TABLES: &str = "> app\t400\t0\tmain
+$ interpret --symbols=t e
+heapsuite: t:1: bad symbol line
+[1]
+> app\t400\t100
+$ interpret --symbols=t e
+heapsuite: t:1: bad symbol line
+[1]
+> app\t400\t100\tmain\ta.c
+$ interpret --symbols=t e
+heapsuite: t:1: bad symbol line
+[1]
+> app\t400\t100\tmain\t\t20
+$ interpret --symbols=t e
+heapsuite: t:1: bad symbol line
+[1]
+> app\t400\t100\tmain\ta.c\tx
+$ interpret --symbols=t e
+heapsuite: t:1: bad symbol line
+[1]
+> app\tffffffffffffffff\t1\tmain
+$ interpret --symbols=t e
+heapsuite: t:1: bad symbol line
+[1]
+> 
+> # app
+> app\t400\t100\tmain
+> app\t4ff\t1\tg
+$ interpret --symbols=t e
+heapsuite: t:4: symbols overlap
+[1]
+> app\t400\t100\tmain
+> app\t3ff\t2\tg
+$ interpret --symbols=t e
+heapsuite: t:2: symbols overlap
+[1]
+";
+
+#[test]
+fn refuses_tables(rt: HostRuntime) -> Result<(), Fail> {
+    expect(&rt, rt.alloc(), &sound(""), TABLES)
+}
+
+// Each instruction is named by the symbol that holds its offset in its module, where there is one, and modules come and go.
+const NAMED: &str = "> v 10500 2
+> m app 1000 0 1000
+> m none 2000 0 1000
+> t 14ff 0
+> t 1500 0
+> t 13ff 0
+> t 2400 0
+$ interpret --symbols=y t
+v 10500 2
+s app
+s main
+i 14ff 1 2
+t 1 0
+s g
+s a.c
+i 1500 1 3 4 14
+t 2 0
+i 13ff 1
+t 3 0
+s none
+i 2400 5
+t 4 0
+[0]
+> v 10500
+> m a 100 0 10
+> m b 100 0 8
+> t 0 0
+> t 104 1
+> t 108 1
+> m -
+> t 104 0
+> t 102 0
+> + 8 0 1
+> + 9 0 2
+> - 1
+$ interpret --symbols=y t
+v 10500 1
+t 0 0
+s b
+s h
+i 104 1 2
+t 1 1
+s a
+s f
+s x.c
+s g
+s y.c
+i 108 3 4 5 a 6 7 b
+t 2 1
+t 1 0
+i 102 0
+t 3 0
+a 8 0
++ 0
+a 9 0
++ 1
+- 0
+[0]
+";
+
+#[test]
+fn names_instructions(rt: HostRuntime) -> Result<(), Fail> {
+    expect(&rt, rt.alloc(), &sound(""), NAMED)
+}
+
+const REFUSED: &str = "$ interpret t
+heapsuite: t:1: no version line
+[1]
+> x app
+$ interpret t
+heapsuite: t:1: no version line
+[1]
+> v 10500 3
+> + 0
+$ interpret t
+v 10500 3
+heapsuite: t:2: interpreted line
+[1]
+> v 10500 3
+> v 10500 2
+$ interpret t
+v 10500 3
+heapsuite: t:2: second version line
+[1]
+> v 10500 3
+> t 400 1
+$ interpret t
+v 10500 3
+heapsuite: t:2: unknown parent
+[1]
+> v 10500 3
+> + 8 5 1
+$ interpret t
+v 10500 3
+heapsuite: t:2: unknown trace
+[1]
+> v 10500 3
+> - 1
+$ interpret t
+v 10500 3
+[0]
+";
+
+#[test]
+fn refuses_lines(rt: HostRuntime) -> Result<(), Fail> {
+    expect(&rt, rt.alloc(), &sound(""), REFUSED)
+}
+
+const FAILED_READ: &str = "> v 10500 2
+> x app
+> x more
+$ interpret t
+v 10500 2
+x app
+heapsuite: t: cannot read
+[3]
+";
+
 // The third call on the store reads the trace from byte 16 on: the lines before are written.
 #[test]
 fn failed_read(rt: HostRuntime) -> Result<(), Fail> {
-    let alloc = rt.alloc();
     let setting = Setting {
         failing_store_call: 3,
         ..sound("")
     };
-    let mut all = Vec::new(alloc);
-    append_run(
-        alloc,
-        &setting,
-        b"v 10500 2\nx app\nx more\n",
-        "interpret t",
-        &mut all,
-    )?;
-    assert_eq!(rt;
-        all.as_slice(),
-        "v 10500 2\nx app\nheapsuite: t: cannot read\n[3]\n".as_bytes()
-    );
-    Ok(())
+    expect(&rt, rt.alloc(), &setting, FAILED_READ)
 }

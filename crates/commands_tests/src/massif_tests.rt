@@ -26,7 +26,8 @@ fn profiles(rt: HostRuntime) -> Result<(), Fail> {
     expect(&rt, rt.alloc(), &sound(""), PROFILES)
 }
 
-// A peak must pass the last one by one percent: 1010 doesn't pass 1000, and 1011 does.
+// A peak must pass the last one by one percent: 1010 doesn't pass 1000, and 1011 does. Then there is one block of the most bytes, whose
+// time is the number of events.
 const PEAK_OFFERS: &str = "> v 10500 2
 > a 3e8 0
 > a a 0
@@ -57,6 +58,21 @@ n1: 1011 (heap allocation functions) malloc/new/new[], --alloc-fns, etc.
  n0: 1011 (no stack)
 snapshot=10 time=3032 mem_heap_B=1010 mem_heap_extra_B=0 mem_stacks_B=0 heap_tree=empty
 [0]
+> v 10500 2
+> a 4000000000000000 0
+> + 0
+> - 0
+$ massif --time-unit=e --heap-admin=0 --alignment=1 t
+desc: heapsuite massif
+cmd: (none)
+time_unit: e
+snapshot=0 time=0 mem_heap_B=0 mem_heap_extra_B=0 mem_stacks_B=0 heap_tree=empty
+snapshot=1 time=1 mem_heap_B=4611686018427387904 mem_heap_extra_B=0 mem_stacks_B=0 heap_tree=empty
+snapshot=2 time=1 mem_heap_B=4611686018427387904 mem_heap_extra_B=0 mem_stacks_B=0 heap_tree=peak
+n1: 4611686018427387904 (heap allocation functions) malloc/new/new[], --alloc-fns, etc.
+ n0: 4611686018427387904 (no stack)
+snapshot=3 time=2 mem_heap_B=0 mem_heap_extra_B=0 mem_stacks_B=0 heap_tree=empty
+[0]
 ";
 
 #[test]
@@ -64,7 +80,8 @@ fn peak_offers(rt: HostRuntime) -> Result<(), Fail> {
     expect(&rt, rt.alloc(), &sound(""), PEAK_OFFERS)
 }
 
-// Empty pieces of a list are no names, and a part of a name is none.
+// Empty pieces of a list are no names, and a part of a name is none. A name behind the front of a stack takes nothing off it, and a
+// stack all of whose frames are taken off isn't ignored.
 const FUNCTIONS: &str = "$ massif --alloc-fns=f e
 desc: heapsuite massif
 cmd: demo
@@ -91,6 +108,9 @@ time_unit: B
 snapshot=0 time=0 mem_heap_B=0 mem_heap_extra_B=0 mem_stacks_B=0 heap_tree=empty
 [0]
 $ massif --alloc-fns=ff;;;m --ignore-fns=;; e
+(profile)
+[0]
+$ massif --alloc-fns=main --ignore-fns=main e
 (profile)
 [0]
 ";

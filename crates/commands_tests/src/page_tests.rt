@@ -48,6 +48,49 @@ fn page(rt: HostRuntime) -> Result<(), Fail> {
     expect(&rt, rt.alloc(), &sound(MASSIF), PAGE)
 }
 
+// Of thousands of bytes and instructions, with a place below the threshold.
+const SECOND_PAGE: &str =
+    "> n2: 9000 (heap allocation functions) malloc/new/new[], --alloc-fns, etc.
+>  n0: 8960 0x4005BB: main (a.c:10)
+>  n0: 40 in 3 places, all below massif's threshold (1.00%)
+$ ms_print --x=8 --y=4 t
+--------------------------------------------------------------------------------
+Command:            ./a.out
+Massif arguments:   (none)
+ms_print arguments: --x=8 --y=4 t
+--------------------------------------------------------------------------------
+
+
+    KB
+8.859^       @
+     |       @
+     |       @
+     |       @
+   0 +------->ki
+     0  157.3
+
+Number of snapshots: 2
+ Detailed snapshots: [1]
+
+--------------------------------------------------------------------------------
+  n        time(i)         total(B)   useful-heap(B) extra-heap(B)    stacks(B)
+--------------------------------------------------------------------------------
+  0              0                0                0             0            0
+  1        157,300            9,072            9,000            72            0
+99.21% (9,000B) (heap allocation functions) malloc/new/new[], --alloc-fns, etc.
+->98.77% (8,960B) 0x4005BB: main (a.c:10)
+|\x20
+->00.44% (40B) in 1 place, below ms_print's threshold (01.00%)
+\x20\x20
+
+[0]
+";
+
+#[test]
+fn second_page(rt: HostRuntime) -> Result<(), Fail> {
+    expect(&rt, rt.alloc(), &sound(SECOND_FILE), SECOND_PAGE)
+}
+
 const FRONTS: &str = "$ ms_print t
 heapsuite: t:1: truncated
 [1]

@@ -1,8 +1,6 @@
 //! `summary` over worked traces, its words, and every way in which reads are cut.
 
 use crate::transcript::{Setting, TWO_SIZES, append_run, expect, sound};
-use commands::heapsuite_run;
-use hp_outside::{Limits, SureSink, SureStore};
 use std::test::Fail;
 
 const FIGURES: &str = "$ summary e
@@ -119,21 +117,5 @@ fn cut_reads(rt: HostRuntime) -> Result<(), Fail> {
             assert_eq!(rt; all.as_slice(), TWO_SIZES_FIGURES.as_bytes());
         }
     }
-    Ok(())
-}
-
-#[test]
-fn standard_limits(rt: HostRuntime) -> Result<(), Fail> {
-    let alloc = rt.alloc();
-    let mut list = Vec::new(alloc);
-    list.push(String::from_str(alloc, "summary")?)?;
-    list.push(String::from_str(alloc, "t")?)?;
-    let mut store = SureStore::new(alloc, 16);
-    store.add("t", TWO_SIZES.as_bytes())?;
-    let mut out = SureSink::new();
-    let mut err = SureSink::new();
-    let limits = Limits::standard();
-    let status = heapsuite_run(alloc, &list, &limits, &mut store, &mut out, &mut err);
-    assert_eq!(rt; status, 0);
     Ok(())
 }

@@ -1,7 +1,8 @@
 //! Transcripts: texts of runs and of what they write, as they would stand on a terminal. A test plays the runs of one and
 //! compares what they write with it.
 
-ghost use Rattle.std.specs.Prelude.{◌≡◌, IfOk};
+ghost use Rattle.std.specs.Prelude.{◌≡◌, ℕ, List, IfOk, OnOk, None};
+ghost use Rattle.hp_outside.specs.Folder.{file_of};
 
 use commands::heapsuite_run;
 use hp_num::{NoMemory, put_bytes, put_dec};
@@ -78,6 +79,10 @@ pub const DEMO: &str =
 pub const RAW: &str =
     "v 10500 2\nx app\nm app 1000 0 1000\nt 1400 0\nt 1500 1\n+ 40 2 9000\n+ 40 2 9000\n- 9000\n- 9000\n";
 
+/// Symbols of four modules: two that meet, and one that begins where another module's does and has two inner frames.
+const SYMBOLS: &str =
+    "app\t400\t100\tmain\nlib\t4ff\t1\tg\napp\t500\t1\tg\ta.c\t20\na\t0\t10\tf\tx.c\t10\tg\ty.c\t11\nb\t0\t10\th\n# app\n";
+
 /// How the program is called. Transcripts show it as `(usage)`.
 const USAGE: &str =
     "usage: heapsuite COMMAND [OPTION]... [FILE]\ncommands: summary print flame interpret massif ms_print dhat gen dhat_view convert\n";
@@ -122,15 +127,24 @@ fn words_of(alloc: Global, text: &str) -> Result<Vec<String>, NoMemory> {
     Ok(list)
 }
 
-/// The folder that runs find: the file `t`, a worked trace `e`, suppressions `q`, and symbols `s`.
-fn folder(alloc: Global, setting: &Setting, file: &[u8]) -> Result<MemStore, NoMemory>
-    ensures unopened { IfOk result (λ store. store.store.opens ≡ 0) }
+/// Adds the files that runs find: `t`, a worked trace `e`, suppressions `q`, and symbols `s` and `y`.
+fn add_files(store: &mut MemStore, file: &[u8]) -> Result<(), NoMemory>
+    requires none_held { (name : List ℕ) → file_of store.old.store.folder name ≡ None }
+    ensures opens { OnOk result (store.new.store.opens ≡ store.old.store.opens) }
 {
-    let mut store = MemStore::new(alloc, setting.piece.max(1));
     store.add("t", file)?;
     store.add("e", WORKED.as_bytes())?;
     store.add("q", b"# a comment\nf (\n")?;
     store.add("s", b"app\t400\t100\tmain\ta.c\t20\napp\t500\t10\tf\n")?;
+    store.add("y", SYMBOLS.as_bytes())
+}
+
+/// The folder that runs find, of whose calls one is to fail.
+fn folder(alloc: Global, setting: &Setting, file: &[u8]) -> Result<MemStore, NoMemory>
+    ensures unopened { IfOk result (λ store. store.store.opens ≡ 0) }
+{
+    let mut store = MemStore::new(alloc, setting.piece.max(1));
+    add_files(&mut store, file)?;
     store.fail_at(setting.failing_store_call)?;
     Ok(store)
 }
@@ -250,6 +264,15 @@ pub fn run_once(
     gathered(alloc, status, &outputs)
 }
 
+/// Appends what both outputs of a run got, and its status in brackets.
+fn put_ran(run: &Ran, all: &mut Vec<u8>) -> Result<(), NoMemory> {
+    put_got(&run.out, all)?;
+    put_got(&run.err, all)?;
+    put_bytes(all, b"[")?;
+    put_dec(all, u64::from(run.status))?;
+    put_bytes(all, b"]\n")
+}
+
 /// Runs the words and appends what both outputs got and the status in brackets.
 pub fn append_run(
     alloc: Global,
@@ -259,33 +282,43 @@ pub fn append_run(
     all: &mut Vec<u8>,
 ) -> Result<(), NoMemory> {
     let run = run_once(alloc, setting, file, words)?;
-    put_got(&run.out, all)?;
-    put_got(&run.err, all)?;
-    put_bytes(all, b"[")?;
-    put_dec(all, u64::from(run.status))?;
-    put_bytes(all, b"]\n")
+    put_ran(&run, all)
+}
+
+/// Appends a line.
+fn put_line(line: &str, all: &mut Vec<u8>) -> Result<(), NoMemory> {
+    put_bytes(all, line.as_bytes())?;
+    put_bytes(all, b"\n")
+}
+
+/// Plays a line of a transcript, where `t` has these bytes so far.
+fn play_line(
+    alloc: Global,
+    setting: &Setting,
+    line: &str,
+    file: &mut Vec<u8>,
+    all: &mut Vec<u8>,
+) -> Result<(), NoMemory> {
+    if let Some(more) = line.strip_prefix("> ") {
+        put_line(line, all)?;
+        return put_line(more, file);
+    }
+    let Some(words) = line.strip_prefix("$ ") else {
+        return Ok(());
+    };
+    put_line(line, all)?;
+    append_run(alloc, setting, file, words, all)?;
+    file.clear();
+    put_bytes(file, setting.front.as_bytes())
 }
 
 /// Plays the lines of a transcript and gives what then stands there. A line behind `> ` is one more of `t`, up to the next
 /// run; the words behind `$ ` are run; all other lines are what a run wrote.
 pub fn played(alloc: Global, setting: &Setting, text: &str) -> Result<Vec<u8>, Fail> {
     let mut all = Vec::new(alloc);
-    let mut file = Vec::new(alloc);
-    put_bytes(&mut file, setting.front.as_bytes())?;
+    let mut file = Vec::from_slice(alloc, setting.front.as_bytes())?;
     for line in text.split('\n') {
-        if let Some(more) = line.strip_prefix("> ") {
-            put_bytes(&mut all, line.as_bytes())?;
-            put_bytes(&mut all, b"\n")?;
-            put_bytes(&mut file, more.as_bytes())?;
-            put_bytes(&mut file, b"\n")?;
-        }
-        if let Some(words) = line.strip_prefix("$ ") {
-            put_bytes(&mut all, line.as_bytes())?;
-            put_bytes(&mut all, b"\n")?;
-            append_run(alloc, setting, &file, words, &mut all)?;
-            file.clear();
-            put_bytes(&mut file, setting.front.as_bytes())?;
-        }
+        play_line(alloc, setting, line, &mut file, &mut all)?;
     }
     Ok(all)
 }
