@@ -21,7 +21,7 @@
 //! since the last such one, and a `CostHistory` notes what the marked stacks cost. No tree is built while events pass:
 //! nearly every peak is followed by a greater one, and most detailed snapshots are dropped. `finish` replays the
 //! history and builds the trees of the snapshots that are left; the stacks that came later cost nothing there, and a
-//! tree can't tell. The tests of these calls are in the crate `massif_tests`.
+//! tree can't tell. The tests of these calls are runs of `massif` in the crate `commands_tests`.
 //!
 //! | File | Does |
 //! |---|---|

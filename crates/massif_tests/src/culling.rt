@@ -1,13 +1,134 @@
-//! Worked cases of arrays of snapshots, whose results are known by hand, and each call once.
+//! Worked arrays of snapshots, whose texts are known by hand.
 ghost use Rattle.std.specs.Prelude.{◌≡◌};
 ghost use Rattle.massif_cull.specs.Entries.{last_time};
 
-use hp_num::{NoMemory, put_bytes, put_dec};
-use massif_cull::{Kind, Links, Offer, SnapArray, SnapEntry, Taken};
+use hp_num::{NoMemory, parse_dec, put_bytes, put_dec};
+use massif_cull::{Kind, Offer, SnapArray, SnapEntry, Taken};
 use std::alloc::Global;
 use std::cell::Cell;
 use std::process::Abort;
 use std::test::Fail;
+
+/// Of how many snapshots half are culled, of how many normal ones one is detailed, and by how many hundredths of a percent a
+/// peak passes the last one.
+type Settings = (u32, u64, u64);
+
+/// An array, and what is done with it.
+struct Case {
+    settings: Settings,
+    /// Words with blanks between them: the place and time of a normal offer of no bytes, behind `+` the bytes of another, and
+    /// behind `^` those of a peak; `show`, `cull`, and `first`, which takes the first snapshot out.
+    words: &'static str,
+    /// A letter for each offer, for what it is taken as, or `-`, and lines of the snapshots that are shown and taken out: the
+    /// place, the time, the bytes, as load the number of the word, and the kind.
+    text: &'static str,
+}
+
+static CASES: [Case; 6] = [
+    // The interval is 0 up to the tenth snapshot, which is culled.
+    Case {
+        settings: (10, 1_000_000, 100),
+        words: "show 0 1 2 3 4 5 6 7 8 show 9 show 10 11 show",
+        text: "
+next from 0
+nnnnnnnnn
+0 0 0 1 normal
+1 1 0 2 normal
+2 2 0 3 normal
+3 3 0 4 normal
+4 4 0 5 normal
+5 5 0 6 normal
+6 6 0 7 normal
+7 7 0 8 normal
+8 8 0 9 normal
+next from 8
+n
+0 0 0 1 normal
+2 2 0 3 normal
+4 4 0 5 normal
+6 6 0 7 normal
+9 9 0 11 normal
+next from 11
+-n
+0 0 0 1 normal
+2 2 0 3 normal
+4 4 0 5 normal
+6 6 0 7 normal
+9 9 0 11 normal
+11 11 0 14 normal
+next from 13
+",
+    },
+    // A peak stands among the offers.
+    Case {
+        settings: (10, 1_000_000, 100),
+        words: "0 1 2 2^5 3 4 5 6 7 8 show",
+        text: "nnnpnnnnnn
+0 0 0 0 normal
+2 2 5 3 peak
+4 4 0 5 normal
+6 6 0 7 normal
+8 8 0 9 normal
+next from 10
+",
+    },
+    // A peak is compared with the last one, which one percent more doesn't pass.
+    Case {
+        settings: (100, 1_000_000, 100),
+        words: "0 1^1000 2^1010 3^1011 show",
+        text: "np-p
+0 0 0 0 normal
+1 1 1000 1 normal
+3 3 1011 3 peak
+next from 3
+",
+    },
+    // Normal offers alone are counted for detail.
+    Case {
+        settings: (100, 3, 0),
+        words: "0 0^7 1 2+9 show 3 4 5",
+        text: "npnd
+0 0 0 0 normal
+0 0 7 1 peak
+1 1 0 2 normal
+2 2 9 3 detailed
+next from 2
+nnd",
+    },
+    // What is culled and taken out when asked.
+    Case {
+        settings: (10, 1_000_000, 0),
+        words: "0 1 2 3 4 5 6 cull show first first show",
+        text: "nnnnnnn
+0 0 0 0 normal
+2 2 0 2 normal
+4 4 0 4 normal
+6 6 0 6 normal
+next from 8
+0 0 0 0 normal
+2 2 0 2 normal
+
+4 4 0 4 normal
+6 6 0 6 normal
+next from 8
+",
+    },
+    Case {
+        settings: (10, 1, 0),
+        words: "0 1 show first show first first",
+        text: "dd
+0 0 0 0 detailed
+1 1 0 1 detailed
+next from 1
+0 0 0 0 detailed
+
+1 1 0 1 detailed
+next from 1
+1 1 0 1 detailed
+none
+",
+    },
+];
 
 /// The time of the last snapshot, and 0 of none.
 fn last_time<T: Drop>(array: &SnapArray<T>) -> u64
@@ -20,55 +141,60 @@ fn last_time<T: Drop>(array: &SnapArray<T>) -> u64
     array.entry(count - 1).time
 }
 
-/// Makes a normal offer at the place and time `time`. It must be taken as it was judged.
-fn offer_load<T: Drop>(
-    rt: &impl Abort,
-    array: &mut SnapArray<T>,
-    time: u64,
-    total: u64,
-    load: T,
-) -> Taken {
-    assert!(rt; last_time(array) <= time);
-    assert!(rt; time <= 1000);
-    assert!(rt; total <= 1000);
-    let offer = Offer {
+/// Makes the offer.
+fn offer<T: Drop>(rt: &impl Abort, array: &mut SnapArray<T>, offer: Offer, load: T) -> Taken {
+    assert!(rt; last_time(array) <= offer.time);
+    assert!(rt; array.len() > 0 || !offer.peak);
+    assert!(rt; offer.time <= 10_000);
+    assert!(rt; offer.total <= 10_000);
+    array.offer(offer, load)
+}
+
+fn number(rt: &impl Abort, digits: &str) -> u64 {
+    parse_dec(digits.as_bytes()).expect(rt, "a number")
+}
+
+fn offer_at(time: u64, total: u64, peak: bool) -> Offer {
+    Offer {
         place: time,
         time,
         total,
-        peak: false,
-    };
-    let judged = array.judge(&offer);
-    let taken = array.offer(offer, load);
-    assert_eq!(rt; taken, judged);
-    taken
-}
-
-/// Makes a normal offer of no bytes at the place and time `time`, with `time` as its load too.
-fn offer_normal(rt: &impl Abort, array: &mut SnapArray<u64>, time: u64) -> Taken {
-    offer_load(rt, array, time, 0, time)
-}
-
-/// Makes a peak offer at the place and time `time`, with `total` as its load too.
-fn offer_peak(rt: &impl Abort, array: &mut SnapArray<u64>, time: u64, total: u64) -> Taken {
-    assert!(rt; array.len() > 0);
-    assert!(rt; last_time(array) <= time);
-    assert!(rt; time <= 1000);
-    assert!(rt; total <= 10_000);
-    let offer = Offer {
-        place: time,
-        time,
-        total,
-        peak: true,
-    };
-    array.offer(offer, total)
-}
-
-/// Normal offers at the times from `start` up to `end`, all of them taken.
-fn offer_times(rt: &impl Abort, array: &mut SnapArray<u64>, start: u64, end: u64) {
-    for time in start..end {
-        let taken = offer_normal(rt, array, time);
-        assert!(rt; taken != Taken::No);
+        peak,
     }
+}
+
+/// The offer that the word says.
+fn offer_of(rt: &impl Abort, word: &str) -> Offer {
+    if let Some((time, bytes)) = word.split_once('^') {
+        return offer_at(number(rt, time), number(rt, bytes), true);
+    }
+    if let Some((time, bytes)) = word.split_once('+') {
+        return offer_at(number(rt, time), number(rt, bytes), false);
+    }
+    offer_at(number(rt, word), 0, false)
+}
+
+/// A letter for what an offer was taken as.
+fn letter(taken: Taken) -> &'static [u8] {
+    match taken {
+        Taken::No => b"-",
+        Taken::Normal => b"n",
+        Taken::Detailed => b"d",
+        Taken::Peak => b"p",
+    }
+}
+
+fn kind_line(kind: Kind) -> &'static [u8] {
+    match kind {
+        Kind::Normal => b"normal\n",
+        Kind::Detailed => b"detailed\n",
+        Kind::Peak => b"peak\n",
+    }
+}
+
+fn put_figure(figure: u64, out: &mut Vec<u8>) -> Result<(), NoMemory> {
+    put_dec(out, figure)?;
+    put_bytes(out, b" ")
 }
 
 /// Appends a line of a snapshot: its place, its time, its bytes and its load, and what it is kept as.
@@ -80,144 +206,92 @@ fn put_entry(entry: &SnapEntry, load: u64, out: &mut Vec<u8>) -> Result<(), NoMe
     put_bytes(out, kind_line(entry.kind))
 }
 
-fn put_figure(figure: u64, out: &mut Vec<u8>) -> Result<(), NoMemory> {
-    put_dec(out, figure)?;
-    put_bytes(out, b" ")
-}
-
-fn kind_line(kind: Kind) -> &'static [u8] {
-    match kind {
-        Kind::Normal => b"normal\n",
-        Kind::Detailed => b"detailed\n",
-        Kind::Peak => b"peak\n",
-    }
-}
-
-/// The array holds the snapshots of these lines.
-fn holds(rt: &impl Abort, alloc: Global, array: &SnapArray<u64>, want: &[u8]) -> Result<(), Fail> {
-    let mut out = Vec::new(alloc);
+/// Appends lines of the snapshots, and the time from which on a normal offer is taken.
+fn put_array(rt: &impl Abort, array: &SnapArray<u64>, out: &mut Vec<u8>) -> Result<(), NoMemory> {
+    put_bytes(out, b"\n")?;
     for i in 0..array.len() {
         assert!(rt; i < array.len());
-        put_entry(&array.entry(i), *array.load(i), &mut out)?;
+        put_entry(&array.entry(i), *array.load(i), out)?;
     }
-    assert_eq!(rt; out.as_slice(), want);
+    put_bytes(out, b"next from ")?;
+    put_dec(out, array.next_time())?;
+    put_bytes(out, b"\n")
+}
+
+/// Takes the first snapshot out, and appends its line.
+fn put_first(array: &mut SnapArray<u64>, out: &mut Vec<u8>) -> Result<(), NoMemory> {
+    match array.take_first() {
+        Some((entry, load)) => put_entry(&entry, load, out),
+        None => put_bytes(out, b"none\n"),
+    }
+}
+
+/// Does what the word says, which has this number, and appends what it comes to.
+fn put_word(
+    rt: &impl Abort,
+    array: &mut SnapArray<u64>,
+    word: &str,
+    number: u64,
+    out: &mut Vec<u8>,
+) -> Result<(), NoMemory> {
+    match word {
+        "show" => put_array(rt, array, out),
+        "first" => put_first(array, out),
+        "cull" => {
+            assert!(rt; array.len() >= 6);
+            array.cull();
+            Ok(())
+        }
+        _ => put_bytes(out, letter(offer(rt, array, offer_of(rt, word), number))),
+    }
+}
+
+/// Does what the words say, and appends what they come to.
+fn put_words(
+    rt: &impl Abort,
+    array: &mut SnapArray<u64>,
+    words: &str,
+    out: &mut Vec<u8>,
+) -> Result<(), NoMemory> {
+    let mut number = 0u64;
+    for word in words.split(' ') {
+        put_word(rt, array, word, number, out)?;
+        number = number.wrapping_add(1);
+    }
     Ok(())
 }
 
-#[test]
-fn gives_back_what_it_holds(rt: HostRuntime) -> Result<(), Fail> {
-    let mut array = SnapArray::new(rt.alloc(), 10, 1, 0)?;
-    offer_times(&rt, &mut array, 0, 2);
-    let entry = SnapEntry {
-        place: 0,
-        time: 0,
-        total: 0,
-        kind: Kind::Detailed,
-    };
-    assert_eq!(rt; array.take_first(), Some((entry, 0)));
-    holds(&rt, rt.alloc(), &array, b"1 1 0 1 detailed\n")?;
-    let last = array.take_first();
-    assert_eq!(rt; last.map(|(_, load)| load), Some(1));
-    assert_eq!(rt; array.take_first(), None);
-    Ok(())
+/// An array without snapshots.
+fn array_of<T: Drop>(
+    rt: &impl Abort,
+    alloc: Global,
+    settings: Settings,
+) -> Result<SnapArray<T>, NoMemory> {
+    let (max, detailed_freq, inaccuracy) = settings;
+    assert!(rt; 10 <= max && max <= 1000);
+    assert!(rt; 1 <= detailed_freq && detailed_freq <= 1_000_000);
+    assert!(rt; inaccuracy <= 10_000);
+    SnapArray::new(alloc, max, detailed_freq, inaccuracy)
+}
+
+/// Appends what the words of the case come to.
+fn put_case(
+    rt: &impl Abort,
+    alloc: Global,
+    case: &Case,
+    out: &mut Vec<u8>,
+) -> Result<(), NoMemory> {
+    let mut array = array_of(rt, alloc, case.settings)?;
+    put_words(rt, &mut array, case.words, out)
 }
 
 #[test]
-fn is_empty_at_first(rt: HostRuntime) -> Result<(), Fail> {
-    let array = SnapArray::<u64>::new(rt.alloc(), 10, 1, 0)?;
-    assert_eq!(rt; array.len(), 0);
-    assert_eq!(rt; array.next_time(), 0);
-    Ok(())
-}
-
-#[test]
-fn culls_the_tenth(rt: HostRuntime) -> Result<(), Fail> {
-    let mut array = SnapArray::new(rt.alloc(), 10, 1_000_000, 100)?;
-    offer_times(&rt, &mut array, 0, 9);
-    assert_eq!(rt; array.len(), 9);
-    assert_eq!(rt; array.next_time(), 8, "the interval begins at 0");
-    assert_eq!(rt; offer_normal(&rt, &mut array, 9), Taken::Normal);
-    holds(
-        &rt,
-        rt.alloc(),
-        &array,
-        b"0 0 0 0 normal\n2 2 0 2 normal\n4 4 0 4 normal\n6 6 0 6 normal\n9 9 0 9 normal\n",
-    )?;
-    assert_eq!(rt; array.next_time(), 11);
-    assert_eq!(rt; offer_normal(&rt, &mut array, 10), Taken::No);
-    assert_eq!(rt; offer_normal(&rt, &mut array, 11), Taken::Normal);
-    assert_eq!(rt; array.len(), 6);
-    Ok(())
-}
-
-#[test]
-fn keeps_a_peak_among_the_offers(rt: HostRuntime) -> Result<(), Fail> {
-    let mut array = SnapArray::new(rt.alloc(), 10, 1_000_000, 100)?;
-    offer_times(&rt, &mut array, 0, 2);
-    assert_eq!(rt; offer_normal(&rt, &mut array, 2), Taken::Normal);
-    assert_eq!(rt; offer_peak(&rt, &mut array, 2, 5), Taken::Peak);
-    offer_times(&rt, &mut array, 3, 9);
-    holds(
-        &rt,
-        rt.alloc(),
-        &array,
-        b"0 0 0 0 normal\n2 2 5 5 peak\n4 4 0 4 normal\n6 6 0 6 normal\n8 8 0 8 normal\n",
-    )?;
-    assert_eq!(rt; array.next_time(), 10);
-    Ok(())
-}
-
-#[test]
-fn compares_with_the_last_peak(rt: HostRuntime) -> Result<(), Fail> {
-    let mut array = SnapArray::new(rt.alloc(), 100, 1_000_000, 100)?;
-    assert_eq!(rt; offer_normal(&rt, &mut array, 0), Taken::Normal);
-    assert_eq!(rt; offer_peak(&rt, &mut array, 1, 1000), Taken::Peak);
-    assert_eq!(rt;
-        offer_peak(&rt, &mut array, 2, 1010),
-        Taken::No,
-        "one percent more"
-    );
-    assert_eq!(rt; offer_peak(&rt, &mut array, 3, 1011), Taken::Peak);
-    holds(
-        &rt,
-        rt.alloc(),
-        &array,
-        b"0 0 0 0 normal\n1 1 1000 1000 normal\n3 3 1011 1011 peak\n",
-    )
-}
-
-#[test]
-fn counts_normal_offers_for_detail(rt: HostRuntime) -> Result<(), Fail> {
-    let mut array = SnapArray::new(rt.alloc(), 100, 3, 0)?;
-    assert_eq!(rt; offer_normal(&rt, &mut array, 0), Taken::Normal);
-    assert_eq!(rt; offer_peak(&rt, &mut array, 0, 7), Taken::Peak);
-    assert_eq!(rt; offer_normal(&rt, &mut array, 1), Taken::Normal);
-    assert_eq!(rt; offer_load(&rt, &mut array, 2, 9, 2), Taken::Detailed);
-    holds(
-        &rt,
-        rt.alloc(),
-        &array,
-        b"0 0 0 0 normal\n0 0 7 7 peak\n1 1 0 1 normal\n2 2 9 2 detailed\n",
-    )?;
-    assert_eq!(rt; offer_normal(&rt, &mut array, 3), Taken::Normal);
-    assert_eq!(rt; offer_normal(&rt, &mut array, 4), Taken::Normal);
-    assert_eq!(rt; offer_normal(&rt, &mut array, 5), Taken::Detailed);
-    Ok(())
-}
-
-#[test]
-fn culls_when_asked(rt: HostRuntime) -> Result<(), Fail> {
-    let mut array = SnapArray::new(rt.alloc(), 10, 1_000_000, 0)?;
-    offer_times(&rt, &mut array, 0, 7);
-    assert_eq!(rt; array.len(), 7);
-    array.cull();
-    holds(
-        &rt,
-        rt.alloc(),
-        &array,
-        b"0 0 0 0 normal\n2 2 0 2 normal\n4 4 0 4 normal\n6 6 0 6 normal\n",
-    )?;
-    assert_eq!(rt; array.next_time(), 8);
+fn arrays(rt: HostRuntime) -> Result<(), Fail> {
+    for case in &CASES {
+        let mut out = Vec::new(rt.alloc());
+        put_case(&rt, rt.alloc(), case, &mut out)?;
+        assert_eq!(rt; out.as_slice(), case.text.as_bytes());
+    }
     Ok(())
 }
 
@@ -233,39 +307,29 @@ impl Drop for Counted<'_> {
     }
 }
 
+/// Makes a normal offer at this time, after which so many loads have been dropped.
+fn offer_counted<'a>(
+    rt: &impl Abort,
+    array: &mut SnapArray<Counted<'a>>,
+    drops: &'a Cell<u32>,
+    time: u64,
+    count: u32,
+) {
+    offer(rt, array, offer_at(time, 0, false), Counted { drops });
+    assert_eq!(rt; drops.get(), count);
+}
+
+// The tenth offer culls five snapshots, and the next one isn't taken.
 #[test]
 fn drops_each_load_once(rt: HostRuntime) -> Result<(), Fail> {
     let drops = Cell::new(0);
-    let mut array = SnapArray::new(rt.alloc(), 10, 1, 0)?;
-    for time in 0..10 {
-        let taken = offer_load(&rt, &mut array, time, 0, Counted { drops: &drops });
-        assert_eq!(rt; taken, Taken::Detailed);
-        assert_eq!(rt; drops.get(), if time == 9 { 5 } else { 0 });
+    let mut array = array_of(&rt, rt.alloc(), (10, 1, 0))?;
+    for time in 0..9 {
+        offer_counted(&rt, &mut array, &drops, time, 0);
     }
-    let early = offer_load(&rt, &mut array, 10, 0, Counted { drops: &drops });
-    assert_eq!(rt; early, Taken::No);
-    assert_eq!(rt; drops.get(), 6, "a load that isn't taken");
+    offer_counted(&rt, &mut array, &drops, 9, 5);
+    offer_counted(&rt, &mut array, &drops, 10, 6);
     drop(array);
     assert_eq!(rt; drops.get(), 11);
-    Ok(())
-}
-
-#[test]
-fn links_places(rt: HostRuntime) -> Result<(), Fail> {
-    let mut links = Links::new(rt.alloc(), 3)?;
-    assert_eq!(rt; links.first(), None);
-    let first = links.push();
-    let middle = links.push();
-    let third = links.push();
-    links.unlink(middle);
-    assert_eq!(rt; links.first(), Some(first));
-    assert_eq!(rt; links.next(first), Some(third));
-    assert_eq!(rt; links.prev(third), Some(first));
-    assert_eq!(rt; links.prev(first), None);
-    let again = links.push();
-    assert_eq!(rt; again, middle);
-    assert_eq!(rt; links.next(third), Some(again));
-    assert_eq!(rt; links.next(again), None);
-    assert_eq!(rt; links.len(), 3);
     Ok(())
 }

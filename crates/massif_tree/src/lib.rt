@@ -17,7 +17,7 @@
 //!   as the texts of a trace may whose strings have no line feed (`texts`).
 //!
 //! The crates above may cite its `proofs/Laws`: stacks that cost nothing, behind others, change no tree. The tests of these calls
-//! are in the crate `massif_tests`.
+//! are runs of `massif` in the crate `commands_tests`.
 //!
 //! | File | Does |
 //! |---|---|

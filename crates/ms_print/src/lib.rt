@@ -12,7 +12,7 @@
 //! line's own tree ends, so that a child is passed over in one step, and what is still to be written is a list, the
 //! next entry last. The prefix of an entry is a front of the one before it.
 //!
-//! The tests of these calls are in the crate `massif_tests`.
+//! The tests of these calls are runs of `ms_print` in the crate `commands_tests`.
 //!
 //! | File | Does |
 //! |---|---|
