@@ -10,7 +10,7 @@
 //! - `changes` says what an event does to each stack: every block that was live has lived one event more.
 //! - `sound` says the figures' order and bounds: lifetimes stay below 2^63.
 //!
-//! The tests of these calls are in the crate `dhat_tests`.
+//! The tests of these calls are runs of `dhat` in the crate `commands_tests`.
 #![tactic(auto)]
 
 mod figures;

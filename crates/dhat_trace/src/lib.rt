@@ -18,7 +18,7 @@
 //! | `frame_table.rt`, `texts.rt` | the table of frames; texts as they stand in a profile |
 //! | `known_places.rt`, `told_places.rt` | the places of the frames of instructions, and of stacks |
 //!
-//! The tests of these calls are in the crate `dhat_tests`.
+//! The tests of these calls are runs of `dhat` in the crate `commands_tests`.
 #![tactic(auto)]
 
 mod backtraces;

@@ -6,7 +6,8 @@
 //! `put_view` appends the view of a profile (`view_text`): its head, and the tree of these lists with the points'
 //! figures of a key as costs, a line for each line of `cost_tree` but the first. `view_fault` says why a profile has no
 //! view: its points have no figures of the key, or these sum to more than 2^62. Both come exactly then (`refused`), take
-//! no memory, and leave the vector as it was, as `NoMemory` does. The tests of these calls are in the crate `dhat_tests`.
+//! no memory, and leave the vector as it was, as `NoMemory` does. The tests of these calls are runs of `dhat_view`
+//! in the crate `commands_tests`.
 //!
 //! | File | Does |
 //! |---|---|
