@@ -13,7 +13,7 @@
 //!   memory was wanting, and leaves the output as it was.
 //!
 //! For folded lines a text of a table or a tree is hashed once, and a list by the numbers of its texts. The tests of these
-//! calls are in the crate `convert_tests`.
+//! calls are runs of `convert` in the crate `commands_tests`.
 //!
 //! | File | Does |
 //! |---|---|

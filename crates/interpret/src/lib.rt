@@ -32,7 +32,7 @@
 //!   is no fault also asks that the texts of a symbol are those that a line of a table may have (`HasFrames`).
 //!
 //! Memory grows with names, instructions, nodes, pairs and pointers, and never with lines. The tests of these calls are
-//! the crate `interpret_tests`.
+//! runs of `interpret` in the crate `commands_tests`.
 //!
 //! | File | Does |
 //! |---|---|
