@@ -1,133 +1,138 @@
-//! Files read whole, the system's files, and the system's limits.
-ghost use Rattle.std.specs.Prelude.{◌≡◌, IsTrue};
+//! Files read whole, the system's files, and the system's limits. What calls in a row answer is one text.
+ghost use Rattle.std.specs.Prelude.{◌≡◌, ◌+◌, ◌-◌, ◌^◌, ◌<◌, ℕ, List, None, IsTrue};
+ghost use Rattle.hp_outside.specs.Folder.{file_of};
 
-use crate::stores::{open_gives, opens};
-use hp_outside::{
-    FsStore, Limits, LineFault, LineReader, MemStore, OpenFault, Span, Store, WholeFault,
-    read_whole,
-};
+use crate::stores::opens;
+use hp_num::{NoMemory, put_bytes};
+use hp_outside::{FsStore, Limits, LineReader, MemStore, Store, read_whole};
 use std::alloc::Global;
 use std::fs;
 use std::process::Abort;
-use std::test::Fail;
 
 /// The system's limits.
-fn has_limits(rt: &impl Abort, limits: &Limits, input: u64, line: u32, order: u64) {
-    assert_eq!(rt; limits.input, input);
-    assert_eq!(rt; limits.line, line);
-    assert_eq!(rt; limits.order, order);
-}
-
 #[test]
 fn standard_limits(rt: HostRuntime) {
-    has_limits(
-        &rt,
-        &Limits::standard(),
-        17_179_869_184,
-        1_048_576,
-        10_000_000,
-    );
+    let limits = Limits::standard();
+    let got = [limits.input, u64::from(limits.line), limits.order];
+    assert_eq!(rt; got, [17_179_869_184, 1_048_576, 10_000_000]);
 }
 
-/// The rest of the current file is these bytes, or this fault.
-fn whole_gives<S: Store>(
-    rt: &impl Abort,
+/// Appends the rest of the current file, or why it isn't read.
+fn put_whole<S: Store>(
+    out: &mut Vec<u8>,
     alloc: Global,
     limits: &Limits,
     store: &mut S,
-    want: Result<&[u8], WholeFault>,
-)
+) -> Result<(), NoMemory>
     requires { IsTrue (S.current store.old) }
     ensures { S.opens store.new ≡ S.opens store.old }
 {
     match read_whole(alloc, limits, store) {
-        Ok(whole) => assert_eq!(rt; Ok(whole.bytes()), want),
-        Err(fault) => assert_eq!(rt; Err(fault), want),
+        Ok(whole) => put_bytes(out, whole.bytes()),
+        Err(fault) => put_bytes(out, fault.text().as_bytes()),
     }
 }
 
-/// Of a file of seven bytes within this limit, read in such pieces, with a call that fails.
-fn seven_bytes_give(
-    rt: &impl Abort,
+/// Opens a name, and appends what the file is, or why it isn't read.
+fn put_named<S: Store>(
+    out: &mut Vec<u8>,
     alloc: Global,
-    piece: u8,
+    limits: &Limits,
+    store: &mut S,
+    name: &str,
+) -> Result<(), NoMemory>
+    requires { S.opens store.old < 2 ^ 64 - 1 }
+    ensures { S.opens store.new ≡ S.opens store.old + 1 }
+{
+    match store.open(name) {
+        Ok(()) => put_whole(out, alloc, limits, store),
+        Err(fault) => put_bytes(out, fault.text().as_bytes()),
+    }
+}
+
+/// How many bytes a read gives, the limit of a file, the call that fails, and what a file of seven bytes gives.
+static SEVEN: [(u8, u16, u64, &str); 5] = [
+    (1, 7, 0, "abcdefg"),
+    (3, 7, 0, "abcdefg"),
+    (9, 8, 0, "abcdefg"),
+    (3, 6, 0, "input too long"),
+    (3, 9, 3, "cannot read"),
+];
+
+/// Appends what a file of seven bytes gives within this limit, where a call fails.
+fn put_seven(
+    out: &mut Vec<u8>,
+    alloc: Global,
+    store: &mut MemStore,
     input: u16,
     failing_call: u64,
-    want: Result<&[u8], WholeFault>,
-) -> Result<(), Fail> {
-    let mut store = MemStore::new(alloc, usize::from(piece).max(1));
-    store.add("a", b"abcdefg")?;
-    store.fail_at(failing_call)?;
-    opens(rt, &mut store, "a");
+) -> Result<(), NoMemory>
+    requires opens { store.old.store.opens ≡ 0 }
+    requires none { (name : List ℕ) → file_of store.old.store.folder name ≡ None }
+{
     let limits = Limits {
         input: u64::from(input),
         line: 9,
         order: 1,
     };
-    whole_gives(rt, alloc, &limits, &mut store, want);
-    Ok(())
+    store.add("a", b"abcdefg")?;
+    store.fail_at(failing_call)?;
+    put_named(out, alloc, &limits, store, "a")
 }
 
 #[test]
-fn reads_whole_files(rt: HostRuntime) -> Result<(), Fail> {
-    let cases: [(u8, u16, u64, Result<&[u8], WholeFault>); 5] = [
-        (1, 7, 0, Ok(b"abcdefg")),
-        (3, 7, 0, Ok(b"abcdefg")),
-        (9, 8, 0, Ok(b"abcdefg")),
-        (3, 6, 0, Err(WholeFault::InputTooLong)),
-        (3, 9, 3, Err(WholeFault::ReadFailed)),
-    ];
-    for (piece, input, failing_call, want) in &cases {
-        seven_bytes_give(&rt, rt.alloc(), *piece, *input, *failing_call, *want)?;
+fn reads_whole_files(rt: HostRuntime) {
+    for (piece, input, failing_call, want) in &SEVEN {
+        let mut out = Vec::new(rt.alloc());
+        let mut store = MemStore::new(rt.alloc(), usize::from(*piece).max(1));
+        put_seven(&mut out, rt.alloc(), &mut store, *input, *failing_call).expect(&rt, "memory");
+        assert_eq!(rt; out.as_slice(), want.as_bytes());
     }
-    Ok(())
 }
 
-#[test]
-fn fs_store_reads_a_file(rt: HostRuntime) -> Result<(), Fail> {
-    let path = format!(in rt.alloc(); "hp_outside_test_{}", std::process::id(rt.process()))?;
-    fs::write(&rt, path.as_str(), "abcdefg")?;
-    let mut store = FsStore::new(&rt);
-    opens(&rt, &mut store, path.as_str());
-    fs::remove_file(&rt, path.as_str())?;
-    whole_gives(
-        &rt,
-        rt.alloc(),
-        &Limits::standard(),
-        &mut store,
-        Ok(b"abcdefg"),
-    );
-    open_gives(&rt, &mut store, path.as_str(), Err(OpenFault::Absent));
-    opens(&rt, &mut store, "-");
-    Ok(())
-}
-
-/// The first line is not given, with this answer.
-fn no_first_line<S: Store>(
-    rt: &impl Abort,
-    alloc: Global,
-    store: &mut S,
-    want: Result<Option<Span>, LineFault>,
-) -> Result<(), Fail>
+/// Appends whether the first line of the current file can be read.
+fn put_line<S: Store>(out: &mut Vec<u8>, alloc: Global, store: &mut S) -> Result<(), NoMemory>
     requires { IsTrue (S.current store.old) }
 {
     let mut reader = LineReader::new(alloc, &Limits::standard())?;
-    assert_eq!(rt; reader.next(store), want);
-    Ok(())
+    match reader.next(store) {
+        Ok(_) => put_bytes(out, b"a line"),
+        Err(fault) => put_bytes(out, fault.text().as_bytes()),
+    }
 }
 
-/// The system opens a folder, and fails where it is read: that is no end of a file.
+/// Appends what a name opens, a name that isn't there, and a folder. The system opens that too, and fails where it is read, whole
+/// or by lines: that is no end of a file.
+fn put_system<S: Store>(
+    rt: &impl Abort,
+    out: &mut Vec<u8>,
+    alloc: Global,
+    store: &mut S,
+    name: &str,
+) -> Result<(), NoMemory>
+    requires { S.opens store.old < 9 }
+{
+    let limits = Limits::standard();
+    put_named(out, alloc, &limits, store, name)?;
+    put_bytes(out, b", ")?;
+    put_named(out, alloc, &limits, store, "hp_outside_no_test")?;
+    put_bytes(out, b", ")?;
+    put_named(out, alloc, &limits, store, ".")?;
+    put_bytes(out, b", ")?;
+    opens(rt, store, "-");
+    opens(rt, store, ".");
+    put_line(out, alloc, store)
+}
+
 #[test]
-fn a_folder_is_no_file(rt: HostRuntime) -> Result<(), Fail> {
+fn fs_store_reads_a_file(rt: HostRuntime) {
+    let id = std::process::id(rt.process());
+    let path = format!(in rt.alloc(); "hp_outside_test_{id}").expect(&rt, "a name");
+    fs::write(&rt, path.as_str(), "abcdefg").expect(&rt, "a file");
     let mut store = FsStore::new(&rt);
-    opens(&rt, &mut store, ".");
-    whole_gives(
-        &rt,
-        rt.alloc(),
-        &Limits::standard(),
-        &mut store,
-        Err(WholeFault::ReadFailed),
-    );
-    opens(&rt, &mut store, ".");
-    no_first_line(&rt, rt.alloc(), &mut store, Err(LineFault::ReadFailed))
+    let mut out = Vec::new(rt.alloc());
+    put_system(&rt, &mut out, rt.alloc(), &mut store, path.as_str()).expect(&rt, "memory");
+    fs::remove_file(&rt, path.as_str()).expect(&rt, "a file less");
+    let want = b"abcdefg, no such file, cannot read, cannot read";
+    assert_eq!(rt; out.as_slice(), want.as_slice());
 }

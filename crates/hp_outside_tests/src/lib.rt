@@ -9,6 +9,8 @@ mod files;
 #[cfg(test)]
 mod lines;
 #[cfg(test)]
+mod numbers;
+#[cfg(test)]
 mod sinks;
 #[cfg(test)]
 mod stores;

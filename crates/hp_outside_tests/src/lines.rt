@@ -1,15 +1,16 @@
-//! Lines of files: their lengths, failed reads, new files, and lines that are lent.
-ghost use Rattle.std.specs.Prelude.{◌≡◌, [], IfOk, IsSome, true};
+//! Lines of files: their lengths, failed reads, new files, and lines that are lent. What calls in a row answer is one text.
+ghost use Rattle.std.specs.Prelude.{◌≡◌, [], ℕ, List, None, IfOk, IfSome, IsSome, IsTrue, true, false};
+ghost use Rattle.hp_outside.specs.Folder.{file_of};
 ghost use Rattle.hp_outside.specs.Taken.{WhereTold};
 
 use crate::stores::opens;
+use hp_num::{NoMemory, put_bytes, put_dec};
 use hp_outside::{Limits, LineFault, LineReader, MemStore, Span, Store, SureStore};
 use std::alloc::Global;
 use std::process::Abort;
-use std::test::Fail;
 
-/// A file, a reader's limits, and what four calls must give: the lines, each with a line feed, and
-/// what the last call answers. A store's call of number 0 never fails.
+/// A file, a reader's limits, how many bytes a read gives, the call of the store that fails, and what is answered. A store's call
+/// of number 0 never fails, and call 1 is the open.
 #[derive(Clone, Copy)]
 struct Case {
     bytes: &'static str,
@@ -17,253 +18,233 @@ struct Case {
     line: u16,
     piece: usize,
     failing_call: u64,
-    lines: &'static str,
-    last: Result<Option<Span>, LineFault>,
+    want: &'static str,
 }
 
-/// A file under these limits, all calls sound.
-const fn limited_to(
-    bytes: &'static str,
-    input: u32,
-    line: u16,
-    lines: &'static str,
-    last: Result<Option<Span>, LineFault>,
-) -> Case {
-    Case {
-        bytes,
-        input,
-        line,
-        piece: 9,
-        failing_call: 0,
-        lines,
-        last,
+/// Files, their limits of the input and of a line, and what four calls answer, and one on a new file of two bytes.
+///
+/// Each answer stands before the number of lines and a bar: a line with its line feed, `.` for the end of the file, `L` and `I` for
+/// a line and an input that are too long, `R` for a failed read. Then comes `-` where the last line lacked its line feed.
+static LIMITED: [(&str, u32, u16, &str); 16] = [
+    ("ab\n\ncde", 99, 9, "ab\n1|\n2|cde\n3|.3|-0|ef\n1|"),
+    ("abcd", 9, 3, "L0|L0|L0|L0|0|ef\n1|"),
+    ("abc", 9, 3, "abc\n1|.1|.1|.1|-0|ef\n1|"),
+    ("abc\n", 9, 3, "abc\n1|.1|.1|.1|0|ef\n1|"),
+    ("ab\ncde", 4, 9, "ab\n1|I1|I1|I1|0|ef\n1|"),
+    ("abcde", 4, 1, "L0|L0|L0|L0|0|L0|"),
+    ("abc", 3, 3, "abc\n1|.1|.1|.1|-0|ef\n1|"),
+    ("abc\n", 3, 3, "I0|I0|I0|I0|0|ef\n1|"),
+    ("abcd", 3, 3, "I0|I0|I0|I0|0|ef\n1|"),
+    ("abcde", 4, 3, "L0|L0|L0|L0|0|ef\n1|"),
+    ("", 0, 9, ".0|.0|.0|.0|0|I0|"),
+    ("", 1, 9, ".0|.0|.0|.0|0|I0|"),
+    ("\n", 0, 9, "I0|I0|I0|I0|0|I0|"),
+    ("\n", 1, 9, "\n1|.1|.1|.1|0|I0|"),
+    ("a\nbcd", 9, 2, "a\n1|L1|L1|L1|0|ef\n1|"),
+    ("a\nbcd", 3, 2, "a\n1|I1|I1|I1|0|ef\n1|"),
+];
+
+/// Files of which a call of the store fails, how many bytes a read gives, the call, and what is answered.
+static FAILING: [(&str, usize, u64, &str); 6] = [
+    ("abcdef", 2, 3, "R0|R0|R0|R0|0|ef\n1|"),
+    ("abc\n", 2, 3, "R0|R0|R0|R0|0|ef\n1|"),
+    ("abc", 2, 4, "R0|R0|R0|R0|0|ef\n1|"),
+    ("a\nb", 9, 3, "a\n1|R1|R1|R1|0|ef\n1|"),
+    ("abcd", 9, 3, "L0|L0|L0|L0|closed"),
+    ("ab", 9, 4, "ab\n1|.1|.1|.1|-closed"),
+];
+
+/// Appends a line that was given with its line feed, or why there is none.
+fn put_answer(
+    out: &mut Vec<u8>,
+    reader: &LineReader,
+    answer: Result<Option<Span>, LineFault>,
+) -> Result<(), NoMemory>
+    requires { IfOk answer (λ place. IfSome place (λ span. reader.now.span ≡ span)) }
+{
+    match answer {
+        Ok(Some(span)) => {
+            put_bytes(out, reader.line(&span))?;
+            put_bytes(out, b"\n")
+        }
+        Ok(None) => put_bytes(out, b"."),
+        Err(LineFault::LineTooLong) => put_bytes(out, b"L"),
+        Err(LineFault::InputTooLong) => put_bytes(out, b"I"),
+        Err(LineFault::ReadFailed) => put_bytes(out, b"R"),
     }
 }
 
-/// The limits of a case.
-fn limits_of(case: &Case) -> Limits {
-    Limits {
+/// Appends the number of lines.
+fn put_number(out: &mut Vec<u8>, reader: &LineReader) -> Result<(), NoMemory> {
+    put_dec(out, reader.number())?;
+    put_bytes(out, b"|")
+}
+
+/// Appends what the next call answers.
+fn put_next<S: Store>(
+    out: &mut Vec<u8>,
+    reader: &mut LineReader,
+    store: &mut S,
+) -> Result<(), NoMemory>
+    requires current { IsTrue (S.current store.old) }
+    requires ended { reader.old.ended ≡ true
+        → WhereTold (S.left store.old) (λ bytes. bytes ≡ []) }
+    ensures current { IsTrue (S.current store.new) }
+    ensures ended { reader.new.ended ≡ true → WhereTold (S.left store.new) (λ bytes. bytes ≡ []) }
+    ensures opens { S.opens store.new ≡ S.opens store.old }
+{
+    let answer = reader.next(store);
+    put_answer(out, reader, answer)?;
+    put_number(out, reader)
+}
+
+/// Appends what four calls answer, and whether the last line lacked its line feed.
+fn put_four(
+    out: &mut Vec<u8>,
+    reader: &mut LineReader,
+    store: &mut MemStore,
+) -> Result<(), NoMemory>
+    requires current { IsSome store.old.store.left }
+    requires ended { reader.old.ended ≡ true
+        → WhereTold store.old.store.left (λ bytes. bytes ≡ []) }
+    ensures opens { store.new.store.opens ≡ store.old.store.opens }
+{
+    'calls: for _ in 0..4 {
+        put_next(out, reader, store)?;
+    }
+    put_bytes(out, if reader.ended() { b"" } else { b"-" })
+}
+
+/// Adds the file of the case, whose calls may fail, and a file of two bytes.
+fn add_files(store: &mut MemStore, case: &Case) -> Result<(), NoMemory>
+    requires { (name : List ℕ) → file_of store.old.store.folder name ≡ None }
+    ensures { store.new.store.opens ≡ store.old.store.opens }
+{
+    store.add("a", case.bytes.as_bytes())?;
+    store.add("b", b"ef")?;
+    store.fail_at(case.failing_call)
+}
+
+/// Appends what four calls answer on the first file, and one on the second one.
+fn put_files(
+    out: &mut Vec<u8>,
+    reader: &mut LineReader,
+    store: &mut MemStore,
+) -> Result<(), NoMemory>
+    requires opens { store.old.store.opens ≡ 0 }
+    requires new { reader.old.ended ≡ false }
+{
+    if store.open("a").is_err() {
+        return put_bytes(out, b"closed");
+    }
+    put_four(out, reader, store)?;
+    if store.open("b").is_err() {
+        return put_bytes(out, b"closed");
+    }
+    reader.start();
+    put_number(out, reader)?;
+    put_next(out, reader, store)
+}
+
+/// What is answered is that of the case.
+fn answers(rt: &impl Abort, alloc: Global, case: &Case) {
+    let limits = Limits {
         input: u64::from(case.input),
         line: u32::from(case.line).max(1),
         order: 1,
-    }
-}
-
-/// The open file of the case, whose calls may fail, and beside it a file of two bytes.
-fn two_files(rt: &impl Abort, alloc: Global, case: &Case) -> Result<MemStore, Fail>
-    ensures current { IfOk result (λ store. IsSome store.store.left) }
-    ensures opens { IfOk result (λ store. store.store.opens ≡ 1) }
-{
+    };
+    let mut out = Vec::new(alloc);
     let mut store = MemStore::new(alloc, case.piece.max(1));
-    store.add("a", case.bytes.as_bytes())?;
-    store.add("b", b"ef")?;
-    store.fail_at(case.failing_call)?;
-    assert_eq!(rt; store.open("a"), Ok(()));
-    Ok(store)
-}
-
-/// Appends the lines that four calls give, each with a line feed, and answers what the last call does.
-fn four_calls(
-    reader: &mut LineReader,
-    store: &mut MemStore,
-    lines: &mut Vec<u8>,
-) -> Result<Result<Option<Span>, LineFault>, Fail>
-    requires current { IsSome store.old.store.left }
-    requires ended { reader.old.ended ≡ true
-        → WhereTold store.old.store.left (λ bytes. bytes ≡ []) }
-{
-    let mut last = Ok(None);
-    'calls: for _ in 0..4 {
-        last = reader.next(store);
-        if let Ok(Some(span)) = last {
-            lines.extend_from_slice(reader.line(&span))?;
-            lines.push(b'\n')?;
-        }
-    }
-    Ok(last)
-}
-
-/// Four calls give what the case says.
-fn give(
-    rt: &impl Abort,
-    alloc: Global,
-    case: &Case,
-    reader: &mut LineReader,
-    store: &mut MemStore,
-) -> Result<(), Fail>
-    requires current { IsSome store.old.store.left }
-    requires ended { reader.old.ended ≡ true
-        → WhereTold store.old.store.left (λ bytes. bytes ≡ []) }
-{
-    let (bytes, piece) = (case.bytes, case.piece);
-    let mut lines = Vec::new(alloc);
-    let last = four_calls(reader, store, &mut lines)?;
-    assert_eq!(rt;
-        lines.as_slice(),
-        case.lines.as_bytes(),
-        "{bytes:?} by {piece}"
-    );
-    assert_eq!(rt; last, case.last, "{bytes:?} by {piece}");
-    assert_eq!(rt;
-        reader.ended(),
-        bytes.starts_with(case.lines),
-        "{bytes:?} by {piece}"
-    );
-    Ok(())
-}
-
-/// Four calls on a new reader give what the case says.
-fn expect(rt: &impl Abort, alloc: Global, case: &Case) -> Result<(), Fail> {
-    let mut store = two_files(rt, alloc, case)?;
-    let mut reader = LineReader::new(alloc, &limits_of(case))?;
-    give(rt, alloc, case, &mut reader, &mut store)
+    let mut reader = LineReader::new(alloc, &limits).expect(rt, "a reader");
+    add_files(&mut store, case).expect(rt, "files");
+    put_files(&mut out, &mut reader, &mut store).expect(rt, "answers");
+    assert_eq!(rt; out.as_slice(), case.want.as_bytes());
 }
 
 #[test]
-fn lengths(rt: HostRuntime) -> Result<(), Fail> {
-    let end = Ok(None);
-    let line_too_long = Err(LineFault::LineTooLong);
-    let input_too_long = Err(LineFault::InputTooLong);
-    let cases = [
-        limited_to("ab\n\ncde", 99, 9, "ab\n\ncde\n", end),
-        limited_to("abcd", 9, 3, "", line_too_long),
-        limited_to("abc", 9, 3, "abc\n", end),
-        limited_to("abc\n", 9, 3, "abc\n", end),
-        limited_to("ab\ncde", 4, 9, "ab\n", input_too_long),
-        limited_to("abcde", 4, 1, "", line_too_long),
-        limited_to("abc", 3, 3, "abc\n", end),
-        limited_to("abc\n", 3, 3, "", input_too_long),
-        limited_to("abcd", 3, 3, "", input_too_long),
-        limited_to("abcde", 4, 3, "", line_too_long),
-        limited_to("", 0, 9, "", end),
-        limited_to("", 1, 9, "", end),
-        limited_to("\n", 0, 9, "", input_too_long),
-        limited_to("\n", 1, 9, "\n", end),
-    ];
-    for case in &cases {
+fn limited_files(rt: HostRuntime) {
+    for (bytes, input, line, want) in &LIMITED {
         for piece in [1, 2, 3, 9] {
-            expect(&rt, rt.alloc(), &Case { piece, ..*case })?;
+            let case = Case {
+                bytes,
+                input: *input,
+                line: *line,
+                piece,
+                failing_call: 0,
+                want,
+            };
+            answers(&rt, rt.alloc(), &case);
         }
     }
-    Ok(())
-}
-
-/// A file of which a call of the store fails; call 1 is the open.
-const fn failing(
-    bytes: &'static str,
-    piece: usize,
-    failing_call: u64,
-    lines: &'static str,
-    last: Result<Option<Span>, LineFault>,
-) -> Case {
-    Case {
-        bytes,
-        input: 9,
-        line: 3,
-        piece,
-        failing_call,
-        lines,
-        last,
-    }
 }
 
 #[test]
-fn failed_reads(rt: HostRuntime) -> Result<(), Fail> {
-    let read_failed = Err(LineFault::ReadFailed);
-    let cases = [
-        failing("abcdef", 2, 3, "", read_failed),
-        failing("abc\n", 2, 3, "", read_failed),
-        failing("abc", 2, 4, "", read_failed),
-        failing("a\nb", 9, 3, "a\n", read_failed),
-        failing("abcd", 9, 3, "", Err(LineFault::LineTooLong)),
-        failing("ab", 9, 4, "ab\n", Ok(None)),
-    ];
-    for case in &cases {
-        expect(&rt, rt.alloc(), case)?;
+fn failed_reads(rt: HostRuntime) {
+    for (bytes, piece, failing_call, want) in &FAILING {
+        let case = Case {
+            bytes,
+            input: 9,
+            line: 3,
+            piece: *piece,
+            failing_call: *failing_call,
+            want,
+        };
+        answers(&rt, rt.alloc(), &case);
     }
-    Ok(())
 }
 
-/// The next line is this one, and the first.
-fn expect_line(
-    rt: &impl Abort,
+/// Passes the lines that are lent, where they are the one that is awaited.
+fn pass_ready(reader: &mut LineReader) {
+    let ready = b"+ 1\n".as_slice();
+    if reader.ready_lines() == ready {
+        reader.pass(ready.len(), 1);
+    }
+}
+
+/// Appends the first line and its number, that behind a line that is lent, and the limit of a line.
+fn put_lent(
+    out: &mut Vec<u8>,
     reader: &mut LineReader,
-    store: &mut MemStore,
-    line: &str,
-) -> Result<(), Fail>
-    requires current { IsSome store.old.store.left }
-    requires ended { reader.old.ended ≡ true
-        → WhereTold store.old.store.left (λ bytes. bytes ≡ []) }
-    ensures current { IsSome store.new.store.left }
-    ensures ended { reader.new.ended ≡ true → WhereTold store.new.store.left (λ bytes. bytes ≡ []) }
-    ensures opens { store.new.store.opens ≡ store.old.store.opens }
-{
-    let span = reader.next(store)?.ok_or("no line")?;
-    assert_eq!(rt; reader.line(&span), line.as_bytes());
-    assert_eq!(rt; reader.number(), 1);
-    Ok(())
-}
-
-/// The next answer is that of the case, and one line was given before.
-fn expect_fault(rt: &impl Abort, reader: &mut LineReader, store: &mut MemStore, case: &Case)
-    requires current { IsSome store.old.store.left }
-    requires ended { reader.old.ended ≡ true
-        → WhereTold store.old.store.left (λ bytes. bytes ≡ []) }
-    ensures current { IsSome store.new.store.left }
-    ensures ended { reader.new.ended ≡ true → WhereTold store.new.store.left (λ bytes. bytes ≡ []) }
-    ensures opens { store.new.store.opens ≡ store.old.store.opens }
-{
-    assert_eq!(rt; reader.next(store), case.last);
-    assert_eq!(rt; reader.number(), 1);
-}
-
-/// After a line and the fault of the case: the fault again, and then the line of a new file.
-fn expect_new_file(rt: &impl Abort, alloc: Global, case: &Case) -> Result<(), Fail> {
-    let mut store = two_files(rt, alloc, case)?;
-    let mut reader = LineReader::new(alloc, &limits_of(case))?;
-    expect_line(rt, &mut reader, &mut store, case.lines)?;
-    expect_fault(rt, &mut reader, &mut store, case);
-    expect_fault(rt, &mut reader, &mut store, case);
-    assert_eq!(rt; store.open("b"), Ok(()));
-    reader.start();
-    assert_eq!(rt; reader.number(), 0);
-    expect_line(rt, &mut reader, &mut store, "ef")
-}
-
-#[test]
-fn new_file_after_a_fault(rt: HostRuntime) -> Result<(), Fail> {
-    let cases = [
-        failing("a\nb", 9, 3, "a", Err(LineFault::ReadFailed)),
-        limited_to("a\nbcd", 9, 2, "a", Err(LineFault::LineTooLong)),
-        limited_to("a\nbcd", 3, 2, "a", Err(LineFault::InputTooLong)),
-    ];
-    for case in &cases {
-        expect_new_file(&rt, rt.alloc(), case)?;
-    }
-    Ok(())
-}
-
-/// Lines that are lent and passed, and the next one.
-fn lends_lines(rt: &impl Abort, reader: &mut LineReader, store: &mut SureStore) -> Result<(), Fail>
+    store: &mut SureStore,
+) -> Result<(), NoMemory>
     requires current { IsSome store.old.left }
     requires ended { reader.old.ended ≡ true → WhereTold store.old.left (λ bytes. bytes ≡ []) }
 {
-    let ready = b"+ 1\n";
-    let span = reader.next(store)?.ok_or("no line")?;
-    assert_eq!(rt; reader.line(&span), b"v 1 2".as_slice());
-    assert_eq!(rt; reader.line_limit(), 1_048_576);
-    assert_eq!(rt; reader.ready_lines(), ready.as_slice());
-    reader.pass(ready.len(), 1);
-    assert_eq!(rt; reader.number(), 2);
-    assert!(rt; reader.ended());
-    Ok(())
+    put_next(out, reader, store)?;
+    pass_ready(reader);
+    put_number(out, reader)?;
+    put_dec(out, u64::from(reader.line_limit()))?;
+    put_bytes(out, if reader.ended() { b"" } else { b"-" })
+}
+
+/// Opens a name that isn't held, and a file of which a line is lent.
+fn put_sure(
+    rt: &impl Abort,
+    out: &mut Vec<u8>,
+    reader: &mut LineReader,
+    store: &mut SureStore,
+) -> Result<(), NoMemory>
+    requires opens { store.old.opens ≡ 0 }
+    requires none { (name : List ℕ) → file_of store.old.folder name ≡ None }
+    requires new { reader.old.ended ≡ false }
+{
+    store.add("a", b"v 1 2\n+ 1\n")?;
+    if let Err(fault) = store.open("c") {
+        put_bytes(out, fault.text().as_bytes())?;
+    }
+    put_bytes(out, b"|")?;
+    opens(rt, store, "a");
+    put_lent(out, reader, store)
 }
 
 #[test]
-fn ready_lines_are_passed(rt: HostRuntime) -> Result<(), Fail> {
+fn ready_lines_are_passed(rt: HostRuntime) {
+    let mut out = Vec::new(rt.alloc());
     let mut store = SureStore::new(rt.alloc(), 99);
-    store.add("a", b"v 1 2\n+ 1\n")?;
-    opens(&rt, &mut store, "a");
-    let mut reader = LineReader::new(rt.alloc(), &Limits::standard())?;
-    lends_lines(&rt, &mut reader, &mut store)
+    let mut reader = LineReader::new(rt.alloc(), &Limits::standard()).expect(&rt, "a reader");
+    put_sure(&rt, &mut out, &mut reader, &mut store).expect(&rt, "memory");
+    assert_eq!(rt;
+        out.as_slice(),
+        b"no such file|v 1 2\n1|2|1048576".as_slice()
+    );
 }

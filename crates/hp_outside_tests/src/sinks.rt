@@ -1,77 +1,66 @@
-//! The sinks, whole pieces written to them, and the system's outputs.
+//! The sinks, whole pieces written to them, and the system's outputs. What calls in a row answer is one text.
 
+use hp_num::{NoMemory, put_bytes, put_dec};
 use hp_outside::{Failed, MemSink, Sink, StdSink, SureSink, write_whole};
+use std::alloc::Global;
 use std::io::{self, ErrorKind, Write};
-use std::process::Abort;
-use std::test::Fail;
 
-/// One write gives this answer.
-fn write_gives<O: Sink>(rt: &impl Abort, sink: &mut O, piece: &[u8], want: Result<usize, Failed>) {
-    assert_eq!(rt; sink.write(piece), want);
-}
-
-/// One flush gives this answer.
-fn flush_gives<O: Sink>(rt: &impl Abort, sink: &mut O, want: Result<(), Failed>) {
-    assert_eq!(rt; sink.flush(), want);
-}
-
-/// All bytes are written, or not.
-fn writes_whole<O: Sink>(rt: &impl Abort, sink: &mut O, bytes: &[u8], want: Result<(), Failed>) {
-    assert_eq!(rt; write_whole(sink, bytes), want);
-}
-
-/// What the sink took.
-fn took(rt: &impl Abort, sink: &MemSink, want: &[u8]) {
-    assert_eq!(rt; sink.bytes(), want);
-}
-
-#[test]
-fn mem_sink_takes_what_fits(rt: HostRuntime) -> Result<(), Fail> {
-    let mut sink = MemSink::new(rt.alloc(), 4)?;
-    for call in [2, 6] {
-        sink.fail_at(call)?;
+/// Appends how many bytes a write took.
+fn put_count(out: &mut Vec<u8>, answer: Result<usize, Failed>) -> Result<(), NoMemory> {
+    match answer {
+        Ok(count) => put_dec(out, count as u64),
+        Err(Failed) => put_bytes(out, b"-"),
     }
-    let writes: [(&[u8], Result<usize, Failed>); 5] = [
-        (b"abc", Ok(3)),
-        (b"de", Err(Failed)),
-        (b"de", Ok(1)),
-        (b"", Ok(0)),
-        (b"e", Err(Failed)),
-    ];
-    for (piece, want) in &writes {
-        write_gives(&rt, &mut sink, piece, *want);
+}
+
+/// Appends whether a call was done.
+fn put_done(out: &mut Vec<u8>, answer: Result<(), Failed>) -> Result<(), NoMemory> {
+    match answer {
+        Ok(()) => put_bytes(out, b"+"),
+        Err(Failed) => put_bytes(out, b"-"),
     }
-    for want in [Err(Failed), Ok(())] {
-        flush_gives(&rt, &mut sink, want);
+}
+
+/// Pieces that are written one after another.
+static PIECES: [&[u8]; 5] = [b"abc", b"de", b"de", b"", b"e"];
+
+/// Appends what a sink answers: five writes, two flushes, and a piece that is to be written whole.
+fn put_answers<O: Sink>(out: &mut Vec<u8>, sink: &mut O) -> Result<(), NoMemory> {
+    for piece in &PIECES {
+        put_count(out, sink.write(piece))?;
     }
-    took(&rt, &sink, b"abcd");
-    Ok(())
+    put_done(out, sink.flush())?;
+    put_done(out, sink.flush())?;
+    put_done(out, write_whole(sink, b"fg"))?;
+    put_bytes(out, b" ")
+}
+
+/// Appends the answers of a sink of which two calls fail, and what it took.
+fn put_failing(out: &mut Vec<u8>, sink: &mut MemSink) -> Result<(), NoMemory> {
+    sink.fail_at(2)?;
+    sink.fail_at(6)?;
+    put_answers(out, sink)?;
+    put_bytes(out, sink.bytes())
+}
+
+/// Appends whether two pieces are written whole, and what the sink took.
+fn put_pieces(out: &mut Vec<u8>, sink: &mut MemSink) -> Result<(), NoMemory> {
+    put_done(out, write_whole(sink, b"abc"))?;
+    put_done(out, write_whole(sink, b"defg"))?;
+    put_bytes(out, sink.bytes())
+}
+
+/// Appends what two sinks answer that take four and five bytes.
+fn put_bounded(out: &mut Vec<u8>, alloc: Global) -> Result<(), NoMemory> {
+    put_failing(out, &mut MemSink::new(alloc, 4)?)?;
+    put_pieces(out, &mut MemSink::new(alloc, 5)?)
 }
 
 #[test]
-fn sure_sink_takes_all(rt: HostRuntime) {
-    let mut sink = SureSink::new();
-    write_gives(&rt, &mut sink, b"abc", Ok(3));
-    flush_gives(&rt, &mut sink, Ok(()));
-}
-
-#[test]
-fn writes_whole_pieces(rt: HostRuntime) -> Result<(), Fail> {
-    let mut sink = MemSink::new(rt.alloc(), 5)?;
-    writes_whole(&rt, &mut sink, b"abc", Ok(()));
-    writes_whole(&rt, &mut sink, b"defg", Err(Failed));
-    took(&rt, &sink, b"abcde");
-    Ok(())
-}
-
-#[test]
-fn std_sink_writes(rt: HostRuntime) -> Result<(), Fail> {
-    let mut bytes = Vec::new(rt.alloc());
-    let mut sink = StdSink::new(&mut bytes);
-    writes_whole(&rt, &mut sink, b"abc", Ok(()));
-    flush_gives(&rt, &mut sink, Ok(()));
-    assert_eq!(rt; bytes.as_slice(), b"abc".as_slice());
-    Ok(())
+fn mem_sink_takes_what_fits(rt: HostRuntime) {
+    let mut out = Vec::new(rt.alloc());
+    put_bounded(&mut out, rt.alloc()).expect(&rt, "memory");
+    assert_eq!(rt; out.as_slice(), b"3-10--+- abcd+-abcde".as_slice());
 }
 
 /// A writer that is broken.
@@ -88,9 +77,21 @@ impl Write for BrokenWriter {
     }
 }
 
+/// Appends the answers of the sinks that have no bound, and what a vector took.
+fn put_unbounded(out: &mut Vec<u8>, alloc: Global) -> Result<(), NoMemory> {
+    put_answers(out, &mut SureSink::new())?;
+    put_answers(out, &mut StdSink::new(BrokenWriter))?;
+    let mut bytes = Vec::new(alloc);
+    put_answers(out, &mut StdSink::new(&mut bytes))?;
+    put_bytes(out, &bytes)
+}
+
 #[test]
 fn std_sink_hides_no_failure(rt: HostRuntime) {
-    let mut sink = StdSink::new(BrokenWriter);
-    write_gives(&rt, &mut sink, b"abc", Err(Failed));
-    flush_gives(&rt, &mut sink, Err(Failed));
+    let mut out = Vec::new(rt.alloc());
+    put_unbounded(&mut out, rt.alloc()).expect(&rt, "a text");
+    assert_eq!(rt;
+        out.as_slice(),
+        b"32201+++ -------- 32201+++ abcdedeefg".as_slice()
+    );
 }

@@ -1,8 +1,8 @@
 -- The bytes that are lent are one line with its line feed.
-use Rattle.std.proofs.Common.{rules, ◌≡◌, ◌≢◌, ◌<◌, ℕ, List, [], ◌∷◌, take, refl, arith}
+use Rattle.std.proofs.Common.{rules, ◌≡◌, ◌≢◌, ◌<◌, ℕ, List, [], ◌∷◌, length, take, refl, arith}
 use Rattle.std.proofs.lemmas.List.Elements.{All-cons, All-nil}
 use Rattle.hp_outside.specs.WholeLines.{IsLineText, IsWholeLines}
-use Rattle.hp_outside_tests.proofs.lines.lends_lines.Goals as goal
+use Rattle.hp_outside_tests.proofs.lines.pass_ready.Goals as goal
 
 -- a byte more that is no line feed
 other : (byte : ℕ) (line : List ℕ) → 10 < byte → IsLineText line → IsLineText (byte ∷ line)
@@ -18,6 +18,7 @@ whole bytes is = record {
 }
 
 pub pass-requires-clause-whole : goal.pass-requires-clause-whole
-pass-requires-clause-whole g c =
-    let same : take 4 c.next.new.self.kept ≡ 43 ∷ 32 ∷ 49 ∷ 10 ∷ [] = search rules in
-    whole (take 4 c.next.new.self.kept) same
+pass-requires-clause-whole c =
+    let lent = take (length c.as_slice-ready.result.now) c.args.reader.now.kept in
+    let same : lent ≡ 43 ∷ 32 ∷ 49 ∷ 10 ∷ [] = search rules in
+    whole lent same
