@@ -22,7 +22,7 @@ const DONE: u8 = 0;
 const WRITE_STATUS: u8 = 4;
 
 /// What is left of a run to be delivered.
-#[derive(Debug, Drop)]
+#[derive(Drop)]
 pub struct Outcome {
     /// The rest of the output.
     pub rest: Vec<u8>,

@@ -5,7 +5,7 @@ use hp_outside::Limits;
 use std::alloc::Global;
 
 /// The allocator, the limits of the run and the texts of the program.
-#[derive(Clone, Copy, Debug)]
+#[derive(Clone, Copy)]
 pub struct Desk {
     pub alloc: Global,
     pub limits: Limits,

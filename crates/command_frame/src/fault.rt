@@ -5,7 +5,7 @@ ghost use Rattle.command_frame.specs.Told.{Told};
 use hp_num::NoMemory;
 
 /// The status of a fault of the input.
-#[derive(Clone, Copy, Debug, PartialEq, Eq)]
+#[derive(Clone, Copy)]
 pub enum FaultStatus {
     /// The input is malformed.
     Malformed,

@@ -11,7 +11,7 @@ use hp_num::{NoMemory, put_bytes, put_dec};
 use std::alloc::Global;
 
 /// What is written to standard error. Three of the messages take no memory.
-#[derive(Debug, Drop)]
+#[derive(Drop)]
 pub enum Message {
     /// How the program is called.
     Usage,
@@ -38,7 +38,7 @@ impl Message {
 }
 
 /// The statuses of a run that isn't done.
-#[derive(Clone, Copy, Debug, PartialEq, Eq)]
+#[derive(Clone, Copy)]
 pub enum Status {
     /// The input has a fault.
     Malformed,
@@ -81,7 +81,7 @@ impl Status {
 }
 
 /// Why a run ends before its output is whole.
-#[derive(Debug, Drop)]
+#[derive(Drop)]
 pub struct Halt {
     pub message: Message,
     pub status: Status,

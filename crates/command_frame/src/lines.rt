@@ -14,7 +14,7 @@ use hp_num::{NoMemory, put_bytes};
 use hp_outside::{Failed, LineFault, LineReader, Sink, Store, write_whole};
 
 /// A fault of a file that is read by lines.
-#[derive(Debug, Drop)]
+#[derive(Drop)]
 pub enum FileFault<F> {
     /// The line has more bytes than the limit, within the bytes that a file may have.
     LineTooLong,
@@ -46,7 +46,7 @@ impl<F: Fault> Fault for FileFault<F> {
 }
 
 /// Why not all lines of a file were taken.
-#[derive(Debug, Drop)]
+#[derive(Drop)]
 pub enum LinesStop<F> {
     /// The line of this number, from 1, or the end behind the last line, is the first with a fault.
     AtLine { number: u64, fault: FileFault<F> },

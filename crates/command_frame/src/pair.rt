@@ -38,7 +38,7 @@ pub trait FilePair {
 }
 
 /// The names of two files.
-#[derive(Clone, Copy, Debug)]
+#[derive(Clone, Copy)]
 pub struct PairNames<'a> {
     pub first: &'a str,
     pub second: &'a str,

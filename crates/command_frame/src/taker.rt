@@ -9,7 +9,7 @@ use crate::fault::Fault;
 use hp_num::NoMemory;
 
 /// Why a line isn't taken.
-#[derive(Debug, Drop)]
+#[derive(Drop)]
 pub enum LineRefusal<F> {
     /// The line has a fault.
     Fault(F),
@@ -28,7 +28,7 @@ impl<F> From<NoMemory> for LineRefusal<F> {
 }
 
 /// How many bytes at the front of others were taken, and how many lines these are.
-#[derive(Clone, Copy, Debug)]
+#[derive(Clone, Copy)]
 pub struct Batch {
     pub bytes: usize,
     pub lines: u64,

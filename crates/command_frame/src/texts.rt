@@ -1,7 +1,7 @@
 //! The texts of a program that take no memory.
 
 /// What a program calls itself, and its messages that name no file. Each but the name ends with a line feed.
-#[derive(Clone, Copy, Debug)]
+#[derive(Clone, Copy)]
 pub struct ProgramTexts {
     /// The name with which each message of a fault begins.
     pub name: &'static str,

@@ -10,7 +10,7 @@ use hp_outside::{Sink, Store};
 use profile_reading::{Conversion, run_conversion};
 
 /// What `convert` is to do.
-#[derive(Clone, Copy, Debug)]
+#[derive(Clone, Copy)]
 pub struct ConvertRequest<'a> {
     /// The name of the file that is converted.
     pub file: &'a str,

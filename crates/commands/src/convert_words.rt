@@ -30,14 +30,14 @@ const WORDS: WordTable<'static> = WordTable {
 };
 
 /// What kind of file is read.
-#[derive(Clone, Copy, Debug)]
+#[derive(Clone, Copy)]
 pub enum FileKind {
     Dhat,
     Massif,
 }
 
 /// What is written of it.
-#[derive(Clone, Copy, Debug)]
+#[derive(Clone, Copy)]
 pub enum Target {
     Folded,
     Massif,

@@ -17,7 +17,7 @@ const WORDS: WordTable<'static> = WordTable {
 };
 
 /// What `dhat` is to do.
-#[derive(Clone, Copy, Debug)]
+#[derive(Clone, Copy)]
 pub struct DhatRequest<'a> {
     /// The name of the trace.
     pub trace: &'a str,

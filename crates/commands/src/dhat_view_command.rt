@@ -11,7 +11,7 @@ use hp_outside::Store;
 use profile_reading::{ViewReport, run_dhat_file};
 
 /// What `dhat_view` is to do.
-#[derive(Clone, Copy, Debug)]
+#[derive(Clone, Copy)]
 pub struct DhatViewRequest<'a> {
     /// The name of the profile.
     pub profile: &'a str,

@@ -29,7 +29,7 @@ const WORDS: WordTable<'static> = WordTable {
 };
 
 /// What `flame` is to do.
-#[derive(Clone, Copy, Debug)]
+#[derive(Clone, Copy)]
 pub struct FlameRequest<'a> {
     /// The name of the trace.
     pub trace: &'a str,
@@ -38,7 +38,7 @@ pub struct FlameRequest<'a> {
 }
 
 /// Writes the flame stacks.
-#[derive(Clone, Copy, Debug)]
+#[derive(Clone, Copy)]
 pub struct FlameWriter {
     alloc: Global,
     cost: FlameCost,

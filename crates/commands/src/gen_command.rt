@@ -36,7 +36,7 @@ const WORDS: WordTable<'static> = WordTable {
 };
 
 /// What `gen` is to do.
-#[derive(Clone, Copy, Debug)]
+#[derive(Clone, Copy)]
 pub struct GenRequest {
     /// What the trace is generated from.
     pub options: GeneratorOptions,

@@ -25,7 +25,7 @@ const WORDS: WordTable<'static> = WordTable {
 };
 
 /// What `interpret` is to do.
-#[derive(Clone, Copy, Debug)]
+#[derive(Clone, Copy)]
 pub struct InterpretRequest<'a> {
     /// The name of the table of symbols, if there is one.
     pub symbols: Option<&'a str>,

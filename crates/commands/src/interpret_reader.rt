@@ -14,7 +14,7 @@ use std::alloc::Global;
 use trace_reading::TraceFault;
 
 /// What was read of a table of symbols.
-#[derive(Debug, Drop)]
+#[derive(Drop)]
 pub struct SymbolReader {
     pub symbols: Symbols,
 }
@@ -48,7 +48,7 @@ impl LineTaker for SymbolReader {
 }
 
 /// What was read of a raw trace.
-#[derive(Debug, Drop)]
+#[derive(Drop)]
 pub struct RawReader {
     pub interpreter: Interpreter,
 }
@@ -111,7 +111,7 @@ impl LineReport for RawReader {
 }
 
 /// A table of symbols and a raw trace.
-#[derive(Clone, Copy, Debug)]
+#[derive(Clone, Copy)]
 pub struct SymbolsAndTrace;
 
 impl FilePair for SymbolsAndTrace {

@@ -16,7 +16,7 @@ use hp_outside::{Sink, Store};
 use trace_profiles::{SampleSettings, run_massif};
 
 /// What `massif` is to do.
-#[derive(Clone, Copy, Debug)]
+#[derive(Clone, Copy)]
 pub struct MassifRequest<'a> {
     /// The name of the trace.
     pub trace: &'a str,

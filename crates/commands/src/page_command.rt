@@ -27,7 +27,7 @@ const WORDS: WordTable<'static> = WordTable {
 };
 
 /// What `ms_print` is to do.
-#[derive(Clone, Copy, Debug)]
+#[derive(Clone, Copy)]
 pub struct PageRequest<'a> {
     /// The name of the Massif file.
     pub file: &'a str,

@@ -25,7 +25,7 @@ use std::alloc::Global;
 use trace_reading::{TraceWriter, run_suppressed, run_trace};
 
 /// What `print` is to do.
-#[derive(Clone, Copy, Debug)]
+#[derive(Clone, Copy)]
 pub struct PrintRequest<'a> {
     /// The name of the trace.
     pub trace: &'a str,
@@ -36,7 +36,7 @@ pub struct PrintRequest<'a> {
 }
 
 /// Writes the report.
-#[derive(Clone, Copy, Debug)]
+#[derive(Clone, Copy)]
 pub struct PrintWriter {
     alloc: Global,
     options: PrintOptions,

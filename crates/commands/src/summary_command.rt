@@ -21,14 +21,14 @@ const WORDS: WordTable<'static> = WordTable {
 };
 
 /// What `summary` is to do.
-#[derive(Clone, Copy, Debug)]
+#[derive(Clone, Copy)]
 pub struct SummaryRequest<'a> {
     /// The name of the trace.
     pub trace: &'a str,
 }
 
 /// Writes the six lines.
-#[derive(Clone, Copy, Debug)]
+#[derive(Clone, Copy)]
 pub struct SummaryWriter;
 
 impl TraceWriter for SummaryWriter {

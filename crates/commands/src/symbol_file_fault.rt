@@ -6,7 +6,7 @@ use hp_num::{NoMemory, put_bytes};
 use interpret::SymbolFault;
 
 /// What is wrong with a table of symbols.
-#[derive(Clone, Copy, Debug, PartialEq, Eq)]
+#[derive(Clone, Copy)]
 pub enum SymbolFileFault {
     /// A line can't follow the lines before it.
     Line(SymbolFault),

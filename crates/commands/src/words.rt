@@ -18,7 +18,7 @@ use command_words::WordsFault;
 use std::alloc::Global;
 
 /// What the words ask for: the list of the commands.
-#[derive(Clone, Copy, Debug)]
+#[derive(Clone, Copy)]
 pub enum Request<'a> {
     /// How the program is called.
     Help,

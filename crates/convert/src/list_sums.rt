@@ -12,7 +12,7 @@ use intern_tables::Names;
 use std::alloc::Global;
 
 /// Different lists in the order in which they first came, each with a sum.
-#[derive(Debug, Drop)]
+#[derive(Drop)]
 pub(crate) struct ListSums {
     pub(crate) names: Names,
     pub(crate) lists: IndexSet<Vec<usize>>,

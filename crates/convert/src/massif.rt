@@ -110,7 +110,7 @@ fn tree_sums(alloc: Global, tree: &Tree, left: &[u64]) -> Result<ListSums, NoMem
 }
 
 /// Where a walk over the lines stands, and a buffer for a list of labels.
-#[derive(Debug, Drop)]
+#[derive(Drop)]
 struct Walk {
     levels: Vec<Level>,
     list: Vec<usize>,

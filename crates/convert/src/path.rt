@@ -5,7 +5,7 @@ ghost use Rattle.convert.specs.Levels.{entered, one_less, without_done};
 use hp_num::NoMemory;
 
 /// A line above or at the one that is read.
-#[derive(Clone, Copy, Debug, PartialEq, Eq)]
+#[derive(Clone, Copy)]
 pub(crate) struct Level {
     /// The number of its label's text.
     pub(crate) label: usize,

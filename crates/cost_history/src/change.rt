@@ -1,7 +1,7 @@
 //! One change of one stack's cost.
 
 /// From this place on, the stack costs this.
-#[derive(Clone, Copy, Debug)]
+#[derive(Clone, Copy)]
 pub struct Change {
     /// How many events come before it.
     pub place: u64,

@@ -8,7 +8,7 @@ use std::marker::Model;
 
 /// A set of stacks. `order` has each stack for which there is room, and the first `count` of them are listed; `places`
 /// says where in `order` each stack stands.
-#[derive(Debug, Drop)]
+#[derive(Drop)]
 pub(crate) struct Marks {
     order: Vec<u32>,
     places: Vec<u32>,

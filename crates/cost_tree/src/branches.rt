@@ -20,7 +20,7 @@ use hp_num::NoMemory;
 use std::alloc::Global;
 
 /// The nodes so far, and which nodes of a shape they are. Node 0 has no edge, and node n has edge n - 1.
-#[derive(Debug, Drop)]
+#[derive(Drop)]
 pub(crate) struct Branches {
     pub(crate) edges: Vec<Edge>,
     pub(crate) nodes: Vec<CostNode>,

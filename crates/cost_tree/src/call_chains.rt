@@ -20,7 +20,7 @@ use std::marker::Model;
 /// takes memory for the texts of its own frames alone.
 ///
 /// Contracts see the list of the lists.
-#[derive(Debug, Drop)]
+#[derive(Drop)]
 pub struct CallChains {
     pub(crate) names: Names,
     pub(crate) chains: Chains,

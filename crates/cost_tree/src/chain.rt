@@ -2,7 +2,7 @@
 
 /// A list: where its own numbers stand among those of all lists, which list follows them, if any, and how many numbers
 /// it has in all.
-#[derive(Clone, Copy, Debug)]
+#[derive(Clone, Copy)]
 pub(crate) struct Chain {
     pub(crate) start: usize,
     pub(crate) end: usize,

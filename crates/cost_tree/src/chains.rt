@@ -12,7 +12,7 @@ use std::marker::Model;
 /// Lists of numbers, numbered from 0.
 ///
 /// Contracts see the list of the lists.
-#[derive(Debug, Drop)]
+#[derive(Drop)]
 pub struct Chains {
     /// The own numbers of one list after the other.
     numbers: Vec<usize>,

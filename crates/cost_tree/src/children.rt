@@ -9,14 +9,14 @@ use hp_num::NoMemory;
 use std::cmp::Reverse;
 
 /// A child of a node, and what it costs.
-#[derive(Clone, Copy, Debug, PartialEq, Eq)]
+#[derive(Clone, Copy)]
 pub(crate) struct Child {
     pub(crate) node: usize,
     pub(crate) cost: u64,
 }
 
 /// The children that are too small for lines of their own.
-#[derive(Clone, Copy, Debug, PartialEq, Eq)]
+#[derive(Clone, Copy)]
 pub(crate) struct Gathered {
     /// How many there are.
     pub(crate) places: u64,

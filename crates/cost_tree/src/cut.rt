@@ -17,7 +17,7 @@ use std::alloc::Global;
 use std::mem;
 
 /// The first numbers of lists.
-#[derive(Debug, Drop)]
+#[derive(Drop)]
 pub(crate) struct Cut {
     pub(crate) shape: Shape,
     /// How many numbers a list may have here.

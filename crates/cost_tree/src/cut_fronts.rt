@@ -20,7 +20,7 @@ use std::mem;
 /// Lists of texts, each of which is cut behind its first texts until a tree needs more.
 ///
 /// Contracts see the whole lists, and those that are cut.
-#[derive(Debug, Drop)]
+#[derive(Drop)]
 pub struct CutFronts {
     pub(crate) names: Names,
     whole: Chains,

@@ -16,7 +16,7 @@ use std::marker::Model;
 ///
 /// Each begins at an earlier node, so the last node has none yet, and an edge that leads from a node to the next one is found at
 /// its place, and has no entry in the index: so of a list that goes on by new nodes alone one edge is hashed, however long it is.
-#[derive(Debug, Drop)]
+#[derive(Drop)]
 pub(crate) struct Edges {
     edges: Vec<Edge>,
     places: HashMap<Edge, usize>,

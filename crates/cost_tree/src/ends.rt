@@ -6,7 +6,7 @@ use hp_num::NoMemory;
 use std::alloc::Global;
 
 /// What lists cost together that end at one node.
-#[derive(Debug, Drop)]
+#[derive(Drop)]
 pub(crate) struct EndedCosts {
     /// For each node.
     pub(crate) at_nodes: Vec<u64>,

@@ -17,7 +17,7 @@ use std::marker::Model;
 /// that one of them alone begins with.
 ///
 /// Contracts see the list of the lists.
-#[derive(Debug, Drop)]
+#[derive(Drop)]
 pub struct ForkedFronts {
     pub(crate) names: Names,
     pub(crate) whole: Chains,

@@ -12,7 +12,7 @@ use std::marker::Model;
 /// Lists of texts, numbered from 0. Each distinct text is kept once, and so is each front that some lists begin with.
 ///
 /// Contracts see the list of the lists.
-#[derive(Debug, Drop)]
+#[derive(Drop)]
 pub struct Fronts {
     pub(crate) names: Names,
     pub(crate) shape: Shape,

@@ -5,7 +5,7 @@ ghost use Rattle.cost_tree.specs.HeldNames.{names_in};
 use intern_tables::Names;
 
 /// Names that are kept, or lent.
-#[derive(Debug, Drop)]
+#[derive(Drop)]
 pub(crate) enum HeldNames<'a> {
     Own { names: Names },
     Lent { names: &'a Names },

@@ -3,7 +3,7 @@
 ghost use Rattle.std.specs.Prelude.{◌≡◌};
 
 /// What a line says the cost of.
-#[derive(Clone, Copy, Debug, PartialEq, Eq)]
+#[derive(Clone, Copy)]
 pub enum Place {
     /// A node of the tree.
     Node { node: usize },
@@ -12,7 +12,7 @@ pub enum Place {
 }
 
 /// A line of a tree. Those of a node's children stand behind it, before the next line of its own level.
-#[derive(Clone, Copy, Debug, PartialEq, Eq)]
+#[derive(Clone, Copy)]
 pub struct CostLine {
     /// How many texts the line's front has: 0 for node 0.
     pub level: usize,

@@ -20,7 +20,7 @@ use hp_num::NoMemory;
 use std::alloc::Global;
 
 /// What still has no line.
-#[derive(Clone, Copy, Debug)]
+#[derive(Clone, Copy)]
 pub(crate) enum Pending {
     /// A node on a level, and the nodes below it.
     Below { level: usize, node: usize },
@@ -29,7 +29,7 @@ pub(crate) enum Pending {
 }
 
 /// Buffers for the children of a node.
-#[derive(Debug, Drop)]
+#[derive(Drop)]
 struct Children {
     nodes: Vec<usize>,
     kept: Vec<Child>,

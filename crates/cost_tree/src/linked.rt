@@ -12,7 +12,7 @@ use std::alloc::Global;
 use std::mem;
 
 /// A tree but for the names of its texts.
-#[derive(Debug, Drop)]
+#[derive(Drop)]
 pub(crate) struct Linked {
     pub(crate) nodes: Vec<CostNode>,
     pub(crate) links: Links,

@@ -10,7 +10,7 @@ use crate::node::CostNode;
 use hp_num::NoMemory;
 
 /// What is read of a node.
-#[derive(Clone, Copy, Debug)]
+#[derive(Clone, Copy)]
 pub(crate) struct Link {
     pub(crate) cost: u64,
     /// The number of the last text of its front; 0 at node 0.
@@ -22,7 +22,7 @@ pub(crate) struct Link {
 }
 
 /// The links of all nodes, by their numbers.
-#[derive(Debug, Drop)]
+#[derive(Drop)]
 pub(crate) struct Links {
     pub(crate) links: Vec<Link>,
 }

@@ -1,7 +1,7 @@
 //! One step of lists that are told.
 
 /// How lists of numbers go on.
-#[derive(Clone, Copy, Debug, PartialEq, Eq)]
+#[derive(Clone, Copy)]
 pub(crate) enum ListStep {
     /// A list more, which begins with that of the caller; with nothing where the caller is 0.
     Begin { caller: u32 },

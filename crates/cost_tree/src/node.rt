@@ -3,7 +3,7 @@
 ghost use Rattle.std.specs.Prelude.{◌≡◌, ◌+◌, ◌==◌, ◌^◌, ◌<◌, if◌then◌else◌};
 
 /// The figures of a front of some stacks' texts.
-#[derive(Clone, Copy, Debug, PartialEq, Eq)]
+#[derive(Clone, Copy)]
 pub struct CostNode {
     /// The node of the front without its last text; 0 at node 0.
     pub parent: usize,

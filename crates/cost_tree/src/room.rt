@@ -6,7 +6,7 @@ use crate::links::Link;
 use std::alloc::Global;
 
 /// The vectors that a tree is made in.
-#[derive(Debug, Drop)]
+#[derive(Drop)]
 pub struct TreeRoom {
     /// What each list costs.
     pub(crate) costs: Vec<u64>,
@@ -15,7 +15,7 @@ pub struct TreeRoom {
 }
 
 /// Those by which lists are made longer.
-#[derive(Debug, Drop)]
+#[derive(Drop)]
 pub(crate) struct CutRoom {
     pub(crate) ended: EndedCosts,
     /// How many numbers each list is to have.
@@ -23,7 +23,7 @@ pub(crate) struct CutRoom {
 }
 
 /// Those of a tree's nodes.
-#[derive(Debug, Drop)]
+#[derive(Drop)]
 pub(crate) struct NodeRoom {
     pub(crate) branches: Branches,
     pub(crate) links: Vec<Link>,

@@ -3,7 +3,7 @@ ghost use Rattle.std.specs.Prelude.{◌≡◌};
 ghost use Rattle.cost_tree.specs.CostLines.{is_small};
 
 /// The whole that costs are shares of, and the least share that has a line of its own.
-#[derive(Clone, Copy, Debug, PartialEq, Eq)]
+#[derive(Clone, Copy)]
 pub struct Scale {
     /// The whole, in the unit of the costs.
     pub total: u64,

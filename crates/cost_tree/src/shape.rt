@@ -16,7 +16,7 @@ use std::marker::Model;
 /// Lists of numbers, numbered from 0. Their memory goes by their different fronts.
 ///
 /// Contracts see the list of the lists.
-#[derive(Debug, Drop)]
+#[derive(Drop)]
 pub struct Shape {
     pub(crate) edges: Edges,
     pub(crate) ends: Vec<usize>,

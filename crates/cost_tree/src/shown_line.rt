@@ -2,7 +2,7 @@
 //! Which lines there are is no part of it.
 
 /// What a line says the cost of.
-#[derive(Clone, Copy, Debug)]
+#[derive(Clone, Copy)]
 pub enum ShownPlace<'a> {
     /// A front, by its last text and the number of that text: the empty front has no text, and 0.
     Front { text: &'a [u8], number: usize },
@@ -11,7 +11,7 @@ pub enum ShownPlace<'a> {
 }
 
 /// A line. Those of longer fronts stand behind it, before the next line of its own level.
-#[derive(Clone, Copy, Debug)]
+#[derive(Clone, Copy)]
 pub struct ShownLine<'a> {
     /// How many texts the line's front has: 0 for the empty one.
     pub level: usize,

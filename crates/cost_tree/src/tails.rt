@@ -17,7 +17,7 @@ use hp_num::NoMemory;
 use intern_tables::Names;
 
 /// Lists of the numbers of texts, and how many of each a tree has.
-#[derive(Clone, Copy, Debug)]
+#[derive(Clone, Copy)]
 pub(crate) struct CutLists<'a> {
     pub(crate) names: &'a Names,
     pub(crate) whole: &'a Chains,

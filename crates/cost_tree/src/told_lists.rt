@@ -15,7 +15,7 @@ use std::marker::Model;
 /// with and what follows.
 ///
 /// Contracts see the list of the lists.
-#[derive(Debug, Drop)]
+#[derive(Drop)]
 pub struct ToldLists {
     names: Names,
     steps: Vec<ListStep>,

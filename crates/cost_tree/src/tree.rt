@@ -36,7 +36,7 @@ use std::mem;
 
 /// The fronts of some stacks' texts, each with what the stacks cost that begin with it. Its texts are those of the lists that
 /// it was made of, or its own where it was built of a trace.
-#[derive(Debug, Drop)]
+#[derive(Drop)]
 pub struct CostTree<'a> {
     names: HeldNames<'a>,
     nodes: Vec<CostNode>,

@@ -7,7 +7,7 @@ use crate::key::Key;
 use crate::profile::{Dhat, Point};
 
 /// A figure of a point that can be summed over points.
-#[derive(Clone, Copy, Debug, PartialEq, Eq)]
+#[derive(Clone, Copy)]
 pub enum FigureKey {
     /// Bytes of all blocks.
     Tb,

@@ -7,7 +7,7 @@ use hp_num::Text;
 pub(crate) const VERSION: u64 = 2;
 
 /// What is known of the lifetimes of a point's blocks.
-#[derive(Clone, Copy, Debug, PartialEq, Eq)]
+#[derive(Clone, Copy)]
 pub struct Life {
     /// Sum of the lifetimes, in the profile's unit of time.
     pub tl: u64,
@@ -26,7 +26,7 @@ pub struct Life {
 }
 
 /// What is known of the accesses to a point's blocks.
-#[derive(Clone, Copy, Debug, PartialEq, Eq)]
+#[derive(Clone, Copy)]
 pub struct Access {
     /// Bytes that were read.
     pub rb: u64,
@@ -35,7 +35,7 @@ pub struct Access {
 }
 
 /// What one place of the program allocated.
-#[derive(Debug, Drop)]
+#[derive(Drop)]
 pub struct Point {
     /// Bytes of all its blocks.
     pub tb: u64,
@@ -50,7 +50,7 @@ pub struct Point {
 }
 
 /// A whole profile.
-#[derive(Debug, Drop)]
+#[derive(Drop)]
 pub struct Dhat {
     /// How it was made: `heap`, `copy`, `ad-hoc` or another.
     pub mode: Text,

@@ -18,7 +18,7 @@ use std::marker::Model;
 /// the time k.
 ///
 /// Stacks may be added at any moment between events.
-#[derive(Debug, Drop)]
+#[derive(Drop)]
 pub struct Lifetimes {
     lives: Vec<Life>,
     events: u64,

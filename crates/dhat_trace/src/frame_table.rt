@@ -23,7 +23,7 @@ const ROOT: &[u8] = b"[root]";
 
 /// The texts of the frames so far, the places of an instruction's frames (none before they are asked for), and buffers
 /// for the next ones.
-#[derive(Debug, Drop)]
+#[derive(Drop)]
 pub(crate) struct FrameTable {
     pub(crate) texts: Names,
     pub(crate) known: KnownPlaces,

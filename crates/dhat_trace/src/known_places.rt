@@ -9,14 +9,14 @@ use std::marker::Model;
 /// since a vector for each number would take as much memory again.
 ///
 /// Contracts see it as the list of these lists.
-#[derive(Debug, Drop)]
+#[derive(Drop)]
 pub(crate) struct KnownPlaces {
     places: Vec<usize>,
     ranges: Vec<PlaceRange>,
 }
 
 /// From which place of the vector up to which one the places of a number stand.
-#[derive(Clone, Copy, Debug)]
+#[derive(Clone, Copy)]
 pub(crate) struct PlaceRange {
     pub(crate) start: usize,
     pub(crate) end: usize,

@@ -9,7 +9,7 @@ use hp_num::NoMemory;
 const LEG: usize = 64;
 
 /// A stack on the way outwards from another one, and how many places come before those of its frames.
-#[derive(Clone, Copy, Debug)]
+#[derive(Clone, Copy)]
 pub(crate) struct Leg {
     pub(crate) stack: u32,
     pub(crate) start: usize,

@@ -11,7 +11,7 @@ use peak_costs::Peaks;
 use std::alloc::Global;
 
 /// The figures of a stack as a point tells them.
-#[derive(Clone, Copy, Debug)]
+#[derive(Clone, Copy)]
 pub(crate) struct PointFigures {
     pub(crate) tb: u64,
     pub(crate) tbk: u64,
@@ -19,7 +19,7 @@ pub(crate) struct PointFigures {
 }
 
 /// A stack that allocated.
-#[derive(Clone, Copy, Debug)]
+#[derive(Clone, Copy)]
 pub(crate) struct CalledStack {
     pub(crate) stack: u32,
     pub(crate) figures: PointFigures,

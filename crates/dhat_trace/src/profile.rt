@@ -69,7 +69,7 @@ pub fn trace_profile_text(
 }
 
 /// What the tables tell of stacks: their frames, the texts of these, and the command.
-#[derive(Debug, Drop)]
+#[derive(Drop)]
 struct Told {
     backtraces: ToldPlaces,
     ftbl: Texts,

@@ -16,7 +16,7 @@ const FEW: usize = 64;
 /// For each stack the places of its frames, none before they are set.
 ///
 /// Contracts see it as the list of these lists.
-#[derive(Debug, Drop)]
+#[derive(Drop)]
 pub(crate) struct ToldPlaces {
     /// The lists, the first of which is empty.
     lists: Chains,

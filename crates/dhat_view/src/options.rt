@@ -4,7 +4,7 @@ ghost use Rattle.std.specs.Prelude.{◌≤◌};
 use dhat_json::FigureKey;
 
 /// What a view shows of a profile. The range of its threshold is a fact of the type.
-#[derive(Clone, Copy, Debug, PartialEq, Eq)]
+#[derive(Clone, Copy)]
 pub struct ViewOptions {
     /// The figure of a point that is its cost.
     pub key: FigureKey,

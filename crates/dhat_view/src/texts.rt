@@ -10,7 +10,7 @@ use intern_tables::Names;
 use std::alloc::Global;
 
 /// Texts, and the numbers of some in a row.
-#[derive(Debug, Drop)]
+#[derive(Drop)]
 pub struct ShownTexts {
     pub names: Names,
     pub numbers: Vec<usize>,

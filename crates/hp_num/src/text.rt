@@ -8,7 +8,7 @@ use std::marker::Model;
 /// Bytes that are owned: a name, a path, a command.
 ///
 /// Contracts see it as the list of its bytes.
-#[derive(Debug, Drop)]
+#[derive(Drop)]
 pub struct Text {
     content: Vec<u8>,
 }

@@ -17,7 +17,7 @@ use std::marker::Model;
 use thiserror::Error;
 
 /// The bytes of a file.
-#[derive(Debug, Drop)]
+#[derive(Drop)]
 pub struct Bytes {
     bytes: Vec<u8>,
 }

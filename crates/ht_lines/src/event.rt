@@ -20,7 +20,7 @@ pub enum EventKind {
 }
 
 /// The line of an event of an interpreted trace.
-#[derive(Clone, Copy, Debug, PartialEq, Eq)]
+#[derive(Clone, Copy)]
 pub struct EventLine {
     pub kind: EventKind,
     /// The info, from 0.

@@ -5,7 +5,7 @@ use thiserror::Error;
 
 /// What the lines of a trace refer to: addresses and sizes, or tables that stand in the trace itself. Both forms are this
 /// format's own.
-#[derive(Clone, Copy, Debug, PartialEq, Eq)]
+#[derive(Clone, Copy)]
 pub enum Form {
     /// A node gives the address of its instruction, an allocation its size, node and address, and a free the address.
     Raw,
@@ -38,7 +38,7 @@ pub enum Malformed {
 }
 
 /// What one line says. Texts, names and tails are parts of the line.
-#[derive(Clone, Copy, Debug, PartialEq, Eq)]
+#[derive(Clone, Copy)]
 pub enum Item<'a> {
     /// `v`: the version of heaptrack that wrote the trace, and that of the file, from 1 to 3, which is 1 where the
     /// line doesn't give it.

@@ -25,7 +25,7 @@ pub enum RawEvent {
 }
 
 /// A line of a raw trace.
-#[derive(Clone, Copy, Debug, PartialEq, Eq)]
+#[derive(Clone, Copy)]
 pub struct RawLine {
     pub says: RawEvent,
     /// How many bytes the line has, with its line feed: 4 to 53.

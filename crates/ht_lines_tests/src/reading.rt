@@ -11,7 +11,8 @@ type Refused = (u8, &'static [u8], Malformed);
 /// Reads each line of a trace of the form, which must be refused with the fault beside it.
 fn refuses(rt: &impl Abort, form: Form, lines: &[Refused]) {
     for (version, line, fault) in lines {
-        assert_eq!(rt; read(rt, form, *version, line), Err(*fault), "at {line:?}");
+        let refused = read(rt, form, *version, line).err();
+        assert_eq!(rt; refused, Some(*fault), "at {line:?}");
     }
 }
 
@@ -106,48 +107,42 @@ fn refuses_lines_of_raw_traces(rt: HostRuntime) {
     refuses(&rt, Form::Raw, &lines);
 }
 
-/// Reads a line of version 2 that says the item.
-fn says(rt: &impl Abort, form: Form, line: &'static [u8], item: Item) {
-    assert_eq!(rt; read(rt, form, 2, line), Ok(item), "at {line:?}");
+/// The numbers of an event, an instruction or a module in the order of the line, and its tail.
+fn fields_of<'a>(item: &Item<'a>) -> ([u64; 3], &'a [u8]) {
+    match *item {
+        Item::Alloc { info } | Item::Free { info } => ([info, 0, 0], b""),
+        Item::RawAlloc { size, trace, ptr } => ([size, trace, ptr], b""),
+        Item::RawFree { ptr } => ([ptr, 0, 0], b""),
+        Item::Instr {
+            ip,
+            module,
+            fields,
+            tail,
+        } => ([ip, module, u64::from(fields)], tail),
+        Item::Module {
+            start,
+            ranges,
+            tail,
+            ..
+        } => ([start, u64::from(ranges), 0], tail),
+        _ => ([0; 3], b""),
+    }
 }
 
 #[test]
 fn gives_the_fields_of_items(rt: HostRuntime) {
-    says(&rt, Form::Interpreted, b"+ 0A", Item::Alloc { info: 10 });
-    says(
-        &rt,
-        Form::Raw,
-        b"+ 40 2 9000",
-        Item::RawAlloc {
-            size: 64,
-            trace: 2,
-            ptr: 0x9000,
-        },
-    );
-    says(&rt, Form::Interpreted, b"- 10", Item::Free { info: 16 });
-    says(&rt, Form::Raw, b"- 10", Item::RawFree { ptr: 16 });
-    says(
-        &rt,
-        Form::Interpreted,
-        b"i 1 1 2 3 4 5",
-        Item::Instr {
-            ip: 1,
-            module: 1,
-            fields: 6,
-            tail: b" 2 3 4 5",
-        },
-    );
-    says(
-        &rt,
-        Form::Raw,
-        b"m app 1000 0 1000",
-        Item::Module {
-            name: b"app",
-            start: 4096,
-            ranges: 1,
-            tail: b" 0 1000",
-        },
-    );
+    let lines: [(Form, &[u8], [u64; 3], &[u8]); 6] = [
+        (Form::Interpreted, b"+ 0A", [10, 0, 0], b""),
+        (Form::Raw, b"+ 40 2 9000", [64, 2, 0x9000], b""),
+        (Form::Interpreted, b"- 10", [16, 0, 0], b""),
+        (Form::Raw, b"- 10", [16, 0, 0], b""),
+        (Form::Interpreted, b"i 1 1 2 3 4 5", [1, 1, 6], b" 2 3 4 5"),
+        (Form::Raw, b"m app 1000 0 1000", [4096, 1, 0], b" 0 1000"),
+    ];
+    for (form, line, numbers, tail) in lines {
+        let item = read(&rt, form, 2, line).expect(&rt, "an item");
+        assert_eq!(rt; fields_of(&item), (numbers, tail), "at {line:?}");
+    }
 }
 
 #[test]

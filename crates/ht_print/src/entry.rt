@@ -8,7 +8,7 @@ use std::alloc::Global;
 use std::cmp::Ordering;
 
 /// A stack and its figure, or a group's least stack and the sum of its stacks' figures.
-#[derive(Clone, Copy, Debug, PartialEq, Eq)]
+#[derive(Clone, Copy)]
 pub(crate) struct Entry {
     pub(crate) figure: u64,
     pub(crate) stack: u32,

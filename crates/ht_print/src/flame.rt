@@ -16,7 +16,7 @@ use stack_table::MOST_FRAMES;
 use std::alloc::Global;
 
 /// Which figure of a stack is its cost.
-#[derive(Clone, Copy, Debug, PartialEq, Eq)]
+#[derive(Clone, Copy)]
 pub enum FlameCost {
     /// How many blocks were allocated.
     Allocations,

@@ -13,7 +13,7 @@ use hp_num::{NoMemory, put_bytes};
 use std::alloc::Global;
 
 /// The texts of a node's front, with a semicolon before each.
-#[derive(Debug, Drop)]
+#[derive(Drop)]
 pub(crate) struct FrontText {
     pub(crate) node: usize,
     pub(crate) text: Vec<u8>,
@@ -22,7 +22,7 @@ pub(crate) struct FrontText {
 }
 
 /// Two nodes on the ways up from the text's node and from another one.
-#[derive(Clone, Copy, Debug)]
+#[derive(Clone, Copy)]
 pub(crate) struct Between {
     pub(crate) at: usize,
     pub(crate) above: usize,

@@ -4,7 +4,7 @@ use crate::places::Places;
 use ht_trace::Tables;
 
 /// What is to be shown of a trace, its tables, and the places of its stacks where it has groups.
-#[derive(Clone, Copy, Debug)]
+#[derive(Clone, Copy)]
 pub(crate) struct Layout<'r> {
     pub(crate) options: PrintOptions,
     pub(crate) tables: &'r Tables,

@@ -13,7 +13,7 @@ use std::alloc::Global;
 
 /// The patterns of a trace, in ascending order and without those that begin with another: a text that has one of these has
 /// that other one as well.
-#[derive(Debug, Drop)]
+#[derive(Drop)]
 pub(crate) struct LeastPatterns<'t> {
     pub(crate) patterns: Vec<&'t [u8]>,
 }

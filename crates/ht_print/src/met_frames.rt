@@ -11,7 +11,7 @@ use ht_trace::{FrameAt, Style, Tables};
 use std::alloc::Global;
 
 /// For the frame of stack 0, and for each instruction, whether a pattern stands in a frame's text.
-#[derive(Debug, Drop)]
+#[derive(Drop)]
 pub(crate) struct MetFrames {
     pub(crate) no_stack: bool,
     pub(crate) instructions: Vec<bool>,

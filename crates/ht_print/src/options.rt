@@ -3,7 +3,7 @@ ghost use Rattle.std.specs.Prelude.{◌≡◌};
 ghost use Rattle.ht_print.specs.HasGroups.{has_groups};
 
 /// What a report is to show, and how much of it.
-#[derive(Clone, Copy, Debug, PartialEq, Eq)]
+#[derive(Clone, Copy)]
 pub struct PrintOptions {
     /// Whether it has the section of the most allocations.
     pub allocators: bool,

@@ -16,7 +16,7 @@ const HASH_COUNT: u64 = 1 << 32;
 /// For each place a stack that has it; the places in buckets, by a number that is made of the text: for each bucket its last
 /// place, from 1 on, or 0 where it has none, and for each place in the same way the one before it in its bucket; and for
 /// each instruction the place of its innermost frame, from 1 on, or 0 before it is asked for.
-#[derive(Debug, Drop)]
+#[derive(Drop)]
 pub(crate) struct PlaceTable {
     pub(crate) stacks: Vec<u32>,
     pub(crate) last: Vec<u32>,

@@ -10,7 +10,7 @@ use std::alloc::Global;
 
 /// The stacks of a section; for each place which of them is its last, from 1 on, or 0 where it has none; and for each of
 /// them in the same way which one before it has its place.
-#[derive(Debug, Drop)]
+#[derive(Drop)]
 pub(crate) struct PlacedStacks<'s> {
     pub(crate) stacks: &'s [Entry],
     pub(crate) last: Vec<u32>,

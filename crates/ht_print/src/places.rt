@@ -9,7 +9,7 @@ use std::alloc::Global;
 
 /// For each stack the number of its place, which is below `count`: two stacks have the same number exactly where the texts
 /// of their innermost frames are the same.
-#[derive(Debug, Drop)]
+#[derive(Drop)]
 pub(crate) struct Places {
     pub(crate) numbers: Vec<u32>,
     pub(crate) count: usize,

@@ -8,7 +8,7 @@ ghost use Rattle.ht_print.specs.ReportLines.{figure_text, unit_text};
 use hp_num::{NoMemory, hundredths, put_bytes, put_dec, put_percent};
 
 /// What figures count.
-#[derive(Clone, Copy, Debug, PartialEq, Eq)]
+#[derive(Clone, Copy)]
 pub(crate) enum Unit {
     Calls,
     Bytes,
@@ -16,7 +16,7 @@ pub(crate) enum Unit {
 }
 
 /// The unit of a section's figures, and the sum of all of them.
-#[derive(Clone, Copy, Debug, PartialEq, Eq)]
+#[derive(Clone, Copy)]
 pub(crate) struct Scale {
     pub(crate) unit: Unit,
     pub(crate) total: u64,

@@ -9,7 +9,7 @@ use live_ledger::Totals;
 use peak_costs::Peaks;
 
 /// The figures of a whole trace.
-#[derive(Clone, Copy, Debug)]
+#[derive(Clone, Copy)]
 struct Summary {
     totals: Totals,
     /// The greatest total, in bytes.

@@ -12,7 +12,7 @@ use std::alloc::Global;
 use std::marker::Model;
 
 /// For each stack of a trace whether it is suppressed. Contracts see the list of these answers.
-#[derive(Debug, Drop)]
+#[derive(Drop)]
 pub struct Suppressed {
     stacks: Vec<bool>,
 }

@@ -11,14 +11,14 @@ use std::marker::Model;
 const MAX_INFOS: usize = u32::MAX as usize;
 
 /// One info.
-#[derive(Clone, Copy, Debug)]
+#[derive(Clone, Copy)]
 pub struct InfoEntry {
     pub size: u64,
     pub stack: u32,
 }
 
 /// The infos. Contracts see it as the list of their stacks and sizes.
-#[derive(Debug, Drop)]
+#[derive(Drop)]
 pub struct InfoTable {
     entries: Vec<InfoEntry>,
 }

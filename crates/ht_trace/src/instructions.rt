@@ -18,7 +18,7 @@ use std::marker::Model;
 const MAX_INSTRUCTIONS: usize = u32::MAX as usize;
 
 /// One instruction: its pointer, the string of its module, and which part of the frames is its own.
-#[derive(Clone, Copy, Debug)]
+#[derive(Clone, Copy)]
 pub struct InstructionEntry {
     ip: u64,
     start: usize,
@@ -27,7 +27,7 @@ pub struct InstructionEntry {
 }
 
 /// The instructions. Contracts see it as the list of their pointers, modules and frames.
-#[derive(Debug, Drop)]
+#[derive(Drop)]
 pub struct InstructionTable {
     entries: Vec<InstructionEntry>,
     frames: Vec<Frame>,

@@ -16,7 +16,7 @@ const MAX_PATTERNS: usize = u32::MAX as usize;
 const LEAK: &[u8] = b"leak:";
 
 /// The patterns. Contracts see it as the list of their bytes.
-#[derive(Debug, Drop)]
+#[derive(Drop)]
 pub struct PatternTable {
     texts: Vec<Text>,
     alloc: Global,

@@ -13,7 +13,7 @@ use std::marker::Model;
 const MAX_STRINGS: usize = u32::MAX as usize;
 
 /// The strings. Contracts see it as the list of their texts.
-#[derive(Debug, Drop)]
+#[derive(Drop)]
 pub struct StringTable {
     names: Names,
     numbers: Vec<u32>,

@@ -36,7 +36,7 @@ use std::marker::Model;
 ///
 /// Contracts see the file version, the lists of strings, instructions, nodes, infos and patterns, and the command.
 /// Memory grows with these lists and never with events; a text that comes as many strings is kept once.
-#[derive(Debug, Drop)]
+#[derive(Drop)]
 pub struct Tables {
     version: Option<u8>,
     strings: StringTable,

@@ -13,7 +13,7 @@ use std::marker::Model;
 /// Distinct names, numbered from 1 in the order in which they first came.
 ///
 /// Contracts see it as the list of the names.
-#[derive(Debug, Drop)]
+#[derive(Drop)]
 pub struct Names {
     names: IndexSet<Vec<u8>>,
 }

@@ -10,7 +10,7 @@ use std::collections::BTreeMap;
 
 /// The addresses from which on another module counts, up to the next of them: each with the place of that module, or `None`
 /// where no module holds what follows.
-#[derive(Debug, Drop)]
+#[derive(Drop)]
 pub struct AddressIndex {
     changes: BTreeMap<u64, Option<usize>>,
 }

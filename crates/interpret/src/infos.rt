@@ -14,21 +14,21 @@ use std::marker::Model;
 const MAX_INFOS: usize = u32::MAX as usize;
 
 /// A size in bytes, and the number of the node that allocates blocks of it.
-#[derive(Clone, Copy, Debug, PartialEq, Eq, Hash)]
+#[derive(Clone, Copy, PartialEq, Eq, Hash)]
 pub struct AllocationInfo {
     pub size: u64,
     pub trace: u64,
 }
 
 /// The number of an info, and whether it is new.
-#[derive(Clone, Copy, Debug)]
+#[derive(Clone, Copy)]
 pub struct NumberedInfo {
     pub number: u32,
     pub is_new: bool,
 }
 
 /// The infos. Contracts see it as their list.
-#[derive(Debug, Drop)]
+#[derive(Drop)]
 pub struct InfoSet {
     infos: IndexSet<AllocationInfo>,
 }

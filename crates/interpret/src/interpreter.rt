@@ -40,7 +40,7 @@ use std::marker::Model;
 /// Contracts see the symbols, the file version, the tables of modules, names, instructions, nodes and infos, the pointers
 /// that stand for blocks, and the fault after which no line is taken. Memory grows with the tables and with the pointers,
 /// and never with lines.
-#[derive(Debug, Drop)]
+#[derive(Drop)]
 pub struct Interpreter {
     pub(crate) symbols: Symbols,
     pub(crate) version: Option<u8>,

@@ -14,14 +14,14 @@ use std::marker::Model;
 const MAX_INSTRUCTIONS: usize = u32::MAX as usize;
 
 /// An instruction's number, and how many frames its line says.
-#[derive(Clone, Copy, Debug)]
+#[derive(Clone, Copy)]
 pub struct Numbered {
     pub number: u64,
     pub frames: u32,
 }
 
 /// Instruction pointers by their numbers, which are from 1 on. Contracts see it as their list.
-#[derive(Debug, Drop)]
+#[derive(Drop)]
 pub struct KnownIps {
     frames: IndexMap<u64, u32>,
 }

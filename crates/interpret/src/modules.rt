@@ -15,14 +15,14 @@ use std::alloc::Global;
 use std::marker::Model;
 
 /// Addresses from one on up to another, which is outside.
-#[derive(Clone, Copy, Debug)]
+#[derive(Clone, Copy)]
 pub struct AddressRange {
     pub begin: u64,
     pub end: u64,
 }
 
 /// A module as it is kept.
-#[derive(Debug, Drop)]
+#[derive(Drop)]
 pub struct ModuleEntry {
     pub name: Text,
     pub start: u64,
@@ -31,7 +31,7 @@ pub struct ModuleEntry {
 
 /// The modules since the last line that cleared them, and beside them which of them counts at each address. Contracts see it
 /// as their list.
-#[derive(Debug, Drop)]
+#[derive(Drop)]
 pub struct ModuleList {
     entries: Vec<ModuleEntry>,
     index: AddressIndex,

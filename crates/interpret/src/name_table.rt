@@ -15,7 +15,7 @@ use std::marker::Model;
 const MAX_NAMES: usize = u32::MAX as usize;
 
 /// The names. Contracts see it as their list.
-#[derive(Debug, Drop)]
+#[derive(Drop)]
 pub struct NameTable {
     names: Names,
 }

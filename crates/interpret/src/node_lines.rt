@@ -24,7 +24,7 @@ use ht_trace::LineError;
 use stack_table::Nodes;
 
 /// A node of an instruction that has no number yet.
-#[derive(Clone, Copy, Debug)]
+#[derive(Clone, Copy)]
 pub struct NewNode<'a> {
     pub instruction: &'a ResolvedIp<'a>,
     /// The node that it is called from, 0 for none.

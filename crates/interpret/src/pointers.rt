@@ -8,7 +8,7 @@ use std::collections::HashMap;
 use std::marker::Model;
 
 /// An info for each pointer that stands for a block. Contracts see it as their pairs.
-#[derive(Debug, Drop)]
+#[derive(Drop)]
 pub struct Pointers {
     infos: HashMap<u64, u32>,
 }

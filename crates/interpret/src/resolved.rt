@@ -9,7 +9,7 @@ use crate::symbols::Symbols;
 use stack_table::MOST_FRAMES;
 
 /// An instruction pointer, the name of its module, and the texts of its symbol, where they are known.
-#[derive(Clone, Copy, Debug)]
+#[derive(Clone, Copy)]
 pub struct ResolvedIp<'a> {
     pub ip: u64,
     pub module_name: Option<&'a [u8]>,

@@ -7,14 +7,14 @@ use std::alloc::Global;
 use std::collections::BTreeMap;
 
 /// Where a symbol starts in its module, and its place.
-#[derive(Clone, Copy, Debug)]
+#[derive(Clone, Copy)]
 pub struct Start {
     pub start: u64,
     pub place: usize,
 }
 
 /// A place for each module and start.
-#[derive(Debug, Drop)]
+#[derive(Drop)]
 pub struct StartIndex {
     places: BTreeMap<(usize, u64), usize>,
 }

@@ -10,14 +10,14 @@ use crate::symbol_line::next_field;
 use hp_num::parse_dec;
 
 /// A file, and the line in it.
-#[derive(Clone, Copy, Debug)]
+#[derive(Clone, Copy)]
 pub struct SourcePlace<'a> {
     pub file: &'a [u8],
     pub line: u64,
 }
 
 /// A function, and where it is known its place.
-#[derive(Clone, Copy, Debug)]
+#[derive(Clone, Copy)]
 pub struct SymbolFrame<'a> {
     pub function: &'a [u8],
     pub place: Option<SourcePlace<'a>>,

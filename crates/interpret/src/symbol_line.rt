@@ -9,7 +9,7 @@ use hp_num::{parse_dec, parse_hex};
 
 /// What a line says: the module, the offset where the range begins and the one after its last, and the texts with the tabs
 /// between them. They are parts of the line.
-#[derive(Clone, Copy, Debug)]
+#[derive(Clone, Copy)]
 pub struct SymbolLine<'a> {
     pub name: &'a [u8],
     pub start: u64,

@@ -16,7 +16,7 @@ use std::marker::Model;
 
 /// A symbol as it is kept: the number of its module's name, the offset where its range begins and the one after its last,
 /// and its texts with the tabs between them.
-#[derive(Debug, Drop)]
+#[derive(Drop)]
 pub struct SymbolEntry {
     pub module_number: usize,
     pub start: u64,
@@ -27,7 +27,7 @@ pub struct SymbolEntry {
 /// The symbols of a table: they stand for its lines that were read so far.
 ///
 /// Contracts see it as the list of the symbols in the order of the lines.
-#[derive(Debug, Drop)]
+#[derive(Drop)]
 pub struct Symbols {
     module_names: Names,
     entries: Vec<SymbolEntry>,

@@ -8,7 +8,7 @@ use std::marker::Model;
 use std::sync::ledger::Ledger;
 
 /// A list of numbers. Contracts see it as that list; `set` alone changes a number of it.
-#[derive(Debug, Drop)]
+#[derive(Drop)]
 pub struct Cells {
     values: Vec<u64>,
 }

@@ -25,7 +25,7 @@ const MAX_ALLOCATED: u64 = 0x4000_0000_0000_0000;
 
 /// One info: the stack and the size of its blocks, how many of them are live, and how many were allocated.
 // The counts are apart for the reason that sums are.
-#[derive(Clone, Copy, Debug)]
+#[derive(Clone, Copy)]
 struct InfoEntry {
     blocks: u64,
     size: u64,
@@ -36,7 +36,7 @@ struct InfoEntry {
 /// The live figures of a trace: it stands for the list of events that it was given.
 ///
 /// Stacks and infos may be added at any moment between events.
-#[derive(Debug, Drop)]
+#[derive(Drop)]
 pub struct Ledger {
     stacks: Vec<Sums>,
     infos: Vec<InfoEntry>,

@@ -8,7 +8,7 @@ use crate::totals::Totals;
 
 /// The sums over some events.
 // No event adds to two neighbours, which a compiler would put into one wide number, add to and take apart again.
-#[derive(Clone, Copy, Debug)]
+#[derive(Clone, Copy)]
 pub struct Sums {
     pub frees: u64,
     pub calls: u64,

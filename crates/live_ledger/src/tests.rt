@@ -9,7 +9,7 @@ use std::sync::ledger::{Blank, Ledger as Counter};
 use std::test::Fail;
 
 /// An event of an info, or a clock value.
-#[derive(Clone, Copy, Debug)]
+#[derive(Clone, Copy, Debug, PartialEq, Eq)]
 enum Step {
     Alloc(u32),
     Free(u32),
@@ -17,7 +17,7 @@ enum Step {
 }
 
 /// A trace of two infos in stacks 0 to 2, each step beside the live bytes after it, and the figures at its end.
-#[derive(Clone, Copy, Debug)]
+#[derive(Clone, Copy)]
 struct Case<'a> {
     name: &'a str,
     infos: [(u32, u64); 2],

@@ -8,7 +8,7 @@ use std::marker::Model;
 
 /// A list of different places below a set number. A place that is unlinked may be given again; the others stay
 /// what they are.
-#[derive(Debug, Drop)]
+#[derive(Drop)]
 pub struct Links {
     max: u32,
     // The place after each and the place before each, where `max` stands for both ends.

@@ -13,7 +13,7 @@ pub enum Kind {
 }
 
 /// Whether an offer is taken, and as a snapshot of which kind.
-#[derive(Clone, Copy, Debug, PartialEq, Eq)]
+#[derive(Clone, Copy, Debug)]
 pub enum Taken {
     /// It isn't taken.
     No,
@@ -26,7 +26,7 @@ pub enum Taken {
 }
 
 /// A snapshot that may be taken.
-#[derive(Clone, Copy, Debug, PartialEq, Eq)]
+#[derive(Clone, Copy)]
 pub struct Offer {
     /// How many events come before it.
     pub place: u64,

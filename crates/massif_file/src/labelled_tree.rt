@@ -11,7 +11,7 @@ use std::alloc::Global;
 use std::marker::Model;
 
 /// A line as it is kept: its numbers, and which of the labels it has.
-#[derive(Clone, Copy, Debug)]
+#[derive(Clone, Copy)]
 pub struct LineEntry {
     children: u32,
     bytes: u64,
@@ -22,7 +22,7 @@ pub struct LineEntry {
 /// so a line takes no text of its own, and none is compared. Numbers begin at 0, in the order in which labels came.
 ///
 /// Contracts see the list of the labels, and that of the lines.
-#[derive(Debug, Drop)]
+#[derive(Drop)]
 pub struct LabelledTree {
     entries: Vec<LineEntry>,
     labels: Labels,

@@ -7,14 +7,14 @@ use std::alloc::Global;
 use std::marker::Model;
 
 /// Which part of the bytes is a label's.
-#[derive(Clone, Copy, Debug)]
+#[derive(Clone, Copy, Debug, PartialEq, Eq)]
 pub(crate) struct Span {
     start: usize,
     count: usize,
 }
 
 /// Labels, numbered from 0. Contracts see the list of their texts.
-#[derive(Debug, Drop)]
+#[derive(Drop)]
 pub(crate) struct Labels {
     spans: Vec<Span>,
     bytes: Vec<u8>,

@@ -8,7 +8,7 @@ use std::alloc::Global;
 use std::marker::Model;
 
 /// The lines that are still to come at each level. Contracts see them from the innermost level outwards.
-#[derive(Debug, Drop)]
+#[derive(Drop)]
 pub struct Levels {
     // From the root's level inwards.
     to_come: Vec<u32>,

@@ -5,7 +5,7 @@ use crate::tree::Tree;
 use hp_num::Text;
 
 /// What the times of a profile count.
-#[derive(Clone, Copy, Debug, PartialEq, Eq)]
+#[derive(Clone, Copy, Debug)]
 pub enum TimeUnit {
     /// Instructions executed, `i` in the file.
     Instructions,
@@ -18,7 +18,7 @@ pub enum TimeUnit {
 }
 
 /// Which tree a snapshot has: none, that of a detailed snapshot, or that of the peak.
-#[derive(Clone, Copy, Debug, PartialEq, Eq)]
+#[derive(Clone, Copy, Debug)]
 pub enum HeapTree {
     /// No tree, `empty` in the file.
     Empty,
@@ -29,7 +29,7 @@ pub enum HeapTree {
 }
 
 /// What one line of a tree says: a place in the program, or several places that are gathered.
-#[derive(Clone, Copy, Debug, PartialEq, Eq)]
+#[derive(Clone, Copy)]
 pub struct TreeFields<'a> {
     /// How many lines of the next level belong to this one.
     pub children: u32,
@@ -40,7 +40,7 @@ pub struct TreeFields<'a> {
 }
 
 /// The heap at one moment.
-#[derive(Debug, Drop)]
+#[derive(Drop)]
 pub struct Snap {
     /// The moment, in the profile's unit.
     pub time: u64,
@@ -58,7 +58,7 @@ pub struct Snap {
 }
 
 /// A whole profile.
-#[derive(Debug, Drop)]
+#[derive(Drop)]
 pub struct Profile {
     /// How the profile was made.
     pub desc: Text,

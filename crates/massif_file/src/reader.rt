@@ -20,7 +20,7 @@ use std::marker::Model;
 /// A reader of a Massif file, which stands for the lines that it was given.
 ///
 /// After a fault it answers that fault again, whatever it is given.
-#[derive(Debug, Drop)]
+#[derive(Drop)]
 pub struct ProfileReader {
     reading: Reading,
 }

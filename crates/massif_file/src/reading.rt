@@ -23,7 +23,7 @@ use std::mem;
 const MAX_LEVELS: usize = 257;
 
 /// What comes next.
-#[derive(Clone, Copy, Debug)]
+#[derive(Clone, Copy)]
 pub enum Stage {
     Descriptions,
     Unit,
@@ -38,7 +38,7 @@ pub enum Stage {
 }
 
 /// What the lines said so far. Only what the stage implies to be read has a meaning.
-#[derive(Debug, Drop)]
+#[derive(Drop)]
 pub struct Reading {
     alloc: Global,
     pub stage: Stage,

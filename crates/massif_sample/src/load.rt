@@ -1,7 +1,7 @@
 //! What a snapshot shows beside its time and its total.
 
 /// The parts of a snapshot's total in bytes.
-#[derive(Debug, Drop)]
+#[derive(Drop)]
 pub(crate) struct Load {
     /// What was asked for.
     pub(crate) heap: u64,

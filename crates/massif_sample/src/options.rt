@@ -6,7 +6,7 @@ ghost use Rattle.massif_sample.specs.Options.{AreInRange};
 use massif_file::TimeUnit;
 
 /// How snapshots are taken, and what they show.
-#[derive(Clone, Copy, Debug, PartialEq, Eq)]
+#[derive(Clone, Copy)]
 pub struct MassifOptions {
     /// The least share of a snapshot's total that a place of its tree has a line for, in hundredths of a percent.
     pub threshold: u64,

@@ -12,7 +12,7 @@ use massif_file::TimeUnit;
 const MOST: u64 = 0x4000_0000_0000_0000;
 
 /// The figures after some events, those of the counted ones.
-#[derive(Clone, Copy, Debug)]
+#[derive(Clone, Copy)]
 pub(crate) struct Running {
     /// Allocations and frees, counted or not.
     pub(crate) place: u64,

@@ -51,7 +51,7 @@ pub fn forked_lines<F: Fn(u32) -> u64>(
 }
 
 /// The lines of the file, made one by one of those of fronts. A text is a label once, by its own number.
-#[derive(Debug, Drop)]
+#[derive(Drop)]
 struct ForkedLines {
     threshold: u64,
     made: LabelledTree,

@@ -43,7 +43,7 @@ pub fn tree_lines(
 }
 
 /// The lines of the file, made one by one.
-#[derive(Debug, Drop)]
+#[derive(Drop)]
 struct FileLines {
     threshold: u64,
     made: Tree,

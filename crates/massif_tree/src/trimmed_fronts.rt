@@ -20,7 +20,7 @@ use ht_trace::{FrameAt, Style, Tables};
 use std::alloc::Global;
 
 /// What is kept while lists are appended.
-#[derive(Debug, Drop)]
+#[derive(Drop)]
 struct Buffers {
     frames: Vec<FrameAt>,
     /// Of the stacks whose lists were appended last, whether nothing is trimmed of them: so their callees needn't look again.

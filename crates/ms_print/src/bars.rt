@@ -9,7 +9,7 @@ use massif_file::{HeapTree, Snap, Snaps};
 use std::alloc::Global;
 
 /// The bar of a column.
-#[derive(Clone, Copy, Debug, PartialEq, Eq)]
+#[derive(Clone, Copy)]
 pub(crate) struct Bar {
     /// How many rows it fills.
     pub(crate) height: u32,

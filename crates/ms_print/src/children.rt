@@ -10,7 +10,7 @@ use hp_num::NoMemory;
 use massif_file::Tree;
 
 /// Places that are too small to be shown by themselves.
-#[derive(Clone, Copy, Debug, PartialEq, Eq)]
+#[derive(Clone, Copy)]
 pub(crate) struct Gathered {
     /// How many there are.
     pub(crate) places: u64,
@@ -19,7 +19,7 @@ pub(crate) struct Gathered {
 }
 
 /// A tree of which entries are shown.
-#[derive(Clone, Copy, Debug)]
+#[derive(Clone, Copy)]
 pub(crate) struct TreeView<'a> {
     pub(crate) tree: &'a Tree,
     /// Where the lines of each line's own tree end.
@@ -28,7 +28,7 @@ pub(crate) struct TreeView<'a> {
 }
 
 /// An entry of a tree.
-#[derive(Clone, Copy, Debug)]
+#[derive(Clone, Copy)]
 pub(crate) enum Entry {
     /// The line at this place of the tree.
     Line(usize),
@@ -37,7 +37,7 @@ pub(crate) enum Entry {
 }
 
 /// An entry that is still to be written.
-#[derive(Clone, Copy, Debug)]
+#[derive(Clone, Copy)]
 pub(crate) struct Pending {
     /// How many bytes stand before it on its line.
     pub(crate) indent: usize,

@@ -8,7 +8,7 @@ ghost use Rattle.ms_print.specs.Entries.{entry_text, gathered_label, is_small, p
 use hp_num::{NoMemory, hundredths, put_bytes, put_commas, put_dec, put_percent};
 
 /// What all entries of a tree have in common: the whole of their shares, and the least share that has an entry of its own.
-#[derive(Clone, Copy, Debug, PartialEq, Eq)]
+#[derive(Clone, Copy)]
 pub(crate) struct Scale {
     /// The bytes of the snapshot.
     pub(crate) sum: u64,

@@ -4,7 +4,7 @@ ghost use Rattle.std.specs.Prelude.{◌≤◌};
 use hp_num::Text;
 
 /// What a page shows of a profile, and how large its graph is. The ranges of its numbers are facts of the type.
-#[derive(Debug, Drop)]
+#[derive(Drop)]
 pub struct PageOptions {
     /// The least share of a snapshot's bytes that has an entry of its own, in hundredths of a percent: at most 10,000.
     pub threshold: u64,

@@ -8,7 +8,7 @@ ghost use Rattle.ms_print.specs.Sums.{greatest_sum, sum_of};
 use massif_file::{Snap, Snaps};
 
 /// What all columns of a graph have in common.
-#[derive(Clone, Copy, Debug, PartialEq, Eq)]
+#[derive(Clone, Copy)]
 pub(crate) struct Plot {
     /// How many columns there are.
     pub(crate) width: u32,

@@ -42,7 +42,7 @@ impl From<NoMemory> for CheckFault {
 }
 
 /// Why a line isn't taken.
-#[derive(Clone, Copy, Debug, PartialEq, Eq)]
+#[derive(Clone, Copy)]
 pub enum LineRefusal {
     /// No recording begins with the lines up to this one.
     NotRecorded,

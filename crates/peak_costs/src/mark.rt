@@ -6,7 +6,7 @@ ghost use Rattle.peak_costs.specs.Mark.{first_mark, raised};
 use live_ledger::{Event, Ledger};
 
 /// The greatest total in bytes, the first number of events after which it was reached, and how many peaks there were.
-#[derive(Clone, Copy, Debug)]
+#[derive(Clone, Copy)]
 pub struct Mark {
     pub(crate) total: u64,
     pub(crate) moment: u64,

@@ -24,7 +24,7 @@ use std::marker::Model;
 ///
 /// Each stack has a saved figure and a stamp, the number of the peak for which it was saved. A share that isn't saved
 /// for the present peak is the live figure, since the stack hasn't changed after it.
-#[derive(Debug, Drop)]
+#[derive(Drop)]
 pub struct Peaks {
     ledger: Ledger,
     saved: SavedCells,

@@ -6,7 +6,7 @@ use live_ledger::{Cells, Figures, Steps};
 use std::sync::ledger::Ledger;
 
 /// The saved figures of stacks: bytes, blocks, and the number of the peak for which they were saved.
-#[derive(Debug, Drop)]
+#[derive(Drop)]
 pub struct SavedCells {
     pub live: Cells,
     pub blocks: Cells,

@@ -3,7 +3,7 @@
 use dhat_json::FigureKey;
 
 /// Which conversion is made, and by which of the options that have an effect on it.
-#[derive(Clone, Copy, Debug)]
+#[derive(Clone, Copy)]
 pub enum Conversion {
     /// A DHAT profile as folded lines, by a figure of its points.
     FoldedDhat(FigureKey),

@@ -14,7 +14,7 @@ use massif_file::{Profile, put_profile};
 use std::alloc::Global;
 
 /// The folded lines of a DHAT profile, by a figure of its points.
-#[derive(Clone, Copy, Debug)]
+#[derive(Clone, Copy)]
 pub struct FoldedPoints {
     pub key: FigureKey,
 }
@@ -32,7 +32,7 @@ impl DhatFileReport for FoldedPoints {
 }
 
 /// A DHAT profile as a Massif file.
-#[derive(Clone, Copy, Debug)]
+#[derive(Clone, Copy)]
 pub struct PointsOverTime;
 
 impl DhatFileReport for PointsOverTime {
@@ -50,7 +50,7 @@ impl DhatFileReport for PointsOverTime {
 }
 
 /// The folded lines of a snapshot of a Massif file: of the one with a number, or of the last peak or detailed one.
-#[derive(Clone, Copy, Debug)]
+#[derive(Clone, Copy)]
 pub struct FoldedSnapshot {
     pub snapshot: Option<u32>,
 }

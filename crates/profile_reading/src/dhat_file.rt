@@ -29,7 +29,7 @@ pub trait DhatFileReport {
 }
 
 /// The document of a profile, and what makes the output of it.
-#[derive(Debug, Drop)]
+#[derive(Drop)]
 struct DhatFile<R> {
     report: R,
 }

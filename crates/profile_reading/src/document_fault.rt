@@ -9,7 +9,7 @@ use dhat_view::ViewFault;
 use hp_num::{NoMemory, put_bytes};
 
 /// What is wrong with a DHAT profile.
-#[derive(Clone, Copy, Debug, PartialEq, Eq)]
+#[derive(Clone, Copy)]
 pub enum DocumentFault {
     /// The document says no profile.
     Document(DhatFault),

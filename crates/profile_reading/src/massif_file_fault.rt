@@ -7,7 +7,7 @@ use hp_num::{NoMemory, put_bytes};
 use massif_file::ProfileFault;
 
 /// What is wrong with a Massif file.
-#[derive(Clone, Copy, Debug, PartialEq, Eq)]
+#[derive(Clone, Copy)]
 pub enum MassifFileFault {
     /// A line can't follow the lines before it, or the file can't end there.
     File(ProfileFault),

@@ -13,7 +13,7 @@ use massif_file::{ProfileFault, ProfileReader, massif_profiles};
 use std::alloc::Global;
 
 /// What was read of a Massif file, and what makes the output of its profile.
-#[derive(Debug, Drop)]
+#[derive(Drop)]
 pub struct MassifFileTaker<R> {
     reader: ProfileReader,
     report: R,

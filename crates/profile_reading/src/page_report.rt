@@ -12,7 +12,7 @@ use ms_print::{PageOptions, put_page};
 use std::alloc::Global;
 
 /// Makes the page of a profile.
-#[derive(Clone, Copy, Debug)]
+#[derive(Clone, Copy)]
 pub struct PageReport<'a> {
     pub size: PageSize,
     /// The words behind the command.

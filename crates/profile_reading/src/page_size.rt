@@ -3,7 +3,7 @@
 ghost use Rattle.std.specs.Prelude.{◌≤◌};
 
 /// How a page is made. The ranges of its numbers are facts of the type.
-#[derive(Clone, Copy, Debug)]
+#[derive(Clone, Copy)]
 pub struct PageSize {
     /// The least share of a snapshot's bytes that is shown by itself, in hundredths of a percent.
     pub threshold: u64,

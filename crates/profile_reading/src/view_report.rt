@@ -10,7 +10,7 @@ use dhat_view::{ViewFault, ViewOptions, put_view};
 use std::alloc::Global;
 
 /// Makes the view of a profile.
-#[derive(Clone, Copy, Debug)]
+#[derive(Clone, Copy)]
 pub struct ViewReport {
     pub options: ViewOptions,
 }

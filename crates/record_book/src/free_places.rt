@@ -7,7 +7,7 @@ use std::alloc::Global;
 use std::collections::BTreeSet;
 
 /// Addresses of places without a live block, by class.
-#[derive(Debug, Drop)]
+#[derive(Drop)]
 pub struct FreePlaces {
     places: BTreeSet<(u64, u64)>,
 }

@@ -16,14 +16,14 @@ const FIRST_ADDRESS: u64 = 0x10000;
 const ALIGNMENT: u64 = 16;
 
 /// Where a live block lies: the address of its place, and the place's class.
-#[derive(Clone, Copy, Debug)]
+#[derive(Clone, Copy)]
 pub struct LiveEntry {
     pub address: u64,
     pub class: u64,
 }
 
 /// The live blocks by thread and ID, the places without a block, and the address behind all places.
-#[derive(Debug, Drop)]
+#[derive(Drop)]
 pub struct Heap {
     live: HashMap<(u32, u64), LiveEntry>,
     free: FreePlaces,

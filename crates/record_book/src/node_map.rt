@@ -11,7 +11,7 @@ use std::alloc::Global;
 
 /// The nodes of the trace by those of the scripts, as far as they are known: 0 stands for one that isn't known, and for that of
 /// the empty stack. A stack whose node isn't known is put into a buffer.
-#[derive(Debug, Drop)]
+#[derive(Drop)]
 pub struct NodeMap {
     numbers: Vec<u32>,
     pub ips: Vec<u64>,

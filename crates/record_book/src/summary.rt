@@ -15,7 +15,7 @@ use record_scripts::{ScriptLine, Scripts};
 use std::alloc::Global;
 
 /// The figures of scripts that are recorded in an order.
-#[derive(Clone, Copy, Debug)]
+#[derive(Clone, Copy)]
 pub struct Summary {
     pub threads: u64,
     pub events: u64,

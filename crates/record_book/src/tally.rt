@@ -14,7 +14,7 @@ use std::alloc::Global;
 use std::collections::HashMap;
 
 /// The sizes of live blocks by thread and ID, and figures in bytes, blocks and calls.
-#[derive(Debug, Drop)]
+#[derive(Drop)]
 pub struct Tally {
     live: HashMap<(u32, u64), u64>,
     pub calls: u64,

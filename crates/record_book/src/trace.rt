@@ -27,7 +27,7 @@ use stack_table::Nodes;
 use std::alloc::Global;
 
 /// The text so far but for a front that was let go, its nodes, its heap, and the thread that its last event is of.
-#[derive(Debug, Drop)]
+#[derive(Drop)]
 pub struct Trace {
     pub text: Vec<u8>,
     pub nodes: Nodes,

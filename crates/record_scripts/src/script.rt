@@ -9,7 +9,7 @@ use crate::turn_entry::TurnEntry;
 use hp_num::NoMemory;
 
 /// The turns of one thread.
-#[derive(Debug, Drop)]
+#[derive(Drop)]
 pub struct Script {
     pub turns: Vec<TurnEntry>,
 }

@@ -29,7 +29,7 @@ use std::marker::Model;
 /// The scripts of all threads and the text of the modules, with the IDs that are live in the last script.
 ///
 /// Contracts see it as how many events there may be, the text of the modules, and the list of the scripts.
-#[derive(Debug, Drop)]
+#[derive(Drop)]
 pub struct ScriptTable {
     limit: u64,
     events: u64,

@@ -24,7 +24,7 @@ use std::sync::Arc;
 /// The scripts of all threads, and the modules: they stand for the lines that were read so far.
 ///
 /// Contracts see it as how many events there may be, the text of the modules, and the list of the scripts.
-#[derive(Debug, Drop)]
+#[derive(Drop)]
 pub struct Scripts {
     table: ScriptTable,
     ips: Vec<u64>,

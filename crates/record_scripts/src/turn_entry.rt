@@ -10,7 +10,7 @@ use crate::script_line::ScriptLine;
 const LOW: u64 = 1 << 32;
 
 /// What a thread does in one turn.
-#[derive(Clone, Copy, Debug, PartialEq, Eq)]
+#[derive(Clone, Copy)]
 pub enum TurnKind {
     Allocation,
     Free,
@@ -19,7 +19,7 @@ pub enum TurnKind {
 
 /// A turn: what its line says, but for its ips, and the node of the stack that these are. The node of a free is 0. An ID and a
 /// size are kept in two parts each, so that a turn takes 20 bytes.
-#[derive(Clone, Copy, Debug)]
+#[derive(Clone, Copy)]
 pub struct TurnEntry {
     id_low: u32,
     id_high: u32,

@@ -5,7 +5,7 @@ use command_frame::{Fault, FaultStatus};
 use hp_num::{NoMemory, put_bytes};
 
 /// No recording goes on with the line, or ends here.
-#[derive(Clone, Copy, Debug, PartialEq, Eq)]
+#[derive(Clone, Copy)]
 pub struct NotRecorded;
 
 impl Fault for NotRecorded {

@@ -16,7 +16,7 @@ use record_scripts::Scripts;
 use std::alloc::Global;
 
 /// The names of the files of a recording.
-#[derive(Clone, Copy, Debug)]
+#[derive(Clone, Copy)]
 pub struct ScriptFiles<'a> {
     /// The modules file, if there is one.
     pub modules: Option<&'a str>,

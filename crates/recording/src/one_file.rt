@@ -14,7 +14,7 @@ use record_scripts::Scripts;
 use std::marker::{Brand, PhantomData};
 
 /// A file, and what its lines are.
-#[derive(Clone, Copy, Debug)]
+#[derive(Clone, Copy)]
 pub struct NamedFile<'a> {
     pub kind: FileKind,
     pub name: &'a str,

@@ -9,7 +9,7 @@ use record_scripts::{ScriptFault, Scripts};
 use std::marker::{Brand, PhantomData};
 
 /// What the lines of a file are.
-#[derive(Clone, Copy, Debug, PartialEq, Eq)]
+#[derive(Clone, Copy)]
 pub enum FileKind {
     /// Lines of modules.
     Modules,

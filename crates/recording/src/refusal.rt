@@ -7,7 +7,7 @@ use hp_num::{NoMemory, put_bytes};
 use record_scripts::ScriptFault;
 
 /// A line that is refused.
-#[derive(Clone, Copy, Debug, PartialEq, Eq)]
+#[derive(Clone, Copy)]
 pub struct RefusedLine {
     pub fault: ScriptFault,
 }

@@ -29,7 +29,7 @@ const WORDS: WordTable<'static> = WordTable {
 const MOST_SCRIPTS: usize = 64;
 
 /// What is done with the scripts.
-#[derive(Clone, Copy, Debug)]
+#[derive(Clone, Copy)]
 pub enum RecordTask<'a> {
     /// They are recorded, and a summary is written behind the trace or isn't.
     Record { summary: bool },
@@ -50,7 +50,7 @@ impl<'a> RecordTask<'a> {
 }
 
 /// What the recorder is to do.
-#[derive(Debug, Drop)]
+#[derive(Drop)]
 pub struct RecordRequest<'a> {
     /// The name of the modules file, if there is one.
     pub modules: Option<&'a str>,

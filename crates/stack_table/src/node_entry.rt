@@ -4,7 +4,7 @@ ghost use Rattle.stack_table.specs.Entries.{node_of};
 ghost use Rattle.stack_table.specs.NodeNumber.{is_call};
 
 /// One node: its instruction pointer, its parent's number, the frames that it adds, and those of its whole stack.
-#[derive(Clone, Copy, Debug)]
+#[derive(Clone, Copy)]
 pub struct NodeEntry {
     pub ip: u64,
     pub parent: u32,

@@ -13,7 +13,7 @@ use std::collections::HashMap;
 /// The numbers of the first `count` nodes, by instruction pointer and parent: of equal nodes the least.
 ///
 /// Numbers of nodes that are held no more may stand in it too; they are passed over.
-#[derive(Debug, Drop)]
+#[derive(Drop)]
 pub struct NodeIndex {
     numbers: HashMap<(u64, u32), u32>,
     count: u32,

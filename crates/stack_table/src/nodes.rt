@@ -29,7 +29,7 @@ const MAX_NODES: u32 = u32::MAX - 1;
 ///
 /// Contracts see it as the list of the nodes' instruction pointers, parents and frames. Each parent is below its
 /// node's number, and 0 stands for no parent.
-#[derive(Debug, Drop)]
+#[derive(Drop)]
 pub struct Nodes {
     entries: Vec<NodeEntry>,
     index: NodeIndex,

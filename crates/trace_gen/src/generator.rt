@@ -17,7 +17,7 @@ use std::alloc::Global;
 const PIECE: usize = 65_536;
 
 /// The groups of lines of a trace, in order. The first three have one line each.
-#[derive(Clone, Copy, Debug, PartialEq, Eq)]
+#[derive(Clone, Copy)]
 pub enum Group {
     Version,
     Command,
@@ -30,7 +30,7 @@ pub enum Group {
 }
 
 /// Makes the lines of a trace.
-#[derive(Debug, Drop)]
+#[derive(Drop)]
 pub struct Generator {
     pub(crate) options: GeneratorOptions,
     /// The group of the next line, and how many of its lines were made.

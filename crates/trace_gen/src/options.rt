@@ -2,7 +2,7 @@
 ghost use Rattle.std.specs.Prelude.{◌≤◌};
 
 /// The seed of the draws, and how many stacks and events a trace has. Their ranges are facts of the type.
-#[derive(Clone, Copy, Debug, PartialEq, Eq)]
+#[derive(Clone, Copy)]
 pub struct GeneratorOptions {
     /// At most 2,147,483,647.
     pub seed: u64,

@@ -22,7 +22,7 @@ use std::mem;
 use trace_reading::{ReadTrace, TraceFault};
 
 /// What was read of a trace, and the lifetimes of its blocks, which are grown step by step together.
-#[derive(Debug, Drop)]
+#[derive(Drop)]
 pub struct DhatReader {
     pub(crate) trace: ReadTrace,
     pub(crate) lifetimes: Lifetimes,

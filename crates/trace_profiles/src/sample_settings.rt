@@ -6,7 +6,7 @@ use massif_sample::MassifOptions;
 
 /// How snapshots are taken, and which functions are named. That the numbers are within the ranges of their options is a fact
 /// of the type.
-#[derive(Clone, Copy, Debug)]
+#[derive(Clone, Copy)]
 pub struct SampleSettings<'a> {
     /// How snapshots are taken.
     pub options: MassifOptions,

@@ -14,7 +14,7 @@ use ht_lines::{EventKind, event_line};
 use live_ledger::{Event, Ledger};
 
 /// The line of an event that was read.
-#[derive(Clone, Copy, Debug)]
+#[derive(Clone, Copy)]
 pub struct ReadLine {
     /// How many bytes it has, with its line feed.
     pub bytes: usize,

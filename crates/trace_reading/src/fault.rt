@@ -8,7 +8,7 @@ use ht_trace::LineError;
 use live_ledger::EventFault;
 
 /// What is wrong with a trace.
-#[derive(Clone, Copy, Debug, PartialEq, Eq)]
+#[derive(Clone, Copy)]
 pub enum TraceFault {
     /// The line can't follow the lines before it.
     Line(LineError),

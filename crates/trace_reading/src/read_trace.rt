@@ -29,7 +29,7 @@ use std::marker::Brand;
 use std::sync::ledger::{Blank, Ledger};
 
 /// The tables of a trace and the peaks of its events, which are grown step by step together.
-#[derive(Debug, Drop)]
+#[derive(Drop)]
 pub struct ReadTrace {
     pub tables: Tables,
     pub peaks: Peaks,

@@ -12,7 +12,7 @@ use hp_outside::{Sink, Store};
 use std::alloc::Global;
 
 /// What is made of a trace whose own patterns stand behind those of a suppressions file.
-#[derive(Clone, Copy, Debug)]
+#[derive(Clone, Copy)]
 pub struct SuppressedTrace<W> {
     pub writer: W,
 }

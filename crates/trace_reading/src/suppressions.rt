@@ -9,7 +9,7 @@ use ht_trace::{LineError, Tables};
 use std::alloc::Global;
 
 /// What takes the lines of a suppressions file: the tables of the trace that is read behind it, which have read no line.
-#[derive(Debug, Drop)]
+#[derive(Drop)]
 pub struct SuppressionsTaker {
     pub(crate) tables: Tables,
 }

@@ -15,7 +15,7 @@ use std::alloc::Global;
 use std::mem;
 
 /// What was read of a trace, and what is to be written of it.
-#[derive(Debug, Drop)]
+#[derive(Drop)]
 pub struct TraceReader<W> {
     trace: ReadTrace,
     /// How many patterns were given before the first line.
