@@ -34,7 +34,7 @@ pub trait DocumentReport {
 }
 
 /// The file has more bytes than the limit.
-#[derive(Clone, Copy, Debug)]
+#[derive(Clone, Copy)]
 struct TooLong;
 
 impl Fault for TooLong {

@@ -1,7 +1,7 @@
 //! The figures of one stack, under the names that DHAT's profile gives them.
 
 /// What one stack's blocks came to after some events. Times are numbers of allocations and frees.
-#[derive(Clone, Copy, Debug, PartialEq, Eq)]
+#[derive(Clone, Copy)]
 pub struct LifeFigures {
     /// Bytes of the stack's allocations.
     pub tb: u64,

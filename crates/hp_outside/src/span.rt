@@ -5,7 +5,7 @@ ghost use Rattle.hp_outside.specs.FaultTexts.{line_text};
 use thiserror::Error;
 
 /// Where a line stands in its reader, which hands out its bytes.
-#[derive(Clone, Copy, Debug, PartialEq, Eq)]
+#[derive(Clone, Copy)]
 pub struct Span {
     /// The place of the first byte in the reader's buffer.
     pub start: usize,

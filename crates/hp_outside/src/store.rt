@@ -10,7 +10,7 @@ ghost use Rattle.hp_outside.specs.Taken.{WhereTold};
 use thiserror::Error;
 
 /// A call on a store or a sink that failed; the store's or the sink's count of faults rose.
-#[derive(Clone, Copy, Debug, PartialEq, Eq)]
+#[derive(Clone, Copy)]
 pub struct Failed;
 
 /// Why a file was not opened.

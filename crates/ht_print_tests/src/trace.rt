@@ -19,11 +19,11 @@ const MOST_BYTES: usize = 100;
 const MOST_EVENTS: u64 = 100;
 
 /// A line or a trace is too long for a test.
-#[derive(Debug, Drop)]
+#[derive(Drop)]
 struct TooLong;
 
 /// The tables of a trace, and the peaks of its events beside them.
-#[derive(Debug, Drop)]
+#[derive(Drop)]
 pub struct Trace {
     pub tables: Tables,
     pub peaks: Peaks,

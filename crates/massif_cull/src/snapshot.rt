@@ -2,7 +2,7 @@
 //! Which offers are taken is decided by the array.
 
 /// The kind of a snapshot that is kept.
-#[derive(Clone, Copy, Debug, PartialEq, Eq)]
+#[derive(Clone, Copy)]
 pub enum Kind {
     /// A snapshot without a tree.
     Normal,
@@ -13,7 +13,7 @@ pub enum Kind {
 }
 
 /// Whether an offer is taken, and as a snapshot of which kind.
-#[derive(Clone, Copy, Debug)]
+#[derive(Clone, Copy)]
 pub enum Taken {
     /// It isn't taken.
     No,
@@ -39,7 +39,7 @@ pub struct Offer {
 }
 
 /// A snapshot that is kept.
-#[derive(Clone, Copy, Debug, PartialEq, Eq)]
+#[derive(Clone, Copy)]
 pub struct SnapEntry {
     /// How many events come before it.
     pub place: u64,

@@ -5,7 +5,7 @@ use crate::tree::Tree;
 use hp_num::Text;
 
 /// What the times of a profile count.
-#[derive(Clone, Copy, Debug)]
+#[derive(Clone, Copy)]
 pub enum TimeUnit {
     /// Instructions executed, `i` in the file.
     Instructions,
@@ -18,7 +18,7 @@ pub enum TimeUnit {
 }
 
 /// Which tree a snapshot has: none, that of a detailed snapshot, or that of the peak.
-#[derive(Clone, Copy, Debug)]
+#[derive(Clone, Copy)]
 pub enum HeapTree {
     /// No tree, `empty` in the file.
     Empty,

@@ -16,7 +16,7 @@ const MAX_SIZE: u64 = 1 << 32;
 const MAX_IPS: usize = 256;
 
 /// What a line of a script says, which is a turn of its thread, but for its ips.
-#[derive(Clone, Copy, Debug, PartialEq, Eq)]
+#[derive(Clone, Copy)]
 pub enum ScriptLine {
     /// `a`: allocates a block of so many bytes.
     Allocation { id: u64, size: u64 },
