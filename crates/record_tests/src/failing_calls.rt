@@ -2,7 +2,7 @@
 
 use crate::gates::Open;
 use crate::runs::{Run, Setting, append_run, sound};
-use hp_num::{put_bytes, put_dec};
+use hp_num::{NoMemory, put_bytes, put_dec};
 use std::alloc::Global;
 use std::process::Abort;
 use std::sync::Wait;
@@ -59,6 +59,15 @@ fn append_failing_run<R: Threads + Wait + Sync>(
     append_run(rt, alloc, &failing_at(run, place, call), &Open, all)
 }
 
+/// Appends which call failed, and what the run came to.
+fn put_failure(place: Place, call: u64, failed: &[u8], all: &mut Vec<u8>) -> Result<(), NoMemory> {
+    put_bytes(all, place.name())?;
+    put_bytes(all, b" ")?;
+    put_dec(all, call)?;
+    put_bytes(all, b"\n")?;
+    put_bytes(all, failed)
+}
+
 /// Fails one call after another at this place, up to the first run that comes to what the sound one comes to, and appends
 /// what each comes to.
 fn put_failures<R: Threads + Wait + Sync>(
@@ -76,13 +85,30 @@ fn put_failures<R: Threads + Wait + Sync>(
         if failed.as_slice() == whole.as_slice() {
             break;
         }
-        put_bytes(all, place.name())?;
-        put_bytes(all, b" ")?;
-        put_dec(all, call)?;
-        put_bytes(all, b"\n")?;
-        put_bytes(all, &failed)?;
+        put_failure(place, call, &failed, all)?;
     }
     Ok(())
+}
+
+/// Appends the words of a run, and what each failing call of it comes to.
+fn put_row<R: Threads + Wait + Sync>(
+    rt: &R,
+    alloc: Global,
+    file: &str,
+    words: &str,
+    all: &mut Vec<u8>,
+) -> Result<(), Fail> {
+    put_bytes(all, b"$ ")?;
+    put_bytes(all, words.as_bytes())?;
+    put_bytes(all, b"\n")?;
+    let run = Run {
+        setting: in_one_piece(),
+        script: file.as_bytes(),
+        words,
+    };
+    put_failures(rt, alloc, &run, Place::Store, all)?;
+    put_failures(rt, alloc, &run, Place::Out, all)?;
+    put_failures(rt, alloc, &run, Place::Err, all)
 }
 
 /// Plays the rows of a table, over a file `s`: behind `$ ` stand the words of a run, and below them what each failing call
@@ -96,16 +122,7 @@ fn played<R: Threads + Wait + Sync>(
     let mut all = Vec::new(alloc);
     for line in table.split('\n') {
         if let Some(words) = line.strip_prefix("$ ") {
-            put_bytes(&mut all, line.as_bytes())?;
-            put_bytes(&mut all, b"\n")?;
-            let run = Run {
-                setting: in_one_piece(),
-                script: file.as_bytes(),
-                words,
-            };
-            put_failures(rt, alloc, &run, Place::Store, &mut all)?;
-            put_failures(rt, alloc, &run, Place::Out, &mut all)?;
-            put_failures(rt, alloc, &run, Place::Err, &mut all)?;
+            put_row(rt, alloc, file, words, &mut all)?;
         }
     }
     Ok(all)

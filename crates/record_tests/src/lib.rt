@@ -3,11 +3,11 @@
 //!
 //! | File | What it has |
 //! |---|---|
-//! | `script_tests`, `book_tests` | lines of scripts, and the traces and summaries of small scripts |
-//! | `worker_tests` | that the workers take the turns, beside each other, in numbered holds |
-//! | `run_tests` | runs whose text is the same whatever the threads do |
+//! | `script_tests`, `book_tests` | scripts that say the same, and the traces and summaries of small scripts |
+//! | `worker_tests` | that the workers take all turns |
+//! | `run_tests` | runs whose text is the same whatever the threads do, and lines of scripts |
 //! | `check_tests` | runs that check a trace |
-//! | `thread_run_tests` | runs of two scripts by threads |
+//! | `thread_run_tests` | runs of two scripts by threads: that these go on beside each other, in numbered holds |
 //! | `failing_calls` | each call of a run that can fail, failed once |
 //! | `gates`, `runs`, `script_text` | what they share |
 #![tactic(auto)]

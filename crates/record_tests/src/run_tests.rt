@@ -2,12 +2,48 @@
 
 use crate::gates::Open;
 use crate::runs::{Run, append_run, sound};
-use hp_num::put_bytes;
+use hp_num::{NoMemory, put_bytes};
 use std::alloc::Global;
 use std::process::Abort;
 use std::sync::Wait;
 use std::test::Fail;
 use std::thread::Threads;
+
+/// Appends a line.
+fn put_line(line: &str, all: &mut Vec<u8>) -> Result<(), NoMemory> {
+    put_bytes(all, line.as_bytes())?;
+    put_bytes(all, b"\n")
+}
+
+/// Plays a line of a transcript, where the file `s` has these bytes so far.
+fn play_line<R: Threads + Wait + Sync>(
+    rt: &R,
+    alloc: Global,
+    most_events: u16,
+    line: &str,
+    script: &mut Vec<u8>,
+    all: &mut Vec<u8>,
+) -> Result<(), Fail> {
+    if let Some(more) = line.strip_prefix("> ") {
+        put_line(line, all)?;
+        put_line(more, script)?;
+    }
+    if let Some(last) = line.strip_prefix(">. ") {
+        put_line(line, all)?;
+        put_bytes(script, last.as_bytes())?;
+    }
+    if let Some(words) = line.strip_prefix("$ ") {
+        put_line(line, all)?;
+        let run = Run {
+            setting: sound(most_events),
+            script,
+            words,
+        };
+        append_run(rt, alloc, &run, &Open, all)?;
+        script.clear();
+    }
+    Ok(())
+}
 
 /// Plays the lines of a transcript and gives what then stands there. A line behind `> ` is one more of the file `s`, up to the
 /// next run, and one behind `>. ` has no line feed; the words behind `$ ` are run; all other lines are what a run wrote.
@@ -20,28 +56,7 @@ fn played<R: Threads + Wait + Sync>(
     let mut all = Vec::new(alloc);
     let mut script = Vec::new(alloc);
     for line in text.split('\n') {
-        if let Some(more) = line.strip_prefix("> ") {
-            put_bytes(&mut all, line.as_bytes())?;
-            put_bytes(&mut all, b"\n")?;
-            put_bytes(&mut script, more.as_bytes())?;
-            put_bytes(&mut script, b"\n")?;
-        }
-        if let Some(last) = line.strip_prefix(">. ") {
-            put_bytes(&mut all, line.as_bytes())?;
-            put_bytes(&mut all, b"\n")?;
-            put_bytes(&mut script, last.as_bytes())?;
-        }
-        if let Some(words) = line.strip_prefix("$ ") {
-            put_bytes(&mut all, line.as_bytes())?;
-            put_bytes(&mut all, b"\n")?;
-            let run = Run {
-                setting: sound(most_events),
-                script: &script,
-                words,
-            };
-            append_run(rt, alloc, &run, &Open, &mut all)?;
-            script.clear();
-        }
+        play_line(rt, alloc, most_events, line, &mut script, &mut all)?;
     }
     Ok(all)
 }
@@ -148,8 +163,87 @@ fn runs_of_one_script(rt: HostRuntime) -> Result<(), Fail> {
     expect(&rt, rt.alloc(), 100, RUNS)
 }
 
+// Lines of scripts and of modules files that are refused, and the greatest ID and size.
+const LINES: &str = "> a 1
+$ s
+heaprec: s:1: bad script line
+[1]
+> ax 1 8
+$ s
+heaprec: s:1: bad script line
+[1]
+> f 1 2
+$ s
+heaprec: s:1: bad script line
+[1]
+> f
+$ s
+heaprec: s:1: bad script line
+[1]
+> b 1
+$ s
+heaprec: s:1: bad script line
+[1]
+> a 1 100000001
+$ s
+heaprec: s:1: bad script line
+[1]
+> a 1 8 1 0
+$ s
+heaprec: s:1: bad script line
+[1]
+> a 1 8 x
+$ s
+heaprec: s:1: bad script line
+[1]
+> a  1 8
+> a 1 8
+$ s
+heaprec: s:2: block live
+[1]
+> 
+> # a 1
+> r 1 8
+$ s
+heaprec: s:3: block not live
+[1]
+> x app
+$ --modules=s s0
+heaprec: s:1: bad script line
+[1]
+> m app
+$ --modules=s s0
+heaprec: s:1: bad script line
+[1]
+> a fedcba9876543210 100000000 500 400
+> r fedcba9876543210 20 400
+> f fedcba9876543210
+$ s
+v 10500 2
+X heaprec
+# thread 0
+t 400 0
+t 500 1
++ 100000000 2 10000
+- 10000
++ 20 1 100010000
+- 100010000
+[0]
+";
+
+#[test]
+fn lines(rt: HostRuntime) -> Result<(), Fail> {
+    expect(&rt, rt.alloc(), 100, LINES)
+}
+
+// A reallocation is two events.
 const FEW_EVENTS: &str = "$ s0 s1
 heaprec: s1:1: too many events
+[6]
+> a 1 8
+> r 1 20
+$ s
+heaprec: s:2: too many events
 [6]
 ";
 

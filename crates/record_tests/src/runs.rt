@@ -1,5 +1,6 @@
 //! Runs over a folder in memory.
-ghost use Rattle.std.specs.Prelude.{◌≡◌, IfOk};
+ghost use Rattle.std.specs.Prelude.{◌≡◌, ℕ, List, IfOk, OnOk, None};
+ghost use Rattle.hp_outside.specs.Folder.{file_of};
 
 use hp_num::{NoMemory, put_bytes, put_dec};
 use hp_outside::{Limits, MemSink, MemStore};
@@ -56,16 +57,24 @@ pub struct Run<'a> {
     pub words: &'a str,
 }
 
+/// Adds the files of a run.
+fn add_files(store: &mut MemStore, run: &Run) -> Result<(), NoMemory>
+    requires none_held { (name : List ℕ) → file_of store.old.store.folder name ≡ None }
+    ensures opens { OnOk result (store.new.store.opens ≡ store.old.store.opens) }
+{
+    store.add("s", run.script)?;
+    store.add("s0", b"a 1 40 500 400\nf 1\n")?;
+    store.add("s1", b"a 1 8 400\n")?;
+    store.add("r", b"a 1 10 1\nr 1 20 1\nr 1 20 2\n")?;
+    store.add("m", MODULES.as_bytes())
+}
+
 /// The folder of a run.
 fn folder(alloc: Global, run: &Run) -> Result<MemStore, Fail>
     ensures unopened { IfOk result (λ store. store.store.opens ≡ 0) }
 {
     let mut store = MemStore::new(alloc, run.setting.piece.max(1));
-    store.add("s", run.script)?;
-    store.add("s0", b"a 1 40 500 400\nf 1\n")?;
-    store.add("s1", b"a 1 8 400\n")?;
-    store.add("r", b"a 1 10 1\nr 1 20 1\nr 1 20 2\n")?;
-    store.add("m", MODULES.as_bytes())?;
+    add_files(&mut store, run)?;
     store.fail_at(run.setting.failing_store_call)?;
     Ok(store)
 }
