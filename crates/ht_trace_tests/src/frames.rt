@@ -7,7 +7,6 @@ use hp_num::{NoMemory, put_bytes, put_dec};
 use ht_trace::{FrameAt, LineError, Style, Tables};
 use std::alloc::Global;
 use std::process::Abort;
-use std::test::Fail;
 
 /// What is shown of a frame.
 #[derive(Clone, Copy, Debug)]
@@ -35,18 +34,17 @@ fn put_shown(tables: &Tables, at: &FrameAt, shown: Shown, out: &mut Vec<u8>) -> 
     }
 }
 
-/// Appends the line of a stack, with a blank behind each frame.
+/// Appends the line of a stack, with a blank behind each frame. The buffer is for its frames.
 fn put_stack(
     rt: &impl Abort,
-    alloc: Global,
     tables: &Tables,
     stack: u32,
     shown: Shown,
+    frames: &mut Vec<FrameAt>,
     out: &mut Vec<u8>,
 ) -> Result<(), NoMemory> {
     assert!(rt; stack < tables.stacks());
-    let mut frames = Vec::new(alloc);
-    tables.frames_into(stack, &mut frames)?;
+    tables.frames_into(stack, frames)?;
     for at in frames.iter() {
         put_shown(tables, at, shown, out)?;
         put_bytes(out, b" ")?;
@@ -57,115 +55,25 @@ fn put_stack(
 /// Appends the lines of all stacks.
 fn put_stacks(
     rt: &impl Abort,
-    alloc: Global,
     tables: &Tables,
     shown: Shown,
+    frames: &mut Vec<FrameAt>,
     out: &mut Vec<u8>,
 ) -> Result<(), NoMemory> {
     for stack in 0..tables.stacks() {
-        put_stack(rt, alloc, tables, stack, shown, out)?;
+        put_stack(rt, tables, stack, shown, frames, out)?;
     }
-    Ok(())
-}
-
-/// Reads a trace, whose stacks show this text.
-fn shows_with(
-    rt: &impl Abort,
-    alloc: Global,
-    tables: &mut Tables,
-    trace: &[u8],
-    shown: Shown,
-    want: &[u8],
-) -> Result<(), Fail> {
-    read_lines(rt, tables, trace)?;
-    let mut out = Vec::new(alloc);
-    put_stacks(rt, alloc, tables, shown, &mut out)?;
-    assert_eq!(rt; out.as_slice(), want, "{shown:?}");
     Ok(())
 }
 
 /// The stacks of a trace show this text.
-fn shows(
-    rt: &impl Abort,
-    alloc: Global,
-    trace: &[u8],
-    shown: Shown,
-    want: &[u8],
-) -> Result<(), Fail> {
+fn shows(rt: &impl Abort, alloc: Global, trace: &[u8], shown: Shown, want: &[u8]) {
     let mut tables = Tables::new(alloc);
-    shows_with(rt, alloc, &mut tables, trace, shown, want)
-}
-
-/// Appends the innermost frame of a stack, the frames of its own instruction, and the stack that it is called from.
-fn put_node(
-    rt: &impl Abort,
-    alloc: Global,
-    tables: &Tables,
-    stack: u32,
-    out: &mut Vec<u8>,
-) -> Result<(), NoMemory> {
-    assert!(rt; stack < tables.stacks());
     let mut frames = Vec::new(alloc);
-    put_place(&tables.innermost_frame(stack), out)?;
-    let Some((instruction, caller)) = tables.node(stack) else {
-        return put_bytes(out, b"\n");
-    };
-    tables.instruction_frames_into(instruction, &mut frames)?;
-    put_bytes(out, b":")?;
-    for at in frames.iter() {
-        put_bytes(out, b" ")?;
-        put_place(at, out)?;
-    }
-    put_bytes(out, b" from ")?;
-    put_dec(out, u64::from(caller))?;
-    put_bytes(out, b"\n")
-}
-
-#[test]
-fn tells_nodes(rt: HostRuntime) -> Result<(), Fail> {
-    let trace = b"v 10500 2\ns m\ns f\ni 10 1 2 2 3 2 2 4\ni 20 1\nt 1 0\nt 2 1\nt 0 2\n";
-    let want = b"0.1\n1.0: 1.0 1.1 from 0\n2.0: 2.0 from 1\n0.0: 0.0 from 2\n";
-    let mut tables = Tables::new(rt.alloc());
-    let mut out = Vec::new(rt.alloc());
-    read_lines(&rt, &mut tables, trace)?;
-    assert_eq!(rt; tables.instructions(), 2);
-    for stack in 0..tables.stacks() {
-        put_node(&rt, rt.alloc(), &tables, stack, &mut out)?;
-    }
-    assert_eq!(rt; out.as_slice(), want.as_slice());
-    Ok(())
-}
-
-#[test]
-fn gives_frames(rt: HostRuntime) -> Result<(), Fail> {
-    shows(
-        &rt,
-        rt.alloc(),
-        WORKED,
-        Shown::Place,
-        b"0.1 \n1.0 \n2.0 1.0 \n",
-    )?;
-    shows(
-        &rt,
-        rt.alloc(),
-        WORKED,
-        Shown::Text(Style::Plain),
-        b"(no stack) \nmain (a.c:20) \nf (a.c:10) main (a.c:20) \n",
-    )?;
-    shows(
-        &rt,
-        rt.alloc(),
-        WORKED,
-        Shown::Text(Style::Addressed),
-        b"(no stack) \n0x400: main (a.c:20) \n0x500: f (a.c:10) 0x400: main (a.c:20) \n",
-    )?;
-    shows(
-        &rt,
-        rt.alloc(),
-        WORKED,
-        Shown::Function,
-        b"- \nmain \nf main \n",
-    )
+    let mut out = Vec::new(alloc);
+    read_lines(rt, &mut tables, trace).expect(rt, "a trace");
+    put_stacks(rt, &tables, shown, &mut frames, &mut out).expect(rt, "memory");
+    assert_eq!(rt; out.as_slice(), want);
 }
 
 /// A trace with inlined frames.
@@ -185,31 +93,6 @@ t 4 2
 t 0 4
 t 5 5";
 
-#[test]
-fn gives_inlined_frames(rt: HostRuntime) -> Result<(), Fail> {
-    shows(
-        &rt,
-        rt.alloc(),
-        INLINED,
-        Shown::Place,
-        b"0.1 \n1.0 \n2.0 1.0 \n3.0 \n4.0 4.1 2.0 1.0 \n0.0 4.0 4.1 2.0 1.0 \n5.0 5.1 5.2 0.0 4.0 4.1 2.0 1.0 \n",
-    )?;
-    shows(
-        &rt,
-        rt.alloc(),
-        INLINED,
-        Shown::Text(Style::Plain),
-        b"(no stack) \n0x10 in app \nmain in app 0x10 in app \nmain (a.c:5) \nmain in app main (a.c:6) main in app 0x10 in app \n?? main in app main (a.c:6) main in app 0x10 in app \nmain (a.c:7) main (a.c:8) main (a.c:9) ?? main in app main (a.c:6) main in app 0x10 in app \n",
-    )?;
-    shows(
-        &rt,
-        rt.alloc(),
-        INLINED,
-        Shown::Function,
-        b"- \n- \nmain - \nmain \nmain main main - \n- main main main - \nmain main main - main main main - \n",
-    )
-}
-
 /// A trace with frames without a function, with a file and without.
 const NO_FUNCTIONS: &[u8] = b"v 10500 2
 s a.c
@@ -220,82 +103,137 @@ t 1 0
 t 2 1
 t 3 0";
 
-#[test]
-fn gives_frames_without_functions(rt: HostRuntime) -> Result<(), Fail> {
-    shows(
-        &rt,
-        rt.alloc(),
+/// Traces, what is shown of their frames, and how.
+static SHOWN: [(&[u8], Shown, &[u8]); 10] = [
+    (WORKED, Shown::Place, b"0.1 \n1.0 \n2.0 1.0 \n"),
+    (
+        WORKED,
+        Shown::Text(Style::Plain),
+        b"(no stack) \nmain (a.c:20) \nf (a.c:10) main (a.c:20) \n",
+    ),
+    (
+        WORKED,
+        Shown::Text(Style::Addressed),
+        b"(no stack) \n0x400: main (a.c:20) \n0x500: f (a.c:10) 0x400: main (a.c:20) \n",
+    ),
+    (WORKED, Shown::Function, b"- \nmain \nf main \n"),
+    (
+        INLINED,
+        Shown::Place,
+        b"0.1 \n1.0 \n2.0 1.0 \n3.0 \n4.0 4.1 2.0 1.0 \n0.0 4.0 4.1 2.0 1.0 \n5.0 5.1 5.2 0.0 4.0 4.1 2.0 1.0 \n",
+    ),
+    (
+        INLINED,
+        Shown::Text(Style::Plain),
+        b"(no stack) \n0x10 in app \nmain in app 0x10 in app \nmain (a.c:5) \nmain in app main (a.c:6) main in app 0x10 in app \n?? main in app main (a.c:6) main in app 0x10 in app \nmain (a.c:7) main (a.c:8) main (a.c:9) ?? main in app main (a.c:6) main in app 0x10 in app \n",
+    ),
+    (
+        INLINED,
+        Shown::Function,
+        b"- \n- \nmain - \nmain \nmain main main - \n- main main main - \nmain main main - main main main - \n",
+    ),
+    (
         NO_FUNCTIONS,
         Shown::Text(Style::Plain),
         b"(no stack) \n0x1f \n0x2a (a.c:6) 0x1f \n0x3b in a.c \n",
-    )?;
-    shows(
-        &rt,
-        rt.alloc(),
+    ),
+    (
         NO_FUNCTIONS,
         Shown::Text(Style::Addressed),
         b"(no stack) \n0x1f: ??? \n0x2a: ??? (a.c:6) 0x1f: ??? \n0x3b: ??? (in a.c) \n",
-    )?;
-    shows(
-        &rt,
-        rt.alloc(),
-        NO_FUNCTIONS,
-        Shown::Function,
-        b"- \n- \n- - \n- \n",
-    )
-}
+    ),
+    (NO_FUNCTIONS, Shown::Function, b"- \n- \n- - \n- \n"),
+];
 
-/// Takes the lines of a text as suppressions.
-fn suppresses(rt: &impl Abort, tables: &mut Tables, text: &[u8]) {
-    for line in text.split(|byte| *byte == b'\n') {
-        assert_eq!(rt; tables.suppress(line), Ok(()), "at {line:?}");
+#[test]
+fn gives_frames(rt: HostRuntime) {
+    for (trace, shown, want) in &SHOWN {
+        shows(&rt, rt.alloc(), trace, *shown, want);
     }
 }
 
-/// Appends the patterns by their numbers, each with a line feed.
-fn put_patterns(tables: &Tables, out: &mut Vec<u8>) -> Result<(), NoMemory> {
-    for n in 0..tables.suppressions() {
-        put_bytes(out, tables.suppression(n + 1).unwrap_or(b"none"))?;
-        put_bytes(out, b"\n")?;
+/// Appends the innermost frame of a stack, the frames of its own instruction, and the stack that it is called from. The buffer is
+/// for its frames.
+fn put_node(
+    rt: &impl Abort,
+    tables: &Tables,
+    stack: u32,
+    frames: &mut Vec<FrameAt>,
+    out: &mut Vec<u8>,
+) -> Result<(), NoMemory> {
+    assert!(rt; stack < tables.stacks());
+    put_place(&tables.innermost_frame(stack), out)?;
+    let Some((instruction, caller)) = tables.node(stack) else {
+        return put_bytes(out, b"\n");
+    };
+    tables.instruction_frames_into(instruction, frames)?;
+    put_bytes(out, b":")?;
+    for at in frames.iter() {
+        put_bytes(out, b" ")?;
+        put_place(at, out)?;
+    }
+    put_bytes(out, b" from ")?;
+    put_dec(out, u64::from(caller))?;
+    put_bytes(out, b"\n")
+}
+
+/// Appends the nodes of all stacks, and how many instructions there are.
+fn put_nodes(
+    rt: &impl Abort,
+    tables: &Tables,
+    frames: &mut Vec<FrameAt>,
+    out: &mut Vec<u8>,
+) -> Result<(), NoMemory> {
+    for stack in 0..tables.stacks() {
+        put_node(rt, tables, stack, frames, out)?;
+    }
+    put_dec(out, u64::from(tables.instructions()))
+}
+
+#[test]
+fn tells_nodes(rt: HostRuntime) {
+    let trace = b"v 10500 2\ns m\ns f\ni 10 1 2 2 3 2 2 4\ni 20 1\nt 1 0\nt 2 1\nt 0 2";
+    let want = b"0.1\n1.0: 1.0 1.1 from 0\n2.0: 2.0 from 1\n0.0: 0.0 from 2\n2";
+    let mut tables = Tables::new(rt.alloc());
+    let mut frames = Vec::new(rt.alloc());
+    let mut out = Vec::new(rt.alloc());
+    read_lines(&rt, &mut tables, trace).expect(&rt, "a trace");
+    put_nodes(&rt, &tables, &mut frames, &mut out).expect(&rt, "memory");
+    assert_eq!(rt; out.as_slice(), want.as_slice());
+}
+
+/// Takes the lines of a text as suppressions.
+fn suppress_lines(tables: &mut Tables, text: &[u8]) -> Result<(), LineError> {
+    for line in text.split(|byte| *byte == b'\n') {
+        tables.suppress(line)?;
     }
     Ok(())
 }
 
 /// Adds patterns by texts, by the lines of a trace, and by a text again.
-fn add_patterns(rt: &impl Abort, tables: &mut Tables) -> Result<(), LineError> {
-    suppresses(
-        rt,
-        tables,
-        b"leak:main (\n\n# leak:f\nleak:\nleak:#x\nleak\n leak:f",
-    );
-    read_lines(rt, tables, b"v 10500 3\nS leak:f (\nS 4 main\nS\nS # f")?;
-    suppresses(rt, tables, b"g");
-    Ok(())
+fn add_patterns(rt: &impl Abort, tables: &mut Tables) {
+    let first = b"leak:main (\n\n# leak:f\nleak:\nleak:#x\nleak\n leak:f";
+    suppress_lines(tables, first).expect(rt, "patterns");
+    read_lines(rt, tables, b"v 10500 3\nS leak:f (\nS 4 main\nS\nS # f").expect(rt, "a trace");
+    suppress_lines(tables, b"g").expect(rt, "patterns");
 }
 
-/// The patterns that are added are this text, and there are no others.
-fn keeps_patterns(
-    rt: &impl Abort,
-    alloc: Global,
-    tables: &mut Tables,
-    want: &[u8],
-) -> Result<(), Fail> {
-    add_patterns(rt, tables)?;
-    let mut out = Vec::new(alloc);
-    put_patterns(tables, &mut out)?;
-    assert_eq!(rt; out.as_slice(), want);
-    assert_eq!(rt; tables.suppression(0), None);
+/// Appends the patterns by their numbers from 0, which none has, each with a line feed.
+fn put_patterns(tables: &Tables, out: &mut Vec<u8>) -> Result<(), NoMemory> {
+    for n in 0..=tables.suppressions() {
+        put_bytes(out, tables.suppression(n).unwrap_or(b"none"))?;
+        put_bytes(out, b"\n")?;
+    }
     Ok(())
 }
 
 // The patterns of texts and of lines in the order of the calls.
 #[test]
-fn keeps_suppressions(rt: HostRuntime) -> Result<(), Fail> {
+fn keeps_suppressions(rt: HostRuntime) {
     let mut tables = Tables::new(rt.alloc());
-    keeps_patterns(
-        &rt,
-        rt.alloc(),
-        &mut tables,
-        b"main (\n#x\nleak\n leak:f\nf (\nmain\ng\n",
-    )
+    let mut out = Vec::new(rt.alloc());
+    add_patterns(&rt, &mut tables);
+    put_patterns(&tables, &mut out).expect(&rt, "memory");
+    let want = b"none\nmain (\n#x\nleak\n leak:f\nf (\nmain\ng\n";
+    assert_eq!(rt; out.as_slice(), want.as_slice());
 }

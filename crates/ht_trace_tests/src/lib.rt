@@ -1,7 +1,9 @@
-//! Tests of the calls of `intern_tables`, `stack_table` and `ht_trace`. They stand in a crate of their own, so that the
-//! tables are proved once.
+//! Tests of the calls of `intern_tables`, `stack_table`, `live_ledger`, `peak_costs` and `ht_trace`. They stand in a crate of
+//! their own, so that these are proved once.
 #![tactic(auto)]
 
+#[cfg(test)]
+mod figures;
 #[cfg(test)]
 mod frames;
 #[cfg(test)]

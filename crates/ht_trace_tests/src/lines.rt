@@ -1,11 +1,10 @@
 //! Worked traces line by line. A trace is one text, and what its lines answer is another with a line for each.
 
-use hp_num::{put_bytes, put_hex};
+use hp_num::{NoMemory, put_bytes, put_hex};
 use ht_trace::{LineError, Step, Tables};
 use std::alloc::Global;
 use std::io::{self, Write};
 use std::process::Abort;
-use std::test::Fail;
 
 /// A trace of two nested calls, of which each allocates 100 bytes.
 pub const WORKED: &[u8] = b"v 10500 2
@@ -69,75 +68,21 @@ fn put_tables(tables: &Tables, out: &mut Vec<u8>) -> io::Result<()> {
     writeln!(out)
 }
 
-/// The lines of a text have these answers, and the tables are the last line.
-fn answers_with(
-    rt: &impl Abort,
-    alloc: Global,
-    tables: &mut Tables,
-    text: &[u8],
-    want: &[u8],
-) -> Result<(), Fail> {
-    let mut out = Vec::new(alloc);
-    put_answers(rt, tables, text, &mut out)?;
-    put_tables(tables, &mut out)?;
-    assert_eq!(rt; out.as_slice(), want);
-    Ok(())
-}
-
-/// The lines of a trace have these answers, and its tables are the last line.
-fn answers(rt: &impl Abort, alloc: Global, text: &[u8], want: &[u8]) -> Result<(), Fail> {
-    let mut tables = Tables::new(alloc);
-    answers_with(rt, alloc, &mut tables, text, want)
-}
-
-/// Adds a chain of nodes of instruction 1 to tables without nodes.
-fn add_chain(rt: &impl Abort, alloc: Global, tables: &mut Tables, nodes: u32) -> Result<(), Fail> {
-    let mut line = Vec::new(alloc);
-    for parent in 0..nodes {
-        line.clear();
-        put_bytes(&mut line, b"t 1 ")?;
-        put_hex(&mut line, u64::from(parent))?;
-        assert_eq!(rt; read(rt, tables, &line), Ok(Step::Stack), "below {parent}");
-    }
-    Ok(())
-}
-
-/// A trace's first lines, none of which is refused, and how many nodes of a chain follow them.
-#[derive(Clone, Copy)]
-struct Front {
-    lines: &'static [u8],
+/// The first lines of a trace, none of which is refused, how many nodes of a chain follow them, and the answers to the lines that
+/// come then, with the tables as the last line.
+struct Case {
+    front: &'static [u8],
     nodes: u32,
+    lines: &'static [u8],
+    answers: &'static [u8],
 }
 
-/// Reads a front, behind which the lines of a text have these answers.
-fn answers_behind_with(
-    rt: &impl Abort,
-    alloc: Global,
-    tables: &mut Tables,
-    front: Front,
-    text: &[u8],
-    want: &[u8],
-) -> Result<(), Fail> {
-    read_lines(rt, tables, front.lines)?;
-    add_chain(rt, alloc, tables, front.nodes)?;
-    answers_with(rt, alloc, tables, text, want)
-}
-
-/// Behind a front the lines of a text have these answers, and the tables are the last line.
-fn answers_behind(
-    rt: &impl Abort,
-    alloc: Global,
-    front: Front,
-    text: &[u8],
-    want: &[u8],
-) -> Result<(), Fail> {
-    let mut tables = Tables::new(alloc);
-    answers_behind_with(rt, alloc, &mut tables, front, text, want)
-}
-
-#[test]
-fn fills_the_tables(rt: HostRuntime) -> Result<(), Fail> {
-    let want = b"Ok(Nothing)
+static CASES: [Case; 8] = [
+    Case {
+        front: b"#",
+        nodes: 0,
+        lines: WORKED,
+        answers: b"Ok(Nothing)
 Ok(Nothing)
 Ok(Nothing)
 Ok(Nothing)
@@ -156,13 +101,12 @@ Ok(Nothing)
 Ok(Event { event: Free { info: 0, stack: 2, size: 100 } })
 Ok(Event { event: Alloc { info: 1, stack: 1, size: 100 } })
 end Ok(()), stacks 3, command demo, Some((100, 2)), Some((100, 1)), None
-";
-    answers(&rt, rt.alloc(), WORKED, want)
-}
-
-#[test]
-fn refuses_lines(rt: HostRuntime) -> Result<(), Fail> {
-    let lines = b"v 10500 2
+",
+    },
+    Case {
+        front: WORKED,
+        nodes: 0,
+        lines: b"v 10500 2
 v 10500 4
 i 1 5
 i 1 4 5
@@ -181,8 +125,8 @@ a 1 3
 +0
 z what
 
-X other";
-    let want = b"Err(SecondVersion)
+X other",
+        answers: b"Err(SecondVersion)
 Err(BadVersion)
 Err(UnknownString)
 Err(UnknownString)
@@ -203,30 +147,22 @@ Ok(Nothing)
 Ok(Nothing)
 Ok(Nothing)
 end Ok(()), stacks 3, command demo, Some((100, 2)), Some((100, 1)), None
-";
-    let front = Front {
-        lines: WORKED,
+",
+    },
+    // Only a comment is taken before the version line.
+    Case {
+        front: b"#",
         nodes: 0,
-    };
-    answers_behind(&rt, rt.alloc(), front, lines, want)
-}
-
-// Only a comment is taken before the version line.
-#[test]
-fn wants_a_version_line(rt: HostRuntime) -> Result<(), Fail> {
-    answers(
-        &rt,
-        rt.alloc(),
-        b"# made by hand",
-        b"Ok(Nothing)
+        lines: b"# made by hand",
+        answers: b"Ok(Nothing)
 end Err(NoVersion), stacks 1, command -, None, None, None
 ",
-    )?;
-    answers(
-        &rt,
-        rt.alloc(),
-        b"# made by hand\ns main\n+0\n\nz\nv 1 9\nvx",
-        b"Ok(Nothing)
+    },
+    Case {
+        front: b"#",
+        nodes: 0,
+        lines: b"# made by hand\ns main\n+0\n\nz\nv 1 9\nvx",
+        answers: b"Ok(Nothing)
 Err(NoVersion)
 Err(NoVersion)
 Err(NoVersion)
@@ -235,12 +171,12 @@ Err(BadVersion)
 Err(BadField)
 end Err(NoVersion), stacks 1, command -, None, None, None
 ",
-    )?;
-    answers(
-        &rt,
-        rt.alloc(),
-        b"# made by hand\ns main\n+0\n\nz\nv 1 9\nvx\nv 10500",
-        b"Ok(Nothing)
+    },
+    Case {
+        front: b"#",
+        nodes: 0,
+        lines: b"# made by hand\ns main\n+0\n\nz\nv 1 9\nvx\nv 10500",
+        answers: b"Ok(Nothing)
 Err(NoVersion)
 Err(NoVersion)
 Err(NoVersion)
@@ -250,20 +186,19 @@ Err(BadField)
 Ok(Nothing)
 end Ok(()), stacks 1, command -, None, None, None
 ",
-    )
-}
-
-// A string that comes twice has two numbers, and a module that is named by its size is read in version 3.
-#[test]
-fn numbers_strings(rt: HostRuntime) -> Result<(), Fail> {
-    let lines = b"v 10500 3
+    },
+    // A string that comes twice has two numbers, and a module that is named by its size is read in version 3.
+    Case {
+        front: b"#",
+        nodes: 0,
+        lines: b"v 10500 3
 s 4 main
 s main
 m 1 -
 i 1 2 2
 i 1 3
-i 1 0 0 0 ffffffffffffffff";
-    let want = b"Ok(Nothing)
+i 1 0 0 0 ffffffffffffffff",
+        answers: b"Ok(Nothing)
 Ok(Nothing)
 Ok(Nothing)
 Ok(Nothing)
@@ -271,42 +206,68 @@ Ok(Nothing)
 Err(UnknownString)
 Ok(Nothing)
 end Ok(()), stacks 1, command -, None, None, None
-";
-    answers(&rt, rt.alloc(), lines, want)
-}
-
-// A chain of 4,096 nodes is taken, and nothing below it.
-#[test]
-fn refuses_a_stack_too_deep(rt: HostRuntime) -> Result<(), Fail> {
-    let want = b"Err(TooDeep)
+",
+    },
+    // A chain of 4,096 nodes is taken, and nothing below it.
+    Case {
+        front: b"v 10500 2\ni 10 0",
+        nodes: 4096,
+        lines: b"t 1 1000\nt 1 fff",
+        answers: b"Err(TooDeep)
 Ok(Stack)
 end Ok(()), stacks 4098, command -, None, None, None
-";
-    let front = Front {
-        lines: b"v 10500 2\ni 10 0",
-        nodes: 4096,
-    };
-    answers_behind(&rt, rt.alloc(), front, b"t 1 1000\nt 1 fff", want)
-}
-
-// Inlined frames count: a chain of 2,048 nodes of two frames each has 4,096.
-#[test]
-fn counts_inlined_frames(rt: HostRuntime) -> Result<(), Fail> {
-    let want = b"Err(TooDeep)
+",
+    },
+    // Inlined frames count: a chain of 2,048 nodes of two frames each has 4,096.
+    Case {
+        front: b"v 10500 2\ns main\ni 10 0 1 1 0 6\ni 20 0",
+        nodes: 2048,
+        lines: b"t 2 800\nt 2 7ff\nt 1 801\nt 2 801",
+        answers: b"Err(TooDeep)
 Ok(Stack)
 Err(TooDeep)
 Ok(Stack)
 end Ok(()), stacks 2051, command -, None, None, None
-";
-    let front = Front {
-        lines: b"v 10500 2\ns main\ni 10 0 1 1 0 6\ni 20 0",
-        nodes: 2048,
-    };
-    answers_behind(
-        &rt,
-        rt.alloc(),
-        front,
-        b"t 2 800\nt 2 7ff\nt 1 801\nt 2 801",
-        want,
-    )
+",
+    },
+];
+
+/// The line of a node of instruction 1.
+fn put_node(line: &mut Vec<u8>, parent: u32) -> Result<(), NoMemory> {
+    line.clear();
+    put_bytes(line, b"t 1 ")?;
+    put_hex(line, u64::from(parent))
+}
+
+/// Adds a chain of nodes to tables without nodes, by lines that are written into a buffer.
+fn add_chain(
+    rt: &impl Abort,
+    tables: &mut Tables,
+    nodes: u32,
+    line: &mut Vec<u8>,
+) -> Result<(), LineError> {
+    for parent in 0..nodes {
+        put_node(line, parent).expect(rt, "a line");
+        read(rt, tables, line)?;
+    }
+    line.clear();
+    Ok(())
+}
+
+/// The lines of a trace have the answers of the case.
+fn answers(rt: &impl Abort, alloc: Global, case: &Case) {
+    let mut tables = Tables::new(alloc);
+    let mut out = Vec::new(alloc);
+    read_lines(rt, &mut tables, case.front).expect(rt, "a front");
+    add_chain(rt, &mut tables, case.nodes, &mut out).expect(rt, "a chain");
+    put_answers(rt, &mut tables, case.lines, &mut out).expect(rt, "answers");
+    put_tables(&tables, &mut out).expect(rt, "tables");
+    assert_eq!(rt; out.as_slice(), case.answers);
+}
+
+#[test]
+fn answers_to_lines(rt: HostRuntime) {
+    for case in &CASES {
+        answers(&rt, rt.alloc(), case);
+    }
 }

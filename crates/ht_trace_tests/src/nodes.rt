@@ -1,183 +1,248 @@
-//! Worked nodes, and each call that allocates once with ample memory.
+//! Nodes and stacks: calls in a row, with one text for what they answer.
 
+use hp_num::{NoMemory, put_bytes, put_dec, put_hex};
 use stack_table::{NodeFault, Nodes};
+use std::alloc::Global;
 use std::process::Abort;
-use std::test::Fail;
 
-fn adds(
-    rt: &impl Abort,
+/// One call of nodes.
+#[derive(Clone, Copy)]
+enum Call {
+    /// Adds a node of instruction 0x400 with so many frames, below a parent.
+    Add(u64, u32),
+    /// Adds a chain of so many nodes of one frame each.
+    Chain(u64),
+    /// Adds an instruction below a parent, with two frames.
+    Push(u64, u64),
+    /// Interns an instruction below a parent, with one frame.
+    Intern(u64, u64),
+    /// Interns a stack.
+    Stack(&'static [u64]),
+    /// Interns a stack of so many instructions, all alike.
+    Deep(usize),
+    /// Keeps the first nodes.
+    Cut(u32),
+    /// How many nodes there are.
+    Len,
+    /// The node of a number.
+    Node(u32),
+    /// The instructions of a stack.
+    Ips(u32),
+}
+
+/// Calls in a row, and what they answer.
+struct Case {
+    calls: &'static [Call],
+    answers: &'static [u8],
+}
+
+static CASES: [Case; 6] = [
+    // Two stacks of three nodes that share the outermost one, and whose nodes were added in turns.
+    Case {
+        calls: &[
+            Call::Push(0x100, 0),
+            Call::Push(0x200, 1),
+            Call::Push(0x250, 1),
+            Call::Push(0x350, 3),
+            Call::Push(0x300, 2),
+            Call::Node(0),
+            Call::Node(1),
+            Call::Node(5),
+            Call::Node(6),
+            Call::Ips(5),
+            Call::Ips(4),
+            Call::Ips(3),
+            Call::Ips(1),
+            Call::Ips(0),
+        ],
+        answers: b"1, 2, 3, 4, 5, none, 100 below 0, 300 below 2, none, \
+            300 200 100 , 350 250 100 , 250 100 , 100 , , ",
+    },
+    // Frames are summed through the parents, with no wrap, and at the limit a node of no frames is still taken.
+    Case {
+        calls: &[
+            Call::Add(1, 1),
+            Call::Add(u64::MAX, 5000),
+            Call::Add(0, 4000),
+            Call::Add(1, 97),
+            Call::Add(1, 96),
+            Call::Add(2, 1),
+            Call::Add(2, 0),
+            Call::Add(3, 1),
+            Call::Add(0, u32::MAX),
+            Call::Add(3, u32::MAX),
+            Call::Add(1 << 32, 1),
+            Call::Add((1 << 32) + 1, 1),
+            Call::Add(4, 1),
+            Call::Add(0, 4096),
+            Call::Len,
+        ],
+        answers: b"unknown, unknown, 1, deep, 2, deep, 3, deep, deep, deep, \
+            unknown, unknown, unknown, 4, 4, ",
+    },
+    // 4,096 nodes of one frame each are taken, and nothing below them.
+    Case {
+        calls: &[
+            Call::Chain(4096),
+            Call::Add(4096, 1),
+            Call::Add(4095, 1),
+            Call::Add(0, 4097),
+            Call::Add(0, 4096),
+        ],
+        answers: b"chain, deep, 4097, deep, 4098, ",
+    },
+    // The stacks of a recorder that holds two blocks, one called through the other's stack; then the last node goes, and
+    // the numbers that were given up are given again.
+    Case {
+        calls: &[
+            Call::Stack(&[0x500, 0x400]),
+            Call::Stack(&[0x400]),
+            Call::Stack(&[]),
+            Call::Stack(&[0x500, 0x500, 0x400]),
+            Call::Len,
+            Call::Cut(1),
+            Call::Stack(&[0x600, 0x400]),
+            Call::Stack(&[0x500, 0x400]),
+            Call::Stack(&[0x600, 0x400]),
+            Call::Stack(&[0x400]),
+        ],
+        answers: b"2, 1, 0, 3, 3, cut, 2, 3, 2, 1, ",
+    },
+    // Of nodes that were added alike the least answers, and a new one is looked for among all.
+    Case {
+        calls: &[
+            Call::Push(0x100, 0),
+            Call::Push(0x200, 1),
+            Call::Push(0x100, 0),
+            Call::Push(0x200, 3),
+            Call::Intern(0x100, 0),
+            Call::Intern(0x200, 1),
+            Call::Intern(0x200, 3),
+            Call::Intern(0x200, 0),
+            Call::Intern(0x200, 0),
+            Call::Intern(0x100, 6),
+            Call::Intern((1 << 32) + 0x100, 0),
+            Call::Intern(0x100, 1 << 32),
+        ],
+        answers: b"1, 2, 3, 4, 1, 2, 4, 5, 5, unknown, 6, unknown, ",
+    },
+    // A stack of 4,096 is taken, and one more is refused and leaves no node.
+    Case {
+        calls: &[
+            Call::Deep(4097),
+            Call::Len,
+            Call::Deep(4096),
+            Call::Deep(4097),
+            Call::Len,
+        ],
+        answers: b"deep, 0, 4096, deep, 4096, ",
+    },
+];
+
+/// Appends the number of a node, or why there is none.
+fn put_number(out: &mut Vec<u8>, answer: Result<u32, NodeFault>) -> Result<(), NoMemory> {
+    match answer {
+        Ok(number) => put_dec(out, u64::from(number)),
+        Err(NodeFault::UnknownParent) => put_bytes(out, b"unknown"),
+        Err(NodeFault::TooDeep) => put_bytes(out, b"deep"),
+        Err(_) => put_bytes(out, b"full"),
+    }
+}
+
+/// Adds a chain of nodes of one frame each.
+fn put_chain(out: &mut Vec<u8>, nodes: &mut Nodes, len: u64) -> Result<(), NoMemory> {
+    for parent in 0..len {
+        if nodes.add(0x400, parent, 1).is_err() {
+            return put_bytes(out, b"refused");
+        }
+    }
+    put_bytes(out, b"chain")
+}
+
+/// Appends a node, if there is one.
+fn put_node(out: &mut Vec<u8>, node: Option<(u64, u32)>) -> Result<(), NoMemory> {
+    let Some((ip, parent)) = node else {
+        return put_bytes(out, b"none");
+    };
+    put_hex(out, ip)?;
+    put_bytes(out, b" below ")?;
+    put_dec(out, u64::from(parent))
+}
+
+/// Appends the instructions of a stack that is held, each with a blank behind it. The buffer holds what it held.
+fn put_ips(
+    out: &mut Vec<u8>,
+    nodes: &Nodes,
+    n: u32,
+    buffer: &mut Vec<u64>,
+) -> Result<(), NoMemory> {
+    nodes.stack_into(n.min(nodes.len()), buffer)?;
+    for ip in buffer.iter() {
+        put_hex(out, *ip)?;
+        put_bytes(out, b" ")?;
+    }
+    Ok(())
+}
+
+/// Keeps the first nodes, if there are so many.
+fn put_cut(out: &mut Vec<u8>, nodes: &mut Nodes, len: u32) -> Result<(), NoMemory> {
+    nodes.cut(len.min(nodes.len()));
+    put_bytes(out, b"cut")
+}
+
+/// Interns a stack of so many instructions, all alike.
+fn intern_deep(nodes: &mut Nodes, len: usize) -> Result<u32, NodeFault> {
+    let ips = [0x400; 4097];
+    nodes.intern_stack(&ips[..len.min(4097)])
+}
+
+/// Appends what one call answers.
+fn put_call(
+    out: &mut Vec<u8>,
     nodes: &mut Nodes,
-    parent: u64,
-    frames: u32,
-    answer: Result<u32, NodeFault>,
-) {
-    assert_eq!(rt;
-        nodes.add(0x400, parent, frames),
-        answer,
-        "at parent {parent} and {frames} frames"
-    );
+    call: Call,
+    buffer: &mut Vec<u64>,
+) -> Result<(), NoMemory> {
+    match call {
+        Call::Add(parent, frames) => put_number(out, nodes.add(0x400, parent, frames)),
+        Call::Chain(len) => put_chain(out, nodes, len),
+        Call::Push(ip, parent) => put_number(out, nodes.add(ip, parent, 2)),
+        Call::Intern(ip, parent) => put_number(out, nodes.intern(ip, parent, 1)),
+        Call::Stack(ips) => put_number(out, nodes.intern_stack(ips)),
+        Call::Deep(len) => put_number(out, intern_deep(nodes, len)),
+        Call::Cut(len) => put_cut(out, nodes, len),
+        Call::Len => put_dec(out, u64::from(nodes.len())),
+        Call::Node(n) => put_node(out, nodes.node(n)),
+        Call::Ips(n) => put_ips(out, nodes, n, buffer),
+    }
 }
 
-fn interns(
-    rt: &impl Abort,
+/// Appends what calls in a row answer.
+fn put_calls(
+    out: &mut Vec<u8>,
     nodes: &mut Nodes,
-    ip: u64,
-    parent: u64,
-    answer: Result<u32, NodeFault>,
-) {
-    assert_eq!(rt;
-        nodes.intern(ip, parent, 1),
-        answer,
-        "{ip} called from {parent}"
-    );
-}
-
-fn interns_stack(rt: &impl Abort, nodes: &mut Nodes, ips: &[u64], answer: Result<u32, NodeFault>) {
-    assert_eq!(rt; nodes.intern_stack(ips), answer, "{ips:?}");
-}
-
-fn has_stack(rt: &impl Abort, nodes: &Nodes, n: u32, ips: &[u64], out: &mut Vec<u64>) {
-    assert!(rt; n <= nodes.len(), "stack {n} is held");
-    assert!(rt; nodes.stack_into(n, out).is_ok());
-    assert_eq!(rt; out.as_slice(), ips, "stack {n}");
-}
-
-fn has_node(rt: &impl Abort, nodes: &Nodes, n: u32, answer: Option<(u64, u32)>) {
-    assert_eq!(rt; nodes.node(n), answer, "node {n}");
-}
-
-// Two stacks of three nodes that share the outermost one, and whose nodes were added in turns.
-#[test]
-fn branched_stacks(rt: HostRuntime) -> Result<(), Fail> {
-    let mut nodes = Nodes::new(rt.alloc());
-    for (ip, parent) in [(0x100, 0), (0x200, 1), (0x250, 1), (0x350, 3), (0x300, 2)] {
-        nodes.add(ip, parent, 2)?;
-    }
-    for (n, answer) in [
-        (0, None),
-        (1, Some((0x100, 0))),
-        (5, Some((0x300, 2))),
-        (6, None),
-    ] {
-        has_node(&rt, &nodes, n, answer);
-    }
-    let mut ips = [7, 8, 9, 10].to_vec(rt.alloc())?;
-    let stacks: [(u32, &[u64]); 5] = [
-        (5, &[0x300, 0x200, 0x100]),
-        (4, &[0x350, 0x250, 0x100]),
-        (3, &[0x250, 0x100]),
-        (1, &[0x100]),
-        (0, &[]),
-    ];
-    for (n, stack) in stacks {
-        has_stack(&rt, &nodes, n, stack, &mut ips);
+    calls: &[Call],
+    buffer: &mut Vec<u64>,
+) -> Result<(), NoMemory> {
+    for call in calls {
+        put_call(out, nodes, *call, buffer)?;
+        put_bytes(out, b", ")?;
     }
     Ok(())
 }
 
-// Frames are summed through the parents, with no wrap, and at the limit a node of no frames is still taken.
-#[test]
-fn frames_through_parents(rt: HostRuntime) {
-    let mut nodes = Nodes::new(rt.alloc());
-    let tries = [
-        (1, 1, Err(NodeFault::UnknownParent)),
-        (u64::MAX, 5000, Err(NodeFault::UnknownParent)),
-        (0, 4000, Ok(1)),
-        (1, 97, Err(NodeFault::TooDeep)),
-        (1, 96, Ok(2)),
-        (2, 1, Err(NodeFault::TooDeep)),
-        (2, 0, Ok(3)),
-        (3, 1, Err(NodeFault::TooDeep)),
-        (0, u32::MAX, Err(NodeFault::TooDeep)),
-        (3, u32::MAX, Err(NodeFault::TooDeep)),
-        (1u64 << 32, 1, Err(NodeFault::UnknownParent)),
-        ((1u64 << 32) + 1, 1, Err(NodeFault::UnknownParent)),
-        (4, 1, Err(NodeFault::UnknownParent)),
-        (0, 4096, Ok(4)),
-    ];
-    for (parent, frames, answer) in tries {
-        adds(&rt, &mut nodes, parent, frames, answer);
-    }
-    assert_eq!(rt; nodes.len(), 4);
+/// Calls of new nodes have the answers of the case.
+fn answers(rt: &impl Abort, alloc: Global, case: &Case) {
+    let mut nodes = Nodes::new(alloc);
+    let mut out = Vec::new(alloc);
+    let mut buffer = Vec::new(alloc);
+    put_calls(&mut out, &mut nodes, case.calls, &mut buffer).expect(rt, "memory");
+    assert_eq!(rt; out.as_slice(), case.answers);
 }
 
-// 4,096 nodes of one frame each are taken, and nothing below them.
 #[test]
-fn deepest_stack(rt: HostRuntime) -> Result<(), Fail> {
-    let mut nodes = Nodes::new(rt.alloc());
-    for parent in 0..4096u64 {
-        nodes.add(0x400, parent, 1)?;
+fn worked_nodes(rt: HostRuntime) {
+    for case in &CASES {
+        answers(&rt, rt.alloc(), case);
     }
-    let tries = [
-        (4096, 1, Err(NodeFault::TooDeep)),
-        (4095, 1, Ok(4097)),
-        (0, 4097, Err(NodeFault::TooDeep)),
-        (0, 4096, Ok(4098)),
-    ];
-    for (parent, frames, answer) in tries {
-        adds(&rt, &mut nodes, parent, frames, answer);
-    }
-    Ok(())
-}
-
-// The stacks of a recorder that holds two blocks, one called through the other's stack; then the last node goes, and
-// the numbers that were given up are given again.
-#[test]
-fn interned_stacks(rt: HostRuntime) {
-    let mut nodes = Nodes::new(rt.alloc());
-    let stacks: [(&[u64], u32); 4] = [
-        (&[0x500, 0x400], 2),
-        (&[0x400], 1),
-        (&[], 0),
-        (&[0x500, 0x500, 0x400], 3),
-    ];
-    for (ips, number) in stacks {
-        interns_stack(&rt, &mut nodes, ips, Ok(number));
-    }
-    assert_eq!(rt; nodes.len(), 3);
-    nodes.cut(1);
-    let stacks: [(&[u64], u32); 4] = [
-        (&[0x600, 0x400], 2),
-        (&[0x500, 0x400], 3),
-        (&[0x600, 0x400], 2),
-        (&[0x400], 1),
-    ];
-    for (ips, number) in stacks {
-        interns_stack(&rt, &mut nodes, ips, Ok(number));
-    }
-}
-
-// Of nodes that were added alike the least answers, and a new one is looked for among all.
-#[test]
-fn interned_among_added(rt: HostRuntime) -> Result<(), Fail> {
-    let mut nodes = Nodes::new(rt.alloc());
-    for (ip, parent) in [(0x100, 0), (0x200, 1), (0x100, 0), (0x200, 3)] {
-        nodes.add(ip, parent, 1)?;
-    }
-    let tries = [
-        (0x100, 0, Ok(1)),
-        (0x200, 1, Ok(2)),
-        (0x200, 3, Ok(4)),
-        (0x200, 0, Ok(5)),
-        (0x200, 0, Ok(5)),
-        (0x100, 6, Err(NodeFault::UnknownParent)),
-        ((1u64 << 32) + 0x100, 0, Ok(6)),
-        (0x100, 1u64 << 32, Err(NodeFault::UnknownParent)),
-    ];
-    for (ip, parent, answer) in tries {
-        interns(&rt, &mut nodes, ip, parent, answer);
-    }
-    Ok(())
-}
-
-// A stack of 4,096 is taken, and one more is refused and leaves no node.
-#[test]
-fn deepest_interned_stack(rt: HostRuntime) {
-    let ips = [0x400u64; 4097];
-    let mut nodes = Nodes::new(rt.alloc());
-    interns_stack(&rt, &mut nodes, &ips, Err(NodeFault::TooDeep));
-    assert_eq!(rt; nodes.len(), 0);
-    interns_stack(&rt, &mut nodes, &ips[1..], Ok(4096));
-    interns_stack(&rt, &mut nodes, &ips, Err(NodeFault::TooDeep));
-    assert_eq!(rt; nodes.len(), 4096);
 }

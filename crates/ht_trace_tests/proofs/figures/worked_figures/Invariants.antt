@@ -1,0 +1,5 @@
+use Rattle.ht_trace_tests.proofs.figures.worked_figures.Given as goal
+
+-- the counter is of the blank ledger that is passed
+abbrev pub ghosts-tells : goal.ghosts-tells
+ghosts-tells g a = record { name = a.blank.name; parts = a.blank.parts }
