@@ -3,7 +3,7 @@
 use live_ledger::Event;
 
 /// What the caller does after a line.
-#[derive(Clone, Copy)]
+#[derive(Clone, Copy, Debug)]
 pub enum Step {
     /// The line brings nothing.
     Nothing,

@@ -9,7 +9,7 @@ use std::alloc::Global;
 use std::process::Abort;
 
 /// What is shown of a frame.
-#[derive(Clone, Copy, Debug)]
+#[derive(Clone, Copy)]
 enum Shown {
     Place,
     Text(Style),

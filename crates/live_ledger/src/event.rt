@@ -6,7 +6,7 @@ ghost use Rattle.live_ledger.specs.FaultText.{fault_text};
 use thiserror::Error;
 
 /// One event of a heap trace. Alike sizes of one stack share an info, which events name by its number.
-#[derive(Clone, Copy)]
+#[derive(Clone, Copy, Debug)]
 pub enum Event {
     /// A block of `size` bytes of the info is allocated in the stack.
     Alloc { info: u32, stack: u32, size: u64 },
