@@ -15,7 +15,8 @@
 //! - `Items`: a list of any items that is owned, seen as their list. The lists of profiles are such lists.
 //! - The definition `Extends`: what stands after an append that may have failed halfway.
 //!
-//! The crates above may cite its `proofs/Laws`: on `Extends`, on hexadecimal digits, and on elements of a list that grows.
+//! The crates above may cite its `proofs/Laws`: on `Extends`, on hexadecimal digits, and on elements of a list that grows. The
+//! tests of these calls are in the crate `hp_outside_tests`.
 //!
 //! | File | Does |
 //! |---|---|
@@ -25,7 +26,6 @@
 //! | `commas.rt`, `percent.rt`, `right.rt` | numbers with commas; hundredths of a percent; bytes to the right |
 //! | `text.rt`, `items.rt` | bytes that are owned; a list of items that is owned |
 //! | `memory.rt` | `NoMemory`, the error for want of memory |
-//! | `tests.rt` | worked cases, and each call that allocates once with ample memory |
 #![tactic(auto)]
 
 mod bytes;
@@ -51,6 +51,3 @@ pub use number_line::{LONGEST_NUMBER_LINE, put_number_line};
 pub use percent::{hundredths, parse_percent, percent_texts, put_percent};
 pub use right::put_right;
 pub use text::Text;
-
-#[cfg(test)]
-mod tests;

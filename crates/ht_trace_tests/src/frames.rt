@@ -190,16 +190,20 @@ fn put_nodes(
     put_dec(out, u64::from(tables.instructions()))
 }
 
+/// A trace with a node of no instruction.
+static NODES: &[u8] = b"v 10500 2\ns m\ns f\ni 10 1 2 2 3 2 2 4\ni 20 1\nt 1 0\nt 2 1\nt 0 2";
+
+/// What `put_nodes` appends for it.
+static NODES_TOLD: &[u8] = b"0.1\n1.0: 1.0 1.1 from 0\n2.0: 2.0 from 1\n0.0: 0.0 from 2\n2";
+
 #[test]
 fn tells_nodes(rt: HostRuntime) {
-    let trace = b"v 10500 2\ns m\ns f\ni 10 1 2 2 3 2 2 4\ni 20 1\nt 1 0\nt 2 1\nt 0 2";
-    let want = b"0.1\n1.0: 1.0 1.1 from 0\n2.0: 2.0 from 1\n0.0: 0.0 from 2\n2";
     let mut tables = Tables::new(rt.alloc());
     let mut frames = Vec::new(rt.alloc());
     let mut out = Vec::new(rt.alloc());
-    read_lines(&rt, &mut tables, trace).expect(&rt, "a trace");
+    read_lines(&rt, &mut tables, NODES).expect(&rt, "a trace");
     put_nodes(&rt, &tables, &mut frames, &mut out).expect(&rt, "memory");
-    assert_eq!(rt; out.as_slice(), want.as_slice());
+    assert_eq!(rt; out.as_slice(), NODES_TOLD);
 }
 
 /// Takes the lines of a text as suppressions.
@@ -227,13 +231,14 @@ fn put_patterns(tables: &Tables, out: &mut Vec<u8>) -> Result<(), NoMemory> {
     Ok(())
 }
 
-// The patterns of texts and of lines in the order of the calls.
+/// The patterns of texts and of lines in the order of the calls.
+static PATTERNS: &[u8] = b"none\nmain (\n#x\nleak\n leak:f\nf (\nmain\ng\n";
+
 #[test]
 fn keeps_suppressions(rt: HostRuntime) {
     let mut tables = Tables::new(rt.alloc());
     let mut out = Vec::new(rt.alloc());
     add_patterns(&rt, &mut tables);
     put_patterns(&tables, &mut out).expect(&rt, "memory");
-    let want = b"none\nmain (\n#x\nleak\n leak:f\nf (\nmain\ng\n";
-    assert_eq!(rt; out.as_slice(), want.as_slice());
+    assert_eq!(rt; out.as_slice(), PATTERNS);
 }

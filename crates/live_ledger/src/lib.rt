@@ -29,7 +29,8 @@
 //! | `sums.rt` | sums that only grow, from which the figures follow |
 //! | `cells.rt`, `steps.rt` | numbers whose changes are counted, and the counter |
 //! | `laws.rt` | the three laws |
-//! | `tests.rt` | worked traces, with figures that a reader computes by hand |
+//!
+//! The tests of these calls are in the crate `ht_trace_tests`.
 #![tactic(auto)]
 
 mod cells;
@@ -39,8 +40,6 @@ mod laws;
 mod ledger;
 mod steps;
 mod sums;
-#[cfg(test)]
-mod tests;
 mod totals;
 
 pub use cells::Cells;

@@ -9,14 +9,13 @@
 //! - An event costs at most six changes of cells, which `Steps` counts, at a new peak as well: nothing is copied.
 //! - `sound` says that the shares of all stacks sum to the total, so each is within it.
 //!
-//! The crates above may cite its `proofs/Laws`: the greatest of some numbers, and the first place at which it stands.
+//! The crates above may cite its `proofs/Laws`: the greatest of some numbers, and the first place at which it stands. The tests of
+//! these calls are in the crate `ht_trace_tests`.
 #![tactic(auto)]
 
 mod mark;
 mod peaks;
 mod save;
-#[cfg(test)]
-mod tests;
 
 pub use mark::Mark;
 pub use peaks::Peaks;
