@@ -19,7 +19,7 @@ const MOST_BYTES: usize = 100;
 const MOST_EVENTS: u64 = 100;
 
 /// A line or a trace is too long for a test.
-#[derive(Drop)]
+#[derive(Debug, Drop)]
 struct TooLong;
 
 /// The tables of a trace, and the peaks of its events beside them.
