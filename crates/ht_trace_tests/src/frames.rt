@@ -73,6 +73,7 @@ fn shows(rt: &impl Abort, alloc: Global, trace: &[u8], shown: Shown, want: &[u8]
     let mut out = Vec::new(alloc);
     read_lines(rt, &mut tables, trace).expect(rt, "a trace");
     put_stacks(rt, &tables, shown, &mut frames, &mut out).expect(rt, "memory");
+    drop(tables);
     assert_eq!(rt; out.as_slice(), want);
 }
 
@@ -203,6 +204,7 @@ fn tells_nodes(rt: HostRuntime) {
     let mut out = Vec::new(rt.alloc());
     read_lines(&rt, &mut tables, NODES).expect(&rt, "a trace");
     put_nodes(&rt, &tables, &mut frames, &mut out).expect(&rt, "memory");
+    drop(tables);
     assert_eq!(rt; out.as_slice(), NODES_TOLD);
 }
 
@@ -240,5 +242,6 @@ fn keeps_suppressions(rt: HostRuntime) {
     let mut out = Vec::new(rt.alloc());
     add_patterns(&rt, &mut tables);
     put_patterns(&tables, &mut out).expect(&rt, "memory");
+    drop(tables);
     assert_eq!(rt; out.as_slice(), PATTERNS);
 }
