@@ -6,8 +6,8 @@ use Rattle.massif_sample.specs.StandsFor.{IsSampling}
 use Rattle.massif_sample.proofs.Offers.{offer-now}
 use Rattle.massif_sample.proofs.offering.sample.Goals as goal
 
-pub returns-then-eq-clause-sampling : goal.returns-then-eq-clause-sampling
-returns-then-eq-clause-sampling g c =
+pub returns-then-taken-eq0-clause-sampling : goal.returns-then-taken-eq0-clause-sampling
+returns-then-taken-eq0-clause-sampling g c =
     let none : c.judge-taken.result ≡ No = search rules in
     λ names events made texts said was.
     let offer_is = offer-now c.args.samples.now.options (ignores c.args.tables.now names) events c.args.samples.now.running c.args.as_peak was.figures in

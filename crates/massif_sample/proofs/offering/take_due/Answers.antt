@@ -16,8 +16,8 @@ use Rattle.massif_sample.proofs.Offers.{offer-now}
 use Rattle.massif_sample.proofs.Trees.{at_err, taken-with_tree}
 use Rattle.massif_sample.proofs.offering.take_due.Goals as goal
 
-pub returns-then-eq-clause-sampling : goal.returns-then-eq-clause-sampling
-returns-then-eq-clause-sampling g c =
+pub returns-then-taken-eq1-clause-sampling : goal.returns-then-taken-eq1-clause-sampling
+returns-then-taken-eq1-clause-sampling g c =
     let normal : c.args.taken ≡ Normal = search rules in
     λ names events made texts said was.
     let offer_is = offer-now c.args.samples.now.options (ignores c.args.tables.now names) events c.args.samples.now.running c.args.as_peak was.figures in
