@@ -68,18 +68,18 @@ measure_on() {
     echo "input: $megabytes MB, $(wc -l < "$1") lines"
 }
 
-# Runs a command without its output, up to `limit` processor seconds. It leaves the hundredths of processor seconds that it took
-# and its peak memory in kilobytes. The messages of one that fails are shown.
+# Runs a command without its output, up to `limit` processor seconds. It leaves the milliseconds that the processor took for it and
+# its peak memory in kilobytes. The messages of one that fails are shown.
 limit=60
 run() {
-    (ulimit -t "$limit"; exec /usr/bin/time -q -o "$folder/taken" -f '%U %S %M' "$@") > /dev/null 2> "$folder/messages"
+    (ulimit -t "$limit"; LC_ALL=C exec bash -c 'TIMEFORMAT="%3U %3S"; time "$@" > /dev/null 2> "$0"' "$folder/messages" \
+        /usr/bin/time -q -o "$folder/memory" -f %M "$@") 2> "$folder/taken"
     status=$?
     if [ "$status" -gt 0 ] && [ "$status" -le 128 ]; then
         cat "$folder/messages" >&2
     fi
-    taken=$(cat "$folder/taken")
-    hundredths=$(echo "$taken" | awk '{ printf "%d", 100 * ($1 + $2) + 0.5 }')
-    kilobytes=${taken##* }
+    milliseconds=$(awk '{ printf "%d", 1000 * ($1 + $2) + 0.5 }' "$folder/taken")
+    kilobytes=$(cat "$folder/memory")
 }
 
 # Prints a name and what a command took; the time of the first one is what the others are compared with.
@@ -91,10 +91,10 @@ measure() {
         echo "$name" | awk -v limit="$limit" '{ printf "%-16s cut after %d s\n", $1, limit }'
         return
     fi
-    base=${base:-$hundredths}
-    echo "$name $hundredths $kilobytes $megabytes $base" | awk '{
+    base=${base:-$milliseconds}
+    echo "$name $milliseconds $kilobytes $megabytes $base" | awk '{
         printf "%-16s %6.2f s %6.0f MB/s %6.1f MB peak memory %6.2f times\n",
-            $1, $2 / 100, $4 / ($2 / 100 + 0.001), $3 / 1000, $2 / ($5 + 0.1)
+            $1, $2 / 1000, $4 / ($2 / 1000 + 0.001), $3 / 1000, $2 / ($5 + 0.1)
     }'
 }
 
