@@ -25,3 +25,9 @@ loop-ip-preserved c =
       continues-trans c.args.nodes.now c.loop-ip.nodes c.put_node.new.nodes before.5 c.in_ok-parent.ensures.continues,
       extends_trans c.args.text.now.items c.loop-ip.text.items c.put_node.new.text.items before.6 c.in_ok-parent.ensures.kept,
     )
+
+pub returns-in_err-parent-clause-kept : goal.returns-in_err-parent-clause-kept
+returns-in_err-parent-clause-kept c = extends_trans c.args.text.now.items c.loop-ip.text.items c.put_node.new.text.items c.loop-ip.invariant.6 c.in_err-parent.ensures.kept
+
+pub returns-clause-kept : goal.returns-clause-kept
+returns-clause-kept c = c.loop-ip.invariant.6
