@@ -3,6 +3,7 @@ use Rattle.std.specs.Prelude.{codes, decimal}
 use Rattle.std.proofs.lemmas.Result.{on_ok_weaker}
 use Rattle.ms_print.specs.SnapshotsText.{numbers_text, snapshots_text}
 use Rattle.ms_print.proofs.Appends.{five-appended}
+use Rattle.hp_num.proofs.Laws.{extends_more, extends_same, extends_trans}
 use Rattle.ms_print.proofs.snapshots.put_snapshots.Goals as goal
 use Rattle.std.proofs.Common.{◌++◌, ℕ, ap, ◌∙◌}
 
@@ -14,3 +15,9 @@ returns-clause-appended c =
     (codes "Number of snapshots: ") (decimal (length c.args.snaps.now)) (codes "\n Detailed snapshots: [") (numbers_text c.args.snaps.now) (codes "]\n\n")
     c.in_ok-put_bytes.ensures.appended (c.in_ok-put_dec.ensures.appended ∙ ap (λ (n : ℕ). c.put_bytes.new.out.items ++ decimal n) c.len.ensures.length) c.in_ok-put_bytes-2.ensures.appended c.in_ok-put_numbers.ensures.appended added)
     c.put_bytes-3.ensures.appended
+
+pub returns-in_err-put_bytes-2-clause-kept : goal.returns-in_err-put_bytes-2-clause-kept
+returns-in_err-put_bytes-2-clause-kept c = extends_trans c.args.out.now.items c.put_dec.new.out.items c.put_bytes-2.new.out.items (extends_trans c.args.out.now.items c.put_bytes.new.out.items c.put_dec.new.out.items (extends_more c.args.out.now.items c.put_bytes.new.out.items _ c.in_ok-put_bytes.ensures.appended) (extends_more c.put_bytes.new.out.items c.put_dec.new.out.items _ c.in_ok-put_dec.ensures.appended)) (extends_same c.put_dec.new.out.items c.put_bytes-2.new.out.items c.in_err-put_bytes-2.ensures.unchanged)
+
+pub returns-in_err-put_numbers-clause-kept : goal.returns-in_err-put_numbers-clause-kept
+returns-in_err-put_numbers-clause-kept c = extends_trans c.args.out.now.items c.put_bytes-2.new.out.items c.put_numbers.new.out.items (extends_trans c.args.out.now.items c.put_dec.new.out.items c.put_bytes-2.new.out.items (extends_trans c.args.out.now.items c.put_bytes.new.out.items c.put_dec.new.out.items (extends_more c.args.out.now.items c.put_bytes.new.out.items _ c.in_ok-put_bytes.ensures.appended) (extends_more c.put_bytes.new.out.items c.put_dec.new.out.items _ c.in_ok-put_dec.ensures.appended)) (extends_more c.put_dec.new.out.items c.put_bytes-2.new.out.items _ c.in_ok-put_bytes-2.ensures.appended)) c.put_numbers.ensures.kept
