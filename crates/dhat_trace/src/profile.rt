@@ -84,14 +84,47 @@ fn told_stacks(alloc: Global, tables: Tables, stacks: &[CalledStack]) -> Result<
         told.backtraces) }
     ensures cmd { IfOk result (λ told. told.cmd ≡ command_text tables.command) }
 {
-    let mut table = FrameTable::new(alloc, &tables)?;
-    let backtraces = backtraces(alloc, &tables, stacks, &mut table)?;
-    let cmd = command_text(alloc, &tables)?;
+    let gathered = told_by_tables(alloc, &tables, stacks);
     drop(tables);
+    let Gathered {
+        backtraces,
+        table,
+        cmd,
+    } = gathered?;
     let ftbl = table.into_texts()?;
     Ok(Told {
         backtraces,
         ftbl,
+        cmd,
+    })
+}
+
+/// What is told of stacks while the tables are at hand. The texts of their frames stand in the table of frames still.
+#[derive(Drop)]
+struct Gathered {
+    backtraces: ToldPlaces,
+    table: FrameTable,
+    cmd: Text,
+}
+
+/// What the tables tell of these stacks.
+fn told_by_tables(
+    alloc: Global,
+    tables: &Tables,
+    stacks: &[CalledStack],
+) -> Result<Gathered, NoMemory>
+    requires held { All (λ called. called.stack ≤ length tables.now.nodes) stacks.now }
+    ensures backtraces { IfOk result
+        (λ gathered. AreBacktraces tables.now (map (λ called. called.stack) stacks.now)
+        gathered.table.texts gathered.backtraces) }
+    ensures cmd { IfOk result (λ gathered. gathered.cmd ≡ command_text tables.now.command) }
+{
+    let cmd = command_text(alloc, tables)?;
+    let mut table = FrameTable::new(alloc, tables)?;
+    let backtraces = backtraces(alloc, tables, stacks, &mut table)?;
+    Ok(Gathered {
+        backtraces,
+        table,
         cmd,
     })
 }
