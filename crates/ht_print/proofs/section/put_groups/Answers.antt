@@ -51,3 +51,12 @@ returns-clause-appended c =
     (λ added. shown-all (group_at c.args.layout.now.tables.now c.args.scale c.args.layout.now.options.sub_limit c.args.placed.now.stacks.now) c.args.out.now.items c.each_group.out.items c.put_left.new.out.items (codes "more places: ") c.args.groups.now _ c.each_group.group-index c.args.layout.now.options.limit _
     c.each_group.invariant.written (omega arith) c.split_shown-left.ensures.shown c.split_shown-left.ensures.left added)
     c.put_left.ensures.appended
+
+pub returns-in_err-members_into-clause-kept : goal.returns-in_err-members_into-clause-kept
+returns-in_err-members_into-clause-kept c = c.each_group.invariant.kept
+
+pub returns-in_err-put_group-clause-kept : goal.returns-in_err-put_group-clause-kept
+returns-in_err-put_group-clause-kept c = extends_trans c.args.out.now.items c.each_group.out.items c.put_group.new.out.items c.each_group.invariant.kept c.put_group.ensures.kept
+
+pub returns-clause-kept : goal.returns-clause-kept
+returns-clause-kept c = extends_trans c.args.out.now.items c.each_group.out.items c.put_left.new.out.items c.each_group.invariant.kept c.put_left.ensures.kept
