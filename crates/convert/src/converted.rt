@@ -127,10 +127,39 @@ fn live_snaps(alloc: Global, dhat: &Dhat, at_peak: u64, at_end: u64) -> Result<S
         ∷ snap_of dhat.now.te Detailed Eb dhat.now ∷ []) }
 {
     let fronts = point_lists(alloc, dhat)?;
-    let peak_tree = live_tree(alloc, dhat, &fronts, FigureKey::Gb, at_peak)?;
-    let end_tree = end_tree(alloc, dhat, &fronts, &peak_tree, at_end)?;
+    let snaps = snaps_over(alloc, dhat, &fronts, at_peak, at_end);
+    drop(fronts);
+    snaps
+}
+
+/// The snapshots of the peak and of the end, over these fronts, which are the points'.
+fn snaps_over(
+    alloc: Global,
+    dhat: &Dhat,
+    fronts: &ForkedFronts,
+    at_peak: u64,
+    at_end: u64,
+) -> Result<Snaps, NoMemory>
+    requires fronts { fronts.now ≡ point_fronts dhat.now }
+    requires at_peak { at_peak ≡ sum (point_costs Gb dhat.now) }
+    requires at_end { at_end ≡ sum (point_costs Eb dhat.now) }
+    requires peak_within { at_peak ≤ 2 ^ 62 }
+    requires end_within { at_end ≤ 2 ^ 62 }
+    ensures snaps { IfOk result
+        (λ snaps. snaps ≡ snap_of (peak_time dhat.now) Peak Gb dhat.now
+        ∷ snap_of dhat.now.te Detailed Eb dhat.now ∷ []) }
+{
+    let peak_tree = live_tree(alloc, dhat, fronts, FigureKey::Gb, at_peak)?;
+    let end_tree = end_tree(alloc, dhat, fronts, &peak_tree, at_end)?;
     let peak = live_snap(time_of_peak(dhat), at_peak, HeapTree::Peak, peak_tree);
     let end = live_snap(dhat.te, at_end, HeapTree::Detailed, end_tree);
+    two_snaps(alloc, peak, end)
+}
+
+/// A list of these two.
+fn two_snaps(alloc: Global, peak: Snap, end: Snap) -> Result<Snaps, NoMemory>
+    ensures { IfOk result (λ snaps. snaps ≡ peak ∷ end ∷ []) }
+{
     let mut snaps = Snaps::new(alloc);
     snaps.push(peak)?;
     snaps.push(end)?;

@@ -16,7 +16,7 @@ ghost use Rattle.massif_cull.specs.KeptOf.{kept_of};
 ghost use Rattle.massif_cull.specs.TakenAs.{taken_as};
 ghost use Rattle.massif_tree.specs.FirstLists.{first_lists};
 ghost use Rattle.massif_sample.specs.FunctionNames.{FunctionNames, ignores};
-ghost use Rattle.massif_sample.specs.Made.{profile_made};
+ghost use Rattle.massif_sample.specs.Made.{all_made, profile_made, told_tree};
 ghost use Rattle.massif_sample.specs.Options.{AreInRange, settings_of, tree_options};
 ghost use Rattle.massif_sample.specs.Running.{AreFigures, CanCount, Follows, no_figures, passes_most, past_event, with_event};
 ghost use Rattle.massif_sample.specs.SamplesState.{IsSound};
@@ -35,7 +35,7 @@ use hp_num::NoMemory;
 use ht_trace::Tables;
 use live_ledger::Event;
 use massif_cull::{Offer, SnapArray, Taken};
-use massif_file::Profile;
+use massif_file::{Profile, Snaps};
 use massif_tree::{TreeOptions, add_trimmed};
 use std::alloc::Global;
 use std::marker::Model;
@@ -331,9 +331,35 @@ impl Samples {
         if self.failed {
             return Err(NoMemory);
         }
+        let alloc = self.alloc;
+        let unit = self.options.unit;
+        let snaps = self.into_snaps()?;
+        let desc = description(alloc)?;
+        let cmd = shown_command(alloc, cmd)?;
+        Ok(Profile {
+            desc,
+            cmd,
+            unit,
+            snaps,
+        })
+    }
+
+    /// The snapshots with the trees of their places, or `NoMemory`.
+    fn into_snaps(self) -> Result<Snaps, NoMemory>
+        ensures snaps { IfOk result
+            (λ snaps. (tables : TableState) (names : List (List ℕ))
+            → self.fronts ≡ first_lists tables names (self.options.depth + 1) (length self.fronts) →
+            snaps ≡ all_made (told_tree (tree_options self.options) tables names
+            (length self.fronts) self.history.changes)
+            self.array.kept.entries self.array.loads) }
+        ensures none { OnOk result
+            ((place stack : ℕ) → self.history.stacks ≤ stack
+            → history.cost_at self.history.changes place stack ≡ 0) }
+        ensures sound { IsSound self }
+        ensures array { array.IsSound self.array }
+    {
         let asked = self.tree_options();
         let Samples {
-            options,
             mut array,
             fronts,
             history,
@@ -342,16 +368,8 @@ impl Samples {
         } = self;
         // Says what holds of every array.
         let _count = array.len();
-        let desc = description(alloc)?;
-        let cmd = shown_command(alloc, cmd)?;
         let mut replay = history.into_replay();
-        let snaps = take_snaps(alloc, &mut array, fronts, &mut replay, &asked)?;
-        Ok(Profile {
-            desc,
-            cmd,
-            unit: options.unit,
-            snaps,
-        })
+        take_snaps(alloc, &mut array, fronts, &mut replay, &asked)
     }
 }
 
