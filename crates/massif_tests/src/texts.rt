@@ -102,7 +102,7 @@ n2: 100 (heap allocation functions) malloc/new/new[], --alloc-fns, etc.
 ";
 
 /// A front in milliseconds with a snapshot whose figures all differ, up to its tree.
-pub const FRONT: &[u8] =
+pub static FRONT: &[u8] =
     b"desc: d\ncmd: c\ntime_unit: ms\n#-----------\nsnapshot=0\n#-----------\ntime=1\nmem_heap_B=2\nmem_heap_extra_B=3\nmem_stacks_B=4\nheap_tree=peak\n";
 
 /// A file with two descriptions that say something, blanks, a comment and an empty line.
@@ -116,7 +116,7 @@ pub const LOOSE_WRITTEN: &[u8] =
 /// Lines that stand in the place of a line of the worked file: its number and the line, and behind `=>` how the file then
 /// ends. The first ones are refused: lines of the header, of snapshots and of trees; of the last three one has one line fewer
 /// than the root counts, one a skipped line in a tree, and one has one line more. Then come unusual lines that are taken.
-pub const ENDS: &str = "1 time_unit: i => bad header in line 1
+pub static ENDS: &str = "1 time_unit: i => bad header in line 1
 1  desc: (none) => bad header in line 1
 2 snapshot=0 => bad header in line 2
 2 desc: second => bad header in line 3
@@ -156,7 +156,7 @@ pub const ENDS: &str = "1 time_unit: i => bad header in line 1
 ";
 
 /// How the first lines of the worked file end, from none of them to all but the last one.
-pub const FIRST_LINES: &str = "truncated in line 1
+pub static FIRST_LINES: &str = "truncated in line 1
 truncated in line 2
 truncated in line 3
 truncated in line 4
