@@ -2,7 +2,7 @@
 ghost use Rattle.std.specs.Prelude.{◌≡◌};
 ghost use Rattle.massif_cull.specs.Entries.{last_time};
 
-use hp_num::{NoMemory, parse_dec, put_bytes, put_dec};
+use hp_num::{NoMemory, put_bytes, put_dec};
 use massif_cull::{Kind, Offer, SnapArray, SnapEntry, Taken};
 use std::alloc::Global;
 use std::cell::Cell;
@@ -12,14 +12,25 @@ use std::process::Abort;
 /// peak passes the last one.
 type Settings = (u32, u64, u64);
 
+/// What is done with an array.
+#[derive(Clone, Copy)]
+enum Step {
+    /// A normal offer is made, at this time and of so many bytes.
+    Normal(u64, u64),
+    /// A peak is offered.
+    Peak(u64, u64),
+    Show,
+    Cull,
+    /// The first snapshot is taken out.
+    First,
+}
+
 /// An array, and what is done with it.
 struct Case {
     settings: Settings,
-    /// Words with blanks between them: the place and time of a normal offer of no bytes, behind `+` the bytes of another, and
-    /// behind `^` those of a peak; `show`, `cull`, and `first`, which takes the first snapshot out.
-    words: &'static str,
+    steps: &'static [Step],
     /// A letter for each offer, for what it is taken as, or `-`, and lines of the snapshots that are shown and taken out: the
-    /// place, the time, the bytes, as load the number of the word, and the kind. How many loads have been dropped is told where
+    /// place, the time, the bytes, as load the number of the step, and the kind. How many loads have been dropped is told where
     /// snapshots are shown, and when the array is gone.
     text: &'static str,
 }
@@ -28,7 +39,24 @@ static CASES: [Case; 6] = [
     // The interval is 0 up to the tenth snapshot, which is culled.
     Case {
         settings: (10, 1_000_000, 100),
-        words: "show 0 1 2 3 4 5 6 7 8 show 9 show 10 11 show",
+        steps: &[
+            Step::Show,
+            Step::Normal(0, 0),
+            Step::Normal(1, 0),
+            Step::Normal(2, 0),
+            Step::Normal(3, 0),
+            Step::Normal(4, 0),
+            Step::Normal(5, 0),
+            Step::Normal(6, 0),
+            Step::Normal(7, 0),
+            Step::Normal(8, 0),
+            Step::Show,
+            Step::Normal(9, 0),
+            Step::Show,
+            Step::Normal(10, 0),
+            Step::Normal(11, 0),
+            Step::Show,
+        ],
         text: "
 next from 0, dropped 0
 nnnnnnnnn
@@ -63,7 +91,19 @@ dropped 12
     // A peak stands among the offers.
     Case {
         settings: (10, 1_000_000, 100),
-        words: "0 1 2 2^5 3 4 5 6 7 8 show",
+        steps: &[
+            Step::Normal(0, 0),
+            Step::Normal(1, 0),
+            Step::Normal(2, 0),
+            Step::Peak(2, 5),
+            Step::Normal(3, 0),
+            Step::Normal(4, 0),
+            Step::Normal(5, 0),
+            Step::Normal(6, 0),
+            Step::Normal(7, 0),
+            Step::Normal(8, 0),
+            Step::Show,
+        ],
         text: "nnnpnnnnnn
 0 0 0 0 normal
 2 2 5 3 peak
@@ -77,7 +117,13 @@ dropped 10
     // A peak is compared with the last one, which one percent more doesn't pass.
     Case {
         settings: (100, 1_000_000, 100),
-        words: "0 1^1000 2^1010 3^1011 show",
+        steps: &[
+            Step::Normal(0, 0),
+            Step::Peak(1, 1000),
+            Step::Peak(2, 1010),
+            Step::Peak(3, 1011),
+            Step::Show,
+        ],
         text: "np-p
 0 0 0 0 normal
 1 1 1000 1 normal
@@ -89,7 +135,16 @@ dropped 4
     // Normal offers alone are counted for detail.
     Case {
         settings: (100, 3, 0),
-        words: "0 0^7 1 2+9 show 3 4 5",
+        steps: &[
+            Step::Normal(0, 0),
+            Step::Peak(0, 7),
+            Step::Normal(1, 0),
+            Step::Normal(2, 9),
+            Step::Show,
+            Step::Normal(3, 0),
+            Step::Normal(4, 0),
+            Step::Normal(5, 0),
+        ],
         text: "npnd
 0 0 0 0 normal
 0 0 7 1 peak
@@ -102,7 +157,20 @@ nnddropped 7
     // What is culled and taken out when asked.
     Case {
         settings: (10, 1_000_000, 0),
-        words: "0 1 2 3 4 5 6 cull show first first show",
+        steps: &[
+            Step::Normal(0, 0),
+            Step::Normal(1, 0),
+            Step::Normal(2, 0),
+            Step::Normal(3, 0),
+            Step::Normal(4, 0),
+            Step::Normal(5, 0),
+            Step::Normal(6, 0),
+            Step::Cull,
+            Step::Show,
+            Step::First,
+            Step::First,
+            Step::Show,
+        ],
         text: "nnnnnnn
 0 0 0 0 normal
 2 2 0 2 normal
@@ -120,7 +188,15 @@ dropped 7
     },
     Case {
         settings: (10, 1, 0),
-        words: "0 1 show first show first first",
+        steps: &[
+            Step::Normal(0, 0),
+            Step::Normal(1, 0),
+            Step::Show,
+            Step::First,
+            Step::Show,
+            Step::First,
+            Step::First,
+        ],
         text: "dd
 0 0 0 0 detailed
 1 1 0 1 detailed
@@ -136,7 +212,7 @@ dropped 2
     },
 ];
 
-/// A load, which is the number of its word, and counts where it is dropped.
+/// A load, which is the number of its step, and counts where it is dropped.
 struct Load<'a> {
     number: u64,
     drops: &'a Cell<u64>,
@@ -163,42 +239,24 @@ fn last_time(array: &SnapArray<Load>) -> u64
     array.entry(count - 1).time
 }
 
-/// Makes the offer.
+/// Makes an offer at an early time and of few bytes.
 fn offer<'a>(
     rt: &impl Abort,
     array: &mut SnapArray<Load<'a>>,
-    offer: Offer,
+    time: u64,
+    bytes: u64,
+    peak: bool,
     load: Load<'a>,
 ) -> Taken {
-    assert!(rt; last_time(array) <= offer.time);
-    assert!(rt; array.len() > 0 || !offer.peak);
-    assert!(rt; offer.time <= 10_000);
-    assert!(rt; offer.total <= 10_000);
-    array.offer(offer, load)
-}
-
-fn number(rt: &impl Abort, digits: &str) -> u64 {
-    parse_dec(digits.as_bytes()).expect(rt, "a number")
-}
-
-fn offer_at(time: u64, total: u64, peak: bool) -> Offer {
-    Offer {
+    let offer = Offer {
         place: time,
-        time,
-        total,
+        time: time.min(10_000),
+        total: bytes.min(10_000),
         peak,
-    }
-}
-
-/// The offer that the word says.
-fn offer_of(rt: &impl Abort, word: &str) -> Offer {
-    if let Some((time, bytes)) = word.split_once('^') {
-        return offer_at(number(rt, time), number(rt, bytes), true);
-    }
-    if let Some((time, bytes)) = word.split_once('+') {
-        return offer_at(number(rt, time), number(rt, bytes), false);
-    }
-    offer_at(number(rt, word), 0, false)
+    };
+    assert!(rt; last_time(array) <= offer.time);
+    assert!(rt; array.len() > 0 || !peak);
+    array.offer(offer, load)
 }
 
 /// A letter for what an offer was taken as.
@@ -236,10 +294,9 @@ fn put_drops(drops: &Cell<u64>, out: &mut Vec<u8>) -> Result<(), NoMemory> {
 }
 
 /// Appends lines of the snapshots, and the time from which on a normal offer is taken.
-fn put_array(rt: &impl Abort, array: &SnapArray<Load>, out: &mut Vec<u8>) -> Result<(), NoMemory> {
+fn put_array(array: &SnapArray<Load>, out: &mut Vec<u8>) -> Result<(), NoMemory> {
     put_bytes(out, b"\n")?;
     for i in 0..array.len() {
-        assert!(rt; i < array.len());
         put_entry(&array.entry(i), array.load(i).number, out)?;
     }
     put_bytes(out, b"next from ")?;
@@ -259,44 +316,48 @@ fn put_first(array: &mut SnapArray<Load>, out: &mut Vec<u8>) -> Result<(), NoMem
     }
 }
 
-/// Does what the word says, which has this number, and appends what it comes to.
-fn put_word<'a>(
+/// Does a step, which has this number, and appends what it comes to.
+fn put_step<'a>(
     rt: &impl Abort,
     array: &mut SnapArray<Load<'a>>,
     drops: &'a Cell<u64>,
-    word: &str,
+    step: Step,
     number: u64,
     out: &mut Vec<u8>,
 ) -> Result<(), NoMemory> {
-    match word {
-        "show" => {
-            put_array(rt, array, out)?;
+    match step {
+        Step::Normal(time, bytes) => {
+            let taken = offer(rt, array, time, bytes, false, Load { number, drops });
+            put_bytes(out, letter(taken))
+        }
+        Step::Peak(time, bytes) => {
+            let taken = offer(rt, array, time, bytes, true, Load { number, drops });
+            put_bytes(out, letter(taken))
+        }
+        Step::Show => {
+            put_array(array, out)?;
             put_drops(drops, out)
         }
-        "first" => put_first(array, out),
-        "cull" => {
+        Step::Cull => {
             assert!(rt; array.len() >= 6);
             array.cull();
             Ok(())
         }
-        _ => {
-            let taken = offer(rt, array, offer_of(rt, word), Load { number, drops });
-            put_bytes(out, letter(taken))
-        }
+        Step::First => put_first(array, out),
     }
 }
 
-/// Does what the words say, and appends what they come to.
-fn put_words<'a>(
+/// Does the steps, and appends what they come to.
+fn put_steps<'a>(
     rt: &impl Abort,
     array: &mut SnapArray<Load<'a>>,
     drops: &'a Cell<u64>,
-    words: &str,
+    steps: &[Step],
     out: &mut Vec<u8>,
 ) -> Result<(), NoMemory> {
     let mut number = 0u64;
-    for word in words.split(' ') {
-        put_word(rt, array, drops, word, number, out)?;
+    for step in steps {
+        put_step(rt, array, drops, *step, number, out)?;
         number = number.wrapping_add(1);
     }
     Ok(())
@@ -305,32 +366,29 @@ fn put_words<'a>(
 /// An array without snapshots.
 fn array_of<'a>(rt: &impl Abort, alloc: Global, settings: Settings) -> SnapArray<Load<'a>> {
     let (max, detailed_freq, inaccuracy) = settings;
-    assert!(rt; 10 <= max && max <= 1000);
-    assert!(rt; 1 <= detailed_freq && detailed_freq <= 1_000_000);
-    assert!(rt; inaccuracy <= 10_000);
-    SnapArray::new(alloc, max, detailed_freq, inaccuracy).expect(rt, "memory")
+    SnapArray::new(
+        alloc,
+        max.max(10).min(1000),
+        detailed_freq.max(1).min(1_000_000),
+        inaccuracy.min(10_000),
+    )
+    .expect(rt, "memory")
 }
 
-/// Appends what the words of the case come to.
-fn put_case(
-    rt: &impl Abort,
-    alloc: Global,
-    case: &Case,
-    out: &mut Vec<u8>,
-) -> Result<(), NoMemory> {
+/// What the steps of the case come to is its text.
+fn works(rt: &impl Abort, alloc: Global, case: &Case) {
     let drops = Cell::new(0);
     let mut array = array_of(rt, alloc, case.settings);
-    let put = put_words(rt, &mut array, &drops, case.words, out);
+    let mut out = Vec::new(alloc);
+    put_steps(rt, &mut array, &drops, case.steps, &mut out).expect(rt, "memory");
     drop(array);
-    put?;
-    put_drops(&drops, out)
+    put_drops(&drops, &mut out).expect(rt, "memory");
+    assert_eq!(rt; out.as_slice(), case.text.as_bytes());
 }
 
 #[test]
 fn arrays(rt: HostRuntime) {
     for case in &CASES {
-        let mut out = Vec::new(rt.alloc());
-        put_case(&rt, rt.alloc(), case, &mut out).expect(&rt, "memory");
-        assert_eq!(rt; out.as_slice(), case.text.as_bytes());
+        works(&rt, rt.alloc(), case);
     }
 }

@@ -1,26 +1,19 @@
 //! Worked files, read and written, and files that are refused. Expected texts are worked out by hand.
-use crate::texts::{BLOCKS, DETAILED, ENDS, FIRST_LINES, FRONT, LOOSE, LOOSE_WRITTEN};
-use hp_num::{NoMemory, parse_dec, put_bytes, put_dec};
+use crate::texts::{BLOCKS, DETAILED, FIRST_LINES, FRONT, LOOSE, LOOSE_WRITTEN};
+use hp_num::{NoMemory, put_bytes, put_dec};
 use massif_file::{ProfileFault, ProfileReader, put_profile};
 use std::alloc::Global;
 use std::process::Abort;
 
-/// Has a reader take the first `count` lines of a text, up to one that is refused. Line `number`, counted from 1, is `other` in place
-/// of the text's. Gives the number of the refused line, or one more than there are.
-fn read_lines(
-    reader: &mut ProfileReader,
-    text: &[u8],
-    count: u64,
-    number: u64,
-    other: &[u8],
-) -> u64 {
+/// Has a reader take the first `count` lines of a text, up to one that is refused. Gives the number of the refused line, counted from
+/// 1, or one more than there are.
+fn read_lines(reader: &mut ProfileReader, text: &[u8], count: u64) -> u64 {
     let mut at = 1u64;
     for line in text
         .strip_suffix(b"\n")
         .unwrap_or(text)
         .split(|byte| *byte == b'\n')
     {
-        let line = if at == number { other } else { line };
         if at > count || reader.line(line).is_err() {
             return at;
         }
@@ -48,46 +41,20 @@ fn put_end(reader: &ProfileReader, at: u64, out: &mut Vec<u8>) -> Result<(), NoM
     }
 }
 
-/// Appends how the first lines of the worked file end, of which line `number` is `other`.
-fn put_worked(
-    alloc: Global,
-    count: u64,
-    number: u64,
-    other: &[u8],
-    out: &mut Vec<u8>,
-) -> Result<(), NoMemory> {
+/// Appends how the first lines of the worked file end.
+fn put_first(alloc: Global, count: u64, out: &mut Vec<u8>) -> Result<(), NoMemory> {
     let mut reader = ProfileReader::new(alloc);
-    let at = read_lines(&mut reader, DETAILED, count, number, other);
+    let at = read_lines(&mut reader, DETAILED, count);
     let put = put_end(&reader, at, out);
     drop(reader);
     put
-}
-
-/// Appends an edit of the worked file, which is the number of a line and what stands in its place, and how the file then ends.
-fn put_edit(rt: &impl Abort, alloc: Global, edit: &str, out: &mut Vec<u8>) -> Result<(), NoMemory> {
-    let (number, line) = edit.split_once(' ').expect(rt, "a line");
-    let number = parse_dec(number.as_bytes()).expect(rt, "a number");
-    put_bytes(out, edit.as_bytes())?;
-    put_bytes(out, b" => ")?;
-    put_worked(alloc, u64::MAX, number, line.as_bytes(), out)
-}
-
-#[test]
-fn edited_lines(rt: HostRuntime) {
-    let mut out = Vec::new(rt.alloc());
-    for row in ENDS.split('\n') {
-        if let Some((edit, _)) = row.split_once(" => ") {
-            put_edit(&rt, rt.alloc(), edit, &mut out).expect(&rt, "memory");
-        }
-    }
-    assert_eq!(rt; out.as_slice(), ENDS.as_bytes());
 }
 
 #[test]
 fn first_lines(rt: HostRuntime) {
     let mut out = Vec::new(rt.alloc());
     for count in 0..22 {
-        put_worked(rt.alloc(), count, 0, b"", &mut out).expect(&rt, "memory");
+        put_first(rt.alloc(), count, &mut out).expect(&rt, "memory");
     }
     assert_eq!(rt; out.as_slice(), FIRST_LINES.as_bytes());
 }
@@ -107,7 +74,7 @@ fn put_written(reader: ProfileReader, at: u64, out: &mut Vec<u8>) -> Result<(), 
 /// Reads a file, writes the profile, or the fault, and compares.
 fn writes(rt: &impl Abort, alloc: Global, file: &[u8], written: &[u8]) {
     let mut reader = ProfileReader::new(alloc);
-    let at = read_lines(&mut reader, file, u64::MAX, 0, b"");
+    let at = read_lines(&mut reader, file, u64::MAX);
     let mut out = Vec::new(alloc);
     put_written(reader, at, &mut out).expect(rt, "memory");
     assert_eq!(rt; out.as_slice(), written);
