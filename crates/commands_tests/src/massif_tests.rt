@@ -1,4 +1,4 @@
-//! `massif` over the worked trace and over one that offers peaks, by lists of functions, and its refusals.
+//! `massif` over the worked trace, one that offers peaks, and one of stacks that are called, by lists of functions, and its refusals.
 
 use crate::transcript::{expect, sound};
 use std::test::Fail;
@@ -118,6 +118,69 @@ $ massif --alloc-fns=main --ignore-fns=main e
 #[test]
 fn functions(rt: HostRuntime) -> Result<(), Fail> {
     expect(&rt, rt.alloc(), &sound(""), FUNCTIONS)
+}
+
+/// A trace of two stacks, of which one is called from the other: both have a block at the peak.
+const CALLED: &str = "v 10500 2
+s main
+s f
+s a.c
+i 400 0 1 3 14
+i 500 0 2 3 a
+t 1 0
+t 2 1
+a 64 2
+a 64 1
++ 0
++ 1
+- 0
+";
+
+// The whole tree, the one of fronts of one place, and the one of no front that is large enough.
+const OF_CALLED: &str = "$ massif t
+desc: heapsuite massif
+cmd: (none)
+time_unit: B
+snapshot=0 time=0 mem_heap_B=0 mem_heap_extra_B=0 mem_stacks_B=0 heap_tree=empty
+snapshot=1 time=120 mem_heap_B=100 mem_heap_extra_B=20 mem_stacks_B=0 heap_tree=empty
+snapshot=2 time=240 mem_heap_B=200 mem_heap_extra_B=40 mem_stacks_B=0 heap_tree=empty
+snapshot=3 time=240 mem_heap_B=200 mem_heap_extra_B=40 mem_stacks_B=0 heap_tree=peak
+n2: 200 (heap allocation functions) malloc/new/new[], --alloc-fns, etc.
+ n0: 100 0x400: main (a.c:20)
+ n1: 100 0x500: f (a.c:10)
+  n0: 100 0x400: main (a.c:20)
+snapshot=4 time=360 mem_heap_B=100 mem_heap_extra_B=20 mem_stacks_B=0 heap_tree=empty
+[0]
+$ massif --depth=1 t
+desc: heapsuite massif
+cmd: (none)
+time_unit: B
+snapshot=0 time=0 mem_heap_B=0 mem_heap_extra_B=0 mem_stacks_B=0 heap_tree=empty
+snapshot=1 time=120 mem_heap_B=100 mem_heap_extra_B=20 mem_stacks_B=0 heap_tree=empty
+snapshot=2 time=240 mem_heap_B=200 mem_heap_extra_B=40 mem_stacks_B=0 heap_tree=empty
+snapshot=3 time=240 mem_heap_B=200 mem_heap_extra_B=40 mem_stacks_B=0 heap_tree=peak
+n2: 200 (heap allocation functions) malloc/new/new[], --alloc-fns, etc.
+ n0: 100 0x400: main (a.c:20)
+ n0: 100 0x500: f (a.c:10)
+snapshot=4 time=360 mem_heap_B=100 mem_heap_extra_B=20 mem_stacks_B=0 heap_tree=empty
+[0]
+$ massif --threshold=100 t
+desc: heapsuite massif
+cmd: (none)
+time_unit: B
+snapshot=0 time=0 mem_heap_B=0 mem_heap_extra_B=0 mem_stacks_B=0 heap_tree=empty
+snapshot=1 time=120 mem_heap_B=100 mem_heap_extra_B=20 mem_stacks_B=0 heap_tree=empty
+snapshot=2 time=240 mem_heap_B=200 mem_heap_extra_B=40 mem_stacks_B=0 heap_tree=empty
+snapshot=3 time=240 mem_heap_B=200 mem_heap_extra_B=40 mem_stacks_B=0 heap_tree=peak
+n1: 200 (heap allocation functions) malloc/new/new[], --alloc-fns, etc.
+ n0: 200 in 2 places, all below massif's threshold (100.00%)
+snapshot=4 time=360 mem_heap_B=100 mem_heap_extra_B=20 mem_stacks_B=0 heap_tree=empty
+[0]
+";
+
+#[test]
+fn called_stacks(rt: HostRuntime) -> Result<(), Fail> {
+    expect(&rt, rt.alloc(), &sound(CALLED), OF_CALLED)
 }
 
 // A block that is too large with what the heap adds to it is refused here alone.

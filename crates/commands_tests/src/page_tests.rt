@@ -124,9 +124,9 @@ fn put_exchanged(lines: &str, line: &str, other: &str, file: &mut Vec<u8>) -> Re
     Ok(())
 }
 
-/// Plays the rows of a table: behind a line of the second file and `=>` stands what takes its place, and below them what
-/// `ms_print` then says.
-fn played(alloc: Global, table: &str) -> Result<Vec<u8>, NoMemory> {
+/// Plays the rows of a table: behind a line of the second file and `=>` stands what takes its place, and below them what the
+/// words then write.
+fn played(alloc: Global, words: &str, table: &str) -> Result<Vec<u8>, NoMemory> {
     let mut all = Vec::new(alloc);
     for row in table.split('\n') {
         if let Some((line, other)) = row.split_once("=>") {
@@ -135,29 +135,152 @@ fn played(alloc: Global, table: &str) -> Result<Vec<u8>, NoMemory> {
             let mut file = Vec::new(alloc);
             put_exchanged(SECOND_FILE, line, other, &mut file)?;
             put_exchanged(TREE, line, other, &mut file)?;
-            append_run(alloc, &sound(""), &file, "ms_print t", &mut all)?;
+            append_run(alloc, &sound(""), &file, words, &mut all)?;
         }
     }
     Ok(all)
 }
 
-const EXCHANGED: &str = "snapshot=1=>snapshot=2
-heapsuite: t:13: wrong order
+// Lines of the header, of snapshots and of trees. Of the last four, three leave a tree with fewer lines than its root counts, of which one
+// is a skipped line, and one leaves it with one more.
+static REFUSED: &str = "desc: (none)=>time_unit: i
+heapsuite: t:1: bad header
+[1]
+desc: (none)=> desc: (none)
+heapsuite: t:1: bad header
+[1]
+cmd: ./a.out=>snapshot=0
+heapsuite: t:2: bad header
+[1]
+cmd: ./a.out=>desc: second
+heapsuite: t:3: bad header
+[1]
+time_unit: i=>desc: late
+heapsuite: t:3: bad header
+[1]
+time_unit: i=>time_unit: q
+heapsuite: t:3: bad header
+[1]
+time_unit: i=>time_unit: i\x20
+heapsuite: t:3: bad header
+[1]
+snapshot=0=>time=0
+heapsuite: t:5: bad snapshot
+[1]
+time=0=> time=0
+heapsuite: t:7: bad snapshot
+[1]
+mem_heap_B=0=>mem_heap_extra_B=0
+heapsuite: t:8: bad snapshot
+[1]
+mem_stacks_B=0=>heap_tree=empty
+heapsuite: t:10: bad snapshot
+[1]
+heap_tree=empty=>heap_tree=empty\x20
+heapsuite: t:11: bad snapshot
+[1]
+snapshot=0=>snapshot=
+heapsuite: t:5: bad number
+[1]
+mem_heap_B=0=>mem_heap_B= 0
+heapsuite: t:8: bad number
+[1]
+mem_heap_extra_B=0=>mem_heap_extra_B=4611686018427387905
+heapsuite: t:9: bad number
 [1]
 time=157300=>time=-1
 heapsuite: t:15: bad number
 [1]
+snapshot=0=>snapshot=1
+heapsuite: t:5: wrong order
+[1]
+snapshot=1=>snapshot=2
+heapsuite: t:13: wrong order
+[1]
+time=0=>time=157301
+heapsuite: t:15: wrong order
+[1]
+n2: 9000 (heap allocation functions) malloc/new/new[], --alloc-fns, etc.=>2: 9000 x
+heapsuite: t:20: bad tree
+[1]
+n2: 9000 (heap allocation functions) malloc/new/new[], --alloc-fns, etc.=>n2:9000 x
+heapsuite: t:20: bad tree
+[1]
+n2: 9000 (heap allocation functions) malloc/new/new[], --alloc-fns, etc.=>n2:  9000 x
+heapsuite: t:20: bad tree
+[1]
+n2: 9000 (heap allocation functions) malloc/new/new[], --alloc-fns, etc.=>n4294967296: 9000 x
+heapsuite: t:20: bad tree
+[1]
+ n0: 8960 0x4005BB: main (a.c:10)=> n0: 4611686018427387905 x
+heapsuite: t:21: bad tree
+[1]
+ n0: 8960 0x4005BB: main (a.c:10)=> n0: 8960x main
+heapsuite: t:21: bad tree
+[1]
 n2: 9000 (heap allocation functions) malloc/new/new[], --alloc-fns, etc.=>n3: 9000 a
+heapsuite: t:23: truncated
+[1]
+ n0: 8960 0x4005BB: main (a.c:10)=>#n0: 8960 main
 heapsuite: t:23: truncated
 [1]
  n0: 40 in 3 places, all below massif's threshold (1.00%)=>
 heapsuite: t:22: truncated
 [1]
+n2: 9000 (heap allocation functions) malloc/new/new[], --alloc-fns, etc.=>n1: 9000 x
+heapsuite: t:22: bad snapshot
+[1]
 ";
 
 #[test]
-fn exchanged_lines(rt: HostRuntime) -> Result<(), Fail> {
-    let all = played(rt.alloc(), EXCHANGED)?;
-    assert_eq!(&rt; all.as_slice(), EXCHANGED.as_bytes());
+fn refused_lines(rt: HostRuntime) -> Result<(), Fail> {
+    let all = played(rt.alloc(), "ms_print t", REFUSED)?;
+    assert_eq!(&rt; all.as_slice(), REFUSED.as_bytes());
+    Ok(())
+}
+
+// Unusual lines.
+static TAKEN: &str = "desc: (none)=>desc:
+0x4005BB: main (a.c:10) 8960
+in 3 places, all below massif's threshold (1.00%) 40
+[0]
+desc: (none)=>
+0x4005BB: main (a.c:10) 8960
+in 3 places, all below massif's threshold (1.00%) 40
+[0]
+cmd: ./a.out=>cmd:
+0x4005BB: main (a.c:10) 8960
+in 3 places, all below massif's threshold (1.00%) 40
+[0]
+time_unit: i=>time_unit:   ms
+0x4005BB: main (a.c:10) 8960
+in 3 places, all below massif's threshold (1.00%) 40
+[0]
+#-----------=>\x20\x20\x20
+0x4005BB: main (a.c:10) 8960
+in 3 places, all below massif's threshold (1.00%) 40
+[0]
+snapshot=1=>snapshot=00001
+0x4005BB: main (a.c:10) 8960
+in 3 places, all below massif's threshold (1.00%) 40
+[0]
+time=157300=>time=4611686018427387904
+0x4005BB: main (a.c:10) 8960
+in 3 places, all below massif's threshold (1.00%) 40
+[0]
+n2: 9000 (heap allocation functions) malloc/new/new[], --alloc-fns, etc.=>   n2: 9000
+0x4005BB: main (a.c:10) 8960
+in 3 places, all below massif's threshold (1.00%) 40
+[0]
+ n0: 40 in 3 places, all below massif's threshold (1.00%)=>n000: 0040\x20
+0x4005BB: main (a.c:10) 8960
+? 40
+[0]
+";
+
+#[test]
+fn taken_lines(rt: HostRuntime) -> Result<(), Fail> {
+    let all = played(rt.alloc(), "convert --from=massif t", TAKEN)?;
+    assert_eq!(&rt; all.as_slice(), TAKEN.as_bytes());
     Ok(())
 }

@@ -147,6 +147,118 @@ fn writes_reports(rt: HostRuntime) -> Result<(), Fail> {
     expect(&rt, rt.alloc(), &sound(""), REPORTS)
 }
 
+/// The reports of two stacks of one place: the greatest total is reached first while both have live bytes, and each frees once what it
+/// has just allocated. Then there are stacks of which two are suppressed, and sizes at the edges of the ranges; and no lines.
+const PLACES: &str = "> v 10500 2
+> s f
+> i 1 0 1
+> i 2 0 1
+> t 1 0
+> t 2 0
+> a 64 1
+> a 32 2
+> + 1
+> + 1
+> - 1
+> + 0
+> - 0
+> + 1
+> + 1
+$ print t
+MOST CALLS TO ALLOCATION FUNCTIONS
+5 calls (100.00%) at f
+  4 calls (80.00%) in stack 2
+  1 calls (20.00%) in stack 1
+
+PEAK MEMORY CONSUMERS
+150 bytes (100.00%) at f
+  100 bytes (66.67%) in stack 1
+  50 bytes (33.33%) in stack 2
+
+MEMORY LEAKS
+150 bytes (100.00%) at f
+  150 bytes (100.00%) in stack 2
+
+MOST TEMPORARY ALLOCATIONS
+2 temporary (100.00%) at f
+  1 temporary (50.00%) in stack 1
+  1 temporary (50.00%) in stack 2
+
+events: 7
+calls: 5
+temporary: 2
+allocated: 300
+peak: 150 at event 4
+leaked: 150 in 3 blocks
+[0]
+> v 10500 2
+> s main
+> s f
+> i 1 0 1
+> i 2 0 2
+> t 1 0
+> t 2 1
+> t 2 0
+> S leak:ain
+> a 10 1
+> a 9 2
+> a 8 3
+> + 0
+> + 1
+> + 2
+$ print --merge-backtraces=0 --histogram=1 --print-allocators=0 --print-peaks=0 --print-temporary=0 t
+MEMORY LEAKS
+8 bytes (100.00%) at f in stack 3
+suppressed: 25 bytes
+
+SIZE HISTOGRAM
+0 to 8: 1 calls
+9 to 16: 2 calls
+17 to 32: 0 calls
+33 to 64: 0 calls
+65 to 128: 0 calls
+129 to 256: 0 calls
+257 to 512: 0 calls
+513 to 1024: 0 calls
+1025 and more: 0 calls
+
+events: 3
+calls: 3
+temporary: 0
+allocated: 33
+peak: 33 at event 3
+leaked: 33 in 3 blocks
+[0]
+> v 10500 2
+$ print --merge-backtraces=0 --histogram=1 --print-allocators=0 --print-peaks=0 --print-temporary=0 t
+MEMORY LEAKS
+(none)
+
+SIZE HISTOGRAM
+0 to 8: 0 calls
+9 to 16: 0 calls
+17 to 32: 0 calls
+33 to 64: 0 calls
+65 to 128: 0 calls
+129 to 256: 0 calls
+257 to 512: 0 calls
+513 to 1024: 0 calls
+1025 and more: 0 calls
+
+events: 0
+calls: 0
+temporary: 0
+allocated: 0
+peak: 0 at event 0
+leaked: 0 in 0 blocks
+[0]
+";
+
+#[test]
+fn reports_on_places(rt: HostRuntime) -> Result<(), Fail> {
+    expect(&rt, rt.alloc(), &sound(""), PLACES)
+}
+
 const SUPPRESSED: &str = "> S leak:main (
 $ print --print-allocators=0 --print-peaks=0 --print-temporary=0 t
 MEMORY LEAKS

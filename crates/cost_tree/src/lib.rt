@@ -27,7 +27,8 @@
 //!   texts, and then each line with its front's last text and the number of that.
 //!
 //! A text is compared with others once, when it is pushed, and a front once, when its last number is; a tree hashes nothing and
-//! copies no text. The crates above may cite its `proofs/Laws`. The tests of these calls are the crate `cost_tree_tests`.
+//! copies no text. The crates above may cite its `proofs/Laws`. The tests of these calls are the crate `cost_tree_tests`
+//! and runs of `massif` in `commands_tests`.
 //!
 //! | File | Does |
 //! |---|---|

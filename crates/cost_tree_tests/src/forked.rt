@@ -1,8 +1,8 @@
 //! Lines of lists that go on alone behind a front, and of those that share fronts.
-ghost use Rattle.std.specs.Prelude.{◌^◌, ◌≤◌, All, IfOk, sum};
+ghost use Rattle.std.specs.Prelude.{All, IfOk};
 ghost use Rattle.cost_tree.specs.Texts.{AreTexts, IsText};
 
-use crate::trees::put_figure;
+use crate::trees::{have_sum, put_figures};
 use cost_tree::{
     Chains, Costing, ForkedFronts, FrontLineTaker, Scale, ShownLine, ShownPlace, take_front_lines,
 };
@@ -26,26 +26,56 @@ impl FrontLineTaker for WrittenLines {
     }
 
     fn take_line(&mut self, line: ShownLine) -> Result<(), NoMemory> {
-        put_figure(line.level as u64, &mut self.out)?;
-        put_figure(u64::from(line.children), &mut self.out)?;
-        put_figure(line.cost, &mut self.out)?;
-        put_place(line.shown, &mut self.out)
+        put_line(line, &mut self.out)
     }
+}
+
+fn put_line(line: ShownLine, out: &mut Vec<u8>) -> Result<(), NoMemory> {
+    let figures = [line.level as u64, u64::from(line.children), line.cost];
+    put_figures(&figures, out)?;
+    put_place(line.shown, out)?;
+    put_bytes(out, b"\n")
 }
 
 fn put_place(shown: ShownPlace, out: &mut Vec<u8>) -> Result<(), NoMemory> {
     match shown {
-        ShownPlace::Front { text, .. } => put_bytes(out, text)?,
+        ShownPlace::Front { text, .. } => put_bytes(out, text),
         ShownPlace::Gathered { places } => {
             put_bytes(out, b"[")?;
             put_dec(out, places)?;
-            put_bytes(out, b"]")?;
+            put_bytes(out, b"]")
         }
     }
-    put_bytes(out, b"\n")
 }
 
-/// The texts of the lists: lists between `|`, texts between `;`.
+/// Lists of texts: lists between `|`, texts between `;`. Two share `a;b`, two are equal, one is empty and one costs nothing. Behind
+/// `h` a list goes on alone, and behind the first four texts of the first list, which is cut there.
+static LISTS: &[u8] = b"a;b;c;d;e|a;b;f;g|h;i;j;k;l|m;n|m;n||p;q;r;s";
+
+/// What the lists cost.
+static COSTS: [u64; 7] = [10, 20, 5, 7, 8, 3, 0];
+
+/// Thresholds and depths, and the lines of the lists, which cost 53. Of 20% `c` and `h` are too small for lines, and what goes on
+/// alone behind them has none.
+static CASES: [(u64, u32, &[u8]); 3] = [
+    (
+        0,
+        6,
+        b"0 3 53 \n1 1 30 a\n2 2 30 b\n3 1 20 f\n4 0 20 g\n3 1 10 c\n4 1 10 d\n5 0 10 e\n1 1 15 m\n2 0 15 n\n1 1 5 h\n2 1 5 i\n3 1 5 j\n4 1 5 k\n5 0 5 l\n",
+    ),
+    (
+        0,
+        3,
+        b"0 3 53 \n1 1 30 a\n2 2 30 b\n3 0 20 f\n3 0 10 c\n1 1 15 m\n2 0 15 n\n1 1 5 h\n2 1 5 i\n3 0 5 j\n",
+    ),
+    (
+        2000,
+        6,
+        b"0 3 53 \n1 1 30 a\n2 2 30 b\n3 1 20 f\n4 0 20 g\n3 0 10 [1]\n1 1 15 m\n2 0 15 n\n1 0 5 [1]\n",
+    ),
+];
+
+/// The texts of the lists.
 fn names_of(alloc: Global, lists: &[u8]) -> Result<Names, NoMemory> {
     let mut names = Names::new(alloc);
     for text in lists.split(|byte| *byte == b'|' || *byte == b';') {
@@ -71,6 +101,7 @@ fn numbers_of(alloc: Global, names: &Names, list: &[u8]) -> Result<Vec<usize>, N
     Ok(numbers)
 }
 
+/// The lists, by the numbers of their texts.
 fn chains_of(alloc: Global, names: &Names, lists: &[u8]) -> Result<Chains, NoMemory>
     ensures { IfOk result (λ chains. AreTexts names.now chains) }
 {
@@ -99,9 +130,8 @@ fn written(
     costs: &[u64],
     threshold: u64,
     depth: u32,
-) -> Result<Vec<u8>, NoMemory>
-    requires { sum costs.now ≤ 2 ^ 62 }
-{
+) -> Vec<u8> {
+    assert!(rt; have_sum(costs));
     assert_eq!(rt; fronts.len() as usize, costs.len());
     let costing = Costing::new(fronts.len(), |stack: u32| costs[stack as usize]);
     let scale = Scale {
@@ -111,64 +141,18 @@ fn written(
     let lines = WrittenLines {
         out: Vec::new(alloc),
     };
-    let WrittenLines { out } = take_front_lines(alloc, fronts, &costing, scale, depth, lines)?;
-    Ok(out)
+    let WrittenLines { out } = take_front_lines(
+        alloc, fronts, &costing, scale, depth, lines,
+    ).expect(rt, "memory");
+    out
 }
 
-// Of the lists, two share `a;b`, two are equal, one is empty and one costs nothing. Behind `h` a list goes on alone, and
-// behind the first four texts of the first list, which is cut there.
-fn check_lines(
-    rt: &impl Abort,
-    alloc: Global,
-    threshold: u64,
-    depth: u32,
-    lines: &[u8],
-) -> Result<(), NoMemory> {
-    let lists = b"a;b;c;d;e|a;b;f;g|h;i;j;k;l|m;n|m;n||p;q;r;s";
-    let fronts = fronts_of(alloc, lists)?;
-    let out = written(
-        rt,
-        alloc,
-        &fronts,
-        &[10, 20, 5, 7, 8, 3, 0],
-        threshold,
-        depth,
-    );
+#[test]
+fn lists_that_go_on_alone(rt: HostRuntime) {
+    let fronts = fronts_of(rt.alloc(), LISTS).expect(&rt, "memory");
+    for (threshold, depth, lines) in &CASES {
+        let out = written(&rt, rt.alloc(), &fronts, &COSTS, *threshold, *depth);
+        assert_eq!(rt; out.as_slice(), *lines);
+    }
     drop(fronts);
-    assert_eq!(rt; out?.as_slice(), lines);
-    Ok(())
-}
-
-#[test]
-fn lists_that_go_on_alone(rt: HostRuntime) -> Result<(), NoMemory> {
-    check_lines(
-        &rt,
-        rt.alloc(),
-        0,
-        6,
-        b"0 3 53 \n1 1 30 a\n2 2 30 b\n3 1 20 f\n4 0 20 g\n3 1 10 c\n4 1 10 d\n5 0 10 e\n1 1 15 m\n2 0 15 n\n1 1 5 h\n2 1 5 i\n3 1 5 j\n4 1 5 k\n5 0 5 l\n",
-    )
-}
-
-#[test]
-fn tails_to_a_depth(rt: HostRuntime) -> Result<(), NoMemory> {
-    check_lines(
-        &rt,
-        rt.alloc(),
-        0,
-        3,
-        b"0 3 53 \n1 1 30 a\n2 2 30 b\n3 0 20 f\n3 0 10 c\n1 1 15 m\n2 0 15 n\n1 1 5 h\n2 1 5 i\n3 0 5 j\n",
-    )
-}
-
-// 20% of the total: `c` and `h` are too small for lines, and what goes on alone behind them has none.
-#[test]
-fn tails_above_a_threshold(rt: HostRuntime) -> Result<(), NoMemory> {
-    check_lines(
-        &rt,
-        rt.alloc(),
-        2000,
-        6,
-        b"0 3 53 \n1 1 30 a\n2 2 30 b\n3 1 20 f\n4 0 20 g\n3 0 10 [1]\n1 1 15 m\n2 0 15 n\n1 0 5 [1]\n",
-    )
 }

@@ -2,25 +2,36 @@
 ghost use Rattle.std.specs.Prelude.{◌≡◌};
 ghost use Rattle.massif_cull.specs.Entries.{last_time};
 
-use hp_num::{NoMemory, parse_dec, put_bytes, put_dec};
+use hp_num::{NoMemory, put_bytes, put_dec};
 use massif_cull::{Kind, Offer, SnapArray, SnapEntry, Taken};
 use std::alloc::Global;
 use std::cell::Cell;
 use std::process::Abort;
-use std::test::Fail;
 
 /// Of how many snapshots half are culled, of how many normal ones one is detailed, and by how many hundredths of a percent a
 /// peak passes the last one.
 type Settings = (u32, u64, u64);
 
+/// What is done with an array.
+#[derive(Clone, Copy)]
+enum Step {
+    /// A normal offer is made, at this time and of so many bytes.
+    Normal(u64, u64),
+    /// A peak is offered.
+    Peak(u64, u64),
+    Show,
+    Cull,
+    /// The first snapshot is taken out.
+    First,
+}
+
 /// An array, and what is done with it.
 struct Case {
     settings: Settings,
-    /// Words with blanks between them: the place and time of a normal offer of no bytes, behind `+` the bytes of another, and
-    /// behind `^` those of a peak; `show`, `cull`, and `first`, which takes the first snapshot out.
-    words: &'static str,
+    steps: &'static [Step],
     /// A letter for each offer, for what it is taken as, or `-`, and lines of the snapshots that are shown and taken out: the
-    /// place, the time, the bytes, as load the number of the word, and the kind.
+    /// place, the time, the bytes, as load the number of the step, and the kind. How many loads have been dropped is told where
+    /// snapshots are shown, and when the array is gone.
     text: &'static str,
 }
 
@@ -28,9 +39,26 @@ static CASES: [Case; 6] = [
     // The interval is 0 up to the tenth snapshot, which is culled.
     Case {
         settings: (10, 1_000_000, 100),
-        words: "show 0 1 2 3 4 5 6 7 8 show 9 show 10 11 show",
+        steps: &[
+            Step::Show,
+            Step::Normal(0, 0),
+            Step::Normal(1, 0),
+            Step::Normal(2, 0),
+            Step::Normal(3, 0),
+            Step::Normal(4, 0),
+            Step::Normal(5, 0),
+            Step::Normal(6, 0),
+            Step::Normal(7, 0),
+            Step::Normal(8, 0),
+            Step::Show,
+            Step::Normal(9, 0),
+            Step::Show,
+            Step::Normal(10, 0),
+            Step::Normal(11, 0),
+            Step::Show,
+        ],
         text: "
-next from 0
+next from 0, dropped 0
 nnnnnnnnn
 0 0 0 1 normal
 1 1 0 2 normal
@@ -41,14 +69,14 @@ nnnnnnnnn
 6 6 0 7 normal
 7 7 0 8 normal
 8 8 0 9 normal
-next from 8
+next from 8, dropped 0
 n
 0 0 0 1 normal
 2 2 0 3 normal
 4 4 0 5 normal
 6 6 0 7 normal
 9 9 0 11 normal
-next from 11
+next from 11, dropped 5
 -n
 0 0 0 1 normal
 2 2 0 3 normal
@@ -56,82 +84,152 @@ next from 11
 6 6 0 7 normal
 9 9 0 11 normal
 11 11 0 14 normal
-next from 13
+next from 13, dropped 6
+dropped 12
 ",
     },
     // A peak stands among the offers.
     Case {
         settings: (10, 1_000_000, 100),
-        words: "0 1 2 2^5 3 4 5 6 7 8 show",
+        steps: &[
+            Step::Normal(0, 0),
+            Step::Normal(1, 0),
+            Step::Normal(2, 0),
+            Step::Peak(2, 5),
+            Step::Normal(3, 0),
+            Step::Normal(4, 0),
+            Step::Normal(5, 0),
+            Step::Normal(6, 0),
+            Step::Normal(7, 0),
+            Step::Normal(8, 0),
+            Step::Show,
+        ],
         text: "nnnpnnnnnn
 0 0 0 0 normal
 2 2 5 3 peak
 4 4 0 5 normal
 6 6 0 7 normal
 8 8 0 9 normal
-next from 10
+next from 10, dropped 5
+dropped 10
 ",
     },
     // A peak is compared with the last one, which one percent more doesn't pass.
     Case {
         settings: (100, 1_000_000, 100),
-        words: "0 1^1000 2^1010 3^1011 show",
+        steps: &[
+            Step::Normal(0, 0),
+            Step::Peak(1, 1000),
+            Step::Peak(2, 1010),
+            Step::Peak(3, 1011),
+            Step::Show,
+        ],
         text: "np-p
 0 0 0 0 normal
 1 1 1000 1 normal
 3 3 1011 3 peak
-next from 3
+next from 3, dropped 1
+dropped 4
 ",
     },
     // Normal offers alone are counted for detail.
     Case {
         settings: (100, 3, 0),
-        words: "0 0^7 1 2+9 show 3 4 5",
+        steps: &[
+            Step::Normal(0, 0),
+            Step::Peak(0, 7),
+            Step::Normal(1, 0),
+            Step::Normal(2, 9),
+            Step::Show,
+            Step::Normal(3, 0),
+            Step::Normal(4, 0),
+            Step::Normal(5, 0),
+        ],
         text: "npnd
 0 0 0 0 normal
 0 0 7 1 peak
 1 1 0 2 normal
 2 2 9 3 detailed
-next from 2
-nnd",
+next from 2, dropped 0
+nnddropped 7
+",
     },
     // What is culled and taken out when asked.
     Case {
         settings: (10, 1_000_000, 0),
-        words: "0 1 2 3 4 5 6 cull show first first show",
+        steps: &[
+            Step::Normal(0, 0),
+            Step::Normal(1, 0),
+            Step::Normal(2, 0),
+            Step::Normal(3, 0),
+            Step::Normal(4, 0),
+            Step::Normal(5, 0),
+            Step::Normal(6, 0),
+            Step::Cull,
+            Step::Show,
+            Step::First,
+            Step::First,
+            Step::Show,
+        ],
         text: "nnnnnnn
 0 0 0 0 normal
 2 2 0 2 normal
 4 4 0 4 normal
 6 6 0 6 normal
-next from 8
+next from 8, dropped 3
 0 0 0 0 normal
 2 2 0 2 normal
 
 4 4 0 4 normal
 6 6 0 6 normal
-next from 8
+next from 8, dropped 5
+dropped 7
 ",
     },
     Case {
         settings: (10, 1, 0),
-        words: "0 1 show first show first first",
+        steps: &[
+            Step::Normal(0, 0),
+            Step::Normal(1, 0),
+            Step::Show,
+            Step::First,
+            Step::Show,
+            Step::First,
+            Step::First,
+        ],
         text: "dd
 0 0 0 0 detailed
 1 1 0 1 detailed
-next from 1
+next from 1, dropped 0
 0 0 0 0 detailed
 
 1 1 0 1 detailed
-next from 1
+next from 1, dropped 1
 1 1 0 1 detailed
 none
+dropped 2
 ",
     },
 ];
 
+/// A load, which is the number of its step, and counts where it is dropped.
+struct Load<'a> {
+    number: u64,
+    drops: &'a Cell<u64>,
+}
+
+impl Drop for Load<'_> {
+    fn drop(self) {
+        self.drops.set(self.drops.get().wrapping_add(1));
+        let Load {
+            number: _,
+            drops: _,
+        } = self;
+    }
+}
+
 /// The time of the last snapshot, and 0 of none.
-fn last_time<T: Drop>(array: &SnapArray<T>) -> u64
+fn last_time(array: &SnapArray<Load>) -> u64
     ensures { result ≡ last_time array.now.kept.entries }
 {
     let count = array.len();
@@ -141,37 +239,24 @@ fn last_time<T: Drop>(array: &SnapArray<T>) -> u64
     array.entry(count - 1).time
 }
 
-/// Makes the offer.
-fn offer<T: Drop>(rt: &impl Abort, array: &mut SnapArray<T>, offer: Offer, load: T) -> Taken {
-    assert!(rt; last_time(array) <= offer.time);
-    assert!(rt; array.len() > 0 || !offer.peak);
-    assert!(rt; offer.time <= 10_000);
-    assert!(rt; offer.total <= 10_000);
-    array.offer(offer, load)
-}
-
-fn number(rt: &impl Abort, digits: &str) -> u64 {
-    parse_dec(digits.as_bytes()).expect(rt, "a number")
-}
-
-fn offer_at(time: u64, total: u64, peak: bool) -> Offer {
-    Offer {
+/// Makes an offer at an early time and of few bytes.
+fn offer<'a>(
+    rt: &impl Abort,
+    array: &mut SnapArray<Load<'a>>,
+    time: u64,
+    bytes: u64,
+    peak: bool,
+    load: Load<'a>,
+) -> Taken {
+    let offer = Offer {
         place: time,
-        time,
-        total,
+        time: time.min(10_000),
+        total: bytes.min(10_000),
         peak,
-    }
-}
-
-/// The offer that the word says.
-fn offer_of(rt: &impl Abort, word: &str) -> Offer {
-    if let Some((time, bytes)) = word.split_once('^') {
-        return offer_at(number(rt, time), number(rt, bytes), true);
-    }
-    if let Some((time, bytes)) = word.split_once('+') {
-        return offer_at(number(rt, time), number(rt, bytes), false);
-    }
-    offer_at(number(rt, word), 0, false)
+    };
+    assert!(rt; last_time(array) <= offer.time);
+    assert!(rt; array.len() > 0 || !peak);
+    array.offer(offer, load)
 }
 
 /// A letter for what an offer was taken as.
@@ -192,144 +277,118 @@ fn kind_line(kind: Kind) -> &'static [u8] {
     }
 }
 
-fn put_figure(figure: u64, out: &mut Vec<u8>) -> Result<(), NoMemory> {
-    put_dec(out, figure)?;
-    put_bytes(out, b" ")
-}
-
 /// Appends a line of a snapshot: its place, its time, its bytes and its load, and what it is kept as.
 fn put_entry(entry: &SnapEntry, load: u64, out: &mut Vec<u8>) -> Result<(), NoMemory> {
-    put_figure(entry.place, out)?;
-    put_figure(entry.time, out)?;
-    put_figure(entry.total, out)?;
-    put_figure(load, out)?;
+    for figure in &[entry.place, entry.time, entry.total, load] {
+        put_dec(out, *figure)?;
+        put_bytes(out, b" ")?;
+    }
     put_bytes(out, kind_line(entry.kind))
 }
 
-/// Appends lines of the snapshots, and the time from which on a normal offer is taken.
-fn put_array(rt: &impl Abort, array: &SnapArray<u64>, out: &mut Vec<u8>) -> Result<(), NoMemory> {
-    put_bytes(out, b"\n")?;
-    for i in 0..array.len() {
-        assert!(rt; i < array.len());
-        put_entry(&array.entry(i), *array.load(i), out)?;
-    }
-    put_bytes(out, b"next from ")?;
-    put_dec(out, array.next_time())?;
+/// Appends how many loads have been dropped.
+fn put_drops(drops: &Cell<u64>, out: &mut Vec<u8>) -> Result<(), NoMemory> {
+    put_bytes(out, b"dropped ")?;
+    put_dec(out, drops.get())?;
     put_bytes(out, b"\n")
 }
 
+/// Appends lines of the snapshots, and the time from which on a normal offer is taken.
+fn put_array(array: &SnapArray<Load>, out: &mut Vec<u8>) -> Result<(), NoMemory> {
+    put_bytes(out, b"\n")?;
+    for i in 0..array.len() {
+        put_entry(&array.entry(i), array.load(i).number, out)?;
+    }
+    put_bytes(out, b"next from ")?;
+    put_dec(out, array.next_time())?;
+    put_bytes(out, b", ")
+}
+
 /// Takes the first snapshot out, and appends its line.
-fn put_first(array: &mut SnapArray<u64>, out: &mut Vec<u8>) -> Result<(), NoMemory> {
+fn put_first(array: &mut SnapArray<Load>, out: &mut Vec<u8>) -> Result<(), NoMemory> {
     match array.take_first() {
-        Some((entry, load)) => put_entry(&entry, load, out),
+        Some((entry, load)) => {
+            let number = load.number;
+            drop(load);
+            put_entry(&entry, number, out)
+        }
         None => put_bytes(out, b"none\n"),
     }
 }
 
-/// Does what the word says, which has this number, and appends what it comes to.
-fn put_word(
+/// Does a step, which has this number, and appends what it comes to.
+fn put_step<'a>(
     rt: &impl Abort,
-    array: &mut SnapArray<u64>,
-    word: &str,
+    array: &mut SnapArray<Load<'a>>,
+    drops: &'a Cell<u64>,
+    step: Step,
     number: u64,
     out: &mut Vec<u8>,
 ) -> Result<(), NoMemory> {
-    match word {
-        "show" => put_array(rt, array, out),
-        "first" => put_first(array, out),
-        "cull" => {
+    match step {
+        Step::Normal(time, bytes) => {
+            let taken = offer(rt, array, time, bytes, false, Load { number, drops });
+            put_bytes(out, letter(taken))
+        }
+        Step::Peak(time, bytes) => {
+            let taken = offer(rt, array, time, bytes, true, Load { number, drops });
+            put_bytes(out, letter(taken))
+        }
+        Step::Show => {
+            put_array(array, out)?;
+            put_drops(drops, out)
+        }
+        Step::Cull => {
             assert!(rt; array.len() >= 6);
             array.cull();
             Ok(())
         }
-        _ => put_bytes(out, letter(offer(rt, array, offer_of(rt, word), number))),
+        Step::First => put_first(array, out),
     }
 }
 
-/// Does what the words say, and appends what they come to.
-fn put_words(
+/// Does the steps, and appends what they come to.
+fn put_steps<'a>(
     rt: &impl Abort,
-    array: &mut SnapArray<u64>,
-    words: &str,
+    array: &mut SnapArray<Load<'a>>,
+    drops: &'a Cell<u64>,
+    steps: &[Step],
     out: &mut Vec<u8>,
 ) -> Result<(), NoMemory> {
     let mut number = 0u64;
-    for word in words.split(' ') {
-        put_word(rt, array, word, number, out)?;
+    for step in steps {
+        put_step(rt, array, drops, *step, number, out)?;
         number = number.wrapping_add(1);
     }
     Ok(())
 }
 
 /// An array without snapshots.
-fn array_of<T: Drop>(
-    rt: &impl Abort,
-    alloc: Global,
-    settings: Settings,
-) -> Result<SnapArray<T>, NoMemory> {
+fn array_of<'a>(rt: &impl Abort, alloc: Global, settings: Settings) -> SnapArray<Load<'a>> {
     let (max, detailed_freq, inaccuracy) = settings;
-    assert!(rt; 10 <= max && max <= 1000);
-    assert!(rt; 1 <= detailed_freq && detailed_freq <= 1_000_000);
-    assert!(rt; inaccuracy <= 10_000);
-    SnapArray::new(alloc, max, detailed_freq, inaccuracy)
+    SnapArray::new(
+        alloc,
+        max.max(10).min(1000),
+        detailed_freq.max(1).min(1_000_000),
+        inaccuracy.min(10_000),
+    )
+    .expect(rt, "memory")
 }
 
-/// Appends what the words of the case come to.
-fn put_case(
-    rt: &impl Abort,
-    alloc: Global,
-    case: &Case,
-    out: &mut Vec<u8>,
-) -> Result<(), NoMemory> {
-    let mut array = array_of(rt, alloc, case.settings)?;
-    put_words(rt, &mut array, case.words, out)
-}
-
-#[test]
-fn arrays(rt: HostRuntime) -> Result<(), Fail> {
-    for case in &CASES {
-        let mut out = Vec::new(rt.alloc());
-        put_case(&rt, rt.alloc(), case, &mut out)?;
-        assert_eq!(rt; out.as_slice(), case.text.as_bytes());
-    }
-    Ok(())
-}
-
-/// A load that counts how often one is dropped.
-struct Counted<'a> {
-    drops: &'a Cell<u32>,
-}
-
-impl Drop for Counted<'_> {
-    fn drop(self) {
-        self.drops.set(self.drops.get().wrapping_add(1));
-        let Counted { drops: _ } = self;
-    }
-}
-
-/// Makes a normal offer at this time, after which so many loads have been dropped.
-fn offer_counted<'a>(
-    rt: &impl Abort,
-    array: &mut SnapArray<Counted<'a>>,
-    drops: &'a Cell<u32>,
-    time: u64,
-    count: u32,
-) {
-    offer(rt, array, offer_at(time, 0, false), Counted { drops });
-    assert_eq!(rt; drops.get(), count);
-}
-
-// The tenth offer culls five snapshots, and the next one isn't taken.
-#[test]
-fn drops_each_load_once(rt: HostRuntime) -> Result<(), Fail> {
+/// What the steps of the case come to is its text.
+fn works(rt: &impl Abort, alloc: Global, case: &Case) {
     let drops = Cell::new(0);
-    let mut array = array_of(&rt, rt.alloc(), (10, 1, 0))?;
-    for time in 0..9 {
-        offer_counted(&rt, &mut array, &drops, time, 0);
-    }
-    offer_counted(&rt, &mut array, &drops, 9, 5);
-    offer_counted(&rt, &mut array, &drops, 10, 6);
+    let mut array = array_of(rt, alloc, case.settings);
+    let mut out = Vec::new(alloc);
+    put_steps(rt, &mut array, &drops, case.steps, &mut out).expect(rt, "memory");
     drop(array);
-    assert_eq!(rt; drops.get(), 11);
-    Ok(())
+    put_drops(&drops, &mut out).expect(rt, "memory");
+    assert_eq!(rt; out.as_slice(), case.text.as_bytes());
+}
+
+#[test]
+fn arrays(rt: HostRuntime) {
+    for case in &CASES {
+        works(&rt, rt.alloc(), case);
+    }
 }

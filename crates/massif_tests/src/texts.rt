@@ -102,7 +102,7 @@ n2: 100 (heap allocation functions) malloc/new/new[], --alloc-fns, etc.
 ";
 
 /// A front in milliseconds with a snapshot whose figures all differ, up to its tree.
-pub const FRONT: &[u8] =
+pub static FRONT: &[u8] =
     b"desc: d\ncmd: c\ntime_unit: ms\n#-----------\nsnapshot=0\n#-----------\ntime=1\nmem_heap_B=2\nmem_heap_extra_B=3\nmem_stacks_B=4\nheap_tree=peak\n";
 
 /// A file with two descriptions that say something, blanks, a comment and an empty line.
@@ -113,50 +113,8 @@ pub const LOOSE: &[u8] =
 pub const LOOSE_WRITTEN: &[u8] =
     b"desc: -a   -b\ncmd: ./a  b\ntime_unit: e\n#-----------\nsnapshot=0\n#-----------\ntime=7\nmem_heap_B=0\nmem_heap_extra_B=0\nmem_stacks_B=3\nheap_tree=empty\n";
 
-/// Lines that stand in the place of a line of the worked file: its number and the line, and behind `=>` how the file then
-/// ends. The first ones are refused: lines of the header, of snapshots and of trees; of the last three one has one line fewer
-/// than the root counts, one a skipped line in a tree, and one has one line more. Then come unusual lines that are taken.
-pub const ENDS: &str = "1 time_unit: i => bad header in line 1
-1  desc: (none) => bad header in line 1
-2 snapshot=0 => bad header in line 2
-2 desc: second => bad header in line 3
-3 desc: late => bad header in line 3
-3 time_unit: q => bad header in line 3
-3 time_unit: i  => bad header in line 3
-5 time=0 => bad snapshot in line 5
-7  time=0 => bad snapshot in line 7
-8 mem_heap_extra_B=0 => bad snapshot in line 8
-10 heap_tree=empty => bad snapshot in line 10
-11 heap_tree=empty  => bad snapshot in line 11
-5 snapshot= => bad number in line 5
-8 mem_heap_B= 0 => bad number in line 8
-9 mem_heap_extra_B=4611686018427387905 => bad number in line 9
-15 time=-1 => bad number in line 15
-5 snapshot=1 => wrong order in line 5
-13 snapshot=2 => wrong order in line 13
-7 time=157301 => wrong order in line 15
-20 2: 9000 x => bad tree in line 20
-20 n2:9000 x => bad tree in line 20
-20 n2:  9000 x => bad tree in line 20
-20 n4294967296: 9000 x => bad tree in line 20
-21  n0: 4611686018427387905 x => bad tree in line 21
-21  n0: 8960x main => bad tree in line 21
-20 n3: 9000 x => truncated in line 23
-21 #n0: 8960 main => truncated in line 23
-20 n1: 9000 x => bad snapshot in line 22
-1 desc: => 2 snapshots
-1  => 2 snapshots
-2 cmd: => 2 snapshots
-3 time_unit:   ms => 2 snapshots
-4     => 2 snapshots
-13 snapshot=00001 => 2 snapshots
-15 time=4611686018427387904 => 2 snapshots
-20    n2: 9000 => 2 snapshots
-22 n000: 0040  => 2 snapshots
-";
-
 /// How the first lines of the worked file end, from none of them to all but the last one.
-pub const FIRST_LINES: &str = "truncated in line 1
+pub static FIRST_LINES: &str = "truncated in line 1
 truncated in line 2
 truncated in line 3
 truncated in line 4
