@@ -1,7 +1,8 @@
 -- The fields of a text, taken off one at a time from the front.
 use Rattle.std.proofs.Common.{◌≡◌, ℕ, suc, ◌+◌, ◌<◌, ◌≤◌, Bool, true, false, cond, eqb, ltb, List, [], ◌∷◌, ◌++◌, length, take, drop, refl, sym, ap, ◌∙◌, subst, arith, Option, Some, None, IsTrue, length-append, zero, map}
-use Rattle.std.specs.Prelude.{filter, unwrap_or, is_some, slice_get}
+use Rattle.std.specs.Prelude.{filter, unwrap_or, is_some, slice_get, IfNone}
 use Rattle.std.specs.Option.{option_and_then}
+use Rattle.std.proofs.lemmas.Bool.{false≢true}
 use Rattle.std.proofs.lemmas.List.{length-map}
 use Rattle.hp_num.specs.ParsedHex.{parsed_hex}
 use Rattle.std.specs.List.{slice_split, onto_first, position, position_or_len}
@@ -204,3 +205,8 @@ number_at (f ∷ fs) (suc k) h = number_at fs k (and-true (is_some (parsed_hex f
 -- as many numbers as fields
 pub length_numbers : (text : List ℕ) → length (numbers text) ≡ length (fields text)
 length_numbers text = length-map (fields text) number
+
+-- what holds where no further field is found, when none was
+pub where_none : {X : Type 0} (found : Option X) (P : Type 0) → false ≡ is_some found → IfNone found P → P
+where_none None P none holds = holds
+where_none (Some x) P none holds = absurd (false≢true none)
