@@ -1,5 +1,5 @@
 //! Worked trees of lists, and of the stacks of a trace. What a tree shows is one text.
-ghost use Rattle.std.specs.Prelude.{◌^◌, ◌≤◌, IsTrue, sum};
+ghost use Rattle.std.specs.Prelude.{◌≡◌, ◌+◌, ◌^◌, ◌≤◌, IsTrue, length, sum};
 
 use cost_tree::{CostTree, Costing, Direction, Fronts};
 use hp_num::{NoMemory, put_bytes, put_dec};
@@ -174,13 +174,25 @@ fn shows(rt: &impl Abort, alloc: Global, tree: CostTree, nodes: &[u8]) {
     assert_eq!(rt; out.as_slice(), nodes);
 }
 
+/// The tree of the lists with these costs.
+fn tree_of_lists<'a>(
+    alloc: Global,
+    fronts: &'a Fronts,
+    costs: &[u64],
+    depth: u32,
+) -> Result<CostTree<'a>, NoMemory>
+    requires as_many { length costs.now ≡ length fronts.now }
+    requires bound { sum costs.now ≤ 2 ^ 62 }
+{
+    let costing = Costing::new(fronts.len(), |stack: u32| costs[stack as usize]);
+    CostTree::of_fronts(alloc, fronts, &costing, depth)
+}
+
 /// The tree of the lists with the costs of the case shows the nodes of the case.
 fn lists_show(rt: &impl Abort, alloc: Global, fronts: &Fronts, case: &Case) {
-    let costs = case.costs;
-    assert!(rt; have_sum(costs));
-    assert_eq!(rt; fronts.len() as usize, costs.len());
-    let costing = Costing::new(fronts.len(), |stack: u32| costs[stack as usize]);
-    let tree = CostTree::of_fronts(alloc, fronts, &costing, case.depth).expect(rt, "memory");
+    assert!(rt; have_sum(case.costs));
+    assert_eq!(rt; fronts.len() as usize, case.costs.len());
+    let tree = tree_of_lists(alloc, fronts, case.costs, case.depth).expect(rt, "memory");
     shows(rt, alloc, tree, case.nodes);
 }
 
@@ -224,6 +236,21 @@ fn read_worked(rt: &impl Abort, tables: &mut Tables) -> Result<(), LineError> {
     Ok(())
 }
 
+/// The tree of a trace's stacks with these costs.
+fn tree_of_stacks<'a>(
+    alloc: Global,
+    tables: &Tables,
+    costs: &[u64],
+    direction: Direction,
+    style: Style,
+) -> Result<CostTree<'a>, NoMemory>
+    requires as_many { length costs.now ≡ length tables.now.nodes + 1 }
+    requires bound { sum costs.now ≤ 2 ^ 62 }
+{
+    let costing = Costing::new(tables.stacks(), |stack: u32| costs[stack as usize]);
+    CostTree::build(alloc, tables, &costing, direction, style, 4096)
+}
+
 /// The tree of a trace's stacks with these costs shows these nodes.
 fn stacks_show(
     rt: &impl Abort,
@@ -236,10 +263,7 @@ fn stacks_show(
 ) {
     assert!(rt; have_sum(costs));
     assert_eq!(rt; tables.stacks() as usize, costs.len());
-    let costing = Costing::new(tables.stacks(), |stack: u32| costs[stack as usize]);
-    let tree = CostTree::build(alloc, tables, &costing, direction, style, 4096).expect(
-        rt, "memory",
-    );
+    let tree = tree_of_stacks(alloc, tables, costs, direction, style).expect(rt, "memory");
     shows(rt, alloc, tree, nodes);
 }
 
