@@ -39,24 +39,18 @@ impl Place {
     }
 }
 
-/// Runs over a file `s`. Behind `$ ` stand the words of a run, and below them what each failing call comes to.
-struct Failures {
-    file: &'static str,
-    table: &'static str,
-}
-
 /// What the run comes to where this call fails.
 fn outcome<R: Threads + Wait + Sync + Abort>(
     rt: &R,
     alloc: Global,
-    file: &str,
+    script: &[u8],
     words: &str,
     setting: Setting,
 ) -> Vec<u8> {
     let mut outcome = Vec::new(alloc);
     let run = Run {
         setting,
-        script: file.as_bytes(),
+        script,
         words,
     };
     append_run(rt, alloc, &run, &Watch::of(NOBODY), &mut outcome);
@@ -77,14 +71,14 @@ fn put_failure(place: Place, call: u64, failed: &[u8], all: &mut Vec<u8>) -> Res
 fn put_failures<R: Threads + Wait + Sync + Abort>(
     rt: &R,
     alloc: Global,
-    file: &str,
+    script: &[u8],
     words: &str,
     place: Place,
     all: &mut Vec<u8>,
 ) {
-    let whole = outcome(rt, alloc, file, words, place.failing_at(0));
+    let whole = outcome(rt, alloc, script, words, place.failing_at(0));
     for call in 1..100 {
-        let failed = outcome(rt, alloc, file, words, place.failing_at(call));
+        let failed = outcome(rt, alloc, script, words, place.failing_at(call));
         if failed.as_slice() == whole.as_slice() {
             break;
         }
@@ -92,151 +86,15 @@ fn put_failures<R: Threads + Wait + Sync + Abort>(
     }
 }
 
-/// Plays a line of a table, over a file `s`: of the words of a run, appends these, and what each failing call comes to.
-fn play_line<R: Threads + Wait + Sync + Abort>(
+/// Appends what each failing call of a run comes to.
+pub fn put_all_failures<R: Threads + Wait + Sync + Abort>(
     rt: &R,
     alloc: Global,
-    file: &str,
-    line: &str,
+    script: &[u8],
+    words: &str,
     all: &mut Vec<u8>,
-) -> Result<(), NoMemory> {
-    let Some(words) = line.strip_prefix("$ ") else {
-        return Ok(());
-    };
-    put_bytes(all, line.as_bytes())?;
-    put_bytes(all, b"\n")?;
-    for place in [Place::Store, Place::Out, Place::Err] {
-        put_failures(rt, alloc, file, words, place, all);
-    }
-    Ok(())
-}
-
-/// Plays a table and asserts that it is what came.
-fn expect<R: Threads + Wait + Sync + Abort>(rt: &R, alloc: Global, failures: &Failures) {
-    let mut all = Vec::new(alloc);
-    for line in failures.table.split('\n') {
-        play_line(rt, alloc, failures.file, line, &mut all).expect(rt, "memory");
-    }
-    assert_eq!(rt; all.as_slice(), failures.table.as_bytes());
-}
-
-static FAILURES: [Failures; 2] = [
-    Failures {
-        file: "a 1 40 500 400\nf 1\na 2 8 400\n",
-        table: "$ --modules=m s
-store 1
-heaprec: m: cannot open
-[3]
-store 2
-heaprec: m: cannot read
-[3]
-store 3
-heaprec: m: cannot read
-[3]
-store 4
-heaprec: s: cannot open
-[3]
-store 5
-heaprec: s: cannot read
-[3]
-store 6
-heaprec: s: cannot read
-[3]
-out 1
-heaprec: write failed
-[4]
-out 2
-v 10500 2
-X heaprec
-m app 1000 0 1f00
-m -
-# thread 0
-t 400 0
-t 500 1
-+ 40 2 10000
-- 10000
-+ 8 1 10040
-[4]
-err 1
-v 10500 2
-X heaprec
-m app 1000 0 1f00
-m -
-# thread 0
-t 400 0
-t 500 1
-+ 40 2 10000
-- 10000
-+ 8 1 10040
-[4]
-$ --summary
-out 1
-usage: heaprec [--modules=FILE] [--summary] [--check=TRACE] SCRIPT...
-[4]
-err 1
-[4]
-err 2
-usage: heaprec [--modules=FILE] [--summary] [--check=TRACE] SCRIPT...
-[4]
-",
-    },
-    // A recording of the scripts `s0` and `s1`.
-    Failures {
-        file: "v 10500 2
-X heaprec
-# thread 0
-t 400 0
-t 500 1
-+ 40 2 10000
-# thread 1
-+ 8 1 10040
-# thread 0
-- 10000
-",
-        table: "$ --check=s s0 s1
-store 1
-heaprec: s0: cannot open
-[3]
-store 2
-heaprec: s0: cannot read
-[3]
-store 3
-heaprec: s0: cannot read
-[3]
-store 4
-heaprec: s1: cannot open
-[3]
-store 5
-heaprec: s1: cannot read
-[3]
-store 6
-heaprec: s1: cannot read
-[3]
-store 7
-heaprec: s: cannot open
-[3]
-store 8
-heaprec: s: cannot read
-[3]
-store 9
-heaprec: s: cannot read
-[3]
-out 1
-heaprec: write failed
-[4]
-out 2
-a recording of 3 events
-[4]
-err 1
-a recording of 3 events
-[4]
-",
-    },
-];
-
-#[test]
-fn failing_calls(rt: HostRuntime) {
-    for failures in &FAILURES {
-        expect(&rt, rt.alloc(), failures);
-    }
+) {
+    put_failures(rt, alloc, script, words, Place::Store, all);
+    put_failures(rt, alloc, script, words, Place::Out, all);
+    put_failures(rt, alloc, script, words, Place::Err, all);
 }

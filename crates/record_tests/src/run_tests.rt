@@ -1,5 +1,6 @@
 //! Runs whose text is the same whatever the threads do: those of one script, and those that record nothing.
 
+use crate::failing_calls::put_all_failures;
 use crate::gates::{NOBODY, Watch};
 use crate::runs::{Run, append_run, sound};
 use hp_num::{NoMemory, put_bytes};
@@ -9,7 +10,8 @@ use std::sync::Wait;
 use std::thread::Threads;
 
 /// Runs, and how many events all scripts of one may have. A line behind `> ` is one more of the file `s`, up to the next run, and
-/// one behind `>. ` has no line feed; the words behind `$ ` are run; all other lines are what a run wrote.
+/// one behind `>. ` has no line feed; the words behind `$ ` are run; those behind `! ` are run once for each call that can fail, which
+/// fails then; all other lines are what came of it.
 pub struct Transcript {
     pub most_events: u16,
     pub text: &'static str,
@@ -19,6 +21,23 @@ pub struct Transcript {
 fn put_line(line: &str, all: &mut Vec<u8>) -> Result<(), NoMemory> {
     put_bytes(all, line.as_bytes())?;
     put_bytes(all, b"\n")
+}
+
+/// Makes a run of which no call fails, and appends what came of it.
+fn append_sound_run<R: Threads + Wait + Sync + Abort>(
+    rt: &R,
+    alloc: Global,
+    most_events: u16,
+    script: &[u8],
+    words: &str,
+    all: &mut Vec<u8>,
+) {
+    let run = Run {
+        setting: sound(most_events),
+        script,
+        words,
+    };
+    append_run(rt, alloc, &run, &Watch::of(NOBODY), all);
 }
 
 /// Plays a line of a transcript, where the file `s` has these bytes so far.
@@ -38,16 +57,17 @@ fn play_line<R: Threads + Wait + Sync + Abort>(
         put_line(line, all)?;
         return put_bytes(script, last.as_bytes());
     }
+    if let Some(words) = line.strip_prefix("! ") {
+        put_line(line, all)?;
+        put_all_failures(rt, alloc, script, words, all);
+        script.clear();
+        return Ok(());
+    }
     let Some(words) = line.strip_prefix("$ ") else {
         return Ok(());
     };
     put_line(line, all)?;
-    let run = Run {
-        setting: sound(most_events),
-        script,
-        words,
-    };
-    append_run(rt, alloc, &run, &Watch::of(NOBODY), all);
+    append_sound_run(rt, alloc, most_events, script, words, all);
     script.clear();
     Ok(())
 }
@@ -85,7 +105,7 @@ pub fn expect_all<R: Threads + Wait + Sync + Abort>(
     }
 }
 
-static TRANSCRIPTS: [Transcript; 4] = [
+static TRANSCRIPTS: [Transcript; 6] = [
     Transcript {
         most_events: 100,
         text: "> a 1 40 500 400
@@ -323,6 +343,120 @@ heaprec: s1:1: too many events
 $ s
 heaprec: s:2: too many events
 [6]
+",
+    },
+    // Each call that can fail: on the store, on standard output and on standard error.
+    Transcript {
+        most_events: 100,
+        text: "> a 1 40 500 400
+> f 1
+> a 2 8 400
+! --modules=m s
+store 1
+heaprec: m: cannot open
+[3]
+store 2
+heaprec: m: cannot read
+[3]
+store 3
+heaprec: m: cannot read
+[3]
+store 4
+heaprec: s: cannot open
+[3]
+store 5
+heaprec: s: cannot read
+[3]
+store 6
+heaprec: s: cannot read
+[3]
+out 1
+heaprec: write failed
+[4]
+out 2
+v 10500 2
+X heaprec
+m app 1000 0 1f00
+m -
+# thread 0
+t 400 0
+t 500 1
++ 40 2 10000
+- 10000
++ 8 1 10040
+[4]
+err 1
+v 10500 2
+X heaprec
+m app 1000 0 1f00
+m -
+# thread 0
+t 400 0
+t 500 1
++ 40 2 10000
+- 10000
++ 8 1 10040
+[4]
+! --summary
+out 1
+usage: heaprec [--modules=FILE] [--summary] [--check=TRACE] SCRIPT...
+[4]
+err 1
+[4]
+err 2
+usage: heaprec [--modules=FILE] [--summary] [--check=TRACE] SCRIPT...
+[4]
+",
+    },
+    Transcript {
+        most_events: 100,
+        text: "> v 10500 2
+> X heaprec
+> # thread 0
+> t 400 0
+> t 500 1
+> + 40 2 10000
+> # thread 1
+> + 8 1 10040
+> # thread 0
+> - 10000
+! --check=s s0 s1
+store 1
+heaprec: s0: cannot open
+[3]
+store 2
+heaprec: s0: cannot read
+[3]
+store 3
+heaprec: s0: cannot read
+[3]
+store 4
+heaprec: s1: cannot open
+[3]
+store 5
+heaprec: s1: cannot read
+[3]
+store 6
+heaprec: s1: cannot read
+[3]
+store 7
+heaprec: s: cannot open
+[3]
+store 8
+heaprec: s: cannot read
+[3]
+store 9
+heaprec: s: cannot read
+[3]
+out 1
+heaprec: write failed
+[4]
+out 2
+a recording of 3 events
+[4]
+err 1
+a recording of 3 events
+[4]
 ",
     },
 ];

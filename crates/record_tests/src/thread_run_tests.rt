@@ -97,8 +97,16 @@ fn put_trace<R: Threads + Wait + Sync + Abort>(
     append_run(rt, alloc, &run, gate, trace);
 }
 
-/// That two workers meet where this one waits for the other, that their holds are numbered, and that the other has taken the
-/// turns of its first hold when the one begins its second.
+/// Whether the other thread has taken the turns of its first hold when this one begins its second, and both take all.
+fn are_beside(trace: &[u8], waiting: &[u8], other: &[u8]) -> bool {
+    let begins = allocations_before(trace, waiting, 64);
+    let all = allocations_before(trace, waiting, 100);
+    let all_others = allocations_before(trace, other, 100);
+    allocations_before(trace, other, 63) < begins && all == 200 && all_others == 200
+}
+
+/// That two workers meet where this one waits for the other, that their holds are numbered, and that their turns stand beside each
+/// other.
 fn meet<R: Threads + Wait + Sync + Abort>(
     rt: &R,
     alloc: Global,
@@ -109,11 +117,11 @@ fn meet<R: Threads + Wait + Sync + Abort>(
     let gate = Watch::of(waits);
     let mut trace = Vec::new(alloc);
     put_trace(rt, alloc, &gate, &mut trace);
+    let beside = are_beside(&trace, waiting, other);
+    drop(trace);
     assert!(rt; gate.has_met(), "the workers never met");
     assert!(rt; gate.has_counted(2), "the holds have other numbers");
-    assert!(rt; allocations_before(&trace, other, 63) < allocations_before(&trace, waiting, 64));
-    assert_eq!(rt; allocations_before(&trace, waiting, 100), 200);
-    assert_eq!(rt; allocations_before(&trace, other, 100), 200);
+    assert!(rt; beside, "the turns stand behind each other");
 }
 
 #[test]
