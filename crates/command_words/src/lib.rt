@@ -3,6 +3,8 @@
 //!
 //! What it promises: `take_words` answers the rows that the words give by the table exactly where they are taken
 //! (`words_taken`), and `value`, `has`, `files` and `only_file` read those rows.
+//!
+//! Words are tried by runs of the commands that take them, in the crates `commands_tests` and `record_tests`.
 #![tactic(auto)]
 
 mod command;
@@ -11,6 +13,3 @@ mod taken;
 
 pub use table::WordTable;
 pub use taken::{TakenWords, WordsFault, take_words};
-
-#[cfg(test)]
-mod tests;

@@ -3,6 +3,7 @@
 use crate::transcript::{expect, sound};
 use std::test::Fail;
 
+// Of the states, bits 16 to 30 are 16838, 5758, 10113, 17515, 31051, 5627, 23010, 7419, 16212 and 4086.
 const GENERATED: &str = "$ gen --events=0 --stacks=1
 v 10500 2
 X gen
@@ -25,7 +26,7 @@ a 67f 1
 + 0
 - 0
 [0]
-$ gen --seed=1 --events=4 --stacks=1 --run
+$ gen --seed 1 --events=4 --stacks=1 --run
 events: 4
 calls: 3
 temporary: 1

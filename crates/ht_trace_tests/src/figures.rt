@@ -3,7 +3,7 @@ ghost use Rattle.std.specs.Prelude.{◌≡◌, ◌+◌, ◌-◌, ◌^◌, ◌<�
 ghost use Rattle.live_ledger.specs.LedgerState.{IsHeld};
 
 use hp_num::{NoMemory, put_bytes, put_dec};
-use live_ledger::{Event, Ledger, Steps};
+use live_ledger::{Cells, Event, Ledger, Steps};
 use peak_costs::Peaks;
 use std::alloc::Global;
 use std::marker::Brand;
@@ -118,6 +118,10 @@ free of nothing.
 ",
     },
 ];
+
+// Peaks are a ledger, three lists of cells and the three numbers of a mark: a field for a second copy of the peak's figures would
+// make them larger.
+const _: () = prove!(size_of::<Peaks>() == size_of::<Ledger>() + 3 * size_of::<Cells>() + 24);
 
 /// Appends numbers as a line, with blanks between them.
 fn put_row(out: &mut Vec<u8>, first: u64, others: &[u64]) -> Result<(), NoMemory> {

@@ -10,9 +10,6 @@ ghost use Rattle.live_ledger.specs.InStack.{blocks_in, live_in};
 ghost use Rattle.peak_costs.specs.Peak.{IsIn, IsPeak, StandsFor, first_events, total_after};
 ghost use Rattle.peak_costs.specs.PeakState.{IsSound, with_stack};
 
-#[cfg(test)]
-mod fields;
-
 use crate::mark::Mark;
 use crate::save::SavedCells;
 use hp_num::NoMemory;

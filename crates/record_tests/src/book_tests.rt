@@ -1,13 +1,133 @@
 //! Recordings of small scripts, as texts.
-ghost use Rattle.std.specs.Prelude.{IfOk};
 ghost use Rattle.record_book.specs.Orders.{IsInterleaving};
 
 use crate::script_text::scripts_of;
 use hp_num::{NoMemory, put_bytes, put_dec};
 use record_book::Book;
-use record_scripts::ScriptFault;
 use std::alloc::Global;
 use std::process::Abort;
+
+/// Scripts, the threads that take the first turns, by digits, before all are finished, and what is told of it: the trace, a line
+/// with the order, and the summary.
+struct Recording {
+    scripts: &'static [u8],
+    threads: &'static [u8],
+    told: &'static [u8],
+}
+
+static RECORDINGS: [Recording; 5] = [
+    Recording {
+        scripts: b"a 1 40 500 400\nf 1\na 2 8 400",
+        threads: b"",
+        told: b"\
+v 10500 2
+X heaprec
+# thread 0
+t 400 0
+t 500 1
++ 40 2 10000
+- 10000
++ 8 1 10040
+000
+# threads: 1
+# events: 3
+# calls: 2
+# allocated: 72
+# leaked: 8 in 1 blocks
+# peak: 64 from 64 to 64
+",
+    },
+    Recording {
+        scripts: b"a 1 40 500 400\nf 1|a 1 8 400",
+        threads: b"010",
+        told: b"\
+v 10500 2
+X heaprec
+# thread 0
+t 400 0
+t 500 1
++ 40 2 10000
+# thread 1
++ 8 1 10040
+# thread 0
+- 10000
+010
+# threads: 2
+# events: 3
+# calls: 2
+# allocated: 72
+# leaked: 8 in 1 blocks
+# peak: 72 from 64 to 72
+",
+    },
+    Recording {
+        scripts: b"a 1 40 500 400\nf 1|a 1 8 400",
+        threads: b"",
+        told: b"\
+v 10500 2
+X heaprec
+# thread 0
+t 400 0
+t 500 1
++ 40 2 10000
+- 10000
+# thread 1
++ 8 1 10040
+001
+# threads: 2
+# events: 3
+# calls: 2
+# allocated: 72
+# leaked: 8 in 1 blocks
+# peak: 64 from 64 to 72
+",
+    },
+    Recording {
+        scripts: b"a 1 10 1\na 2 10 1\nf 1\nf 2\na 3 10 1",
+        threads: b"0000",
+        told: b"\
+v 10500 2
+X heaprec
+# thread 0
+t 1 0
++ 10 1 10000
++ 10 1 10010
+- 10000
+- 10010
++ 10 1 10000
+00000
+# threads: 1
+# events: 5
+# calls: 3
+# allocated: 48
+# leaked: 16 in 1 blocks
+# peak: 32 from 32 to 32
+",
+    },
+    Recording {
+        scripts: b"a 1 10 1\nr 1 20 1\nr 1 20 2",
+        threads: b"00",
+        told: b"\
+v 10500 2
+X heaprec
+# thread 0
+t 1 0
++ 10 1 10000
+- 10000
++ 20 1 10010
+- 10010
+t 2 0
++ 20 2 10010
+00000
+# threads: 1
+# events: 5
+# calls: 3
+# allocated: 80
+# leaked: 32 in 1 blocks
+# peak: 32 from 32 to 32
+",
+    },
+];
 
 /// Takes turns of these threads, given by digits, and then those that are left of thread 0, up to 64.
 fn take_turns(book: &mut Book, threads: &[u8]) -> Result<(), NoMemory> {
@@ -23,93 +143,45 @@ fn take_turns(book: &mut Book, threads: &[u8]) -> Result<(), NoMemory> {
     Ok(())
 }
 
-/// Appends the trace so far, and a line with the order.
-fn put_book(book: &Book, out: &mut Vec<u8>) -> Result<(), NoMemory> {
-    put_bytes(out, book.bytes())?;
-    for thread in book.order() {
+/// The book of scripts, of which threads take turns before all are finished.
+fn finished(rt: &impl Abort, alloc: Global, recording: &Recording) -> Book
+    ensures { IsInterleaving result.job.scripts result.order }
+{
+    let job = scripts_of(rt, alloc, recording.scripts);
+    let mut book = Book::new(alloc, job).expect(rt, "a book");
+    take_turns(&mut book, recording.threads).expect(rt, "turns");
+    let same = scripts_of(rt, alloc, recording.scripts);
+    book.finish(same).expect(rt, "a finished book")
+}
+
+/// Appends a line with the order.
+fn put_order(order: &[u8], out: &mut Vec<u8>) -> Result<(), NoMemory> {
+    for thread in order {
         put_dec(out, u64::from(*thread))?;
     }
     put_bytes(out, b"\n")
 }
 
-/// The book of scripts, of which these threads take turns before all are finished.
-fn finished(alloc: Global, text: &[u8], threads: &[u8]) -> Result<Book, ScriptFault>
-    ensures all { IfOk result (λ book. IsInterleaving book.job.scripts book.order) }
+/// Appends the trace, the order and the summary.
+fn put_book(book: &Book, out: &mut Vec<u8>) -> Result<(), NoMemory>
+    requires { IsInterleaving book.now.job.scripts book.now.order }
 {
-    let job = scripts_of(alloc, text)?.share()?;
-    let mut book = Book::new(alloc, job)?;
-    take_turns(&mut book, threads)?;
-    let same = scripts_of(alloc, text)?.share()?;
-    Ok(book.finish(same)?)
+    put_bytes(out, book.bytes())?;
+    put_order(book.order(), out)?;
+    book.put_summary(out)
 }
 
-/// Appends the trace and the order of scripts, of which these threads take turns before all are finished.
-fn put_recording(
-    alloc: Global,
-    text: &[u8],
-    threads: &[u8],
-    out: &mut Vec<u8>,
-) -> Result<(), ScriptFault> {
-    put_book(&finished(alloc, text, threads)?, out)?;
-    Ok(())
-}
-
-/// Appends the summary of scripts, of which these threads take turns before all are finished.
-fn put_summary_of(
-    alloc: Global,
-    text: &[u8],
-    threads: &[u8],
-    out: &mut Vec<u8>,
-) -> Result<(), ScriptFault> {
-    finished(alloc, text, threads)?.put_summary(out)?;
-    Ok(())
-}
-
-fn has_text(rt: &impl Abort, text: &[u8], want: &[u8]) {
-    assert_eq!(rt; text, want);
+/// What is told of a recording is that of the table.
+fn tells(rt: &impl Abort, alloc: Global, recording: &Recording) {
+    let book = finished(rt, alloc, recording);
+    let mut out = Vec::new(alloc);
+    put_book(&book, &mut out).expect(rt, "memory");
+    assert_eq!(rt; out.as_slice(), recording.told);
 }
 
 #[test]
-fn recordings(rt: HostRuntime) -> Result<(), ScriptFault> {
-    let mut out = Vec::new(rt.alloc());
-    put_recording(rt.alloc(), b"a 1 40 500 400;f 1;a 2 8 400", b"", &mut out)?;
-    put_recording(
-        rt.alloc(),
-        b"a 1 40 500 400;f 1|a 1 8 400",
-        b"010",
-        &mut out,
-    )?;
-    put_recording(rt.alloc(), b"a 1 40 500 400;f 1|a 1 8 400", b"", &mut out)?;
-    put_recording(
-        rt.alloc(),
-        b"a 1 10 1;a 2 10 1;f 1;f 2;a 3 10 1",
-        b"0000",
-        &mut out,
-    )?;
-    put_recording(rt.alloc(), b"a 1 10 1;r 1 20 1;r 1 20 2", b"00", &mut out)?;
-    has_text(
-        &rt,
-        out.as_slice(),
-        b"v 10500 2\nX heaprec\n# thread 0\nt 400 0\nt 500 1\n+ 40 2 10000\n- 10000\n+ 8 1 10040\n000\nv 10500 2\nX heaprec\n# thread 0\nt 400 0\nt 500 1\n+ 40 2 10000\n# thread 1\n+ 8 1 10040\n# thread 0\n- 10000\n010\nv 10500 2\nX heaprec\n# thread 0\nt 400 0\nt 500 1\n+ 40 2 10000\n- 10000\n# thread 1\n+ 8 1 10040\n001\nv 10500 2\nX heaprec\n# thread 0\nt 1 0\n+ 10 1 10000\n+ 10 1 10010\n- 10000\n- 10010\n+ 10 1 10000\n00000\nv 10500 2\nX heaprec\n# thread 0\nt 1 0\n+ 10 1 10000\n- 10000\n+ 20 1 10010\n- 10010\nt 2 0\n+ 20 2 10010\n00000\n",
-    );
-    Ok(())
-}
-
-#[test]
-fn summaries(rt: HostRuntime) -> Result<(), ScriptFault> {
-    let mut out = Vec::new(rt.alloc());
-    put_summary_of(
-        rt.alloc(),
-        b"a 1 40 500 400;f 1|a 1 8 400",
-        b"010",
-        &mut out,
-    )?;
-    put_summary_of(rt.alloc(), b"a 1 40 500 400;f 1|a 1 8 400", b"", &mut out)?;
-    put_summary_of(rt.alloc(), b"a 1 10 1;r 1 20 1;r 1 20 2", b"00", &mut out)?;
-    has_text(
-        &rt,
-        out.as_slice(),
-        b"# threads: 2\n# events: 3\n# calls: 2\n# allocated: 72\n# leaked: 8 in 1 blocks\n# peak: 72 from 64 to 72\n# threads: 2\n# events: 3\n# calls: 2\n# allocated: 72\n# leaked: 8 in 1 blocks\n# peak: 64 from 64 to 72\n# threads: 1\n# events: 5\n# calls: 3\n# allocated: 80\n# leaked: 32 in 1 blocks\n# peak: 32 from 32 to 32\n",
-    );
-    Ok(())
+fn recordings(rt: HostRuntime) {
+    for recording in &RECORDINGS {
+        tells(&rt, rt.alloc(), recording);
+    }
 }

@@ -1,9 +1,11 @@
 //! Runs that check a trace.
 
-use crate::run_tests::expect;
-use std::test::Fail;
+use crate::run_tests::{Transcript, expect_all};
 
-const TRACES: &str = "> v 10500 2
+static TRANSCRIPTS: [Transcript; 2] = [
+    Transcript {
+        most_events: 100,
+        text: "> v 10500 2
 > X heaprec
 > # thread 0
 > t 400 0
@@ -64,7 +66,7 @@ heaprec: s:10: not a recording
 > - 10000
 > # thread 1
 > + 8 1 10040
-$ --check=s s0 s1
+$ s0 --check=s s1
 a recording of 3 events
 [0]
 > v 10500 2
@@ -229,14 +231,12 @@ a recording of 2 events
 $ --modules=m --check=s s0
 heaprec: s:3: not a recording
 [1]
-";
-
-#[test]
-fn checked_recordings(rt: HostRuntime) -> Result<(), Fail> {
-    expect(&rt, rt.alloc(), 100, TRACES)
-}
-
-const WORDS: &str = "$ --check=s --summary s0
+",
+    },
+    // The words of a check.
+    Transcript {
+        most_events: 100,
+        text: "$ --check=s --summary s0
 usage: heaprec [--modules=FILE] [--summary] [--check=TRACE] SCRIPT...
 [2]
 $ --check=- - s0
@@ -277,9 +277,11 @@ heaprec: s:1: not a recording
 $ --check=s -- s0
 heaprec: s:1: not a recording
 [1]
-";
+",
+    },
+];
 
 #[test]
-fn words_of_a_check(rt: HostRuntime) -> Result<(), Fail> {
-    expect(&rt, rt.alloc(), 100, WORDS)
+fn checks(rt: HostRuntime) {
+    expect_all(&rt, rt.alloc(), &TRANSCRIPTS);
 }

@@ -1,4 +1,4 @@
-//! Gates.
+//! The gate of all runs.
 
 use recorder::Gate;
 use std::sync::atomic::{AtomicBool, AtomicU64, Ordering};
@@ -6,34 +6,44 @@ use std::sync::atomic::{AtomicBool, AtomicU64, Ordering};
 // How often a gate looks before it lets go.
 const MOST_LOOKS: u64 = 1_000_000_000;
 
-/// A gate that does nothing.
-#[derive(Drop)]
-pub struct Open;
+/// The number of no worker.
+pub const NOBODY: u32 = 64;
 
-impl Gate for Open {
-    fn before(&self, _worker: u32, _hold: u64) {}
-}
-
-/// A gate that keeps one worker from its second hold until another was at its own, or until it has looked often enough.
+/// A gate that keeps one worker from its second hold until another was at its own, or until it has looked often enough. It keeps
+/// the numbers of the holds of workers 0 and 1.
 #[derive(Drop)]
-pub struct Meeting {
+pub struct Watch {
     waits: u32,
     other_came: AtomicBool,
     met: AtomicBool,
+    first: AtomicU64,
+    second: AtomicU64,
+    is_out_of_order: AtomicBool,
 }
 
-impl Meeting {
-    pub fn of(waits: u32) -> Meeting {
-        Meeting {
+impl Watch {
+    /// A gate at which the worker of this number waits.
+    pub fn of(waits: u32) -> Watch {
+        Watch {
             waits,
             other_came: AtomicBool::new(false),
             met: AtomicBool::new(false),
+            first: AtomicU64::new(0),
+            second: AtomicU64::new(0),
+            is_out_of_order: AtomicBool::new(false),
         }
     }
 
     /// Whether the worker that waited saw the other.
     pub fn has_met(&self) -> bool {
         self.met.load(Ordering::SeqCst)
+    }
+
+    /// Whether each of the two workers came to so many holds, with the numbers from 0 on, and no other worker came.
+    pub fn has_counted(&self, holds: u64) -> bool {
+        !self.is_out_of_order.load(Ordering::SeqCst)
+            && self.first.load(Ordering::SeqCst) == holds
+            && self.second.load(Ordering::SeqCst) == holds
     }
 
     fn wait(&self) {
@@ -44,48 +54,9 @@ impl Meeting {
             }
         }
     }
-}
 
-impl Gate for Meeting {
-    fn before(&self, worker: u32, hold: u64) {
-        if hold != 1 {
-            return;
-        }
-        if worker == self.waits {
-            self.wait();
-        } else {
-            self.other_came.store(true, Ordering::SeqCst);
-        }
-    }
-}
-
-/// A gate that keeps the numbers of the holds of workers 0 and 1.
-#[derive(Drop)]
-pub struct Counting {
-    first: AtomicU64,
-    second: AtomicU64,
-    is_out_of_order: AtomicBool,
-}
-
-impl Counting {
-    pub fn new() -> Counting {
-        Counting {
-            first: AtomicU64::new(0),
-            second: AtomicU64::new(0),
-            is_out_of_order: AtomicBool::new(false),
-        }
-    }
-
-    /// Whether each of the two workers came to so many holds, with the numbers from 0 on, and no other worker came.
-    pub fn has_counted(&self, holds: u64) -> bool {
-        !self.is_out_of_order.load(Ordering::SeqCst)
-            && self.first.load(Ordering::SeqCst) == holds
-            && self.second.load(Ordering::SeqCst) == holds
-    }
-}
-
-impl Gate for Counting {
-    fn before(&self, worker: u32, hold: u64) {
+    /// Keeps the number of a worker's hold.
+    fn count(&self, worker: u32, hold: u64) {
         let due = match worker {
             0 => self.first.fetch_add(1, Ordering::SeqCst),
             1 => self.second.fetch_add(1, Ordering::SeqCst),
@@ -93,6 +64,20 @@ impl Gate for Counting {
         };
         if hold != due {
             self.is_out_of_order.store(true, Ordering::SeqCst);
+        }
+    }
+}
+
+impl Gate for Watch {
+    fn before(&self, worker: u32, hold: u64) {
+        self.count(worker, hold);
+        if hold != 1 {
+            return;
+        }
+        if worker == self.waits {
+            self.wait();
+        } else {
+            self.other_came.store(true, Ordering::SeqCst);
         }
     }
 }

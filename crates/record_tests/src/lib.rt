@@ -8,7 +8,7 @@
 //! | `run_tests` | runs whose text is the same whatever the threads do, and lines of scripts |
 //! | `check_tests` | runs that check a trace |
 //! | `thread_run_tests` | runs of two scripts by threads: that these go on beside each other, in numbered holds |
-//! | `failing_calls` | each call of a run that can fail, failed once |
+//! | `failing_calls` | each call of a run that can fail, failed once; the table stands in `run_tests` |
 //! | `gates`, `runs`, `script_text` | what they share |
 #![tactic(auto)]
 

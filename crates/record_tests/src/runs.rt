@@ -1,29 +1,28 @@
 //! Runs over a folder in memory.
-ghost use Rattle.std.specs.Prelude.{◌≡◌, ℕ, List, IfOk, OnOk, None};
+ghost use Rattle.std.specs.Prelude.{◌≡◌, ℕ, List, OnOk, None};
 ghost use Rattle.hp_outside.specs.Folder.{file_of};
 
+use crate::gates::Watch;
 use hp_num::{NoMemory, put_bytes, put_dec};
 use hp_outside::{Limits, MemSink, MemStore};
-use recorder::Gate;
 use recording::heaprec_run;
 use std::alloc::Global;
+use std::process::Abort;
 use std::sync::Wait;
-use std::test::Fail;
 use std::thread::Threads;
 
 /// A modules file.
 const MODULES: &str = "# modules\nm app  01000 0 1F00\nm -\n";
 
-/// The words, which stand between blanks.
-fn listed(alloc: Global, words: &str) -> Result<Vec<String>, Fail> {
-    let mut list = Vec::new(alloc);
+/// Adds the words, which stand between blanks.
+fn add_words(list: &mut Vec<String>, alloc: Global, words: &str) -> Result<(), NoMemory> {
     if words.is_empty() {
-        return Ok(list);
+        return Ok(());
     }
     for word in words.split(' ') {
         list.push(String::from_str(alloc, word)?)?;
     }
-    Ok(list)
+    Ok(())
 }
 
 /// How runs are made: how many events all scripts may have, and which calls fail. A call of number 0 never fails.
@@ -69,16 +68,6 @@ fn add_files(store: &mut MemStore, run: &Run) -> Result<(), NoMemory>
     store.add("m", MODULES.as_bytes())
 }
 
-/// The folder of a run.
-fn folder(alloc: Global, run: &Run) -> Result<MemStore, Fail>
-    ensures unopened { IfOk result (λ store. store.store.opens ≡ 0) }
-{
-    let mut store = MemStore::new(alloc, run.setting.piece.max(1));
-    add_files(&mut store, run)?;
-    store.fail_at(run.setting.failing_store_call)?;
-    Ok(store)
-}
-
 /// What a run reads and writes.
 #[derive(Drop)]
 struct Ends {
@@ -87,31 +76,38 @@ struct Ends {
     err: MemSink,
 }
 
-/// An output of whose calls one is to fail.
-fn sink(alloc: Global, failing_call: u64) -> Result<MemSink, NoMemory> {
-    let mut sink = MemSink::new(alloc, 10_000)?;
-    sink.fail_at(failing_call)?;
-    Ok(sink)
+/// Adds the files of a run, and names the calls that are to fail.
+fn fill(ends: &mut Ends, run: &Run) -> Result<(), NoMemory>
+    requires none_held { (name : List ℕ) → file_of ends.old.store.store.folder name ≡ None }
+    ensures opens { OnOk result (ends.new.store.store.opens ≡ ends.old.store.store.opens) }
+{
+    add_files(&mut ends.store, run)?;
+    ends.store.fail_at(run.setting.failing_store_call)?;
+    ends.out.fail_at(run.setting.failing_out_call)?;
+    ends.err.fail_at(run.setting.failing_err_call)
 }
 
 /// The folder of a run, and its empty outputs.
-fn ends_of(alloc: Global, run: &Run) -> Result<Ends, Fail>
-    ensures unopened { IfOk result (λ ends. ends.store.store.opens ≡ 0) }
+fn ends_of(rt: &impl Abort, alloc: Global, run: &Run) -> Ends
+    ensures unopened { result.store.store.opens ≡ 0 }
 {
-    let out = sink(alloc, run.setting.failing_out_call)?;
-    let err = sink(alloc, run.setting.failing_err_call)?;
-    let store = folder(alloc, run)?;
-    Ok(Ends { store, out, err })
+    let mut ends = Ends {
+        store: MemStore::new(alloc, run.setting.piece.max(1)),
+        out: MemSink::new(alloc, 10_000).expect(rt, "an output"),
+        err: MemSink::new(alloc, 10_000).expect(rt, "an output"),
+    };
+    fill(&mut ends, run).expect(rt, "files");
+    ends
 }
 
 /// Runs the words over a folder, whose scripts may have so many events, and gives the status.
-fn status_of<R: Threads + Wait + Sync, G: Gate + Sync>(
+fn status_of<R: Threads + Wait + Sync>(
     rt: &R,
     alloc: Global,
     words: &[String],
     most_events: u16,
     ends: &mut Ends,
-    gate: &G,
+    gate: &Watch,
 ) -> u8
     requires unopened { ends.old.store.store.opens ≡ 0 }
 {
@@ -134,16 +130,16 @@ fn put_run(ends: &Ends, status: u8, all: &mut Vec<u8>) -> Result<(), NoMemory> {
 }
 
 /// Makes the run, and appends what both outputs got and the status in brackets.
-pub fn append_run<R: Threads + Wait + Sync, G: Gate + Sync>(
+pub fn append_run<R: Threads + Wait + Sync + Abort>(
     rt: &R,
     alloc: Global,
     run: &Run,
-    gate: &G,
+    gate: &Watch,
     all: &mut Vec<u8>,
-) -> Result<(), Fail> {
-    let words = listed(alloc, run.words)?;
-    let mut ends = ends_of(alloc, run)?;
+) {
+    let mut words = Vec::new(alloc);
+    add_words(&mut words, alloc, run.words).expect(rt, "words");
+    let mut ends = ends_of(rt, alloc, run);
     let status = status_of(rt, alloc, &words, run.setting.most_events, &mut ends, gate);
-    put_run(&ends, status, all)?;
-    Ok(())
+    put_run(&ends, status, all).expect(rt, "memory");
 }

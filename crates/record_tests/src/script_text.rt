@@ -1,20 +1,46 @@
 //! Scripts as texts.
 
+use hp_num::{NoMemory, put_bytes, put_hex};
 use record_scripts::{ScriptFault, Scripts};
 use std::alloc::Global;
+use std::process::Abort;
+use std::sync::Arc;
 
-/// The scripts of a text, which are parted by `|`, and their lines by `;`. All together may have 300 events.
-pub fn scripts_of(alloc: Global, text: &[u8]) -> Result<Scripts, ScriptFault> {
-    let mut scripts = Scripts::new(alloc, 300);
-    for script in text.split(|byte| *byte == b'|') {
-        if scripts.threads() < 64 {
-            scripts.begin()?;
-        }
-        for line in script.split(|byte| *byte == b';') {
-            if scripts.threads() > 0 {
-                scripts.line(line)?;
-            }
+/// Adds the script of a thread.
+fn add_script(scripts: &mut Scripts, text: &[u8]) -> Result<(), ScriptFault> {
+    if scripts.threads() == 64 {
+        return Ok(());
+    }
+    scripts.begin()?;
+    for line in text.split(|byte| *byte == b'\n') {
+        if scripts.threads() > 0 {
+            scripts.line(line)?;
         }
     }
-    Ok(scripts)
+    Ok(())
+}
+
+/// Adds the scripts of a text.
+fn add_scripts(scripts: &mut Scripts, text: &[u8]) -> Result<(), ScriptFault> {
+    for script in text.split(|byte| *byte == b'|') {
+        add_script(scripts, script)?;
+    }
+    Ok(())
+}
+
+/// The scripts of a text, which are parted by `|`. All together may have 300 events.
+pub fn scripts_of(rt: &impl Abort, alloc: Global, text: &[u8]) -> Arc<Scripts> {
+    let mut scripts = Scripts::new(alloc, 300);
+    add_scripts(&mut scripts, text).expect(rt, "scripts");
+    scripts.share().expect(rt, "memory")
+}
+
+/// Appends a script of a hundred allocations, which a worker takes in two holds.
+pub fn put_hundred(text: &mut Vec<u8>) -> Result<(), NoMemory> {
+    for id in 1..101 {
+        put_bytes(text, b"a ")?;
+        put_hex(text, id)?;
+        put_bytes(text, b" 8 400\n")?;
+    }
+    Ok(())
 }

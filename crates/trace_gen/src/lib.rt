@@ -7,6 +7,8 @@
 //! stacks and not on the events. `next_lines` makes the text of as many as give 64 KiB (`MakesLines`), and as a
 //! `TextMaker` it makes the same lines: one maker for what writes the trace and for what reads it. The ranges of its
 //! numbers are facts of `GeneratorOptions`.
+//!
+//! Traces are tried by runs of `gen`, in the crate `commands_tests`.
 #![tactic(auto)]
 
 mod draws;
@@ -16,6 +18,3 @@ mod options;
 
 pub use generator::Generator;
 pub use options::GeneratorOptions;
-
-#[cfg(test)]
-mod tests;
