@@ -1,7 +1,7 @@
 //! Worked documents, read and written, and documents that are refused. Expected values are worked out by hand.
 
 use dhat_json::{
-    DhatFault, dhat_documents, dhat_round_trip, profile_text, put_shown, read_profile, shown_texts,
+    DhatFault, dhat_documents, dhat_round_trip, profile_text, read_profile, shown_texts,
 };
 use hp_num::{NoMemory, put_bytes};
 use std::alloc::Global;
@@ -16,7 +16,7 @@ const DEMO: &str =
     r#"{"Mtu":"Mevents","bkacc":false,"bklt":true,"cmd":"demo","dhatFileVersion":2,"ftbl":["[root]","0x400: main (a.c:20)","0x500: f (a.c:10)"],"mode":"heap","pid":0,"pps":[{"eb":100,"ebk":1,"fs":[1],"gb":0,"gbk":0,"mb":100,"mbk":1,"tb":100,"tbk":1,"tl":0},{"eb":0,"ebk":0,"fs":[2,1],"gb":100,"gbk":1,"mb":100,"mbk":1,"tb":100,"tbk":1,"tl":1}],"te":3,"tg":1,"tu":"events","tuth":500,"verb":"Allocated"}"#;
 
 /// A document of the form that Valgrind writes, with accesses.
-const DOCUMENT: &str =
+const WITH_ACCESSES: &str =
     r#"{"dhatFileVersion":2,"mode":"heap","verb":"Allocated","bklt":true,"bkacc":true,"tu":"instrs","Mtu":"Minstr","tuth":500,"cmd":"./a","pid":7,"te":100,"tg":50,"pps":[{"tb":10,"tbk":1,"tl":40,"mb":10,"mbk":1,"gb":10,"gbk":1,"eb":0,"ebk":0,"rb":3,"wb":10,"acc":[-10,1],"fs":[1]}],"ftbl":["[root]","0x1: main (a.c:1)"]}"#;
 
 /// The same as it is written again.
@@ -31,9 +31,20 @@ const AD_HOC: &str =
 const AD_HOC_WRITTEN: &str =
     r#"{"Mtu":"s","bkacc":false,"bklt":false,"bksu":"events","bsu":"units","bu":"unit","cmd":"a\n\"b\"","dhatFileVersion":2,"ftbl":[],"mode":"ad-hoc","pid":18446744073709551615,"pps":[{"fs":[],"tb":0,"tbk":1}],"te":1,"tu":"µs","verb":"Allocated"}"#;
 
+/// Documents, and as they are written again.
+static DOCUMENTS: [(&str, &str); 4] = [
+    (EMPTY, EMPTY),
+    (DEMO, DEMO),
+    (WITH_ACCESSES, WRITTEN),
+    (AD_HOC, AD_HOC_WRITTEN),
+];
+
+/// The worked document.
+static DOCUMENT: &str = WITH_ACCESSES;
+
 /// Edits of the worked document: in each line a part of it, what stands in the part's place, and what it then is. The first ones
 /// are of the document, then of the profile, of its points, and of several the first.
-const EDITS: &str = r#"{ | [ | not JSON
+static EDITS: &str = r#"{ | [ | not JSON
 ./a | \ud800 | not JSON
 "dhatFileVersion":2 | "dhatFileVersion":1 | file version not 2
 "dhatFileVersion":2 | "dhatFileVersion":2.0 | file version not 2
@@ -73,15 +84,15 @@ fn laws() {
 fn writes_again(rt: &impl Abort, alloc: Global, document: &str, written: &str) {
     let dhat = read_profile(alloc, document.as_bytes()).expect(rt, "a profile");
     let text = profile_text(alloc, &dhat).expect(rt, "memory");
+    drop(dhat);
     assert!(rt; text.as_str() == written);
 }
 
 #[test]
 fn writes_what_it_read(rt: HostRuntime) {
-    writes_again(&rt, rt.alloc(), EMPTY, EMPTY);
-    writes_again(&rt, rt.alloc(), DEMO, DEMO);
-    writes_again(&rt, rt.alloc(), DOCUMENT, WRITTEN);
-    writes_again(&rt, rt.alloc(), AD_HOC, AD_HOC_WRITTEN);
+    for (document, written) in &DOCUMENTS {
+        writes_again(&rt, rt.alloc(), document, written);
+    }
 }
 
 /// Why the document is no profile.
@@ -97,51 +108,45 @@ fn put_answer(alloc: Global, document: &[u8], out: &mut Vec<u8>) -> Result<(), N
     }
 }
 
-/// Appends an edit of the worked document, where `other` stands for `part`, and what it then is.
-fn put_edit(
-    rt: &impl Abort,
-    alloc: Global,
-    part: &str,
-    other: &str,
-    out: &mut Vec<u8>,
-) -> Result<(), NoMemory> {
+/// Makes an edit of the worked document, where `other` stands for `part`.
+fn edit(rt: &impl Abort, part: &str, other: &str, document: &mut Vec<u8>) -> Result<(), NoMemory> {
     let (before, after) = DOCUMENT
         .split_once(part)
         .expect(rt, "a part of the document");
-    let mut document = Vec::new(alloc);
-    put_bytes(&mut document, before.as_bytes())?;
-    put_bytes(&mut document, other.as_bytes())?;
-    put_bytes(&mut document, after.as_bytes())?;
-    put_answer(alloc, &document, out)
+    document.clear();
+    put_bytes(document, before.as_bytes())?;
+    put_bytes(document, other.as_bytes())?;
+    put_bytes(document, after.as_bytes())
 }
 
-/// Appends a line of the edits: the edit, and what the document then is.
-fn put_line(
-    rt: &impl Abort,
-    alloc: Global,
-    part: &str,
-    other: &str,
-    out: &mut Vec<u8>,
-) -> Result<(), NoMemory> {
+/// Appends a line of the edits up to its answer.
+fn put_front(part: &str, other: &str, out: &mut Vec<u8>) -> Result<(), NoMemory> {
     put_bytes(out, part.as_bytes())?;
     put_bytes(out, b" | ")?;
     put_bytes(out, other.as_bytes())?;
-    put_bytes(out, b" | ")?;
-    put_edit(rt, alloc, part, other, out)?;
-    put_bytes(out, b"\n")
+    put_bytes(out, b" | ")
+}
+
+/// Appends the lines of all edits, each with what the document then is. They stand there one after another.
+fn put_edits(rt: &impl Abort, alloc: Global, document: &mut Vec<u8>, out: &mut Vec<u8>) {
+    for line in EDITS.split('\n') {
+        if let Some((part, rest)) = line.split_once(" | ") {
+            let (other, _) = rest.split_once(" | ").expect(rt, "an answer");
+            put_front(part, other, out).expect(rt, "memory");
+            edit(rt, part, other, document).expect(rt, "memory");
+            put_answer(alloc, document, out).expect(rt, "memory");
+            put_bytes(out, b"\n").expect(rt, "memory");
+            assert!(rt; EDITS.as_bytes().starts_with(out), "at {line}");
+        }
+    }
+    assert_eq!(rt; out.len(), EDITS.len());
 }
 
 #[test]
-fn edits(rt: HostRuntime) -> Result<(), NoMemory> {
+fn edits(rt: HostRuntime) {
+    let mut document = Vec::new(rt.alloc());
     let mut out = Vec::new(rt.alloc());
-    for line in EDITS.split('\n') {
-        if let Some((part, rest)) = line.split_once(" | ") {
-            let (other, _) = rest.split_once(" | ").expect(&rt, "an answer");
-            put_line(&rt, rt.alloc(), part, other, &mut out)?;
-        }
-    }
-    assert_eq!(rt; out.as_slice(), EDITS.as_bytes());
-    Ok(())
+    put_edits(&rt, rt.alloc(), &mut document, &mut out);
 }
 
 #[test]
@@ -153,20 +158,4 @@ fn cut_documents(rt: HostRuntime) {
     }
     let no_text = fault_of(rt.alloc(), b"{\"\xff\":1}");
     assert_eq!(rt; no_text, Some(DhatFault::NotJson));
-}
-
-/// The shown form of the text.
-fn is_shown(rt: &impl Abort, alloc: Global, text: &[u8], shown: &[u8]) -> Result<(), NoMemory> {
-    let mut out = Vec::new(alloc);
-    put_shown(text, &mut out)?;
-    assert_eq!(rt; out.as_slice(), shown);
-    Ok(())
-}
-
-#[test]
-fn shown_forms(rt: HostRuntime) -> Result<(), NoMemory> {
-    is_shown(&rt, rt.alloc(), b"", b"?")?;
-    is_shown(&rt, rt.alloc(), b" a b ", b"?a b ")?;
-    is_shown(&rt, rt.alloc(), b"a\nb\x1f\x7f\xff", b"a?b?\x7f\xff")?;
-    Ok(())
 }

@@ -158,6 +158,8 @@ fn answers(rt: &impl Abort, alloc: Global, case: &Case) {
     let mut reader = LineReader::new(alloc, &limits).expect(rt, "a reader");
     add_files(&mut store, case).expect(rt, "files");
     put_files(&mut out, &mut reader, &mut store).expect(rt, "answers");
+    drop(store);
+    drop(reader);
     assert_eq!(rt; out.as_slice(), case.want.as_bytes());
 }
 
@@ -243,6 +245,8 @@ fn ready_lines_are_passed(rt: HostRuntime) {
     let mut store = SureStore::new(rt.alloc(), 99);
     let mut reader = LineReader::new(rt.alloc(), &Limits::standard()).expect(&rt, "a reader");
     put_sure(&rt, &mut out, &mut reader, &mut store).expect(&rt, "memory");
+    drop(reader);
+    drop(store);
     assert_eq!(rt;
         out.as_slice(),
         b"no such file|v 1 2\n1|2|1048576".as_slice()

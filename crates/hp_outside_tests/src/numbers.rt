@@ -6,43 +6,71 @@ use hp_num::{
 };
 use std::process::Abort;
 
-/// Texts, and what each says as a hexadecimal number, as a decimal one, and as a percentage.
-static TEXTS: [(&[u8], [Option<u64>; 3]); 27] = [
-    (b"10500", [Some(66816), Some(10500), None]),
-    (b"0", [Some(0), Some(0), Some(0)]),
-    (b"00fF", [Some(255), None, None]),
-    (b"ffffffffffffffff", [Some(u64::MAX), None, None]),
-    (b"00000000000000001", [None, Some(1), None]),
-    (b"00000000000000000132", [None, Some(132), None]),
-    (b"18446744073709551615", [None, Some(u64::MAX), None]),
-    (b"18446744073709551616", [None, None, None]),
-    (b"000000000000000000132", [None, None, None]),
-    (b"", [None, None, None]),
-    (b"0x1", [None, None, None]),
-    (b"1 ", [None, None, None]),
-    (b"+1", [None, None, None]),
-    (b"1a", [Some(26), None, None]),
-    (b"1", [Some(1), Some(1), Some(100)]),
-    (b"1.0", [None, None, Some(100)]),
-    (b"1.00", [None, None, Some(100)]),
-    (b"0.05", [None, None, Some(5)]),
-    (b"007.5", [None, None, Some(750)]),
-    (b"100.00", [None, None, Some(10_000)]),
-    (b"100.01", [None, None, None]),
-    (b"101", [Some(257), Some(101), None]),
-    (b"1.", [None, None, None]),
-    (b".5", [None, None, None]),
-    (b"0001", [Some(1), Some(1), None]),
-    (b"1.000", [None, None, None]),
-    (b"1.5%", [None, None, None]),
-];
+/// Texts, and what each says as a hexadecimal number, as a decimal one, and as a percentage in hundredths.
+static TEXTS: &str = "\
+10500 | 66816 10500 -
+0 | 0 0 0
+00fF | 255 - -
+ffffffffffffffff | 18446744073709551615 - -
+00000000000000001 | - 1 -
+00000000000000000132 | - 132 -
+18446744073709551615 | - 18446744073709551615 -
+18446744073709551616 | - - -
+000000000000000000132 | - - -
+ | - - -
+0x1 | - - -
+1  | - - -
++1 | - - -
+1a | 26 - -
+1 | 1 1 100
+1.0 | - - 100
+1.00 | - - 100
+0.05 | - - 5
+007.5 | - - 750
+100.00 | - - 10000
+100.01 | - - -
+101 | 257 101 -
+1. | - - -
+.5 | - - -
+0001 | 1 1 -
+1.000 | - - -
+1.5% | - - -
+";
+
+/// Appends a number behind a blank, or that there is none.
+fn put_read(out: &mut Vec<u8>, number: Option<u64>) -> Result<(), NoMemory> {
+    let Some(n) = number else {
+        return put_bytes(out, b" -");
+    };
+    put_bytes(out, b" ")?;
+    put_dec(out, n)
+}
+
+/// Appends the row of a text.
+fn put_row(out: &mut Vec<u8>, text: &[u8]) -> Result<(), NoMemory> {
+    put_bytes(out, text)?;
+    put_bytes(out, b" |")?;
+    put_read(out, parse_hex(text))?;
+    put_read(out, parse_dec(text))?;
+    put_read(out, parse_percent(text))?;
+    put_bytes(out, b"\n")
+}
+
+/// Appends the rows of all texts, which stand there one after another.
+fn put_rows(rt: &impl Abort, out: &mut Vec<u8>) {
+    for row in TEXTS.split('\n') {
+        if let Some((text, _)) = row.split_once(" | ") {
+            put_row(out, text.as_bytes()).expect(rt, "memory");
+            assert!(rt; TEXTS.as_bytes().starts_with(out), "at {row}");
+        }
+    }
+    assert_eq!(rt; out.len(), TEXTS.len());
+}
 
 #[test]
 fn texts_read(rt: HostRuntime) {
-    for (text, want) in &TEXTS {
-        let got = [parse_hex(text), parse_dec(text), parse_percent(text)];
-        assert_eq!(rt; got, *want);
-    }
+    let mut out = Vec::new(rt.alloc());
+    put_rows(&rt, &mut out);
 }
 
 /// A line with a number in decimal and hexadecimal digits, and with commas.
@@ -107,7 +135,7 @@ fn put_all(out: &mut Vec<u8>) -> Result<(), NoMemory> {
 }
 
 /// What `put_all` appends.
-const WRITTEN: &[u8] = b"\
+static WRITTEN: &[u8] = b"\
 a.c\xff
 0 0 0
 999 3e7 999

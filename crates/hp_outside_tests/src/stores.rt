@@ -77,6 +77,7 @@ fn mem_store_reads_pieces(rt: HostRuntime) {
     let mut store = MemStore::new(rt.alloc(), 3);
     let mut out = Vec::new(rt.alloc());
     put_failing(&mut out, &mut store).expect(&rt, "memory");
+    drop(store);
     let want = b"no such file|cannot open|failed|abc|de|fg||";
     assert_eq!(rt; out.as_slice(), want.as_slice());
 }

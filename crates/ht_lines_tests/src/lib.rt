@@ -4,6 +4,6 @@
 #![tactic(auto)]
 
 #[cfg(test)]
-mod reading;
+mod fronts;
 #[cfg(test)]
-mod writing;
+mod lines;
