@@ -50,11 +50,12 @@ impl TraceWriter for FlameWriter {
     ghost text = { λ writer. flame_written writer.cost };
 
     fn put(&self, tables: Tables, peaks: Peaks, out: &mut Vec<u8>) -> Result<(), NoMemory> {
-        let costs = stack_costs(self.alloc, self.cost, &peaks)?;
+        let costs = stack_costs(self.alloc, self.cost, &peaks);
         drop(peaks);
-        let lists = lists_from_root(self.alloc, &tables, Style::Plain)?;
+        let costs = costs?;
+        let lists = lists_from_root(self.alloc, &tables, Style::Plain);
         drop(tables);
-        put_flame_of_lists(self.alloc, lists, costs, out)
+        put_flame_of_lists(self.alloc, lists?, costs, out)
     }
 }
 
