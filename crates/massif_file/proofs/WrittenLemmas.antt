@@ -1,5 +1,5 @@
 -- How the text of a profile grows, piece by piece.
-use Rattle.std.proofs.Common.{◌≡◌, ℕ, zero, suc, ◌+◌, ◌-◌, ◌<◌, ◌≤◌, List, [], ◌∷◌, ◌++◌, length, get_or, drop, take, replicate, set, arith, refl, sym, ap, ◌∙◌, append_assoc, add-one, drop-cons}
+use Rattle.std.proofs.Common.{◌≡◌, ℕ, zero, suc, ◌+◌, ◌-◌, ◌<◌, ◌≤◌, List, [], ◌∷◌, ◌++◌, length, get_or, drop, take, replicate, set, arith, refl, sym, ap, ◌∙◌, append_assoc, add-one, drop-cons, length-take}
 use Rattle.std.proofs.lemmas.Grind.{drop-set_at}
 use Rattle.std.proofs.lemmas.List.{drop-append-le, drop-replicate, length-take-le, take-append-drop, take_all}
 use Rattle.massif_file.specs.TreeLine.{TreeLine}
@@ -7,6 +7,8 @@ use Rattle.massif_file.specs.declared.profile.Snap.{Snap}
 use Rattle.massif_file.specs.Blanks.{blanks}
 use Rattle.massif_file.specs.Levels.{after_line}
 use Rattle.massif_file.specs.MassifText.{text_of, node_text, tree_lines, snap_lines, snaps_lines}
+use Rattle.std.proofs.Math.Seq.{take-append_seam}
+use Rattle.std.proofs.lemmas.List.{take-take}
 
 -- so many blanks
 blanks_are : (n : ℕ) → replicate n 32 ≡ blanks n
@@ -75,3 +77,12 @@ text_3 o p q r ls ms ns e f g = text_2 o p r ls (ms ++ ns) e (text_2 p q r ms ns
 -- four pieces
 pub text_4 : (o p q r s : List ℕ) (ls ms ns ds : List (List ℕ)) → p ≡ o ++ text_of ls → q ≡ p ++ text_of ms → r ≡ q ++ text_of ns → s ≡ r ++ text_of ds → s ≡ o ++ text_of (ls ++ (ms ++ (ns ++ ds)))
 text_4 o p q r s ls ms ns ds e f g h = text_2 o p s ls (ms ++ (ns ++ ds)) e (text_3 p q r s ms ns ds f g h)
+
+-- what stood at the front stays there behind a piece, and behind a call that keeps what it finds
+pub kept_more : (n : ℕ) (out piece next : List ℕ) → n ≡ length out → next ≡ out ++ piece → take n next ≡ out
+kept_more n out piece next long is = ap (take n) is ∙ ap (λ (m : ℕ). take m (out ++ piece)) long ∙ take-append_seam out piece
+
+pub kept_on : (n m : ℕ) (out next last : List ℕ) → n ≡ length out → m ≡ length next → take n next ≡ out → take m last ≡ next → take n last ≡ out
+kept_on n m out next last long longer first second =
+    let within : n ≤ m = omega (arith, long, longer, ap length first, length-take n next) in
+    sym (take-take n m last within) ∙ ap (take n) second ∙ first
