@@ -1,5 +1,5 @@
 //! Lines of lists that go on alone behind a front, and of those that share fronts.
-ghost use Rattle.std.specs.Prelude.{All, IfOk};
+ghost use Rattle.std.specs.Prelude.{◌≡◌, ◌^◌, ◌≤◌, All, IfOk, length, sum};
 ghost use Rattle.cost_tree.specs.Texts.{AreTexts, IsText};
 
 use crate::trees::{have_sum, put_figures};
@@ -124,15 +124,15 @@ fn fronts_of(alloc: Global, lists: &[u8]) -> Result<ForkedFronts, NoMemory> {
 
 /// What is written of the lines of lists with these costs, to so many texts, where the total is 53.
 fn written(
-    rt: &impl Abort,
     alloc: Global,
     fronts: &ForkedFronts,
     costs: &[u64],
     threshold: u64,
     depth: u32,
-) -> Vec<u8> {
-    assert!(rt; have_sum(costs));
-    assert_eq!(rt; fronts.len() as usize, costs.len());
+) -> Result<WrittenLines, NoMemory>
+    requires as_many { length costs.now ≡ length fronts.now }
+    requires bound { sum costs.now ≤ 2 ^ 62 }
+{
     let costing = Costing::new(fronts.len(), |stack: u32| costs[stack as usize]);
     let scale = Scale {
         total: 53,
@@ -141,18 +141,30 @@ fn written(
     let lines = WrittenLines {
         out: Vec::new(alloc),
     };
-    let WrittenLines { out } = take_front_lines(
-        alloc, fronts, &costing, scale, depth, lines,
-    ).expect(rt, "memory");
-    out
+    take_front_lines(alloc, fronts, &costing, scale, depth, lines)
+}
+
+/// The lines of lists are these.
+fn lines_are(
+    rt: &impl Abort,
+    alloc: Global,
+    fronts: &ForkedFronts,
+    threshold: u64,
+    depth: u32,
+    lines: &[u8],
+) {
+    let costs: &[u64] = &COSTS;
+    assert!(rt; have_sum(costs));
+    assert_eq!(rt; fronts.len() as usize, costs.len());
+    let written = written(alloc, fronts, costs, threshold, depth).expect(rt, "memory");
+    assert_eq!(rt; written.out.as_slice(), lines);
 }
 
 #[test]
 fn lists_that_go_on_alone(rt: HostRuntime) {
     let fronts = fronts_of(rt.alloc(), LISTS).expect(&rt, "memory");
     for (threshold, depth, lines) in &CASES {
-        let out = written(&rt, rt.alloc(), &fronts, &COSTS, *threshold, *depth);
-        assert_eq!(rt; out.as_slice(), *lines);
+        lines_are(&rt, rt.alloc(), &fronts, *threshold, *depth, lines);
     }
     drop(fronts);
 }
