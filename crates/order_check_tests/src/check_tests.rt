@@ -1,42 +1,197 @@
 //! Checks of traces of small scripts, which are held in memory.
-ghost use Rattle.std.specs.Prelude.{◌≡◌, IfOk, OnOk};
+ghost use Rattle.std.specs.Prelude.{◌≡◌, IsSome, OnOk};
 ghost use Rattle.std.specs.Arc.{arc_value};
 ghost use Rattle.record_scripts.specs.ModuleLines.{AreModuleLines};
 
-use hp_outside::{Limits, MemStore, Store, SureStore};
+use hp_outside::{Limits, MemStore, Store};
 use order_check::{CheckFault, Verdict, check_order};
 use record_scripts::{ScriptFault, Scripts};
 use std::alloc::Global;
 use std::process::Abort;
 use std::sync::Arc;
 
-/// A trace that is checked against scripts, and what has to be said of it.
+/// A trace that is checked against scripts under limits, from a store that gives pieces of so many bytes, and what has to be said
+/// of it. A call of the store fails, the first being that which opens the file, or, for 0, none.
 struct Case {
     scripts: &'static [u8],
     trace: &'static [u8],
-    want: Verdict,
-}
-
-/// A trace under limits, from a store of which a call fails, the first being that which opens the file, and what has to be
-/// said of it.
-struct FaultCase {
-    trace: &'static [u8],
+    pieces: &'static [u16],
     input: u16,
     line: u16,
     failing_call: u64,
     want: Result<Verdict, CheckFault>,
 }
 
-/// The scripts of a text, which are parted by `|`, and their lines by `;`.
-fn shared_scripts(alloc: Global, text: &[u8]) -> Result<Arc<Scripts>, ScriptFault>
-    ensures { IfOk result (λ job. AreModuleLines (arc_value job).modules) }
-{
-    let mut scripts = Scripts::new(alloc, 300);
-    for script in text.split(|byte| *byte == b'|') {
-        add_script(&mut scripts, script)?;
-    }
-    Ok(scripts.share()?)
-}
+/// The scripts of two threads, and no trace.
+const TAKEN: Case = Case {
+    scripts: b"a 1 40 500 400;f 1|a 1 8 400",
+    trace: b"",
+    pieces: &[1, 7],
+    input: 1000,
+    line: 1000,
+    failing_call: 0,
+    want: Ok(Verdict::No { line: 1 }),
+};
+
+/// Lines may have 20 bytes.
+const LIMITED: Case = Case {
+    pieces: &[7],
+    line: 20,
+    ..TAKEN
+};
+
+/// A script that reallocates.
+const MOVED: &[u8] = b"a 1 10 1;r 1 20 1;r 1 20 2";
+
+static CASES: [Case; 27] = [
+    Case {
+        trace: b"v 10500 2\nX heaprec\n# thread 0\nt 400 0\nt 500 1\n+ 40 2 10000\n# thread 1\n+ 8 1 10040\n# thread 0\n- 10000\n",
+        want: Ok(Verdict::Yes { events: 3 }),
+        ..TAKEN
+    },
+    Case {
+        trace: b"v 10500 2\nX heaprec\n# thread 0\nt 400 0\nt 500 1\n+ 40 2 10000\n# thread 1\n+ 8 1 10040\n# thread 0\n",
+        want: Ok(Verdict::No { line: 10 }),
+        ..TAKEN
+    },
+    Case {
+        trace: b"v 10500 2\nX heaprec\n# thread 0\nt 400 0\nt 500 1\n+ 40 2 10000\n# thread 1\n+ 8 1 10040\n# thread 0\n- 10000",
+        want: Ok(Verdict::No { line: 11 }),
+        ..TAKEN
+    },
+    Case {
+        trace: b"v 10500 2\nX heaprec\n# thread 0\nt 400 0\nt 500 1\n+ 40 2 10000\n- 10000\n# thread 1\n+ 8 1 10040\n# thread 0\n- 10000\n",
+        want: Ok(Verdict::No { line: 10 }),
+        ..TAKEN
+    },
+    Case {
+        trace: b"v 10500 2\nX heaprec\n# thread 0\nt 400 0\nt 500 1\n+ 40 2 10000\n# thread 1\n+ 8 1 10050\n# thread 0\n- 10000\n",
+        want: Ok(Verdict::No { line: 8 }),
+        ..TAKEN
+    },
+    Case {
+        trace: b"v 10500 2\nX heaprec\n# thread 0\nt 400 0\nt 500 1\n+ 40 2 10000\n# thread 2\n+ 8 1 10040\n# thread 0\n- 10000\n",
+        want: Ok(Verdict::No { line: 7 }),
+        ..TAKEN
+    },
+    Case {
+        trace: b"v 10500 2\nX heaprec\n# thread 0\nt 400 0\nt 500 1\n+ 40 2 10000\n# thread 1\n+ 8 1 10040\n# thread 0\n- 10000\n# threads: 2\n",
+        want: Ok(Verdict::No { line: 11 }),
+        ..TAKEN
+    },
+    Case {
+        trace: b"",
+        want: Ok(Verdict::No { line: 1 }),
+        ..TAKEN
+    },
+    Case {
+        trace: b"v 10500 2\n",
+        want: Ok(Verdict::No { line: 2 }),
+        ..TAKEN
+    },
+    Case {
+        trace: b"v 10500 2\nX heaprec\n",
+        want: Ok(Verdict::No { line: 3 }),
+        ..TAKEN
+    },
+    Case {
+        trace: b"v 10500 2\nX heaprec\n+ 8 1 10000\n",
+        want: Ok(Verdict::No { line: 3 }),
+        ..TAKEN
+    },
+    Case {
+        trace: b"v 10500 2\nX heaprec\n# thread 00\n",
+        want: Ok(Verdict::No { line: 3 }),
+        ..TAKEN
+    },
+    Case {
+        trace: b"v 10500 2\nX heaprec\n# thread 0\n# thread 0\n",
+        want: Ok(Verdict::No { line: 4 }),
+        ..TAKEN
+    },
+    Case {
+        trace: b"v 10500 2\nX heaprec\n# thread 1\nt 400 0\n+ 8 1 10000\n# thread 0\nt 500 1\n",
+        want: Ok(Verdict::No { line: 8 }),
+        ..TAKEN
+    },
+    Case {
+        trace: b"v 10500 2\nX heaprec\n# thread 0\nt 400 0\nt 500 1\n+ 40 2 10000\n# thread 1\n+ 8 1 10040\n# thread 0\n- 10000\n\n",
+        want: Ok(Verdict::No { line: 11 }),
+        ..TAKEN
+    },
+    Case {
+        scripts: MOVED,
+        trace: b"v 10500 2\nX heaprec\n# thread 0\nt 1 0\n+ 10 1 10000\n- 10000\n+ 20 1 10010\n- 10010\nt 2 0\n+ 20 2 10010\n",
+        want: Ok(Verdict::Yes { events: 5 }),
+        ..TAKEN
+    },
+    Case {
+        scripts: MOVED,
+        trace: b"v 10500 2\nX heaprec\n# thread 0\nt 1 0\n+ 10 1 10000\n- 10000\n+ 20 1 10010\n- 10010\n",
+        want: Ok(Verdict::No { line: 9 }),
+        ..TAKEN
+    },
+    Case {
+        scripts: MOVED,
+        trace: b"v 10500 2\nX heaprec\n# thread 0\nt 1 0\n+ 10 1 10000\n+ 20 1 10010\n",
+        want: Ok(Verdict::No { line: 6 }),
+        ..TAKEN
+    },
+    Case {
+        scripts: b"|",
+        trace: b"v 10500 2\nX heaprec\n",
+        want: Ok(Verdict::Yes { events: 0 }),
+        ..TAKEN
+    },
+    Case {
+        trace: b"v 10500 2\nX heaprec\n# thread 0\nt 400 0\nt 500 1\n+ 40 2 10000\n# thread 1\n+ 8 1 10040\n# thread 0\n- 10000\n",
+        line: 11,
+        want: Err(CheckFault::LineTooLong),
+        ..LIMITED
+    },
+    Case {
+        trace: b"v 10500 2\nX heaprec\n# thread 0\nt 400 0\nt 500 1\n+ 40 2 10000\n# thread 1\n+ 8 1 10040\n# thread 0\n- 10000\n",
+        line: 12,
+        want: Ok(Verdict::Yes { events: 3 }),
+        ..LIMITED
+    },
+    Case {
+        trace: b"v 10500 2\nX heaprec\n# thread 2\n# thread 200\n",
+        line: 11,
+        want: Ok(Verdict::No { line: 3 }),
+        ..LIMITED
+    },
+    Case {
+        trace: b"v 10500 2\nX heaprec\n# thread 0\nt 400 0\nt 500 1\n+ 40 2 10000\n# thread 1\n+ 8 1 10040\n# thread 0\n- 10000\n",
+        input: 50,
+        want: Err(CheckFault::InputTooLong),
+        ..LIMITED
+    },
+    Case {
+        trace: b"v 10500 2\nX heaprec\n+ 1 1 1\n",
+        input: 25,
+        want: Err(CheckFault::InputTooLong),
+        ..LIMITED
+    },
+    Case {
+        trace: b"v 10500 2\nX heaprec\n# thread 0\nt 400 0\nt 500 1\n+ 40 2 10000\n# thread 1\n+ 8 1 10040\n# thread 0\n- 10000\n",
+        failing_call: 2,
+        want: Err(CheckFault::ReadFailed),
+        ..LIMITED
+    },
+    Case {
+        trace: b"v 10500 2\nX heaprec\n# thread 0\nt 400 0\nt 500 1\n+ 40 2 10000\n# thread 1\n+ 8 1 10040\n# thread 0\n- 10000\n",
+        failing_call: 17,
+        want: Err(CheckFault::ReadFailed),
+        ..LIMITED
+    },
+    Case {
+        trace: b"v 10500 3\nX heaprec\n# thread 0\n",
+        failing_call: 4,
+        want: Ok(Verdict::No { line: 1 }),
+        ..LIMITED
+    },
+];
 
 /// Adds the script of a thread, whose lines are parted by `;`.
 fn add_script(scripts: &mut Scripts, text: &[u8]) -> Result<(), ScriptFault>
@@ -54,233 +209,54 @@ fn add_script(scripts: &mut Scripts, text: &[u8]) -> Result<(), ScriptFault>
     Ok(())
 }
 
-/// What is said of a trace under limits, read in pieces of seven bytes from a store of which a call fails.
-fn answer_of(
-    alloc: Global,
-    scripts: &[u8],
-    trace: &[u8],
-    limits: &Limits,
-    failing_call: u64,
-) -> Result<Result<Verdict, CheckFault>, ScriptFault> {
-    let job = shared_scripts(alloc, scripts)?;
-    let mut store = MemStore::new(alloc, 7);
-    store.add("t", trace)?;
-    store.fail_at(failing_call)?;
-    match store.open("t") {
-        Ok(()) => Ok(check_order(alloc, job, limits, &mut store)),
-        Err(_) => Err(ScriptFault::NoMemory),
+/// Adds the scripts of a text, which are parted by `|`.
+fn add_scripts(scripts: &mut Scripts, text: &[u8]) -> Result<(), ScriptFault>
+    ensures { OnOk result (scripts.new.modules ≡ scripts.old.modules) }
+{
+    for script in text.split(|byte| *byte == b'|') {
+        add_script(scripts, script)?;
     }
-}
-
-/// What is said of a trace that is read byte by byte from a store that never fails.
-fn sure_answer_of(
-    alloc: Global,
-    scripts: &[u8],
-    trace: &[u8],
-) -> Result<Result<Verdict, CheckFault>, ScriptFault> {
-    let job = shared_scripts(alloc, scripts)?;
-    let mut store = SureStore::new(alloc, 1);
-    store.add("t", trace)?;
-    match store.open("t") {
-        Ok(()) => Ok(check_order(alloc, job, &Limits::standard(), &mut store)),
-        Err(_) => Err(ScriptFault::NoMemory),
-    }
-}
-
-fn is_answered(rt: &impl Abort, alloc: Global, case: &Case) -> Result<(), ScriptFault> {
-    let answer = answer_of(alloc, case.scripts, case.trace, &Limits::standard(), 0)?;
-    assert_eq!(rt; answer, Ok(case.want));
-    let answer = sure_answer_of(alloc, case.scripts, case.trace)?;
-    assert_eq!(rt; answer, Ok(case.want));
     Ok(())
 }
 
-fn is_refused(rt: &impl Abort, alloc: Global, case: &FaultCase) -> Result<(), ScriptFault> {
+/// The scripts of a text.
+fn scripts_of(rt: &impl Abort, alloc: Global, text: &[u8]) -> Arc<Scripts>
+    ensures { AreModuleLines (arc_value result).modules }
+{
+    let mut scripts = Scripts::new(alloc, 300);
+    add_scripts(&mut scripts, text).expect(rt, "scripts");
+    scripts.share().expect(rt, "memory")
+}
+
+/// A store that has the trace as its current file, and gives pieces of so many bytes.
+fn store_of(rt: &impl Abort, alloc: Global, case: &Case, piece: u16) -> MemStore
+    ensures { IsSome result.store.left }
+{
+    let mut store = MemStore::new(alloc, usize::from(piece.max(1)));
+    store.add("t", case.trace).expect(rt, "a trace");
+    store.fail_at(case.failing_call).expect(rt, "memory");
+    store.open("t").expect(rt, "an open trace");
+    store
+}
+
+/// What is said of a trace is that of the case.
+fn is_answered(rt: &impl Abort, alloc: Global, case: &Case, piece: u16) {
     let limits = Limits {
         input: u64::from(case.input),
         line: u32::from(case.line.max(1)),
         order: 300,
     };
-    let answer = answer_of(alloc, TWO, case.trace, &limits, case.failing_call)?;
+    let job = scripts_of(rt, alloc, case.scripts);
+    let mut store = store_of(rt, alloc, case, piece);
+    let answer = check_order(alloc, job, &limits, &mut store);
     assert_eq!(rt; answer, case.want);
-    Ok(())
 }
 
-/// The scripts of two threads.
-const TWO: &[u8] = b"a 1 40 500 400;f 1|a 1 8 400";
-
-/// A script that reallocates.
-const MOVED: &[u8] = b"a 1 10 1;r 1 20 1;r 1 20 2";
-
-static CASES: [Case; 19] = [
-    Case {
-        scripts: TWO,
-        trace: b"v 10500 2\nX heaprec\n# thread 0\nt 400 0\nt 500 1\n+ 40 2 10000\n# thread 1\n+ 8 1 10040\n# thread 0\n- 10000\n",
-        want: Verdict::Yes { events: 3 },
-    },
-    Case {
-        scripts: TWO,
-        trace: b"v 10500 2\nX heaprec\n# thread 0\nt 400 0\nt 500 1\n+ 40 2 10000\n# thread 1\n+ 8 1 10040\n# thread 0\n",
-        want: Verdict::No { line: 10 },
-    },
-    Case {
-        scripts: TWO,
-        trace: b"v 10500 2\nX heaprec\n# thread 0\nt 400 0\nt 500 1\n+ 40 2 10000\n# thread 1\n+ 8 1 10040\n# thread 0\n- 10000",
-        want: Verdict::No { line: 11 },
-    },
-    Case {
-        scripts: TWO,
-        trace: b"v 10500 2\nX heaprec\n# thread 0\nt 400 0\nt 500 1\n+ 40 2 10000\n- 10000\n# thread 1\n+ 8 1 10040\n# thread 0\n- 10000\n",
-        want: Verdict::No { line: 10 },
-    },
-    Case {
-        scripts: TWO,
-        trace: b"v 10500 2\nX heaprec\n# thread 0\nt 400 0\nt 500 1\n+ 40 2 10000\n# thread 1\n+ 8 1 10050\n# thread 0\n- 10000\n",
-        want: Verdict::No { line: 8 },
-    },
-    Case {
-        scripts: TWO,
-        trace: b"v 10500 2\nX heaprec\n# thread 0\nt 400 0\nt 500 1\n+ 40 2 10000\n# thread 2\n+ 8 1 10040\n# thread 0\n- 10000\n",
-        want: Verdict::No { line: 7 },
-    },
-    Case {
-        scripts: TWO,
-        trace: b"v 10500 2\nX heaprec\n# thread 0\nt 400 0\nt 500 1\n+ 40 2 10000\n# thread 1\n+ 8 1 10040\n# thread 0\n- 10000\n# threads: 2\n",
-        want: Verdict::No { line: 11 },
-    },
-    Case {
-        scripts: TWO,
-        trace: b"",
-        want: Verdict::No { line: 1 },
-    },
-    Case {
-        scripts: TWO,
-        trace: b"v 10500 2\n",
-        want: Verdict::No { line: 2 },
-    },
-    Case {
-        scripts: TWO,
-        trace: b"v 10500 2\nX heaprec\n",
-        want: Verdict::No { line: 3 },
-    },
-    Case {
-        scripts: TWO,
-        trace: b"v 10500 2\nX heaprec\n+ 8 1 10000\n",
-        want: Verdict::No { line: 3 },
-    },
-    Case {
-        scripts: TWO,
-        trace: b"v 10500 2\nX heaprec\n# thread 00\n",
-        want: Verdict::No { line: 3 },
-    },
-    Case {
-        scripts: TWO,
-        trace: b"v 10500 2\nX heaprec\n# thread 0\n# thread 0\n",
-        want: Verdict::No { line: 4 },
-    },
-    Case {
-        scripts: TWO,
-        trace: b"v 10500 2\nX heaprec\n# thread 1\nt 400 0\n+ 8 1 10000\n# thread 0\nt 500 1\n",
-        want: Verdict::No { line: 8 },
-    },
-    Case {
-        scripts: TWO,
-        trace: b"v 10500 2\nX heaprec\n# thread 0\nt 400 0\nt 500 1\n+ 40 2 10000\n# thread 1\n+ 8 1 10040\n# thread 0\n- 10000\n\n",
-        want: Verdict::No { line: 11 },
-    },
-    Case {
-        scripts: MOVED,
-        trace: b"v 10500 2\nX heaprec\n# thread 0\nt 1 0\n+ 10 1 10000\n- 10000\n+ 20 1 10010\n- 10010\nt 2 0\n+ 20 2 10010\n",
-        want: Verdict::Yes { events: 5 },
-    },
-    Case {
-        scripts: MOVED,
-        trace: b"v 10500 2\nX heaprec\n# thread 0\nt 1 0\n+ 10 1 10000\n- 10000\n+ 20 1 10010\n- 10010\n",
-        want: Verdict::No { line: 9 },
-    },
-    Case {
-        scripts: MOVED,
-        trace: b"v 10500 2\nX heaprec\n# thread 0\nt 1 0\n+ 10 1 10000\n+ 20 1 10010\n",
-        want: Verdict::No { line: 6 },
-    },
-    Case {
-        scripts: b"|",
-        trace: b"v 10500 2\nX heaprec\n",
-        want: Verdict::Yes { events: 0 },
-    },
-];
-
-static FAULT_CASES: [FaultCase; 8] = [
-    FaultCase {
-        trace: b"v 10500 2\nX heaprec\n# thread 0\nt 400 0\nt 500 1\n+ 40 2 10000\n# thread 1\n+ 8 1 10040\n# thread 0\n- 10000\n",
-        input: 1000,
-        line: 11,
-        failing_call: 0,
-        want: Err(CheckFault::LineTooLong),
-    },
-    FaultCase {
-        trace: b"v 10500 2\nX heaprec\n# thread 0\nt 400 0\nt 500 1\n+ 40 2 10000\n# thread 1\n+ 8 1 10040\n# thread 0\n- 10000\n",
-        input: 1000,
-        line: 12,
-        failing_call: 0,
-        want: Ok(Verdict::Yes { events: 3 }),
-    },
-    FaultCase {
-        trace: b"v 10500 2\nX heaprec\n# thread 2\n# thread 200\n",
-        input: 1000,
-        line: 11,
-        failing_call: 0,
-        want: Ok(Verdict::No { line: 3 }),
-    },
-    FaultCase {
-        trace: b"v 10500 2\nX heaprec\n# thread 0\nt 400 0\nt 500 1\n+ 40 2 10000\n# thread 1\n+ 8 1 10040\n# thread 0\n- 10000\n",
-        input: 50,
-        line: 20,
-        failing_call: 0,
-        want: Err(CheckFault::InputTooLong),
-    },
-    FaultCase {
-        trace: b"v 10500 2\nX heaprec\n+ 1 1 1\n",
-        input: 25,
-        line: 20,
-        failing_call: 0,
-        want: Err(CheckFault::InputTooLong),
-    },
-    FaultCase {
-        trace: b"v 10500 2\nX heaprec\n# thread 0\nt 400 0\nt 500 1\n+ 40 2 10000\n# thread 1\n+ 8 1 10040\n# thread 0\n- 10000\n",
-        input: 1000,
-        line: 20,
-        failing_call: 2,
-        want: Err(CheckFault::ReadFailed),
-    },
-    FaultCase {
-        trace: b"v 10500 2\nX heaprec\n# thread 0\nt 400 0\nt 500 1\n+ 40 2 10000\n# thread 1\n+ 8 1 10040\n# thread 0\n- 10000\n",
-        input: 1000,
-        line: 20,
-        failing_call: 17,
-        want: Err(CheckFault::ReadFailed),
-    },
-    FaultCase {
-        trace: b"v 10500 3\nX heaprec\n# thread 0\n",
-        input: 1000,
-        line: 20,
-        failing_call: 4,
-        want: Ok(Verdict::No { line: 1 }),
-    },
-];
-
 #[test]
-fn verdicts(rt: HostRuntime) -> Result<(), ScriptFault> {
+fn verdicts(rt: HostRuntime) {
     for case in &CASES {
-        is_answered(&rt, rt.alloc(), case)?;
+        for piece in case.pieces {
+            is_answered(&rt, rt.alloc(), case, *piece);
+        }
     }
-    Ok(())
-}
-
-#[test]
-fn faults(rt: HostRuntime) -> Result<(), ScriptFault> {
-    for case in &FAULT_CASES {
-        is_refused(&rt, rt.alloc(), case)?;
-    }
-    Ok(())
 }

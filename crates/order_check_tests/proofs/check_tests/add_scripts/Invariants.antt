@@ -1,0 +1,6 @@
+use Rattle.std.proofs.Common.{◌≡◌}
+use Rattle.order_check_tests.proofs.check_tests.add_scripts.Given as goal
+
+-- the modules stay
+abbrev pub invariant-loop-script : goal.invariant-loop-script
+invariant-loop-script l = record { same : l.scripts.modules ≡ l.initial.scripts.modules }
