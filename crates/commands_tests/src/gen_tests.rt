@@ -1,7 +1,6 @@
 //! `gen`: the worked trace of no events, that of four, and its summary.
 
-use crate::transcript::{expect, sound};
-use std::test::Fail;
+use crate::transcript::{Transcript, play_all};
 
 const GENERATED: &str = "$ gen --events=0 --stacks=1
 v 10500 2
@@ -35,7 +34,9 @@ leaked: 3326 in 2 blocks
 [0]
 ";
 
+static RUNS: [Transcript; 1] = [("gen", "", GENERATED)];
+
 #[test]
-fn generates(rt: HostRuntime) -> Result<(), Fail> {
-    expect(&rt, rt.alloc(), &sound(""), GENERATED)
+fn generated_traces(rt: HostRuntime) {
+    play_all(&rt, rt.alloc(), &RUNS);
 }

@@ -1,9 +1,6 @@
 //! `ms_print` over the worked Massif file, and the faults of files.
 
-use crate::transcript::{MASSIF, SECOND_FILE, append_run, expect, sound};
-use hp_num::{NoMemory, put_bytes};
-use std::alloc::Global;
-use std::test::Fail;
+use crate::transcript::{MASSIF, SECOND_FILE, Transcript, play_all};
 
 const PAGE: &str = "$ ms_print --x=8 --y=4 t
 --------------------------------------------------------------------------------
@@ -43,11 +40,6 @@ Number of snapshots: 5
 [0]
 ";
 
-#[test]
-fn page(rt: HostRuntime) -> Result<(), Fail> {
-    expect(&rt, rt.alloc(), &sound(MASSIF), PAGE)
-}
-
 // Of thousands of bytes and instructions, with a place below the threshold.
 const SECOND_PAGE: &str =
     "> n2: 9000 (heap allocation functions) malloc/new/new[], --alloc-fns, etc.
@@ -86,11 +78,6 @@ Number of snapshots: 2
 [0]
 ";
 
-#[test]
-fn second_page(rt: HostRuntime) -> Result<(), Fail> {
-    expect(&rt, rt.alloc(), &sound(SECOND_FILE), SECOND_PAGE)
-}
-
 const FRONTS: &str = "$ ms_print t
 heapsuite: t:1: truncated
 [1]
@@ -101,63 +88,62 @@ heapsuite: t:2: bad header
 [1]
 ";
 
-#[test]
-fn fronts(rt: HostRuntime) -> Result<(), Fail> {
-    expect(&rt, rt.alloc(), &sound(""), FRONTS)
-}
+/// The second Massif file up to the number of its second snapshot.
+const FIRST_SNAPSHOT: &str =
+    "desc: (none)\ncmd: ./a.out\ntime_unit: i\n#-----------\nsnapshot=0\n#-----------\ntime=0\nmem_heap_B=0\nmem_heap_extra_B=0\nmem_stacks_B=0\nheap_tree=empty\n#-----------\n";
 
-/// The tree of the second Massif file.
-const TREE: &str = "n2: 9000 (heap allocation functions) malloc/new/new[], --alloc-fns, etc.
- n0: 8960 0x4005BB: main (a.c:10)
- n0: 40 in 3 places, all below massif's threshold (1.00%)
-";
-
-/// Appends lines with another one in the place of each that is one line, or without it where the other is empty.
-fn put_exchanged(lines: &str, line: &str, other: &str, file: &mut Vec<u8>) -> Result<(), NoMemory> {
-    for text in lines.split('\n') {
-        let text = if text == line { other } else { text };
-        if !text.is_empty() {
-            put_bytes(file, text.as_bytes())?;
-            put_bytes(file, b"\n")?;
-        }
-    }
-    Ok(())
-}
-
-/// Plays the rows of a table: behind a line of the second file and `=>` stands what takes its place, and below them what
-/// `ms_print` then says.
-fn played(alloc: Global, table: &str) -> Result<Vec<u8>, NoMemory> {
-    let mut all = Vec::new(alloc);
-    for row in table.split('\n') {
-        if let Some((line, other)) = row.split_once("=>") {
-            put_bytes(&mut all, row.as_bytes())?;
-            put_bytes(&mut all, b"\n")?;
-            let mut file = Vec::new(alloc);
-            put_exchanged(SECOND_FILE, line, other, &mut file)?;
-            put_exchanged(TREE, line, other, &mut file)?;
-            append_run(alloc, &sound(""), &file, "ms_print t", &mut all)?;
-        }
-    }
-    Ok(all)
-}
-
-const EXCHANGED: &str = "snapshot=1=>snapshot=2
+// The second file with another number of its second snapshot, and with a time that is none.
+const SECOND_SNAPSHOTS: &str = "> snapshot=2
+> #-----------
+> time=157300
+> mem_heap_B=9000
+> mem_heap_extra_B=72
+> mem_stacks_B=0
+> heap_tree=detailed
+> n2: 9000 (heap allocation functions) malloc/new/new[], --alloc-fns, etc.
+>  n0: 8960 0x4005BB: main (a.c:10)
+>  n0: 40 in 3 places, all below massif's threshold (1.00%)
+$ ms_print t
 heapsuite: t:13: wrong order
 [1]
-time=157300=>time=-1
+> snapshot=1
+> #-----------
+> time=-1
+> mem_heap_B=9000
+> mem_heap_extra_B=72
+> mem_stacks_B=0
+> heap_tree=detailed
+> n2: 9000 (heap allocation functions) malloc/new/new[], --alloc-fns, etc.
+>  n0: 8960 0x4005BB: main (a.c:10)
+>  n0: 40 in 3 places, all below massif's threshold (1.00%)
+$ ms_print t
 heapsuite: t:15: bad number
 [1]
-n2: 9000 (heap allocation functions) malloc/new/new[], --alloc-fns, etc.=>n3: 9000 a
+";
+
+// A line more in the tree than there are, and one less.
+const TREES: &str = "> n3: 9000 a
+>  n0: 8960 0x4005BB: main (a.c:10)
+>  n0: 40 in 3 places, all below massif's threshold (1.00%)
+$ ms_print t
 heapsuite: t:23: truncated
 [1]
- n0: 40 in 3 places, all below massif's threshold (1.00%)=>
+> n2: 9000 (heap allocation functions) malloc/new/new[], --alloc-fns, etc.
+>  n0: 8960 0x4005BB: main (a.c:10)
+$ ms_print t
 heapsuite: t:22: truncated
 [1]
 ";
 
+static RUNS: [Transcript; 5] = [
+    ("ms_print", MASSIF, PAGE),
+    ("ms_print of a second file", SECOND_FILE, SECOND_PAGE),
+    ("ms_print of fronts", "", FRONTS),
+    ("ms_print of snapshots", FIRST_SNAPSHOT, SECOND_SNAPSHOTS),
+    ("ms_print of trees", SECOND_FILE, TREES),
+];
+
 #[test]
-fn exchanged_lines(rt: HostRuntime) -> Result<(), Fail> {
-    let all = played(rt.alloc(), EXCHANGED)?;
-    assert_eq!(&rt; all.as_slice(), EXCHANGED.as_bytes());
-    Ok(())
+fn pages(rt: HostRuntime) {
+    play_all(&rt, rt.alloc(), &RUNS);
 }
