@@ -1,7 +1,6 @@
 //! `convert` over worked DHAT profiles and Massif files, its words, and what stands against a conversion.
 
-use crate::transcript::{DEMO, MASSIF, SECOND_FILE, expect, sound};
-use std::test::Fail;
+use crate::transcript::{DEMO, MASSIF, SECOND_FILE, Transcript, play_all};
 
 const DHAT: &str = "$ convert t
 0x400: main (a.c:20) 100
@@ -36,11 +35,6 @@ heapsuite: n: no such file
 [3]
 ";
 
-#[test]
-fn dhat_profiles(rt: HostRuntime) -> Result<(), Fail> {
-    expect(&rt, rt.alloc(), &sound(DEMO), DHAT)
-}
-
 /// A profile with one list twice, one with a semicolon, one of no text, and one whose bytes sum to 0. The time at its peak is
 /// after its end.
 const PROFILE_OF_LISTS: &str =
@@ -66,11 +60,6 @@ snapshot=1 time=100 mem_heap_B=0 mem_heap_extra_B=0 mem_stacks_B=0 heap_tree=det
 n0: 0 (heap allocation functions) malloc/new/new[], --alloc-fns, etc.
 [0]
 ";
-
-#[test]
-fn lists(rt: HostRuntime) -> Result<(), Fail> {
-    expect(&rt, rt.alloc(), &sound(PROFILE_OF_LISTS), LISTS)
-}
 
 const DOCUMENTS: &str =
     "> {\"dhatFileVersion\":2,\"mode\":\"heap\",\"verb\":\"Allocated\",\"bklt\":false,\"bkacc\":false,\"tu\":\"instrs\",\"Mtu\":\"Minstr\",\"cmd\":\"./a\",\"pid\":7,\"te\":100,\"pps\":[{\"tb\":10,\"tbk\":1,\"fs\":[1]},{\"tb\":4611686018427387904,\"tbk\":1,\"fs\":[]}],\"ftbl\":[\"[root]\",\"main\"]}
@@ -99,11 +88,6 @@ heapsuite: t: not JSON
 [1]
 ";
 
-#[test]
-fn documents(rt: HostRuntime) -> Result<(), Fail> {
-    expect(&rt, rt.alloc(), &sound(""), DOCUMENTS)
-}
-
 /// A profile with equal lists, a point without frames, a semicolon, and figures that are too large.
 const PLACES: &str =
     "{\"dhatFileVersion\":2,\"mode\":\"copy\",\"verb\":\"Copied\",\"bklt\":false,\"bkacc\":false,\"tu\":\"instrs\",\"Mtu\":\"Minstr\",\"cmd\":\"\",\"pid\":7,\"te\":9,\"ftbl\":[\"[root]\",\"a\",\"b;c\",\" c\\n\",\"\"],\"pps\":[{\"tb\":0,\"tbk\":0,\"fs\":[2,1]},{\"tb\":40,\"tbk\":4611686018427387904,\"fs\":[1]},{\"tb\":0,\"tbk\":1,\"fs\":[3]},{\"tb\":3,\"tbk\":0,\"fs\":[2,1]},{\"tb\":2,\"tbk\":0,\"fs\":[]},{\"tb\":10,\"tbk\":0,\"fs\":[1]}]}\n";
@@ -125,11 +109,6 @@ heapsuite: t: no figures for gb
 [1]
 ";
 
-#[test]
-fn places(rt: HostRuntime) -> Result<(), Fail> {
-    expect(&rt, rt.alloc(), &sound(PLACES), OF_PLACES)
-}
-
 /// A profile with a stack that is live at the peak and at the end.
 const LASTING: &str =
     "{\"dhatFileVersion\":2,\"mode\":\"heap\",\"verb\":\"Allocated\",\"bklt\":true,\"bkacc\":false,\"tu\":\"instrs\",\"Mtu\":\"Minstr\",\"cmd\":\"demo\",\"pid\":7,\"te\":30,\"tg\":10,\"ftbl\":[\"[root]\",\"0x400: main (a.c:20)\",\"0x500: f (a.c:10)\"],\"pps\":[{\"tb\":64,\"tbk\":2,\"tl\":40,\"mb\":64,\"mbk\":2,\"gb\":64,\"gbk\":2,\"eb\":64,\"ebk\":2,\"fs\":[2,1]}]}\n";
@@ -149,11 +128,6 @@ n1: 64 (heap allocation functions) malloc/new/new[], --alloc-fns, etc.
 [0]
 ";
 
-#[test]
-fn lasting_stack(rt: HostRuntime) -> Result<(), Fail> {
-    expect(&rt, rt.alloc(), &sound(LASTING), OF_LASTING)
-}
-
 const WORKED_FILE: &str = "$ convert --from=massif t
 0x400: main (a.c:20);0x500: f (a.c:10) 100
 [0]
@@ -171,11 +145,6 @@ $ convert --from=massif --snapshot=5 t
 heapsuite: t:47: bad snapshot
 [1]
 ";
-
-#[test]
-fn worked_file(rt: HostRuntime) -> Result<(), Fail> {
-    expect(&rt, rt.alloc(), &sound(MASSIF), WORKED_FILE)
-}
 
 // A detailed snapshot, two peaks, a tree whose children have more bytes than their line, labels that are shown, and bytes that sum to
 // more than 2^62.
@@ -243,11 +212,6 @@ heapsuite: t: figures too large
 [6]
 ";
 
-#[test]
-fn trees(rt: HostRuntime) -> Result<(), Fail> {
-    expect(&rt, rt.alloc(), &sound(SECOND_FILE), TREES)
-}
-
 /// A file with a detailed snapshot before its peak and an earlier peak, in whose last tree children have more bytes than a line
 /// has.
 const PEAKS: &str = "desc: d
@@ -311,7 +275,18 @@ heapsuite: t: no tree
 [1]
 ";
 
+static RUNS: [Transcript; 8] = [
+    ("convert a profile", DEMO, DHAT),
+    ("convert lists", PROFILE_OF_LISTS, LISTS),
+    ("convert documents", "", DOCUMENTS),
+    ("convert places", PLACES, OF_PLACES),
+    ("convert a lasting stack", LASTING, OF_LASTING),
+    ("convert a worked Massif file", MASSIF, WORKED_FILE),
+    ("convert trees", SECOND_FILE, TREES),
+    ("convert peaks", PEAKS, OF_PEAKS),
+];
+
 #[test]
-fn peaks(rt: HostRuntime) -> Result<(), Fail> {
-    expect(&rt, rt.alloc(), &sound(PEAKS), OF_PEAKS)
+fn conversions(rt: HostRuntime) {
+    play_all(&rt, rt.alloc(), &RUNS);
 }

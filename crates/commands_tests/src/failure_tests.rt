@@ -1,38 +1,20 @@
 //! Outputs without room, and the place of a failed read among the lines. Each failing call of each command is in
 //! `failing_calls`.
 
-use crate::transcript::{Setting, TWO_SIZES, expect, sound};
-use std::test::Fail;
+use crate::transcript::{SOUND, Setting, TWO_SIZES, plays};
 
 // Standard output has room for 7 bytes.
-#[test]
-fn full_output(rt: HostRuntime) -> Result<(), Fail> {
-    let setting = Setting {
-        out_room: 7,
-        ..sound(TWO_SIZES)
-    };
-    expect(
-        &rt,
-        rt.alloc(),
-        &setting,
-        "$ summary t\nevents:heapsuite: write failed\n[4]\n",
-    )
-}
+const FULL_OUTPUT: &str = "$ summary t
+events:heapsuite: write failed
+[4]
+";
 
 // Standard error takes 9 bytes of the usage text, for words that aren't taken and for none.
-#[test]
-fn failing_messages(rt: HostRuntime) -> Result<(), Fail> {
-    let setting = Setting {
-        err_room: 9,
-        ..sound("")
-    };
-    expect(
-        &rt,
-        rt.alloc(),
-        &setting,
-        "$ summary\nusage: he[4]\n$ \nusage: he[4]\n",
-    )
-}
+const FULL_MESSAGES: &str = "$ summary
+usage: he[4]
+$ 
+usage: he[4]
+";
 
 // All bytes are read, and the next read fails: a fault of a line that was taken with its line feed, or of a line's length, is
 // told in its stead.
@@ -53,12 +35,37 @@ heapsuite: t: cannot read
 ";
 
 #[test]
-fn place_of_a_failed_read(rt: HostRuntime) -> Result<(), Fail> {
+fn failed_calls(rt: HostRuntime) {
+    let setting = Setting {
+        out_room: 7,
+        ..SOUND
+    };
+    plays(
+        &rt,
+        rt.alloc(),
+        &setting,
+        &("full output", TWO_SIZES, FULL_OUTPUT),
+    );
+    let setting = Setting {
+        err_room: 9,
+        ..SOUND
+    };
+    plays(
+        &rt,
+        rt.alloc(),
+        &setting,
+        &("full messages", "", FULL_MESSAGES),
+    );
     let setting = Setting {
         piece: 32,
         line: 19,
         failing_store_call: 3,
-        ..sound("")
+        ..SOUND
     };
-    expect(&rt, rt.alloc(), &setting, FAILED_READS)
+    plays(
+        &rt,
+        rt.alloc(),
+        &setting,
+        &("failed reads", "", FAILED_READS),
+    );
 }

@@ -1,7 +1,6 @@
 //! `flame` over a worked trace of two nested calls, by each cost.
 
-use crate::transcript::{expect, sound};
-use std::test::Fail;
+use crate::transcript::{Transcript, play_all};
 
 const COSTS: &str = "$ flame e
 main (a.c:20) 1
@@ -18,7 +17,9 @@ main (a.c:20);f (a.c:10) 1
 [0]
 ";
 
+static RUNS: [Transcript; 1] = [("flame", "", COSTS)];
+
 #[test]
-fn draws_each_cost(rt: HostRuntime) -> Result<(), Fail> {
-    expect(&rt, rt.alloc(), &sound(""), COSTS)
+fn stacks_by_each_cost(rt: HostRuntime) {
+    play_all(&rt, rt.alloc(), &RUNS);
 }

@@ -1,7 +1,6 @@
 //! `gen`: the worked trace of no events, that of four, and its summary.
 
-use crate::transcript::{expect, sound};
-use std::test::Fail;
+use crate::transcript::{Transcript, play_all};
 
 // Of the states, bits 16 to 30 are 16838, 5758, 10113, 17515, 31051, 5627, 23010, 7419, 16212 and 4086.
 const GENERATED: &str = "$ gen --events=0 --stacks=1
@@ -36,7 +35,9 @@ leaked: 3326 in 2 blocks
 [0]
 ";
 
+static RUNS: [Transcript; 1] = [("gen", "", GENERATED)];
+
 #[test]
-fn generates(rt: HostRuntime) -> Result<(), Fail> {
-    expect(&rt, rt.alloc(), &sound(""), GENERATED)
+fn generated_traces(rt: HostRuntime) {
+    play_all(&rt, rt.alloc(), &RUNS);
 }

@@ -1,7 +1,6 @@
 //! `interpret` over worked raw traces with their symbols, its refusals, and a read that fails.
 
-use crate::transcript::{Setting, expect, sound};
-use std::test::Fail;
+use crate::transcript::{SOUND, Setting, Transcript, play_all, plays};
 
 const INTERPRETED: &str = "> v 10500 2
 > x app
@@ -70,11 +69,6 @@ heapsuite: e:1: bad symbol line
 [1]
 ";
 
-#[test]
-fn interprets_and_refuses(rt: HostRuntime) -> Result<(), Fail> {
-    expect(&rt, rt.alloc(), &sound(""), INTERPRETED)
-}
-
 // Each line alone says no symbol. Then lines meet a symbol before them.
 const TABLES: &str = "> app\t400\t0\tmain
 $ interpret --symbols=t e
@@ -114,10 +108,9 @@ heapsuite: t:2: symbols overlap
 [1]
 ";
 
-#[test]
-fn refuses_tables(rt: HostRuntime) -> Result<(), Fail> {
-    expect(&rt, rt.alloc(), &sound(""), TABLES)
-}
+/// Symbols of four modules: two that meet, and one that begins where another module's does and has two inner frames.
+const SYMBOLS: &str =
+    "app\t400\t100\tmain\nlib\t4ff\t1\tg\napp\t500\t1\tg\ta.c\t20\na\t0\t10\tf\tx.c\t10\tg\ty.c\t11\nb\t0\t10\th\n# app\n";
 
 // Each instruction is named by the symbol that holds its offset in its module, where there is one, and modules come and go.
 const NAMED: &str = "> v 10500 2
@@ -127,7 +120,7 @@ const NAMED: &str = "> v 10500 2
 > t 1500 0
 > t 13ff 0
 > t 2400 0
-$ interpret --symbols=y t
+$ interpret --symbols=s t
 v 10500 2
 s app
 s main
@@ -155,7 +148,7 @@ t 4 0
 > + 8 0 1
 > + 9 0 2
 > - 1
-$ interpret --symbols=y t
+$ interpret --symbols=s t
 v 10500 1
 t 0 0
 s b
@@ -179,11 +172,6 @@ a 9 0
 - 0
 [0]
 ";
-
-#[test]
-fn names_instructions(rt: HostRuntime) -> Result<(), Fail> {
-    expect(&rt, rt.alloc(), &sound(""), NAMED)
-}
 
 const REFUSED: &str = "$ interpret t
 heapsuite: t:1: no version line
@@ -223,11 +211,7 @@ v 10500 3
 [0]
 ";
 
-#[test]
-fn refuses_lines(rt: HostRuntime) -> Result<(), Fail> {
-    expect(&rt, rt.alloc(), &sound(""), REFUSED)
-}
-
+// The third call on the store reads the trace from byte 16 on: the lines before are written.
 const FAILED_READ: &str = "> v 10500 2
 > x app
 > x more
@@ -238,12 +222,33 @@ heapsuite: t: cannot read
 [3]
 ";
 
-// The third call on the store reads the trace from byte 16 on: the lines before are written.
+static RUNS: [Transcript; 3] = [
+    ("interpret", "", INTERPRETED),
+    ("interpret by tables", "", TABLES),
+    ("interpret refuses", "", REFUSED),
+];
+
 #[test]
-fn failed_read(rt: HostRuntime) -> Result<(), Fail> {
+fn interpretations(rt: HostRuntime) {
+    play_all(&rt, rt.alloc(), &RUNS);
+    let setting = Setting {
+        symbols: SYMBOLS,
+        ..SOUND
+    };
+    plays(
+        &rt,
+        rt.alloc(),
+        &setting,
+        &("interpret by names", "", NAMED),
+    );
     let setting = Setting {
         failing_store_call: 3,
-        ..sound("")
+        ..SOUND
     };
-    expect(&rt, rt.alloc(), &setting, FAILED_READ)
+    plays(
+        &rt,
+        rt.alloc(),
+        &setting,
+        &("interpret up to a failed read", "", FAILED_READ),
+    );
 }

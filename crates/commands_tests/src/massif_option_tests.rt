@@ -1,7 +1,6 @@
 //! `massif` in each unit, and at both ends of the options' ranges.
 
-use crate::transcript::{expect, sound};
-use std::test::Fail;
+use crate::transcript::{Transcript, play_all};
 
 const UNITS: &str = "$ massif --time-unit=e e
 desc: heapsuite massif
@@ -30,11 +29,6 @@ snapshot=3 time=5 mem_heap_B=0 mem_heap_extra_B=0 mem_stacks_B=0 heap_tree=empty
 snapshot=4 time=5 mem_heap_B=100 mem_heap_extra_B=20 mem_stacks_B=0 heap_tree=empty
 [0]
 ";
-
-#[test]
-fn units(rt: HostRuntime) -> Result<(), Fail> {
-    expect(&rt, rt.alloc(), &sound(""), UNITS)
-}
 
 // Each option at the least value of its range, and then at the greatest.
 const RANGES: &str =
@@ -70,7 +64,12 @@ snapshot=4 time=15360 mem_heap_B=100 mem_heap_extra_B=5020 mem_stacks_B=0 heap_t
 [0]
 ";
 
+static RUNS: [Transcript; 2] = [
+    ("massif by units", "", UNITS),
+    ("massif by ranges", "", RANGES),
+];
+
 #[test]
-fn ranges(rt: HostRuntime) -> Result<(), Fail> {
-    expect(&rt, rt.alloc(), &sound(""), RANGES)
+fn massif_options(rt: HostRuntime) {
+    play_all(&rt, rt.alloc(), &RUNS);
 }

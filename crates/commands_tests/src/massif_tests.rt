@@ -1,7 +1,6 @@
 //! `massif` over the worked trace, one that offers peaks, and one of stacks that are called, by lists of functions, and its refusals.
 
-use crate::transcript::{expect, sound};
-use std::test::Fail;
+use crate::transcript::{Transcript, play_all};
 
 const PROFILES: &str = "$ massif e
 (profile)
@@ -20,11 +19,6 @@ snapshot=1 time=120 mem_heap_B=100 mem_heap_extra_B=20 mem_stacks_B=0 heap_tree=
 snapshot=2 time=160 mem_heap_B=132 mem_heap_extra_B=28 mem_stacks_B=0 heap_tree=empty
 [0]
 ";
-
-#[test]
-fn profiles(rt: HostRuntime) -> Result<(), Fail> {
-    expect(&rt, rt.alloc(), &sound(""), PROFILES)
-}
 
 // A peak must pass the last one by one percent: 1010 doesn't pass 1000, and 1011 does. Then there is one block of the most bytes, whose
 // time is the number of events.
@@ -75,11 +69,6 @@ snapshot=3 time=2 mem_heap_B=0 mem_heap_extra_B=0 mem_stacks_B=0 heap_tree=empty
 [0]
 ";
 
-#[test]
-fn peak_offers(rt: HostRuntime) -> Result<(), Fail> {
-    expect(&rt, rt.alloc(), &sound(""), PEAK_OFFERS)
-}
-
 // Empty pieces of a list are no names, and a part of a name is none. A name behind the front of a stack takes nothing off it, and a
 // stack all of whose frames are taken off isn't ignored.
 const FUNCTIONS: &str = "$ massif --alloc-fns=f e
@@ -114,11 +103,6 @@ $ massif --alloc-fns=main --ignore-fns=main e
 (profile)
 [0]
 ";
-
-#[test]
-fn functions(rt: HostRuntime) -> Result<(), Fail> {
-    expect(&rt, rt.alloc(), &sound(""), FUNCTIONS)
-}
 
 /// A trace of two stacks, of which one is called from the other: both have a block at the peak.
 const CALLED: &str = "v 10500 2
@@ -178,11 +162,6 @@ snapshot=4 time=360 mem_heap_B=100 mem_heap_extra_B=20 mem_stacks_B=0 heap_tree=
 [0]
 ";
 
-#[test]
-fn called_stacks(rt: HostRuntime) -> Result<(), Fail> {
-    expect(&rt, rt.alloc(), &sound(CALLED), OF_CALLED)
-}
-
 // A block that is too large with what the heap adds to it is refused here alone.
 const REFUSALS: &str = "> v 10500 2
 > a 64 0
@@ -219,7 +198,15 @@ heapsuite: absent: no such file
 [3]
 ";
 
+static RUNS: [Transcript; 5] = [
+    ("massif", "", PROFILES),
+    ("massif at peaks", "", PEAK_OFFERS),
+    ("massif by functions", "", FUNCTIONS),
+    ("massif of called stacks", CALLED, OF_CALLED),
+    ("massif refuses", "", REFUSALS),
+];
+
 #[test]
-fn refusals(rt: HostRuntime) -> Result<(), Fail> {
-    expect(&rt, rt.alloc(), &sound(""), REFUSALS)
+fn massif_profiles(rt: HostRuntime) {
+    play_all(&rt, rt.alloc(), &RUNS);
 }

@@ -1,9 +1,11 @@
 //! `ms_print` over the worked Massif file, and the faults of files.
 
-use crate::transcript::{MASSIF, SECOND_FILE, append_run, expect, sound};
+use crate::transcript::{
+    MASSIF, Outcome, SECOND_FILE, SOUND, Transcript, play_all, put_outcome, run_words,
+};
 use hp_num::{NoMemory, put_bytes};
 use std::alloc::Global;
-use std::test::Fail;
+use std::process::Abort;
 
 const PAGE: &str = "$ ms_print --x=8 --y=4 t
 --------------------------------------------------------------------------------
@@ -43,11 +45,6 @@ Number of snapshots: 5
 [0]
 ";
 
-#[test]
-fn page(rt: HostRuntime) -> Result<(), Fail> {
-    expect(&rt, rt.alloc(), &sound(MASSIF), PAGE)
-}
-
 // Of thousands of bytes and instructions, with a place below the threshold.
 const SECOND_PAGE: &str =
     "> n2: 9000 (heap allocation functions) malloc/new/new[], --alloc-fns, etc.
@@ -86,11 +83,6 @@ Number of snapshots: 2
 [0]
 ";
 
-#[test]
-fn second_page(rt: HostRuntime) -> Result<(), Fail> {
-    expect(&rt, rt.alloc(), &sound(SECOND_FILE), SECOND_PAGE)
-}
-
 const FRONTS: &str = "$ ms_print t
 heapsuite: t:1: truncated
 [1]
@@ -101,9 +93,15 @@ heapsuite: t:2: bad header
 [1]
 ";
 
+static RUNS: [Transcript; 3] = [
+    ("ms_print", MASSIF, PAGE),
+    ("ms_print of a second file", SECOND_FILE, SECOND_PAGE),
+    ("ms_print of fronts", "", FRONTS),
+];
+
 #[test]
-fn fronts(rt: HostRuntime) -> Result<(), Fail> {
-    expect(&rt, rt.alloc(), &sound(""), FRONTS)
+fn pages(rt: HostRuntime) {
+    play_all(&rt, rt.alloc(), &RUNS);
 }
 
 /// The tree of the second Massif file.
@@ -124,21 +122,38 @@ fn put_exchanged(lines: &str, line: &str, other: &str, file: &mut Vec<u8>) -> Re
     Ok(())
 }
 
-/// Plays the rows of a table: behind a line of the second file and `=>` stands what takes its place, and below them what the
-/// words then write.
-fn played(alloc: Global, words: &str, table: &str) -> Result<Vec<u8>, NoMemory> {
+/// Plays a row of a table: behind a line of the second file and `=>` stands what takes its place, and below it what the words then
+/// write. `file` and `outcome` are lent.
+fn play_row(
+    rt: &impl Abort,
+    alloc: Global,
+    words: &str,
+    row: &str,
+    file: &mut Vec<u8>,
+    outcome: &mut Outcome,
+    all: &mut Vec<u8>,
+) -> Result<(), NoMemory> {
+    let Some((line, other)) = row.split_once("=>") else {
+        return Ok(());
+    };
+    put_bytes(all, row.as_bytes())?;
+    put_bytes(all, b"\n")?;
+    file.clear();
+    put_exchanged(SECOND_FILE, line, other, file)?;
+    put_exchanged(TREE, line, other, file)?;
+    run_words(rt, alloc, &SOUND, file, words, outcome);
+    put_outcome(outcome, all)
+}
+
+/// Plays the rows of a table, and asserts that what stands there then is the table.
+fn play_rows(rt: &impl Abort, alloc: Global, words: &str, table: &str) {
+    let mut file = Vec::new(alloc);
+    let mut outcome = Outcome::new(alloc);
     let mut all = Vec::new(alloc);
     for row in table.split('\n') {
-        if let Some((line, other)) = row.split_once("=>") {
-            put_bytes(&mut all, row.as_bytes())?;
-            put_bytes(&mut all, b"\n")?;
-            let mut file = Vec::new(alloc);
-            put_exchanged(SECOND_FILE, line, other, &mut file)?;
-            put_exchanged(TREE, line, other, &mut file)?;
-            append_run(alloc, &sound(""), &file, words, &mut all)?;
-        }
+        play_row(rt, alloc, words, row, &mut file, &mut outcome, &mut all).expect(rt, "memory");
     }
-    Ok(all)
+    assert_eq!(rt; all.as_slice(), table.as_bytes());
 }
 
 // Lines of the header, of snapshots and of trees. Of the last four, three leave a tree with fewer lines than its root counts, of which one
@@ -233,10 +248,8 @@ heapsuite: t:22: bad snapshot
 ";
 
 #[test]
-fn refused_lines(rt: HostRuntime) -> Result<(), Fail> {
-    let all = played(rt.alloc(), "ms_print t", REFUSED)?;
-    assert_eq!(&rt; all.as_slice(), REFUSED.as_bytes());
-    Ok(())
+fn refused_lines(rt: HostRuntime) {
+    play_rows(&rt, rt.alloc(), "ms_print t", REFUSED);
 }
 
 // Unusual lines.
@@ -279,8 +292,6 @@ in 3 places, all below massif's threshold (1.00%) 40
 ";
 
 #[test]
-fn taken_lines(rt: HostRuntime) -> Result<(), Fail> {
-    let all = played(rt.alloc(), "convert --from=massif t", TAKEN)?;
-    assert_eq!(&rt; all.as_slice(), TAKEN.as_bytes());
-    Ok(())
+fn taken_lines(rt: HostRuntime) {
+    play_rows(&rt, rt.alloc(), "convert --from=massif t", TAKEN);
 }

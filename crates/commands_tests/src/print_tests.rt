@@ -1,7 +1,6 @@
 //! `print` over worked traces: what its options show, the order of what it shows, and leaks that are suppressed.
 
-use crate::transcript::{WORKED, expect, sound};
-use std::test::Fail;
+use crate::transcript::{Transcript, WORKED, play_all};
 
 // The last trace has a stack with all of the peak and one with more at another moment, which is of no account.
 const REPORTS: &str = "$ print e
@@ -94,7 +93,9 @@ allocated: 200
 peak: 100 at event 1
 leaked: 100 in 1 blocks
 [0]
-$ print --suppressions=q --print-allocators=0 --print-peaks=0 --print-temporary=0 e
+> # a comment
+> f (
+$ print --suppressions=t --print-allocators=0 --print-peaks=0 --print-temporary=0 e
 MEMORY LEAKS
 100 bytes (100.00%) at main (a.c:20)
   100 bytes (100.00%) in stack 1
@@ -141,11 +142,6 @@ peak: 150 at event 4
 leaked: 150 in 3 blocks
 [0]
 ";
-
-#[test]
-fn writes_reports(rt: HostRuntime) -> Result<(), Fail> {
-    expect(&rt, rt.alloc(), &sound(""), REPORTS)
-}
 
 /// The reports of two stacks of one place: the greatest total is reached first while both have live bytes, and each frees once what it
 /// has just allocated. Then there are stacks of which two are suppressed, and sizes at the edges of the ranges; and no lines.
@@ -254,11 +250,6 @@ leaked: 0 in 0 blocks
 [0]
 ";
 
-#[test]
-fn reports_on_places(rt: HostRuntime) -> Result<(), Fail> {
-    expect(&rt, rt.alloc(), &sound(""), PLACES)
-}
-
 const SUPPRESSED: &str = "> S leak:main (
 $ print --print-allocators=0 --print-peaks=0 --print-temporary=0 t
 MEMORY LEAKS
@@ -274,7 +265,13 @@ leaked: 100 in 1 blocks
 [0]
 ";
 
+static RUNS: [Transcript; 3] = [
+    ("print", "", REPORTS),
+    ("print of places", "", PLACES),
+    ("print without leaks", WORKED, SUPPRESSED),
+];
+
 #[test]
-fn leaves_suppressed_leaks_out(rt: HostRuntime) -> Result<(), Fail> {
-    expect(&rt, rt.alloc(), &sound(WORKED), SUPPRESSED)
+fn reports(rt: HostRuntime) {
+    play_all(&rt, rt.alloc(), &RUNS);
 }

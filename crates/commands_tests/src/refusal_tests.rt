@@ -1,10 +1,10 @@
 //! Refusals: of words, of a line of a trace or behind one, of lengths, and of a stack too deep.
 
-use crate::transcript::{Setting, WORKED, append_run, expect, sound};
-use hp_num::{put_bytes, put_hex};
-use std::test::Fail;
+use crate::transcript::{SOUND, Setting, Transcript, WORKED, comes_to, play_all, plays};
+use hp_num::{NoMemory, put_bytes, put_hex};
 
-const WORDS: &str = "
+/// Words that aren't taken, the first time none.
+static WORDS: &str = "
 summary
 summary t t
 summary -t
@@ -78,16 +78,17 @@ convert --snapshot d
 convert --folded d";
 
 #[test]
-fn words_that_are_not_taken(rt: HostRuntime) -> Result<(), Fail> {
-    let alloc = rt.alloc();
-    let mut all = Vec::new(alloc);
-    let mut wanted = Vec::new(alloc);
+fn words_that_are_not_taken(rt: HostRuntime) {
     for words in WORDS.split('\n') {
-        append_run(alloc, &sound(""), b"v 10500 2\n", words, &mut all)?;
-        put_bytes(&mut wanted, b"(usage)\n[2]\n")?;
+        comes_to(
+            &rt,
+            rt.alloc(),
+            &SOUND,
+            b"v 10500 2\n",
+            words,
+            "(usage)\n[2]\n",
+        );
     }
-    assert_eq!(rt; all.as_slice(), wanted.as_slice());
-    Ok(())
 }
 
 const TRACES: &str = "$ summary t
@@ -124,11 +125,6 @@ $ summary t
 heapsuite: t:6: too many bytes allocated
 [6]
 ";
-
-#[test]
-fn refused_traces(rt: HostRuntime) -> Result<(), Fail> {
-    expect(&rt, rt.alloc(), &sound(""), TRACES)
-}
 
 // Each line stands by itself behind the 18 lines of the worked trace.
 const LINES: &str = "> z what
@@ -190,35 +186,30 @@ heapsuite: t:19: extra field
 [1]
 ";
 
-#[test]
-fn lines_behind_a_trace(rt: HostRuntime) -> Result<(), Fail> {
-    expect(&rt, rt.alloc(), &sound(WORKED), LINES)
-}
-
-// A chain of 4,097 nodes of one frame each, from line 3 on.
-#[test]
-fn stack_too_deep(rt: HostRuntime) -> Result<(), Fail> {
-    let alloc = rt.alloc();
-    let mut trace = Vec::new(alloc);
-    put_bytes(&mut trace, b"v 10500 2\ni 10 0\n")?;
+/// A trace with a chain of 4,097 nodes of one frame each, from line 3 on.
+fn put_chain(trace: &mut Vec<u8>) -> Result<(), NoMemory> {
+    put_bytes(trace, b"v 10500 2\ni 10 0\n")?;
     for parent in 0..4097u64 {
-        put_bytes(&mut trace, b"t 1 ")?;
-        put_hex(&mut trace, parent)?;
-        put_bytes(&mut trace, b"\n")?;
+        put_bytes(trace, b"t 1 ")?;
+        put_hex(trace, parent)?;
+        put_bytes(trace, b"\n")?;
     }
-    let setting = Setting {
-        piece: 4096,
-        ..sound("")
-    };
-    let mut all = Vec::new(alloc);
-    append_run(alloc, &setting, &trace, "summary t", &mut all)?;
-    assert_eq!(rt;
-        all.as_slice(),
-        "heapsuite: t:4099: stack too deep\n[6]\n".as_bytes()
-    );
     Ok(())
 }
 
+#[test]
+fn stack_too_deep(rt: HostRuntime) {
+    let setting = Setting {
+        piece: 4096,
+        ..SOUND
+    };
+    let want = "heapsuite: t:4099: stack too deep\n[6]\n";
+    let mut trace = Vec::new(rt.alloc());
+    put_chain(&mut trace).expect(&rt, "a trace");
+    comes_to(&rt, rt.alloc(), &setting, &trace, "summary t", want);
+}
+
+// A line may have 9 bytes, and a file 20.
 const LIMITED: &str = "> v 10500 2
 > # 2345678
 $ summary t
@@ -242,13 +233,18 @@ heapsuite: t:3: input too long
 [6]
 ";
 
-// A line may have 9 bytes, and a file 20.
+static RUNS: [Transcript; 2] = [
+    ("refused traces", "", TRACES),
+    ("lines behind a trace", WORKED, LINES),
+];
+
 #[test]
-fn lengths(rt: HostRuntime) -> Result<(), Fail> {
+fn refusals(rt: HostRuntime) {
+    play_all(&rt, rt.alloc(), &RUNS);
     let setting = Setting {
         input: 20,
         line: 9,
-        ..sound("")
+        ..SOUND
     };
-    expect(&rt, rt.alloc(), &setting, LIMITED)
+    plays(&rt, rt.alloc(), &setting, &("lengths", "", LIMITED));
 }

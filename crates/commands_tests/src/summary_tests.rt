@@ -1,7 +1,6 @@
 //! `summary` over worked traces, its words, and every way in which reads are cut.
 
-use crate::transcript::{Setting, TWO_SIZES, append_run, expect, sound};
-use std::test::Fail;
+use crate::transcript::{SOUND, Setting, TWO_SIZES, Transcript, comes_to, play_all};
 
 const FIGURES: &str = "$ summary e
 events: 3
@@ -67,11 +66,6 @@ leaked: 4611686018427387904 in 3 blocks
 [0]
 ";
 
-#[test]
-fn figures_of_traces(rt: HostRuntime) -> Result<(), Fail> {
-    expect(&rt, rt.alloc(), &sound(""), FIGURES)
-}
-
 const WORDS: &str = "$ --help
 (usage)
 [0]
@@ -97,25 +91,36 @@ heapsuite: -: no such file
 [3]
 ";
 
+static RUNS: [Transcript; 2] = [
+    ("summary", "", FIGURES),
+    ("summary by words", TWO_SIZES, WORDS),
+];
+
 #[test]
-fn words_and_names(rt: HostRuntime) -> Result<(), Fail> {
-    expect(&rt, rt.alloc(), &sound(TWO_SIZES), WORDS)
+fn summaries(rt: HostRuntime) {
+    play_all(&rt, rt.alloc(), &RUNS);
 }
 
-const TWO_SIZES_FIGURES: &str =
+/// A trace, with its last line feed and without.
+static CUT: [&str; 2] = [TWO_SIZES, "v 10500 2\na 64 0\na 20 0\n+ 0\n+ 1\n- 0\n+ 0"];
+
+/// What a summary of the trace comes to.
+static CUT_FIGURES: &str =
     "events: 4\ncalls: 3\ntemporary: 0\nallocated: 232\npeak: 132 at event 2\nleaked: 132 in 2 blocks\n[0]\n";
 
 #[test]
-fn cut_reads(rt: HostRuntime) -> Result<(), Fail> {
-    let alloc = rt.alloc();
-    let last_line_open = "v 10500 2\na 64 0\na 20 0\n+ 0\n+ 1\n- 0\n+ 0";
-    for file in [TWO_SIZES, last_line_open] {
+fn cut_reads(rt: HostRuntime) {
+    for file in &CUT {
         for piece in 1..45 {
-            let setting = Setting { piece, ..sound("") };
-            let mut all = Vec::new(alloc);
-            append_run(alloc, &setting, file.as_bytes(), "summary t", &mut all)?;
-            assert_eq!(rt; all.as_slice(), TWO_SIZES_FIGURES.as_bytes());
+            let setting = Setting { piece, ..SOUND };
+            comes_to(
+                &rt,
+                rt.alloc(),
+                &setting,
+                file.as_bytes(),
+                "summary t",
+                CUT_FIGURES,
+            );
         }
     }
-    Ok(())
 }

@@ -1,7 +1,7 @@
-//! Transcripts: texts of runs and of what they write, as they would stand on a terminal. A test plays the runs of one and
-//! compares what they write with it.
+//! Transcripts: texts of runs and of what they write, as they would stand on a terminal. Their runs are played, and what is
+//! written is compared with them.
 
-ghost use Rattle.std.specs.Prelude.{◌≡◌, ℕ, List, IfOk, OnOk, None};
+ghost use Rattle.std.specs.Prelude.{◌≡◌, ℕ, List, None};
 ghost use Rattle.hp_outside.specs.Folder.{file_of};
 
 use commands::heapsuite_run;
@@ -9,7 +9,6 @@ use hp_num::{NoMemory, put_bytes, put_dec};
 use hp_outside::{Limits, MemSink, MemStore};
 use std::alloc::Global;
 use std::process::Abort;
-use std::test::Fail;
 
 /// A trace with two sizes, of which the peak isn't the end.
 pub const TWO_SIZES: &str = "v 10500 2\na 64 0\na 20 0\n+ 0\n+ 1\n- 0\n+ 0\n";
@@ -79,18 +78,14 @@ pub const DEMO: &str =
 pub const RAW: &str =
     "v 10500 2\nx app\nm app 1000 0 1000\nt 1400 0\nt 1500 1\n+ 40 2 9000\n+ 40 2 9000\n- 9000\n- 9000\n";
 
-/// Symbols of four modules: two that meet, and one that begins where another module's does and has two inner frames.
-const SYMBOLS: &str =
-    "app\t400\t100\tmain\nlib\t4ff\t1\tg\napp\t500\t1\tg\ta.c\t20\na\t0\t10\tf\tx.c\t10\tg\ty.c\t11\nb\t0\t10\th\n# app\n";
-
 /// How the program is called. Transcripts show it as `(usage)`.
 const USAGE: &str =
     "usage: heapsuite COMMAND [OPTION]... [FILE]\ncommands: summary print flame interpret massif ms_print dhat gen dhat_view convert\n";
 
-/// How runs are made, and the front of the file `t` that they find. A call of number 0 never fails.
+/// How runs are made, and the file `s` that they find. A call of number 0 never fails.
 #[derive(Clone, Copy)]
-pub struct Setting<'a> {
-    pub front: &'a str,
+pub struct Setting {
+    pub symbols: &'static str,
     pub piece: usize,
     pub input: u32,
     pub line: u16,
@@ -101,74 +96,77 @@ pub struct Setting<'a> {
     pub failing_err_call: u64,
 }
 
-/// All calls are sound, and `t` begins with these bytes.
-pub const fn sound(front: &str) -> Setting<'_> {
-    Setting {
-        front,
-        piece: 16,
-        input: 100_000,
-        line: 1000,
-        failing_store_call: 0,
-        out_room: 4000,
-        failing_out_call: 0,
-        err_room: 1000,
-        failing_err_call: 0,
+/// All calls are sound.
+pub const SOUND: Setting = Setting {
+    symbols: "app\t400\t100\tmain\ta.c\t20\napp\t500\t10\tf\n",
+    piece: 16,
+    input: 100_000,
+    line: 1000,
+    failing_store_call: 0,
+    out_room: 4000,
+    failing_out_call: 0,
+    err_room: 1000,
+    failing_err_call: 0,
+};
+
+/// A transcript: what it shows, what the file `t` begins with, and a text. In the text a line behind `> ` is one more of `t`, up to
+/// the next run; the words behind `$ ` are run; all other lines are what a run wrote.
+pub type Transcript = (&'static str, &'static str, &'static str);
+
+/// Adds the words that stand between blanks.
+fn add_words(alloc: Global, text: &str, list: &mut Vec<String>) -> Result<(), NoMemory> {
+    if text.is_empty() {
+        return Ok(());
     }
+    for word in text.split(' ') {
+        list.push(String::from_str(alloc, word)?)?;
+    }
+    Ok(())
 }
 
-/// The words that stand between blanks.
-fn words_of(alloc: Global, text: &str) -> Result<Vec<String>, NoMemory> {
-    let mut list = Vec::new(alloc);
-    if !text.is_empty() {
-        for word in text.split(' ') {
-            list.push(String::from_str(alloc, word)?)?;
-        }
-    }
-    Ok(list)
-}
-
-/// Adds the files that runs find: `t`, a worked trace `e`, suppressions `q`, and symbols `s` and `y`.
-fn add_files(store: &mut MemStore, file: &[u8]) -> Result<(), NoMemory>
-    requires none_held { (name : List ℕ) → file_of store.old.store.folder name ≡ None }
-    ensures opens { OnOk result (store.new.store.opens ≡ store.old.store.opens) }
+/// Adds the files that runs find: `t`, a worked trace `e` and symbols `s`. One call of the store is to fail.
+fn add_files(store: &mut MemStore, setting: &Setting, file: &[u8]) -> Result<(), NoMemory>
+    requires { (name : List ℕ) → file_of store.old.store.folder name ≡ None }
+    ensures { store.new.store.opens ≡ store.old.store.opens }
 {
     store.add("t", file)?;
     store.add("e", WORKED.as_bytes())?;
-    store.add("q", b"# a comment\nf (\n")?;
-    store.add("s", b"app\t400\t100\tmain\ta.c\t20\napp\t500\t10\tf\n")?;
-    store.add("y", SYMBOLS.as_bytes())
+    store.add("s", setting.symbols.as_bytes())?;
+    store.fail_at(setting.failing_store_call)
 }
 
-/// The folder that runs find, of whose calls one is to fail.
-fn folder(alloc: Global, setting: &Setting, file: &[u8]) -> Result<MemStore, NoMemory>
-    ensures unopened { IfOk result (λ store. store.store.opens ≡ 0) }
-{
-    let mut store = MemStore::new(alloc, setting.piece.max(1));
-    add_files(&mut store, file)?;
-    store.fail_at(setting.failing_store_call)?;
-    Ok(store)
+/// Both outputs of a run, of whose calls one is to fail.
+fn fail_outputs(setting: &Setting, out: &mut MemSink, err: &mut MemSink) -> Result<(), NoMemory> {
+    out.fail_at(setting.failing_out_call)?;
+    err.fail_at(setting.failing_err_call)
 }
 
-/// Both outputs of a run.
+/// What a run came to: its status, and what both outputs got.
 #[derive(Drop)]
-struct Outputs {
-    out: MemSink,
-    err: MemSink,
+pub struct Outcome {
+    pub status: u8,
+    pub out: Vec<u8>,
+    pub err: Vec<u8>,
 }
 
-/// Outputs that have got nothing.
-fn empty_outputs(alloc: Global, setting: &Setting) -> Result<Outputs, NoMemory> {
-    Ok(Outputs {
-        out: sink(alloc, setting.out_room, setting.failing_out_call)?,
-        err: sink(alloc, setting.err_room, setting.failing_err_call)?,
-    })
+impl Outcome {
+    /// Of no run.
+    pub fn new(alloc: Global) -> Outcome {
+        Outcome {
+            status: 0,
+            out: Vec::new(alloc),
+            err: Vec::new(alloc),
+        }
+    }
 }
 
-/// An output with this room, of whose calls one is to fail.
-fn sink(alloc: Global, room: usize, failing_call: u64) -> Result<MemSink, NoMemory> {
-    let mut sink = MemSink::new(alloc, room)?;
-    sink.fail_at(failing_call)?;
-    Ok(sink)
+/// Keeps what a run with this status came to.
+fn keep(status: u8, out: &[u8], err: &[u8], outcome: &mut Outcome) -> Result<(), NoMemory> {
+    outcome.status = status;
+    outcome.out.clear();
+    put_bytes(&mut outcome.out, out)?;
+    outcome.err.clear();
+    put_bytes(&mut outcome.err, err)
 }
 
 /// Runs the words over the folder, and gives the status.
@@ -177,7 +175,8 @@ fn status_of(
     setting: &Setting,
     words: &[String],
     store: &mut MemStore,
-    outputs: &mut Outputs,
+    out: &mut MemSink,
+    err: &mut MemSink,
 ) -> u8
     requires unopened { store.old.store.opens ≡ 0 }
 {
@@ -186,24 +185,41 @@ fn status_of(
         line: u32::from(setting.line).max(1),
         order: 1,
     };
-    heapsuite_run(
-        alloc,
-        words,
-        &limits,
-        store,
-        &mut outputs.out,
-        &mut outputs.err,
-    )
+    heapsuite_run(alloc, words, &limits, store, out, err)
 }
 
-/// Appends a Massif file, each snapshot on one line: without what stands between snapshots and their values.
-fn put_snapshots(file: &[u8], all: &mut Vec<u8>) -> Result<(), NoMemory> {
-    for line in file.split(|byte| *byte == b'\n') {
-        if line != b"#-----------".as_slice() {
-            put_beside(line, all)?;
-        }
-    }
-    Ok(())
+/// Runs the words over the folder.
+fn run_over(
+    rt: &impl Abort,
+    alloc: Global,
+    setting: &Setting,
+    words: &[String],
+    store: &mut MemStore,
+    outcome: &mut Outcome,
+)
+    requires unopened { store.old.store.opens ≡ 0 }
+{
+    let mut out = MemSink::new(alloc, setting.out_room).expect(rt, "an output");
+    let mut err = MemSink::new(alloc, setting.err_room).expect(rt, "an output");
+    fail_outputs(setting, &mut out, &mut err).expect(rt, "outputs");
+    let status = status_of(alloc, setting, words, store, &mut out, &mut err);
+    keep(status, out.bytes(), err.bytes(), outcome).expect(rt, "an outcome");
+}
+
+/// Runs the words, which stand between blanks, where `t` has these bytes.
+pub fn run_words(
+    rt: &impl Abort,
+    alloc: Global,
+    setting: &Setting,
+    file: &[u8],
+    words: &str,
+    outcome: &mut Outcome,
+) {
+    let mut list = Vec::new(alloc);
+    add_words(alloc, words, &mut list).expect(rt, "words");
+    let mut store = MemStore::new(alloc, setting.piece.max(1));
+    add_files(&mut store, setting, file).expect(rt, "a folder");
+    run_over(rt, alloc, setting, &list, &mut store, outcome);
 }
 
 /// Appends a line of a Massif file: behind the line before it where it is a value of a snapshot, else on a line of its own.
@@ -219,13 +235,25 @@ fn put_beside(line: &[u8], all: &mut Vec<u8>) -> Result<(), NoMemory> {
     put_bytes(all, line)
 }
 
+/// Appends a Massif file, each snapshot on one line: without what stands between snapshots and their values.
+fn put_snapshots(file: &[u8], all: &mut Vec<u8>) -> Result<(), NoMemory> {
+    for line in file.split(|byte| *byte == b'\n') {
+        if line != b"#-----------".as_slice() {
+            put_beside(line, all)?;
+        }
+    }
+    Ok(())
+}
+
+/// Texts that transcripts show by a word.
+static SHOWN: [(&str, &str); 2] = [(USAGE, "(usage)\n"), (MASSIF, "(profile)\n")];
+
 /// Appends what an output got. Of a Massif file each snapshot stands on one line.
 fn put_got(got: &[u8], all: &mut Vec<u8>) -> Result<(), NoMemory> {
-    if got == USAGE.as_bytes() {
-        return put_bytes(all, b"(usage)\n");
-    }
-    if got == MASSIF.as_bytes() {
-        return put_bytes(all, b"(profile)\n");
+    for (text, word) in &SHOWN {
+        if got == text.as_bytes() {
+            return put_bytes(all, word.as_bytes());
+        }
     }
     if got.starts_with(b"desc: ") {
         return put_snapshots(got, all);
@@ -233,56 +261,21 @@ fn put_got(got: &[u8], all: &mut Vec<u8>) -> Result<(), NoMemory> {
     put_bytes(all, got)
 }
 
-/// What a run came to: its status, and what both outputs got.
-#[derive(Drop)]
-pub struct Ran {
-    pub status: u8,
-    pub out: Vec<u8>,
-    pub err: Vec<u8>,
-}
-
-/// What a run with this status came to.
-fn gathered(alloc: Global, status: u8, outputs: &Outputs) -> Result<Ran, NoMemory> {
-    let mut out = Vec::new(alloc);
-    put_bytes(&mut out, outputs.out.bytes())?;
-    let mut err = Vec::new(alloc);
-    put_bytes(&mut err, outputs.err.bytes())?;
-    Ok(Ran { status, out, err })
-}
-
-/// Runs the words, which stand between blanks, where `t` has these bytes.
-pub fn run_once(
-    alloc: Global,
-    setting: &Setting,
-    file: &[u8],
-    words: &str,
-) -> Result<Ran, NoMemory> {
-    let words = words_of(alloc, words)?;
-    let mut store = folder(alloc, setting, file)?;
-    let mut outputs = empty_outputs(alloc, setting)?;
-    let status = status_of(alloc, setting, &words, &mut store, &mut outputs);
-    gathered(alloc, status, &outputs)
-}
-
 /// Appends what both outputs of a run got, and its status in brackets.
-fn put_ran(run: &Ran, all: &mut Vec<u8>) -> Result<(), NoMemory> {
-    put_got(&run.out, all)?;
-    put_got(&run.err, all)?;
+pub fn put_outcome(outcome: &Outcome, all: &mut Vec<u8>) -> Result<(), NoMemory> {
+    put_got(&outcome.out, all)?;
+    put_got(&outcome.err, all)?;
     put_bytes(all, b"[")?;
-    put_dec(all, u64::from(run.status))?;
+    put_dec(all, u64::from(outcome.status))?;
     put_bytes(all, b"]\n")
 }
 
-/// Runs the words and appends what both outputs got and the status in brackets.
-pub fn append_run(
-    alloc: Global,
-    setting: &Setting,
-    file: &[u8],
-    words: &str,
-    all: &mut Vec<u8>,
-) -> Result<(), NoMemory> {
-    let run = run_once(alloc, setting, file, words)?;
-    put_ran(&run, all)
+/// What is at hand while a transcript is played: the file `t` so far, what the last run came to, and what stands there so far.
+#[derive(Drop)]
+struct Stage {
+    file: Vec<u8>,
+    outcome: Outcome,
+    all: Vec<u8>,
 }
 
 /// Appends a line.
@@ -291,14 +284,16 @@ fn put_line(line: &str, all: &mut Vec<u8>) -> Result<(), NoMemory> {
     put_bytes(all, b"\n")
 }
 
-/// Plays a line of a transcript, where `t` has these bytes so far.
+/// Plays a line of a transcript, where `t` begins so.
 fn play_line(
+    rt: &impl Abort,
     alloc: Global,
     setting: &Setting,
+    front: &str,
     line: &str,
-    file: &mut Vec<u8>,
-    all: &mut Vec<u8>,
+    stage: &mut Stage,
 ) -> Result<(), NoMemory> {
+    let Stage { file, outcome, all } = stage;
     if let Some(more) = line.strip_prefix("> ") {
         put_line(line, all)?;
         return put_line(more, file);
@@ -307,25 +302,65 @@ fn play_line(
         return Ok(());
     };
     put_line(line, all)?;
-    append_run(alloc, setting, file, words, all)?;
+    run_words(rt, alloc, setting, file, words, outcome);
+    put_outcome(outcome, all)?;
     file.clear();
-    put_bytes(file, setting.front.as_bytes())
+    put_bytes(file, front.as_bytes())
 }
 
-/// Plays the lines of a transcript and gives what then stands there. A line behind `> ` is one more of `t`, up to the next
-/// run; the words behind `$ ` are run; all other lines are what a run wrote.
-pub fn played(alloc: Global, setting: &Setting, text: &str) -> Result<Vec<u8>, Fail> {
-    let mut all = Vec::new(alloc);
-    let mut file = Vec::from_slice(alloc, setting.front.as_bytes())?;
+/// Plays the lines of a transcript. What stands there is the transcript, run by run.
+fn play_lines(
+    rt: &impl Abort,
+    alloc: Global,
+    setting: &Setting,
+    transcript: &Transcript,
+    stage: &mut Stage,
+) {
+    let (name, front, text) = transcript;
+    put_bytes(&mut stage.file, front.as_bytes()).expect(rt, "a file");
     for line in text.split('\n') {
-        play_line(alloc, setting, line, &mut file, &mut all)?;
+        play_line(rt, alloc, setting, front, line, stage).expect(rt, "memory");
+        let length = stage.all.len();
+        let is_begun = text.as_bytes().starts_with(&stage.all);
+        assert!(rt; is_begun, "{name}, up to byte {length}: {line}");
     }
-    Ok(all)
+    assert_eq!(rt; stage.all.len(), text.len());
 }
 
-/// Plays a transcript and asserts that it is what was written.
-pub fn expect(rt: &impl Abort, alloc: Global, setting: &Setting, text: &str) -> Result<(), Fail> {
-    let all = played(alloc, setting, text)?;
-    assert_eq!(rt; all.as_slice(), text.as_bytes());
-    Ok(())
+/// Plays a transcript whose runs are made so.
+pub fn plays(rt: &impl Abort, alloc: Global, setting: &Setting, transcript: &Transcript) {
+    let mut stage = Stage {
+        file: Vec::new(alloc),
+        outcome: Outcome::new(alloc),
+        all: Vec::new(alloc),
+    };
+    play_lines(rt, alloc, setting, transcript, &mut stage);
+}
+
+/// Plays transcripts of which all calls are sound.
+pub fn play_all(rt: &impl Abort, alloc: Global, transcripts: &[Transcript]) {
+    for transcript in transcripts {
+        plays(rt, alloc, &SOUND, transcript);
+    }
+}
+
+/// A run comes to what is wanted.
+pub fn comes_to(
+    rt: &impl Abort,
+    alloc: Global,
+    setting: &Setting,
+    file: &[u8],
+    words: &str,
+    want: &str,
+) {
+    let mut outcome = Outcome::new(alloc);
+    let mut all = Vec::new(alloc);
+    run_words(rt, alloc, setting, file, words, &mut outcome);
+    put_outcome(&outcome, &mut all).expect(rt, "memory");
+    let piece = setting.piece;
+    assert_eq!(rt;
+        all.as_slice(),
+        want.as_bytes(),
+        "at {words}, read by {piece}"
+    );
 }

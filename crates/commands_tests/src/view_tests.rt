@@ -1,7 +1,6 @@
 //! `dhat_view` over worked profiles, its words, and the faults of a document.
 
-use crate::transcript::{DEMO, expect, sound};
-use std::test::Fail;
+use crate::transcript::{DEMO, Transcript, play_all};
 
 const VIEWS: &str = "$ dhat_view t
 command: demo
@@ -26,11 +25,6 @@ $ dhat_view n
 heapsuite: n: no such file
 [3]
 ";
-
-#[test]
-fn views(rt: HostRuntime) -> Result<(), Fail> {
-    expect(&rt, rt.alloc(), &sound(DEMO), VIEWS)
-}
 
 /// A profile with equal costs, small ones, a point without frames, texts that can't be shown as they are, and too many blocks.
 const PLACES: &str =
@@ -63,11 +57,6 @@ $ dhat_view --sort=tbk t
 heapsuite: t: figures too large
 [6]
 ";
-
-#[test]
-fn views_of_places(rt: HostRuntime) -> Result<(), Fail> {
-    expect(&rt, rt.alloc(), &sound(PLACES), VIEWS_OF_PLACES)
-}
 
 /// A profile whose one point has another value for each figure.
 const FIGURES: &str =
@@ -138,11 +127,6 @@ wb: 11
 [0]
 ";
 
-#[test]
-fn views_by_each_figure(rt: HostRuntime) -> Result<(), Fail> {
-    expect(&rt, rt.alloc(), &sound(FIGURES), BY_EACH_FIGURE)
-}
-
 const DOCUMENTS: &str =
     "> {\"dhatFileVersion\":2,\"mode\":\"heap\",\"verb\":\"Allocated\",\"bklt\":true,\"bkacc\":true,\"tu\":\"instrs\",\"Mtu\":\"Minstr\",\"tuth\":500,\"cmd\":\"./a\",\"pid\":7,\"te\":100,\"tg\":50,\"pps\":[{\"tb\":10,\"tbk\":1,\"tl\":40,\"mb\":10,\"mbk\":1,\"gb\":10,\"gbk\":1,\"eb\":0,\"ebk\":0,\"rb\":3,\"wb\":10,\"acc\":[-10,1],\"fs\":[1]}],\"ftbl\":[\"[root]\",\"0x1: main (a.c:1)\"]}
 $ dhat_view t
@@ -178,7 +162,14 @@ heapsuite: t: not JSON
 [1]
 ";
 
+static RUNS: [Transcript; 4] = [
+    ("dhat_view", DEMO, VIEWS),
+    ("dhat_view of places", PLACES, VIEWS_OF_PLACES),
+    ("dhat_view by each figure", FIGURES, BY_EACH_FIGURE),
+    ("dhat_view of documents", "", DOCUMENTS),
+];
+
 #[test]
-fn faults_of_documents(rt: HostRuntime) -> Result<(), Fail> {
-    expect(&rt, rt.alloc(), &sound(""), DOCUMENTS)
+fn views(rt: HostRuntime) {
+    play_all(&rt, rt.alloc(), &RUNS);
 }
