@@ -9,12 +9,12 @@ ghost use Rattle.commands.specs.Requests.{flame_asked_by};
 use crate::asks::Asks;
 use command_frame::{Desk, Halt};
 use command_words::{TakenWords, WordTable};
-use cost_tree::lists_from_root;
 use hp_num::NoMemory;
 use hp_outside::{Sink, Store};
 use ht_print::{FlameCost, put_flame_of_lists, stack_costs};
 use ht_trace::{Style, Tables};
 use peak_costs::Peaks;
+use stack_trees::lists_from_root;
 use std::alloc::Global;
 use trace_reading::{TraceWriter, run_trace};
 

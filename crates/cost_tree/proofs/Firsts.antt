@@ -13,7 +13,7 @@ use Rattle.cost_tree.specs.CostLines.{FrontLine, a_front, cost_of, front_line, f
 use Rattle.cost_tree.specs.Inclusive.{has_front, inclusive, least}
 use Rattle.cost_tree.specs.NextFronts.{longer_front, next_fronts, opens, texts_at}
 use Rattle.cost_tree.specs.Order.{by_cost}
-use Rattle.cost_tree.proofs.Alike.{inclusive-cons, least-cons}
+use Rattle.cost_tree.proofs.Heads.{inclusive-cons, least-cons}
 use Rattle.cost_tree.proofs.ChildNodes.{sum-same}
 use Rattle.cost_tree.proofs.Nexts.{IsLonger, next-longer}
 use Rattle.cost_tree.proofs.Orders.{by_cost-permutation, by_cost-same, filter-same}

@@ -8,7 +8,7 @@ use Rattle.cost_tree.specs.Alone.{AreAlone}
 use Rattle.cost_tree.specs.Costed.{Costed, costed}
 use Rattle.cost_tree.specs.Cuts.{AreEnough}
 use Rattle.cost_tree.specs.Inclusive.{has_front, inclusive}
-use Rattle.cost_tree.proofs.Alike.{inclusive-cons}
+use Rattle.cost_tree.proofs.Heads.{inclusive-cons}
 use Rattle.cost_tree.proofs.Alone.{has-first}
 
 -- what lists cost that begin with a front: a list's 1, and those of two lists

@@ -23,13 +23,16 @@ use Rattle.cost_tree.proofs.Brothers as brothers
 use Rattle.cost_tree.proofs.Cutting as cutting
 use Rattle.cost_tree.proofs.Forests.{IsForest-tree}
 use Rattle.cost_tree.proofs.Lists as lists
-use Rattle.cost_tree.proofs.Needing as needing
 use Rattle.cost_tree.proofs.Nexts as nexts
 use Rattle.cost_tree.proofs.NextSums.{next-whole}
 use Rattle.cost_tree.proofs.Orders.{by_cost-permutation}
 use Rattle.cost_tree.proofs.Steps as steps
 use Rattle.cost_tree.proofs.Sums as sums
 use Rattle.cost_tree.proofs.Walks.{next-few}
+-- what stacks cost by the first one and the others, whether texts begin with a front or are it, and texts that keep their numbers
+pub use Rattle.cost_tree.proofs.Heads.{inclusive-cons, least-cons}
+pub use Rattle.cost_tree.proofs.Prefixes.{has_front-take, is_front-Decides}
+pub use Rattle.cost_tree.proofs.Listing.{lists-kept, text-named, texts-grown, texts-kept}
 
 -- the empty front costs what all stacks cost together, and no front costs more
 pub inclusive-all : (stacks : List Costed) → inclusive [] stacks ≡ sum_by (λ (s : Costed). s.cost) stacks
@@ -50,7 +53,7 @@ children-none tree stacks depth n front is at longest = brothers.children-none t
 
 -- lists by their numbers, and one more
 pub listed-more : {X : Type 0} (f : ℕ → X) (n : ℕ) (old new : List X) → old ≡ map f (range_with_len 0 n) → new ≡ old ++ f n ∷ [] → new ≡ map f (range_with_len 0 (n + 1))
-listed-more = needing.listed-more
+listed-more = lists.listed-more
 
 -- one element more
 pub take-next : {X : Type 0} (xs : List X) (i : ℕ) (x : X) → slice_get xs i ≡ Some x → take (i + 1) xs ≡ take i xs ++ x ∷ []

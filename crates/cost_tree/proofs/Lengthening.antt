@@ -20,7 +20,7 @@ use Rattle.cost_tree.specs.Cuts.{AreEnough, IsEnough, cut_lists}
 use Rattle.cost_tree.specs.Inclusive.{has_front, inclusive}
 use Rattle.cost_tree.specs.Shapes.{AreSteps, list_at, lists_in, numbers_of}
 use Rattle.cost_tree.specs.Texts.{AreTexts, IsText, lists_of, text_of, texts_of}
-use Rattle.cost_tree.proofs.Alike.{inclusive-cons}
+use Rattle.cost_tree.proofs.Heads.{inclusive-cons}
 use Rattle.cost_tree.proofs.Prefixes.{has_front-Decides}
 use Rattle.cost_tree.proofs.Steps.{texts-same}
 

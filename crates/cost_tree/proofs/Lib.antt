@@ -16,8 +16,7 @@ mod Linking
 mod Beside
 mod Forests
 mod Trees
-mod Needing
-mod Alike
+mod Heads
 mod Ascending
 mod Brothers
 mod NextSums

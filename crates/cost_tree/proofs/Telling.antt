@@ -9,9 +9,9 @@ use Rattle.std.proofs.lemmas.List.Sums.{fold_push}
 use Rattle.std.proofs.lemmas.Option.{slice_get_within}
 use Rattle.cost_tree.specs.declared.list_step.ListStep.{ListStep}
 use Rattle.cost_tree.specs.declared.list_step.ListStep.TheVariants.{Push}
-use Rattle.cost_tree.specs.Needed.{LastGains}
+use Rattle.cost_tree.specs.GrowingLists.{LastGains, caller_list}
 use Rattle.cost_tree.specs.Texts.{AreTexts, IsText, lists_of, texts_of}
-use Rattle.cost_tree.specs.Told.{AreTold, MayFollow, after, caller_list, told}
+use Rattle.cost_tree.specs.Told.{AreTold, MayFollow, after, told}
 use Rattle.cost_tree.proofs.Listing.{texts-grown}
 use Rattle.cost_tree.proofs.Lists.{get-push_cases}
 use Rattle.cost_tree.proofs.ShapeLists.{split-last}

@@ -2,6 +2,7 @@ pub mod Costed
 pub mod EdgeState
 pub mod Shapes
 pub mod Texts
+pub mod GrowingLists
 pub mod Told
 pub mod Growth
 pub mod Ways
@@ -18,9 +19,7 @@ pub mod NodeLinks
 pub mod TreeState
 pub mod IsTreeOf
 pub mod View
-pub mod StackTexts
 pub mod NextFronts
-pub mod Needed
 pub mod Order
 pub mod CostLines
 pub mod TreeLines

@@ -1,12 +1,9 @@
 -- Lists of numbers as they are told, step by step.
-use Rattle.std.specs.Prelude.{◌≡◌, ◌≢◌, ◌==◌, ℕ, ◌-◌, ◌^◌, ◌<◌, List, [], ◌∷◌, ◌++◌, if◌then◌else◌, fold, length, take, Some, slice_get, slice_index_or}
+use Rattle.std.specs.Prelude.{◌≡◌, ◌≢◌, ℕ, ◌-◌, ◌^◌, ◌<◌, List, [], ◌∷◌, ◌++◌, fold, length, take, Some, slice_get, slice_index_or}
 use Rattle.cost_tree.specs.declared.list_step.ListStep.{ListStep}
 use Rattle.cost_tree.specs.declared.list_step.ListStep.TheVariants.{Begin, Push}
+use Rattle.cost_tree.specs.GrowingLists.{caller_list}
 use Rattle.cost_tree.specs.Texts.{AreTexts}
-
--- the list of a caller, and none for 0
-abbrev pub caller_list : {X : Type 0} → List (List X) → ℕ → List X
-caller_list lists caller = if caller == 0 then [] else slice_index_or lists caller []
 
 -- the lists after a step more: one more, which begins with that of a caller, or a number more at the end of the last
 abbrev pub after : List (List ℕ) → ListStep → List (List ℕ)

@@ -62,7 +62,7 @@ impl<F: Fn(u32) -> u64> Costing<F> {
     }
 
     /// The costs of all stacks, in their order, or `NoMemory`.
-    pub(crate) fn list(&self, alloc: Global) -> Result<Vec<u64>, NoMemory>
+    pub fn list(&self, alloc: Global) -> Result<Vec<u64>, NoMemory>
         requires stated { (costs : List ℕ)
             × AreCosts (F.pre self.now.cost) (F.post self.now.cost) self.now.stacks costs }
         ensures costs { IfOk result

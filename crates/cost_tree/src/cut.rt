@@ -4,7 +4,7 @@ ghost use Rattle.std.specs.Prelude.{◌≡◌, ◌≢◌, ℕ, ◌^◌, ◌<◌,
 ghost use Rattle.cost_tree.specs.Costed.{costed};
 ghost use Rattle.cost_tree.specs.CutShapes.{IsCutOf, left, next_count, raised, raised_counts};
 ghost use Rattle.cost_tree.specs.Cuts.{AreEnough, cut_lists};
-ghost use Rattle.cost_tree.specs.Needed.{LastGains};
+ghost use Rattle.cost_tree.specs.GrowingLists.{LastGains};
 ghost use Rattle.cost_tree.specs.Texts.{AreTexts, lists_of};
 ghost use Rattle.intern_tables.specs.Distinct.{AreDistinct};
 

@@ -4,8 +4,8 @@ ghost use Rattle.std.specs.Prelude.{◌≡◌, ℕ, List, length, IfOk, OnOk};
 ghost use Rattle.cost_tree.specs.Costed.{costed};
 ghost use Rattle.cost_tree.specs.CostLines.{cost_lines};
 ghost use Rattle.cost_tree.specs.Costs.{AreCosts};
+ghost use Rattle.cost_tree.specs.Texts.{AreTexts, lists_of};
 
-use crate::call_chains::CallChains;
 use crate::chains::Chains;
 use crate::costing::Costing;
 use crate::cut::Cut;
@@ -44,15 +44,16 @@ impl Model for CutFronts {
 }
 
 impl CutFronts {
-    /// The lists, cut behind their first texts, or `NoMemory`.
-    pub fn new(alloc: Global, fronts: CallChains) -> Result<CutFronts, NoMemory>
-        ensures whole { IfOk result (λ cut. cut.whole ≡ fronts) }
+    /// The lists of the texts that the numbers are those of, cut behind their first texts, or `NoMemory`. Each number must be one
+    /// of a name.
+    pub fn from_parts(alloc: Global, names: Names, lists: Chains) -> Result<CutFronts, NoMemory>
+        requires texts { AreTexts names lists }
+        ensures whole { IfOk result (λ cut. cut.whole ≡ lists_of names lists) }
     {
-        let CallChains { names, chains, .. } = fronts;
-        let cut = Cut::of(alloc, &chains)?;
+        let cut = Cut::of(alloc, &lists)?;
         Ok(CutFronts {
             names,
-            whole: chains,
+            whole: lists,
             cut,
             room: TreeRoom::new(alloc),
         })

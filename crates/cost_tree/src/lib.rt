@@ -5,19 +5,17 @@
 //!
 //! - `Shape` and `Chains` are seen as lists of lists of numbers, and a shape keeps each front of them once; `Fronts` as a list of
 //!   lists of texts, and keeps each distinct text once. Lists of texts can be made of names and a shape of their
-//!   numbers (`from_parts`). `CallChains` is seen as a list of lists of texts too, and keeps of each the texts of
-//!   a stack's own frames, and which earlier list follows them (`push`). `Costing` and `FrameTest` keep a closure, and what it is
-//!   to answer is said at each call that uses it.
+//!   numbers (`from_parts`). `ToldLists` is seen as a list of lists of texts too, and keeps how they were told: with which
+//!   earlier list each begins (`begin`), and which texts follow (`push`). `Costing` and `FrameTest` keep a closure, and what it
+//!   is to answer is said at each call that uses it.
 //! - `CostTree::of_fronts` gives the tree of the lists with their costs (`IsTreeOf`): one node for each front of at
 //!   most `depth` texts whose cost isn't 0, and node 0 for the empty one.
-//! - `CostTree::build` gives it for the stacks of a trace, whose lists are the texts of their frames in a style and
-//!   from one end (`lists_towards`). From the root it makes the texts of each node once, and its memory goes by nodes. From
-//!   the allocation it makes no text of a stack that costs nothing, and of each other stack one text more than `depth` at
-//!   most. `lists_from_root` and `CostTree::of_lists` are its two steps from the root, for a caller that lets go the tables
-//!   between them: the first one tells the lists (`ToldLists`), and the second one looks for their fronts.
+//! - `CostTree::of_lists` gives it for lists that are told, with their texts for its own, and looks for their fronts only then. The
+//!   lists of a trace's stacks are the business of `stack_trees`.
 //! - `CutFronts` keeps lists cut behind fronts that have no line: `lengthen` makes them so long that the lines of `of_cut`'s tree
-//!   are those of the whole lists, with these costs. It keeps the vectors that trees are made in, too, so that one tree after
-//!   another takes memory anew only where it's larger (`take_room`, `into_room` and `put_room`).
+//!   are those of the whole lists, with these costs. Its lists are made of names and of lists of their numbers that go on with
+//!   earlier ones (`from_parts`). It keeps the vectors that trees are made in, too, so that one tree after another takes memory
+//!   anew only where it's larger (`take_room`, `into_room` and `put_room`).
 //! - A node says its parent, which stands before it, its cost, its own cost and the first stack. `text` is its front's
 //!   last text, and `children_into` gives all its children by ascending number, which is also by ascending first stack.
 //! - `cost_lines` gives the lines of a tree above a threshold, as a list over fronts (`CostLines`): costly fronts first,
@@ -35,8 +33,7 @@
 //! | `shape.rt`, `edge.rt`, `edges.rt` | lists of numbers that share their fronts; how a node goes on from another, and those that do |
 //! | `fronts.rt` | lists of texts |
 //! | `told_lists.rt`, `list_step.rt` | lists of texts as they are told, and one step of that |
-//! | `chains.rt`, `chain.rt`, `call_chains.rt` | lists of numbers that go on with earlier ones; one of them; those of the texts of frames |
-//! | `trace_lists.rt`, `stack_lists.rt`, `root_lists.rt`, `list_form.rt`, `direction.rt` | those of a trace's stacks; from the allocation, and from the root; in which form, and from which end |
+//! | `chains.rt`, `chain.rt` | lists of numbers that go on with earlier ones; one of them |
 //! | `cut_fronts.rt`, `cut.rt`, `ends.rt` | lists of texts that are cut, and of numbers; what lists cost together that end at one node |
 //! | `forked_fronts.rt`, `tails.rt` | lists of texts that are cut where they go on alone; the lines of their texts behind that |
 //! | `costing.rt`, `frame_test.rt` | what each stack costs, and which names are meant, by closures |
@@ -50,7 +47,6 @@
 #![tactic(auto)]
 
 mod branches;
-mod call_chains;
 mod chain;
 mod chains;
 mod child_nodes;
@@ -58,7 +54,6 @@ mod children;
 mod costing;
 mod cut;
 mod cut_fronts;
-mod direction;
 mod edge;
 mod edges;
 mod ends;
@@ -73,26 +68,20 @@ mod line_taker;
 mod lines;
 mod linked;
 mod links;
-mod list_form;
 mod list_step;
 mod node;
 mod room;
-mod root_lists;
 mod scale;
 mod shape;
 mod shown_line;
-mod stack_lists;
 mod summing;
 mod tails;
 mod told_lists;
-mod trace_lists;
 mod tree;
 
-pub use call_chains::CallChains;
 pub use chains::Chains;
 pub use costing::Costing;
 pub use cut_fronts::CutFronts;
-pub use direction::Direction;
 pub use forked_fronts::ForkedFronts;
 pub use frame_test::FrameTest;
 pub use front_line_taker::FrontLineTaker;
@@ -101,10 +90,8 @@ pub use fronts::Fronts;
 pub use line::{CostLine, Place};
 pub use line_taker::CostLineTaker;
 pub use lines::{cost_lines, take_lines};
-pub use list_form::ListForm;
 pub use node::CostNode;
 pub use room::TreeRoom;
-pub use root_lists::lists_from_root;
 pub use scale::Scale;
 pub use shape::Shape;
 pub use shown_line::{ShownLine, ShownPlace};

@@ -4,7 +4,7 @@ ghost use Rattle.std.specs.Prelude.{◌≡◌, ◌≢◌, ℕ, ◌+◌, ◌-◌,
 ghost use Rattle.cost_tree.specs.declared.edge.Edge.{Edge};
 ghost use Rattle.cost_tree.specs.CutShapes.{equal_cost};
 ghost use Rattle.cost_tree.specs.Shapes.{IsChild};
-ghost use Rattle.cost_tree.specs.Told.{caller_list};
+ghost use Rattle.cost_tree.specs.GrowingLists.{caller_list};
 
 use crate::edge::Edge;
 use crate::edges::Edges;

@@ -1,7 +1,8 @@
 //! Lists of texts as they are told: with which earlier list each begins, and which texts follow. The fronts that they share are
 //! looked for when all are told, so that what the texts were made of can be let go before.
 ghost use Rattle.std.specs.Prelude.{◌≡◌, ◌≢◌, ℕ, ◌-◌, ◌^◌, ◌<◌, List, [], ◌∷◌, ◌++◌, length, IfOk, OnOk};
-ghost use Rattle.cost_tree.specs.Told.{MayFollow, after, caller_list};
+ghost use Rattle.cost_tree.specs.GrowingLists.{caller_list};
+ghost use Rattle.cost_tree.specs.Told.{MayFollow, after};
 
 use crate::fronts::Fronts;
 use crate::list_step::ListStep;
@@ -11,8 +12,8 @@ use intern_tables::Names;
 use std::alloc::Global;
 use std::marker::Model;
 
-/// Lists of texts, numbered from 0, as `lists_from_root` gives them. Each distinct text is kept once, and of each list what it begins
-/// with and what follows.
+/// Lists of texts, numbered from 0, for `CostTree::of_lists`. Each distinct text is kept once, and of each list what it begins with
+/// and what follows.
 ///
 /// Contracts see the list of the lists.
 #[derive(Drop)]
@@ -35,7 +36,7 @@ impl Model for ToldLists {
 
 impl ToldLists {
     /// No lists. It takes no memory; that of the lists to come is taken from `alloc`.
-    pub(crate) fn new(alloc: Global) -> ToldLists
+    pub fn new(alloc: Global) -> ToldLists
         ensures empty { result ≡ [] }
     {
         ToldLists {
@@ -44,8 +45,9 @@ impl ToldLists {
         }
     }
 
-    /// Appends the list of the caller, which must be held; for 0 an empty one. There must be fewer than 2^32 - 1 lists.
-    pub(crate) fn begin(&mut self, caller: u32) -> Result<(), NoMemory>
+    /// Appends the list of the caller, which must be held; for 0 an empty one. There must be fewer than 2^32 - 1 lists. After
+    /// `NoMemory` the lists are unfit for use.
+    pub fn begin(&mut self, caller: u32) -> Result<(), NoMemory>
         requires held { caller ≢ 0 → caller < length self.old }
         requires few { length self.old < 2 ^ 32 - 1 }
         ensures appended { OnOk result
@@ -55,8 +57,8 @@ impl ToldLists {
         Ok(())
     }
 
-    /// Appends the text to the last list, of which there must be one.
-    pub(crate) fn push(&mut self, text: &[u8]) -> Result<(), NoMemory>
+    /// Appends the text to the last list, of which there must be one. After `NoMemory` the lists are unfit for use.
+    pub fn push(&mut self, text: &[u8]) -> Result<(), NoMemory>
         requires begun { 0 < length self.old }
         ensures appended { OnOk result
             ((earlier : List (List (List ℕ))) (last : List (List ℕ))

@@ -7,7 +7,6 @@ ghost use Rattle.cost_tree.specs.Children.{children_of};
 ghost use Rattle.cost_tree.specs.Costed.{costed};
 ghost use Rattle.cost_tree.specs.Costs.{AreCosts};
 ghost use Rattle.cost_tree.specs.IsTreeOf.{IsTreeOf};
-ghost use Rattle.cost_tree.specs.StackTexts.{lists_towards};
 ghost use Rattle.cost_tree.specs.CostLines.{last_of};
 ghost use Rattle.cost_tree.specs.Texts.{AreTexts, lists_of, text_of};
 ghost use Rattle.cost_tree.specs.Shares.{cost_at};
@@ -17,7 +16,6 @@ use crate::branches::Branches;
 use crate::child_nodes::ChildNodes;
 use crate::costing::Costing;
 use crate::cut_fronts::CutFronts;
-use crate::direction::Direction;
 use crate::fronts::Fronts;
 use crate::held_names::HeldNames;
 use crate::linked::Linked;
@@ -26,16 +24,14 @@ use crate::node::CostNode;
 use crate::room::{NodeRoom, TreeRoom};
 use crate::shape::Shape;
 use crate::told_lists::ToldLists;
-use crate::trace_lists::trace_lists;
 use hp_num::NoMemory;
-use ht_trace::{Style, Tables};
 use intern_tables::Names;
 use std::alloc::Global;
 use std::marker::Model;
 use std::mem;
 
 /// The fronts of some stacks' texts, each with what the stacks cost that begin with it. Its texts are those of the lists that
-/// it was made of, or its own where it was built of a trace.
+/// it was made of, or its own where these were let go.
 #[derive(Drop)]
 pub struct CostTree<'a> {
     names: HeldNames<'a>,
@@ -80,28 +76,6 @@ impl<'a> CostTree<'a> {
         CostTree::of_costs(alloc, fronts, &costs, depth)
     }
 
-    /// The tree of the stacks of a trace with these costs, to fronts of at most `depth` texts, or `NoMemory`. A stack's
-    /// texts are those of its frames in this style, from the innermost one or from the outermost.
-    pub fn build<F: Fn(u32) -> u64>(
-        alloc: Global,
-        tables: &Tables,
-        costing: &Costing<F>,
-        direction: Direction,
-        style: Style,
-        depth: u32,
-    ) -> Result<CostTree<'a>, NoMemory>
-        requires as_many { costing.now.stacks ≡ length tables.now.nodes + 1 }
-        requires stated { (costs : List ℕ)
-            × AreCosts (F.pre costing.now.cost) (F.post costing.now.cost) costing.now.stacks costs }
-        ensures tree { IfOk result
-            (λ tree. (costs : List ℕ)
-            → AreCosts (F.pre costing.now.cost) (F.post costing.now.cost) costing.now.stacks costs
-            → IsTreeOf tree (costed (lists_towards direction style tables.now) costs) depth) }
-    {
-        let costs = costing.list(alloc)?;
-        CostTree::of_stacks(alloc, tables, &costs, direction, style, depth)
-    }
-
     /// The tree of the lists as they are cut, to fronts of at most `depth` texts, or `NoMemory`. It's made in the vectors of the
     /// room, which `into_room` gives back.
     pub fn of_cut<F: Fn(u32) -> u64>(
@@ -130,25 +104,6 @@ impl<'a> CostTree<'a> {
         let CostTree { nodes, links, .. } = self;
         room.nodes.branches.nodes = nodes;
         room.nodes.links = links.links;
-    }
-
-    /// The tree of the stacks of a trace with these costs, or `NoMemory`.
-    fn of_stacks(
-        alloc: Global,
-        tables: &Tables,
-        costs: &[u64],
-        direction: Direction,
-        style: Style,
-        depth: u32,
-    ) -> Result<CostTree<'a>, NoMemory>
-        requires as_many { length costs.now ≡ length tables.now.nodes + 1 }
-        requires bound { sum costs.now ≤ 2 ^ 62 }
-        ensures tree { IfOk result
-            (λ tree. IsTreeOf tree (costed (lists_towards direction style tables.now) costs.now)
-            depth) }
-    {
-        let lists = trace_lists(alloc, tables, costs, direction, style, depth)?;
-        CostTree::of_lists(alloc, lists, costs, depth)
     }
 
     /// The tree of the lists with these costs, to fronts of at most `depth` texts, or `NoMemory`. It has their texts for its own,

@@ -1,9 +1,10 @@
 //! Worked trees of lists, and of the stacks of a trace. What a tree shows is one text.
 ghost use Rattle.std.specs.Prelude.{◌≡◌, ◌+◌, ◌^◌, ◌≤◌, IsTrue, length, sum};
 
-use cost_tree::{CostTree, Costing, Direction, Fronts};
+use cost_tree::{CostTree, Costing, Fronts};
 use hp_num::{NoMemory, put_bytes, put_dec};
 use ht_trace::{LineError, Style, Tables};
+use stack_trees::{Direction, stack_tree};
 use std::alloc::Global;
 use std::process::Abort;
 
@@ -248,7 +249,7 @@ fn tree_of_stacks<'a>(
     requires bound { sum costs.now ≤ 2 ^ 62 }
 {
     let costing = Costing::new(tables.stacks(), |stack: u32| costs[stack as usize]);
-    CostTree::build(alloc, tables, &costing, direction, style, 4096)
+    stack_tree(alloc, tables, &costing, direction, style, 4096)
 }
 
 /// The tree of a trace's stacks with these costs shows these nodes.

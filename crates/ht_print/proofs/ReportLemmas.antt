@@ -6,7 +6,7 @@ use Rattle.std.proofs.lemmas.Bool.{cond-false}
 use Rattle.std.proofs.lemmas.List.{map_push, take_all, take_more}
 use Rattle.std.proofs.lemmas.Grind.{flat_map-append}
 use Rattle.std.proofs.lemmas.Option.{same_Some, slice_get_within}
-use Rattle.cost_tree.specs.StackTexts.{stack_texts}
+use Rattle.stack_trees.specs.StackTexts.{stack_texts}
 use Rattle.ht_trace.specs.FrameText.{frame_text}
 use Rattle.ht_trace.specs.StackFrames.{stack_frames}
 use Rattle.ht_trace.specs.TableState.{TableState}

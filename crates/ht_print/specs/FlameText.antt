@@ -2,11 +2,11 @@
 use Rattle.std.specs.Prelude.{ℕ, zero, suc, ◌==◌, if◌then◌else◌, List, [], ◌∷◌, ◌++◌, codes, ◌+◌, decimal, length, map}
 use Rattle.std.specs.List.{flat_map}
 use Rattle.stack_table.specs.Stack.{most_frames}
-use Rattle.cost_tree.specs.declared.direction.Direction.TheVariants.{FromRoot}
 use Rattle.cost_tree.specs.Costed.{Costed, costed}
 use Rattle.cost_tree.specs.Inclusive.{own}
 use Rattle.cost_tree.specs.NextFronts.{next_fronts}
-use Rattle.cost_tree.specs.StackTexts.{lists_towards}
+use Rattle.stack_trees.specs.declared.direction.Direction.TheVariants.{FromRoot}
+use Rattle.stack_trees.specs.StackTexts.{lists_towards}
 use Rattle.ht_trace.specs.declared.frame.Style.TheVariants.{Plain}
 use Rattle.ht_trace.specs.TableState.{TableState}
 use Rattle.live_ledger.specs.declared.event.Event.{Event}

@@ -1,7 +1,7 @@
 -- Stacks in groups, by the text of their innermost frame.
 use Rattle.std.specs.Prelude.{ℕ, List, [], ◌∷◌, filter, map, min, sum_by}
 use Rattle.std.specs.Str.{bytes_eq}
-use Rattle.cost_tree.specs.StackTexts.{stack_texts}
+use Rattle.stack_trees.specs.StackTexts.{stack_texts}
 use Rattle.intern_tables.specs.WithoutRepeats.{without_repeats}
 use Rattle.ht_trace.specs.declared.frame.Style.TheVariants.{Plain}
 use Rattle.ht_trace.specs.TableState.{TableState}

@@ -1,7 +1,7 @@
 -- The lines of a report's stacks and groups.
 use Rattle.std.specs.Prelude.{ℕ, ◌==◌, ◌-◌, List, [], ◌++◌, codes, decimal, length, take, if◌then◌else◌}
 use Rattle.std.specs.List.{flat_map}
-use Rattle.cost_tree.specs.StackTexts.{stack_texts}
+use Rattle.stack_trees.specs.StackTexts.{stack_texts}
 use Rattle.hp_num.specs.Hundredths.{hundredths_of}
 use Rattle.hp_num.specs.Percent.{percent}
 use Rattle.ht_trace.specs.declared.frame.Style.TheVariants.{Plain}

@@ -8,11 +8,12 @@ ghost use Rattle.ht_print.specs.FlameText.{flame_of_lists, flame_of_trace, flame
 
 use crate::costs::stack_costs;
 use crate::flame_lines::put_lines;
-use cost_tree::{CostTree, ToldLists, lists_from_root};
+use cost_tree::{CostTree, ToldLists};
 use hp_num::NoMemory;
 use ht_trace::{Style, Tables};
 use peak_costs::Peaks;
 use stack_table::MOST_FRAMES;
+use stack_trees::lists_from_root;
 use std::alloc::Global;
 
 /// Which figure of a stack is its cost.

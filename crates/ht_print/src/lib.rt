@@ -10,7 +10,7 @@
 //! - `put_flame`: the flame stacks by one of four costs. For each list of texts that some stacks have there is a line
 //!   with these stacks' sum, told by the tables and the peaks (`appended`) and by the tables and the events (`trace`).
 //!   Its steps are calls of their own, for a caller that lets the peaks go after the first and the tables after the second:
-//!   `stack_costs`, `lists_from_root` of `cost_tree`, and `put_flame_of_lists`.
+//!   `stack_costs`, `lists_from_root` of `stack_trees`, and `put_flame_of_lists`.
 //! - `put_report`: a report by `PrintOptions`, up to four sections of the stacks, the histogram, and the summary
 //!   (`report_of_trace`).
 //! - `Suppressed::build` answers for each stack whether a pattern of the tables stands in the text of one of its

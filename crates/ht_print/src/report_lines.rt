@@ -3,7 +3,7 @@
 #![tactic(auto, using(crate::proofs::FlameLemmas::extends_same, crate::proofs::FlameLemmas::extends_more, crate::proofs::FlameLemmas::extends_trans))]
 
 ghost use Rattle.std.specs.Prelude.{◌≡◌, ℕ, ◌++◌, ◌-◌, ◌<◌, All, length, map, take, OnOk};
-ghost use Rattle.cost_tree.specs.StackTexts.{stack_texts};
+ghost use Rattle.stack_trees.specs.StackTexts.{stack_texts};
 ghost use Rattle.hp_num.specs.Extends.{Extends};
 ghost use Rattle.ht_trace.specs.FrameText.{frame_text};
 ghost use Rattle.ht_trace.specs.IsFrame.{IsFrame};

@@ -10,11 +10,12 @@ ghost use Rattle.massif_sample.specs.Snapshots.{mark_of, tree_of};
 use crate::load::Load;
 use crate::place_tree::place_tree;
 use cost_history::Replay;
-use cost_tree::{CallChains, CutFronts};
+use cost_tree::CutFronts;
 use hp_num::{NoMemory, Text};
 use massif_cull::{Kind, SnapArray, SnapEntry};
 use massif_file::{HeapTree, Snap, Snaps, Tree};
 use massif_tree::TreeOptions;
+use stack_trees::CallChains;
 use std::alloc::Global;
 
 /// The snapshots of an array, which it hands out, with the trees of their places over the stacks' lists, or `NoMemory`. The lists
@@ -32,7 +33,7 @@ pub(crate) fn take_snaps(
         snaps ≡ all_made (told_tree options.now tables names (length fronts) replay.old.changes)
         array.old.kept.entries array.old.loads) }
 {
-    let mut cut = CutFronts::new(alloc, fronts)?;
+    let mut cut = fronts.into_cut(alloc)?;
     take_all(alloc, array, &mut cut, replay, options)
 }
 

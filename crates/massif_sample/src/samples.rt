@@ -30,13 +30,14 @@ use crate::profile::{description, shown_command, take_snaps};
 use crate::running::Running;
 use crate::tree_places::tree_places;
 use cost_history::CostHistory;
-use cost_tree::{CallChains, FrameTest};
+use cost_tree::FrameTest;
 use hp_num::NoMemory;
 use ht_trace::Tables;
 use live_ledger::Event;
 use massif_cull::{Offer, SnapArray, Taken};
 use massif_file::{Profile, Snaps};
 use massif_tree::{TreeOptions, add_trimmed};
+use stack_trees::CallChains;
 use std::alloc::Global;
 use std::marker::Model;
 

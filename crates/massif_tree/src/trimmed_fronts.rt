@@ -14,9 +14,10 @@ ghost use Rattle.massif_tree.specs.Whole.{AreWhole, IsWhole};
 
 use crate::function_lists::{is_listed, listed_front};
 use crate::options::TreeOptions;
-use cost_tree::{CallChains, FrameTest, ListForm};
+use cost_tree::FrameTest;
 use hp_num::NoMemory;
 use ht_trace::{FrameAt, Style, Tables};
+use stack_trees::{CallChains, ListForm};
 use std::alloc::Global;
 
 /// What is kept while lists are appended.

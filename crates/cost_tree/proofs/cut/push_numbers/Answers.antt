@@ -1,6 +1,6 @@
 use Rattle.std.proofs.Common.{ℕ, List, [], ◌∷◌, take, get_or, sym, subst, arith}
 use Rattle.std.proofs.lemmas.List.{take_more}
-use Rattle.cost_tree.specs.Needed.{LastGains}
+use Rattle.cost_tree.specs.GrowingLists.{LastGains}
 use Rattle.cost_tree.proofs.Listing.{gains-more}
 use Rattle.cost_tree.proofs.cut.push_numbers.Goals as goal
 

@@ -1,5 +1,5 @@
 use Rattle.std.proofs.Common.{◌≡◌, ◌<◌, length, take}
-use Rattle.cost_tree.specs.Needed.{LastGains}
+use Rattle.cost_tree.specs.GrowingLists.{LastGains}
 use Rattle.cost_tree.proofs.cut.push_numbers.Given as goal
 
 abbrev pub invariant-each_number : goal.invariant-each_number

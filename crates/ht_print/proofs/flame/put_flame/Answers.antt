@@ -1,7 +1,7 @@
 use Rattle.std.proofs.Common.{ℕ, List, ◌++◌, ap, ◌∙◌}
 use Rattle.std.proofs.lemmas.Result.{on_ok_weaker}
-use Rattle.cost_tree.specs.declared.direction.Direction.TheVariants.{FromRoot}
-use Rattle.cost_tree.specs.StackTexts.{lists_towards}
+use Rattle.stack_trees.specs.declared.direction.Direction.TheVariants.{FromRoot}
+use Rattle.stack_trees.specs.StackTexts.{lists_towards}
 use Rattle.ht_trace.specs.declared.frame.Style.TheVariants.{Plain}
 use Rattle.ht_print.specs.FlameCosts.{trace_costs}
 use Rattle.ht_print.specs.FlameText.{flame_of_lists}

@@ -1,6 +1,6 @@
 use Rattle.std.proofs.Common.{◌≡◌, ◌++◌, take}
 use Rattle.std.specs.List.{flat_map}
-use Rattle.cost_tree.specs.StackTexts.{stack_texts}
+use Rattle.stack_trees.specs.StackTexts.{stack_texts}
 use Rattle.ht_trace.specs.declared.frame.Style.TheVariants.{Plain}
 use Rattle.ht_print.specs.ReportLines.{stack_lines}
 use Rattle.hp_num.specs.Extends.{Extends}

@@ -2,8 +2,9 @@ use Rattle.std.proofs.Common.{◌≢◌, ℕ, ◌<◌, ◌∷◌, ◌++◌, List
 use Rattle.std.proofs.lemmas.List.{length-map}
 use Rattle.cost_tree.specs.declared.list_step.ListStep.{ListStep}
 use Rattle.cost_tree.specs.declared.list_step.ListStep.TheVariants.{Begin}
+use Rattle.cost_tree.specs.GrowingLists.{caller_list}
 use Rattle.cost_tree.specs.Texts.{lists_of, texts_of}
-use Rattle.cost_tree.specs.Told.{AreTold, caller_list, told}
+use Rattle.cost_tree.specs.Told.{AreTold, told}
 use Rattle.cost_tree.proofs.Telling.{AreTold-more, begun-held, begun-texts, told-more}
 use Rattle.cost_tree.proofs.told_lists.ToldLists.begin.Goals as goal
 

@@ -1,7 +1,0 @@
-use Rattle.std.proofs.Common.{◌≡◌, map, reverse}
-use Rattle.std.specs.List.{range_with_len}
-use Rattle.cost_tree.specs.StackTexts.{stack_texts}
-use Rattle.cost_tree.proofs.root_lists.lists_from_root.Given as goal
-
-abbrev pub invariant-each_stack : goal.invariant-each_stack
-invariant-each_stack l = l.lists ≡ map (λ n. reverse (stack_texts l.style l.tables n)) (range_with_len 0 l.stack)

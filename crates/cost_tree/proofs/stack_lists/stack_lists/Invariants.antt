@@ -1,8 +1,0 @@
-use Rattle.std.proofs.Common.{◌≡◌, map}
-use Rattle.std.specs.List.{range_with_len}
-use Rattle.cost_tree.specs.declared.direction.Direction.TheVariants.{FromAllocation}
-use Rattle.cost_tree.specs.Needed.{needed_list}
-use Rattle.cost_tree.proofs.stack_lists.stack_lists.Given as goal
-
-abbrev pub invariant-each_stack : goal.invariant-each_stack
-invariant-each_stack l = l.lists ≡ map (needed_list FromAllocation l.form.style l.tables l.form.most l.costs) (range_with_len 0 l.stack)

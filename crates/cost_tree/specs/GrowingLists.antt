@@ -1,0 +1,11 @@
+-- How lists of lists grow: by one that begins with that of a caller, and by elements at the end of the last.
+use Rattle.std.specs.Prelude.{◌≡◌, ◌==◌, ℕ, if◌then◌else◌, List, [], ◌∷◌, ◌++◌, slice_index_or}
+
+-- the list of a caller, and none for 0
+abbrev pub caller_list : {X : Type 0} → List (List X) → ℕ → List X
+caller_list lists caller = if caller == 0 then [] else slice_index_or lists caller []
+
+-- the last list has these elements at its end too
+abbrev pub LastGains : {X : Type 0} → List (List X) → List X → List (List X) → Type 0
+LastGains {X} old more new = (earlier : List (List X)) (last : List X)
+    → old ≡ earlier ++ last ∷ [] → new ≡ earlier ++ (last ++ more) ∷ []

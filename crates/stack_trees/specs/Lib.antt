@@ -1,0 +1,2 @@
+pub mod StackTexts
+pub mod Needed

@@ -1,0 +1,111 @@
+//! The lists of texts of a trace's stacks from their innermost frames on, as far as a tree needs them.
+//! What the tree says of them is no part of it.
+ghost use Rattle.std.specs.Prelude.{◌≡◌, ◌+◌, ◌-◌, ◌^◌, ◌<◌, ◌≤◌, All, [], ◌∷◌, ◌++◌, length, map, take, IfOk, OnOk};
+ghost use Rattle.cost_tree.specs.GrowingLists.{LastGains};
+ghost use Rattle.ht_trace.specs.FrameText.{frame_text};
+ghost use Rattle.ht_trace.specs.IsFrame.{IsFrame};
+ghost use Rattle.stack_trees.specs.declared.direction.Direction.TheVariants.{FromAllocation};
+ghost use Rattle.stack_trees.specs.Needed.{needed, needed_lists};
+ghost use Rattle.stack_trees.specs.StackTexts.{stack_texts, towards};
+
+use crate::list_form::ListForm;
+use cost_tree::ToldLists;
+use hp_num::NoMemory;
+use ht_trace::{FrameAt, Style, Tables};
+use std::alloc::Global;
+
+/// What the frames of a stack and the text of a frame are read into.
+#[derive(Drop)]
+struct Buffers {
+    frames: Vec<FrameAt>,
+    text: Vec<u8>,
+}
+
+/// The lists of the stacks with these costs, or `NoMemory`. That of a stack which costs nothing is empty, and no text of
+/// it is made.
+pub(crate) fn stack_lists(
+    alloc: Global,
+    tables: &Tables,
+    costs: &[u64],
+    form: ListForm,
+) -> Result<ToldLists, NoMemory>
+    requires as_many { length costs.now ≡ length tables.now.nodes + 1 }
+    ensures lists { IfOk result
+        (λ lists. lists ≡ needed_lists FromAllocation form.style tables.now form.most costs.now) }
+{
+    let mut lists = ToldLists::new(alloc);
+    let mut buffers = Buffers {
+        frames: Vec::new(alloc),
+        text: Vec::new(alloc),
+    };
+    'each_stack: for stack in 0..tables.stacks() {
+        let cost = costs[stack as usize];
+        add_stack(tables, stack, cost, form, &mut lists, &mut buffers)?;
+    }
+    Ok(lists)
+}
+
+/// Appends the list of the stack.
+fn add_stack(
+    tables: &Tables,
+    stack: u32,
+    cost: u64,
+    form: ListForm,
+    lists: &mut ToldLists,
+    buffers: &mut Buffers,
+) -> Result<(), NoMemory>
+    requires held { stack ≤ length tables.now.nodes }
+    requires few { length lists.old < 2 ^ 32 - 1 }
+    ensures added { OnOk result
+        (lists.new ≡ lists.old
+        ++ needed form.most cost (towards FromAllocation (stack_texts form.style tables.now stack))
+        ∷ []) }
+{
+    lists.begin(0)?;
+    if cost == 0 {
+        return Ok(());
+    }
+    push_stack(tables, stack, form, lists, buffers)
+}
+
+/// Appends the texts of the stack to the last list, of which there must be one.
+fn push_stack(
+    tables: &Tables,
+    stack: u32,
+    form: ListForm,
+    lists: &mut ToldLists,
+    buffers: &mut Buffers,
+) -> Result<(), NoMemory>
+    requires held { stack ≤ length tables.now.nodes }
+    requires begun { 0 < length lists.old }
+    ensures gained { OnOk result
+        (LastGains lists.old
+        (take form.most (towards FromAllocation (stack_texts form.style tables.now stack)))
+        lists.new) }
+{
+    let Buffers { frames, text } = buffers;
+    tables.frames_into(stack, frames)?;
+    frames.truncate(form.most);
+    push_texts(tables, frames, form.style, lists, text)
+}
+
+/// Appends the texts of the frames to the last list, of which there must be one. `text` is a buffer.
+pub(crate) fn push_texts(
+    tables: &Tables,
+    frames: &[FrameAt],
+    style: Style,
+    lists: &mut ToldLists,
+    text: &mut Vec<u8>,
+) -> Result<(), NoMemory>
+    requires frames { All (λ at. IsFrame tables.now at) frames.now }
+    requires begun { 0 < length lists.old }
+    ensures gained { OnOk result
+        (LastGains lists.old (map (frame_text style tables.now) frames.now) lists.new) }
+{
+    'each_frame: for at in frames {
+        text.clear();
+        tables.put_frame(at, style, text)?;
+        lists.push(text)?;
+    }
+    Ok(())
+}

@@ -1,0 +1,55 @@
+//! The tree of what the stacks of a trace cost.
+//! What its nodes say is in `cost_tree`.
+ghost use Rattle.std.specs.Prelude.{◌≡◌, ℕ, ◌+◌, ◌^◌, ◌≤◌, List, length, sum, IfOk};
+ghost use Rattle.cost_tree.specs.Costed.{costed};
+ghost use Rattle.cost_tree.specs.Costs.{AreCosts};
+ghost use Rattle.cost_tree.specs.IsTreeOf.{IsTreeOf};
+ghost use Rattle.stack_trees.specs.StackTexts.{lists_towards};
+
+use crate::direction::Direction;
+use crate::trace_lists::trace_lists;
+use cost_tree::{CostTree, Costing};
+use hp_num::NoMemory;
+use ht_trace::{Style, Tables};
+use std::alloc::Global;
+
+/// The tree of the stacks of a trace with these costs, to fronts of at most `depth` texts, or `NoMemory`. A stack's
+/// texts are those of its frames in this style, from the innermost one or from the outermost.
+pub fn stack_tree<'a, F: Fn(u32) -> u64>(
+    alloc: Global,
+    tables: &Tables,
+    costing: &Costing<F>,
+    direction: Direction,
+    style: Style,
+    depth: u32,
+) -> Result<CostTree<'a>, NoMemory>
+    requires as_many { costing.now.stacks ≡ length tables.now.nodes + 1 }
+    requires stated { (costs : List ℕ)
+        × AreCosts (F.pre costing.now.cost) (F.post costing.now.cost) costing.now.stacks costs }
+    ensures tree { IfOk result
+        (λ tree. (costs : List ℕ)
+        → AreCosts (F.pre costing.now.cost) (F.post costing.now.cost) costing.now.stacks costs
+        → IsTreeOf tree (costed (lists_towards direction style tables.now) costs) depth) }
+{
+    let costs = costing.list(alloc)?;
+    tree_of_stacks(alloc, tables, &costs, direction, style, depth)
+}
+
+/// The tree of the stacks of a trace with these costs, or `NoMemory`.
+fn tree_of_stacks<'a>(
+    alloc: Global,
+    tables: &Tables,
+    costs: &[u64],
+    direction: Direction,
+    style: Style,
+    depth: u32,
+) -> Result<CostTree<'a>, NoMemory>
+    requires as_many { length costs.now ≡ length tables.now.nodes + 1 }
+    requires bound { sum costs.now ≤ 2 ^ 62 }
+    ensures tree { IfOk result
+        (λ tree. IsTreeOf tree (costed (lists_towards direction style tables.now) costs.now)
+        depth) }
+{
+    let lists = trace_lists(alloc, tables, costs, direction, style, depth)?;
+    CostTree::of_lists(alloc, lists, costs, depth)
+}
