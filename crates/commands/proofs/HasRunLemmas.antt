@@ -7,11 +7,13 @@ use Rattle.command_frame.specs.FirstFault.{Bounds}
 use Rattle.command_frame.specs.Outside.{Gives, Outside, StoreRose}
 use Rattle.command_frame.proofs.Laws.{TaskEnded, append_nothing, defined_by, front_by, gives_as, judged_by, run_ends, silent_by, task_quiet, told_by, wrote}
 use Rattle.commands.specs.Answer.{answer}
-use Rattle.commands.specs.Asked.{asked, knows_first, task_asked}
+use Rattle.heapsuite_words.specs.Asked.{asked, knows_first}
+use Rattle.commands.specs.Tasks.{task_asked}
 use Rattle.commands.specs.HasRun.{HasRun}
 use Rattle.commands.specs.Texts.{heapsuite_texts}
 use Rattle.commands.proofs.AskedLemmas.{no_task, nothing_asked}
-use Rattle.commands.proofs.KeepLemmas.{AreLaws, run-keeps}
+use Rattle.trace_reports.proofs.Laws.{AreLaws}
+use Rattle.commands.proofs.KeepLemmas.{run-keeps}
 
 -- a run of the words, of which an unknown first one takes no memory
 pub has_run : (laws : AreLaws) (bounds : Bounds) (words : List (List ℕ)) (before now : Outside) (status : ℕ) (given : Answer) → bounds.line < 2 ^ 32

@@ -1,5 +1,4 @@
 mod AskedLemmas
 mod SilentLemmas
-mod GenLemmas
 mod KeepLemmas
 mod HasRunLemmas

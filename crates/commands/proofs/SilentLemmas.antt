@@ -5,16 +5,16 @@ use Rattle.trace_gen.specs.Sizes.{Sizes}
 use Rattle.profile_reading.specs.declared.conversion.Conversion.{Conversion}
 use Rattle.profile_reading.specs.declared.conversion.Conversion.TheVariants.{FoldedDhat, FoldedMassif, MassifOfDhat}
 use Rattle.profile_reading.specs.ConvertReport.{conversion_plan}
-use Rattle.commands.specs.Asked.{Convert, Dhat, DhatView, Flame, Gen, Help, Massif, Page, Print, Summary}
-use Rattle.commands.specs.ConvertWords.{ConvertAsked}
-use Rattle.commands.specs.FlameWords.{FlameAsked}
-use Rattle.commands.specs.MassifWords.{MassifAsked}
-use Rattle.commands.specs.PageWords.{PageAsked}
-use Rattle.commands.specs.PrintReport.{report_written}
-use Rattle.commands.specs.PrintWords.{PrintAsked}
+use Rattle.heapsuite_words.specs.Asked.{Convert, Dhat, DhatView, Flame, Gen, Help, Massif, Page, Print, Summary}
+use Rattle.heapsuite_words.specs.ConvertWords.{ConvertAsked}
+use Rattle.heapsuite_words.specs.FlameWords.{FlameAsked}
+use Rattle.heapsuite_words.specs.MassifWords.{MassifAsked}
+use Rattle.heapsuite_words.specs.PageWords.{PageAsked}
+use Rattle.trace_reports.specs.PrintReport.{report_written}
+use Rattle.heapsuite_words.specs.PrintWords.{PrintAsked}
 use Rattle.commands.specs.Silent.{IsSilentFor}
 use Rattle.trace_reading.specs.SuppressionsReport.{plan_behind}
-use Rattle.commands.specs.ViewWords.{ViewAsked}
+use Rattle.heapsuite_words.specs.ViewWords.{ViewAsked}
 
 pub help_is_silent : IsSilentFor (Some Help)
 help_is_silent = tt

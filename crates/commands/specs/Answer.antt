@@ -4,7 +4,8 @@ use Rattle.hp_outside.specs.Folder.{Folder}
 use Rattle.command_frame.specs.Answer.{Answer}
 use Rattle.command_frame.specs.FirstFault.{Bounds}
 use Rattle.command_frame.specs.Task.{task_answer}
-use Rattle.commands.specs.Asked.{Asked, asked, task_asked}
+use Rattle.heapsuite_words.specs.Asked.{Asked, asked}
+use Rattle.commands.specs.Tasks.{task_asked}
 use Rattle.commands.specs.Texts.{heapsuite_texts}
 
 -- the answer to what was asked, or to words that aren't taken

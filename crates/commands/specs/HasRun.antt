@@ -9,7 +9,8 @@ use Rattle.command_frame.specs.Outside.{ErrRose, Gives, OutRose, Outside, StoreR
 use Rattle.command_frame.specs.RunEnds.{IsDelivered, RunEnds}
 use Rattle.command_frame.specs.WordsRan.{WordsRan}
 use Rattle.commands.specs.Answer.{answer}
-use Rattle.commands.specs.Asked.{asked, files_asked, knows_first, task_asked}
+use Rattle.heapsuite_words.specs.Asked.{asked, knows_first}
+use Rattle.commands.specs.Tasks.{files_asked, task_asked}
 use Rattle.commands.specs.InterpretKeeps.{KeepsLedgerOf}
 use Rattle.commands.specs.Silent.{IsSilentFor}
 use Rattle.commands.specs.Texts.{heapsuite_texts as the_texts}

@@ -5,9 +5,9 @@ use Rattle.profile_reading.specs.DhatFileReport.{dhat_file_plan}
 use Rattle.profile_reading.specs.MassifFileReport.{massif_file_plan}
 use Rattle.profile_reading.specs.PageReport.{page_verdict, shown_words}
 use Rattle.profile_reading.specs.ViewReport.{view_verdict}
-use Rattle.commands.specs.ConvertWords.{ConvertAsked}
-use Rattle.commands.specs.PageWords.{PageAsked}
-use Rattle.commands.specs.ViewWords.{ViewAsked}
+use Rattle.heapsuite_words.specs.ConvertWords.{ConvertAsked}
+use Rattle.heapsuite_words.specs.PageWords.{PageAsked}
+use Rattle.heapsuite_words.specs.ViewWords.{ViewAsked}
 
 -- one Massif file is read, and its page written with the words that ask for it
 abbrev pub page_plan : PageAsked → Plan

@@ -1,7 +1,8 @@
 -- Commands that write nothing while they read.
 use Rattle.std.specs.Prelude.{Option}
 use Rattle.command_frame.specs.Task.{IsSilentTask}
-use Rattle.commands.specs.Asked.{Asked, task_asked}
+use Rattle.heapsuite_words.specs.Asked.{Asked}
+use Rattle.commands.specs.Tasks.{task_asked}
 
 -- what was asked writes nothing before all files were read, nor do words that aren't taken
 abbrev pub IsSilentFor : Option Asked → Type 0

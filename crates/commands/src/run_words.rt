@@ -7,13 +7,15 @@ ghost use Rattle.command_frame.specs.Report.{Writes};
 ghost use Rattle.command_frame.specs.RunsTo.{Runs, RunsTo, Shown, Taken, shown, taken};
 ghost use Rattle.command_frame.specs.Texts.{texts_of};
 ghost use Rattle.command_frame.specs.WordsRan.{WordsRunTo};
-ghost use Rattle.commands.specs.Asked.{asked, knows_first, names_of, plan_of, task_asked};
-ghost use Rattle.commands.specs.Requests.{asked_of};
+ghost use Rattle.heapsuite_words.specs.Asked.{asked, knows_first};
+ghost use Rattle.commands.specs.Tasks.{names_of, plan_of, task_asked};
+ghost use Rattle.heapsuite_words.specs.Requests.{asked_of};
 ghost use Rattle.commands.specs.Texts.{heapsuite_texts};
 
-use crate::words::{Request, read_words};
+use crate::requests as run;
 use command_frame::{Desk, Halt, Outcome};
 use command_words::WordsFault;
+use heapsuite_words::{Request, read_words};
 use hp_num::put_bytes;
 use hp_outside::{Sink, Store};
 use std::alloc::Global;
@@ -57,16 +59,16 @@ fn run_request<S: Store, O: Sink>(
 {
     match request {
         Request::Help => usage(desk),
-        Request::Summary(request) => request.run(desk, store, out),
-        Request::Print(request) => request.run(desk, store, out),
-        Request::Flame(request) => request.run(desk, store, out),
-        Request::Interpret(request) => request.run(desk, store, out),
-        Request::Massif(request) => request.run(desk, store, out),
-        Request::Page(request) => request.run(desk, store, out),
-        Request::Dhat(request) => request.run(desk, store, out),
-        Request::Gen(request) => request.run(desk, out),
-        Request::DhatView(request) => request.run(desk, store),
-        Request::Convert(request) => request.run(desk, store, out),
+        Request::Summary(request) => run::summary(desk, request, store, out),
+        Request::Print(request) => run::print(desk, request, store, out),
+        Request::Flame(request) => run::flame(desk, request, store, out),
+        Request::Interpret(request) => run::interpret(desk, request, store, out),
+        Request::Massif(request) => run::massif(desk, request, store, out),
+        Request::Page(request) => run::page(desk, request, store, out),
+        Request::Dhat(request) => run::dhat(desk, request, store, out),
+        Request::Gen(request) => run::generated(desk, request, out),
+        Request::DhatView(request) => run::view(desk, request, store),
+        Request::Convert(request) => run::convert(desk, request, store, out),
     }
 }
 

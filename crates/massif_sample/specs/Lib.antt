@@ -1,5 +1,9 @@
 pub mod Options
 pub mod FunctionNames
+pub mod AreWithin
+pub mod NameList
+pub mod MassifSettings
+pub mod SettingsIn
 pub mod Gross
 pub mod LeastMultiple
 pub mod Counted

@@ -32,6 +32,7 @@
 //! | `load.rt` | what a snapshot shows beside its time and its total |
 //! | `profile.rt`, `place_tree.rt` | the profile that the kept snapshots make; the tree of one of them |
 //! | `options.rt`, `fault.rt` | what is asked; why an event isn't taken |
+//! | `sample_settings.rt` | the options within their ranges, and which functions are named |
 //! | `laws.rt` | the laws |
 #![tactic(auto)]
 
@@ -43,6 +44,7 @@ mod options;
 mod place_tree;
 mod profile;
 mod running;
+mod sample_settings;
 mod sampler;
 mod samples;
 mod stacks;
@@ -52,4 +54,5 @@ mod tree_places;
 pub use fault::SampleFault;
 pub use laws::{rounded_sizes, sampling_goes_on};
 pub use options::MassifOptions;
+pub use sample_settings::SampleSettings;
 pub use sampler::Sampler;

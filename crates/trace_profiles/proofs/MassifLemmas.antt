@@ -7,7 +7,7 @@ use Rattle.std.specs.Int.{IsPowerOfTwo, is_power_of_two}
 use Rattle.std.specs.Int.RustNames.{count_ones}
 use Rattle.massif_sample.specs.declared.options.MassifOptions.{MassifOptions}
 use Rattle.massif_sample.specs.Options.{AreInRange}
-use Rattle.trace_profiles.specs.AreWithin.{AreWithin}
+use Rattle.massif_sample.specs.AreWithin.{AreWithin}
 
 one-bit : count_ones 1 ≡ 1
 unfolding count_ones

@@ -8,7 +8,7 @@ use Rattle.std.proofs.lemmas.List.Folds.{list_any_at}
 use Rattle.std.proofs.lemmas.Map.Views.{Contains-from_any}
 use Rattle.std.proofs.lemmas.Slice.Eq.{bytes_eq-Decides}
 use Rattle.intern_tables.specs.WithoutRepeats.{without_repeats}
-use Rattle.trace_profiles.specs.NameList.{with_text}
+use Rattle.massif_sample.specs.NameList.{with_text}
 
 -- a list contains what a test of each element finds
 found : (name : List ℕ) (names : List (List ℕ)) → (IsTrue (list_any (bytes_eq name) names) ↔ Contains names name)

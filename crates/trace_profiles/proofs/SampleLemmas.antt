@@ -24,7 +24,7 @@ use Rattle.command_frame.specs.Told.{Told}
 use Rattle.trace_reading.specs.declared.fault.TraceFault.TheVariants.{Line, Event as event}
 use Rattle.trace_reading.specs.TraceFault.{told}
 use Rattle.trace_profiles.specs.MassifReport.{command_in, massif_fault, massif_written, sampler_fault}
-use Rattle.trace_profiles.specs.MassifSettings.{MassifSettings}
+use Rattle.massif_sample.specs.MassifSettings.{MassifSettings}
 
 -- what is told of an event's fault
 abbrev pub event_told : Option EventFault → Option Told

@@ -16,7 +16,7 @@ use Rattle.command_frame.specs.Report.{Report, Writes}
 use Rattle.command_frame.specs.Told.{Told}
 use Rattle.trace_reading.specs.declared.fault.TraceFault.TheVariants.{Line, Event as event}
 use Rattle.trace_reading.specs.TraceFault.{told}
-use Rattle.trace_profiles.specs.MassifSettings.{MassifSettings}
+use Rattle.massif_sample.specs.MassifSettings.{MassifSettings}
 use Rattle.trace_reading.specs.TraceReport.{end_fault}
 
 -- the command of a trace with these tables, and the empty text where it has none

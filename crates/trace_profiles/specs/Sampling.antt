@@ -9,7 +9,7 @@ use Rattle.live_ledger.specs.StandsFor as ledger_spec
 use Rattle.massif_sample.specs.FunctionNames.{AreStated, FunctionNames}
 use Rattle.massif_sample.specs.SamplesState.{SamplesState}
 use Rattle.massif_sample.specs.StandsFor as sample_spec
-use Rattle.trace_profiles.specs.MassifSettings.{MassifSettings}
+use Rattle.massif_sample.specs.MassifSettings.{MassifSettings}
 
 -- some events are those of the sampler and of the ledger
 pub record AreOfEvents (flags : List Bool) (samples : SamplesState) (names : FunctionNames)

@@ -20,7 +20,6 @@
 //! |---|---|
 //! | `dhat_reader.rt`, `dhat_run.rt` | the taker of a trace whose lifetimes are kept; a run over one |
 //! | `massif_reader.rt`, `massif_run.rt` | the taker of a trace whose snapshots are taken; a run over one |
-//! | `sample_settings.rt` | how snapshots are taken, and which functions are named |
 //! | `name_list.rt` | the names of a list, and whether a name is one of them |
 #![tactic(auto)]
 
@@ -29,8 +28,6 @@ mod dhat_run;
 mod massif_reader;
 mod massif_run;
 mod name_list;
-mod sample_settings;
 
 pub use dhat_run::run_dhat;
 pub use massif_run::run_massif;
-pub use sample_settings::SampleSettings;

@@ -16,7 +16,7 @@ ghost use Rattle.command_frame.specs.Taker.{Tells};
 ghost use Rattle.trace_reading.specs.Batch.{HasTakenLine};
 ghost use Rattle.trace_reading.specs.TraceFault.{told};
 ghost use Rattle.trace_profiles.specs.MassifReport.{command_in, massif_report, sampler_fault};
-ghost use Rattle.trace_profiles.specs.MassifSettings.{MassifSettings};
+ghost use Rattle.massif_sample.specs.MassifSettings.{MassifSettings};
 ghost use Rattle.trace_profiles.specs.Sampling.{AreOfEvents, HasSampled, IsSoundSampling};
 
 use command_frame::{Batch, LineRefusal, LineReport, LineTaker};

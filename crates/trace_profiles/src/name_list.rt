@@ -3,7 +3,7 @@
 ghost use Rattle.std.specs.Prelude.{◌≡◌, ℕ, ◌↔◌, Contains, IsTrue, IfOk, List, ◌∷◌, ◌++◌, [], OnOk};
 ghost use Rattle.std.specs.Str.{bytes_eq};
 ghost use Rattle.intern_tables.specs.WithoutRepeats.{without_repeats};
-ghost use Rattle.trace_profiles.specs.NameList.{names_in, with_text};
+ghost use Rattle.massif_sample.specs.NameList.{names_in, with_text};
 
 use hp_num::NoMemory;
 use intern_tables::Names;

@@ -7,10 +7,11 @@ use Rattle.command_frame.specs.Outside.{outside}
 use Rattle.command_frame.specs.RunsTo.{shown, taken}
 use Rattle.command_frame.specs.Texts.{Texts}
 use Rattle.command_frame.proofs.Laws.{is_delivered}
-use Rattle.commands.specs.Asked.{asked, task_asked}
+use Rattle.heapsuite_words.specs.Asked.{asked}
+use Rattle.commands.specs.Tasks.{task_asked}
 use Rattle.commands.specs.Texts.{heapsuite_texts}
 use Rattle.commands.proofs.HasRunLemmas.{has_run}
-use Rattle.commands.proofs.KeepLemmas.{AreLaws}
+use Rattle.trace_reports.proofs.Laws.{AreLaws}
 use Rattle.commands.proofs.run.heapsuite_run.Goals as goal
 
 pub returns : goal.returns

@@ -2,10 +2,10 @@ use Rattle.std.proofs.Common.{◌∙◌, ap, sym}
 use Rattle.std.proofs.lemmas.Option.{none-some}
 use Rattle.command_frame.specs.RunsTo.{taken}
 use Rattle.command_frame.proofs.Laws.{words_ran}
-use Rattle.commands.specs.Asked.{task_asked, task_of}
-use Rattle.commands.specs.Requests.{asked_of}
+use Rattle.commands.specs.Tasks.{task_asked, task_of}
+use Rattle.heapsuite_words.specs.Requests.{asked_of}
 use Rattle.commands.specs.Texts.{heapsuite_texts}
-use Rattle.commands.proofs.AskedLemmas.{unknown_asks_nothing}
+use Rattle.heapsuite_words.proofs.Laws.{unknown_asks_nothing}
 use Rattle.commands.proofs.run_words.run_words.Goals as goal
 
 pub returns-in-Ok-clause-ran : goal.returns-in-Ok-clause-ran

@@ -2,8 +2,8 @@ use Rattle.std.proofs.Common.{rules, ◌↔◌, ℕ, List, [], ◌∷◌, Contai
 use Rattle.command_frame.specs.RunsTo.{RunsTo, shown, taken}
 use Rattle.command_frame.proofs.Laws.{runs_wanting_by}
 use Rattle.trace_profiles.specs.MassifReport.{massif_plan}
-use Rattle.trace_profiles.specs.NameList.{names_in}
-use Rattle.trace_profiles.specs.SettingsIn.{settings_in}
+use Rattle.massif_sample.specs.NameList.{names_in}
+use Rattle.massif_sample.specs.SettingsIn.{settings_in}
 use Rattle.trace_profiles.proofs.MassifLemmas.{in-range}
 use Rattle.trace_profiles.proofs.massif_run.run_massif.Goals as goal
 

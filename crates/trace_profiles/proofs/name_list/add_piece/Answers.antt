@@ -2,7 +2,7 @@ use Rattle.std.proofs.Common.{ℕ, List, ◌∙◌, ap, sym, arith}
 use Rattle.std.specs.Str.{bytes_eq}
 use Rattle.std.proofs.lemmas.Bool.Decides.{nat_tests}
 use Rattle.intern_tables.specs.WithoutRepeats.{without_repeats}
-use Rattle.trace_profiles.specs.NameList.{with_text}
+use Rattle.massif_sample.specs.NameList.{with_text}
 use Rattle.trace_profiles.proofs.NameLemmas.{with_text-more, with_text-none}
 use Rattle.trace_profiles.proofs.name_list.add_piece.Goals as goal
 

@@ -6,7 +6,7 @@ use Rattle.std.proofs.lemmas.Iterator.Consumers.{YieldsList-at, YieldsList-end}
 use Rattle.std.proofs.lemmas.Iterator.Splits.{YieldsList-from_slice_split}
 use Rattle.std.proofs.lemmas.List.{map_push}
 use Rattle.intern_tables.specs.WithoutRepeats.{without_repeats}
-use Rattle.trace_profiles.specs.NameList.{is_semicolon, names_in, with_text}
+use Rattle.massif_sample.specs.NameList.{is_semicolon, names_in, with_text}
 use Rattle.trace_profiles.proofs.name_list.names_of.Goals as goal
 
 pub pieces-preserved : goal.pieces-preserved

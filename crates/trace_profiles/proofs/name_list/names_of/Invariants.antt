@@ -1,7 +1,7 @@
 use Rattle.std.proofs.Common.{◌≡◌, map}
 use Rattle.std.specs.Str.{bytes_eq}
 use Rattle.intern_tables.specs.WithoutRepeats.{without_repeats}
-use Rattle.trace_profiles.specs.NameList.{with_text}
+use Rattle.massif_sample.specs.NameList.{with_text}
 use Rattle.trace_profiles.proofs.name_list.names_of.Given as goal
 
 abbrev pub invariant-pieces : goal.invariant-pieces

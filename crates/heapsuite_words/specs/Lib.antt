@@ -1,0 +1,15 @@
+pub mod NumberWords
+pub mod KeyWords
+pub mod SummaryWords
+pub mod PrintWords
+pub mod FlameWords
+pub mod InterpretWords
+pub mod MassifWords
+pub mod PageWords
+pub mod DhatWords
+pub mod GenWords
+pub mod ViewWords
+pub mod ConvertWords
+pub mod CommandNames
+pub mod Asked
+pub mod Requests

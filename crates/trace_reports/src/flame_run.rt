@@ -1,0 +1,57 @@
+//! Flame stacks: a line for each list of frame texts of one trace's stacks, for a flame graph to be drawn of.
+ghost use Rattle.std.specs.Prelude.{◌^◌, ◌<◌, [], ◌∷◌};
+ghost use Rattle.command_frame.specs.RunsTo.{Runs};
+ghost use Rattle.trace_reading.specs.TraceReport.{trace_plan};
+ghost use Rattle.trace_reports.specs.FlameReport.{flame_written};
+
+use command_frame::{Desk, Halt};
+use hp_num::NoMemory;
+use hp_outside::{Sink, Store};
+use ht_print::{FlameCost, put_flame_of_lists, stack_costs};
+use ht_trace::{Style, Tables};
+use peak_costs::Peaks;
+use stack_trees::lists_from_root;
+use std::alloc::Global;
+use trace_reading::{TraceWriter, run_trace};
+
+/// Writes the flame stacks.
+#[derive(Clone, Copy)]
+pub struct FlameWriter {
+    alloc: Global,
+    cost: FlameCost,
+}
+
+impl TraceWriter for FlameWriter {
+    ghost use Rattle.trace_reports.specs.FlameReport.{flame_written};
+
+    ghost text = { λ writer. flame_written writer.cost };
+
+    fn put(&self, tables: Tables, peaks: Peaks, out: &mut Vec<u8>) -> Result<(), NoMemory> {
+        let costs = stack_costs(self.alloc, self.cost, &peaks);
+        drop(peaks);
+        let costs = costs?;
+        let lists = lists_from_root(self.alloc, &tables, Style::Plain);
+        drop(tables);
+        put_flame_of_lists(self.alloc, lists?, costs, out)
+    }
+}
+
+/// Reads the named trace, and gives its flame stacks by this cost.
+pub fn run_flame<S: Store, O: Sink>(
+    desk: &Desk,
+    trace: &str,
+    cost: FlameCost,
+    store: &mut S,
+    out: &mut O,
+) -> Result<Vec<u8>, Halt>
+    requires { S.opens store.old < 2 ^ 63 }
+    ensures { Runs S.Store O.Sink desk.now (trace.now ∷ [])
+        (trace_plan trace.now (flame_written cost []))
+        store.old store.new out.old out.new result }
+{
+    let writer = FlameWriter {
+        alloc: desk.alloc,
+        cost,
+    };
+    run_trace(desk, trace, writer, store, out)
+}

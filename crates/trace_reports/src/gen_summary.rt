@@ -1,0 +1,79 @@
+//! The summary of a generated trace: its lines are read as they are made, so many at a time, and none is kept.
+ghost use Rattle.std.specs.Prelude.{◌≡◌, ◌≤◌, ◌++◌, [], length, IfOk, OnOk};
+ghost use Rattle.trace_gen.specs.GeneratorState.{IsAt, lines_yet};
+ghost use Rattle.trace_gen.specs.Sizes.{sizes_of};
+ghost use Rattle.sound_traces.specs.NoFault.{HasNoFault};
+ghost use Rattle.trace_reports.specs.GenReport.{gen_summary};
+ghost use Rattle.trace_reading.specs.ReadTrace.{HasRead, IsSound};
+ghost use Rattle.trace_reports.specs.SummaryReport.{summary_written};
+
+use command_frame::LineRefusal;
+use hp_num::NoMemory;
+use ht_print::put_summary;
+use ht_trace::Tables;
+use sound_traces::generated_traces;
+use std::alloc::Global;
+use trace_gen::{Generator, GeneratorOptions};
+use trace_reading::ReadTrace;
+
+/// The summary of the trace that is generated from these numbers. `NoMemory` where memory is wanting.
+pub fn gen_summary(alloc: Global, options: &GeneratorOptions) -> Result<Vec<u8>, NoMemory>
+    ensures { IfOk result (λ summary. summary.items ≡ gen_summary (sizes_of options.now)) }
+{
+    generated_traces();
+    let mut generator = Generator::new(alloc, options)?;
+    let mut trace = ReadTrace::new(alloc, Tables::new(alloc))?;
+    summarize(alloc, &mut generator, &mut trace)
+}
+
+/// The summary of the lines that a generator has yet to make, none of which has a fault.
+fn summarize(
+    alloc: Global,
+    generator: &mut Generator,
+    trace: &mut ReadTrace,
+) -> Result<Vec<u8>, NoMemory>
+    requires at { IsAt generator.old }
+    requires few { length (lines_yet generator.old) ≤ 10016003 }
+    requires good { HasNoFault [] (lines_yet generator.old) }
+    requires sound { IsSound trace.old }
+    requires new_trace { HasRead trace.old [] [] }
+    requires no_events { trace.old.peaks.ledger.totals.events ≡ 0 }
+    ensures { IfOk result
+        (λ summary. summary.items ≡ summary_written [] (lines_yet generator.old)) }
+{
+    read_lines(alloc, generator, trace)?;
+    let mut summary = Vec::new(alloc);
+    put_summary(&trace.peaks, &mut summary)?;
+    Ok(summary)
+}
+
+/// Reads all lines of a generator, none of which has a fault.
+fn read_lines(
+    alloc: Global,
+    generator: &mut Generator,
+    trace: &mut ReadTrace,
+) -> Result<(), NoMemory>
+    requires at { IsAt generator.old }
+    requires few { length (lines_yet generator.old) ≤ 10016003 }
+    requires good { HasNoFault [] (lines_yet generator.old) }
+    requires sound { IsSound trace.old }
+    requires new_trace { HasRead trace.old [] [] }
+    requires no_events { trace.old.peaks.ledger.totals.events ≡ 0 }
+    ensures { OnOk result (HasRead trace.new [] (lines_yet generator.old)) }
+{
+    let mut text = Vec::new(alloc);
+    'texts: loop {
+        match generator.next_lines(&mut text) {
+            Ok(()) => {}
+            Err(NoMemory) => return Err(NoMemory),
+        }
+        if text.is_empty() {
+            return Ok(());
+        }
+        match trace.read_text(&text) {
+            Ok(()) => {}
+            Err(LineRefusal::NoMemory) => return Err(NoMemory),
+            Err(LineRefusal::Fault(_)) => unreachable!(),
+        }
+    }
+}
