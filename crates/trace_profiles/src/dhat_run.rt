@@ -19,5 +19,8 @@ pub fn run_dhat<S: Store, O: Sink>(
         store.old store.new out.old out.new result }
 {
     let mut reader = DhatReader::new(desk.alloc)?;
-    run_one_file(desk, name, &mut reader, store, out)
+    let ran = run_one_file(desk, name, &mut reader, store, out);
+    // By name: a proof goes through all parts of what an exit lets go.
+    drop(reader);
+    ran
 }

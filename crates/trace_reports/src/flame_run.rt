@@ -29,10 +29,9 @@ impl TraceWriter for FlameWriter {
     fn put(&self, tables: Tables, peaks: Peaks, out: &mut Vec<u8>) -> Result<(), NoMemory> {
         let costs = stack_costs(self.alloc, self.cost, &peaks);
         drop(peaks);
-        let costs = costs?;
         let lists = lists_from_root(self.alloc, &tables, Style::Plain);
         drop(tables);
-        put_flame_of_lists(self.alloc, lists?, costs, out)
+        put_flame_of_lists(self.alloc, lists?, costs?, out)
     }
 }
 

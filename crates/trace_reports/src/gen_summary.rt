@@ -23,7 +23,11 @@ pub fn gen_summary(alloc: Global, options: &GeneratorOptions) -> Result<Vec<u8>,
     generated_traces();
     let mut generator = Generator::new(alloc, options)?;
     let mut trace = ReadTrace::new(alloc, Tables::new(alloc))?;
-    summarize(alloc, &mut generator, &mut trace)
+    let summary = summarize(alloc, &mut generator, &mut trace);
+    // By name: a proof goes through all parts of what an exit lets go.
+    drop(trace);
+    drop(generator);
+    summary
 }
 
 /// The summary of the lines that a generator has yet to make, none of which has a fault.

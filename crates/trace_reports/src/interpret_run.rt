@@ -69,5 +69,8 @@ fn run_alone<S: Store, O: Sink>(
     let mut reader = RawReader {
         interpreter: Interpreter::new(desk.alloc, Symbols::new(desk.alloc)),
     };
-    run_one_file(desk, trace, &mut reader, store, out)
+    let ran = run_one_file(desk, trace, &mut reader, store, out);
+    // By name: a proof goes through all parts of what an exit lets go.
+    drop(reader);
+    ran
 }
