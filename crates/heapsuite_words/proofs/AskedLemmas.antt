@@ -2,7 +2,7 @@
 use Rattle.std.proofs.Common.{◌≡◌, ℕ, List, [], ◌∷◌, false, Option, None, Some, is_some, refl}
 use Rattle.std.specs.Option.{option_and_then}
 use Rattle.heapsuite_words.specs.declared.command.Command.{Command}
-use Rattle.heapsuite_words.specs.Asked.{Asked, asked, knows_first, words_asked}
+use Rattle.heapsuite_words.specs.Asked.{asked, knows_first, words_asked}
 use Rattle.heapsuite_words.specs.CommandNames.{command_named}
 
 no_command : (named : Option Command) (words : List (List ℕ)) → is_some named ≡ false → option_and_then (λ command. words_asked command words) named ≡ None
