@@ -20,7 +20,7 @@ demo: build
 # begins with what most waits for, and what passed is kept beside the toolchain, for the next build and for `make test`.
 build:
 	copy=$$(mktemp -d) && trap 'rm -rf "$$copy"' EXIT INT TERM && mkdir "$$copy/.git" && \
-	tar -c --exclude=out --exclude=must-fail --exclude='crates/*_tests' HANDLES crates | tar -x -C "$$copy" && \
+	tar -cf - --exclude=out --exclude=must-fail --exclude='crates/*_tests' HANDLES crates | tar -xf - -C "$$copy" && \
 	grep -v '^[a-z_]*_tests[ :]' crates.txt > "$$copy/crates.txt" && \
 	(cd "$$copy" && RT_JOBS=$(JOBS) rt ci) && mkdir -p bin && \
 	cp $(foreach it,$(PROGRAMS),"$$copy"/crates/$(it)/out/$(it)) bin/
