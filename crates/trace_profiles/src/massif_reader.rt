@@ -86,6 +86,14 @@ impl<A: Fn(&[u8]) -> bool, I: Fn(&[u8]) -> bool, S: Settled + Drop> MassifReader
             settings,
         })
     }
+
+    /// Lets the reader go.
+    // A value whose type names a closure can't be handed to `drop`, but its other parts can.
+    pub fn close(self) {
+        let MassifReader { tables, ledger, .. } = self;
+        drop(tables);
+        drop(ledger);
+    }
 }
 
 impl<A: Fn(&[u8]) -> bool, I: Fn(&[u8]) -> bool, S: Settled> MassifReader<A, I, S> {

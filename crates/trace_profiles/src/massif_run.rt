@@ -40,7 +40,10 @@ pub fn run_massif<S: Store, O: Sink>(
         ignore_test,
         *settings,
     )?;
-    run_one_file(desk, name, &mut reader, store, out)
+    let ran = run_one_file(desk, name, &mut reader, store, out);
+    // By name: a proof goes through all parts of what an exit lets go.
+    reader.close();
+    ran
 }
 
 /// The names of both lists of functions, which the tests of names keep. `NoMemory` where memory is wanting.

@@ -24,8 +24,8 @@ new-requires-clause-options g c = in-range c.args.settings.now.options c.args.se
 
 pub returns : goal.returns
 returns g c = subst (λ settings. RunsTo c.args.desk.now (c.args.name.now ∷ []) (massif_plan (settings_in settings) c.args.name.now)
-    (shown g.S.Store c.args.store.now) (shown g.S.Store c.run_one_file.new.store) (taken g.O.Sink c.args.out.now) (taken g.O.Sink c.run_one_file.new.out) c.run_one_file.result)
-    c.in_ok-reader.ensures.settings c.run_one_file.ensures
+    (shown g.S.Store c.args.store.now) (shown g.S.Store c.run_one_file-ran.new.store) (taken g.O.Sink c.args.out.now) (taken g.O.Sink c.run_one_file-ran.new.out) c.run_one_file-ran.result)
+    c.in_ok-reader.ensures.settings c.run_one_file-ran.ensures
 
 pub returns-in_err-alloc_fns : goal.returns-in_err-alloc_fns
 returns-in_err-alloc_fns g c = runs_wanting_by _ _ _ _ _ _ _ _ c.from_residual.ensures.1
