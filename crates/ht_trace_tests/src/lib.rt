@@ -1,5 +1,12 @@
-//! Tests of the calls of `intern_tables`, `stack_table`, `live_ledger`, `peak_costs` and `ht_trace`. They stand in a crate of
-//! their own, so that these are proved once.
+//! Tests of the calls of `ht_lines`, `intern_tables`, `stack_table`, `live_ledger`, `peak_costs` and `ht_trace`. They stand in a crate
+//! of their own, so that these are proved once.
+//!
+//! | File | What it has |
+//! |---|---|
+//! | `written_lines`, `fronts` | lines of each kind, as they are written or why they are refused, and those at the front of a text |
+//! | `names`, `nodes` | names and stacks by number |
+//! | `lines`, `frames` | the lines of worked traces, and the texts of their frames |
+//! | `figures` | the figures of worked traces |
 #![tactic(auto)]
 
 #[cfg(test)]
@@ -7,8 +14,12 @@ mod figures;
 #[cfg(test)]
 mod frames;
 #[cfg(test)]
+mod fronts;
+#[cfg(test)]
 mod lines;
 #[cfg(test)]
 mod names;
 #[cfg(test)]
 mod nodes;
+#[cfg(test)]
+mod written_lines;

@@ -1,25 +1,32 @@
-//! Tests of the public calls of `record_scripts`, `record_book`, `recorder` and `recording`, in a crate of their own: a crate that
-//! has tests is proved twice.
+//! Tests of the public calls of `record_scripts`, `record_book`, `recorder`, `order_check` and `recording`, and of both programs
+//! together, in a crate of their own: a crate that has tests is proved twice.
 //!
 //! | File | What it has |
 //! |---|---|
 //! | `script_tests`, `book_tests` | scripts that say the same, and the traces and summaries of small scripts |
 //! | `worker_tests` | that the workers take all turns |
 //! | `run_tests` | runs whose text is the same whatever the threads do, and lines of scripts |
-//! | `check_tests` | runs that check a trace |
+//! | `order_tests`, `check_tests` | checks of traces of small scripts, and runs that check a trace |
 //! | `thread_run_tests` | runs of two scripts by threads: that these go on beside each other, in numbered holds |
 //! | `failing_calls` | each call of a run that can fail, failed once; the table stands in `run_tests` |
-//! | `gates`, `runs`, `script_text` | what they share |
+//! | `recorded_tests`, `both_runs` | what one program records, the other reads |
+//! | `gates`, `runs`, `script_text` | what the others share |
 #![tactic(auto)]
 
 #[cfg(test)]
 mod book_tests;
+#[cfg(test)]
+mod both_runs;
 #[cfg(test)]
 mod check_tests;
 #[cfg(test)]
 mod failing_calls;
 #[cfg(test)]
 mod gates;
+#[cfg(test)]
+mod order_tests;
+#[cfg(test)]
+mod recorded_tests;
 #[cfg(test)]
 mod run_tests;
 #[cfg(test)]

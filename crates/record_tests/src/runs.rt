@@ -15,7 +15,7 @@ use std::thread::Threads;
 const MODULES: &str = "# modules\nm app  01000 0 1F00\nm -\n";
 
 /// Adds the words, which stand between blanks.
-fn add_words(list: &mut Vec<String>, alloc: Global, words: &str) -> Result<(), NoMemory> {
+pub fn add_words(list: &mut Vec<String>, alloc: Global, words: &str) -> Result<(), NoMemory> {
     if words.is_empty() {
         return Ok(());
     }

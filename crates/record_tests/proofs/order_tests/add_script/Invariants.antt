@@ -1,5 +1,5 @@
 use Rattle.std.proofs.Common.{◌≡◌}
-use Rattle.order_check_tests.proofs.check_tests.add_script.Given as goal
+use Rattle.record_tests.proofs.order_tests.add_script.Given as goal
 
 -- the modules stay
 abbrev pub invariant-loop-line : goal.invariant-loop-line

@@ -1,10 +1,11 @@
 //! Runs of both programs' public calls over a folder in memory.
 ghost use Rattle.std.specs.Prelude.{◌≡◌, IfOk};
 
+use crate::gates::{NOBODY, Watch};
+use crate::runs::add_words;
 use commands::heapsuite_run;
 use hp_num::{NoMemory, put_bytes};
 use hp_outside::{Limits, MemSink, MemStore};
-use recorder::Gate;
 use recording::heaprec_run;
 use std::alloc::Global;
 use std::process::Abort;
@@ -12,20 +13,10 @@ use std::sync::Wait;
 use std::test::Fail;
 use std::thread::Threads;
 
-/// A gate that does nothing.
-#[derive(Drop)]
-struct Open;
-
-impl Gate for Open {
-    fn before(&self, _worker: u32, _hold: u64) {}
-}
-
 /// The words, which stand between blanks.
 fn listed(alloc: Global, words: &str) -> Result<Vec<String>, Fail> {
     let mut list = Vec::new(alloc);
-    for word in words.split(' ') {
-        list.push(String::from_str(alloc, word)?)?;
-    }
+    add_words(&mut list, alloc, words)?;
     Ok(list)
 }
 
@@ -91,7 +82,7 @@ pub fn recorded<R: Threads + Wait + Sync + Abort>(
         &mut store,
         out,
         err,
-        &Open,
+        &Watch::of(NOBODY),
     );
     got(rt, alloc, status, &outputs)
 }

@@ -1,0 +1,12 @@
+//! Tests of the public calls of `massif_cull`, `massif_file` and `dhat_json`, in a crate of their own: a crate that has tests is proved
+//! twice. Those of single lines of Massif files, and of all that stands on these three, are runs of `commands_tests`.
+#![tactic(auto)]
+
+#[cfg(test)]
+mod culling;
+#[cfg(test)]
+mod documents;
+#[cfg(test)]
+mod profiles;
+#[cfg(test)]
+mod texts;
