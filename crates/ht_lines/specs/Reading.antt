@@ -55,6 +55,12 @@ version_of (a ∷ b ∷ []) = with_number (parsed_hex a)
     if nat_le 1 file && nat_le file 3 then Ok (version_line heaptrack file) else Err BadVersion))
 version_of (a ∷ b ∷ c ∷ more) = Err ExtraField
 
+-- what the version of heaptrack and that of the file say
+abbrev pub version_from : Result (ℕ × ℕ) Malformed → Result Content Malformed
+version_from (Ok x) = if nat_le 1 x.1 && nat_le x.1 3 then Ok (version_line x.0 x.1)
+    else Err BadVersion
+version_from (Err fault) = Err fault
+
 abbrev pub instruction_from : List ℕ → Result Content Malformed
 instruction_from [] = Err MissingField
 instruction_from (ip ∷ []) = Err MissingField

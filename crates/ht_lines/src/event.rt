@@ -11,7 +11,7 @@ use hp_num::hex_digit_value;
 const LONGEST: usize = 11;
 
 /// Whether an event allocates or frees.
-#[derive(Clone, Copy, Debug, PartialEq, Eq)]
+#[derive(Clone, Copy)]
 pub enum EventKind {
     /// `+`: one allocation of the info.
     Allocation,

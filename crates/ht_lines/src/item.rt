@@ -1,7 +1,8 @@
 //! What a line of a trace says, and what may be wrong with it.
 //!
 //! The types alone; `read` has the grammar, and `write` the written forms.
-use thiserror::Error;
+use std::error::Error;
+use std::fmt;
 
 /// What the lines of a trace refer to: addresses and sizes, or tables that stand in the trace itself. Both forms are this
 /// format's own.
@@ -14,28 +15,44 @@ pub enum Form {
 }
 
 /// Why a line is refused.
-#[derive(Clone, Copy, Debug, PartialEq, Eq, Error)]
+#[derive(Clone, Copy, Debug, PartialEq, Eq)]
 pub enum Malformed {
     /// A byte other than a blank follows the kind, a field is no number, a number is too large, or a module's range
     /// ends above 2^64 - 1.
-    #[error("bad field")]
     BadField,
     /// The line has too few fields, or a number of them that the kind never has, where more could make it one.
-    #[error("missing field")]
     MissingField,
     /// The line has too many fields.
-    #[error("extra field")]
     ExtraField,
     /// The line is an allocation of a raw trace, where an interpreted one is read.
-    #[error("raw line")]
     NotInterpreted,
     /// The line is a string, an instruction, an info or an allocation of an interpreted trace, where a raw one is read.
-    #[error("interpreted line")]
     NotRaw,
     /// The file version isn't 1 to 3.
-    #[error("file version not 1 to 3")]
     BadVersion,
 }
+
+impl Malformed {
+    /// What is wrong with the line, in few words.
+    fn text(self) -> &'static str {
+        match self {
+            Malformed::BadField => "bad field",
+            Malformed::MissingField => "missing field",
+            Malformed::ExtraField => "extra field",
+            Malformed::NotInterpreted => "raw line",
+            Malformed::NotRaw => "interpreted line",
+            Malformed::BadVersion => "file version not 1 to 3",
+        }
+    }
+}
+
+impl fmt::Display for Malformed {
+    fn fmt<W: fmt::Write>(&self, f: &mut fmt::Formatter<W>) -> fmt::Result {
+        f.write_str(self.text())
+    }
+}
+
+impl Error for Malformed {}
 
 /// What one line says. Texts, names and tails are parts of the line.
 #[derive(Clone, Copy)]

@@ -18,7 +18,7 @@
 //!   judges.
 //!
 //! The crates above may cite its `proofs/Laws`: what is written is read again, a line has one reading, and texts of one
-//! line stay so. The tests of these calls are the crate `ht_lines_tests`, so that the grammar is proved once.
+//! line stay so. The tests of these calls are in the crate `ht_trace_tests`, so that the grammar is proved once.
 //!
 //! | File | Does |
 //! |---|---|

@@ -5,7 +5,7 @@ ghost use Rattle.std.specs.Prelude.{◌≡◌, ℕ, ◌^◌, ◌<◌, ◌≤◌,
 ghost use Rattle.hp_num.specs.ParsedHex.{parsed_hex};
 ghost use Rattle.ht_lines.specs.Fields.{fields};
 ghost use Rattle.ht_lines.specs.Content.{info_line, node_line, resident_line, system_line};
-ghost use Rattle.ht_lines.specs.Reading.{allocation_of, clock_from, free_of, info_number, one_number, say, three_numbers, two_numbers, version_of};
+ghost use Rattle.ht_lines.specs.Reading.{allocation_of, clock_from, free_of, info_number, one_number, say, three_numbers, two_numbers, version_from, version_of, with_number};
 ghost use Rattle.ht_lines.specs.ItemContent.{Gives, HasTail, IsWhole};
 
 use crate::fields::next_field;
@@ -65,6 +65,15 @@ pub fn two_numbers(rest: &[u8]) -> Result<(u64, u64), Malformed>
     if next_field(after).is_some() {
         return Err(Malformed::ExtraField);
     }
+    both_numbers(first, second)
+}
+
+/// The numbers that two fields are.
+#[inline(always)]
+fn both_numbers(first: &[u8], second: &[u8]) -> Result<(u64, u64), Malformed>
+    ensures { result ≡ with_number (parsed_hex first.now)
+        (λ m. with_number (parsed_hex second.now) (λ n. Ok (m, n))) }
+{
     let Some(first) = parse_hex(first) else {
         return Err(Malformed::BadField);
     };
@@ -74,35 +83,39 @@ pub fn two_numbers(rest: &[u8]) -> Result<(u64, u64), Malformed>
     Ok((first, second))
 }
 
-/// A line of versions: that of heaptrack, and that of the file, which is 1 where it isn't given.
+/// A line of versions.
 pub fn read_version(rest: &[u8]) -> Result<Item<'_>, Malformed>
     ensures exact { Gives result (version_of (fields rest.now)) }
     ensures whole { IfOk result (λ item. IsWhole item) }
     ensures tail { (version : ℕ) → IfOk result (λ item. HasTail version rest.now item) }
 {
+    let (heaptrack, file) = versions(rest)?;
+    if !(1..=3).contains(&file) {
+        return Err(Malformed::BadVersion);
+    }
+    Ok(Item::Version {
+        heaptrack,
+        file: file as u8,
+    })
+}
+
+/// The versions of a line: that of heaptrack, and that of the file, which is 1 where it isn't given.
+fn versions(rest: &[u8]) -> Result<(u64, u64), Malformed>
+    ensures { version_of (fields rest.now) ≡ version_from result }
+{
     let Some((heaptrack, after)) = next_field(rest) else {
         return Err(Malformed::MissingField);
     };
     let Some((file, after)) = next_field(after) else {
-        return match parse_hex(heaptrack) {
-            Some(heaptrack) => Ok(Item::Version { heaptrack, file: 1 }),
-            None => Err(Malformed::BadField),
+        let Some(heaptrack) = parse_hex(heaptrack) else {
+            return Err(Malformed::BadField);
         };
+        return Ok((heaptrack, 1));
     };
     if next_field(after).is_some() {
         return Err(Malformed::ExtraField);
     }
-    let Some(heaptrack) = parse_hex(heaptrack) else {
-        return Err(Malformed::BadField);
-    };
-    match parse_hex(file) {
-        Some(file) if (1..=3).contains(&file) => Ok(Item::Version {
-            heaptrack,
-            file: file as u8,
-        }),
-        Some(_) => Err(Malformed::BadVersion),
-        None => Err(Malformed::BadField),
-    }
+    both_numbers(heaptrack, file)
 }
 
 /// The numbers of an allocation of a raw trace. One field is that of an interpreted trace.
@@ -124,13 +137,10 @@ pub fn three_numbers(rest: &[u8]) -> Result<(u64, u64, u64), Malformed>
     let Some(first) = parse_hex(first) else {
         return Err(Malformed::BadField);
     };
-    let Some(second) = parse_hex(second) else {
-        return Err(Malformed::BadField);
-    };
-    let Some(third) = parse_hex(third) else {
-        return Err(Malformed::BadField);
-    };
-    Ok((first, second, third))
+    match both_numbers(second, third) {
+        Ok((second, third)) => Ok((first, second, third)),
+        Err(fault) => Err(fault),
+    }
 }
 
 /// A line of an allocation, which has the number of an info, and in a raw trace a size, a node and an address.
@@ -171,12 +181,17 @@ fn info_number_by_fields(rest: &[u8]) -> Result<u64, Malformed>
     let Some((_, after)) = next_field(after) else {
         return parse_hex(info).ok_or(Malformed::BadField);
     };
-    let Some((_, after)) = next_field(after) else {
-        return Err(Malformed::ExtraField);
-    };
+    Err(fault_of_more(after))
+}
+
+/// Why a line of an allocation is refused that has two fields before these: three are those of a raw trace.
+fn fault_of_more(after: &[u8]) -> Malformed
+    ensures { (first second : List ℕ)
+        → Err result ≡ info_number (first ∷ second ∷ fields after.now) }
+{
     match next_field(after) {
-        Some(_) => Err(Malformed::ExtraField),
-        None => Err(Malformed::NotInterpreted),
+        Some((_, after)) if next_field(after).is_none() => Malformed::NotInterpreted,
+        _ => Malformed::ExtraField,
     }
 }
 

@@ -14,7 +14,7 @@ const LONGEST: usize = 53;
 const MOST_DIGITS: usize = 16;
 
 /// What a line of a raw trace says that is of this form.
-#[derive(Clone, Copy, Debug, PartialEq, Eq)]
+#[derive(Clone, Copy)]
 pub enum RawEvent {
     /// `+`: an allocation of so many bytes at a node, and its address.
     Allocation { size: u64, trace: u64, ptr: u64 },

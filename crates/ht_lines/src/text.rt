@@ -39,7 +39,6 @@ pub fn text_of(version: u8, rest: &[u8]) -> &[u8]
 }
 
 /// The bytes after a number and one blank, where the number says how many they are.
-#[tactic(auto, unfolding(crate::specs::SizedText::sized_text))]
 fn sized_text(plain: &[u8]) -> Option<&[u8]>
     ensures { option_copied result ≡ sized_text plain.now }
 {
@@ -70,7 +69,6 @@ pub fn module_name(version: u8, rest: &[u8]) -> Option<(&[u8], &[u8])>
 }
 
 /// The bytes after a number and one blank, as many as the number says, and what follows them.
-#[tactic(auto, unfolding(crate::specs::ModuleName::sized_name), using(crate::proofs::NumberLemmas::parsed_nothing))]
 fn sized_name(rest: &[u8]) -> Option<(&[u8], &[u8])>
     ensures exact { option_map (λ found. (found.0.now, found.1.now)) result ≡ sized_name rest.now }
     ensures shorter { IfSome result (λ found. length found.1.now ≤ length rest.now) }

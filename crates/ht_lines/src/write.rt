@@ -197,9 +197,10 @@ fn put_text(out: &mut Vec<u8>, version: u8, text: &[u8]) -> Result<(), NoMemory>
         (out.new.items ≡ out.old.items ++ spelled_text version text.now) }
     ensures kept { Extends out.old.items out.new.items }
 {
-    if version == 3 {
-        put_hex(out, text.len() as u64)?;
-        put_bytes(out, b" ")?;
+    if version != 3 {
+        return put_bytes(out, text);
     }
+    put_hex(out, text.len() as u64)?;
+    put_bytes(out, b" ")?;
     put_bytes(out, text)
 }

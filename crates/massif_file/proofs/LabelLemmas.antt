@@ -1,6 +1,9 @@
 -- Labels by their parts of the bytes, when more are appended.
-use Rattle.std.proofs.Common.{◌≡◌, ℕ, List, [], ◌∷◌, ◌++◌, length, take, drop, refl, ap, ◌∙◌, arith}
-use Rattle.std.proofs.lemmas.List.{map-append, take-append-le, drop-append-le, length-drop}
+use Rattle.std.proofs.Common.{◌≡◌, ◌<◌, ◌+◌, ◌-◌, ℕ, List, [], ◌∷◌, ◌++◌, length, get_or, take, drop, Some, refl, ap, ◌∙◌, arith}
+use Rattle.std.specs.List.{slice_get}
+use Rattle.std.specs.Option.{option_map}
+use Rattle.std.proofs.lemmas.List.{length-map, map-append, take-append-le, drop-append-le, length-drop}
+use Rattle.std.proofs.lemmas.Option.{slice_get-map, slice_get_read}
 use Rattle.std.proofs.lemmas.List.Elements.{All-head, All-tail}
 use Rattle.std.proofs.Math.Seq.{drop-append_seam, take-length}
 use Rattle.massif_file.specs.declared.labels.Span.{Span}
@@ -28,3 +31,11 @@ labels-push bytes more spans span all start count =
     map-append (label_kept (bytes ++ more)) spans (span ∷ [])
     ∙ ap (λ (labels : List (List ℕ)). labels ++ label_kept (bytes ++ more) span ∷ []) (labels-same bytes more spans all)
     ∙ ap (λ (label : List ℕ). labels_in bytes spans ++ label ∷ []) own
+
+-- the label with a number
+pub label-at : (bytes : List ℕ) (spans : List Span) (number : ℕ) (span : Span) → number < length (labels_in bytes spans) → span ≡ get_or spans number span
+    → slice_get (labels_in bytes spans) number ≡ Some (take (span.start + span.count - span.start) (drop span.start bytes))
+label-at bytes spans number span held is =
+    slice_get-map (label_kept bytes) spans number
+    ∙ ap (option_map (label_kept bytes)) (slice_get_read spans (length (labels_in bytes spans)) number span (length-map spans (label_kept bytes)) held is)
+    ∙ ap (λ (count : ℕ). Some (take count (drop span.start bytes))) {x = span.count} {y = span.start + span.count - span.start} (omega arith)

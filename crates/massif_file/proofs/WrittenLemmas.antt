@@ -23,7 +23,7 @@ blanks_behind out len n all =
     ∙ ap (λ (t : List ℕ). out ++ t) (blanks_are n)
 
 -- the text of lines after lines
-pub text_of_append : (xs ys : List (List ℕ)) → text_of (xs ++ ys) ≡ text_of xs ++ text_of ys
+text_of_append : (xs ys : List (List ℕ)) → text_of (xs ++ ys) ≡ text_of xs ++ text_of ys
 text_of_append [] ys = refl
 text_of_append (x ∷ xs) ys = ap (λ (t : List ℕ). x ++ (10 ∷ t)) (text_of_append xs ys) ∙ sym (append_assoc x (10 ∷ text_of xs) (text_of ys))
 

@@ -11,7 +11,7 @@
 //! - The laws: `massif_profiles` says that any lines are one profile or have one first fault, and `massif_round_trip`
 //!   that a writable profile's text reads as that profile, and that every profile that was read is writable.
 //!
-//! The tests of these calls are in the crate `massif_tests`, and those of single lines are runs of `ms_print` and `convert` in
+//! The tests of these calls are in the crate `profile_tests`, and those of single lines are runs of `ms_print` and `convert` in
 //! `commands_tests`.
 //!
 //! | File | Does |

@@ -118,16 +118,26 @@ pub fn tree_fields(line: &[u8]) -> Option<TreeFields<'_>>
     ensures { option_map line_of result ≡ tree_line_of line.now }
 {
     let fields = value_after(b"n", without_blanks(line))?;
-    let (count, rest) = split_at_byte(fields, b':');
-    let children = number(count, u64::from(u32::MAX))?;
+    let (children, rest) = number_before(fields, b':', u64::from(u32::MAX))?;
     let sized = value_after(b": ", rest)?;
-    let (size, after) = split_at_byte(sized, b' ');
-    let bytes = number(size, MAX_NUMBER)?;
+    let (bytes, after) = number_before(sized, b' ', MAX_NUMBER)?;
     Some(TreeFields {
         children: children as u32,
         bytes,
         label: without_blanks(after),
     })
+}
+
+/// The number of at most `most` up to the first such byte, and the text from there on.
+#[inline(always)]
+fn number_before(text: &[u8], byte: u8, most: u64) -> Option<(u64, &[u8])>
+    ensures number { option_map (λ found. found.0) result
+        ≡ number_of most (before_byte byte text.now) }
+    ensures from { IfSome result (λ found. found.1.now ≡ from_byte byte text.now) }
+    ensures bound { IfSome result (λ found. found.0 ≤ most) }
+{
+    let (digits, from) = split_at_byte(text, byte);
+    Some((number(digits, most)?, from))
 }
 
 /// The number of at most `most` that the text is in decimal digits.

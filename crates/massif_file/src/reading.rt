@@ -115,8 +115,21 @@ impl Reading {
     pub fn end(self) -> Result<Profile, ProfileFault>
         ensures { result ≡ end_of (shown self) }
     {
-        self.whole()?;
-        Ok(self.profile)
+        if let Err(fault) = self.whole() {
+            drop(self);
+            return Err(fault);
+        }
+        let Reading {
+            profile,
+            desc,
+            snap,
+            levels,
+            ..
+        } = self;
+        drop(desc);
+        drop(snap);
+        drop(levels);
+        Ok(profile)
     }
 
     /// The profile, lent, where the lines may end here.

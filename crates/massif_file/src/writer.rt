@@ -3,7 +3,7 @@ ghost use Rattle.std.specs.Prelude.{◌≡◌, ℕ, ◌+◌, ◌-◌, ◌^◌, �
 ghost use Rattle.massif_file.specs.Blanks.{blanks};
 ghost use Rattle.massif_file.specs.Fields.{unit_name, mark_name};
 ghost use Rattle.massif_file.specs.TreeLine.{line_of};
-ghost use Rattle.massif_file.specs.MassifText.{head_lines, mark_lines, massif_text, node_text, size_lines, snap_lines, snaps_lines, text_of, tree_lines};
+ghost use Rattle.massif_file.specs.MassifText.{head_lines, mark_lines, massif_text, node_text, separator, size_lines, snap_lines, snaps_lines, text_of, tree_lines};
 
 use crate::levels::Levels;
 use crate::lists::Snaps;
@@ -55,7 +55,6 @@ fn put_snaps(out: &mut Vec<u8>, snaps: &Snaps) -> Result<(), NoMemory>
     Ok(())
 }
 
-#[tactic(auto, using(crate::proofs::WrittenLemmas::text_of_append))]
 fn put_snap(out: &mut Vec<u8>, n: u64, snap: &Snap) -> Result<(), NoMemory>
     ensures kept { take (vec_len out.old) out.new.items ≡ out.old.items }
     ensures appended { OnOk result
@@ -70,10 +69,18 @@ fn put_head(out: &mut Vec<u8>, n: u64, time: u64) -> Result<(), NoMemory>
     ensures kept { take (vec_len out.old) out.new.items ≡ out.old.items }
     ensures appended { OnOk result (out.new.items ≡ out.old.items ++ text_of (head_lines n time)) }
 {
+    put_separated(out, b"snapshot=", n)?;
+    put_separated(out, b"time=", time)
+}
+
+// A separator, and a line of a key and a number.
+fn put_separated(out: &mut Vec<u8>, key: &[u8], n: u64) -> Result<(), NoMemory>
+    ensures kept { take (vec_len out.old) out.new.items ≡ out.old.items }
+    ensures appended { OnOk result (out.new.items
+        ≡ out.old.items ++ text_of (separator ∷ (key.now ++ decimal n) ∷ [])) }
+{
     put_bytes(out, b"#-----------\n")?;
-    put_number(out, b"snapshot=", n)?;
-    put_bytes(out, b"#-----------\n")?;
-    put_number(out, b"time=", time)
+    put_number(out, key, n)
 }
 
 fn put_sizes(out: &mut Vec<u8>, snap: &Snap) -> Result<(), NoMemory>

@@ -1,8 +1,20 @@
-use Rattle.std.proofs.Common.{◌≡◌, [], None, Some, refl, sym, ◌∙◌}
+use Rattle.std.proofs.Common.{◌≡◌, ℕ, [], Option, None, Some, Result, Ok, Err, refl, sym, ◌∙◌}
 use Rattle.hp_num.specs.ParsedHex.{parsed_hex}
 use Rattle.ht_lines.specs.Fields.{fields}
+use Rattle.ht_lines.specs.Reading.{with_number}
+use Rattle.ht_lines.specs.declared.item.Malformed.{Malformed}
 use Rattle.ht_lines.proofs.FieldLemmas.{where_none}
 use Rattle.ht_lines.proofs.numbers.three_numbers.Goals as goal
+
+-- a number in front of two, or their fault
+abbrev in_front : ℕ → Result (ℕ × ℕ) Malformed → Result (ℕ × ℕ × ℕ) Malformed
+in_front l (Ok x) = Ok (l, x.0, x.1)
+in_front l (Err fault) = Err fault
+
+behind : (l : ℕ) (m n : Option ℕ) → with_number m (λ m. with_number n (λ n. Ok (l, m, n))) ≡ in_front l (with_number m (λ m. with_number n (λ n. Ok (m, n))))
+behind l None n = refl
+behind l (Some m) None = refl
+behind l (Some m) (Some n) = refl
 
 pub returns-in_default : goal.returns-in_default
 returns-in_default c = rw c.in_default.ensures.none refl
@@ -19,25 +31,16 @@ returns-in_default-parse_hex c =
     let none : parsed_hex c.in-Some.first.now ≡ None = sym c.parse_hex.ensures.parsed ∙ c.in_default-parse_hex.is in
     rw (c.in-Some.ensures.some, c.in-Some-next_field.ensures.some, c.in-Some-next_field-2.ensures.some, end, none) refl
 
-pub returns-in_default-parse_hex-2 : goal.returns-in_default-parse_hex-2
-returns-in_default-parse_hex-2 c =
+pub returns-in-Ok : goal.returns-in-Ok
+returns-in-Ok c =
     let end : fields c.in-Some-next_field-2.after.now ≡ [] = where_none c.next_field-4.result _ c.if-is_some.ensures c.next_field-4.ensures.none in
     let first : parsed_hex c.in-Some.first.now ≡ Some c.in-Some-parse_hex.first = sym c.parse_hex.ensures.parsed ∙ c.in-Some-parse_hex.is in
-    let none : parsed_hex c.in-Some-next_field.second.now ≡ None = sym c.parse_hex-2.ensures.parsed ∙ c.in_default-parse_hex-2.is in
-    rw (c.in-Some.ensures.some, c.in-Some-next_field.ensures.some, c.in-Some-next_field-2.ensures.some, end, first, none) refl
+    let both = sym c.both_numbers.ensures ∙ c.in-Ok.is in
+    rw (c.in-Some.ensures.some, c.in-Some-next_field.ensures.some, c.in-Some-next_field-2.ensures.some, end, first, behind c.in-Some-parse_hex.first (parsed_hex c.in-Some-next_field.second.now) (parsed_hex c.in-Some-next_field-2.third.now), both) refl
 
-pub returns-in_default-parse_hex-3 : goal.returns-in_default-parse_hex-3
-returns-in_default-parse_hex-3 c =
+pub returns-in-Err : goal.returns-in-Err
+returns-in-Err c =
     let end : fields c.in-Some-next_field-2.after.now ≡ [] = where_none c.next_field-4.result _ c.if-is_some.ensures c.next_field-4.ensures.none in
     let first : parsed_hex c.in-Some.first.now ≡ Some c.in-Some-parse_hex.first = sym c.parse_hex.ensures.parsed ∙ c.in-Some-parse_hex.is in
-    let second : parsed_hex c.in-Some-next_field.second.now ≡ Some c.in-Some-parse_hex-2.second = sym c.parse_hex-2.ensures.parsed ∙ c.in-Some-parse_hex-2.is in
-    let none : parsed_hex c.in-Some-next_field-2.third.now ≡ None = sym c.parse_hex-3.ensures.parsed ∙ c.in_default-parse_hex-3.is in
-    rw (c.in-Some.ensures.some, c.in-Some-next_field.ensures.some, c.in-Some-next_field-2.ensures.some, end, first, second, none) refl
-
-pub returns : goal.returns
-returns c =
-    let end : fields c.in-Some-next_field-2.after.now ≡ [] = where_none c.next_field-4.result _ c.if-is_some.ensures c.next_field-4.ensures.none in
-    let first : parsed_hex c.in-Some.first.now ≡ Some c.in-Some-parse_hex.first = sym c.parse_hex.ensures.parsed ∙ c.in-Some-parse_hex.is in
-    let second : parsed_hex c.in-Some-next_field.second.now ≡ Some c.in-Some-parse_hex-2.second = sym c.parse_hex-2.ensures.parsed ∙ c.in-Some-parse_hex-2.is in
-    let third : parsed_hex c.in-Some-next_field-2.third.now ≡ Some c.in-Some-parse_hex-3.third = sym c.parse_hex-3.ensures.parsed ∙ c.in-Some-parse_hex-3.is in
-    rw (c.in-Some.ensures.some, c.in-Some-next_field.ensures.some, c.in-Some-next_field-2.ensures.some, end, first, second, third) refl
+    let both = sym c.both_numbers.ensures ∙ c.in-Err.is in
+    rw (c.in-Some.ensures.some, c.in-Some-next_field.ensures.some, c.in-Some-next_field-2.ensures.some, end, first, behind c.in-Some-parse_hex.first (parsed_hex c.in-Some-next_field.second.now) (parsed_hex c.in-Some-next_field-2.third.now), both) refl

@@ -1,5 +1,4 @@
-use Rattle.std.proofs.Common.{◌≡◌, [], None, Some, refl, sym, ◌∙◌}
-use Rattle.hp_num.specs.ParsedHex.{parsed_hex}
+use Rattle.std.proofs.Common.{◌≡◌, [], refl}
 use Rattle.ht_lines.specs.Fields.{fields}
 use Rattle.ht_lines.proofs.FieldLemmas.{where_none}
 use Rattle.ht_lines.proofs.numbers.two_numbers.Goals as goal
@@ -10,22 +9,7 @@ returns-in_default c = rw c.in_default.ensures.none refl
 pub returns-in_default-next_field : goal.returns-in_default-next_field
 returns-in_default-next_field c = rw (c.in-Some.ensures.some, c.in_default-next_field.ensures.none) refl
 
-pub returns-in_default-parse_hex : goal.returns-in_default-parse_hex
-returns-in_default-parse_hex c =
-    let end : fields c.in-Some-next_field.after.now ≡ [] = where_none c.next_field-3.result _ c.if-is_some.ensures c.next_field-3.ensures.none in
-    let none : parsed_hex c.in-Some.first.now ≡ None = sym c.parse_hex.ensures.parsed ∙ c.in_default-parse_hex.is in
-    rw (c.in-Some.ensures.some, c.in-Some-next_field.ensures.some, end, none) refl
-
-pub returns-in_default-parse_hex-2 : goal.returns-in_default-parse_hex-2
-returns-in_default-parse_hex-2 c =
-    let end : fields c.in-Some-next_field.after.now ≡ [] = where_none c.next_field-3.result _ c.if-is_some.ensures c.next_field-3.ensures.none in
-    let first : parsed_hex c.in-Some.first.now ≡ Some c.in-Some-parse_hex.first = sym c.parse_hex.ensures.parsed ∙ c.in-Some-parse_hex.is in
-    let none : parsed_hex c.in-Some-next_field.second.now ≡ None = sym c.parse_hex-2.ensures.parsed ∙ c.in_default-parse_hex-2.is in
-    rw (c.in-Some.ensures.some, c.in-Some-next_field.ensures.some, end, first, none) refl
-
 pub returns : goal.returns
 returns c =
     let end : fields c.in-Some-next_field.after.now ≡ [] = where_none c.next_field-3.result _ c.if-is_some.ensures c.next_field-3.ensures.none in
-    let first : parsed_hex c.in-Some.first.now ≡ Some c.in-Some-parse_hex.first = sym c.parse_hex.ensures.parsed ∙ c.in-Some-parse_hex.is in
-    let second : parsed_hex c.in-Some-next_field.second.now ≡ Some c.in-Some-parse_hex-2.second = sym c.parse_hex-2.ensures.parsed ∙ c.in-Some-parse_hex-2.is in
-    rw (c.in-Some.ensures.some, c.in-Some-next_field.ensures.some, end, first, second) refl
+    rw (c.in-Some.ensures.some, c.in-Some-next_field.ensures.some, end) c.both_numbers.ensures
