@@ -10,7 +10,7 @@ use Rattle.serde_json.specs.Written.{items_outline, members_outline, outline}
 use Rattle.dhat_json.specs.declared.profile.Dhat.{Dhat}
 use Rattle.dhat_json.specs.declared.profile.Point.{Point}
 use Rattle.dhat_json.specs.Adds.{Adds, AddsValue, Fits, MembersFit, before_rest}
-use Rattle.dhat_json.specs.Begun.{HasBegun, HasTimes, rest_tokens, with_points}
+use Rattle.dhat_json.specs.Begun.{HasBegun, HasTimes, IsWhole, rest_tokens, with_points}
 use Rattle.dhat_json.specs.DhatValue.{dhat_value, point_value}
 use Rattle.dhat_json.specs.Groups.{points_member, run_members, time_members, unit_members}
 
@@ -60,12 +60,6 @@ begun_next now next dhat points count point within is begun added =
     let all : (dhat.pps ++ take count points) ++ point ∷ [] ≡ dhat.pps ++ take (count + 1) points =
     append_assoc dhat.pps (take count points) (point ∷ []) ∙ ap (λ (ps : List Point). dhat.pps ++ ps) (sym longer) in
     subst (λ (ps : List Point). HasBegun next (with_points dhat ps)) all (begun_more now next (with_points dhat (dhat.pps ++ take count points)) point begun added)
-
--- the whole text
-pub record IsWhole (last : Written) (dhat : Dhat) : Type 0 where
-  pub before : last.before ≡ []
-  pub tokens : last.tokens ≡ json_tokens (outline (dhat_value dhat))
-  pub fits : Fits (dhat_value dhat)
 
 pub begun_ended : (now closed behind last : Written) (dhat head : Dhat) → HasBegun now dhat → HasTimes head dhat
     → closed.before ≡ now.before → closed.tokens ≡ now.tokens ++ end_array ∷ []

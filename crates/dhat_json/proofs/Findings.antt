@@ -1,9 +1,9 @@
 -- The first of what checks find.
-use Rattle.std.proofs.Common.{◌≡◌, List, [], ◌∷◌, ◌++◌, Some, None, refl}
+use Rattle.std.proofs.Common.{◌≡◌, List, [], ◌∷◌, ◌++◌, Some, None, Result, Ok, Err, refl, subst}
 use Rattle.dhat_json.specs.declared.fault.DhatFault.{DhatFault}
 use Rattle.dhat_json.specs.declared.fault.DhatFault.TheVariants.{NotJson, WrongFileVersion, MissingKey, WrongKind, FrameOutOfTable, TooMany, NoMemory}
 use Rattle.dhat_json.specs.DhatFault.{Finding, first_of}
-use Rattle.dhat_json.specs.Reads.{UnlessNoMemory}
+use Rattle.dhat_json.specs.Reads.{Reads, UnlessNoMemory}
 
 -- where nothing was found at first, what is found later counts
 pub first_later : (xs ys : List Finding) → first_of xs ≡ None → first_of (xs ++ ys) ≡ first_of ys
@@ -27,5 +27,15 @@ fault_follows P Q (WrongKind point key) h f = f h
 fault_follows P Q (FrameOutOfTable point frame) h f = f h
 fault_follows P Q TooMany h f = f h
 
-pub three_passed : (a b c : Finding) (xs : List Finding) → a ≡ None → b ≡ None → c ≡ None → first_of (a ∷ b ∷ c ∷ xs) ≡ first_of xs
-three_passed a b c xs none-a none-b none-c = rw (none-a, none-b, none-c) refl
+pub passed_then : (a : Finding) (xs : List Finding) → a ≡ None → first_of (a ∷ xs) ≡ first_of xs
+passed_then a xs none = rw none refl
+
+pub found_first : (a : Finding) (xs : List Finding) (fault : DhatFault) → a ≡ Some fault → first_of (a ∷ xs) ≡ Some fault
+found_first a xs fault found = rw found refl
+
+-- what a part that answered so has read or refused
+pub read_as : {A : Type 0} (result : Result A DhatFault) (x : A) (finding : Finding) (there : A) → result ≡ Ok x → Reads result finding there → (finding ≡ None) × (x ≡ there)
+read_as {A = A} result x finding there is read = subst (λ (r : Result A DhatFault). Reads r finding there) is read
+
+pub refused_as : {A : Type 0} (result : Result A DhatFault) (fault : DhatFault) (finding : Finding) (there : A) → result ≡ Err fault → Reads result finding there → UnlessNoMemory fault (finding ≡ Some fault)
+refused_as {A = A} result fault finding there is read = subst (λ (r : Result A DhatFault). Reads r finding there) is read

@@ -11,6 +11,7 @@ use Rattle.dhat_json.specs.DhatFault.{Finding, first_of, point_findings, points_
 use Rattle.dhat_json.specs.ProfileIn.{point_in}
 use Rattle.dhat_json.specs.declared.profile.Point.{Point}
 use Rattle.dhat_json.specs.Kinds.{list_of}
+use Rattle.dhat_json.proofs.Findings.{passed_then}
 
 -- the items of an array are the list that it was made of
 pub list_of_items : (ds : List Data) → list_of (items_of ds) ≡ ds
@@ -36,7 +37,7 @@ passed_more {A = A} f g values i done x lt is p none = record {
   whole = p.whole ∙ ap (λ (ys : List (Value Global)). done ++ map g (map data_of ys)) (here values i x lt is) ∙ sym (append_assoc done (g (data_of x) ∷ []) (map g (map data_of (drop (i + 1) values))));
 }
 
-pub passed_fault : {A : Type 0} (f : Data → Finding) (g : Data → A) (values : List (Value Global)) (i : ℕ) (done : List A) (x : Value Global) (fault : DhatFault) → i < length values → x ≡ get_or values i x → Passed f g values i done
+passed_fault : {A : Type 0} (f : Data → Finding) (g : Data → A) (values : List (Value Global)) (i : ℕ) (done : List A) (x : Value Global) (fault : DhatFault) → i < length values → x ≡ get_or values i x → Passed f g values i done
     → f (data_of x) ≡ Some fault → first_of (map f (map data_of values)) ≡ Some fault
 passed_fault f g values i done x fault lt is p found =
     p.left ∙ ap (λ (ys : List (Value Global)). first_of (map f (map data_of ys))) (here values i x lt is) ∙ ap (λ (o : Finding). first_of (o ∷ map f (map data_of (drop (i + 1) values)))) found
@@ -45,11 +46,24 @@ pub record PassedAll {A : Type 0} (f : Data → Finding) (g : Data → A) (value
   pub none : first_of (map f (map data_of values)) ≡ None
   pub all : done ≡ map g (map data_of values)
 
-pub passed_all : {A : Type 0} (f : Data → Finding) (g : Data → A) (values : List (Value Global)) (i : ℕ) (done : List A) → length values ≤ i → Passed f g values i done → PassedAll f g values done
+passed_all : {A : Type 0} (f : Data → Finding) (g : Data → A) (values : List (Value Global)) (i : ℕ) (done : List A) → length values ≤ i → Passed f g values i done → PassedAll f g values done
 passed_all {A = A} f g values i done end p = record {
   none = p.left ∙ ap (λ (ys : List (Value Global)). first_of (map f (map data_of ys))) (drop_all i values end);
   all = sym (p.whole ∙ ap (λ (ys : List (Value Global)). done ++ map g (map data_of ys)) (drop_all i values end) ∙ append-nil done);
 }
+
+-- ---- the values of a list that had to be there
+
+pub list_refused : {A : Type 0} (needed : Finding) (f : Data → Finding) (g : Data → A) (values : List (Value Global)) (ds : List Data) (i : ℕ) (done : List A) (x : Value Global) (fault : DhatFault) → needed ≡ None → map data_of values ≡ ds
+    → i < length values → x ≡ get_or values i x → Passed f g values i done → f (data_of x) ≡ Some fault → first_of (needed ∷ map f ds) ≡ Some fault
+list_refused needed f g values ds i done x fault none same lt is p found =
+    passed_then needed (map f ds) none ∙ ap (λ (all : List Data). first_of (map f all)) (sym same) ∙ passed_fault f g values i done x fault lt is p found
+
+pub list_read : {A : Type 0} (needed : Finding) (f : Data → Finding) (g : Data → A) (values : List (Value Global)) (ds : List Data) (i : ℕ) (done : List A) → needed ≡ None → map data_of values ≡ ds
+    → length values ≤ i → Passed f g values i done → (first_of (needed ∷ map f ds) ≡ None) × (done ≡ map g ds)
+list_read needed f g values ds i done none same end p =
+    let all = passed_all f g values i done end p in
+    (passed_then needed (map f ds) none ∙ ap (λ (all : List Data). first_of (map f all)) (sym same) ∙ all.none, all.all ∙ ap (map g) same)
 
 -- ---- points, each of which is told with its number
 

@@ -36,6 +36,12 @@ pub record HasBegun (out : Written) (dhat : Dhat) : Type 0 where
 abbrev pub HasTimes : Dhat → Dhat → Type 0
 HasTimes dhat other = time_members other no_members ≡ time_members dhat no_members
 
+-- the whole profile is written
+pub record IsWhole (out : Written) (dhat : Dhat) : Type 0 where
+  pub before : out.before ≡ []
+  pub tokens : out.tokens ≡ json_tokens (outline (dhat_value dhat))
+  pub fits : Fits (dhat_value dhat)
+
 -- the text is that of the profile, and has its value
 pub record IsTextOf (dhat : Dhat) (text : List ℕ) : Type 0 where
   pub same : text ≡ dhat_text dhat

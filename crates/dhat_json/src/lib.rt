@@ -15,7 +15,7 @@
 //! - `Point::figure` gives a figure by its key, `Dhat::has_figures` whether the points have it. `put_shown` appends the
 //!   shown form of a text, of which `shown_texts` says that no line can be broken by it.
 //!
-//! The tests of these calls are in the crate `dhat_tests`.
+//! The tests of these calls are in the crate `profile_tests`.
 //!
 //! | File | Does |
 //! |---|---|

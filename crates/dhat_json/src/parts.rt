@@ -1,7 +1,8 @@
 //! Parts of a profile, as the reader reads them one after the other.
-ghost use Rattle.std.specs.Prelude.{◌≡◌};
+ghost use Rattle.std.specs.Prelude.{◌≡◌, Ok, Err, IfOk, IfErr};
 ghost use Rattle.dhat_json.specs.Parts.{joined};
 
+use crate::fault::DhatFault;
 use crate::lists::{Points, Texts};
 use crate::profile::Dhat;
 use hp_num::Text;
@@ -18,9 +19,21 @@ pub(crate) struct Head {
 /// The units of its numbers.
 #[derive(Drop)]
 pub(crate) struct Units {
+    pub(crate) block: BlockUnits,
+    pub(crate) time: TimeUnits,
+}
+
+/// The units of sizes and of blocks.
+#[derive(Drop)]
+pub(crate) struct BlockUnits {
     pub(crate) bu: Option<Text>,
     pub(crate) bsu: Option<Text>,
     pub(crate) bksu: Option<Text>,
+}
+
+/// The unit of time, and how short a lifetime is worth a remark.
+#[derive(Drop)]
+pub(crate) struct TimeUnits {
     pub(crate) tu: Text,
     pub(crate) mtu: Text,
     pub(crate) tuth: Option<u64>,
@@ -35,6 +48,23 @@ pub(crate) struct Run {
     pub(crate) tg: Option<u64>,
 }
 
+/// Both parts, or the fault of the second, where the first is let go.
+pub(crate) fn beside<A: Drop, B>(
+    first: A,
+    second: Result<B, DhatFault>,
+) -> Result<(A, B), DhatFault>
+    ensures ok { IfOk result (λ both. (second ≡ Ok both.1) × (both.0 ≡ first)) }
+    ensures err { IfErr result (λ fault. second ≡ Err fault) }
+{
+    match second {
+        Ok(second) => Ok((first, second)),
+        Err(fault) => {
+            drop(first);
+            Err(fault)
+        }
+    }
+}
+
 /// The profile of these parts.
 pub(crate) fn join_parts(head: Head, units: Units, run: Run, ftbl: Texts, pps: Points) -> Dhat
     ensures { result ≡ joined head units run ftbl pps }
@@ -44,12 +74,12 @@ pub(crate) fn join_parts(head: Head, units: Units, run: Run, ftbl: Texts, pps: P
         verb: head.verb,
         bklt: head.bklt,
         bkacc: head.bkacc,
-        bu: units.bu,
-        bsu: units.bsu,
-        bksu: units.bksu,
-        tu: units.tu,
-        mtu: units.mtu,
-        tuth: units.tuth,
+        bu: units.block.bu,
+        bsu: units.block.bsu,
+        bksu: units.block.bksu,
+        tu: units.time.tu,
+        mtu: units.time.mtu,
+        tuth: units.time.tuth,
         cmd: run.cmd,
         pid: run.pid,
         te: run.te,

@@ -3,7 +3,8 @@ ghost use Rattle.std.specs.Prelude.{◌≡◌, ◌-◌, ◌^◌, ◌<◌, length
 ghost use Rattle.dhat_json.specs.DataOf.{data_of};
 ghost use Rattle.dhat_json.specs.DhatFault.{first_of, frame_finding, frames_findings, life_findings, access_findings, point_findings, points_findings, allowed};
 ghost use Rattle.dhat_json.specs.Kinds.{as_list};
-ghost use Rattle.dhat_json.specs.ProfileIn.{whole_in, list_at, life_in, access_in, part_in, point_in};
+ghost use Rattle.dhat_json.specs.Parts.{pair_findings};
+ghost use Rattle.dhat_json.specs.ProfileIn.{whole_at, whole_in, list_at, life_in, access_in, part_in, point_in};
 ghost use Rattle.dhat_json.specs.Reads.{Reads};
 
 use crate::fault::DhatFault;
@@ -54,8 +55,7 @@ fn read_point(alloc: Global, value: &Value, shape: Shape, number: u32) -> Result
             key: Key::Pps,
         });
     }
-    let tb = read_whole(value, Some(number), Key::Tb)?;
-    let tbk = read_whole(value, Some(number), Key::Tbk)?;
+    let (tb, tbk) = read_pair(value, number, Key::Tb, Key::Tbk)?;
     let life = read_life(value, number, shape.bklt)?;
     let access = read_access(value, number, shape.bkacc)?;
     let fs = read_frames(alloc, value, number, shape.frames)?;
@@ -75,16 +75,29 @@ fn read_life(value: &Value, number: u32, told: bool) -> Result<Option<Life>, Dha
     if !told {
         return Ok(None);
     }
-    let point = Some(number);
+    let tl = read_whole(value, Some(number), Key::Tl)?;
+    let (mb, mbk) = read_pair(value, number, Key::Mb, Key::Mbk)?;
+    let (gb, gbk) = read_pair(value, number, Key::Gb, Key::Gbk)?;
+    let (eb, ebk) = read_pair(value, number, Key::Eb, Key::Ebk)?;
     Ok(Some(Life {
-        tl: read_whole(value, point, Key::Tl)?,
-        mb: read_whole(value, point, Key::Mb)?,
-        mbk: read_whole(value, point, Key::Mbk)?,
-        gb: read_whole(value, point, Key::Gb)?,
-        gbk: read_whole(value, point, Key::Gbk)?,
-        eb: read_whole(value, point, Key::Eb)?,
-        ebk: read_whole(value, point, Key::Ebk)?,
+        tl,
+        mb,
+        mbk,
+        gb,
+        gbk,
+        eb,
+        ebk,
     }))
+}
+
+// Two whole numbers that must be there, one after the other.
+fn read_pair(value: &Value, number: u32, first: Key, second: Key) -> Result<(u64, u64), DhatFault>
+    ensures { Reads result (first_of (pair_findings number first second (data_of value.now)))
+        (whole_at first (data_of value.now), whole_at second (data_of value.now)) }
+{
+    let first = read_whole(value, Some(number), first)?;
+    let second = read_whole(value, Some(number), second)?;
+    Ok((first, second))
 }
 
 fn read_access(value: &Value, number: u32, told: bool) -> Result<Option<Access>, DhatFault>
@@ -94,8 +107,7 @@ fn read_access(value: &Value, number: u32, told: bool) -> Result<Option<Access>,
     if !told {
         return Ok(None);
     }
-    let rb = read_whole(value, Some(number), Key::Rb)?;
-    let wb = read_whole(value, Some(number), Key::Wb)?;
+    let (rb, wb) = read_pair(value, number, Key::Rb, Key::Wb)?;
     check_counts(value, number)?;
     Ok(Some(Access { rb, wb }))
 }

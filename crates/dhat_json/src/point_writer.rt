@@ -27,13 +27,18 @@ impl PointWriter {
         requires texts { HasTexts dhat }
         ensures begun { IfOk result (λ writer. HasWritten writer (with_points dhat [])) }
     {
-        let out = begun(alloc, &dhat)?;
-        let head = Dhat {
-            pps: Points::new(alloc),
-            ftbl: Texts::new(alloc),
-            ..dhat
-        };
-        Ok(PointWriter { out, head })
+        match begun(alloc, &dhat) {
+            Ok(out) => {
+                let mut head = dhat;
+                head.pps = Points::new(alloc);
+                head.ftbl = Texts::new(alloc);
+                Ok(PointWriter { out, head })
+            }
+            Err(error) => {
+                drop(dhat);
+                Err(error)
+            }
+        }
     }
 
     /// Puts a point behind the others. After `NoMemory` the writer is of no use.
@@ -56,6 +61,8 @@ impl PointWriter {
             → IsSound dhat → document_of (string_bytes text) ≡ Ok dhat) }
     {
         let PointWriter { out, head } = self;
-        ended(out, &head)
+        let text = ended(out, &head);
+        drop(head);
+        text
     }
 }

@@ -7,7 +7,7 @@ ghost use Rattle.dhat_json.specs.declared.profile.Dhat.{Dhat};
 ghost use Rattle.dhat_json.specs.DhatFault.{first_of, version_findings, head_findings, unit_findings, run_findings, table_findings, listed_points_findings, other_kind};
 ghost use Rattle.dhat_json.specs.Document.{document_of, dhat_in, IsDocument};
 ghost use Rattle.dhat_json.specs.IsSound.{IsWritable, HasTexts};
-ghost use Rattle.dhat_json.specs.Parts.{head_in, units_in, run_in};
+ghost use Rattle.dhat_json.specs.Parts.{HasBlockTexts, HasTimeTexts, block_unit_findings, block_units_in, head_in, run_in, time_unit_findings, time_units_in, units_in};
 ghost use Rattle.dhat_json.specs.ProfileIn.{text_in, list_at, point_in};
 ghost use Rattle.dhat_json.specs.Reads.{Answers, Reads, UnlessNoMemory};
 
@@ -17,7 +17,7 @@ use crate::lists::{Points, Texts};
 use crate::member::{
     read_flag, read_list, read_optional_text, read_optional_whole, read_text, read_whole,
 };
-use crate::parts::{Head, Run, Units, join_parts};
+use crate::parts::{BlockUnits, Head, Run, TimeUnits, Units, beside, join_parts};
 use crate::point::{Shape, read_points};
 use crate::profile::{Dhat, VERSION};
 use crate::value::{as_text, as_whole, is_object, member, parse_value};
@@ -63,15 +63,17 @@ fn read_value(alloc: Global, value: &Value) -> Result<Dhat, DhatFault>
     ensures texts { IfOk result HasTexts }
 {
     let head = read_head(alloc, value)?;
-    let units = read_units(alloc, value)?;
-    let run = read_run(alloc, value)?;
-    let ftbl = read_table(alloc, value)?;
+    let (bklt, bkacc) = (head.bklt, head.bkacc);
+    let parts = beside(head, read_units(alloc, value))?;
+    let parts = beside(parts, read_run(alloc, value))?;
+    let parts = beside(parts, read_table(alloc, value))?;
     let shape = Shape {
-        bklt: head.bklt,
-        bkacc: head.bkacc,
-        frames: ftbl.len(),
+        bklt,
+        bkacc,
+        frames: parts.1.len(),
     };
-    let pps = read_all_points(alloc, value, shape)?;
+    let parts = beside(parts, read_all_points(alloc, value, shape))?;
+    let ((((head, units), run), ftbl), pps) = parts;
     Ok(join_parts(head, units, run, ftbl, pps))
 }
 
@@ -85,9 +87,9 @@ fn read_head(alloc: Global, value: &Value) -> Result<Head, DhatFault>
     }
     check_version(value)?;
     let mode = read_text(alloc, value, Key::Mode)?;
-    let verb = read_text(alloc, value, Key::Verb)?;
-    let bklt = read_flag(value, Key::Bklt)?;
-    let bkacc = read_flag(value, Key::Bkacc)?;
+    let texts = beside(mode, read_text(alloc, value, Key::Verb))?;
+    let (texts, bklt) = beside(texts, read_flag(value, Key::Bklt))?;
+    let ((mode, verb), bkacc) = beside(texts, read_flag(value, Key::Bkacc))?;
     Ok(Head {
         mode,
         verb,
@@ -114,17 +116,33 @@ fn check_version(value: &Value) -> Result<(), DhatFault>
 fn read_units(alloc: Global, value: &Value) -> Result<Units, DhatFault>
     ensures read { Reads result (first_of (unit_findings (data_of value.now)))
         (units_in (data_of value.now)) }
-    ensures utf8 { IfOk result (λ units. IfSome units.bu IsUtf8 × IfSome units.bsu IsUtf8
-        × IfSome units.bksu IsUtf8 × IsUtf8 units.tu × IsUtf8 units.mtu) }
+    ensures utf8 { IfOk result (λ units. HasBlockTexts units.block × HasTimeTexts units.time) }
 {
-    Ok(Units {
-        bu: read_optional_text(alloc, value, Key::Bu)?,
-        bsu: read_optional_text(alloc, value, Key::Bsu)?,
-        bksu: read_optional_text(alloc, value, Key::Bksu)?,
-        tu: read_text(alloc, value, Key::Tu)?,
-        mtu: read_text(alloc, value, Key::Mtu)?,
-        tuth: read_optional_whole(value, Key::Tuth)?,
-    })
+    let block = read_block_units(alloc, value)?;
+    let (block, time) = beside(block, read_time_units(alloc, value))?;
+    Ok(Units { block, time })
+}
+
+fn read_block_units(alloc: Global, value: &Value) -> Result<BlockUnits, DhatFault>
+    ensures read { Reads result (first_of (block_unit_findings (data_of value.now)))
+        (block_units_in (data_of value.now)) }
+    ensures utf8 { IfOk result HasBlockTexts }
+{
+    let bu = read_optional_text(alloc, value, Key::Bu)?;
+    let texts = beside(bu, read_optional_text(alloc, value, Key::Bsu))?;
+    let ((bu, bsu), bksu) = beside(texts, read_optional_text(alloc, value, Key::Bksu))?;
+    Ok(BlockUnits { bu, bsu, bksu })
+}
+
+fn read_time_units(alloc: Global, value: &Value) -> Result<TimeUnits, DhatFault>
+    ensures read { Reads result (first_of (time_unit_findings (data_of value.now)))
+        (time_units_in (data_of value.now)) }
+    ensures utf8 { IfOk result HasTimeTexts }
+{
+    let tu = read_text(alloc, value, Key::Tu)?;
+    let texts = beside(tu, read_text(alloc, value, Key::Mtu))?;
+    let ((tu, mtu), tuth) = beside(texts, read_optional_whole(value, Key::Tuth))?;
+    Ok(TimeUnits { tu, mtu, tuth })
 }
 
 fn read_run(alloc: Global, value: &Value) -> Result<Run, DhatFault>
@@ -132,12 +150,11 @@ fn read_run(alloc: Global, value: &Value) -> Result<Run, DhatFault>
         (run_in (data_of value.now)) }
     ensures utf8 { IfOk result (λ run. IsUtf8 run.cmd) }
 {
-    Ok(Run {
-        cmd: read_text(alloc, value, Key::Cmd)?,
-        pid: read_whole(value, None, Key::Pid)?,
-        te: read_whole(value, None, Key::Te)?,
-        tg: read_optional_whole(value, Key::Tg)?,
-    })
+    let cmd = read_text(alloc, value, Key::Cmd)?;
+    let (cmd, pid) = beside(cmd, read_whole(value, None, Key::Pid))?;
+    let (cmd, te) = beside(cmd, read_whole(value, None, Key::Te))?;
+    let (cmd, tg) = beside(cmd, read_optional_whole(value, Key::Tg))?;
+    Ok(Run { cmd, pid, te, tg })
 }
 
 fn read_table(alloc: Global, value: &Value) -> Result<Texts, DhatFault>

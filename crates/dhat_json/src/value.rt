@@ -38,9 +38,11 @@ pub(crate) fn parse_value<'a>(
         Err(Error::TooLong | Error::DuplicateKey) => unreachable!(),
     };
     if reader.next().is_some() {
+        drop(value);
         return Err(DhatFault::NotJson);
     }
     if !has_data(&value) {
+        drop(value);
         return Err(DhatFault::NotJson);
     }
     Ok(value)

@@ -2,7 +2,7 @@
 ghost use Rattle.std.specs.Prelude.{◌≡◌, ◌++◌, [], Ok, Some, IfOk, OnOk, string_bytes};
 ghost use Rattle.std.specs.Option.{option_map};
 ghost use Rattle.dhat_json.specs.Adds.{Adds, AddsValue};
-ghost use Rattle.dhat_json.specs.Begun.{HasBegun, HasTimes, IsTextOf, with_points};
+ghost use Rattle.dhat_json.specs.Begun.{HasBegun, HasTimes, IsTextOf, IsWhole, with_points};
 ghost use Rattle.dhat_json.specs.declared.profile.Dhat.{Dhat};
 ghost use Rattle.dhat_json.specs.DhatValue.{dhat_value, dhat_text, point_value};
 ghost use Rattle.dhat_json.specs.Document.{document_of, value_of};
@@ -38,12 +38,26 @@ pub(crate) fn begun(alloc: Global, dhat: &Dhat) -> Result<Writer, NoMemory>
     ensures { IfOk result (λ out. HasBegun out (with_points dhat.now [])) }
 {
     let mut out = Writer::new(Vec::new(alloc));
+    match put_begin(&mut out, dhat) {
+        Ok(()) => Ok(out),
+        Err(error) => {
+            drop(out);
+            Err(error)
+        }
+    }
+}
+
+fn put_begin(out: &mut Writer, dhat: &Dhat) -> Result<(), NoMemory>
+    requires texts { HasTexts dhat.now }
+    requires empty { (out.old.before ≡ []) × (out.old.tokens ≡ []) }
+    ensures { OnOk result (HasBegun out.new (with_points dhat.now [])) }
+{
     out.begin_object()?;
-    put_units(&mut out, dhat)?;
-    put_run(&mut out, dhat)?;
+    put_units(out, dhat)?;
+    put_run(out, dhat)?;
     out.key(Key::Pps.name())?;
     out.begin_array()?;
-    Ok(out)
+    Ok(())
 }
 
 fn put_points(out: &mut Writer, points: &[Point]) -> Result<(), NoMemory>
@@ -63,13 +77,26 @@ pub(crate) fn ended(mut out: Writer, dhat: &Dhat) -> Result<String, NoMemory>
     ensures { IfOk result (λ text. (whole : Dhat) → HasBegun out whole → HasTimes dhat.now whole
         → IsTextOf whole (string_bytes text)) }
 {
-    out.end_array()?;
-    put_times(&mut out, dhat)?;
-    out.end_object()?;
+    if let Err(error) = put_end(&mut out, dhat) {
+        drop(out);
+        return Err(error);
+    }
     let Ok(text) = String::from_utf8(out.into_inner()) else {
         unreachable!();
     };
     Ok(text)
+}
+
+fn put_end(out: &mut Writer, dhat: &Dhat) -> Result<(), NoMemory>
+    requires { HasTexts dhat.now }
+    ensures before { OnOk result (out.new.before ≡ out.old.before) }
+    ensures whole { OnOk result ((whole : Dhat) → HasBegun out.old whole
+        → HasTimes dhat.now whole → IsWhole out.new whole) }
+{
+    out.end_array()?;
+    put_times(out, dhat)?;
+    out.end_object()?;
+    Ok(())
 }
 
 fn put_units(out: &mut Writer, dhat: &Dhat) -> Result<(), NoMemory>

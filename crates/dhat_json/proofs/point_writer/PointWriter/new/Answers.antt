@@ -3,12 +3,12 @@ use Rattle.std.specs.Prelude.{All, IsUtf8}
 use Rattle.std.proofs.lemmas.List.Elements.{All-nil}
 use Rattle.dhat_json.proofs.point_writer.PointWriter.new.Goals as goal
 
-pub returns : goal.returns
-returns c =
+pub returns-in-Ok : goal.returns-in-Ok
+returns-in-Ok c =
     let texts = c.requires.texts in
     record {
       begun = record {
-        begun = c.in_ok-out.ensures;
+        begun = c.in-Ok.ensures;
         times = refl;
         texts = record {
           mode = texts.mode;
@@ -19,7 +19,7 @@ returns c =
           tu = texts.tu;
           mtu = texts.mtu;
           cmd = texts.cmd;
-          ftbl = subst (All IsUtf8) (sym c.new-2.ensures.empty) (All-nil IsUtf8);
+          ftbl = subst (All IsUtf8) (sym c.new-in-Ok.ensures.empty) (All-nil IsUtf8);
         };
       };
     }
