@@ -1,5 +1,5 @@
 -- What it does to a folder and to a place in it that one more file is held.
-use Rattle.std.proofs.Common.{◌≡◌, ◌+◌, ◌<◌, ℕ, Bool, true, false, cond, nat_eq, ◌≢◌, List, [], ◌∷◌, ◌++◌, Option, None, Some, length, drop, ◌≤◌, zero, suc, refl, ap, ◌∙◌, sym, arith, get_or, add-one, drop_of_length-le}
+use Rattle.std.proofs.Common.{◌≡◌, ◌+◌, ◌<◌, ℕ, Bool, true, false, cond, nat_eq, ◌≢◌, List, [], ◌∷◌, ◌++◌, Option, None, Some, length, drop, ◌≤◌, zero, suc, refl, ap, ◌∙◌, sym, arith, get_or, add-one, drop_of_length-le, ◌-◌, min, take, length-append, unwrap_or, option_map, subst}
 use Rattle.std.specs.Option.{ForSome}
 use Rattle.std.specs.Ordering.{nat_cmp, eq_by_cmp}
 use Rattle.std.specs.Cmp.Lexicographic.{slice_cmp, pointwise, same_text, texts_ties, nat_list_cmp_total, nat_list_eq_equiv}
@@ -8,7 +8,9 @@ use Rattle.hp_outside.specs.Folder.{Folder, file_of}
 use Rattle.hp_outside.specs.HeldFiles.{entries_of, folder_of, bytes_at, left_at, IsWithin}
 use Rattle.hp_outside.specs.declared.sure_store.HeldFile.{HeldFile}
 use Rattle.hp_outside.specs.declared.sure_store.Place.{Place}
-use Rattle.hp_outside.specs.SureStoreState.{SureStoreState}
+use Rattle.hp_outside.specs.SureStoreState.{SureStoreState, read_count, after_read}
+use Rattle.hp_outside.proofs.Known.{rest_of}
+use Rattle.std.proofs.lemmas.List.{drop-drop}
 
 -- the entries of one more file
 entries_of-push : (files : List HeldFile) (file : HeldFile) → entries_of (files ++ file ∷ []) ≡ entries_of files ++ (file.name.items, file.bytes.items) ∷ []
@@ -33,6 +35,13 @@ bytes_at-push (f ∷ files) file (suc number) h = bytes_at-push files file numbe
 pub left_at-push : (files : List HeldFile) (file : HeldFile) (place : Option Place) → ForSome place (IsWithin files) → left_at (files ++ file ∷ []) place ≡ left_at files place
 left_at-push files file None within = refl
 left_at-push files file (Some here) within = ap Some (ap (drop here.at) (bytes_at-push files file here.file (within here refl).0))
+
+-- and the place within it
+pub within-pushed : (files new : List HeldFile) (file : HeldFile) (place : Option Place) → new ≡ files ++ file ∷ [] → ForSome place (IsWithin files) → ForSome place (IsWithin new)
+within-pushed files new file place is within here at =
+    let held = within here at in
+    let bytes : bytes_at new here.file ≡ bytes_at files here.file = ap (λ fs. bytes_at fs here.file) is ∙ bytes_at-push files file here.file held.0 in
+    (omega (arith, ap length is, length-append files (file ∷ []), held.0), omega (arith, ap length bytes, held.1))
 
 -- the folder with one more file, by its name and bytes
 pub folder_of-pushed : (files new : List HeldFile) (file : HeldFile) (name bytes : List ℕ) → new ≡ files ++ file ∷ [] → file.name.items ≡ name → file.bytes.items ≡ bytes
@@ -105,3 +114,34 @@ file_of-insert_other folder name bytes other apart =
 -- the empty folder holds no file
 pub file_of-empty : (folder : Folder) (name : List ℕ) → folder ≡ empty → file_of folder name ≡ None
 file_of-empty folder name is = ap (λ f. file_of f name) is ∙ get-empty (slice_cmp nat_cmp) name
+
+-- how many bytes a read gives
+pub read_count-here : (files : List HeldFile) (place : Option Place) (here : Place) (piece opens room first count : ℕ) (bytes : List ℕ) → place ≡ Some here → bytes ≡ bytes_at files here.file
+    → first ≡ min piece room → count ≡ min first (length (take (length bytes - here.at) (drop here.at bytes)))
+    → count ≡ read_count (record { folder = folder_of files; piece = piece; opens = opens; left = left_at files place }) room
+read_count-here files place here piece opens room first count bytes is held first_is count_is =
+    let rest : length (unwrap_or (left_at files place) []) ≡ length (take (length bytes - here.at) (drop here.at bytes)) =
+    ap (λ l. length (unwrap_or l [])) (left_at-here files place here is) ∙ ap (λ b. length (drop here.at b)) (sym held) ∙ ap length (sym (rest_of bytes here.at)) in
+    omega (arith, first_is, count_is, rest)
+
+-- and the store behind it
+pub after_read-here : (files : List HeldFile) (place : Option Place) (here : Place) (piece opens room count : ℕ) → place ≡ Some here
+    → count ≡ read_count (record { folder = folder_of files; piece = piece; opens = opens; left = left_at files place }) room
+    → ◌≡◌ {A = SureStoreState} (record { folder = folder_of files; piece = piece; opens = opens; left = left_at files (Some (record { file = here.file; at = here.at + count })) })
+    (after_read (record { folder = folder_of files; piece = piece; opens = opens; left = left_at files place }) room)
+after_read-here files place here piece opens room count is count_is =
+    let bytes = bytes_at files here.file in
+    let left : Some (drop (here.at + count) bytes) ≡ option_map (drop count) (left_at files place) =
+    ap Some (sym (drop-drop count here.at bytes)) ∙ ap (option_map (drop count)) (sym (left_at-here files place here is)) in
+    (λ i. record { folder = folder_of files; piece = piece; opens = opens; left = left i })
+    ∙ ap (λ n. record { folder = folder_of files; piece = piece; opens = opens; left = option_map (drop n) (left_at files place) }) count_is
+
+-- a place that a read moved within a file
+pub within-moved : (files : List HeldFile) (here : Place) (count : ℕ) → here.file < length files → here.at + count ≤ length (bytes_at files here.file)
+    → ForSome (Some (record { file = here.file; at = here.at + count })) (IsWithin files)
+within-moved files here count held within place is = subst (IsWithin files) (ap (λ (o : Option Place). unwrap_or o here) is) (held, within)
+
+-- a read that may give bytes and gives none is at the end
+pub nothing_left : (rest value : List ℕ) (left : Option (List ℕ)) (first count : ℕ) → left ≡ Some rest → 0 < first → count ≡ min first (length rest) → count ≡ 0 → left ≡ Some value → value ≡ []
+nothing_left [] value left first count is more count_is none told = cc
+nothing_left (byte ∷ rest) value left first count is more count_is none told = absurd (omega arith)

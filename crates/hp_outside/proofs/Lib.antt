@@ -3,4 +3,5 @@ mod HeldFilesLemmas
 mod WindowLemmas
 pub mod Laws
 mod LineLemmas
+mod ReaderLemmas
 mod WholeLinesLemmas

@@ -1,9 +1,10 @@
 -- Where the first line feed stands, and what that says of the next line of a file.
 use Rattle.std.proofs.Common.{◌≡◌, ◌≢◌, ◌+◌, ◌-◌, ◌<◌, ◌≤◌, ℕ, zero, suc, Bool, true, false, cond, not, List, [], ◌∷◌, ◌++◌, Option, None, Some, length, take, drop, zero-add, refl, ap, sym, subst, ◌∙◌, arith, length-append, length-drop, add-one, append-nil, drop_of_length-le, IsSome, IfSome, ◌↔◌, lt-ltb, le-ltb}
+use Rattle.std.proofs.lemmas.Bool.{false≢true}
 use Rattle.std.proofs.Math.Seq.{take-length}
 use Rattle.std.proofs.lemmas.List.{take-append-drop, take-append-le, drop-append-le}
 use Rattle.std.proofs.lemmas.List.Folds.{length-prefix_len}
-use Rattle.std.specs.Prelude.{Ok}
+use Rattle.std.specs.Prelude.{Ok, Err, Result}
 use Rattle.std.specs.List.{prefix_len, position_or_len}
 use Rattle.std.specs.Io.KnownBytes.{prepend_known}
 use Rattle.hp_outside.specs.Lines.{is_line_feed, put_first, lines_of, first_line, after_line}
@@ -11,7 +12,9 @@ use Rattle.hp_outside.specs.Judgement.{IsJudgement}
 use Rattle.hp_outside.specs.NextLine.{has_line_feed, IsLineTooLong, IsInputTooLong, NextAnswer, GivesLine}
 use Rattle.hp_outside.specs.declared.span.Span.{Span}
 use Rattle.hp_outside.specs.declared.line_end.Judgement.{Judgement}
-use Rattle.hp_outside.specs.declared.line_end.Judgement.TheVariants.{Line, LineTooLong, InputTooLong}
+use Rattle.hp_outside.specs.declared.line_end.Judgement.TheVariants.{Line, TooLong, Open}
+use Rattle.hp_outside.specs.declared.span.LineFault.{LineFault}
+use Rattle.hp_outside.specs.declared.span.LineFault.TheVariants.{ReadFailed, LineTooLong, InputTooLong}
 
 -- a front that passes is left out
 pub prefix_len-drop : (test : ℕ → Bool) (bytes : List ℕ) (count : ℕ) → count ≤ prefix_len test bytes → count + prefix_len test (drop count bytes) ≡ prefix_len test bytes
@@ -120,7 +123,7 @@ last_has_none kept left rest none is end =
     le-ltb (length (first_line rest)) (length rest) (omega (arith, length-first_line rest, ap (position_or_len is_line_feed) whole, none, ap length whole))
 
 -- a line that is judged too long is too long
-pub line_too_long : (input limit passed : ℕ) (kept left rest : List ℕ) → IsJudgement limit (input - passed) kept LineTooLong → rest ≡ kept ++ left → IsLineTooLong input limit passed rest
+line_too_long : (input limit passed : ℕ) (kept left rest : List ℕ) → IsJudgement limit (input - passed) kept (TooLong LineTooLong) → rest ≡ kept ++ left → IsLineTooLong input limit passed rest
 line_too_long input limit passed kept left rest judged is =
     let more : position_or_len is_line_feed kept ≤ position_or_len is_line_feed (kept ++ left) = prefix_len-append (λ x. not (is_line_feed x)) kept left in (
       omega (arith, judged.0, more, length-first_line rest, ap (position_or_len is_line_feed) is),
@@ -128,7 +131,7 @@ line_too_long input limit passed kept left rest judged is =
     )
 
 -- a file that is judged too long is too long
-pub input_too_long : (input limit passed : ℕ) (kept left rest : List ℕ) → IsJudgement limit (input - passed) kept InputTooLong → passed ≤ input → rest ≡ kept ++ left → IsInputTooLong input limit passed rest
+input_too_long : (input limit passed : ℕ) (kept left rest : List ℕ) → IsJudgement limit (input - passed) kept (TooLong InputTooLong) → passed ≤ input → rest ≡ kept ++ left → IsInputTooLong input limit passed rest
 input_too_long input limit passed kept left rest judged within is =
     let more : position_or_len is_line_feed kept ≤ position_or_len is_line_feed (kept ++ left) = prefix_len-append (λ x. not (is_line_feed x)) kept left in
     let place = length-first_line rest in
@@ -138,6 +141,20 @@ input_too_long input limit passed kept left rest judged within is =
       omega (arith, judged.1, more, place, same),
       λ too_long. omega (arith, judged.1, judged.2 (omega (arith, too_long.1)), too_long.1),
     )
+
+-- what is judged too long is the answer
+pub too_long_answer : (input limit passed : ℕ) (kept left rest : List ℕ) (fault : LineFault) → IsJudgement limit (input - passed) kept (TooLong fault) → passed ≤ input → rest ≡ kept ++ left
+    → NextAnswer input limit passed rest (Err fault)
+too_long_answer input limit passed kept left rest ReadFailed judged within is = tt
+too_long_answer input limit passed kept left rest LineTooLong judged within is = line_too_long input limit passed kept left rest judged is
+too_long_answer input limit passed kept left rest InputTooLong judged within is = input_too_long input limit passed kept left rest judged within is
+
+-- and no failed read
+pub too_long_read : (limit room : ℕ) (kept : List ℕ) (fault given : LineFault) → IsJudgement limit room kept (TooLong fault) → given ≡ fault
+    → ¬ (◌≡◌ {A = Result (Option Span) LineFault} (Err given) (Err ReadFailed))
+too_long_read limit room kept ReadFailed given judged is failed = judged
+too_long_read limit room kept LineTooLong given judged is failed = cc
+too_long_read limit room kept InputTooLong given judged is failed = cc
 
 -- a judgement at other names of the same numbers and bytes
 pub judged_at : (limit limit' room room' : ℕ) (kept kept' : List ℕ) (judgement : Judgement) → limit ≡ limit' → room ≡ room' → kept ≡ kept' → IsJudgement limit room kept judgement
@@ -169,3 +186,21 @@ pub last_given : (passed new_passed : ℕ) (kept left rest line new_kept : List 
 last_given passed new_passed kept left rest line new_kept place store_left told none is end some line_is kept_is passed_is =
     subst (λ (o : Option (List ℕ)). GivesLine passed rest new_passed (prepend_known new_kept o) line (Ok place)) (sym told)
     (last_told passed new_passed kept left rest line new_kept place none is end some line_is kept_is passed_is)
+
+-- and it, or that there is none, is the answer
+pub last_answer : (input limit passed : ℕ) (kept left rest : List ℕ) (place : Option Span) → IsJudgement limit (input - passed) kept Open → passed ≤ input → rest ≡ kept ++ left → left ≡ []
+    → IsSome place ↔ (0 < length kept) → NextAnswer input limit passed rest (Ok place)
+last_answer input limit passed [] left rest None judged within is end some = is ∙ end
+last_answer input limit passed (byte ∷ kept) left rest None judged within is end some = absurd (false≢true (some.1 (omega arith)))
+last_answer input limit passed kept left rest (Some span) judged within is end some =
+    let whole : rest ≡ kept = is ∙ ap (λ l. kept ++ l) end ∙ append-nil kept in
+    let first = length-first_line rest ∙ ap (position_or_len is_line_feed) whole ∙ judged.0 in (
+      λ none. omega (arith, some.0 refl, ap length whole, ap length none),
+      λ too_long. omega (arith, too_long.0, first, judged.1),
+      λ too_long. omega (arith, too_long.0, ap length whole, judged.2, within),
+    )
+
+-- it is no longer than the bytes that were judged
+pub last_short : (place : Option Span) (line kept : List ℕ) (limit new : ℕ) → IfSome place (λ span. line ≡ kept) → length kept ≤ limit → new ≡ limit → IfSome place (λ span. length line ≤ new)
+last_short None line kept limit new is within same = tt
+last_short (Some span) line kept limit new is within same = omega (arith, ap length is)

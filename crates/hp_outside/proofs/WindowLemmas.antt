@@ -1,10 +1,14 @@
 -- Parts of a buffer.
-use Rattle.std.proofs.Common.{◌≡◌, ◌+◌, ◌-◌, ◌≤◌, ℕ, List, ◌++◌, Option, length, take, drop, ap, sym, ◌∙◌, arith}
+use Rattle.std.proofs.Common.{◌≡◌, ◌+◌, ◌-◌, ◌≤◌, ℕ, List, ◌++◌, Option, length, length-take, length-drop, take, drop, ap, sym, ◌∙◌, arith}
 use Rattle.std.proofs.Math.Seq.{take-add, take-append_seam}
 use Rattle.std.specs.Io.KnownBytes.{prepend_known}
 use Rattle.hp_outside.proofs.Known.{prepend_known-append}
 use Rattle.std.proofs.lemmas.List.{drop-take, drop-drop}
 use Rattle.hp_outside.specs.WindowState.{part_of}
+
+-- how long a part of a buffer is
+pub length-part_of : (bytes : List ℕ) (start end : ℕ) → end ≤ length bytes → length (part_of bytes start end) ≡ end - start
+length-part_of bytes start end within = omega (arith, length-take (end - start) (drop start bytes), length-drop start bytes)
 
 -- without its front a part begins later
 pub part_of-drop : (bytes : List ℕ) (start end count : ℕ) → count ≤ end - start → part_of bytes (start + count) end ≡ drop count (part_of bytes start end)

@@ -4,16 +4,15 @@ ghost use Rattle.std.specs.List.{position_or_len};
 ghost use Rattle.hp_outside.specs.Lines.{is_line_feed};
 ghost use Rattle.hp_outside.specs.Judgement.{IsJudgement};
 
+use crate::span::LineFault;
 use memchr::memchr;
 
 /// What is known of the next line.
 pub(crate) enum Judgement {
     /// A line of so many bytes and its line feed stand within the limits.
     Line(usize),
-    /// The line is too long.
-    LineTooLong,
-    /// The file is too long.
-    InputTooLong,
+    /// The line is too long, or the file.
+    TooLong(LineFault),
     /// There is no line feed, and no more bytes than a line and the file may have.
     Open,
 }
@@ -27,13 +26,13 @@ pub(crate) fn judge(kept: &[u8], scanned: usize, line: usize, room: usize) -> Ju
 {
     let end = line_len(kept, scanned);
     if end > line && line < room {
-        return Judgement::LineTooLong;
+        return Judgement::TooLong(LineFault::LineTooLong);
     }
     if end < kept.len() && end < room {
         return Judgement::Line(end);
     }
     if kept.len() > room {
-        return Judgement::InputTooLong;
+        return Judgement::TooLong(LineFault::InputTooLong);
     }
     Judgement::Open
 }

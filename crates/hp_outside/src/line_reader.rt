@@ -211,15 +211,18 @@ impl LineReader {
             let room = (self.limits.input - self.passed) as usize;
             match judge(self.window.kept(), scanned, self.limits.line as usize, room) {
                 Judgement::Line(count) => return Ok(Some(self.give(count, 1))),
-                Judgement::LineTooLong => return Err(self.refuse(LineFault::LineTooLong)),
-                Judgement::InputTooLong => return Err(self.refuse(LineFault::InputTooLong)),
+                Judgement::TooLong(fault) => return Err(self.refuse(fault)),
                 Judgement::Open => {}
             }
             scanned = self.window.kept().len();
             if self.ended {
                 return Ok(self.give_last(scanned));
             }
-            self.take_more(store)?;
+            // By cases, and not by `?`: what is proved of the exit speaks of this fault.
+            match self.take_more(store) {
+                Ok(()) => {}
+                Err(fault) => return Err(fault),
+            }
         }
     }
 

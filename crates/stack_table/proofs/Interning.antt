@@ -1,5 +1,5 @@
 -- Lemmas on a stack that is interned from its outermost instruction pointer on.
-use Rattle.std.proofs.Common.{◌≡◌, ℕ, ◌+◌, ◌≤◌, List, [], ◌∷◌, ◌++◌, length, None, Some, Option, refl, ap, ◌∙◌, arith, length-append}
+use Rattle.std.proofs.Common.{◌≡◌, ℕ, ◌+◌, ◌≤◌, List, [], ◌∷◌, ◌++◌, length, None, Some, Option, refl, sym, ap, subst, ◌∙◌, arith, length-append}
 use Rattle.std.specs.Option.{option_or}
 use Rattle.stack_table.specs.declared.fault.NodeFault.{NodeFault}
 use Rattle.stack_table.specs.AreNodes.{AreNodes}
@@ -20,6 +20,11 @@ pub record IsInterned (old : List Node) (outer : List ℕ) (new : List Node) (nu
   pub continues : Continues old new
   pub few_more : length new ≤ length old + length outer
   pub nodes : AreNodes new
+
+-- all of a stack, where nothing is left of it
+pub interned-all : (old : List Node) (ips rest outer : List ℕ) (new : List Node) (number : ℕ) → ips ≡ rest ++ outer → length rest ≡ 0 → IsInterned old outer new number → IsInterned old ips new number
+interned-all old ips [] outer new number is none found = subst (λ (ips : List ℕ). IsInterned old ips new number) (sym is) found
+interned-all old ips (ip ∷ rest) outer new number is none found = absurd (omega arith)
 
 -- nothing of it, at first
 pub interned-none : (nodes : List Node) → AreNodes nodes → IsInterned nodes [] nodes 0

@@ -4,17 +4,16 @@ use Rattle.std.specs.Io.KnownBytes.{prepend_known}
 use Rattle.hp_outside.specs.Lines.{is_line_feed}
 use Rattle.hp_outside.specs.Taken.{WhereTold}
 use Rattle.hp_outside.specs.NextLine.{IsUndecided}
+use Rattle.hp_outside.proofs.ReaderLemmas.{StandsAt}
 use Rattle.hp_outside.proofs.line_reader.LineReader.next.Given as goal
 
 abbrev pub invariant-reads : goal.invariant-reads
 invariant-reads g l = record {
+  fresh : l.initial.self.fault ≡ None;
+  within : l.initial.self.passed ≤ l.initial.self.input;
+  bounded : l.initial.self.given ≤ l.initial.self.input + 1;
   fault : l.self.fault ≡ None;
-  input : l.self.input ≡ l.initial.self.input;
-  line_limit : l.self.line_limit ≡ l.initial.self.line_limit;
-  passed : l.self.passed ≡ l.initial.self.passed;
-  number : l.self.number ≡ l.initial.self.number;
-  given : l.self.given ≡ l.initial.self.given;
-  line_ended : l.self.line_ended ≡ l.initial.self.line_ended;
+  same : StandsAt l.initial.self l.self;
   rest : prepend_known l.initial.self.kept (g.S.Store.left l.initial.store) ≡ prepend_known l.self.kept (g.S.Store.left l.store);
   scanned : l.scanned ≤ length l.self.kept;
   known : l.scanned ≤ position_or_len is_line_feed l.self.kept;

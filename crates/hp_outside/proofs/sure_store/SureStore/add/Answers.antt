@@ -2,7 +2,7 @@ use Rattle.std.proofs.Common.{◌≡◌, ◌∙◌, ap}
 use Rattle.std.specs.FinMap.{insert}
 use Rattle.hp_outside.specs.Folder.{file_of}
 use Rattle.hp_outside.specs.HeldFiles.{folder_of}
-use Rattle.hp_outside.proofs.HeldFilesLemmas.{folder_of-pushed, state-push, file_of-insert, file_of-insert_other}
+use Rattle.hp_outside.proofs.HeldFilesLemmas.{within-pushed, folder_of-pushed, state-push, file_of-insert, file_of-insert_other}
 use Rattle.hp_outside.proofs.sure_store.SureStore.add.Goals as goal
 
 -- the folder with the file that was added
@@ -19,3 +19,6 @@ returns-clause-held c = ap (λ folder. file_of folder c.args.name.now) (added c)
 
 pub returns-clause-others : goal.returns-clause-others
 returns-clause-others c = rw (← c.self.view_is) (λ other apart. ap (λ folder. file_of folder other) (added c) ∙ file_of-insert_other _ _ _ other apart)
+
+pub invariant_of-self-2 : goal.invariant_of-self-2
+invariant_of-self-2 c = (c.self.invariant.0, within-pushed _ _ _ _ c.in_ok-push.ensures.items c.self.invariant.1)

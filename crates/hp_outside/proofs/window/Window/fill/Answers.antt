@@ -3,7 +3,7 @@ use Rattle.std.specs.Io.KnownBytes.{prepend_known}
 use Rattle.std.proofs.Math.Seq.{take-length}
 use Rattle.std.proofs.lemmas.Result.{err_from_is_err_and}
 use Rattle.hp_outside.specs.WindowState.{part_of}
-use Rattle.hp_outside.proofs.WindowLemmas.{part_of-front, part_of-further, rest_of_read, front_of_grown}
+use Rattle.hp_outside.proofs.WindowLemmas.{length-part_of, part_of-front, part_of-further, rest_of_read, front_of_grown}
 use Rattle.hp_outside.proofs.window.Window.fill.Goals as goal
 
 -- a read that failed leaves what is kept
@@ -40,3 +40,10 @@ returns-clause-front g c =
     part_of-further _ _ c.make_room-self-inside.result _ c.in_ok-count.count (omega arith) c.read_part.ensures.front
     ∙ ap (λ l. l ++ part_of c.read_part.new.buffer.items (c.make_room-self-inside.result + (c.self.inside.end - c.self.inside.start)) (c.make_room-self-inside.result + (c.self.inside.end - c.self.inside.start) + c.in_ok-count.count)) (c.make_room-self-inside.ensures.kept ∙ ap (λ w. w.kept) c.self.view_is) in
     front_of_grown _ _ _ more
+
+pub returns-clause-count : goal.returns-clause-count
+returns-clause-count g c =
+    let inside = c.self.inside in
+    let old : length c.args.self.now.kept ≡ inside.end - inside.start = ap (λ w. length w.kept) (sym c.self.view_is) ∙ length-part_of inside.buffer.items inside.start inside.end (omega arith) in
+    let new = length-part_of c.read_part.new.buffer.items c.make_room-self-inside.result (c.make_room-self-inside.result + (inside.end - inside.start) + c.in_ok-count.count) (omega (arith, c.in_ok-count.ensures.count, c.read_part.ensures.len)) in
+    (omega (arith, c.in_ok-count.ensures.count), omega (arith, old, new))

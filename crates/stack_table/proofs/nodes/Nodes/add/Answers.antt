@@ -1,7 +1,7 @@
-use Rattle.std.proofs.Common.{ℕ, ◌+◌, List, [], ◌∷◌, ◌++◌, length, length-append, refl, ap, arith}
+use Rattle.std.proofs.Common.{◌≡◌, ◌∙◌, ℕ, ◌+◌, List, [], ◌∷◌, ◌++◌, length, length-append, refl, ap, arith}
 use Rattle.stack_table.specs.Entries.{IsTable, node_of, nodes_of}
 use Rattle.stack_table.specs.Node.{Node}
-use Rattle.stack_table.proofs.Continuing.{Continues-push}
+use Rattle.stack_table.proofs.Continuing.{Continues-push, Continues-refl}
 use Rattle.stack_table.proofs.IndexLemmas.{indexed-shared}
 use Rattle.stack_table.proofs.Stacks.{node_at-older, stack-older, stack-newest, frame_count-older, frame_count-newest}
 use Rattle.stack_table.proofs.EntryLemmas.{AreNodes-table, length-nodes_of, nodes_of-push, IsTable-push}
@@ -30,22 +30,39 @@ invariant_of-self-2 c =
           ),
     )
 
+-- and its nodes are the old ones and the new one
+added : (c : goal.In_ok-push) → nodes_of c.push.new.self.items ≡ c.args.self.now ++ record { ip = c.args.ip; parent = c.args.parent; frames = c.args.frames } ∷ []
+added c = rw (c.in_ok-push.ensures.items, nodes_of-push, c.self.view_is) refl
+
+pub returns-clause-added : goal.returns-clause-added
+returns-clause-added c = added c
+
+pub returns-clause-count : goal.returns-clause-count
+returns-clause-count c = ap (λ (nodes : List Node). length nodes) (added c) ∙ length-append c.args.self.now _
+
 pub returns-clause-nodes : goal.returns-clause-nodes
 returns-clause-nodes c = AreNodes-table c.push.new.self.items (nodes_of c.push.new.self.items) refl (grown c)
 
 pub returns-clause-new_stack : goal.returns-clause-new_stack
-returns-clause-new_stack c =
-    rw (c.in_ok-push.ensures.items, nodes_of-push, c.self.view_is) (stack-newest c.args.self.now _ (length c.args.self.now + 1) refl)
+returns-clause-new_stack c = rw (added c) (stack-newest c.args.self.now _ (length c.args.self.now + 1) refl)
 
 pub returns-clause-new_frames : goal.returns-clause-new_frames
-returns-clause-new_frames c =
-    rw (c.in_ok-push.ensures.items, nodes_of-push, c.self.view_is) (frame_count-newest c.args.self.now _ (length c.args.self.now + 1) refl)
+returns-clause-new_frames c = rw (added c) (frame_count-newest c.args.self.now _ (length c.args.self.now + 1) refl)
 
 pub returns-clause-stacks_stay : goal.returns-clause-stacks_stay
-returns-clause-stacks_stay c = λ n held. rw (c.in_ok-push.ensures.items, nodes_of-push, c.self.view_is) (stack-older c.args.self.now _ n held)
+returns-clause-stacks_stay c = λ n held. rw (added c) (stack-older c.args.self.now _ n held)
 
 pub returns-clause-frames_stay : goal.returns-clause-frames_stay
-returns-clause-frames_stay c = λ n held. rw (c.in_ok-push.ensures.items, nodes_of-push, c.self.view_is) (frame_count-older c.args.self.now _ n held)
+returns-clause-frames_stay c = λ n held. rw (added c) (frame_count-older c.args.self.now _ n held)
 
 pub returns-clause-continues : goal.returns-clause-continues
-returns-clause-continues c = rw (c.in_ok-push.ensures.items, nodes_of-push, c.self.view_is) (Continues-push c.args.self.now _)
+returns-clause-continues c = rw (added c) (Continues-push c.args.self.now _)
+
+pub returns-then-parent-from-clause-continues : goal.returns-then-parent-from-clause-continues
+returns-then-parent-from-clause-continues c = Continues-refl c.args.self.now
+
+pub returns-then-frames-outer-clause-continues : goal.returns-then-frames-outer-clause-continues
+returns-then-frames-outer-clause-continues c = Continues-refl c.args.self.now
+
+pub returns-then-count-clause-continues : goal.returns-then-count-clause-continues
+returns-then-count-clause-continues c = Continues-refl c.args.self.now

@@ -6,7 +6,7 @@ use Rattle.stack_table.specs.Node.{Node}
 use Rattle.stack_table.specs.NodeNumber.{node_number}
 use Rattle.stack_table.specs.Stack.{stack}
 use Rattle.stack_table.proofs.Continuing.{Continues-refl, take-continued}
-use Rattle.stack_table.proofs.Interning.{called, fault-more, interned-more, not_held}
+use Rattle.stack_table.proofs.Interning.{IsInterned, called, fault-more, interned-all, interned-more, not_held}
 use Rattle.stack_table.proofs.nodes.Nodes.intern_stack.Goals as goal
 
 -- a list that is parted before its last element, and then more
@@ -55,9 +55,33 @@ returns-in-Err-clause-held c = λ same.
     (subst (λ (ips : List ℕ). (stack_interned c.args.self.now ips).nodes ≡ c.args.self.now) whole same)
     )
 
-pub returns-in-Err-clause-continues : goal.returns-in-Err-clause-continues
-returns-in-Err-clause-continues c =
+-- what the nodes were is left where one can't be had
+left : (c : goal.After-cut) → c.cut.new.self ≡ c.args.self.now
+left c =
     let before = c.loop-ip.invariant in
     let P : List Node → Type 0 = λ new. Continues c.args.self.now new in
-    let same = c.cut.ensures.nodes_left ∙ take-continued c.args.self.now c.intern.new.self c.len-len.result (subst P (sym c.in-Err.ensures.unchanged) before.2.continues) before.3 in
-    subst P (sym same) (Continues-refl c.args.self.now)
+    c.cut.ensures.nodes_left ∙ take-continued c.args.self.now c.intern.new.self c.len-len.result (subst P (sym c.in-Err.ensures.unchanged) before.2.continues) before.3
+
+pub returns-in-Err-clause-unchanged : goal.returns-in-Err-clause-unchanged
+returns-in-Err-clause-unchanged c = left c
+
+pub returns-in-Err-clause-continues : goal.returns-in-Err-clause-continues
+returns-in-Err-clause-continues c = subst (λ new. Continues c.args.self.now new) (sym (left c)) (Continues-refl c.args.self.now)
+
+-- all of the stack is interned where none of it is left
+all : (c : goal.In-None) → IsInterned c.args.self.now c.args.ips.now c.loop-ip.self c.loop-ip.number
+all c =
+    let before = c.loop-ip.invariant in
+    interned-all c.args.self.now c.args.ips.now c.loop-ip.ip-iterator.iter.rest.now before.0 c.loop-ip.self c.loop-ip.number before.1 c.in-None.ensures.steps.0 before.2
+
+pub returns-clause-interned : goal.returns-clause-interned
+returns-clause-interned c = let found = all c in found.interned
+
+pub returns-clause-stack : goal.returns-clause-stack
+returns-clause-stack c = let found = all c in found.stack_is
+
+pub returns-clause-no_fault : goal.returns-clause-no_fault
+returns-clause-no_fault c = let found = all c in found.no_fault
+
+pub returns-clause-few_more : goal.returns-clause-few_more
+returns-clause-few_more c = let found = all c in found.few_more
