@@ -1,16 +1,5 @@
--- Lemmas on appends in a row, which may fail halfway.
+-- Lemmas on appends in a row.
 use Rattle.std.proofs.Common.{◌≡◌, ℕ, List, ◌++◌, ap, ◌∙◌, append_assoc}
-use Rattle.hp_num.specs.Extends.{Extends}
-use Rattle.hp_num.proofs.Laws as extend
-
-pub extends_same : (old new : List ℕ) → new ≡ old → Extends old new
-extends_same = extend.extends_same
-
-pub extends_more : (old new more : List ℕ) → new ≡ old ++ more → Extends old new
-extends_more = extend.extends_more
-
-pub extends_trans : (old middle new : List ℕ) → Extends old middle → Extends middle new → Extends old new
-extends_trans = extend.extends_trans
 
 -- so many texts, one after the other
 pub two-appended : {X : Type 0} (o a b p q : List X) → a ≡ o ++ p → b ≡ a ++ q → b ≡ o ++ (p ++ q)

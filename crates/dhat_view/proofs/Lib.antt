@@ -1,9 +1,9 @@
-pub mod Appends
-pub mod Lists
+mod Appends
+mod Lists
 mod Numbering
-pub mod Costs
-pub mod Faults
-pub mod LastTexts
-pub mod Viewed
-pub mod TreeTexts
+mod Costs
+mod Faults
+mod LastTexts
+mod Viewed
+mod TreeTexts
 pub mod Laws

@@ -1,5 +1,5 @@
 //! The lines of a view, one at a time. Which of them stand, and in which order, is the tree's part.
-#![tactic(auto, using(crate::proofs::Appends::extends_same, crate::proofs::Appends::extends_more, crate::proofs::Appends::extends_trans))]
+#![tactic(auto, using(hp_num::proofs::Laws::extends_same, hp_num::proofs::Laws::extends_more, hp_num::proofs::Laws::extends_trans))]
 
 ghost use Rattle.std.specs.Prelude.{◌≡◌, ◌≤◌, ◌<◌, ◌^◌, ◌++◌, OnOk};
 ghost use Rattle.hp_num.specs.Extends.{Extends};

@@ -1,6 +1,6 @@
 //! The lines of a view's tree.
 //! Which places have lines of their own, and in which order, is `cost_tree`'s part.
-#![tactic(auto, using(crate::proofs::Appends::extends_same, crate::proofs::Appends::extends_more, crate::proofs::Appends::extends_trans))]
+#![tactic(auto, using(hp_num::proofs::Laws::extends_same, hp_num::proofs::Laws::extends_more, hp_num::proofs::Laws::extends_trans))]
 
 ghost use Rattle.std.specs.Prelude.{◌≡◌, ◌-◌, ◌≤◌, ◌^◌, ◌++◌, [], List, All, OnOk};
 ghost use Rattle.std.specs.List.{flat_map};

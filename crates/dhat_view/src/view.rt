@@ -1,5 +1,5 @@
 //! The view of a profile: its head, and the tree of its points' costs.
-#![tactic(auto, using(crate::proofs::Appends::extends_same, crate::proofs::Appends::extends_more, crate::proofs::Appends::extends_trans))]
+#![tactic(auto, using(hp_num::proofs::Laws::extends_same, hp_num::proofs::Laws::extends_more, hp_num::proofs::Laws::extends_trans))]
 
 ghost use Rattle.std.specs.Prelude.{◌≡◌, ◌≢◌, ◌<◌, ◌≤◌, ◌^◌, ◌++◌, ℕ, List, length, sum, Some, None, Err, IfErr, IfOk, OnErr, OnOk};
 ghost use Rattle.cost_tree.specs.Costed.{costed};

@@ -1,4 +1,4 @@
--- Lemmas on the texts of flame stacks, and on appends that may fail halfway.
+-- Lemmas on the texts of flame stacks.
 use Rattle.std.proofs.Common.{◌≡◌, ℕ, ◌+◌, ◌<◌, eqb, false, List, [], ◌∷◌, ◌++◌, length, map, take, get_or, refl, sym, ap, ◌∙◌, arith, append_assoc, append-nil}
 use Rattle.std.specs.Prelude.{codes, decimal}
 use Rattle.std.proofs.lemmas.Bool.{cond-false, cond-true, eq-eqb}
@@ -6,17 +6,6 @@ use Rattle.std.specs.List.{flat_map}
 use Rattle.std.proofs.lemmas.List.{map_push, take_more}
 use Rattle.std.proofs.lemmas.Grind.{flat_map-append}
 use Rattle.ht_print.specs.FlameText.{flame_byte, flame_line, flame_name, flame_path, flame_rest}
-use Rattle.hp_num.specs.Extends.{Extends}
-use Rattle.hp_num.proofs.Laws as extend
-
-pub extends_same : (old new : List ℕ) → new ≡ old → Extends old new
-extends_same = extend.extends_same
-
-pub extends_more : (old new more : List ℕ) → new ≡ old ++ more → Extends old new
-extends_more = extend.extends_more
-
-pub extends_trans : (old middle new : List ℕ) → Extends old middle → Extends middle new → Extends old new
-extends_trans = extend.extends_trans
 
 -- no bytes
 pub flame_name-none : flame_name [] ≡ []

@@ -1,6 +1,6 @@
 //! The lines of a tree's nodes: those of a node stand before those of its children, whose order is the tree's.
 //! What the tree stands for is no part of it.
-#![tactic(auto, using(crate::proofs::FlameLemmas::extends_same, crate::proofs::FlameLemmas::extends_more, crate::proofs::FlameLemmas::extends_trans))]
+#![tactic(auto, using(hp_num::proofs::Laws::extends_same, hp_num::proofs::Laws::extends_more, hp_num::proofs::Laws::extends_trans))]
 
 ghost use Rattle.std.specs.Prelude.{◌≡◌, ◌<◌, List, [], ◌++◌, length, reverse, OnErr, OnOk, Some, slice_get};
 ghost use Rattle.cost_tree.specs.declared.node.CostNode.{CostNode};

@@ -1,6 +1,6 @@
 //! The text of a node's front, which goes from one node's to another's: what both fronts begin with stays as it is.
 //! What lines are made of it is no part of it.
-#![tactic(auto, using(crate::proofs::FlameLemmas::extends_same, crate::proofs::FlameLemmas::extends_more, crate::proofs::FlameLemmas::extends_trans))]
+#![tactic(auto, using(hp_num::proofs::Laws::extends_same, hp_num::proofs::Laws::extends_more, hp_num::proofs::Laws::extends_trans))]
 
 ghost use Rattle.std.specs.Prelude.{◌≡◌, ◌≢◌, ℕ, ◌<◌, ◌+◌, All, List, [], ◌++◌, length, map, IfOk, OnOk};
 ghost use Rattle.hp_num.specs.Extends.{Extends};

@@ -1,6 +1,6 @@
 //! Reports on a trace: up to four sections of its stacks by some figure, the histogram, and the summary.
 //! How a section is written is in `section`.
-#![tactic(auto, using(crate::proofs::FlameLemmas::extends_same, crate::proofs::FlameLemmas::extends_more, crate::proofs::FlameLemmas::extends_trans))]
+#![tactic(auto, using(hp_num::proofs::Laws::extends_same, hp_num::proofs::Laws::extends_more, hp_num::proofs::Laws::extends_trans))]
 
 ghost use Rattle.std.specs.Prelude.{◌≡◌, List, [], ◌++◌, codes, if◌then◌else◌, IfOk, OnErr, OnOk};
 ghost use Rattle.live_ledger.specs.declared.event.Event.{Event};

@@ -1,6 +1,6 @@
 //! The lines of a report's stacks and groups, each from its figure to its last frame, and how many are left.
 //! What the figures are, and in which order the entries stand, is no part of it.
-#![tactic(auto, using(crate::proofs::FlameLemmas::extends_same, crate::proofs::FlameLemmas::extends_more, crate::proofs::FlameLemmas::extends_trans))]
+#![tactic(auto, using(hp_num::proofs::Laws::extends_same, hp_num::proofs::Laws::extends_more, hp_num::proofs::Laws::extends_trans))]
 
 ghost use Rattle.std.specs.Prelude.{◌≡◌, ℕ, ◌++◌, ◌-◌, ◌<◌, All, length, map, take, OnOk};
 ghost use Rattle.stack_trees.specs.StackTexts.{stack_texts};

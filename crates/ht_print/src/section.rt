@@ -1,5 +1,5 @@
 //! The sections of a report: the stacks by one figure each, in groups or by themselves.
-#![tactic(auto, using(crate::proofs::FlameLemmas::extends_same, crate::proofs::FlameLemmas::extends_more, crate::proofs::FlameLemmas::extends_trans))]
+#![tactic(auto, using(hp_num::proofs::Laws::extends_same, hp_num::proofs::Laws::extends_more, hp_num::proofs::Laws::extends_trans))]
 
 ghost use Rattle.std.specs.Prelude.{◌≡◌, ℕ, ◌++◌, ◌-◌, ◌+◌, ◌^◌, ◌<◌, ◌≤◌, All, if◌then◌else◌, IfOk, OnOk, length, sum, sum_by};
 ghost use Rattle.hp_num.specs.Extends.{Extends};

@@ -7,5 +7,4 @@ pub mod Laws
 mod LineLemmas
 mod SoundLemmas
 mod StackLemmas
-mod TextLemmas
 mod VersionLemmas

@@ -1,5 +1,5 @@
 //! The texts of frames, from what the tables hold of them. Which frames a stack has is no part of it.
-#![tactic(auto, using(crate::proofs::TextLemmas::extends_same, crate::proofs::TextLemmas::extends_more, crate::proofs::TextLemmas::extends_trans))]
+#![tactic(auto, using(hp_num::proofs::Laws::extends_same, hp_num::proofs::Laws::extends_more, hp_num::proofs::Laws::extends_trans))]
 
 ghost use Rattle.std.specs.Prelude.{◌≡◌, ℕ, List, [], ◌++◌, length, OnOk, OnErr};
 ghost use Rattle.hp_num.specs.Extends.{Extends};

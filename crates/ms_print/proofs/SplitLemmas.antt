@@ -1,11 +1,10 @@
 -- Lemmas on the children of an entry, as they are shared out one by one.
-use Rattle.std.proofs.Common.{◌≡◌, ℕ, suc, ◌+◌, ◌-◌, ◌^◌, ◌<◌, ◌≤◌, min, Bool, true, false, cond, eqb, List, [], ◌∷◌, ◌++◌, length, Some, refl, sym, ap, ◌∙◌, subst, arith, append_assoc}
+use Rattle.std.proofs.Common.{◌≡◌, ℕ, suc, ◌+◌, ◌-◌, ◌^◌, ◌<◌, min, Bool, true, false, cond, eqb, List, [], ◌∷◌, ◌++◌, Some, refl, sym, ap, ◌∙◌, subst, arith, append_assoc}
 use Rattle.std.specs.Prelude.{slice_get}
-use Rattle.std.proofs.lemmas.List.{append-nil}
 use Rattle.massif_file.specs.TreeLine.{TreeLine}
 use Rattle.massif_file.specs.Trees.{Trees, no_tree, a_tree}
 use Rattle.ms_print.specs.declared.children.Gathered as gathered_places
-use Rattle.ms_print.specs.declared.children.Entry.TheVariants.{Line, Gathered}
+use Rattle.ms_print.specs.declared.children.Entry.TheVariants.{Gathered}
 use Rattle.ms_print.specs.declared.children.Pending.{Pending}
 use Rattle.ms_print.specs.declared.entry.Scale.{Scale}
 use Rattle.ms_print.specs.Ends.{IsEnd, children_at, trees_at}

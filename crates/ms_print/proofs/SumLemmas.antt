@@ -1,12 +1,11 @@
 -- Lemmas on the sums and times of snapshots.
-use Rattle.std.proofs.Common.{◌≡◌, ℕ, suc, ◌+◌, ◌-◌, ◌<◌, ◌≤◌, max, List, [], ◌∷◌, ◌++◌, length, take, Some, refl, sym, ap, ◌∙◌, subst, arith}
+use Rattle.std.proofs.Common.{◌≡◌, ℕ, suc, ◌+◌, ◌-◌, ◌≤◌, max, List, [], ◌∷◌, ◌++◌, length, take, Some, refl, ap, ◌∙◌, arith}
 use Rattle.std.specs.Prelude.{All, slice_get}
 use Rattle.std.proofs.lemmas.List.Elements.{All-nil, All-cons, All-weaker}
 use Rattle.massif_file.specs.declared.profile.Snap.{Snap}
 use Rattle.massif_file.specs.IsRight.{AreRight}
 use Rattle.massif_file.specs.IsWritable.{IsWritableSnap}
 use Rattle.massif_file.specs.LastTime.{last_time, time_of}
-use Rattle.ms_print.specs.declared.plot.Plot.{Plot}
 use Rattle.ms_print.specs.BarSteps.{IsPlotted}
 use Rattle.ms_print.specs.Plots.{plot_of}
 use Rattle.ms_print.specs.Rows.{HasTree}

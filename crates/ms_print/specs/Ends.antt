@@ -1,8 +1,8 @@
 -- Where the lines of trees begin and end, for private clauses.
-use Rattle.std.specs.Prelude.{◌≡◌, ℕ, suc, ◌+◌, ◌<◌, ◌≤◌, List, length, drop, Some, slice_get, slice_index}
+use Rattle.std.specs.Prelude.{◌≡◌, ℕ, ◌+◌, ◌<◌, ◌≤◌, List, length, drop, Some, slice_get, slice_index}
 use Rattle.massif_file.specs.TreeLine.{TreeLine}
 use Rattle.massif_file.specs.Trees.{Trees, no_tree, a_tree, count_of}
-use Rattle.ms_print.specs.TreesOf.{first_trees, later_trees, trees_of}
+use Rattle.ms_print.specs.TreesOf.{later_trees, trees_of}
 
 -- the trees that the lines from this place on say
 abbrev pub trees_at : List TreeLine → ℕ → Trees

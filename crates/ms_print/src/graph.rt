@@ -133,8 +133,7 @@ pub(crate) fn put_dashes(count: usize, out: &mut Vec<u8>) -> Result<(), NoMemory
     ensures appended { OnOk result (out.new.items ≡ out.old.items ++ replicate count 45) }
     ensures kept { Extends out.old.items out.new.items }
 {
-    'dashes: for _ in 0..count {
-        out.push(b'-')?;
-    }
+    out.reserve(count)?;
+    out.resize(out.len() + count, b'-')?;
     Ok(())
 }

@@ -1,6 +1,7 @@
 use Rattle.std.proofs.Common.{ℕ, List, ◌++◌, ap, ◌∙◌}
 use Rattle.std.proofs.lemmas.Result.{on_ok_weaker}
 use Rattle.cost_tree.specs.Costed.{Costed, costed}
+use Rattle.hp_num.proofs.Laws.{extends_trans}
 use Rattle.dhat_view.specs.PointCosts.{point_costs}
 use Rattle.dhat_view.specs.PointFronts.{point_fronts}
 use Rattle.dhat_view.specs.TreeText.{tree_text}
@@ -30,3 +31,7 @@ returns-clause-appended c =
     (λ added. two-appended c.args.out.now.items c.put_head.new.out.items c.put_tree.new.out.items (head_text key dhat c.args.total) _ c.in_ok-put_head.ensures.appended (added stacks is)
     ∙ ap (λ (t : ℕ). c.args.out.now.items ++ (head_text key dhat t ++ tree_text c.args.options.now.depth (record { total = t; threshold = c.args.options.now.threshold }) stacks)) c.requires.total)
     c.put_tree.ensures.appended
+
+pub returns-clause-kept : goal.returns-clause-kept
+returns-clause-kept c =
+    extends_trans _ _ _ c.put_head.ensures.kept c.put_tree.ensures.kept

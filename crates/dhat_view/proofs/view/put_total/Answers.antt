@@ -4,6 +4,7 @@ use Rattle.std.proofs.lemmas.Result.{on_ok_weaker}
 use Rattle.dhat_json.specs.declared.key.Key.{Key}
 use Rattle.dhat_json.specs.Figure.{figure_key}
 use Rattle.dhat_json.specs.KeyName.{key_name}
+use Rattle.hp_num.proofs.Laws.{extends_more, extends_put, extends_same, extends_trans}
 use Rattle.dhat_view.specs.ViewText.{total_text}
 use Rattle.dhat_view.proofs.Appends.{four-appended}
 use Rattle.dhat_view.proofs.view.put_total.Goals as goal
@@ -19,3 +20,15 @@ returns-clause-appended c =
     c.in_ok-put_dec.ensures.appended
     added)
     c.put_bytes-3.ensures.appended
+
+pub returns-in_err-put_bytes-2-clause-kept : goal.returns-in_err-put_bytes-2-clause-kept
+returns-in_err-put_bytes-2-clause-kept c =
+    extends_trans _ _ _ (extends_more _ _ _ c.in_ok-put_bytes.ensures.appended) (extends_same _ _ c.in_err-put_bytes-2.ensures.unchanged)
+
+pub returns-in_err-put_dec-clause-kept : goal.returns-in_err-put_dec-clause-kept
+returns-in_err-put_dec-clause-kept c =
+    extends_trans _ _ _ (extends_trans _ _ _ (extends_more _ _ _ c.in_ok-put_bytes.ensures.appended) (extends_more _ _ _ c.in_ok-put_bytes-2.ensures.appended)) (extends_same _ _ c.in_err-put_dec.ensures.unchanged)
+
+pub returns-clause-kept : goal.returns-clause-kept
+returns-clause-kept c =
+    extends_trans _ _ _ (extends_trans _ _ _ (extends_trans _ _ _ (extends_more _ _ _ c.in_ok-put_bytes.ensures.appended) (extends_more _ _ _ c.in_ok-put_bytes-2.ensures.appended)) (extends_more _ _ _ c.in_ok-put_dec.ensures.appended)) (extends_put c.put_bytes-3.result _ _ _ c.put_bytes-3.ensures.appended c.put_bytes-3.ensures.unchanged)

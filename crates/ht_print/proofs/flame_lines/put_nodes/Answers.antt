@@ -5,9 +5,9 @@ use Rattle.cost_tree.specs.declared.node.CostNode.{CostNode}
 use Rattle.cost_tree.specs.Children.{children_of}
 use Rattle.stack_table.specs.Stack.{most_frames}
 use Rattle.cost_tree.proofs.Laws.{children-next, children-none}
+use Rattle.hp_num.proofs.Laws.{extends_same, extends_trans}
 use Rattle.ht_print.specs.FlameText.{flame_line}
 use Rattle.ht_print.specs.FlameWalk.{flame_at, front_at}
-use Rattle.ht_print.proofs.FlameLemmas.{extends_same, extends_trans}
 use Rattle.ht_print.proofs.FlameTrees.{IsRooted-of}
 use Rattle.ht_print.proofs.FrontTexts.{text-of-root}
 use Rattle.ht_print.proofs.FlameWalks.{children-are, flame-step, left-held, left-smaller, left-step, size-step, size_at}

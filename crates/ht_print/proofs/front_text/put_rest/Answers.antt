@@ -1,8 +1,9 @@
 use Rattle.std.proofs.Common.{ℕ, ◌++◌, List, [], map, take, get_or, refl, ap, ◌∙◌, arith, append_assoc}
 use Rattle.std.specs.Prelude.{codes}
+use Rattle.hp_num.proofs.Laws.{extends_more, extends_same, extends_trans}
 use Rattle.ht_print.specs.FlameText.{flame_name, flame_rest}
 use Rattle.ht_print.specs.FlameWalk.{last_text}
-use Rattle.ht_print.proofs.FlameLemmas.{appended-more, appended-none, extends_more, extends_same, extends_trans, flame_rest-more, flame_rest-none}
+use Rattle.ht_print.proofs.FlameLemmas.{appended-more, appended-none, flame_rest-more, flame_rest-none}
 use Rattle.ht_print.proofs.front_text.put_rest.Goals as goal
 
 pub each_node-init : goal.each_node-init

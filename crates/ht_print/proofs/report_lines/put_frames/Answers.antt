@@ -3,8 +3,9 @@ use Rattle.std.specs.Prelude.{codes}
 use Rattle.ht_trace.specs.FrameText.{frame_text}
 use Rattle.ht_trace.specs.declared.frame.FrameAt.{FrameAt}
 use Rattle.ht_trace.specs.declared.frame.Style.TheVariants.{Plain}
+use Rattle.hp_num.proofs.Laws.{extends_more, extends_same, extends_trans}
 use Rattle.ht_print.specs.ReportLines.{frame_lines}
-use Rattle.ht_print.proofs.FlameLemmas.{appended-more, appended-none, extends_more, extends_same, extends_trans}
+use Rattle.ht_print.proofs.FlameLemmas.{appended-more, appended-none}
 use Rattle.ht_print.proofs.ReportLemmas.{frame_lines-more, frame_lines-none, three-appended}
 use Rattle.ht_print.proofs.report_lines.put_frames.Goals as goal
 

@@ -3,7 +3,7 @@ use Rattle.std.specs.Prelude.{All, codes}
 use Rattle.std.proofs.lemmas.List.Elements.{All-tail}
 use Rattle.ht_trace.specs.declared.frame.FrameAt.{FrameAt}
 use Rattle.ht_trace.specs.IsFrame.{IsFrame}
-use Rattle.ht_print.proofs.FlameLemmas.{extends_more, extends_trans}
+use Rattle.hp_num.proofs.Laws.{extends_more, extends_trans}
 use Rattle.ht_print.proofs.report_lines.put_member.Goals as goal
 
 pub put_frames-requires : goal.put_frames-requires
@@ -19,3 +19,11 @@ returns-clause-kept c =
     (extends_trans old c.put.new.out.items c.put_in_stack.new.out.items
     (extends_trans old c.put_bytes.new.out.items c.put.new.out.items (extends_more old c.put_bytes.new.out.items (codes "  ") c.in_ok-put_bytes.ensures.appended) c.put.ensures.kept) c.put_in_stack.ensures.kept)
     c.put_frames.ensures.kept
+
+pub returns-in_err-put-clause-kept : goal.returns-in_err-put-clause-kept
+returns-in_err-put-clause-kept c =
+    extends_trans _ _ _ (extends_more _ _ _ c.in_ok-put_bytes.ensures.appended) c.put.ensures.kept
+
+pub returns-in_err-put_in_stack-clause-kept : goal.returns-in_err-put_in_stack-clause-kept
+returns-in_err-put_in_stack-clause-kept c =
+    extends_trans _ _ _ (extends_trans _ _ _ (extends_more _ _ _ c.in_ok-put_bytes.ensures.appended) c.put.ensures.kept) c.put_in_stack.ensures.kept

@@ -3,10 +3,10 @@ use Rattle.std.specs.Prelude.{codes}
 use Rattle.std.proofs.lemmas.Result.{on_ok_weaker}
 use Rattle.stack_trees.specs.StackTexts.{stack_texts}
 use Rattle.ht_trace.specs.declared.frame.Style.TheVariants.{Plain}
+use Rattle.hp_num.proofs.Laws.{extends_trans}
 use Rattle.ht_print.specs.declared.entry.Entry.{Entry}
 use Rattle.ht_print.specs.ReportLines.{member_lines, members_lines}
 use Rattle.ht_print.proofs.ReportLemmas.{shown-all}
-use Rattle.ht_print.proofs.FlameLemmas.{extends_trans}
 use Rattle.ht_print.proofs.report_lines.put_members.Goals as goal
 
 pub returns-clause-appended : goal.returns-clause-appended

@@ -5,7 +5,7 @@ use Rattle.ht_trace.specs.declared.frame.FrameAt.{FrameAt}
 use Rattle.ht_trace.specs.declared.frame.Style.TheVariants.{Plain}
 use Rattle.ht_trace.specs.FrameText.{frame_text}
 use Rattle.ht_trace.specs.IsFrame.{IsFrame}
-use Rattle.ht_print.proofs.FlameLemmas.{extends_more, extends_trans}
+use Rattle.hp_num.proofs.Laws.{extends_more, extends_same, extends_trans}
 use Rattle.ht_print.proofs.report_lines.put_stack.Goals as goal
 
 pub put_frames-requires : goal.put_frames-requires
@@ -25,3 +25,15 @@ returns-clause-kept c =
     (extends_more c.put_bytes.new.out.items c.put_frame.new.out.items text c.in_ok-put_frame.ensures.appended))
     c.put_in_stack.ensures.kept)
     c.put_frames.ensures.kept
+
+pub returns-in_err-put_bytes-clause-kept : goal.returns-in_err-put_bytes-clause-kept
+returns-in_err-put_bytes-clause-kept c =
+    extends_trans _ _ _ c.put.ensures.kept (extends_same _ _ c.in_err-put_bytes.ensures.unchanged)
+
+pub returns-in_err-put_frame-clause-kept : goal.returns-in_err-put_frame-clause-kept
+returns-in_err-put_frame-clause-kept c =
+    extends_trans _ _ _ (extends_trans _ _ _ c.put.ensures.kept (extends_more _ _ _ c.in_ok-put_bytes.ensures.appended)) (extends_same _ _ c.in_err-put_frame.ensures.unchanged)
+
+pub returns-in_err-put_in_stack-clause-kept : goal.returns-in_err-put_in_stack-clause-kept
+returns-in_err-put_in_stack-clause-kept c =
+    extends_trans _ _ _ (extends_trans _ _ _ (extends_trans _ _ _ c.put.ensures.kept (extends_more _ _ _ c.in_ok-put_bytes.ensures.appended)) (extends_more _ _ _ c.in_ok-put_frame.ensures.appended)) c.put_in_stack.ensures.kept

@@ -3,13 +3,13 @@ use Rattle.std.specs.Prelude.{All, codes}
 use Rattle.std.proofs.lemmas.List.{get_or_default}
 use Rattle.std.proofs.lemmas.List.Elements.{All-take}
 use Rattle.std.proofs.lemmas.Result.{on_ok_weaker}
+use Rattle.hp_num.proofs.Laws.{extends_trans}
 use Rattle.ht_print.specs.declared.entry.Entry.{Entry}
 use Rattle.ht_print.specs.IsEntry.{IsEntry}
 use Rattle.ht_print.specs.PlacedStacks.{groups_lines, stacks_numbered}
 use Rattle.ht_print.specs.Places.{number_at}
 use Rattle.ht_print.specs.ReportGroups.{place_of, stacks_at}
 use Rattle.ht_print.specs.ReportLines.{group_at, group_lines}
-use Rattle.ht_print.proofs.FlameLemmas.{extends_trans}
 use Rattle.ht_print.proofs.GroupLemmas.{at-number, numbered-all}
 use Rattle.ht_print.proofs.ReportLemmas.{shown-all, shown-more}
 use Rattle.ht_print.proofs.section.put_groups.Goals as goal

@@ -1,10 +1,11 @@
 use Rattle.std.proofs.Common.{◌≡◌, ℕ, ◌-◌, ◌++◌, Bool, List, length, ap, ◌∙◌, arith}
 use Rattle.std.specs.Prelude.{codes, sum}
 use Rattle.std.proofs.lemmas.Result.{on_ok_weaker}
+use Rattle.hp_num.proofs.Laws.{extends_more, extends_put, extends_trans}
 use Rattle.ht_print.specs.declared.scale.Unit.TheVariants.{Bytes}
 use Rattle.ht_print.specs.ReportText.{leaks_text, section_lines, suppressed_figures, suppressed_line, unsuppressed}
 use Rattle.ht_print.specs.Suppressed.{suppressed_stacks}
-use Rattle.ht_print.proofs.FlameLemmas.{extends_more, extends_trans, four-appended}
+use Rattle.ht_print.proofs.FlameLemmas.{four-appended}
 use Rattle.ht_print.proofs.LeakLemmas.{as-many, parts-sum, unsuppressed-count}
 use Rattle.ht_print.proofs.section.put_leaks.Goals as goal
 
@@ -84,3 +85,7 @@ returns-clause-appended c =
     ∙ ap (λ (n : ℕ). c.put_figures.new.out.items ++ suppressed_line n) (hidden ∙ ap (λ (bs : List Bool). sum (suppressed_figures bs live)) are))
     added)
     c.put_bytes-2.ensures.appended
+
+pub returns-clause-kept : goal.returns-clause-kept
+returns-clause-kept c =
+    extends_trans _ _ _ (extends_trans _ _ _ (extends_trans _ _ _ (extends_more _ _ _ c.in_ok-put_bytes.ensures.appended) c.put_figures.ensures.kept) c.put_suppressed.ensures.kept) (extends_put c.put_bytes-2.result _ _ _ c.put_bytes-2.ensures.appended c.put_bytes-2.ensures.unchanged)

@@ -2,7 +2,7 @@ use Rattle.std.proofs.Common.{◌++◌, ℕ, List, ap, ◌∙◌}
 use Rattle.std.specs.Prelude.{codes}
 use Rattle.std.proofs.lemmas.Result.{on_ok_weaker}
 use Rattle.hp_num.specs.Right.{right_aligned}
-use Rattle.hp_num.proofs.Laws.{extends_more, extends_trans}
+use Rattle.hp_num.proofs.Laws.{extends_more, extends_same, extends_trans}
 use Rattle.ms_print.specs.TableText.{head_text, rule_line, time_head}
 use Rattle.ms_print.proofs.Appends.{five-appended, four-appended}
 use Rattle.ms_print.proofs.table.put_head.Goals as goal
@@ -25,3 +25,15 @@ returns-clause-kept c =
     (four-appended c.args.out.now.items c.put_rule.new.out.items c.put_bytes.new.out.items c.put_right.new.out.items c.put_bytes-2.new.out.items _ _ _ _
     c.in_ok-put_rule.ensures.appended c.in_ok-put_bytes.ensures.appended c.in_ok-put_right.ensures.appended c.in_ok-put_bytes-2.ensures.appended))
     c.put_rule-2.ensures.kept
+
+pub returns-in_err-put_bytes-clause-kept : goal.returns-in_err-put_bytes-clause-kept
+returns-in_err-put_bytes-clause-kept c =
+    extends_trans _ _ _ c.put_rule.ensures.kept (extends_same _ _ c.in_err-put_bytes.ensures.unchanged)
+
+pub returns-in_err-put_right-clause-kept : goal.returns-in_err-put_right-clause-kept
+returns-in_err-put_right-clause-kept c =
+    extends_trans _ _ _ (extends_trans _ _ _ c.put_rule.ensures.kept (extends_more _ _ _ c.in_ok-put_bytes.ensures.appended)) (extends_same _ _ c.in_err-put_right.ensures.unchanged)
+
+pub returns-in_err-put_bytes-2-clause-kept : goal.returns-in_err-put_bytes-2-clause-kept
+returns-in_err-put_bytes-2-clause-kept c =
+    extends_trans _ _ _ (extends_trans _ _ _ (extends_trans _ _ _ c.put_rule.ensures.kept (extends_more _ _ _ c.in_ok-put_bytes.ensures.appended)) (extends_more _ _ _ c.in_ok-put_right.ensures.appended)) (extends_same _ _ c.in_err-put_bytes-2.ensures.unchanged)

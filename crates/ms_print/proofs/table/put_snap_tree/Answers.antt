@@ -1,0 +1,6 @@
+use Rattle.hp_num.proofs.Laws.{extends_put, extends_trans}
+use Rattle.ms_print.proofs.table.put_snap_tree.Goals as goal
+
+pub returns-clause-kept : goal.returns-clause-kept
+returns-clause-kept c =
+    extends_trans _ _ _ c.put_tree.ensures.kept (extends_put c.put_bytes.result _ _ _ c.put_bytes.ensures.appended c.put_bytes.ensures.unchanged)
