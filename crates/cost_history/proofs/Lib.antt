@@ -1,6 +1,6 @@
-pub mod Costs
-pub mod Sifting
-pub mod Marking
-pub mod Placing
-pub mod Told
-pub mod Telling
+mod Costs
+mod Sifting
+mod Marking
+mod Placing
+mod Told
+mod Telling

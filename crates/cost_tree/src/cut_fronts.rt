@@ -50,7 +50,11 @@ impl CutFronts {
         requires texts { AreTexts names lists }
         ensures whole { IfOk result (λ cut. cut.whole ≡ lists_of names lists) }
     {
-        let cut = Cut::of(alloc, &lists)?;
+        let Ok(cut) = Cut::of(alloc, &lists) else {
+            drop(names);
+            drop(lists);
+            return Err(NoMemory);
+        };
         Ok(CutFronts {
             names,
             whole: lists,

@@ -75,7 +75,9 @@ fn take_costed<T: FrontLineTaker + Drop>(
     let ForkedFronts { names, cut, .. } = fronts;
     let room = &mut NodeRoom::new(alloc);
     let tree = CostTree::of_shape(alloc, names, &cut.shape, costs, depth, room)?;
-    take_tailed(alloc, &tree, scale, lists, told)
+    let taken = take_tailed(alloc, &tree, scale, lists, told);
+    drop(tree);
+    taken
 }
 
 /// Gives the lines of the tree, and behind that of a front those of the list that goes on alone from there.

@@ -2,7 +2,7 @@
 //! looked for when all are told, so that what the texts were made of can be let go before.
 ghost use Rattle.std.specs.Prelude.{◌≡◌, ◌≢◌, ℕ, ◌-◌, ◌^◌, ◌<◌, List, [], ◌∷◌, ◌++◌, length, IfOk, OnOk};
 ghost use Rattle.cost_tree.specs.GrowingLists.{caller_list};
-ghost use Rattle.cost_tree.specs.Told.{MayFollow, after};
+ghost use Rattle.cost_tree.specs.Told.{AreTold, MayFollow, after, told};
 
 use crate::fronts::Fronts;
 use crate::list_step::ListStep;
@@ -76,13 +76,29 @@ impl ToldLists {
         ensures same { IfOk result (λ fronts. fronts ≡ self) }
     {
         let ToldLists { names, steps } = self;
-        // Each step is a list or a number more, so that none is moved while they come.
-        let mut shape = Shape::with_capacity(alloc, steps.len())?;
-        'each_step: for step in &steps {
-            follow(&mut shape, *step)?;
+        let shape = shape_of(alloc, &steps);
+        drop(steps);
+        match shape {
+            Ok(shape) => Ok(Fronts::from_parts(names, shape)),
+            Err(fault) => {
+                drop(names);
+                Err(fault)
+            }
         }
-        Ok(Fronts::from_parts(names, shape))
     }
+}
+
+/// The lists that the steps tell, or `NoMemory`.
+fn shape_of(alloc: Global, steps: &[ListStep]) -> Result<Shape, NoMemory>
+    requires told { (names : List (List ℕ)) × AreTold names steps.now }
+    ensures lists { IfOk result (λ shape. shape ≡ told steps.now) }
+{
+    // Each step is a list or a number more, so that none is moved while they come.
+    let mut shape = Shape::with_capacity(alloc, steps.len())?;
+    'each_step: for step in steps {
+        follow(&mut shape, *step)?;
+    }
+    Ok(shape)
 }
 
 /// Goes on by one step.

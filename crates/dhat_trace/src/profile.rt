@@ -58,11 +58,15 @@ pub fn trace_profile_text(
         (λ text. document_of (string_bytes text) ≡ Ok (profile_of tables
         peaks.ledger.totals.events peaks.moment (figures_of peaks lifetimes))) }
 {
-    let stacks = called_stacks(alloc, &peaks, &lifetimes)?;
+    let stacks = called_stacks(alloc, &peaks, &lifetimes);
     let te = peaks.ledger().totals().events;
     let tg = peaks.peak_moment();
     drop(peaks);
     drop(lifetimes);
+    let Ok(stacks) = stacks else {
+        drop(tables);
+        return Err(NoMemory);
+    };
     let told = told_stacks(alloc, tables, &stacks)?;
     let head = heap_profile(alloc, told.cmd, te, tg, told.ftbl)?;
     written(alloc, head, &stacks, &told.backtraces)
@@ -147,12 +151,32 @@ fn written(
         ≡ Ok (with_points head (points_in stacks.now backtraces.now))) }
 {
     let mut writer = PointWriter::new(alloc, head)?;
+    match put_points(alloc, stacks, backtraces, &mut writer) {
+        Ok(()) => writer.finish(),
+        Err(fault) => {
+            drop(writer);
+            Err(fault)
+        }
+    }
+}
+
+/// Puts the points of these stacks behind none.
+fn put_points(
+    alloc: Global,
+    stacks: &[CalledStack],
+    backtraces: &ToldPlaces,
+    writer: &mut PointWriter,
+) -> Result<(), NoMemory>
+    requires held { All (λ called. called.stack < length backtraces.now) stacks.now }
+    ensures { OnOk result ((head : Dhat) → HasWritten writer.old (with_points head [])
+        → HasWritten writer.new (with_points head (points_in stacks.now backtraces.now))) }
+{
     let mut places = Vec::new(alloc);
     'each_stack: for called in stacks {
         backtraces.places_into(called.stack as usize, &mut places)?;
-        put_point(alloc, called.figures, &places, &mut writer)?;
+        put_point(alloc, called.figures, &places, writer)?;
     }
-    writer.finish()
+    Ok(())
 }
 
 /// Puts the point with these figures and the frames at these places.

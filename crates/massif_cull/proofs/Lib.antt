@@ -1,13 +1,13 @@
-pub mod Linking
-pub mod LinksLemmas
-pub mod HeldLemmas
-pub mod SnapsLemmas
-pub mod Search
-pub mod Places
-pub mod Differences
-pub mod Removals
-pub mod Equals
-pub mod Standing
-pub mod Sound
-pub mod Taking
-pub mod Origins
+mod Linking
+mod LinksLemmas
+mod HeldLemmas
+mod SnapsLemmas
+mod Search
+mod Places
+mod Differences
+mod Removals
+mod Equals
+mod Standing
+mod Sound
+mod Taking
+mod Origins

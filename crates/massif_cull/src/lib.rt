@@ -10,7 +10,7 @@
 //! Inside, `Links` is a list of different places below a set number: `push` gives a place that was free, `unlink` frees
 //! one, `first`, `next`, `prev` and `len` read the order. Snapshots stay in their slots, and links say in which order
 //! they stand (`LinkedSnaps`), so that one goes without moving another. That an array keeps its order so, and doesn't
-//! move snapshots, is no clause. The tests of the public calls are in the crate `massif_tests`.
+//! move snapshots, is no clause. The tests of the public calls are in the crate `profile_tests`.
 #![tactic(auto)]
 
 mod array;

@@ -1,15 +1,15 @@
-pub mod UpTo
-pub mod Figures
-pub mod Offers
-pub mod Snaps
-pub mod Sampling
-pub mod Making
-pub mod Costs
-pub mod Trees
-pub mod GrossSizes
+mod UpTo
+mod Figures
+mod Offers
+mod Snaps
+mod Sampling
+mod Making
+mod Costs
+mod Trees
+mod GrossSizes
 mod Rounding
-pub mod Standing
-pub mod Judging
-pub mod Agreeing
-pub mod Growing
-pub mod AtPlace
+mod Standing
+mod Judging
+mod Agreeing
+mod Growing
+mod AtPlace

@@ -1,6 +1,6 @@
 -- What a sampler stands for behind one more event, and the event's fault.
 use Rattle.std.proofs.Common.{◌≡◌, ℕ, suc, ◌+◌, ◌-◌, ◌<◌, ◌≤◌, ◌^◌, List, [], ◌∷◌, ◌++◌, length, Bool, true, false, cond, Option, None, Some, Result, Ok, Err, refl, ap, sym, subst, ◌∙◌, arith, append-nil, append_assoc, inl, inr}
-use Rattle.std.specs.Prelude.{nat_lt, ◌||◌, ◌&&◌, not, slice_index_or, sum_by, IfErr, IsOk}
+use Rattle.std.specs.Prelude.{nat_lt, ◌||◌, ◌&&◌, not, sum_by, IfErr, IsOk}
 use Rattle.std.proofs.lemmas.Option.{get_or_from_slice_get}
 use Rattle.std.proofs.lemmas.List.Sums.{sum_by-cons, sum_by_push}
 use Rattle.std.proofs.lemmas.Bool.Decides.{leb_tells}
@@ -17,7 +17,7 @@ use Rattle.live_ledger.specs.Faults.{fault_at, fault_of}
 use Rattle.live_ledger.specs.LedgerState.{HeldInfo, IsHeld, LedgerState}
 use Rattle.live_ledger.specs.Sound.{IsSound}
 use Rattle.massif_cull.specs.declared.snapshot.Offer.{Offer}
-use Rattle.massif_cull.specs.declared.snapshot.Taken.TheVariants.{Detailed, Peak}
+use Rattle.massif_cull.specs.declared.snapshot.Taken.TheVariants.{Detailed}
 use Rattle.massif_sample.specs.declared.fault.SampleFault.{SampleFault}
 use Rattle.massif_sample.specs.declared.fault.SampleFault.TheVariants as sample
 use Rattle.massif_sample.specs.declared.options.MassifOptions.{MassifOptions}

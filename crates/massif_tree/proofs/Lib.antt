@@ -1,9 +1,9 @@
-pub mod Appends
-pub mod Forests
-pub mod KnownTexts
-pub mod LabelTexts
-pub mod Listed
-pub mod OneLine
-pub mod Trimming
-pub mod Writable
+mod Appends
+mod Forests
+mod KnownTexts
+mod LabelTexts
+mod Listed
+mod OneLine
+mod Trimming
+mod Writable
 pub mod Laws

@@ -48,8 +48,8 @@ pub fn snapshot_tree<F: Fn(u32) -> u64>(
     let _count = fronts.len();
     let mut room = fronts.take_room(alloc);
     let tree = CostTree::of_cut(alloc, fronts, costing, options.depth, &mut room)?;
-    let lines = tree_lines(alloc, &tree, options, total)?;
+    let lines = tree_lines(alloc, &tree, options, total);
     tree.into_room(&mut room);
     fronts.put_room(room);
-    Ok(lines)
+    lines
 }

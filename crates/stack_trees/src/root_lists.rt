@@ -1,6 +1,6 @@
 //! The lists of texts of a trace's stacks from their outermost frames on: a stack's list is that of the stack that it is called
 //! from, and the texts of its own node. So texts are made once a node.
-ghost use Rattle.std.specs.Prelude.{◌≡◌, ◌+◌, ◌-◌, ◌^◌, ◌<◌, ◌≤◌, All, length, map, reverse, IfOk, OnOk};
+ghost use Rattle.std.specs.Prelude.{◌≡◌, ◌+◌, ◌-◌, ◌^◌, ◌<◌, ◌≤◌, [], All, length, map, reverse, IfOk, OnOk};
 ghost use Rattle.cost_tree.specs.GrowingLists.{LastGains};
 ghost use Rattle.ht_trace.specs.FrameText.{frame_text};
 ghost use Rattle.ht_trace.specs.IsFrame.{IsFrame};
@@ -20,13 +20,33 @@ pub fn lists_from_root(alloc: Global, tables: &Tables, style: Style) -> Result<T
     ensures count { IfOk result (λ lists. length lists ≡ length tables.now.nodes + 1) }
 {
     let mut lists = ToldLists::new(alloc);
+    match push_lists(alloc, tables, style, &mut lists) {
+        Ok(()) => Ok(lists),
+        Err(fault) => {
+            drop(lists);
+            Err(fault)
+        }
+    }
+}
+
+/// Appends the lists of all stacks to none.
+fn push_lists(
+    alloc: Global,
+    tables: &Tables,
+    style: Style,
+    lists: &mut ToldLists,
+) -> Result<(), NoMemory>
+    requires none { lists.old ≡ [] }
+    ensures lists { OnOk result (lists.new ≡ lists_towards FromRoot style tables.now) }
+    ensures count { OnOk result (length lists.new ≡ length tables.now.nodes + 1) }
+{
     let mut frames = Vec::new(alloc);
     let mut text = Vec::new(alloc);
     'each_stack: for stack in 0..tables.stacks() {
-        begin_list(tables, stack, &mut lists, &mut frames)?;
-        push_turned(tables, style, &mut lists, &mut frames, &mut text)?;
+        begin_list(tables, stack, lists, &mut frames)?;
+        push_turned(tables, style, lists, &mut frames, &mut text)?;
     }
-    Ok(lists)
+    Ok(())
 }
 
 /// Begins the list of the stack with that of the stack that it is called from, and replaces `frames` by those that follow,

@@ -78,7 +78,11 @@ impl<A: Fn(&[u8]) -> bool, I: Fn(&[u8]) -> bool, S: Settled + Drop> MassifReader
     {
         let ledger = Ledger::new(alloc)?;
         let tables = Tables::new(alloc);
-        let sampler = Sampler::new(alloc, options, alloc_fns, ignore_fns, &tables)?;
+        let Ok(sampler) = Sampler::new(alloc, options, alloc_fns, ignore_fns, &tables) else {
+            drop(tables);
+            drop(ledger);
+            return Err(NoMemory);
+        };
         Ok(MassifReader {
             tables,
             ledger,

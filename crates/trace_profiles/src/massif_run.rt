@@ -41,7 +41,7 @@ pub fn run_massif<S: Store, O: Sink>(
         *settings,
     )?;
     let ran = run_one_file(desk, name, &mut reader, store, out);
-    // By name: a proof goes through all parts of what an exit lets go.
+    // By its parts: a proof goes through all parts of what an exit lets go.
     reader.close();
     ran
 }

@@ -46,7 +46,10 @@ impl ReadTrace {
         ensures peaks { IfOk result (λ trace. peaks_spec.StandsFor trace.peaks []) }
         ensures events { IfOk result (λ trace. trace.peaks.ledger.totals.events ≡ 0) }
     {
-        let peaks = Peaks::new(alloc)?;
+        let Ok(peaks) = Peaks::new(alloc) else {
+            drop(tables);
+            return Err(NoMemory);
+        };
         Ok(ReadTrace { tables, peaks })
     }
 

@@ -23,5 +23,7 @@ pub fn run_trace<W: TraceWriter + Drop, S: Store, O: Sink>(
 {
     let tables = Tables::new(desk.alloc);
     let mut reader = TraceReader::new(desk.alloc, tables, writer)?;
-    run_one_file(desk, name, &mut reader, store, out)
+    let ran = run_one_file(desk, name, &mut reader, store, out);
+    drop(reader);
+    ran
 }

@@ -51,7 +51,7 @@ returns g c =
     let has : HasLines tree cuts depth =
     subst (λ (ls : List (List (List ℕ))). HasLines tree (costed ls costs) depth) (ap (λ (ls : List (List ℕ)). lists_of names ls) is.lists ∙ cut-texts names counts inside.whole) c.in_ok-tree.ensures.lines in
     record {
-      taken = IfOk-weaker c.take_tailed.result _ _
+      taken = IfOk-weaker c.take_tailed-taken.result _ _
           (λ after taken. (
             names,
             (let levelled = subst (λ (ls : List FrontLine). All IsLevelled ls) (sym (taken.1.all cuts depth has)) (lines-levelled depth scale cuts) in
@@ -61,5 +61,5 @@ returns g c =
                 ∙ ap (λ (ls : List (List (List ℕ))). cost_lines depth scale (costed ls costs)) c.fronts.view_is)
                 (taken.2 c.args.taker c.in_ok-tree.ensures.names c.in_ok-take_texts.ensures.taken levelled)),
           ))
-          c.take_tailed.ensures.taken;
+          c.take_tailed-taken.ensures.taken;
     }

@@ -22,7 +22,7 @@ pub told_stacks-requires : goal.told_stacks-requires
 told_stacks-requires c =
     let figures = figures_of c.args.peaks c.args.lifetimes in
     record {
-      held = subst (λ (items : List CalledStack). All (λ (s : CalledStack). s.stack ≤ length c.args.tables.nodes) items) (sym (c.deref.ensures.value ∙ c.in_ok-stacks.ensures))
+      held = subst (λ (items : List CalledStack). All (λ (s : CalledStack). s.stack ≤ length c.args.tables.nodes) items) (sym (c.deref.ensures.value ∙ c.in-Ok.ensures))
           (called_held figures c.args.peaks.ledger.stacks (length c.args.tables.nodes) c.requires.peaks);
     }
 
@@ -35,7 +35,7 @@ pub written-requires-clause-held : goal.written-requires-clause-held
 written-requires-clause-held c =
     let figures = figures_of c.args.peaks c.args.lifetimes in
     let count = c.in_ok-told.ensures.backtraces.told_are.count in
-    subst (λ (items : List CalledStack). All (λ (s : CalledStack). s.stack < length c.in_ok-told.told.backtraces) items) (sym (c.deref-2.ensures.value ∙ c.in_ok-stacks.ensures))
+    subst (λ (items : List CalledStack). All (λ (s : CalledStack). s.stack < length c.in_ok-told.told.backtraces) items) (sym (c.deref-2.ensures.value ∙ c.in-Ok.ensures))
     (All-weaker (λ (s : CalledStack). s.stack ≤ length c.args.tables.nodes) (λ (s : CalledStack). s.stack < length c.in_ok-told.told.backtraces) (λ s held. omega (arith, held, count))
     _ (called_held figures c.args.peaks.ledger.stacks (length c.args.tables.nodes) c.requires.peaks))
 
@@ -46,7 +46,7 @@ whole : (c : After-drop-stacks-2)
 whole c =
     let last : c.totals-te.result.events ≡ c.args.peaks.ledger.totals.events =
     ap (λ (t : Totals). t.events) c.totals-te.ensures.value ∙ ap (λ (l : LedgerState). l.totals.events) c.ledger.ensures in
-    let items = c.deref-2.ensures.value ∙ c.in_ok-stacks.ensures in
+    let items = c.deref-2.ensures.value ∙ c.in-Ok.ensures in
     let same = c.deref.ensures.value ∙ sym c.deref-2.ensures.value in
     profile_is c.args.tables c.args.peaks c.args.lifetimes c.totals-te.result.events c.peak_moment-tg.result c.in_ok-head.head c.in_ok-told.told.cmd c.in_ok-told.told.ftbl c.in_ok-told.told.backtraces c.deref-2.result.now
     last c.peak_moment-tg.ensures.value c.requires.peaks c.in_ok-head.ensures c.in_ok-told.ensures.cmd items
@@ -62,6 +62,6 @@ returns-clause-trace c = IfOk-weaker c.written.result _ _
 pub returns-clause-reads_back : goal.returns-clause-reads_back
 returns-clause-reads_back c =
     let sound = profile_sound c.args.tables c.args.peaks c.args.lifetimes c.in_ok-told.told.ftbl c.in_ok-told.told.backtraces c.deref.result.now
-    c.peak_moment-tg.ensures.sound.ledger c.requires.few c.requires.peaks (c.deref.ensures.value ∙ c.in_ok-stacks.ensures) c.in_ok-told.ensures.backtraces in
+    c.peak_moment-tg.ensures.sound.ledger c.requires.few c.requires.peaks (c.deref.ensures.value ∙ c.in-Ok.ensures) c.in_ok-told.ensures.backtraces in
     IfOk-weaker c.written.result _ _
     (λ text is. subst (λ (dhat : Dhat). IsSound dhat → document_of (string_bytes text) ≡ Ok dhat) (whole c) is sound) c.written.ensures.reads_back

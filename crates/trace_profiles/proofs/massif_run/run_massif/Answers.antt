@@ -1,4 +1,4 @@
-use Rattle.std.proofs.Common.{rules, ◌↔◌, ℕ, List, [], ◌∷◌, Contains, IsTrue, subst}
+use Rattle.std.proofs.Common.{rules, [], ◌∷◌, subst}
 use Rattle.command_frame.specs.RunsTo.{RunsTo, shown, taken}
 use Rattle.command_frame.proofs.Laws.{runs_wanting_by}
 use Rattle.trace_profiles.specs.MassifReport.{massif_plan}

@@ -1,4 +1,4 @@
-use Rattle.std.proofs.Common.{◌≡◌, ℕ, ◌↔◌, List, sym, subst, rules, IsTrue, Contains}
+use Rattle.std.proofs.Common.{ℕ, ◌↔◌, List, sym, subst, rules, IsTrue, Contains}
 use Rattle.massif_sample.specs.NameList.{names_in}
 use Rattle.trace_profiles.proofs.NameLemmas.{Contains-once}
 use Rattle.trace_profiles.proofs.name_list.is_named.Goals as goal

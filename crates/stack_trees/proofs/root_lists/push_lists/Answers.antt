@@ -2,7 +2,7 @@ use Rattle.std.proofs.Common.{◌≡◌, ℕ, ◌+◌, List, length, map, revers
 use Rattle.std.specs.List.{range_with_len}
 use Rattle.stack_trees.specs.StackTexts.{lists_towards, stack_texts}
 use Rattle.stack_trees.proofs.Needing.{listed-count, root-more}
-use Rattle.stack_trees.proofs.root_lists.lists_from_root.Goals as goal
+use Rattle.stack_trees.proofs.root_lists.push_lists.Goals as goal
 
 pub begin_list-requires : goal.begin_list-requires
 begin_list-requires c =
