@@ -66,7 +66,7 @@ end_behind report lines (Some told) refusal is =
     number_in (Some found) = found.number
 
 -- lines without a fault at the front of a file stand before its refusal
-refused_behind : (first : Option Refusal) (bounds : Bounds) (report : Report) (bytes : List ℕ) (taken : List (List ℕ)) (refusal : Refusal) → (front : GoodFront bounds report bytes taken)
+pub refused_behind : (first : Option Refusal) (bounds : Bounds) (report : Report) (bytes : List ℕ) (taken : List (List ℕ)) (refusal : Refusal) → (front : GoodFront bounds report bytes taken)
     → first_fault 1 (line_faults bounds report (length bytes) [] (lines_of bytes)) ≡ first → option_or first (end_refusal report (length bytes) (lines_of bytes)) ≡ Some refusal → length taken + 1 ≤ refusal.number
 refused_behind None bounds report bytes taken refusal front first is =
     let behind = end_behind report (lines_of bytes) (report.end_fault (lines_of bytes) (is_ended (length bytes) (lines_of bytes))) refusal is in

@@ -6,5 +6,7 @@ pub use Rattle.command_frame.proofs.FaultLemmas.{bytes_of_lines-push}
 pub use Rattle.command_frame.proofs.LinesFactLemmas.{gives_nothing}
 pub use Rattle.command_frame.proofs.OutputLemmas.{append_nothing}
 pub use Rattle.command_frame.proofs.QuietLemmas.{IsQuiet, fault_isnt_zero, plan_quiet}
+pub use Rattle.command_frame.proofs.ReachedLemmas.{unreached_by}
+pub use Rattle.command_frame.proofs.ReadToEndLemmas.{to_end_by}
 pub use Rattle.command_frame.proofs.RunsToLemmas.{not_four, runs_quiet, runs_wanting, runs_wanting_by, status_told}
 pub use Rattle.command_frame.proofs.WordsLemmas.{words_not_ran, words_ran}

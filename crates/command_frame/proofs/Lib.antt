@@ -21,3 +21,5 @@ mod QuietLemmas
 mod RunsToLemmas
 mod WordsLemmas
 mod EndsLemmas
+mod ReachedLemmas
+mod ReadToEndLemmas

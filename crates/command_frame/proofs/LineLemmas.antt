@@ -6,10 +6,10 @@ use Rattle.command_frame.specs.FirstFault.{Bounds, input_too_long, length_fault,
 use Rattle.hp_outside.specs.Lines.{after_line, first_line, is_line_feed, lines_of, put_first}
 
 -- a byte that is no line feed stands at the front of the first line, and behind it is what was
-place_before : (byte : ℕ) (rest : List ℕ) → is_line_feed byte ≡ false → position_or_len is_line_feed (byte ∷ rest) ≡ suc (position_or_len is_line_feed rest)
+pub place_before : (byte : ℕ) (rest : List ℕ) → is_line_feed byte ≡ false → position_or_len is_line_feed (byte ∷ rest) ≡ suc (position_or_len is_line_feed rest)
 place_before byte rest is = rw is (omega arith)
 
-put_before : (byte : ℕ) (rest : List ℕ) → is_line_feed byte ≡ false → lines_of (byte ∷ rest) ≡ put_first byte (lines_of rest)
+pub put_before : (byte : ℕ) (rest : List ℕ) → is_line_feed byte ≡ false → lines_of (byte ∷ rest) ≡ put_first byte (lines_of rest)
 put_before byte rest is = rw is refl
 
 pub first_before : (byte : ℕ) (rest : List ℕ) → is_line_feed byte ≡ false → first_line (byte ∷ rest) ≡ byte ∷ first_line rest

@@ -24,3 +24,5 @@ pub mod Outside
 pub mod Task
 pub mod WordsRan
 pub mod RunEnds
+pub mod ReadToEnd
+pub mod Reached

@@ -1,11 +1,13 @@
 -- What a run of the program comes to, of what the store and both outputs show before it and after it.
-use Rattle.std.specs.Prelude.{◌≡◌, ◌≢◌, ℕ, List, false, Some, None}
+use Rattle.std.specs.Prelude.{◌≡◌, ◌≢◌, ◌⊎◌, ℕ, List, false, Some, None}
 use Rattle.std.specs.Io.KnownBytes.{append_known}
 use Rattle.hp_outside.specs.Folder.{Folder}
 use Rattle.hp_outside.specs.Taken.{GainsFront}
 use Rattle.command_frame.specs.Answer.{Answer}
 use Rattle.command_frame.specs.FirstFault.{Bounds}
 use Rattle.command_frame.specs.Outside.{ErrRose, Gives, OutRose, Outside, StoreRose}
+use Rattle.command_frame.specs.Reached.{IsReached}
+use Rattle.command_frame.specs.ReadToEnd.{AreReadToEnd}
 use Rattle.command_frame.specs.RunEnds.{IsDelivered, RunEnds}
 use Rattle.command_frame.specs.WordsRan.{WordsRan}
 use Rattle.commands.specs.Answer.{answer}
@@ -48,6 +50,19 @@ pub record HasRun (bounds : Bounds) (words : List (List ℕ)) (before now : Outs
       → (answer words bounds folder).status ≡ 1 → status ≢ 4 → status ≢ 5 → status ≡ 1
   pub past_limit : (folder : Folder) → before.store.files ≡ Some folder → ¬ StoreRose before now
       → (answer words bounds folder).status ≡ 6 → status ≢ 4 → status ≢ 5 → status ≡ 6
+  -- The same where a call on the store failed, once the first fault was reached: once the bytes that show it were taken.
+  pub reached : (folder : Folder) → before.store.files ≡ Some folder
+      → IsReached bounds folder (task_asked (asked words)) before.store.moment now.store.moment
+      → status ≢ 4 → status ≢ 5
+      → Gives before now (answer words bounds folder) status
+  -- And only then: at statuses 1 and 6 no call on the store failed until the first fault was told, nor behind it.
+  pub only_reached : (folder : Folder) → before.store.files ≡ Some folder
+      → (status ≡ 1) ⊎ (status ≡ 6)
+      → (now.store.moment.faults ≡ before.store.moment.faults)
+      × Gives before now (answer words bounds folder) status
+  -- Status 0: each file that the words name was read to its end, before the next one was opened.
+  pub read_to_end : status ≡ 0
+      → AreReadToEnd before.store.files (files_asked words) before.store.moment now.store.moment
   -- `interpret` at status 0: what was written has the ledger and the stacks of the raw trace, front for front.
   pub keeps_ledger : (folder : Folder) → before.store.files ≡ Some folder → status ≡ 0
       → (output : List ℕ) × (now.out.written ≡ append_known before.out.written output)

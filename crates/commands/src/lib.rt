@@ -2,8 +2,8 @@
 //! are is the business of the program.
 //!
 //! What it promises is the contract of `heapsuite_run`, one record (`HasRun`), which speaks of what the words ask for
-//! (`asked`) and of the answer to it (`answer`), and names no command: output, message and status are the defined ones
-//! unless a call failed or memory was wanting, and what is left of that where one did. `run.rt` calls `run_words.rt` and
+//! (`asked`) and of the answer to it (`answer`): output, message and status are the defined ones unless a call failed or
+//! memory was wanting, and what is left of that where one did. One field is of one command: `interpret` keeps the ledger. `run.rt` calls `run_words.rt` and
 //! then the frame's `deliver`; each request comes to `Runs` of the frame. The definitions in `specs/` follow the same chain:
 //! the plans of reports and of profiles, `Tasks` for all that words may ask for, and `Answer` and `HasRun` for the whole.
 //!

@@ -18,6 +18,18 @@ $ convert --key=tl t
 $ convert --key=rb t
 heapsuite: t: no figures for rb
 [1]
+$ convert --to=massif t
+desc: heapsuite convert
+cmd: demo
+time_unit: e
+snapshot=0 time=1 mem_heap_B=100 mem_heap_extra_B=0 mem_stacks_B=0 heap_tree=peak
+n1: 100 (heap allocation functions) malloc/new/new[], --alloc-fns, etc.
+ n1: 100 0x500: f (a.c:10)
+  n0: 100 0x400: main (a.c:20)
+snapshot=1 time=3 mem_heap_B=100 mem_heap_extra_B=0 mem_stacks_B=0 heap_tree=detailed
+n1: 100 (heap allocation functions) malloc/new/new[], --alloc-fns, etc.
+ n0: 100 0x400: main (a.c:20)
+[0]
 $ convert --to=massif --key=rb t
 desc: heapsuite convert
 cmd: demo

@@ -1,7 +1,7 @@
 //! Every call of a run that can fail, failed once: each call on the store, on standard output and on standard error, for
 //! each command.
 
-use crate::transcript::{DEMO, MASSIF, Outcome, RAW, SOUND, Setting, run_words};
+use crate::transcript::{DEMO, MASSIF, Outcome, RAW, SOUND, Setting, TWO_SIZES, run_words};
 use hp_num::{NoMemory, put_bytes, put_dec};
 use std::alloc::Global;
 use std::process::Abort;
@@ -200,10 +200,11 @@ out 2: all [4]
 err 1: all [4]
 ";
 
-static ROWS: [Row; 16] = [
+static ROWS: [Row; 17] = [
     ("", 1000, "", OF_NO_WORDS),
     ("", 1000, "--help", OF_A_TEXT),
     ("", 1000, "summary e", OF_A_TRACE),
+    (TWO_SIZES, 1000, "summary t", OF_A_FILE),
     ("", 1000, "print e", OF_A_TRACE),
     ("", 1000, "flame e", OF_A_TRACE),
     ("", 1000, "massif e", OF_A_TRACE),

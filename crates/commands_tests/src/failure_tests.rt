@@ -34,6 +34,12 @@ heapsuite: t: cannot read
 [3]
 ";
 
+// A trace of 42 bytes, of which the second read, behind 32, fails.
+const FAILED_SECOND_READ: &str = "$ summary t
+heapsuite: t: cannot read
+[3]
+";
+
 #[test]
 fn failed_calls(rt: HostRuntime) {
     let setting = Setting {
@@ -67,5 +73,11 @@ fn failed_calls(rt: HostRuntime) {
         rt.alloc(),
         &setting,
         &("failed reads", "", FAILED_READS),
+    );
+    plays(
+        &rt,
+        rt.alloc(),
+        &setting,
+        &("a failed second read", TWO_SIZES, FAILED_SECOND_READ),
     );
 }

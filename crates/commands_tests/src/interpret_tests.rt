@@ -180,6 +180,35 @@ heapsuite: t:1: no version line
 $ interpret t
 heapsuite: t:1: no version line
 [1]
+> v 10500 2
+> + 0
+$ interpret t
+v 10500 2
+heapsuite: t:2: interpreted line
+[1]
+> v 10500 2
+> s main
+$ interpret t
+v 10500 2
+heapsuite: t:2: interpreted line
+[1]
+> v 10500 2
+> t 400 1
+$ interpret t
+v 10500 2
+heapsuite: t:2: unknown parent
+[1]
+> v 10500 2
+> + 8 5 1
+$ interpret t
+v 10500 2
+heapsuite: t:2: unknown trace
+[1]
+> v 10500 2
+> - 1
+$ interpret t
+v 10500 2
+[0]
 > v 10500 3
 > + 0
 $ interpret t

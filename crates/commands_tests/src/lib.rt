@@ -21,6 +21,8 @@ mod massif_option_tests;
 #[cfg(test)]
 mod massif_tests;
 #[cfg(test)]
+mod message_tests;
+#[cfg(test)]
 mod page_tests;
 #[cfg(test)]
 mod print_tests;

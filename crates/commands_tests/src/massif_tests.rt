@@ -83,6 +83,13 @@ n1: 100 (heap allocation functions) malloc/new/new[], --alloc-fns, etc.
 snapshot=3 time=240 mem_heap_B=0 mem_heap_extra_B=0 mem_stacks_B=0 heap_tree=empty
 snapshot=4 time=360 mem_heap_B=100 mem_heap_extra_B=20 mem_stacks_B=0 heap_tree=empty
 [0]
+$ massif --ignore-fns=f e
+desc: heapsuite massif
+cmd: demo
+time_unit: B
+snapshot=0 time=0 mem_heap_B=0 mem_heap_extra_B=0 mem_stacks_B=0 heap_tree=empty
+snapshot=1 time=120 mem_heap_B=100 mem_heap_extra_B=20 mem_stacks_B=0 heap_tree=empty
+[0]
 $ massif --ignore-fns=;f; e
 desc: heapsuite massif
 cmd: demo

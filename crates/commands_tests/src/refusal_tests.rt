@@ -1,6 +1,6 @@
 //! Refusals: of words, of a line of a trace or behind one, of lengths, and of a stack too deep.
 
-use crate::transcript::{SOUND, Setting, Transcript, WORKED, comes_to, play_all, plays};
+use crate::transcript::{SOUND, Setting, TWO_SIZES, Transcript, WORKED, comes_to, play_all, plays};
 use hp_num::{NoMemory, put_bytes, put_hex};
 
 /// Words that aren't taken, the first time none.
@@ -23,10 +23,29 @@ flame --flamegraph-cost-type=peak --flamegraph-cost-type=peak t
 interpret
 interpret --symbols=- -
 gen t
+gen --seed=2147483648
+gen --seed=-1
+gen --events=10000001
 gen --stacks=0
+gen --stacks=4001
 gen --run=1
+gen --run --run
 dhat
 dhat t e
+dhat_view
+dhat_view d e
+dhat_view --sort=mb d
+dhat_view --sort=acc d
+dhat_view --sort=Tb d
+dhat_view --sort= d
+dhat_view --sort=tb --sort=tb d
+dhat_view --threshold=1.000 d
+dhat_view --threshold=100.01 d
+dhat_view --depth=0 d
+dhat_view --depth=201 d
+dhat_view --depth d
+dhat_view --key=tb d
+dhat_view --help
 massif
 massif t e
 massif --threshold=1.000 t
@@ -108,6 +127,18 @@ heapsuite: t:1: no version line
 [1]
 > v 10500 2
 > a 64 0
+> - 0
+$ summary t
+heapsuite: t:3: free of nothing
+[1]
+> v 10500 2
+> a 64 0
+> - 0
+$ print t
+heapsuite: t:3: free of nothing
+[1]
+> v 10500 2
+> a 64 0
 > + 0
 > - 0
 > - 0
@@ -156,7 +187,15 @@ heapsuite: t:19: missing field
 $ summary t
 heapsuite: t:19: unknown instruction
 [1]
+> t 9 0
+$ summary t
+heapsuite: t:19: unknown instruction
+[1]
 > t 1 3
+$ summary t
+heapsuite: t:19: unknown parent
+[1]
+> t 1 5
 $ summary t
 heapsuite: t:19: unknown parent
 [1]
@@ -233,18 +272,54 @@ heapsuite: t:3: input too long
 [6]
 ";
 
+// A line may have 9 bytes, and a file 1,000.
+const SHORT_LINES: &str = "> v 10500 2
+$ summary t
+events: 0
+calls: 0
+temporary: 0
+allocated: 0
+peak: 0 at event 0
+leaked: 0 in 0 blocks
+[0]
+> v 10500 2
+> # 23456789
+$ summary t
+heapsuite: t:2: line too long
+[6]
+";
+
+// A file may have 10 bytes, of which the first line and its line feed have all.
+const SHORT_FILE: &str = "$ summary t
+heapsuite: t:2: input too long
+[6]
+";
+
+/// Limits on a file and on a line.
+fn limited(input: u32, line: u16) -> Setting {
+    Setting {
+        input,
+        line,
+        ..SOUND
+    }
+}
+
 static RUNS: [Transcript; 2] = [
     ("refused traces", "", TRACES),
     ("lines behind a trace", WORKED, LINES),
 ];
 
+/// The limits on a file and on a line, and what runs under them write.
+static LENGTHS: [(u32, u16, Transcript); 3] = [
+    (20, 9, ("lengths", "", LIMITED)),
+    (1000, 9, ("short lines", "", SHORT_LINES)),
+    (10, 1000, ("a short file", TWO_SIZES, SHORT_FILE)),
+];
+
 #[test]
 fn refusals(rt: HostRuntime) {
     play_all(&rt, rt.alloc(), &RUNS);
-    let setting = Setting {
-        input: 20,
-        line: 9,
-        ..SOUND
-    };
-    plays(&rt, rt.alloc(), &setting, &("lengths", "", LIMITED));
+    for (input, line, transcript) in &LENGTHS {
+        plays(&rt, rt.alloc(), &limited(*input, *line), transcript);
+    }
 }

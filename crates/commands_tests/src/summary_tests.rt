@@ -19,6 +19,19 @@ allocated: 0
 peak: 0 at event 0
 leaked: 0 in 0 blocks
 [0]
+> v 10500 2
+> a 64 0
+> a 20 0
+> + 0
+> + 1
+$ summary t
+events: 2
+calls: 2
+temporary: 0
+allocated: 132
+peak: 132 at event 2
+leaked: 132 in 2 blocks
+[0]
 > # a comment
 > v 10500 3
 > 

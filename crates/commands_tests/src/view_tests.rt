@@ -11,6 +11,13 @@ tb: 200
 50.00% (100) 0x500: f (a.c:10)
   50.00% (100) 0x400: main (a.c:20)
 [0]
+$ dhat_view --sort=eb t
+command: demo
+points: 2
+eb: 100
+
+100.00% (100) 0x400: main (a.c:20)
+[0]
 $ dhat_view --sort=eb --threshold=100 --depth 1 t
 command: demo
 points: 2
@@ -147,6 +154,10 @@ heapsuite: t: point 0: frame 2 out of table
 > {\"dhatFileVersion\":2,\"mode\":\"heap\",\"verb\":\"Allocated\",\"bklt\":false,\"bkacc\":false,\"tu\":\"instrs\",\"Mtu\":\"Minstr\",\"cmd\":\"./a\",\"pid\":7,\"te\":100,\"pps\":[{\"tb\":10,\"fs\":[]}],\"ftbl\":[]}
 $ dhat_view t
 heapsuite: t: point 0: missing key tbk
+[1]
+> {\"dhatFileVersion\":2,\"mode\":\"heap\",\"verb\":\"Allocated\",\"bklt\":true,\"bkacc\":true,\"tu\":\"instrs\",\"Mtu\":\"Minstr\",\"tuth\":500,\"cmd\":\"./a\",\"pid\":7,\"tg\":50,\"pps\":[{\"tb\":10,\"tbk\":1,\"tl\":40,\"mb\":10,\"mbk\":1,\"gb\":10,\"gbk\":1,\"eb\":0,\"ebk\":0,\"rb\":3,\"wb\":10,\"acc\":[-10,1],\"fs\":[1]}],\"ftbl\":[\"[root]\",\"0x1: main (a.c:1)\"]}
+$ dhat_view t
+heapsuite: t: missing key te
 [1]
 > {\"dhatFileVersion\":2,\"mode\":5}
 $ dhat_view t
