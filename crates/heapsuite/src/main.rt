@@ -17,6 +17,5 @@ fn main(rt: HostRuntime) -> ExitCode {
     let mut out = StdSink::new(rt.stdout());
     let mut err = StdSink::new(rt.stderr());
     let words = given_words(alloc, env::args(&rt));
-    let status = heapsuite_main(alloc, &words, &mut store, &mut out, &mut err);
-    ExitCode::from(status)
+    heapsuite_main(alloc, &words, &mut store, &mut out, &mut err)
 }
