@@ -6,6 +6,7 @@
 
 use hp_outside::{FsStore, StdSink, given_words};
 use recording::heaprec_main;
+use std::env;
 use std::process::ExitCode;
 
 fn main(rt: HostRuntime) -> ExitCode {
@@ -13,7 +14,6 @@ fn main(rt: HostRuntime) -> ExitCode {
     let mut store = FsStore::new(&rt);
     let mut out = StdSink::new(rt.stdout());
     let mut err = StdSink::new(rt.stderr());
-    let words = given_words(&rt);
-    let status = heaprec_main(&rt, alloc, &words, &mut store, &mut out, &mut err);
-    ExitCode::from(status)
+    let words = given_words(alloc, env::args(&rt));
+    heaprec_main(&rt, alloc, &words, &mut store, &mut out, &mut err)
 }

@@ -8,6 +8,7 @@ mod run;
 
 use crate::run::heapsuite_main;
 use hp_outside::{FsStore, StdSink, given_words};
+use std::env;
 use std::process::ExitCode;
 
 fn main(rt: HostRuntime) -> ExitCode {
@@ -15,7 +16,6 @@ fn main(rt: HostRuntime) -> ExitCode {
     let mut store = FsStore::new(&rt);
     let mut out = StdSink::new(rt.stdout());
     let mut err = StdSink::new(rt.stderr());
-    let words = given_words(&rt);
-    let status = heapsuite_main(alloc, &words, &mut store, &mut out, &mut err);
-    ExitCode::from(status)
+    let words = given_words(alloc, env::args(&rt));
+    heapsuite_main(alloc, &words, &mut store, &mut out, &mut err)
 }

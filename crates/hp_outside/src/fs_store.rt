@@ -1,6 +1,7 @@
 //! The system's files and standard input as a store. It tells nothing of what they hold, and hands
 //! the caller's buffer straight to the system's read.
-ghost use Rattle.std.specs.Prelude.{◌≡◌, ◌+◌, ◌≤◌, None, false, is_some, length, IfOk};
+ghost use Rattle.std.specs.Prelude.{◌≡◌, ◌+◌, ◌≤◌, ◌↔◌, None, false, is_some, length, IfOk};
+ghost use Rattle.std.specs.IoError.{error_kind};
 
 use crate::store::{Failed, OpenFault, Store};
 use std::io::{ErrorKind, Read};
@@ -104,8 +105,10 @@ impl<'r, R: Files + Input> Store for FsStore<'r, R> {
     }
 }
 
-/// Why the system did not open a file.
-fn open_fault(error: &io::Error) -> OpenFault {
+/// Why the system did not open a file: a file that is there is never called absent.
+fn open_fault(error: &io::Error) -> OpenFault
+    ensures { (result ≡ OpenFault.Absent) ↔ (error_kind error.now ≡ ErrorKind.NotFound) }
+{
     match error.kind() {
         ErrorKind::NotFound => OpenFault::Absent,
         _ => OpenFault::Failed,

@@ -34,7 +34,7 @@ fn put_whole<S: Store>(
 }
 
 /// Opens a name, and appends what the file is, or why it isn't read.
-fn put_named<S: Store>(
+pub(crate) fn put_named<S: Store>(
     out: &mut Vec<u8>,
     alloc: Global,
     limits: &Limits,

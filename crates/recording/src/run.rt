@@ -1,5 +1,6 @@
 //! The public call of the program: words and files in, the trace of threads or what is said of one, messages and a status out.
 ghost use Rattle.std.specs.Prelude.{◌^◌, ◌<◌, map, string_bytes, IfErr, IfOk};
+ghost use Rattle.std.specs.Process.{exit_status};
 ghost use Rattle.command_frame.specs.FirstFault.{bounds_of};
 ghost use Rattle.command_frame.specs.Outside.{outside};
 ghost use Rattle.command_frame.specs.RunEnds.{HasNotBegun};
@@ -15,6 +16,7 @@ use hp_num::NoMemory;
 use hp_outside::{Limits, Sink, Store};
 use recorder::Gate;
 use std::alloc::Global;
+use std::process::ExitCode;
 use std::sync::Wait;
 use std::thread::Threads;
 
@@ -65,8 +67,8 @@ pub fn heaprec_run<R: Threads + Wait + Sync, S: Store, O: Sink, E: Sink, G: Gate
     deliver(&outcome, &desk.texts, out, err)
 }
 
-/// Runs `heaprec` with the limits of the program and a gate that does nothing. Where the words couldn't be had for want of
-/// memory, that is told.
+/// Runs `heaprec` with the limits of the program and a gate that does nothing, and answers that the program ends with the status
+/// of the run. Where the words couldn't be had for want of memory, that is told.
 pub fn heaprec_main<R: Threads + Wait + Sync, S: Store, O: Sink, E: Sink>(
     rt: &R,
     alloc: Global,
@@ -74,31 +76,27 @@ pub fn heaprec_main<R: Threads + Wait + Sync, S: Store, O: Sink, E: Sink>(
     store: &mut S,
     out: &mut O,
     err: &mut E,
-) -> u8
+) -> ExitCode
     requires { S.opens store.old < 2 ^ 63 }
     ensures run { IfOk words.now (λ words.
         HeaprecRan (record { input = 2 ^ 34; line = 1048576 }) 10000000
         (record_asked (map string_bytes words.items))
         (outside S.Store O.Sink E.Sink store.old out.old err.old)
-        (outside S.Store O.Sink E.Sink store.new out.new err.new) result) }
+        (outside S.Store O.Sink E.Sink store.new out.new err.new) (exit_status result)) }
     ensures wanting { IfErr words.now (λ fault. HasNotBegun the_texts
         (outside S.Store O.Sink E.Sink store.old out.old err.old)
-        (outside S.Store O.Sink E.Sink store.new out.new err.new) result) }
+        (outside S.Store O.Sink E.Sink store.new out.new err.new) (exit_status result)) }
 {
     match words {
-        Ok(words) => heaprec_run(
-            rt,
-            alloc,
-            words,
-            &Limits::standard(),
-            store,
-            out,
-            err,
-            &OpenGate,
-        ),
+        Ok(words) => {
+            let limits = Limits::standard();
+            let status = heaprec_run(rt, alloc, words, &limits, store, out, err, &OpenGate);
+            ExitCode::from(status)
+        }
         Err(NoMemory) => {
             let outcome = Outcome::new(alloc, Err(Halt::no_memory()));
-            deliver(&outcome, &heaprec_texts(), out, err)
+            let status = deliver(&outcome, &heaprec_texts(), out, err);
+            ExitCode::from(status)
         }
     }
 }
