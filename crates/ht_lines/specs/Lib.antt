@@ -12,3 +12,4 @@ pub mod Written
 pub mod EventLine
 pub mod OneLine
 pub mod RawLine
+pub mod FaultText

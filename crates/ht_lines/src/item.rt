@@ -1,8 +1,10 @@
 //! What a line of a trace says, and what may be wrong with it.
 //!
 //! The types alone; `read` has the grammar, and `write` the written forms.
-use std::error::Error;
-use std::fmt;
+ghost use Rattle.std.specs.Prelude.{◌≡◌};
+ghost use Rattle.ht_lines.specs.FaultText.{fault_text};
+
+use thiserror::Error;
 
 /// What the lines of a trace refer to: addresses and sizes, or tables that stand in the trace itself. Both forms are this
 /// format's own.
@@ -15,7 +17,8 @@ pub enum Form {
 }
 
 /// Why a line is refused.
-#[derive(Clone, Copy, Debug, PartialEq, Eq)]
+#[derive(Clone, Copy, Debug, PartialEq, Eq, Error)]
+#[error("{}", self.text())]
 pub enum Malformed {
     /// A byte other than a blank follows the kind, a field is no number, a number is too large, or a module's range
     /// ends above 2^64 - 1.
@@ -34,7 +37,9 @@ pub enum Malformed {
 
 impl Malformed {
     /// What is wrong with the line, in few words.
-    fn text(self) -> &'static str {
+    pub fn text(self) -> &'static str
+        ensures { result.now ≡ fault_text self }
+    {
         match self {
             Malformed::BadField => "bad field",
             Malformed::MissingField => "missing field",
@@ -45,14 +50,6 @@ impl Malformed {
         }
     }
 }
-
-impl fmt::Display for Malformed {
-    fn fmt<W: fmt::Write>(&self, f: &mut fmt::Formatter<W>) -> fmt::Result {
-        f.write_str(self.text())
-    }
-}
-
-impl Error for Malformed {}
 
 /// What one line says. Texts, names and tails are parts of the line.
 #[derive(Clone, Copy)]

@@ -12,6 +12,7 @@
 //! - `put_item`: the one written form of what an item says, with one line feed where its texts have none. Read again in
 //!   the same form and version, whatever is writable says the same.
 //! - `field`, `next_number`: the numbers of a tail.
+//! - `Malformed::text` says what a fault is called.
 //! - `event_line`: the line of an event at the front of some bytes in its usual form, in one walk (`BeginsWithEvent`:
 //!   the front is a line and its line feed, which says this event in every version). `raw_line`: the same of an
 //!   allocation, a free or a node of a raw trace (`BeginsWithRaw`). Both may pass over any line, which `read_item` then

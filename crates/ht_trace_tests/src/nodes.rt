@@ -77,8 +77,9 @@ static CASES: [Case; 6] = [
             Call::Add(0, 4096),
             Call::Len,
         ],
-        answers: b"unknown, unknown, 1, deep, 2, deep, 3, deep, deep, deep, \
-            unknown, unknown, unknown, 4, 4, ",
+        answers: b"unknown parent, unknown parent, 1, stack too deep, 2, stack too deep, 3, \
+            stack too deep, stack too deep, stack too deep, unknown parent, unknown parent, \
+            unknown parent, 4, 4, ",
     },
     // 4,096 nodes of one frame each are taken, and nothing below them.
     Case {
@@ -89,7 +90,7 @@ static CASES: [Case; 6] = [
             Call::Add(0, 4097),
             Call::Add(0, 4096),
         ],
-        answers: b"chain, deep, 4097, deep, 4098, ",
+        answers: b"chain, stack too deep, 4097, stack too deep, 4098, ",
     },
     // The stacks of a recorder that holds two blocks, one called through the other's stack; then the last node goes, and
     // the numbers that were given up are given again.
@@ -124,7 +125,7 @@ static CASES: [Case; 6] = [
             Call::Intern((1 << 32) + 0x100, 0),
             Call::Intern(0x100, 1 << 32),
         ],
-        answers: b"1, 2, 3, 4, 1, 2, 4, 5, 5, unknown, 6, unknown, ",
+        answers: b"1, 2, 3, 4, 1, 2, 4, 5, 5, unknown parent, 6, unknown parent, ",
     },
     // A stack of 4,096 is taken, and one more is refused and leaves no node.
     Case {
@@ -135,7 +136,7 @@ static CASES: [Case; 6] = [
             Call::Deep(4097),
             Call::Len,
         ],
-        answers: b"deep, 0, 4096, deep, 4096, ",
+        answers: b"stack too deep, 0, 4096, stack too deep, 4096, ",
     },
 ];
 
@@ -143,9 +144,7 @@ static CASES: [Case; 6] = [
 fn put_number(out: &mut Vec<u8>, answer: Result<u32, NodeFault>) -> Result<(), NoMemory> {
     match answer {
         Ok(number) => put_dec(out, u64::from(number)),
-        Err(NodeFault::UnknownParent) => put_bytes(out, b"unknown"),
-        Err(NodeFault::TooDeep) => put_bytes(out, b"deep"),
-        Err(_) => put_bytes(out, b"full"),
+        Err(fault) => put_bytes(out, fault.text().as_bytes()),
     }
 }
 

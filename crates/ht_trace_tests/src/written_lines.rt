@@ -2,7 +2,7 @@
 ghost use Rattle.std.specs.Prelude.{◌≤◌, ◌<◌, length};
 
 use hp_num::{NoMemory, put_bytes};
-use ht_lines::{Form, Malformed, put_item, read_item};
+use ht_lines::{Form, put_item, read_item};
 use std::alloc::Global;
 use std::process::Abort;
 
@@ -141,18 +141,6 @@ static RAW: [Line; 19] = [
     (2, b"v 1 4", b"file version not 1 to 3"),
 ];
 
-/// How the tables name a fault.
-fn name_of(fault: Malformed) -> &'static [u8] {
-    match fault {
-        Malformed::BadField => b"bad field",
-        Malformed::MissingField => b"missing field",
-        Malformed::ExtraField => b"extra field",
-        Malformed::NotInterpreted => b"raw line",
-        Malformed::NotRaw => b"interpreted line",
-        Malformed::BadVersion => b"file version not 1 to 3",
-    }
-}
-
 /// Appends the written form of what a line says, or its fault.
 fn put_said(form: Form, version: u8, line: &[u8], out: &mut Vec<u8>) -> Result<(), NoMemory>
     requires low { 1 ≤ version }
@@ -161,7 +149,7 @@ fn put_said(form: Form, version: u8, line: &[u8], out: &mut Vec<u8>) -> Result<(
 {
     match read_item(form, version, line) {
         Ok(item) => put_item(version, &item, out),
-        Err(fault) => put_bytes(out, name_of(fault)),
+        Err(fault) => put_bytes(out, fault.text().as_bytes()),
     }
 }
 

@@ -10,7 +10,8 @@
 //! - `sound` says that the shares of all stacks sum to the total, so each is within it.
 //!
 //! The crates above may cite its `proofs/Laws`: the greatest of some numbers, and the first place at which it stands. The tests of
-//! these calls are in the crate `ht_trace_tests`.
+//! these calls are in the crate `ht_trace_tests`; one here, in `peaks/fields.rt`, takes the peaks apart, since their fields are
+//! private: what a stack has has no place but the ledger and the three lists of cells.
 #![tactic(auto)]
 
 mod mark;

@@ -10,8 +10,11 @@ ghost use Rattle.live_ledger.specs.InStack.{blocks_in, live_in};
 ghost use Rattle.peak_costs.specs.Peak.{IsIn, IsPeak, StandsFor, first_events, total_after};
 ghost use Rattle.peak_costs.specs.PeakState.{IsSound, with_stack};
 
+#[cfg(test)]
+mod fields;
+
 use crate::mark::Mark;
-use crate::save::SavedCells;
+use crate::save::{has, save};
 use hp_num::NoMemory;
 use live_ledger::{Cells, Event, EventFault, Ledger, Steps};
 use std::alloc::Global;
@@ -19,12 +22,14 @@ use std::marker::Model;
 
 /// The live figures of a trace with their peak: it stands for the list of events that it was given.
 ///
-/// Each stack has a saved figure and a stamp, the number of the peak for which it was saved. A share that isn't saved
-/// for the present peak is the live figure, since the stack hasn't changed after it.
+/// Each stack has saved bytes, saved blocks and a stamp, the number of the peak for which they were saved. A share that
+/// isn't saved for the present peak is the live figure, since the stack hasn't changed after it.
 #[derive(Drop)]
 pub struct Peaks {
     ledger: Ledger,
-    saved: SavedCells,
+    saved: Cells,
+    blocks: Cells,
+    stamps: Cells,
     mark: Mark,
 }
 
@@ -35,10 +40,10 @@ impl Model for Peaks {
     ghost Value = { PeakState };
 
     ghost view = { λ peaks.
-        state_of peaks.ledger peaks.saved.live peaks.saved.blocks peaks.saved.stamps peaks.mark };
+        state_of peaks.ledger peaks.saved peaks.blocks peaks.stamps peaks.mark };
 
     ghost invariant = { λ peaks.
-        AreMarked peaks.ledger peaks.saved.live peaks.saved.blocks peaks.saved.stamps peaks.mark };
+        AreMarked peaks.ledger peaks.saved peaks.blocks peaks.stamps peaks.mark };
 }
 
 impl Peaks {
@@ -49,19 +54,17 @@ impl Peaks {
         ensures infos { IfOk result (λ peaks. peaks.ledger.infos ≡ []) }
     {
         let ledger = Ledger::new(alloc)?;
-        let mut live = Cells::new(alloc);
-        live.push(0)?;
+        let mut saved = Cells::new(alloc);
+        saved.push(0)?;
         let mut blocks = Cells::new(alloc);
         blocks.push(0)?;
         let mut stamps = Cells::new(alloc);
         stamps.push(0)?;
         Ok(Peaks {
             ledger,
-            saved: SavedCells {
-                live,
-                blocks,
-                stamps,
-            },
+            saved,
+            blocks,
+            stamps,
             mark: Mark::new(),
         })
     }
@@ -77,9 +80,9 @@ impl Peaks {
         ensures unchanged { OnErr result (self.new ≡ self.old) }
     {
         let stacks = self.ledger.stacks();
-        add_cell(&mut self.saved.live, stacks)?;
-        add_cell(&mut self.saved.blocks, stacks)?;
-        add_cell(&mut self.saved.stamps, stacks)?;
+        add_cell(&mut self.saved, stacks)?;
+        add_cell(&mut self.blocks, stacks)?;
+        add_cell(&mut self.stamps, stacks)?;
         let number = self.ledger.grow_stack()?;
         Ok(number)
     }
@@ -166,14 +169,22 @@ impl Peaks {
         ensures steps { steps.new ≤ steps.old + 6 }
         ensures sound { IsSound self.new }
     {
-        if self.saved.has(self.mark.counter, stack) {
+        if has(&self.stamps, self.mark.counter, stack) {
             self.ledger.apply(event)?;
             self.mark.follow(event, &self.ledger);
             return Ok(());
         }
         let before = self.ledger.stack(stack);
         self.ledger.apply(event)?;
-        self.saved.save(self.mark.counter, stack, before, steps);
+        save(
+            &mut self.saved,
+            &mut self.blocks,
+            &mut self.stamps,
+            self.mark.counter,
+            stack,
+            before,
+            steps,
+        );
         self.mark.follow(event, &self.ledger);
         Ok(())
     }
@@ -212,8 +223,8 @@ impl Peaks {
             → result ≡ live_in stack (first_events self.now.moment events) }
         ensures within { result ≤ self.now.total }
     {
-        if self.saved.stamps.at(stack) == self.mark.counter {
-            self.saved.live.at(stack)
+        if self.stamps.at(stack) == self.mark.counter {
+            self.saved.at(stack)
         } else {
             self.ledger.stack(stack).live
         }
@@ -226,8 +237,8 @@ impl Peaks {
         ensures share { (events : List Event) → StandsFor self.now events
             → result ≡ blocks_in stack (first_events self.now.moment events) }
     {
-        if self.saved.stamps.at(stack) == self.mark.counter {
-            self.saved.blocks.at(stack)
+        if self.stamps.at(stack) == self.mark.counter {
+            self.blocks.at(stack)
         } else {
             self.ledger.stack(stack).blocks
         }

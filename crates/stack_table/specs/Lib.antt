@@ -8,3 +8,4 @@ pub mod LowerParents
 pub mod Node
 pub mod NodeNumber
 pub mod Stack
+pub mod FaultText

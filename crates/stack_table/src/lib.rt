@@ -11,6 +11,7 @@
 //!   always an earlier one, and a stack has at most 4,096 frames.
 //! - `cut` keeps the first nodes. But for that the list only grows: `Continues` says that each old node, its stack, its
 //!   frames and the least number of its instruction and parent stay.
+//! - `NodeFault::text` says what a fault is called.
 //!
 //! The index that `intern` looks into is brought up to date there, so `add` pays nothing for it. The crates above may cite
 //! its `proofs/Laws`: on lists of nodes that grow, and on the stacks of the newest node and of older ones. The tests of

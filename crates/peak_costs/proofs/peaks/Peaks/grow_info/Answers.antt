@@ -14,4 +14,4 @@ invariant_of-self c =
 pub returns-clause-stands : goal.returns-clause-stands
 returns-clause-stands c =
     rw (← c.self.view_is)
-    (λ events stands. stands-infos c.self.inside.ledger c.grow_info.new.self c.self.inside.saved.live c.self.inside.saved.blocks c.self.inside.saved.stamps c.self.inside.mark events c.grow_info.ensures.stacks c.grow_info.ensures.figures (c.grow_info.ensures.stands events stands.ledger) stands)
+    (λ events stands. stands-infos c.self.inside.ledger c.grow_info.new.self c.self.inside.saved c.self.inside.blocks c.self.inside.stamps c.self.inside.mark events c.grow_info.ensures.stacks c.grow_info.ensures.figures (c.grow_info.ensures.stands events stands.ledger) stands)

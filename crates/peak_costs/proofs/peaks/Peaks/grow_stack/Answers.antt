@@ -24,9 +24,9 @@ returns-in_err-number-clause-stands c =
 -- the ledger has one more stack, and each list of cells is long enough for it
 record Grown (c : goal.In_ok-number) : Type 0 where
   has : HasStack c.self.inside.ledger c.grow_stack.new.self
-  saved : Longer c.self.inside.ledger.stacks c.self.inside.saved.live c.add_cell.new.cells
-  blocks : Longer c.self.inside.ledger.stacks c.self.inside.saved.blocks c.add_cell-2.new.cells
-  stamps : Longer c.self.inside.ledger.stacks c.self.inside.saved.stamps c.add_cell-3.new.cells
+  saved : Longer c.self.inside.ledger.stacks c.self.inside.saved c.add_cell.new.cells
+  blocks : Longer c.self.inside.ledger.stacks c.self.inside.blocks c.add_cell-2.new.cells
+  stamps : Longer c.self.inside.ledger.stacks c.self.inside.stamps c.add_cell-3.new.cells
 
 grown : (c : goal.In_ok-number) → Grown c
 grown c = record {
