@@ -5,11 +5,11 @@ ghost use Rattle.massif_file.specs.declared.fault.ProfileFault.TheVariants.{NoMe
 ghost use Rattle.massif_file.specs.FaultText.{fault_text};
 
 use hp_num::NoMemory;
-use std::error::Error;
-use std::fmt;
+use thiserror::Error;
 
 /// Why a line of a Massif file, or its end, is refused.
-#[derive(Clone, Copy, Debug, PartialEq, Eq)]
+#[derive(Clone, Copy, Debug, PartialEq, Eq, Error)]
+#[error("{}", self.text())]
 pub enum ProfileFault {
     /// A line in the header's place that is none of the header's lines, or a time unit that isn't known.
     BadHeader,
@@ -43,14 +43,6 @@ impl ProfileFault {
         }
     }
 }
-
-impl fmt::Display for ProfileFault {
-    fn fmt<W: fmt::Write>(&self, f: &mut fmt::Formatter<W>) -> fmt::Result {
-        f.write_str(self.text())
-    }
-}
-
-impl Error for ProfileFault {}
 
 impl<E: Drop> From<E> for ProfileFault
 where

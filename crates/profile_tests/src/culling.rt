@@ -256,7 +256,10 @@ fn offer<'a>(
     };
     assert!(rt; last_time(array) <= offer.time);
     assert!(rt; array.len() > 0 || !peak);
-    array.offer(offer, load)
+    let judged = array.judge(&offer);
+    let taken = array.offer(offer, load);
+    assert!(rt; taken == judged);
+    taken
 }
 
 /// A letter for what an offer was taken as.

@@ -1,8 +1,6 @@
 //! Worked documents, read and written, and documents that are refused. Expected values are worked out by hand.
 
-use dhat_json::{
-    DhatFault, dhat_documents, dhat_round_trip, profile_text, read_profile, shown_texts,
-};
+use dhat_json::{DhatFault, profile_text, read_profile};
 use hp_num::{NoMemory, put_bytes};
 use std::alloc::Global;
 use std::process::Abort;
@@ -72,13 +70,6 @@ static EDITS: &str = r#"{ | [ | not JSON
 "acc":[-10,1],"fs":[1]} | "fs":[2]},{"tb":1} | point 0: frame 2 out of table
 "acc":[-10,1],"fs":[1]} | "fs":[1]},{"tb":1},5 | point 1: missing key tbk
 "#;
-
-#[test]
-fn laws() {
-    dhat_documents();
-    dhat_round_trip();
-    shown_texts();
-}
 
 /// Reads the document, writes the profile and compares.
 fn writes_again(rt: &impl Abort, alloc: Global, document: &str, written: &str) {

@@ -7,6 +7,8 @@ mod culling;
 #[cfg(test)]
 mod documents;
 #[cfg(test)]
+mod links;
+#[cfg(test)]
 mod profiles;
 #[cfg(test)]
 mod texts;
