@@ -6,9 +6,12 @@ JOBS ?= $(shell awk -v wanted="$$(nproc)" '/^MemAvailable/ { fit = int($$2 / 300
 	print fit < 1 ? 1 : fit < wanted ? fit : wanted }' /proc/meminfo)
 
 PROGRAMS = heapsuite heaprec
-SCRIPTS = heapsuite-symbols heapsuite-compare heapsuite-budget
+SCRIPTS = heapsuite-leaks heapsuite-symbols heapsuite-compare heapsuite-budget
 BIN = $(DESTDIR)$(PREFIX)/bin
-SHARE = $(DESTDIR)$(PREFIX)/share
+MAN = $(DESTDIR)$(PREFIX)/share/man/man1
+BASH = $(DESTDIR)$(PREFIX)/share/bash-completion/completions
+ZSH = $(DESTDIR)$(PREFIX)/share/zsh/site-functions
+FISH = $(DESTDIR)$(PREFIX)/share/fish/vendor_completions.d
 
 .PHONY: demo build test sweep install uninstall
 
@@ -35,18 +38,21 @@ test:
 sweep: $(PROGRAMS:%=bin/%)
 	bench/sweep bin
 
-# Takes the programs that stand in bin/, and builds them only where they aren't there.
+# Takes the programs that stand in bin/, and builds them only where they aren't there. Bash and fish look for a completion by the
+# name of the command, so that of the scripts stands there under the name of each.
 install: $(PROGRAMS:%=bin/%)
-	install -d $(BIN) $(SHARE)/man/man1 $(SHARE)/bash-completion/completions \
-	    $(SHARE)/zsh/site-functions $(SHARE)/fish/vendor_completions.d
-	install $(PROGRAMS:%=bin/%) $(SCRIPTS:%=scripts/%) $(BIN)
-	install -m 644 $(PROGRAMS:%=man/%.1) $(SHARE)/man/man1
-	install -m 644 $(PROGRAMS:%=completions/_%) $(SHARE)/zsh/site-functions
-	install -m 644 $(PROGRAMS:%=completions/%.fish) $(SHARE)/fish/vendor_completions.d
-	for program in $(PROGRAMS); do install -m 644 completions/$$program.bash \
-	    $(SHARE)/bash-completion/completions/$$program || exit 1; done
+	install -d "$(BIN)" "$(MAN)" "$(BASH)" "$(ZSH)" "$(FISH)"
+	install $(PROGRAMS:%=bin/%) $(SCRIPTS:%=scripts/%) "$(BIN)"
+	install -m 644 $(PROGRAMS:%=man/%.1) $(SCRIPTS:%=man/%.1) "$(MAN)"
+	install -m 644 $(PROGRAMS:%=completions/_%) completions/_heapsuite_scripts "$(ZSH)"
+	for program in $(PROGRAMS); do \
+	    install -m 644 completions/$$program.bash "$(BASH)/$$program" && \
+	    install -m 644 completions/$$program.fish "$(FISH)" || exit 1; done
+	for script in $(SCRIPTS); do \
+	    install -m 644 completions/heapsuite-scripts.bash "$(BASH)/$$script" && \
+	    install -m 644 completions/heapsuite-scripts.fish "$(FISH)/$$script.fish" || exit 1; done
 
 uninstall:
-	rm -f $(PROGRAMS:%=$(BIN)/%) $(SCRIPTS:%=$(BIN)/%) $(PROGRAMS:%=$(SHARE)/man/man1/%.1) \
-	    $(PROGRAMS:%=$(SHARE)/bash-completion/completions/%) $(PROGRAMS:%=$(SHARE)/zsh/site-functions/_%) \
-	    $(PROGRAMS:%=$(SHARE)/fish/vendor_completions.d/%.fish)
+	for name in $(PROGRAMS) $(SCRIPTS); do \
+	    rm -f "$(BIN)/$$name" "$(MAN)/$$name.1" "$(BASH)/$$name" "$(ZSH)/_$$name" "$(FISH)/$$name.fish" || exit 1; done
+	rm -f "$(ZSH)/_heapsuite_scripts"

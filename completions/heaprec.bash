@@ -1,5 +1,12 @@
 # Completion of heaprec for bash.
 
+# The files that begin as a word does. Readline quotes the blanks of names, and gives the word as it is quoted.
+_heaprec_files() {
+    local begin=${1//\\/}
+    compopt -o filenames
+    mapfile -t COMPREPLY < <(compgen -f -- "${begin#[\"\']}")
+}
+
 _heaprec() {
     local current=$2 previous=${COMP_WORDS[COMP_CWORD - 1]} words='--modules= --summary --check='
     COMPREPLY=()
@@ -13,8 +20,7 @@ _heaprec() {
             *=) compopt -o nospace ;;
         esac
     else
-        compopt -o filenames
-        COMPREPLY=($(compgen -f -- "$current"))
+        _heaprec_files "$current"
     fi
 }
 

@@ -40,6 +40,13 @@ _heapsuite_values() {
     echo "$values"
 }
 
+# The files that begin as a word does. Readline quotes the blanks of names, and gives the word as it is quoted.
+_heapsuite_files() {
+    local begin=${1//\\/}
+    compopt -o filenames
+    mapfile -t COMPREPLY < <(compgen -f -- "${begin#[\"\']}")
+}
+
 _heapsuite() {
     local current=$2 previous=${COMP_WORDS[COMP_CWORD - 1]} command=${COMP_WORDS[1]} option=
     COMPREPLY=()
@@ -61,7 +68,7 @@ _heapsuite() {
         if [ -n "$values" ]; then
             COMPREPLY=($(compgen -W "$values" -- "$current"))
         else
-            COMPREPLY=($(compgen -f -- "$current"))
+            _heapsuite_files "$current"
         fi
     elif [ "${current:0:2}" = '--' ]; then
         COMPREPLY=($(compgen -W "$(_heapsuite_options "$command")" -- "$current"))
@@ -69,8 +76,7 @@ _heapsuite() {
             *=) compopt -o nospace ;;
         esac
     elif [ "$command" != gen ]; then
-        compopt -o filenames
-        COMPREPLY=($(compgen -f -- "$current"))
+        _heapsuite_files "$current"
     fi
 }
 

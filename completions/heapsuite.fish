@@ -1,4 +1,5 @@
-# Completion of heapsuite for fish.
+# Completion of heapsuite for fish. No file stands where none is read, and so each command that reads one says so.
+complete -c heapsuite -f
 complete -c heapsuite -n __fish_use_subcommand -f -a summary -d "Six figures of a trace"
 complete -c heapsuite -n __fish_use_subcommand -f -a print -d "Who allocates, holds the peak and leaks"
 complete -c heapsuite -n __fish_use_subcommand -f -a flame -d "The lines of a flame graph"
@@ -49,7 +50,6 @@ complete -c heapsuite -n "__fish_seen_subcommand_from ms_print" -l y -x -d "The 
 
 complete -c heapsuite -n "__fish_seen_subcommand_from dhat" -F
 
-complete -c heapsuite -n "__fish_seen_subcommand_from gen" -f
 complete -c heapsuite -n "__fish_seen_subcommand_from gen" -l seed -x -d "What the trace is drawn from (default 1, 0 to 2,147,483,647)"
 complete -c heapsuite -n "__fish_seen_subcommand_from gen" -l events -x -d "How many events it has (default 1,000, 0 to 10,000,000)"
 complete -c heapsuite -n "__fish_seen_subcommand_from gen" -l stacks -x -d "How many stacks it has (default 10, 1 to 4,000)"

@@ -1,0 +1,12 @@
+# Completion of the scripts beside heapsuite for fish.
+complete -c heapsuite-leaks -l limit -x -d "How many places are shown (default 10, 0 to 1,000,000)"
+complete -c heapsuite-leaks -l alloc-fns -x -d "More functions that allocate for others"
+complete -c heapsuite-leaks -l help -d "How it is called"
+complete -c heapsuite-symbols -l root -x -a "(__fish_complete_directories)" -d "Where the binaries lie"
+complete -c heapsuite-symbols -l help -d "How it is called"
+complete -c heapsuite-compare -l lines -d "Matches whole frames"
+complete -c heapsuite-compare -l limit -x -d "How many stacks are shown (default 10, 0 to 1,000,000)"
+complete -c heapsuite-compare -l help -d "How it is called"
+complete -c heapsuite-budget -l peak -x -d "The most live bytes at the peak"
+complete -c heapsuite-budget -l leaked -x -d "The most live bytes at the end"
+complete -c heapsuite-budget -l help -d "How it is called"
