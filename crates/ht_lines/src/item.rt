@@ -88,7 +88,7 @@ pub enum Item<'a> {
         tail: &'a [u8],
     },
     /// `i`: an instruction, numbered from 1: its address, and the string of its module, 0 for none. The tail has the
-    /// frames from the innermost on, each as a function, a file and a line, where the last may be a function alone.
+    /// frames from the innermost on, each as a function, a file and a line, where the first may be a function alone.
     /// `fields` counts all fields after the kind.
     Instr {
         ip: u64,

@@ -27,7 +27,8 @@
 //! text can begin only with the last that isn't behind it (`AreLeast`); what a stack's own instruction and its caller answer
 //! is the stack's answer.
 //!
-//! The tests of these calls are runs of `summary`, `print` and `flame` in the crate `commands_tests`.
+//! The tests of these calls are runs of `summary`, `print` and `flame` in the crate `commands_tests`; that of `put_flame`, which no
+//! command calls, is in `ht_trace_tests`.
 //!
 //! | File | Does |
 //! |---|---|

@@ -3,7 +3,7 @@ ghost use Rattle.std.specs.Prelude.{◌≡◌, ◌+◌, ◌-◌, ◌^◌, ◌<�
 ghost use Rattle.live_ledger.specs.LedgerState.{IsHeld};
 
 use hp_num::{NoMemory, put_bytes, put_dec};
-use live_ledger::{Cells, Event, Ledger, Steps};
+use live_ledger::{Event, Ledger, Steps};
 use peak_costs::Peaks;
 use std::alloc::Global;
 use std::marker::Brand;
@@ -21,13 +21,13 @@ enum Step {
 /// A trace of two infos in stacks 0 to 2, and what is told of it: the live bytes after each step, or why it isn't taken; the events,
 /// calls, temporary calls, allocated bytes, live bytes and blocks, the peak and its moment; of each stack the live bytes and
 /// blocks, calls, temporary calls, allocated bytes, and its bytes and blocks at the peak; and the calls of each info.
-struct Case {
+pub(crate) struct Case {
     infos: [(u32, u64); 2],
     steps: &'static [Step],
     told: &'static [u8],
 }
 
-static CASES: [Case; 6] = [
+pub(crate) static CASES: [Case; 6] = [
     Case {
         infos: [(0, 100), (2, 32)],
         steps: &[Step::Clock],
@@ -118,10 +118,6 @@ free of nothing.
 ",
     },
 ];
-
-// Peaks are a ledger, three lists of cells and the three numbers of a mark: a field for a second copy of the peak's figures would
-// make them larger.
-const _: () = prove!(size_of::<Peaks>() == size_of::<Ledger>() + 3 * size_of::<Cells>() + 24);
 
 /// Appends numbers as a line, with blanks between them.
 fn put_row(out: &mut Vec<u8>, first: u64, others: &[u64]) -> Result<(), NoMemory> {
@@ -254,7 +250,7 @@ fn put_figures(out: &mut Vec<u8>, peaks: &Peaks) -> Result<(), NoMemory> {
 }
 
 /// Takes a trace by peaks without events, and tells of it.
-fn put_trace<L: Counter>(
+pub(crate) fn put_trace<L: Counter>(
     out: &mut Vec<u8>,
     peaks: &mut Peaks,
     case: &Case,

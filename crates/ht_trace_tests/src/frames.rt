@@ -104,8 +104,20 @@ t 1 0
 t 2 1
 t 3 0";
 
+/// A trace in which a name comes twice, with its size and without, and once more with bytes behind its size.
+const NAMED_TWICE: &[u8] = b"v 10500 3
+s 4 main
+s main
+s 4 mainx
+i 10 0 1
+i 20 0 2
+i 30 0 3
+t 1 0
+t 2 1
+t 3 0";
+
 /// Traces, what is shown of their frames, and how.
-static SHOWN: [(&[u8], Shown, &[u8]); 10] = [
+static SHOWN: [(&[u8], Shown, &[u8]); 11] = [
     (WORKED, Shown::Place, b"0.1 \n1.0 \n2.0 1.0 \n"),
     (
         WORKED,
@@ -144,6 +156,11 @@ static SHOWN: [(&[u8], Shown, &[u8]); 10] = [
         b"(no stack) \n0x1f: ??? \n0x2a: ??? (a.c:6) 0x1f: ??? \n0x3b: ??? (in a.c) \n",
     ),
     (NO_FUNCTIONS, Shown::Function, b"- \n- \n- - \n- \n"),
+    (
+        NAMED_TWICE,
+        Shown::Function,
+        b"- \nmain \nmain main \n4 mainx \n",
+    ),
 ];
 
 #[test]

@@ -51,7 +51,7 @@ static BOTH: [Line; 33] = [
 ];
 
 /// Lines of interpreted traces.
-static INTERPRETED: [Line; 64] = [
+static INTERPRETED: [Line; 65] = [
     (2, b"s", b"s \n"),
     (3, b"s", b"s 0 \n"),
     (2, b"s 4 main", b"s 4 main\n"),
@@ -66,6 +66,7 @@ static INTERPRETED: [Line; 64] = [
     (2, b"i 400 1", b"i 400 1\n"),
     (2, b"i 1 1 2", b"i 1 1 2\n"),
     (2, b"i 400 1 2 4 14", b"i 400 1 2 4 14\n"),
+    (2, b"i 1 1 2 3 4 5", b"i 1 1 2 3 4 5\n"),
     (2, b"i 1 1 2 3 4 5 6 7", b"i 1 1 2 3 4 5 6 7\n"),
     (2, b"a 64 2", b"a 64 2\n"),
     (2, b"+   0A  ", b"+ a\n"),
