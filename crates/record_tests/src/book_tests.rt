@@ -7,18 +7,20 @@ use record_book::Book;
 use std::alloc::Global;
 use std::process::Abort;
 
-/// Scripts, the threads that take the first turns, by digits, before all are finished, and what is told of it: the trace, a line
-/// with the order, and the summary.
+/// Scripts, the threads that take the first turns, by digits, before all are finished, the scripts that are finished, which are
+/// the same where none stand here, and what is told of it: the trace, a line with the order, and the summary.
 struct Recording {
     scripts: &'static [u8],
     threads: &'static [u8],
+    finished: Option<&'static [u8]>,
     told: &'static [u8],
 }
 
-static RECORDINGS: [Recording; 5] = [
+static RECORDINGS: [Recording; 9] = [
     Recording {
         scripts: b"a 1 40 500 400\nf 1\na 2 8 400",
         threads: b"",
+        finished: None,
         told: b"\
 v 10500 2
 X heaprec
@@ -40,6 +42,7 @@ t 500 1
     Recording {
         scripts: b"a 1 40 500 400\nf 1|a 1 8 400",
         threads: b"010",
+        finished: None,
         told: b"\
 v 10500 2
 X heaprec
@@ -63,6 +66,7 @@ t 500 1
     Recording {
         scripts: b"a 1 40 500 400\nf 1|a 1 8 400",
         threads: b"",
+        finished: None,
         told: b"\
 v 10500 2
 X heaprec
@@ -85,6 +89,7 @@ t 500 1
     Recording {
         scripts: b"a 1 10 1\na 2 10 1\nf 1\nf 2\na 3 10 1",
         threads: b"0000",
+        finished: None,
         told: b"\
 v 10500 2
 X heaprec
@@ -107,6 +112,7 @@ t 1 0
     Recording {
         scripts: b"a 1 10 1\nr 1 20 1\nr 1 20 2",
         threads: b"00",
+        finished: None,
         told: b"\
 v 10500 2
 X heaprec
@@ -127,6 +133,97 @@ t 2 0
 # peak: 32 from 32 to 32
 ",
     },
+    Recording {
+        scripts: b"a 1 40 500 400\nf 1|a 1 8 400",
+        threads: b"001",
+        finished: None,
+        told: b"\
+v 10500 2
+X heaprec
+# thread 0
+t 400 0
+t 500 1
++ 40 2 10000
+- 10000
+# thread 1
++ 8 1 10040
+001
+# threads: 2
+# events: 3
+# calls: 2
+# allocated: 72
+# leaked: 8 in 1 blocks
+# peak: 64 from 64 to 72
+",
+    },
+    // The same scripts by other lines: the order stays.
+    Recording {
+        scripts: b"a 1 40 500 400\nf 1|a 1 8 400",
+        threads: b"01",
+        finished: Some(b"# one\n\na 01 040 0500 400\nf 01|a 1 8 400"),
+        told: b"\
+v 10500 2
+X heaprec
+# thread 0
+t 400 0
+t 500 1
++ 40 2 10000
+# thread 1
++ 8 1 10040
+# thread 0
+- 10000
+010
+# threads: 2
+# events: 3
+# calls: 2
+# allocated: 72
+# leaked: 8 in 1 blocks
+# peak: 72 from 64 to 72
+",
+    },
+    // Other scripts are recorded from nothing on: as many, or fewer.
+    Recording {
+        scripts: b"a 1 40 500 400\nf 1|a 1 8 400",
+        threads: b"01",
+        finished: Some(b"a 1 8 400\nf 1|a 1 8 500"),
+        told: b"\
+v 10500 2
+X heaprec
+# thread 0
+t 400 0
++ 8 1 10000
+- 10000
+# thread 1
+t 500 0
++ 8 2 10000
+001
+# threads: 2
+# events: 3
+# calls: 2
+# allocated: 16
+# leaked: 8 in 1 blocks
+# peak: 8 from 8 to 16
+",
+    },
+    Recording {
+        scripts: b"a 1 40 500 400\nf 1|a 1 8 400",
+        threads: b"01",
+        finished: Some(b"a 1 8 400"),
+        told: b"\
+v 10500 2
+X heaprec
+# thread 0
+t 400 0
++ 8 1 10000
+0
+# threads: 1
+# events: 1
+# calls: 1
+# allocated: 8
+# leaked: 8 in 1 blocks
+# peak: 8 from 8 to 8
+",
+    },
 ];
 
 /// Takes turns of these threads, given by digits, and then those that are left of thread 0, up to 64.
@@ -143,15 +240,16 @@ fn take_turns(book: &mut Book, threads: &[u8]) -> Result<(), NoMemory> {
     Ok(())
 }
 
-/// The book of scripts, of which threads take turns before all are finished.
+/// The book of scripts, of which threads take turns before all are finished, or others are.
 fn finished(rt: &impl Abort, alloc: Global, recording: &Recording) -> Book
     ensures { IsInterleaving result.job.scripts result.order }
 {
     let job = scripts_of(rt, alloc, recording.scripts);
     let mut book = Book::new(alloc, job).expect(rt, "a book");
     take_turns(&mut book, recording.threads).expect(rt, "turns");
-    let same = scripts_of(rt, alloc, recording.scripts);
-    book.finish(same).expect(rt, "a finished book")
+    let text = recording.finished.unwrap_or(recording.scripts);
+    let finished = scripts_of(rt, alloc, text);
+    book.finish(finished).expect(rt, "a finished book")
 }
 
 /// Appends a line with the order.

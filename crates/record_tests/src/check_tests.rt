@@ -1,6 +1,7 @@
 //! Runs that check a trace.
 
-use crate::run_tests::{Transcript, expect_all};
+use crate::gates::{NOBODY, Watch};
+use crate::transcripts::{Transcript, expect_all};
 
 static TRANSCRIPTS: [Transcript; 2] = [
     Transcript {
@@ -281,7 +282,10 @@ heaprec: s:1: not a recording
     },
 ];
 
+// A check starts no worker.
 #[test]
 fn checks(rt: HostRuntime) {
-    expect_all(&rt, rt.alloc(), &TRANSCRIPTS);
+    let gate = Watch::of(NOBODY);
+    expect_all(&rt, rt.alloc(), &TRANSCRIPTS, &gate);
+    assert!(rt; gate.has_counted(0, 0), "a check has a worker");
 }

@@ -6,61 +6,73 @@ use std::sync::atomic::{AtomicBool, AtomicU64, Ordering};
 // How often a gate looks before it lets go.
 const MOST_LOOKS: u64 = 1_000_000_000;
 
-/// The number of no worker.
-pub const NOBODY: u32 = 64;
+/// No workers.
+pub const NOBODY: u32 = 0;
 
-/// A gate that keeps one worker from its second hold until another was at its own, or until it has looked often enough. It keeps
-/// the numbers of the holds of workers 0 and 1.
+/// A gate at which so many workers meet: it keeps each of them from its second hold until all have come to theirs, or until it has
+/// looked often enough. It counts the holds of workers 0 to 7, each of which has to come with the numbers from 0 on.
 #[derive(Drop)]
 pub struct Watch {
-    waits: u32,
-    other_came: AtomicBool,
-    met: AtomicBool,
-    first: AtomicU64,
-    second: AtomicU64,
+    meeting: u32,
+    came: AtomicU64,
+    is_parted: AtomicBool,
+    holds: [AtomicU64; 8],
     is_out_of_order: AtomicBool,
 }
 
 impl Watch {
-    /// A gate at which the worker of this number waits.
-    pub fn of(waits: u32) -> Watch {
+    /// A gate at which so many workers meet. At that of nobody none waits.
+    pub fn of(meeting: u32) -> Watch {
         Watch {
-            waits,
-            other_came: AtomicBool::new(false),
-            met: AtomicBool::new(false),
-            first: AtomicU64::new(0),
-            second: AtomicU64::new(0),
+            meeting,
+            came: AtomicU64::new(0),
+            is_parted: AtomicBool::new(false),
+            holds: [
+                AtomicU64::new(0),
+                AtomicU64::new(0),
+                AtomicU64::new(0),
+                AtomicU64::new(0),
+                AtomicU64::new(0),
+                AtomicU64::new(0),
+                AtomicU64::new(0),
+                AtomicU64::new(0),
+            ],
             is_out_of_order: AtomicBool::new(false),
         }
     }
 
-    /// Whether the worker that waited saw the other.
+    /// Whether all that were to meet have come, and none of them went on before.
     pub fn has_met(&self) -> bool {
-        self.met.load(Ordering::SeqCst)
+        !self.is_parted.load(Ordering::SeqCst)
+            && self.came.load(Ordering::SeqCst) == u64::from(self.meeting)
     }
 
-    /// Whether each of the two workers came to so many holds, with the numbers from 0 on, and no other worker came.
-    pub fn has_counted(&self, holds: u64) -> bool {
+    /// Whether each of the first workers came to so many holds, with the numbers from 0 on, and no other worker came.
+    pub fn has_counted(&self, workers: u32, holds: u64) -> bool {
+        for worker in 0..8u32 {
+            let due = if worker < workers { holds } else { 0 };
+            if self.holds[worker as usize].load(Ordering::SeqCst) != due {
+                return false;
+            }
+        }
         !self.is_out_of_order.load(Ordering::SeqCst)
-            && self.first.load(Ordering::SeqCst) == holds
-            && self.second.load(Ordering::SeqCst) == holds
     }
 
-    fn wait(&self) {
+    fn meet(&self) {
+        self.came.fetch_add(1, Ordering::SeqCst);
         for _ in 0..MOST_LOOKS {
-            if self.other_came.load(Ordering::SeqCst) {
-                self.met.store(true, Ordering::SeqCst);
+            if self.came.load(Ordering::SeqCst) >= u64::from(self.meeting) {
                 return;
             }
         }
+        self.is_parted.store(true, Ordering::SeqCst);
     }
 
     /// Keeps the number of a worker's hold.
     fn count(&self, worker: u32, hold: u64) {
-        let due = match worker {
-            0 => self.first.fetch_add(1, Ordering::SeqCst),
-            1 => self.second.fetch_add(1, Ordering::SeqCst),
-            _ => u64::MAX,
+        let due = match self.holds.get(worker as usize) {
+            Some(holds) => holds.fetch_add(1, Ordering::SeqCst),
+            None => u64::MAX,
         };
         if hold != due {
             self.is_out_of_order.store(true, Ordering::SeqCst);
@@ -71,13 +83,8 @@ impl Watch {
 impl Gate for Watch {
     fn before(&self, worker: u32, hold: u64) {
         self.count(worker, hold);
-        if hold != 1 {
-            return;
-        }
-        if worker == self.waits {
-            self.wait();
-        } else {
-            self.other_came.store(true, Ordering::SeqCst);
+        if self.meeting > 0 && hold == 1 {
+            self.meet();
         }
     }
 }

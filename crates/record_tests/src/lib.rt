@@ -4,13 +4,13 @@
 //! | File | What it has |
 //! |---|---|
 //! | `script_tests`, `book_tests` | scripts that say the same, and the traces and summaries of small scripts |
-//! | `worker_tests` | that the workers take all turns |
+//! | `worker_tests` | that there is a worker for each script, and that they take all turns |
 //! | `run_tests` | runs whose text is the same whatever the threads do, and lines of scripts |
-//! | `order_tests`, `check_tests` | checks of traces of small scripts, and runs that check a trace |
-//! | `thread_run_tests` | runs of two scripts by threads: that these go on beside each other, in numbered holds |
-//! | `failing_calls` | each call of a run that can fail, failed once; the table stands in `run_tests` |
+//! | `order_tests`, `check_tests` | checks of traces of small scripts, and runs that check a trace, without a worker |
+//! | `thread_run_tests` | runs of two to eight scripts by threads: that these go on beside each other, in numbered holds |
+//! | `failure_tests`, `failing_calls` | each call of a run that can fail, failed once |
 //! | `recorded_tests`, `both_runs` | what one program records, the other reads |
-//! | `gates`, `runs`, `script_text` | what the others share |
+//! | `gates`, `runs`, `script_text`, `transcripts` | what the others share |
 #![tactic(auto)]
 
 #[cfg(test)]
@@ -21,6 +21,8 @@ mod both_runs;
 mod check_tests;
 #[cfg(test)]
 mod failing_calls;
+#[cfg(test)]
+mod failure_tests;
 #[cfg(test)]
 mod gates;
 #[cfg(test)]
@@ -37,5 +39,7 @@ mod script_tests;
 mod script_text;
 #[cfg(test)]
 mod thread_run_tests;
+#[cfg(test)]
+mod transcripts;
 #[cfg(test)]
 mod worker_tests;

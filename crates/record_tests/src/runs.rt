@@ -93,8 +93,8 @@ fn ends_of(rt: &impl Abort, alloc: Global, run: &Run) -> Ends
 {
     let mut ends = Ends {
         store: MemStore::new(alloc, run.setting.piece.max(1)),
-        out: MemSink::new(alloc, 10_000).expect(rt, "an output"),
-        err: MemSink::new(alloc, 10_000).expect(rt, "an output"),
+        out: MemSink::new(alloc, 20_000).expect(rt, "an output"),
+        err: MemSink::new(alloc, 20_000).expect(rt, "an output"),
     };
     fill(&mut ends, run).expect(rt, "files");
     ends

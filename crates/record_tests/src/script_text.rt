@@ -28,9 +28,9 @@ fn add_scripts(scripts: &mut Scripts, text: &[u8]) -> Result<(), ScriptFault> {
     Ok(())
 }
 
-/// The scripts of a text, which are parted by `|`. All together may have 300 events.
+/// The scripts of a text, which are parted by `|`. All together may have 1,000 events.
 pub fn scripts_of(rt: &impl Abort, alloc: Global, text: &[u8]) -> Arc<Scripts> {
-    let mut scripts = Scripts::new(alloc, 300);
+    let mut scripts = Scripts::new(alloc, 1000);
     add_scripts(&mut scripts, text).expect(rt, "scripts");
     scripts.share().expect(rt, "memory")
 }
@@ -41,6 +41,17 @@ pub fn put_hundred(text: &mut Vec<u8>) -> Result<(), NoMemory> {
         put_bytes(text, b"a ")?;
         put_hex(text, id)?;
         put_bytes(text, b" 8 400\n")?;
+    }
+    Ok(())
+}
+
+/// Appends so many of these scripts, parted by `|`.
+pub fn put_hundreds(count: u32, text: &mut Vec<u8>) -> Result<(), NoMemory> {
+    for script in 0..count {
+        if script > 0 {
+            put_bytes(text, b"|")?;
+        }
+        put_hundred(text)?;
     }
     Ok(())
 }

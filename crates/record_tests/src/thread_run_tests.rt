@@ -1,8 +1,9 @@
-//! Runs of two scripts by threads, whose text is one of those that the scripts allow.
+//! Runs of several scripts by threads, whose text is one of those that the scripts allow.
 
 use crate::gates::{NOBODY, Watch};
 use crate::runs::{Run, append_run, sound};
 use crate::script_text::put_hundred;
+use hp_num::NoMemory;
 use std::alloc::Global;
 use std::process::Abort;
 use std::sync::Wait;
@@ -58,74 +59,96 @@ fn records_two_scripts(rt: HostRuntime) {
     assert!(rt; is_first || is_second, "the text is of no order");
 }
 
-/// How many allocations of a trace stand before that of a thread that has so many of the same thread before it, or how many
-/// there are, where there is none. The thread is given as the line that names it.
-fn allocations_before(trace: &[u8], thread: &[u8], mut count: u32) -> u32 {
-    let mut before = 0u32;
+/// The lines that name the threads.
+static THREADS: [&[u8]; 8] = [
+    b"# thread 0",
+    b"# thread 1",
+    b"# thread 2",
+    b"# thread 3",
+    b"# thread 4",
+    b"# thread 5",
+    b"# thread 6",
+    b"# thread 7",
+];
+
+/// How many of the first allocations of a trace, so many of them, are of a thread, which is given as the line that names it.
+fn allocations_of(trace: &[u8], thread: &[u8], first: u32) -> u32 {
+    let mut left = first;
+    let mut own = 0u32;
     let mut is_its_own = false;
     for line in trace.split(|byte| *byte == b'\n') {
         if line.starts_with(b"# thread ") {
             is_its_own = line == thread;
         }
-        if line.starts_with(b"+ ") {
+        if line.starts_with(b"+ ") && left > 0 {
+            left = left.saturating_sub(1);
             if is_its_own {
-                if count == 0 {
-                    return before;
-                }
-                count -= 1;
+                own = own.saturating_add(1);
             }
-            before = before.saturating_add(1);
         }
     }
-    before
+    own
 }
 
-/// The trace of two threads that both make a hundred allocations.
+/// The words of a run of so many scripts, each of them the file `s`.
+fn put_words(scripts: u32, words: &mut String) -> Result<(), NoMemory> {
+    for script in 0..scripts {
+        words.push_str(if script == 0 { "s" } else { " s" })?;
+    }
+    Ok(())
+}
+
+/// The trace of so many threads, each of which makes a hundred allocations.
 fn put_trace<R: Threads + Wait + Sync + Abort>(
     rt: &R,
     alloc: Global,
+    threads: u32,
     gate: &Watch,
     trace: &mut Vec<u8>,
 ) {
     let mut script = Vec::new(alloc);
     put_hundred(&mut script).expect(rt, "memory");
+    let mut words = String::new(alloc);
+    put_words(threads, &mut words).expect(rt, "memory");
     let run = Run {
-        setting: sound(200),
+        setting: sound(1000),
         script: &script,
-        words: "s s",
+        words: &words,
     };
     append_run(rt, alloc, &run, gate, trace);
 }
 
-/// Whether the other thread has taken the turns of its first hold when this one begins its second, and both take all.
-fn are_beside(trace: &[u8], waiting: &[u8], other: &[u8]) -> bool {
-    let begins = allocations_before(trace, waiting, 64);
-    let all = allocations_before(trace, waiting, 100);
-    let all_others = allocations_before(trace, other, 100);
-    allocations_before(trace, other, 63) < begins && all == 200 && all_others == 200
+/// Whether each of so many threads has taken the turns of its first hold when any begins its second, and all take all.
+fn are_beside(trace: &[u8], threads: u32) -> bool {
+    let first_holds = threads.saturating_mul(64);
+    for thread in THREADS.iter().take(threads as usize) {
+        if allocations_of(trace, thread, first_holds) != 64
+            || allocations_of(trace, thread, u32::MAX) != 100
+        {
+            return false;
+        }
+    }
+    true
 }
 
-/// That two workers meet where this one waits for the other, that their holds are numbered, and that their turns stand beside each
-/// other.
-fn meet<R: Threads + Wait + Sync + Abort>(
-    rt: &R,
-    alloc: Global,
-    waits: u32,
-    waiting: &[u8],
-    other: &[u8],
-) {
-    let gate = Watch::of(waits);
+/// That so many workers meet at their second holds, that their holds are numbered, and that their turns stand beside each other.
+fn meet<R: Threads + Wait + Sync + Abort>(rt: &R, alloc: Global, workers: u32) {
+    let gate = Watch::of(workers);
     let mut trace = Vec::new(alloc);
-    put_trace(rt, alloc, &gate, &mut trace);
-    let beside = are_beside(&trace, waiting, other);
+    put_trace(rt, alloc, workers, &gate, &mut trace);
+    let beside = are_beside(&trace, workers);
     drop(trace);
     assert!(rt; gate.has_met(), "the workers never met");
-    assert!(rt; gate.has_counted(2), "the holds have other numbers");
+    assert!(rt;
+        gate.has_counted(workers, 2),
+        "the holds have other numbers"
+    );
     assert!(rt; beside, "the turns stand behind each other");
 }
 
 #[test]
 fn workers_meet(rt: HostRuntime) {
-    meet(&rt, rt.alloc(), 0, b"# thread 0", b"# thread 1");
-    meet(&rt, rt.alloc(), 1, b"# thread 1", b"# thread 0");
+    for workers in [2, 3, 8] {
+        meet(&rt, rt.alloc(), workers);
+    }
 }

@@ -12,20 +12,25 @@
 //! - The book keeps what its type says, so it holds whenever the lock is free: the order is one under the scripts, the
 //!   bytes are its trace, and no two live blocks overlap. `close` says so of the book that it gives.
 //! - One hold is at most 64 turns of one thread (`IsHold`, of the private call `take_turns`).
+//! - Want of memory of any worker is told: that workers have ended well is told by their last holds alone (`Ended`), and the
+//!   tree of joins puts together what its halves tell (`first` and `end` of the private call `run_between`).
 //! - What `record_job` answers is a book of the scripts that were handed in, whose order is an interleaving of them,
 //!   whatever the workers did: `finish` takes what they left.
 //!
 //! No clause says what is under a lock, so none says which scripts the book has: a worker tests it under the lock, and
 //! `finish` compares them. Nor does a clause say when a worker ends, that the workers take any turn, that one of them
-//! is ever served, or that two run beside each other. Tests show that the workers leave no turn to `finish`, and that
-//! two meet: with a gate that keeps one worker from its second hold until the other comes to its own, the other's first
-//! 64 turns stand before the one's 65th. Where one worker takes all turns, or the workers run one after another, they
-//! never meet, and that test fails.
+//! is ever served, or that two run beside each other. Tests show, with one to eight scripts, that each has a worker, that
+//! they have all ended when `run_workers` returns, that they leave no turn to `finish`, and that they meet: with a gate
+//! that keeps each worker from its second hold until all have come to theirs, the first 64 turns of each stand before the
+//! 65th of any. Where some workers take the turns of others, or run one after another, they never meet, and that test
+//! fails. Where no worker has run, the book that `close` gives has no turn.
 //!
 //! The tests of these calls are in the crate `record_tests`. `gate.rt` is the trait; `locked_book.rt` has the lock and
-//! what is done under it; `workers.rt` the tree and one worker; `recording.rt` the whole.
+//! what is done under it; `ended.rt` which workers have ended; `workers.rt` the tree and one worker; `recording.rt` the
+//! whole.
 #![tactic(auto)]
 
+mod ended;
 mod gate;
 mod locked_book;
 mod recording;

@@ -1,11 +1,12 @@
 //! A book behind a lock, and one hold of it.
-ghost use Rattle.std.specs.Prelude.{◌≡◌, ℕ, ◌<◌, IfOk, OnErr};
+ghost use Rattle.std.specs.Prelude.{◌≡◌, ℕ, ◌+◌, ◌<◌, IfOk, IfSome, OnErr, is_none};
 ghost use Rattle.record_book.specs.Actions.{actions};
 ghost use Rattle.record_book.specs.BookState.{HasStepped};
 ghost use Rattle.record_book.specs.HeapPlaces.{AreApart, live_blocks, places_after};
 ghost use Rattle.record_book.specs.Orders.{IsUnder};
 ghost use Rattle.recorder.specs.Holds.{IsHold};
 
+use crate::ended::Ended;
 use hp_num::NoMemory;
 use record_book::Book;
 use std::sync::{Mutex, Wait};
@@ -39,25 +40,33 @@ impl Recorder {
         book
     }
 
-    /// Takes the lock for one hold of a thread, and says whether more turns may be left.
-    pub(crate) fn hold<R: Wait>(&self, rt: &R, thread: u32) -> Result<bool, NoMemory> {
+    /// Takes the lock for one hold of a thread. It was the last where the answer says that the thread's worker has ended.
+    pub(crate) fn hold<R: Wait>(&self, rt: &R, thread: u32) -> Result<Option<Ended>, NoMemory>
+        ensures first { IfOk result (λ ended. IfSome ended (λ ended. ended.first ≡ thread)) }
+        ensures end { IfOk result (λ ended. IfSome ended (λ ended. ended.end ≡ thread + 1)) }
+    {
         take_turns(&mut self.book.lock(rt), thread)
     }
 }
 
 // The turns of one hold: those of a thread until 64 are taken or its script is done, and none where the book has no such
-// script. It says whether 64 were taken, so that more may be left. On `NoMemory` those that were taken stay.
-fn take_turns(book: &mut Book, thread: u32) -> Result<bool, NoMemory>
+// script. More may be left where it doesn't say that the worker has ended. On `NoMemory` those that were taken stay.
+fn take_turns(book: &mut Book, thread: u32) -> Result<Option<Ended>, NoMemory>
     ensures job { book.new.job ≡ book.old.job }
-    ensures hold { IfOk result
-        (λ more. IsHold book.old.job.scripts thread book.old.order book.new.order more) }
+    ensures hold { IfOk result (λ ended.
+        IsHold book.old.job.scripts thread book.old.order book.new.order (is_none ended)) }
+    ensures first { IfOk result (λ ended. IfSome ended (λ ended. ended.first ≡ thread)) }
+    ensures end { IfOk result (λ ended. IfSome ended (λ ended. ended.end ≡ thread + 1)) }
     ensures part { OnErr result
         ((count : ℕ) × (count < 64)
         × HasStepped book.old.job.scripts thread count book.old.order book.new.order) }
 {
     if thread >= book.threads() {
-        return Ok(false);
+        return Ok(Some(Ended::one(thread)));
     }
     let taken = book.steps(thread, HOLD_TURNS)?;
-    Ok(taken == HOLD_TURNS)
+    if taken == HOLD_TURNS {
+        return Ok(None);
+    }
+    Ok(Some(Ended::one(thread)))
 }

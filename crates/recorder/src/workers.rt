@@ -1,6 +1,8 @@
 //! The workers: one for each script, in a tree of joins.
+ghost use Rattle.std.specs.Prelude.{◌≡◌, ◌+◌, ◌≤◌, IfOk};
 ghost use Rattle.std.specs.Thread.{IsSync};
 
+use crate::ended::Ended;
 use crate::gate::Gate;
 use crate::locked_book::Recorder;
 use hp_num::NoMemory;
@@ -18,19 +20,25 @@ pub fn run_workers<R: Threads + Wait + Sync, G: Gate + Sync>(
     threads: u32,
     gate: &G,
 ) -> Result<(), NoMemory> {
-    run_between(rt, recorder, 0, threads, gate)
+    let _all = run_between(rt, recorder, 0, threads, gate)?;
+    Ok(())
 }
 
-// The workers from a number on and below an end: of more than one, one half beside the other.
+// The workers from a number on and below an end: of more than one, one half beside the other. All of them have ended well where the
+// answer says so of them, and so `NoMemory` of either half is the answer.
 fn run_between<R: Threads + Wait + Sync, G: Gate + Sync>(
     rt: &R,
     recorder: &Recorder,
     first: u32,
     end: u32,
     gate: &G,
-) -> Result<(), NoMemory> {
+) -> Result<Ended, NoMemory>
+    requires { first ≤ end }
+    ensures first { IfOk result (λ ended. ended.first ≡ first) }
+    ensures end { IfOk result (λ ended. ended.end ≡ end) }
+{
     if first >= end {
-        return Ok(());
+        return Ok(Ended::none(first));
     }
     if end - first == 1 {
         return work(rt, recorder, first, gate);
@@ -38,14 +46,22 @@ fn run_between<R: Threads + Wait + Sync, G: Gate + Sync>(
     let middle = first + (end - first) / 2;
     let (left, right) = join(
         rt,
-        || -> Result<(), NoMemory>
-            requires { IsSync R.row }
+        || -> Result<Ended, NoMemory>
+            requires sync { IsSync R.row }
+            requires within { first ≤ middle }
+            ensures first { IfOk result (λ ended. ended.first ≡ first) }
+            ensures end { IfOk result (λ ended. ended.end ≡ middle) }
         { run_between(rt, recorder, first, middle, gate) },
-        || -> Result<(), NoMemory>
-            requires { IsSync R.row }
+        || -> Result<Ended, NoMemory>
+            requires sync { IsSync R.row }
+            requires within { middle ≤ end }
+            ensures first { IfOk result (λ ended. ended.first ≡ middle) }
+            ensures end { IfOk result (λ ended. ended.end ≡ end) }
         { run_between(rt, recorder, middle, end, gate) },
     );
-    left.and(right)
+    let left = left?;
+    let right = right?;
+    Ok(left.and(right))
 }
 
 // One worker: the holds of a thread.
@@ -54,12 +70,17 @@ fn work<R: Wait, G: Gate>(
     recorder: &Recorder,
     thread: u32,
     gate: &G,
-) -> Result<(), NoMemory> {
-    for hold in 0..u64::MAX {
+) -> Result<Ended, NoMemory>
+    ensures first { IfOk result (λ ended. ended.first ≡ thread) }
+    ensures end { IfOk result (λ ended. ended.end ≡ thread + 1) }
+{
+    let mut hold = 0u64;
+    for _ in rt.forever() {
         gate.before(thread, hold);
-        if !recorder.hold(rt, thread)? {
-            return Ok(());
+        if let Some(ended) = recorder.hold(rt, thread)? {
+            return Ok(ended);
         }
+        hold = hold.wrapping_add(1);
     }
-    Ok(())
+    unreachable!()
 }
