@@ -6,4 +6,6 @@ mod Faults
 mod LastTexts
 mod Viewed
 mod TreeTexts
+mod Nexts
+mod ViewSums
 pub mod Laws

@@ -7,3 +7,4 @@ pub mod ViewFault
 pub mod FaultText
 pub mod ViewText
 pub mod LinesIn
+pub mod AreViewSums

@@ -4,10 +4,11 @@
 //! What it promises: `fronts_of` gives for each point of a profile the shown texts of its frames (`point_fronts`), and
 //! `shown_table` the shown texts of a table under numbers (`AreNumbers`), each different one kept once.
 //! `put_view` appends the view of a profile (`view_text`): its head, and the tree of these lists with the points'
-//! figures of a key as costs, a line for each line of `cost_tree` but the first. `view_fault` says why a profile has no
-//! view: its points have no figures of the key, or these sum to more than 2^62. Both come exactly then (`refused`), take
-//! no memory, and leave the vector as it was, as `NoMemory` does. The tests of these calls are runs of `dhat_view`
-//! in the crate `commands_tests`.
+//! figures of a key as costs, a line for each line of `cost_tree` but the first. `HasViewSums` says what these lines are:
+//! of a front the sum of the points that begin with it, of gathered places their sum and number. `view_fault` says why a
+//! profile has no view: its points have no figures of the key, or these sum to more than 2^62. Both come exactly then
+//! (`refused`), take no memory, and leave the vector as it was, as `NoMemory` does. The tests of these calls are runs of
+//! `dhat_view` in the crate `commands_tests`.
 //!
 //! | File | Does |
 //! |---|---|

@@ -6,6 +6,7 @@ ghost use Rattle.cost_tree.specs.Costed.{costed};
 ghost use Rattle.cost_tree.specs.TreeLines.{HasLines};
 ghost use Rattle.dhat_json.specs.IsSound.{IsSound};
 ghost use Rattle.hp_num.specs.Extends.{Extends};
+ghost use Rattle.dhat_view.specs.AreViewSums.{HasViewSums};
 ghost use Rattle.dhat_view.specs.PointCosts.{point_costs};
 ghost use Rattle.dhat_view.specs.PointFronts.{point_fronts};
 ghost use Rattle.dhat_view.specs.ViewFault.{view_fault};
@@ -38,6 +39,13 @@ pub fn put_view(
     ensures appended { OnOk result
         (out.new.items ≡ out.old.items
         ++ view_text options.now.key options.now.threshold options.now.depth dhat.now) }
+
+    // Each line of a front has the sum over the points that begin with it, and one of gathered places their sum and number.
+    ensures sums { OnOk result
+        ((text : List ℕ)
+        × HasViewSums options.now.key options.now.threshold options.now.depth dhat.now text
+        × (out.new.items ≡ out.old.items ++ text)) }
+
     ensures no_fault { OnOk result (view_fault options.now.key dhat.now ≡ None) }
     ensures fault { IfErr result
         (λ fault. fault ≢ ViewFault.NoMemory → view_fault options.now.key dhat.now ≡ Some fault) }

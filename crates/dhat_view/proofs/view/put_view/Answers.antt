@@ -2,6 +2,8 @@ use Rattle.std.proofs.Common.{arith, Err, sym, ap, ◌∙◌}
 use Rattle.std.proofs.lemmas.Option.{none-some, same_Some}
 use Rattle.dhat_view.specs.declared.fault.ViewFault.TheVariants.{NoFigures, TooLarge}
 use Rattle.dhat_view.proofs.Faults.{no-fault, no-figures, too-large}
+use Rattle.dhat_view.specs.ViewText.{view_text}
+use Rattle.dhat_view.proofs.ViewSums.{text-sums}
 use Rattle.dhat_view.proofs.view.put_view.Goals as goal
 
 pub returns-then-not-has_figures-clause-fault : goal.returns-then-not-has_figures-clause-fault
@@ -17,6 +19,14 @@ returns-in_default-clause-fault c = λ other. too-large c.args.options.now.key c
 pub returns-in_default-clause-refused : goal.returns-in_default-clause-refused
 returns-in_default-clause-refused c = λ fault is.
     ap Err (same_Some TooLarge fault (sym (too-large c.args.options.now.key c.args.dhat.now (sym c.has_figures.ensures.told ∙ c.if-not-has_figures.false) c.in_default.ensures.too_large) ∙ is))
+
+pub returns-in-Ok-clause-sums : goal.returns-in-Ok-clause-sums
+returns-in-Ok-clause-sums c =
+    let key = c.args.options.now.key in
+    let threshold = c.args.options.now.threshold in
+    let depth = c.args.options.now.depth in
+    let dhat = c.args.dhat.now in
+    (view_text key threshold depth dhat, text-sums key threshold depth dhat, c.in-Ok.ensures.appended)
 
 pub returns-in-Ok-clause-no_fault : goal.returns-in-Ok-clause-no_fault
 returns-in-Ok-clause-no_fault c =
