@@ -26,7 +26,7 @@ pub record AreSmallNexts (scale : Scale) (stacks : List Costed) (front : List (L
   pub all : (next : List (List ℕ)) → IsSmallNext scale stacks front next → Contains nexts next
   pub once : AllPairs (λ earlier later. earlier ≢ later) nexts
 
--- the last ones of some lines are that of the front and lines further in
+-- the last of some lines are the front's line and lines further in
 pub record EndBelow (front : List (List ℕ)) (lines : List FrontLine) : Type 0 where
   pub earlier : List FrontLine
   pub line : FrontLine
@@ -35,7 +35,7 @@ pub record EndBelow (front : List (List ℕ)) (lines : List FrontLine) : Type 0 
   pub shows : line.shown ≡ a_front front
   pub deeper : All (λ lower. length front < lower.level) below
 
--- below the front that the lines before it end below, a line has the sum of the small fronts there, and these are so many
+-- behind lines that end below a front, a line has the sum of the small fronts that go on from it, and these are so many
 pub record GathersSmall (scale : Scale) (stacks : List Costed) (before : List FrontLine)
     (line : FrontLine) (places : ℕ) : Type 0 where
   pub front : List (List ℕ)
@@ -46,13 +46,13 @@ pub record GathersSmall (scale : Scale) (stacks : List Costed) (before : List Fr
   pub cost : line.cost ≡ sum_by (λ next. inclusive next stacks) nexts
   pub count : places ≡ length nexts
 
--- what a line says, behind the lines before it: of a front its level and the sum over the stacks that begin with it
+-- a line, behind the lines before it: of a front it has the length and the sum over the stacks that begin with it
 abbrev pub IsSumOf : Scale → List Costed → List FrontLine → FrontLine → Shown → Type 0
 IsSumOf scale stacks before line (a_front front) = (line.level ≡ length front)
     × (line.cost ≡ inclusive front stacks)
 IsSumOf scale stacks before line (gathered places) = GathersSmall scale stacks before line places
 
--- the first line is that of the empty front, each line says so, each front of at most so many texts that costs something and
+-- the first line is that of the empty front, each line has its sum, each front of at most so many texts that costs something and
 -- isn't small has a line, and no two lines are of one front
 pub record AreViewSums (depth : ℕ) (scale : Scale) (stacks : List Costed)
     (lines : List FrontLine) : Type 0 where
