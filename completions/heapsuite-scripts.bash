@@ -13,13 +13,15 @@ _heapsuite_script_options() {
 }
 
 _heapsuite_script() {
-    local begin=${2//\\/} option=
+    local begin=${2//\\/} previous=${COMP_WORDS[COMP_CWORD - 1]} option=
     COMPREPLY=()
     # Readline parts `--NAME=VALUE` at the equals sign.
     if [ "$begin" = '=' ]; then
-        option=${COMP_WORDS[COMP_CWORD - 1]} begin=
-    elif [ "${COMP_WORDS[COMP_CWORD - 1]}" = '=' ]; then
+        option=$previous begin=
+    elif [ "$previous" = '=' ]; then
         option=${COMP_WORDS[COMP_CWORD - 2]}
+    elif [[ " $(_heapsuite_script_options "${1##*/}") " == *" $previous= "* ]]; then
+        option=$previous
     fi
     if [ -z "$option" ] && [ "${begin:0:2}" = '--' ]; then
         COMPREPLY=($(compgen -W "$(_heapsuite_script_options "${1##*/}")" -- "$begin"))

@@ -2,7 +2,7 @@
 complete -c heapsuite-leaks -l limit -x -d "How many places are shown (default 10, 0 to 1,000,000)"
 complete -c heapsuite-leaks -l alloc-fns -x -d "More functions that allocate for others"
 complete -c heapsuite-leaks -l help -d "How it is called"
-complete -c heapsuite-symbols -l root -x -a "(__fish_complete_directories)" -d "Where the binaries lie"
+complete -c heapsuite-symbols -l root -x -a "(__fish_complete_directories (commandline -ct | string replace -r '^--root=' ''))" -d "Where the binaries lie"
 complete -c heapsuite-symbols -l help -d "How it is called"
 complete -c heapsuite-compare -l lines -d "Matches whole frames"
 complete -c heapsuite-compare -l limit -x -d "How many stacks are shown (default 10, 0 to 1,000,000)"
