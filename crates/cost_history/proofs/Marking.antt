@@ -1,13 +1,21 @@
 -- Marks: what is listed, and what is marked.
 use Rattle.std.proofs.Common.{◌≡◌, ◌≢◌, ℕ, ◌<◌, ◌≤◌, zero, suc, List, [], ◌∷◌, ◌++◌, length, get_or, take, Bool, true, false, cond, refl, inl, inr, sym, ap, ◌∙◌, arith}
-use Rattle.std.specs.Prelude.{◌||◌, nat_lt, slice_get, slice_index, Some}
+use Rattle.std.specs.Prelude.{◌==◌, ◌||◌, nat_lt, slice_get, slice_index, Some}
 use Rattle.std.specs.List.{range_with_len}
 use Rattle.std.proofs.lemmas.List.FromFn.{get_or-range_with_len, length-range_with_len}
 use Rattle.std.proofs.lemmas.Option.{slice_get-get_or}
 use Rattle.std.proofs.lemmas.Bool.{both_ways, cases_Bool, cases_eq, eq-eqb, ne_eqb}
+use Rattle.std.proofs.lemmas.Bool.Decides.{leb_tells}
 use Rattle.std.proofs.lemmas.List.{get_or_read, get_or-take, length-take-le}
 use Rattle.cost_history.specs.Marks.{MarksState, RoomyMarks, candidates, has, is_marked, marked_with, with_mark}
 use Rattle.cost_history.specs.MarksView.{listed_of}
+
+-- whether a number is below another
+pub lt-ltb : (a b : ℕ) → a < b → nat_lt a b ≡ true
+lt-ltb a b below = elim (leb_tells (suc a) b) [ inl is ↦ is.0 | inr above ↦ absurd (let high = above.1 in omega arith) ]
+
+pub le-ltb : (a b : ℕ) → b ≤ a → nat_lt a b ≡ false
+le-ltb a b above = elim (leb_tells (suc a) b) [ inl is ↦ absurd (let low = is.1 in omega arith) | inr no_less ↦ no_less.0 ]
 
 pub has-first : (first : ℕ) (others : List ℕ) (stack : ℕ) → first ≡ stack → has (first ∷ others) stack ≡ true
 has-first first others stack own = ap (λ (b : Bool). b || has others stack) (eq-eqb first stack own)
@@ -47,6 +55,11 @@ has-still (first ∷ xs) x stack is =
       | inr other ↦ has-others first (xs ++ x ∷ []) stack other ∙ has-still xs x stack (sym (has-others first xs stack other) ∙ is)
     ]
 
+-- and no other
+has-other : (xs : List ℕ) (x other : ℕ) → other ≢ x → has (xs ++ x ∷ []) other ≡ has xs other
+has-other [] x other apart = has-others x [] other (λ same. apart (sym same))
+has-other (first ∷ xs) x other apart = ap (λ (b : Bool). (first == other) || b) (has-other xs x other apart)
+
 -- of either it is enough
 or-right : (a b : Bool) → b ≡ true → (a || b) ≡ true
 or-right false b is = is
@@ -77,6 +90,15 @@ with_mark-still marks stack other is =
           ∙ or-more marks.all (has marks.listed other) _ (has-still marks.listed stack other) is
     ]
 
+with_mark-other : (marks : MarksState) (stack other : ℕ) → other ≢ stack → is_marked (with_mark marks stack) other ≡ is_marked marks other
+with_mark-other marks stack other apart =
+    elim (cases_Bool (has marks.listed stack)) [
+      | inl was ↦ ap (λ (b : Bool). is_marked (cond {A = MarksState} b marks (record marks { listed = marks.listed ++ stack ∷ [] })) other) was
+      | inr none ↦
+          ap (λ (b : Bool). is_marked (cond {A = MarksState} b marks (record marks { listed = marks.listed ++ stack ∷ [] })) other) none
+          ∙ ap (λ (b : Bool). marks.all || b) (has-other marks.listed stack other apart)
+    ]
+
 abbrev with_room : Bool → RoomyMarks → ℕ → RoomyMarks
 with_room room state stack = cond room (record state { marks = with_mark state.marks stack }) (record state { marks = record state.marks { all = true } })
 
@@ -93,6 +115,18 @@ marked_with-still state stack other is =
       | inl room ↦ ap (λ (b : Bool). is_marked (with_room b state stack).marks other) room ∙ with_mark-still state.marks stack other is
       | inr full ↦ ap (λ (b : Bool). is_marked (with_room b state stack).marks other) full
     ]
+
+-- with room it is listed, and no other stack's mark changes
+pub marked_with-listed : (state : RoomyMarks) (stack : ℕ) → stack < state.room → (marked_with state stack).marks ≡ with_mark state.marks stack
+marked_with-listed state stack room = ap (λ (b : Bool). (with_room b state stack).marks) (lt-ltb stack state.room room)
+
+pub marked_with-other : (state : RoomyMarks) (stack other : ℕ) → stack < state.room → other ≢ stack → is_marked (marked_with state stack).marks other ≡ is_marked state.marks other
+marked_with-other state stack other room apart =
+    ap (λ (marks : MarksState). is_marked marks other) (marked_with-listed state stack room) ∙ with_mark-other state.marks stack other apart
+
+-- without room all are marked
+pub marked_with-full : (state : RoomyMarks) (stack : ℕ) → state.room ≤ stack → (marked_with state stack).marks ≡ record state.marks { all = true }
+marked_with-full state stack full = ap (λ (b : Bool). (with_room b state stack).marks) (le-ltb stack state.room full)
 
 -- what isn't marked after a mark is another stack, which wasn't marked before
 pub unmarked-still : (before after : MarksState) (stack other : ℕ)

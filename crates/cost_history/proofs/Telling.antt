@@ -1,11 +1,10 @@
 -- What a history tells after each of its calls.
-use Rattle.std.proofs.Common.{◌≡◌, ◌≢◌, ℕ, ◌+◌, ◌<◌, ◌≤◌, suc, List, [], ◌∷◌, ◌++◌, length, take, filter, map, append_assoc, Bool, true, false, cond, refl, inl, inr, sym, ap, ◌∙◌, arith}
+use Rattle.std.proofs.Common.{◌≡◌, ◌≢◌, ℕ, ◌+◌, ◌<◌, ◌≤◌, List, [], ◌∷◌, ◌++◌, length, take, filter, map, append_assoc, Bool, true, false, cond, refl, inl, inr, sym, ap, ◌∙◌, arith}
 use Rattle.std.specs.Prelude.{nat_lt, slice_get, Some}
 use Rattle.std.proofs.lemmas.List.{append-nil, take_more}
 use Rattle.std.proofs.lemmas.Option.{get_or_from_slice_get, slice_get_within}
 use Rattle.std.specs.List.{range_with_len}
 use Rattle.std.proofs.lemmas.Bool.{both_ways, cases_Bool, cases_eq, cases_lt}
-use Rattle.std.proofs.lemmas.Bool.Decides.{leb_tells}
 use Rattle.std.proofs.lemmas.List.FromFn.{get_or-range_with_len, length-range_with_len}
 use Rattle.cost_history.specs.declared.change.Change.{Change}
 use Rattle.cost_history.specs.Changes.{IsBetween, cost_at, cost_behind}
@@ -13,14 +12,7 @@ use Rattle.cost_history.specs.HistoryView.{IsKept}
 use Rattle.cost_history.specs.HistoryState.{AreSaid, HistoryState, TellsNow, changes_to}
 use Rattle.cost_history.specs.Marks.{candidates, has, is_marked}
 use Rattle.cost_history.proofs.Costs.{between-stacks, behind-append, behind-beyond, behind-passed, behind-said, says-late, says-other, says-own}
-use Rattle.cost_history.proofs.Marking.{has-at, has-first, has-others, unmarked-still}
-
--- whether a number is below another
-lt-ltb : (a b : ℕ) → a < b → nat_lt a b ≡ true
-lt-ltb a b below = elim (leb_tells (suc a) b) [ inl is ↦ is.0 | inr above ↦ absurd (let high = above.1 in omega arith) ]
-
-le-ltb : (a b : ℕ) → b ≤ a → nat_lt a b ≡ false
-le-ltb a b above = elim (leb_tells (suc a) b) [ inl is ↦ absurd (let low = is.1 in omega arith) | inr no_less ↦ no_less.0 ]
+use Rattle.cost_history.proofs.Marking.{has-at, has-first, has-others, le-ltb, lt-ltb, unmarked-still}
 
 -- the changes of stacks
 abbrev changes_of : ℕ → (ℕ → ℕ) → List ℕ → List Change

@@ -17,6 +17,11 @@ pub record HistoryState : Type 0 where
 abbrev pub no_history : HistoryState
 no_history = record { marks = no_marks; stacks = 0; changes = []; left = 0; last = 0 }
 
+-- the history, and for how many stacks there is room to list their marks
+pub record RoomyHistory : Type 0 where
+  pub history : HistoryState
+  pub room : ℕ
+
 -- the changes to these costs at the place, of those of the list that are below the number of stacks
 abbrev pub changes_to : ℕ → ℕ → (ℕ → ℕ) → List ℕ → List Change
 changes_to stacks place costs list =

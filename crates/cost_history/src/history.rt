@@ -1,8 +1,8 @@
 //! A history of what stacks cost: the marks of those that have changed, and the changes at the places that were kept.
-ghost use Rattle.std.specs.Prelude.{◌≡◌, ℕ, ◌+◌, ◌-◌, ◌^◌, ◌<◌, ◌≤◌, ◌≢◌, max, List, [], ◌∷◌, ◌++◌, true, false, length, OnOk, OnErr};
+ghost use Rattle.std.specs.Prelude.{◌≡◌, ℕ, ◌+◌, ◌-◌, ◌^◌, ◌<◌, ◌≤◌, ◌≢◌, max, min, List, [], ◌∷◌, ◌++◌, true, false, length, OnOk, OnErr};
 ghost use Rattle.cost_history.specs.Changes.{AreParted, IsAsked, IsBetween, cost_at};
-ghost use Rattle.cost_history.specs.Marks.{candidates, is_marked, no_marks};
-ghost use Rattle.cost_history.specs.HistoryState.{AreSaid, HistoryState, IsRoomy, TellsNow, changes_to, no_history};
+ghost use Rattle.cost_history.specs.Marks.{candidates, is_marked, no_marks, with_mark};
+ghost use Rattle.cost_history.specs.HistoryState.{AreSaid, IsRoomy, RoomyHistory, TellsNow, changes_to, no_history};
 
 use crate::change::Change;
 use crate::marks::Marks;
@@ -28,23 +28,24 @@ pub struct CostHistory {
 }
 
 impl Model for CostHistory {
-    ghost use Rattle.cost_history.specs.HistoryState.{HistoryState};
+    ghost use Rattle.cost_history.specs.HistoryState.{RoomyHistory};
     ghost use Rattle.cost_history.specs.HistoryView.{IsKept, history_of};
 
-    ghost Value = { HistoryState };
+    ghost Value = { RoomyHistory };
 
     ghost view = { λ history.
-        history_of history.marks.marks history.changes.items history.cells.items history.left
+        history_of history.marks history.changes.items history.cells.items history.left
         history.last };
 
     ghost invariant = { λ history. IsKept history.changes.items history.cells.items history.last };
 }
 
 impl CostHistory {
-    /// No stack, and no place kept. It takes no memory.
+    /// No stack, room for the mark of none, and no place kept. It takes no memory.
     pub fn new(alloc: Global) -> CostHistory
-        ensures empty { result ≡ no_history }
-        ensures tells { (costs : ℕ → ℕ) → ((stack : ℕ) → costs stack ≡ 0) → TellsNow result costs }
+        ensures empty { result ≡ record { history = no_history; room = 0 } }
+        ensures tells { (costs : ℕ → ℕ) → ((stack : ℕ) → costs stack ≡ 0)
+            → TellsNow result.history costs }
     {
         CostHistory {
             marks: Marks::new(alloc),
@@ -55,9 +56,12 @@ impl CostHistory {
         }
     }
 
-    /// Makes room for the mark of one more stack, or answers `NoMemory`.
+    /// Makes room for the mark of one more stack: of the stacks that are numbered below the room, which stays at 2^32 - 1,
+    /// where each has it. On `NoMemory` there is as much as before.
     pub fn make_room(&mut self) -> Result<(), NoMemory>
-        ensures { self.new ≡ self.old }
+        ensures more { OnOk result
+            (self.new ≡ record self.old { room = min (self.old.room + 1) (2 ^ 32 - 1) }) }
+        ensures unchanged { OnErr result (self.new ≡ self.old) }
     {
         if self.marks.room() == u32::MAX {
             return Ok(());
@@ -68,10 +72,19 @@ impl CostHistory {
     /// Says that the stack's cost has changed since the last place that was kept. It takes no memory: of a stack for whose
     /// mark no room was made, it marks all.
     pub fn mark(&mut self, stack: u32)
-        ensures marked { is_marked self.new.marks stack ≡ true }
-        ensures rest { self.new ≡ record self.old { marks = self.new.marks } }
-        ensures tells { (before after : ℕ → ℕ) → TellsNow self.old before →
-            ((other : ℕ) → other ≢ stack → after other ≡ before other) → TellsNow self.new after }
+        ensures others { stack < self.old.room → (other : ℕ) → other ≢ stack →
+            is_marked self.new.history.marks other ≡ is_marked self.old.history.marks other }
+        ensures listed { stack < self.old.room →
+            self.new.history.marks ≡ with_mark self.old.history.marks stack }
+        ensures full { self.old.room ≤ stack →
+            self.new.history.marks ≡ record self.old.history.marks { all = true } }
+        ensures marked { is_marked self.new.history.marks stack ≡ true }
+        ensures rest { self.new
+            ≡ record self.old
+            { history = record self.old.history { marks = self.new.history.marks } } }
+        ensures tells { (before after : ℕ → ℕ) → TellsNow self.old.history before →
+            ((other : ℕ) → other ≢ stack → after other ≡ before other) →
+            TellsNow self.new.history after }
     {
         self.marks.mark(stack);
     }
@@ -84,23 +97,30 @@ impl CostHistory {
         stacks: u32,
         cost: &F,
     ) -> Result<(), NoMemory>
-        requires ascends { self.old.last ≤ place }
+        requires ascends { self.old.history.last ≤ place }
         requires most { place ≤ 2 ^ 62 }
         requires callable { (stack : ℕ) → stack < stacks → F.pre cost.now stack }
         ensures before { OnOk result ((costs : ℕ → ℕ) → AreSaid (F.post cost.now) stacks costs →
             (seer stack : ℕ) → seer < place →
-            cost_at self.new.changes seer stack ≡ cost_at self.old.changes seer stack) }
+            cost_at self.new.history.changes seer stack
+            ≡ cost_at self.old.history.changes seer stack) }
         ensures here { OnOk result ((costs : ℕ → ℕ) → AreSaid (F.post cost.now) stacks costs →
-            self.old.stacks ≤ stacks → TellsNow self.old costs →
-            (seer stack : ℕ) → place ≤ seer → cost_at self.new.changes seer stack ≡ costs stack) }
+            self.old.history.stacks ≤ stacks → TellsNow self.old.history costs →
+            (seer stack : ℕ) → place ≤ seer →
+            cost_at self.new.history.changes seer stack ≡ costs stack) }
         ensures most { OnOk result
-            (length self.new.changes
-            ≤ length self.old.changes + length (candidates self.old.marks stacks)) }
-        ensures marks { OnOk result (self.new.marks ≡ no_marks) }
-        ensures left { OnOk result (self.new.left ≡ self.old.left) }
-        ensures last { OnOk result (self.new.last ≡ place) }
-        ensures stacks { OnOk result (self.new.stacks ≡ max self.old.stacks stacks) }
-        ensures unchanged { OnErr result (self.new ≡ record self.old { stacks = self.new.stacks }) }
+            (length self.new.history.changes
+            ≤ length self.old.history.changes
+            + length (candidates self.old.history.marks stacks)) }
+        ensures marks { OnOk result (self.new.history.marks ≡ no_marks) }
+        ensures left { OnOk result (self.new.history.left ≡ self.old.history.left) }
+        ensures last { OnOk result (self.new.history.last ≡ place) }
+        ensures stacks { OnOk result
+            (self.new.history.stacks ≡ max self.old.history.stacks stacks) }
+        ensures room { OnOk result (self.new.room ≡ self.old.room) }
+        ensures unchanged { OnErr result
+            (self.new ≡ record self.old
+            { history = record self.old.history { stacks = self.new.history.stacks } }) }
     {
         grow(&mut self.cells, stacks)?;
         push_changes(&mut self.changes, &self.marks, stacks, place, cost)?;
@@ -112,8 +132,8 @@ impl CostHistory {
     /// Whether it is time to thin: there are more changes than twice those that were left the last time, and one for each
     /// stack.
     pub fn is_crowded(&self) -> bool
-        ensures crowded { result ≡ true → IsRoomy self.now → ⊥ }
-        ensures roomy { result ≡ false → IsRoomy self.now }
+        ensures crowded { result ≡ true → IsRoomy self.now.history → ⊥ }
+        ensures roomy { result ≡ false → IsRoomy self.now.history }
     {
         let more = self.changes.len().saturating_sub(self.left);
         if more <= self.left {
@@ -125,13 +145,19 @@ impl CostHistory {
     /// Takes out the changes that no kept place sees, nor the present one. The places come in any order, and are sorted. It
     /// takes no memory.
     pub fn thin(&mut self, kept: &mut Vec<u64>)
-        ensures costs { (place : ℕ) → IsAsked kept.old.items self.old.last place →
-            (stack : ℕ) → cost_at self.new.changes place stack
-            ≡ cost_at self.old.changes place stack }
-        ensures parted { AreParted kept.old.items self.new.changes }
+        ensures costs { (place : ℕ) → IsAsked kept.old.items self.old.history.last place →
+            (stack : ℕ) → cost_at self.new.history.changes place stack
+            ≡ cost_at self.old.history.changes place stack }
+        ensures parted { AreParted kept.old.items self.new.history.changes }
         ensures rest { self.new
-            ≡ record self.old { changes = self.new.changes; left = length self.new.changes } }
-        ensures tells { (costs : ℕ → ℕ) → TellsNow self.old costs → TellsNow self.new costs }
+            ≡ record self.old {
+              history = record self.old.history {
+                changes = self.new.history.changes;
+                left = length self.new.history.changes;
+              };
+            } }
+        ensures tells { (costs : ℕ → ℕ) → TellsNow self.old.history costs
+            → TellsNow self.new.history costs }
     {
         thin(&mut self.changes, &mut self.cells, kept, self.last);
         self.left = self.changes.len();
@@ -139,9 +165,9 @@ impl CostHistory {
 
     /// The replay of the history, before its first place. It takes no memory.
     pub fn into_replay(self) -> Replay
-        ensures changes { result.changes ≡ self.changes }
+        ensures changes { result.changes ≡ self.history.changes }
         ensures none { (place stack : ℕ) →
-            self.stacks ≤ stack → cost_at self.changes place stack ≡ 0 }
+            self.history.stacks ≤ stack → cost_at self.history.changes place stack ≡ 0 }
     {
         let CostHistory { changes, cells, .. } = self;
         Replay::new(changes, cells)

@@ -34,5 +34,5 @@ returns-clause-here g c =
     let ascends = rw (← c.self.view_is) at c.requires.ascends in
     rw (← c.self.view_is) (λ costs said grown tells seer stack late.
     ap (λ (xs : List Change). cost_at xs seer stack) (c.in_ok-push_changes.ensures.pushed costs said.said)
-    ∙ kept-here (history_of c.self.inside.marks.marks c.self.inside.changes.items c.self.inside.cells.items c.self.inside.left c.self.inside.last) c.args.stacks c.args.place costs _ c.self.inside.last seer stack
+    ∙ kept-here (history_of c.self.inside.marks c.self.inside.changes.items c.self.inside.cells.items c.self.inside.left c.self.inside.last).history c.args.stacks c.args.place costs _ c.self.inside.last seer stack
     said grown c.self.invariant.between ascends tells late)

@@ -1,8 +1,21 @@
-use Rattle.std.proofs.Common.{◌≡◌, ℕ, true, refl, sym, subst}
+use Rattle.std.proofs.Common.{◌≡◌, ℕ, true, ap, refl, sym, subst, ◌∙◌}
 use Rattle.cost_history.specs.Marks.{RoomyMarks, is_marked}
-use Rattle.cost_history.proofs.Marking.{marked_with-marked, marked_with-still}
+use Rattle.cost_history.proofs.Marking.{marked_with-full, marked_with-listed, marked_with-marked, marked_with-other, marked_with-still}
 use Rattle.cost_history.proofs.Telling.{tells-marked}
 use Rattle.cost_history.proofs.history.CostHistory.mark.Goals as goal
+
+pub returns-clause-others : goal.returns-clause-others
+returns-clause-others c =
+    rw (← c.self.view_is)
+    (λ room other apart. ap (λ (state : RoomyMarks). is_marked state.marks other) c.mark.ensures ∙ marked_with-other c.self.inside.marks c.args.stack other room apart)
+
+pub returns-clause-listed : goal.returns-clause-listed
+returns-clause-listed c =
+    rw (← c.self.view_is) (λ room. ap (λ (state : RoomyMarks). state.marks) c.mark.ensures ∙ marked_with-listed c.self.inside.marks c.args.stack room)
+
+pub returns-clause-full : goal.returns-clause-full
+returns-clause-full c =
+    rw (← c.self.view_is) (λ full. ap (λ (state : RoomyMarks). state.marks) c.mark.ensures ∙ marked_with-full c.self.inside.marks c.args.stack full)
 
 pub returns-clause-marked : goal.returns-clause-marked
 returns-clause-marked c =

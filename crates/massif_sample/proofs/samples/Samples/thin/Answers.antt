@@ -1,5 +1,5 @@
 use Rattle.std.proofs.Common.{length, subst, sym}
-use Rattle.cost_history.specs.HistoryState.{HistoryState}
+use Rattle.cost_history.specs.HistoryState.{RoomyHistory}
 use Rattle.massif_sample.specs.StandsFor.{IsSampling}
 use Rattle.massif_sample.specs.View.{state_of}
 use Rattle.massif_sample.proofs.Sampling.{sampling-thinned}
@@ -11,5 +11,5 @@ returns-clause-sampling c =
     let old = state_of inside.options inside.running inside.array inside.failed inside.fronts inside.history in
     rw (← c.self.view_is)
     (λ names tables events made was.
-    subst (λ (h : HistoryState). IsSampling (record old { history = h }) names tables events made) (sym c.thin.ensures.rest)
-    (sampling-thinned old c.thin.new.self.changes (length c.thin.new.self.changes) c.in_ok-places.places.items names tables events made c.in_ok-places.ensures.all c.thin.ensures.costs was))
+    subst (λ (h : RoomyHistory). IsSampling (record old { history = h.history }) names tables events made) (sym c.thin.ensures.rest)
+    (sampling-thinned old c.thin.new.self.history.changes (length c.thin.new.self.history.changes) c.in_ok-places.places.items names tables events made c.in_ok-places.ensures.all c.thin.ensures.costs was))
