@@ -376,7 +376,7 @@ impl Samples {
 
 /// A history of no place, with room for the marks of so many stacks, or `NoMemory`.
 fn history_for(alloc: Global, stacks: u32) -> Result<CostHistory, NoMemory>
-    ensures { IfOk result (λ history. history ≡ record { history = no_history; room = stacks }) }
+    ensures { IfOk result (λ history. history.history ≡ no_history) }
 {
     let mut history = CostHistory::new(alloc);
     for _ in 0..stacks {

@@ -3,4 +3,4 @@ use Rattle.cost_history.specs.HistoryState.{no_history}
 use Rattle.massif_sample.proofs.samples.history_for.Given as goal
 
 abbrev pub invariant-loop : goal.invariant-loop
-invariant-loop l = l.history ≡ record { history = no_history; room = l.counter }
+invariant-loop l = l.history.history ≡ no_history
