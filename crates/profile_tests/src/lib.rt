@@ -9,6 +9,8 @@ mod documents;
 #[cfg(test)]
 mod links;
 #[cfg(test)]
+mod pages;
+#[cfg(test)]
 mod profiles;
 #[cfg(test)]
 mod texts;
