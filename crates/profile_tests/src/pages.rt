@@ -76,7 +76,11 @@ fn cells(rt: HostRuntime) {
     for y in 1..=4 {
         for x in 1..=8 {
             let row = ROWS[4 - y as usize];
-            assert_eq!(rt; cell(&options, &profile, x, y), row[x as usize - 1], "at {x}, {y}");
+            assert_eq!(rt;
+                cell(&options, &profile, x, y),
+                row[x as usize - 1],
+                "at {x}, {y}"
+            );
         }
     }
 }
