@@ -1,4 +1,4 @@
-//! Files read whole, the system's files, and the system's limits. What calls in a row answer is one text.
+//! Files read whole, and the system's files. What calls in a row answer is one text.
 ghost use Rattle.std.specs.Prelude.{◌≡◌, ◌+◌, ◌-◌, ◌^◌, ◌<◌, ℕ, List, None, IsTrue};
 ghost use Rattle.hp_outside.specs.Folder.{file_of};
 
@@ -8,14 +8,6 @@ use hp_outside::{FsStore, Limits, MemStore, Store, read_whole};
 use std::alloc::Global;
 use std::fs;
 use std::process::Abort;
-
-/// The system's limits.
-#[test]
-fn standard_limits(rt: HostRuntime) {
-    let limits = Limits::standard();
-    let got = [limits.input, u64::from(limits.line), limits.order];
-    assert_eq!(rt; got, [17_179_869_184, 1_048_576, 10_000_000]);
-}
 
 /// Appends the rest of the current file, or why it isn't read.
 fn put_whole<S: Store>(

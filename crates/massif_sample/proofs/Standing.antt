@@ -172,7 +172,8 @@ tells-ok (Err error) found ok none = absurd (false≢true ok)
 
 pub tells-none : (r : Result (Unit {0}) SampleFault) (found : Option EventFault) → IfErr r (λ fault. fault ≡ sample.NoMemory) → found ≡ None → Tells r found
 tells-none (Ok answer) found only none = none
-tells-none (Err (sample.Event fault)) found only none = absurd (let same : sample.Event fault ≡ sample.NoMemory = only in cc)
+tells-none (Err sample.FreeOfNothing) found only none = absurd (let same : sample.FreeOfNothing ≡ sample.NoMemory = only in cc)
+tells-none (Err sample.CostTooLarge) found only none = absurd (let same : sample.CostTooLarge ≡ sample.NoMemory = only in cc)
 tells-none (Err sample.NoMemory) found only none = none
 
 -- an event that is counted calls for a detailed snapshot

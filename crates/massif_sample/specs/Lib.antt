@@ -11,6 +11,7 @@ pub mod HeapTotals
 pub mod Times
 pub mod Places
 pub mod Offers
+pub mod FaultText
 pub mod SampleFault
 pub mod Due
 pub mod Snapshots

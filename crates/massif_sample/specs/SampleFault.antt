@@ -4,6 +4,7 @@ use Rattle.std.specs.Option.{option_or}
 use Rattle.live_ledger.specs.declared.event.Event.{Event}
 use Rattle.live_ledger.specs.declared.event.EventFault.{EventFault}
 use Rattle.live_ledger.specs.declared.event.EventFault.TheVariants.{CostTooLarge}
+use Rattle.live_ledger.specs.declared.event.EventFault.TheVariants as ledger_fault
 use Rattle.live_ledger.specs.Faults.{fault_of}
 use Rattle.massif_sample.specs.declared.fault.SampleFault.{SampleFault}
 use Rattle.massif_sample.specs.declared.fault.SampleFault.TheVariants as sample
@@ -28,8 +29,14 @@ abbrev pub sample_fault : MassifOptions → (ℕ → Bool) → List Event → Ev
 sample_fault options ignored events event = option_or (fault_of events event)
     (size_fault options ignored events event)
 
+-- the ledger's fault as a sampler tells it
+abbrev pub of_event : EventFault → SampleFault
+of_event ledger_fault.FreeOfNothing = sample.FreeOfNothing
+of_event ledger_fault.CostTooLarge = sample.CostTooLarge
+
 -- an answer tells this fault; want of memory comes in place of none
 abbrev pub Tells : {T : Type 0} → Result T SampleFault → Option EventFault → Type 0
 Tells (Ok answer) found = found ≡ None
-Tells (Err (sample.Event fault)) found = found ≡ Some fault
+Tells (Err sample.FreeOfNothing) found = found ≡ Some ledger_fault.FreeOfNothing
+Tells (Err sample.CostTooLarge) found = found ≡ Some ledger_fault.CostTooLarge
 Tells (Err sample.NoMemory) found = found ≡ None

@@ -116,7 +116,7 @@ impl<A: Fn(&[u8]) -> bool, I: Fn(&[u8]) -> bool> Sampler<A, I> {
     /// free, and the normal one behind it.
     ///
     /// The ledger stands for the same events as the sampler. What the event must be is as in `Ledger::apply`. All stacks of
-    /// the tables were taken account of, and the ledger holds as many. `Event` comes exactly where
+    /// the tables were taken account of, and the ledger holds as many. `FreeOfNothing` and `CostTooLarge` come exactly where
     /// the event has that fault; sampler and ledger are then as before. `NoMemory` comes only where a detailed snapshot or a
     /// peak is due, and then for every later event. The ledger has then taken that first event or not.
     #[inline(always)]
@@ -179,7 +179,8 @@ impl<A: Fn(&[u8]) -> bool, I: Fn(&[u8]) -> bool> Sampler<A, I> {
         };
         match take_event(&mut self.samples, &stacks, event, ledger) {
             Ok(()) => Ok(()),
-            Err(SampleFault::Event(fault)) => Err(SampleFault::Event(fault)),
+            Err(SampleFault::FreeOfNothing) => Err(SampleFault::FreeOfNothing),
+            Err(SampleFault::CostTooLarge) => Err(SampleFault::CostTooLarge),
             Err(SampleFault::NoMemory) => {
                 self.samples.fail();
                 Err(SampleFault::NoMemory)

@@ -26,7 +26,7 @@ use crate::running::Running;
 use crate::samples::Samples;
 use crate::stacks::{Stacks, counted_stack, live_cost};
 use hp_num::NoMemory;
-use live_ledger::{Event, EventFault, Ledger, possible_weights};
+use live_ledger::{Event, Ledger, possible_weights};
 
 /// Offers a snapshot of what the ledger has live.
 #[inline(always)]
@@ -204,7 +204,7 @@ pub(crate) fn take_event<A: Fn(&[u8]) -> bool>(
     };
     possible_weights();
     let Some(next) = samples.behind(event) else {
-        return Err(SampleFault::Event(EventFault::CostTooLarge));
+        return Err(SampleFault::CostTooLarge);
     };
     sample_before(samples, stacks, event, ledger)?;
     advance(samples, stacks, event, stack, next, ledger)

@@ -1,5 +1,6 @@
-//! Tests of the public calls of `massif_cull`, `massif_file` and `dhat_json`, in a crate of their own: a crate that has tests is proved
-//! twice. Those of single lines of Massif files, and of all that stands on these three, are runs of `commands_tests`.
+//! Tests of the public calls of `massif_cull`, `massif_file` and `dhat_json`, and of `cell` of `ms_print`, in a crate of their own: a crate
+//! that has tests is proved twice. Those of single lines of Massif files, and of all else that stands on these, are runs of
+//! `commands_tests`.
 #![tactic(auto)]
 
 #[cfg(test)]
@@ -8,6 +9,8 @@ mod culling;
 mod documents;
 #[cfg(test)]
 mod links;
+#[cfg(test)]
+mod pages;
 #[cfg(test)]
 mod profiles;
 #[cfg(test)]

@@ -23,7 +23,7 @@ use command_frame::{Batch, LineRefusal, LineReport, LineTaker};
 use cost_tree::FrameTest;
 use hp_num::NoMemory;
 use ht_trace::{LineError, Step, Tables};
-use live_ledger::{Event, Ledger};
+use live_ledger::{Event, EventFault, Ledger};
 use massif_file::put_profile;
 use massif_sample::{MassifOptions, SampleFault, Sampler, sampling_goes_on};
 use std::alloc::Global;
@@ -195,7 +195,8 @@ impl<A: Fn(&[u8]) -> bool, I: Fn(&[u8]) -> bool, S: Settled> MassifReader<A, I, 
         let line = line_at_front(&self.ledger, ready)?;
         match sampler.event(line.event, &mut self.ledger, &self.tables) {
             Ok(()) => Some(line.bytes),
-            Err(SampleFault::Event(_)) => None,
+            Err(SampleFault::FreeOfNothing) => None,
+            Err(SampleFault::CostTooLarge) => None,
             Err(SampleFault::NoMemory) => {
                 self.let_go();
                 Some(line.bytes)
@@ -351,7 +352,14 @@ fn follow<A: Fn(&[u8]) -> bool, I: Fn(&[u8]) -> bool>(
         }
         Step::Event { event } => match sampler.event(event, ledger, tables) {
             Ok(()) => Ok(()),
-            Err(SampleFault::Event(fault)) => Err(LineRefusal::Fault(TraceFault::Event(fault))),
+            Err(SampleFault::FreeOfNothing) => {
+                let fault = TraceFault::Event(EventFault::FreeOfNothing);
+                Err(LineRefusal::Fault(fault))
+            }
+            Err(SampleFault::CostTooLarge) => {
+                let fault = TraceFault::Event(EventFault::CostTooLarge);
+                Err(LineRefusal::Fault(fault))
+            }
             Err(SampleFault::NoMemory) => Err(LineRefusal::NoMemory),
         },
     }

@@ -18,8 +18,14 @@ returns-in-Ok-clause-no_fault g c = λ settings taken same stands figures.
     ap (λ (s : Step). sampler_fault settings c.args.tables.now taken (event_of s)) c.in-Event.is
     ∙ fault_by_options _ settings c.args.tables.now taken c.in-Event.event _ same (c.in-Ok.ensures.fault settings.names taken stands figures)
 
-pub returns-in-Err-Event-clause-fault : goal.returns-in-Err-Event-clause-fault
-returns-in-Err-Event-clause-fault g c = λ settings taken same stands figures.
+pub returns-in-Err-FreeOfNothing-clause-fault : goal.returns-in-Err-FreeOfNothing-clause-fault
+returns-in-Err-FreeOfNothing-clause-fault g c = λ settings taken same stands figures.
     ap (λ (s : Step). event_told (sampler_fault settings c.args.tables.now taken (event_of s))) c.in-Event.is
     ∙ ap event_told (fault_by_options _ settings c.args.tables.now taken c.in-Event.event _ same
-    (known_fault _ (sample.Event c.in-Err-Event.fault) _ c.in-Err-Event.field-0-is (c.in-Err-Event.ensures.fault settings.names taken stands figures)))
+    (known_fault _ sample.FreeOfNothing _ c.in-Err-FreeOfNothing.field-0-is (c.in-Err-FreeOfNothing.ensures.fault settings.names taken stands figures)))
+
+pub returns-in-Err-CostTooLarge-clause-fault : goal.returns-in-Err-CostTooLarge-clause-fault
+returns-in-Err-CostTooLarge-clause-fault g c = λ settings taken same stands figures.
+    ap (λ (s : Step). event_told (sampler_fault settings c.args.tables.now taken (event_of s))) c.in-Event.is
+    ∙ ap event_told (fault_by_options _ settings c.args.tables.now taken c.in-Event.event _ same
+    (known_fault _ sample.CostTooLarge _ c.in-Err-CostTooLarge.field-0-is (c.in-Err-CostTooLarge.ensures.fault settings.names taken stands figures)))
