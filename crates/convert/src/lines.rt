@@ -101,14 +101,24 @@ fn put_name(names: &Names, number: usize, out: &mut Vec<u8>) -> Result<(), NoMem
     put_text(text, out)
 }
 
+/// Appends the text, and then makes what was appended plain.
 fn put_text(text: &[u8], out: &mut Vec<u8>) -> Result<(), NoMemory>
     ensures appended { OnOk result (out.new.items ≡ out.old.items ++ folded_name text.now) }
     ensures kept { Extends out.old.items out.new.items }
 {
-    'each_byte: for byte in text {
-        out.push(plain_byte(*byte))?;
-    }
+    let from = out.len();
+    put_bytes(out, text)?;
+    make_plain(&mut out[from..]);
     Ok(())
+}
+
+/// Writes a colon for each semicolon.
+fn make_plain(text: &mut [u8])
+    ensures { text.new ≡ folded_name text.old }
+{
+    'each_byte: for byte in text.iter_mut() {
+        *byte = plain_byte(*byte);
+    }
 }
 
 /// A colon for a semicolon, which stands between texts.

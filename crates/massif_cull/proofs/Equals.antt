@@ -16,9 +16,9 @@ use Rattle.massif_cull.proofs.Removals.{AreLeft, map-remove}
 pub record ArePassed (entries : List SnapEntry) (place : ℕ) : Type 0 where
   pub each : (j : ℕ) → j < place → may_go entries j ≡ true → 0 < gap_at entries j
 
--- the first may not go
-pub passed-first : (entries : List SnapEntry) (place : ℕ) → place ≡ 1 → ArePassed entries place
-passed-first entries place first = record { each = λ j below goes. (let between = may_go-between entries j goes in absurd (omega arith)) }
+-- none was passed
+pub passed-none : (entries : List SnapEntry) (place : ℕ) → place ≡ 0 → ArePassed entries place
+passed-none entries place first = record { each = λ j below goes. absurd (omega arith) }
 
 -- one more
 pub passed-more : (entries : List SnapEntry) (place next : ℕ) → next ≡ place + 1 → ArePassed entries place → (may_go entries place ≡ true → 0 < gap_at entries place) → ArePassed entries next
@@ -41,26 +41,26 @@ no-peak entries j goes =
     ]
 
 -- before the removed place all stay what they are
-peak-below : (entries : List SnapEntry) (p j : ℕ) → p < length entries → j < p → is_peak_at (remove entries p) j ≡ is_peak_at entries j
+pub peak-below : (entries : List SnapEntry) (p j : ℕ) → p < length entries → j < p → is_peak_at (remove entries p) j ≡ is_peak_at entries j
 peak-below entries p j inside below =
     let long = length-map entries is_peak in
     ap (λ (flags : List Bool). slice_index_or flags j false) (map-remove is_peak entries p)
     ∙ get_or-remove_below (map is_peak entries) p false j below (omega arith)
 
-time-below : (entries : List SnapEntry) (p j : ℕ) → p < length entries → j < p → slice_index (times (remove entries p)) j ≡ slice_index (times entries) j
+pub time-below : (entries : List SnapEntry) (p j : ℕ) → p < length entries → j < p → slice_index (times (remove entries p)) j ≡ slice_index (times entries) j
 time-below entries p j inside below =
     let long = length-map entries (λ (entry : SnapEntry). entry.time) in
     ap (λ (ts : List ℕ). slice_index ts j) (map-remove (λ (entry : SnapEntry). entry.time) entries p)
     ∙ get_or-remove_below (times entries) p 0 j below (omega arith)
 
-time-above : (entries : List SnapEntry) (p j : ℕ) → p < length entries → p ≤ j → slice_index (times (remove entries p)) j ≡ slice_index (times entries) (j + 1)
+pub time-above : (entries : List SnapEntry) (p j : ℕ) → p < length entries → p ≤ j → slice_index (times (remove entries p)) j ≡ slice_index (times entries) (j + 1)
 time-above entries p j inside above =
     let long = length-map entries (λ (entry : SnapEntry). entry.time) in
     ap (λ (ts : List ℕ). slice_index ts j) (map-remove (λ (entry : SnapEntry). entry.time) entries p)
     ∙ get_or-remove_above (times entries) p 0 j above (omega arith)
 
 -- no time falls
-later : (entries : List SnapEntry) (k : ℕ) → AreSound entries → k + 1 < length entries → slice_index (times entries) k ≤ slice_index (times entries) (k + 1)
+pub later : (entries : List SnapEntry) (k : ℕ) → AreSound entries → k + 1 < length entries → slice_index (times entries) k ≤ slice_index (times entries) (k + 1)
 later entries k sound inside =
     let first = time-at entries k no_entry (omega arith) in
     let second = time-at entries (k + 1) no_entry inside in

@@ -111,24 +111,23 @@ taken-remove {T} slots (q ∷ qs) (suc k) p e different taken =
 
 -- ---- a later peak
 
-held-ended-at : {T : Type 0} (slots : List (Option (Held T))) (p : ℕ) → held_at (map (option_map ended) slots) p ≡ option_map ended (held_at slots p)
-held-ended-at [] p = refl
-held-ended-at (s ∷ ss) zero = refl
-held-ended-at (s ∷ ss) (suc p) = held-ended-at ss p
+-- what stands at each of the places is ended
+abbrev pub AreEnded : {T : Type 0} → List (Option (Held T)) → List (Option (Held T)) → List ℕ → Type 0
+AreEnded slots after places = EachOf (λ place. held_at after place ≡ option_map ended (held_at slots place)) places
 
-pub held-ended : {T : Type 0} (slots : List (Option (Held T))) (places : List ℕ) → held_in (map (option_map ended) slots) places ≡ map ended (held_in slots places)
-held-ended slots [] = refl
-held-ended {T} slots (p ∷ ps) =
-    ap (λ (o : Option (Held T)). cons_option o (held_in (map (option_map ended) slots) ps)) (held-ended-at slots p)
-    ∙ ap (cons_option (option_map ended (held_at slots p))) (held-ended slots ps)
+pub held-ended : {T : Type 0} (slots after : List (Option (Held T))) (places : List ℕ) → AreEnded slots after places → held_in after places ≡ map ended (held_in slots places)
+held-ended slots after [] are = refl
+held-ended {T} slots after (p ∷ ps) are =
+    ap (λ (o : Option (Held T)). cons_option o (held_in after ps)) are.0
+    ∙ ap (cons_option (option_map ended (held_at slots p))) (held-ended slots after ps are.1)
     ∙ mapped (held_at slots p)
   where
     mapped : (o : Option (Held T)) → cons_option (option_map ended o) (map ended (held_in slots ps)) ≡ map ended (cons_option o (held_in slots ps))
     mapped None = refl
     mapped (Some h) = refl
 
-pub taken-ended : {T : Type 0} (slots : List (Option (Held T))) (places : List ℕ) → AreTaken slots places → AreTaken (map (option_map ended) slots) places
-taken-ended slots [] taken = tt
-taken-ended {T} slots (p ∷ ps) taken =
+pub taken-ended : {T : Type 0} (slots after : List (Option (Held T))) (places : List ℕ) → AreEnded slots after places → AreTaken slots places → AreTaken after places
+taken-ended slots after [] are taken = tt
+taken-ended {T} slots after (p ∷ ps) are taken =
     let first = some-of (held_at slots p) taken.0 in
-    (subst (λ (o : Option (Held T)). IsSome o) (sym (held-ended-at slots p ∙ ap (option_map ended) first.1)) refl, taken-ended slots ps taken.1)
+    (subst (λ (o : Option (Held T)). IsSome o) (sym (are.0 ∙ ap (option_map ended) first.1)) refl, taken-ended slots after ps are.1 taken.1)

@@ -7,6 +7,8 @@ mod Places
 mod Differences
 mod Removals
 mod Equals
+mod Pyramid
+mod Keying
 mod Standing
 mod Sound
 mod Taking

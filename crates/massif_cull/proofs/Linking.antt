@@ -34,6 +34,11 @@ each-remove P [] (suc k) h = tt
 each-remove P (x ∷ xs) zero h = h.1
 each-remove P (x ∷ xs) (suc k) h = (h.0, each-remove P xs k h.1)
 
+-- what is true of whichever stands there is true of each
+pub each-from : (P : ℕ → Type 0) (xs : List ℕ) → ((k p : ℕ) → slice_get xs k ≡ Some p → P p) → EachOf P xs
+each-from P [] f = tt
+each-from P (x ∷ xs) f = (f 0 x refl, each-from P xs (λ k p at. f (suc k) p at))
+
 -- other ones are the same after what is the same of each
 pub each-weaker : (P Q : ℕ → Type 0) (xs : List ℕ) → ((x : ℕ) → P x → Q x) → EachOf P xs → EachOf Q xs
 each-weaker P Q [] f h = tt
@@ -48,6 +53,16 @@ contained-at xs p h = (h.0, slice_get-get_or xs h.0 p h.1 ∙ ap Some h.2)
 pub different-left : (xs ys : List ℕ) → AreDifferent (xs ++ ys) → AreDifferent xs
 different-left [] ys h = tt
 different-left (x ∷ xs) ys h = (each-left (λ y. x ≢ y) xs ys h.0, different-left xs ys h.1)
+
+-- different indices have different places
+pub apart-at : (xs : List ℕ) (i j p q : ℕ) → AreDifferent xs → slice_get xs i ≡ Some p → slice_get xs j ≡ Some q → (i ≡ j → ⊥) → p ≢ q
+apart-at [] i j p q different here there ne = absurd cc
+apart-at (x ∷ xs) zero zero p q different here there ne = absurd (ne refl)
+apart-at (x ∷ xs) zero (suc j) p q different here there ne =
+    λ e. each-at (λ y. x ≢ y) xs j q there different.0 (same_Some x p here ∙ e)
+apart-at (x ∷ xs) (suc i) zero p q different here there ne =
+    λ e. each-at (λ y. x ≢ y) xs i p here different.0 (same_Some x q there ∙ sym e)
+apart-at (x ∷ xs) (suc i) (suc j) p q different here there ne = apart-at xs i j p q different.1 here there (λ e. ne (ap suc e))
 
 -- one more at the end
 pub different-push : (xs : List ℕ) (p : ℕ) → IsOutside p xs → AreDifferent xs → AreDifferent (xs ++ p ∷ [])

@@ -1,9 +1,9 @@
 -- The entry that goes: what a loop over the places keeps, and that it ends at the defined place.
-use Rattle.std.proofs.Common.{◌≡◌, ℕ, ◌+◌, ◌-◌, ◌<◌, ◌≤◌, ◌&&◌, true, false, List, length, get_or, inl, inr, sym, ap, subst, ◌∙◌, arith}
+use Rattle.std.proofs.Common.{◌≡◌, ℕ, ◌+◌, ◌-◌, ◌<◌, ◌≤◌, ◌&&◌, true, false, List, length, map, get_or, inl, inr, sym, ap, ◌∙◌, arith}
 use Rattle.std.specs.Prelude.{Some, slice_get, slice_index, nat_le}
-use Rattle.std.proofs.lemmas.Bool.{cases_Bool, cases_eq}
+use Rattle.std.proofs.lemmas.Bool.{and_cases, both_ways, cases_Bool}
 use Rattle.std.proofs.lemmas.Bool.Decides.{nat_tests, leb_tells}
-use Rattle.std.proofs.lemmas.List.{get_or-map}
+use Rattle.std.proofs.lemmas.List.{get_or-map, get_or_past, length-map}
 use Rattle.std.proofs.lemmas.Option.{slice_get_within, get_or_from_slice_get}
 use Rattle.massif_cull.specs.declared.snapshot.Kind.TheVariants.{Normal}
 use Rattle.massif_cull.specs.declared.snapshot.SnapEntry.{SnapEntry}
@@ -87,64 +87,6 @@ pub record IsFirstLeast (entries : List SnapEntry) (place other : ℕ) : Type 0 
   pub not_greater : (j : ℕ) → j < other → may_go entries j ≡ true → gap_at entries place ≤ gap_at entries j
   pub less : (j : ℕ) → j < place → may_go entries j ≡ true → gap_at entries place < gap_at entries j
 
--- the first that may go
-pub first-least : (entries : List SnapEntry) (place : ℕ) → may_go entries place ≡ true → 0 < place → place ≤ 2 → (place ≡ 2 → is_peak_at entries 1 ≡ true) → IsFirstLeast entries place (place + 1)
-first-least entries place goes low high second =
-    let none : (j : ℕ) → j < place → may_go entries j ≡ true → ⊥ =
-    λ j h g. elim (cases_eq j 1) [
-      | inl one ↦
-          let not_one : may_go entries 1 ≡ false = may_go-peak entries 1 (second (omega arith)) in
-          let is_one : may_go entries 1 ≡ true = subst (λ (k : ℕ). may_go entries k ≡ true) one g in
-          cc
-      | inr other ↦ let between = may_go-between entries j g in omega arith
-    ]
-    in
-    record {
-      goes = goes;
-      below = omega arith;
-      not_greater = λ j h g. elim (cases_eq j place) [
-        | inl same ↦ let e : gap_at entries j ≡ gap_at entries place = ap (gap_at entries) same in omega arith
-        | inr apart ↦ absurd (none j (omega arith) g)
-      ];
-      less = λ j h g. absurd (none j h g);
-    }
-
--- a place that may not go, or has no smaller difference, changes nothing
-pub least-keeps :
-    (entries : List SnapEntry) (place other : ℕ)
-    → IsFirstLeast entries place other
-    → (may_go entries other ≡ true → gap_at entries place ≤ gap_at entries other)
-    → IsFirstLeast entries place (other + 1)
-least-keeps entries place other so_far keeps = record {
-  goes = so_far.goes;
-  below = omega (arith, so_far.below);
-  not_greater = λ j h g. elim (cases_eq j other) [
-    | inl same ↦
-        let e : gap_at entries j ≡ gap_at entries other = ap (gap_at entries) same in
-        let k = keeps (subst (λ (k : ℕ). may_go entries k ≡ true) same g) in
-        omega arith
-    | inr apart ↦ so_far.not_greater j (omega arith) g
-  ];
-  less = so_far.less;
-}
-
--- a place with a smaller difference is taken
-pub least-takes :
-    (entries : List SnapEntry) (place other : ℕ)
-    → IsFirstLeast entries place other
-    → may_go entries other ≡ true
-    → gap_at entries other < gap_at entries place
-    → IsFirstLeast entries other (other + 1)
-least-takes entries place other so_far goes smaller = record {
-  goes = goes;
-  below = omega arith;
-  not_greater = λ j h g. elim (cases_eq j other) [
-    | inl same ↦ let e : gap_at entries j ≡ gap_at entries other = ap (gap_at entries) same in omega arith
-    | inr apart ↦ let more = so_far.not_greater j (omega arith) g in omega arith
-  ];
-  less = λ j h g. let more = so_far.not_greater j h g in omega arith;
-}
-
 -- the last entry may not go, so that the loop ends at the place that goes
 pub removed-is : (entries : List SnapEntry) (place : ℕ) → IsFirstLeast entries place (length entries - 1) → removed_place entries ≡ Some place
 unfolding removed_place removable has_least_gap
@@ -166,12 +108,16 @@ removed-is entries place least =
       | inr fails ↦ fails
     ])
 
--- a peak changes nothing
-pub least-keeps_peak :
-    (entries : List SnapEntry) (place other : ℕ)
-    → IsFirstLeast entries place other
-    → is_peak_at entries other ≡ true
-    → IsFirstLeast entries place (other + 1)
-least-keeps_peak entries place other so_far peak =
-    let stays : may_go entries other ≡ false = may_go-peak entries other peak in
-    least-keeps entries place other so_far (λ goes. absurd (let h : may_go entries other ≡ true = goes in cc))
+-- past the last there is no peak
+pub no-peak_past : (entries : List SnapEntry) (k : ℕ) → length entries ≤ k → is_peak_at entries k ≡ false
+no-peak_past entries k past = get_or_past (map is_peak entries) k false (let long = length-map entries is_peak in omega arith)
+
+-- beside a peak there is no other
+pub no-other_peak : (entries : List SnapEntry) (i k : ℕ) → AreSound entries → is_peak_at entries i ≡ true → k < i → i < length entries → is_peak_at entries k ≡ false
+no-other_peak entries i k sound peak before inside =
+    let here = peak-at entries i no_entry inside in
+    let there = peak-at entries k no_entry (omega arith) in
+    elim (and_cases (is_peak (get_or entries k no_entry)) (is_peak (get_or entries i no_entry)) (sound.one_peak k i no_entry before inside)) [
+      | inl earlier ↦ there ∙ earlier
+      | inr later ↦ absurd (both_ways (is_peak_at entries i) (here ∙ later) peak)
+    ]

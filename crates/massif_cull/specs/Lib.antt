@@ -15,3 +15,6 @@ pub mod SnapsState
 pub mod Held
 pub mod LinksState
 pub mod Linked
+pub mod Keys
+pub mod Pyramid
+pub mod Keyed

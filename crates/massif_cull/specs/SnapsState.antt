@@ -1,7 +1,8 @@
 -- What contracts see of linked snapshots, and where one stands among them.
-use Rattle.std.specs.Prelude.{◌≡◌, ℕ, List, slice_get, Some}
+use Rattle.std.specs.Prelude.{◌≡◌, ℕ, List, length, slice_get, Some}
 use Rattle.massif_cull.specs.declared.snapshot.SnapEntry.{SnapEntry}
 use Rattle.massif_cull.specs.declared.snapshot.Spot.{Spot}
+use Rattle.massif_cull.specs.Linked.{AreBelow, AreDifferent}
 
 -- how many places there are, those that are taken in their order, and the entry and the load that stand at each
 pub record SnapsState (T : Type 0) : Type 0 where
@@ -13,3 +14,9 @@ pub record SnapsState (T : Type 0) : Type 0 where
 -- the spot is one of a place that is taken
 abbrev pub IsSpot : {T : Type 0} → SnapsState T → Spot → Type 0
 IsSpot state spot = slice_get state.places spot.index ≡ Some spot.place
+
+-- there is an entry for each place that is taken, and the places are different ones below the maximum
+pub record ArePlaced {T : Type 0} (state : SnapsState T) : Type 0 where
+  pub beside : length state.places ≡ length state.entries
+  pub different : AreDifferent state.places
+  pub below : AreBelow state.max state.places

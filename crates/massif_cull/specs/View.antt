@@ -1,5 +1,5 @@
 -- How contracts see the fields of an array.
-use Rattle.std.specs.Prelude.{◌≡◌, ◌≤◌, ◌^◌}
+use Rattle.std.specs.Prelude.{◌≡◌, ◌≤◌, ◌^◌, length}
 use Rattle.massif_cull.specs.declared.array.SnapArray.TheInside.{Inside}
 use Rattle.massif_cull.specs.ArrayState.{ArrayState}
 use Rattle.massif_cull.specs.TakenAs.{next_time_after, peak_bound}
@@ -21,9 +21,10 @@ state_of array = record {
   loads = array.snaps.loads;
 }
 
--- there are as many places as the maximum says
+-- there are as many places, and keys of places, as the maximum says
 pub record IsAsLarge {T : Type 0} (array : Inside T) : Type 0 where
   pub max : array.snaps.max ≡ array.max
+  pub gaps : length array.gaps.keys ≡ array.max
 
 -- the numbers that offers are judged by are those of what is kept
 pub record JudgesBy {T : Type 0} (array : Inside T) : Type 0 where

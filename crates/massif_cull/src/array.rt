@@ -14,6 +14,7 @@ ghost use Rattle.massif_cull.specs.KeptOf.{kept_of};
 ghost use Rattle.massif_cull.specs.Loads.{loads_cull, loads_bounded, loads_step};
 ghost use Rattle.massif_cull.specs.StandsFor.{StandsFor, held_of};
 
+use crate::gaps::Gaps;
 use crate::linked::{Held, LinkedSnaps};
 use crate::snapshot::{Kind, Offer, SnapEntry, Taken};
 use hp_num::NoMemory;
@@ -35,6 +36,8 @@ pub struct SnapArray<T: Drop> {
     detailed_freq: u64,
     inaccuracy: u64,
     snaps: LinkedSnaps<T>,
+    /// What a cull finds the snapshots by that go.
+    gaps: Gaps,
     interval: u64,
     last_peak: u64,
     normals: u64,
@@ -76,11 +79,14 @@ impl<T: Drop> SnapArray<T> {
         ensures loads { IfOk result (λ array. array.loads ≡ []) }
         ensures stands { IfOk result (λ array. StandsFor array []) }
     {
+        let snaps = LinkedSnaps::new(alloc, max)?;
+        let gaps = Gaps::new(alloc, max)?;
         Ok(SnapArray {
             max,
             detailed_freq,
             inaccuracy,
-            snaps: LinkedSnaps::new(alloc, max)?,
+            snaps,
+            gaps,
             interval: 0,
             last_peak: 0,
             normals: 0,
@@ -175,7 +181,7 @@ impl<T: Drop> SnapArray<T> {
         ensures length { length self.new.kept.entries + length self.old.kept.entries / 2
             ≡ length self.old.kept.entries }
     {
-        self.interval = self.snaps.cull();
+        self.interval = self.snaps.cull(&mut self.gaps);
         self.normal_from = normal_from(&self.snaps, self.interval);
     }
 
@@ -266,7 +272,7 @@ impl<T: Drop> SnapArray<T> {
         ensures below_max { length self.new.kept.entries < self.new.settings.max }
     {
         self.normals = (self.normals + 1) % self.detailed_freq;
-        self.interval = append(&mut self.snaps, entry, load, self.interval);
+        self.interval = append(&mut self.snaps, &mut self.gaps, entry, load, self.interval);
         self.normal_from = normal_from(&self.snaps, self.interval);
     }
 
@@ -291,22 +297,30 @@ impl<T: Drop> SnapArray<T> {
         ensures not_empty { 0 < length self.new.kept.entries }
         ensures below_max { length self.new.kept.entries < self.new.settings.max }
     {
-        self.snaps.end_peaks();
+        self.snaps.end_peak();
         self.last_peak = entry.total;
         self.peak_above = entry.total + allowance(entry.total, self.inaccuracy);
-        self.interval = append(&mut self.snaps, entry, load, self.interval);
+        self.interval = append(&mut self.snaps, &mut self.gaps, entry, load, self.interval);
         self.normal_from = normal_from(&self.snaps, self.interval);
     }
 }
 
 /// Appends the entry and its load, culls where the entries then reach the maximum, and answers the interval.
-fn append<T: Drop>(snaps: &mut LinkedSnaps<T>, entry: SnapEntry, load: T, interval: u64) -> u64
+fn append<T: Drop>(
+    snaps: &mut LinkedSnaps<T>,
+    gaps: &mut Gaps,
+    entry: SnapEntry,
+    load: T,
+    interval: u64,
+) -> u64
     requires max { 10 ≤ snaps.old.max }
+    requires gaps { length gaps.old.keys ≡ snaps.old.max }
     requires below_max { length snaps.old.entries < snaps.old.max }
     requires loads_beside { length snaps.old.loads ≡ length snaps.old.entries }
     requires interval { interval ≤ 2 ^ 62 }
     requires sound { AreSound (snaps.old.entries ++ entry ∷ []) }
     ensures max { snaps.new.max ≡ snaps.old.max }
+    ensures gaps { length gaps.new.keys ≡ length gaps.old.keys }
     ensures entries { snaps.new.entries
         ≡ entries_bounded snaps.old.max (snaps.old.entries ++ entry ∷ []) }
     ensures loads { snaps.new.loads
@@ -328,7 +342,7 @@ fn append<T: Drop>(snaps: &mut LinkedSnaps<T>, entry: SnapEntry, load: T, interv
     if snaps.len() < max {
         return interval;
     }
-    snaps.cull()
+    snaps.cull(gaps)
 }
 
 /// The least time at which a normal offer is taken: the last snapshot's and the interval, and 0 where none is held.

@@ -9,11 +9,22 @@
 //!
 //! Inside, `Links` is a list of different places below a set number: `push` gives a place that was free, `unlink` frees
 //! one, `first`, `next`, `prev` and `len` read the order. Snapshots stay in their slots, and links say in which order
-//! they stand (`LinkedSnaps`), so that one goes without moving another. That an array keeps its order so, and doesn't
-//! move snapshots, is no clause. The tests of the public calls are in the crate `profile_tests`.
+//! they stand (`LinkedSnaps`), so that one goes without moving another. A cull notes the gap of each place, and `Gaps`
+//! says at once which comes first. That an array keeps its order so, doesn't move snapshots, and how long a cull takes,
+//! is no clause. The tests of the public calls are in the crate `profile_tests`.
+//!
+//! | File | Does |
+//! |---|---|
+//! | `array.rt` | which offers are taken, and what is kept of them |
+//! | `removal.rt` | which snapshots a cull removes, and the interval of what is left |
+//! | `gaps.rt` | keys of places in a pyramid, with the first at its top |
+//! | `linked.rt` | snapshots with their loads, in the order of links |
+//! | `links.rt` | places in an order of their own |
+//! | `snapshot.rt`, `peak.rt` | what is offered and kept; what a peak becomes |
 #![tactic(auto)]
 
 mod array;
+mod gaps;
 mod linked;
 mod links;
 mod peak;

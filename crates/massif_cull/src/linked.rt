@@ -1,13 +1,14 @@
 //! Snapshots with their loads: each stays at its place, and links keep their order.
 //! Which of them are removed is decided in `removal`.
-ghost use Rattle.std.specs.Prelude.{◌≡◌, ◌+◌, ◌-◌, ◌<◌, ◌≤◌, [], ◌∷◌, ◌++◌, length, map, slice_get, remove, Some, IfOk, vec_capacity};
+ghost use Rattle.std.specs.Prelude.{◌≡◌, ◌≢◌, ℕ, ◌+◌, ◌-◌, ◌<◌, ◌≤◌, [], ◌∷◌, ◌++◌, false, length, map, slice_get, remove, Contains, Some, None, IfOk, IfSome, vec_capacity};
 ghost use Rattle.std.specs.Option.{option_map};
-ghost use Rattle.massif_cull.specs.Entries.{end_peak};
+ghost use Rattle.massif_cull.specs.ArrayState.{AreSound};
+ghost use Rattle.massif_cull.specs.Entries.{end_peak, is_peak_at};
 ghost use Rattle.massif_cull.specs.Held.{ended};
-ghost use Rattle.massif_cull.specs.SnapsState.{IsSpot};
+ghost use Rattle.massif_cull.specs.SnapsState.{ArePlaced, IsSpot};
 
 use crate::links::Links;
-use crate::peak::after_peak;
+use crate::peak::{after_peak, is_peak_entry};
 use crate::snapshot::{SnapEntry, Spot};
 use hp_num::NoMemory;
 use std::alloc::Global;
@@ -74,8 +75,26 @@ impl<T: Drop> LinkedSnaps<T> {
         ensures entry { slice_get self.old.entries spot.index ≡ Some result.entry }
         ensures load { slice_get self.old.loads spot.index ≡ Some result.load }
     {
-        self.links.unlink(spot.place);
-        self.slots[spot.place as usize].take().unwrap()
+        self.take_out(spot.place)
+    }
+
+    /// Removes the snapshot at the place and gives it with its load. The others keep their order and their places.
+    pub fn take_out(&mut self, place: u32) -> Held<T>
+        requires { Contains self.old.places place }
+        ensures max { self.new.max ≡ self.old.max }
+        ensures places { (k : ℕ) → slice_get self.old.places k ≡ Some place
+            → self.new.places ≡ remove self.old.places k }
+        ensures entries { (k : ℕ) → slice_get self.old.places k ≡ Some place
+            → self.new.entries ≡ remove self.old.entries k }
+        ensures loads { (k : ℕ) → slice_get self.old.places k ≡ Some place
+            → self.new.loads ≡ remove self.old.loads k }
+        ensures entry { (k : ℕ) → slice_get self.old.places k ≡ Some place
+            → slice_get self.old.entries k ≡ Some result.entry }
+        ensures load { (k : ℕ) → slice_get self.old.places k ≡ Some place
+            → slice_get self.old.loads k ≡ Some result.load }
+    {
+        self.links.unlink(place);
+        self.slots[place as usize].take().unwrap()
     }
 
     /// The number of snapshots.
@@ -83,6 +102,7 @@ impl<T: Drop> LinkedSnaps<T> {
         ensures entries { result ≡ length self.now.entries }
         ensures loads { result ≡ length self.now.loads }
         ensures most { result ≤ self.now.max }
+        ensures placed { ArePlaced self.now }
     {
         self.links.len()
     }
@@ -130,6 +150,26 @@ impl<T: Drop> LinkedSnaps<T> {
             index: spot.index - 1,
             place,
         }
+    }
+
+    /// The place of the next snapshot, and None at the last one's.
+    pub fn place_after(&self, place: u32) -> Option<u32>
+        requires { Contains self.now.places place }
+        ensures place { (k : ℕ) → slice_get self.now.places k ≡ Some place
+            → result ≡ slice_get self.now.places (k + 1) }
+        ensures placed { ArePlaced self.now }
+    {
+        self.links.next(place)
+    }
+
+    /// The place of the snapshot before, and None at the first one's.
+    pub fn place_before(&self, place: u32) -> Option<u32>
+        requires { Contains self.now.places place }
+        ensures front { slice_get self.now.places 0 ≡ Some place → result ≡ None }
+        ensures place { (k : ℕ) → slice_get self.now.places (k + 1) ≡ Some place
+            → result ≡ slice_get self.now.places k }
+    {
+        self.links.prev(place)
     }
 
     /// Where the one stands before which `index` stand.
@@ -182,9 +222,28 @@ impl<T: Drop> LinkedSnaps<T> {
     pub fn last(&self) -> Option<SnapEntry>
         ensures { result ≡ slice_get self.now.entries (length self.now.entries - 1) }
     {
+        let spot = self.last_spot()?;
+        Some(self.entry(spot))
+    }
+
+    /// Where the last one stands, and None where none is held.
+    fn last_spot(&self) -> Option<Spot>
+        ensures spot { IfSome result (λ spot. IsSpot self.now spot) }
+        ensures last { IfSome result (λ spot. spot.index + 1 ≡ length self.now.entries) }
+        ensures none { result ≡ None → self.now.entries ≡ [] }
+    {
         let place = self.links.last()?;
         let index = self.len() - 1;
-        Some(self.entry(Spot { index, place }))
+        Some(Spot { index, place })
+    }
+
+    /// The entry at the place.
+    pub fn entry_at(&self, place: u32) -> SnapEntry
+        requires { Contains self.now.places place }
+        ensures { (k : ℕ) → slice_get self.now.places k ≡ Some place
+            → slice_get self.now.entries k ≡ Some result }
+    {
+        self.held_at(place).entry
     }
 
     fn held(&self, spot: Spot) -> &Held<T>
@@ -192,17 +251,50 @@ impl<T: Drop> LinkedSnaps<T> {
         ensures entry { slice_get self.now.entries spot.index ≡ Some result.now.entry }
         ensures load { slice_get self.now.loads spot.index ≡ Some result.now.load }
     {
-        self.slots[spot.place as usize].as_ref().unwrap()
+        self.held_at(spot.place)
+    }
+
+    fn held_at(&self, place: u32) -> &Held<T>
+        requires { Contains self.now.places place }
+        ensures entry { (k : ℕ) → slice_get self.now.places k ≡ Some place
+            → slice_get self.now.entries k ≡ Some result.now.entry }
+        ensures load { (k : ℕ) → slice_get self.now.places k ≡ Some place
+            → slice_get self.now.loads k ≡ Some result.now.load }
+    {
+        self.slots[place as usize].as_ref().unwrap()
+    }
+
+    /// Where the peak stands, if there is one: no other is a peak. It is looked for from the last snapshot on. None comes where
+    /// no snapshot is held.
+    fn peak(&self) -> Option<Spot>
+        requires { AreSound self.now.entries }
+        ensures spot { IfSome result (λ spot. IsSpot self.now spot) }
+        ensures others { IfSome result
+            (λ spot. (k : ℕ) → k ≢ spot.index → is_peak_at self.now.entries k ≡ false) }
+        ensures none { result ≡ None → self.now.entries ≡ [] }
+    {
+        let mut spot = self.last_spot()?;
+        'back: while spot.index > 0 {
+            if is_peak_entry(&self.entry(spot)) {
+                return Some(spot);
+            }
+            spot = self.before(spot);
+        }
+        Some(spot)
     }
 
     /// Makes the earlier peak a normal entry, where one is held.
-    pub fn end_peaks(&mut self)
+    pub fn end_peak(&mut self)
+        requires { AreSound self.old.entries }
         ensures max { self.new.max ≡ self.old.max }
         ensures places { self.new.places ≡ self.old.places }
         ensures entries { self.new.entries ≡ map end_peak self.old.entries }
         ensures loads { self.new.loads ≡ self.old.loads }
     {
-        end_peaks_at(&mut self.slots);
+        let Some(spot) = self.peak() else {
+            return;
+        };
+        end_peak_at(&mut self.slots[spot.place as usize]);
     }
 }
 
@@ -215,15 +307,6 @@ fn empty_slots<T: Drop>(alloc: Global, count: usize) -> Result<Vec<Option<Held<T
         slots.push_reserved(None);
     }
     Ok(slots)
-}
-
-/// Makes what stands at each slot a normal entry, where it is a peak.
-fn end_peaks_at<T: Drop>(slots: &mut Vec<Option<Held<T>>>)
-    ensures { slots.new.items ≡ map (option_map ended) slots.old.items }
-{
-    'slots: for slot in slots.iter_mut() {
-        end_peak_at(slot);
-    }
 }
 
 /// Makes what stands there a normal entry, where it is a peak.

@@ -1,24 +1,29 @@
 //! Removing snapshots by their times, and the interval of what is left.
 //! When they are culled is decided by the array.
-ghost use Rattle.std.specs.Prelude.{◌≡◌, ◌+◌, ◌-◌, ◌/◌, ◌<◌, ◌≤◌, ◌^◌, true, false, length, remove, slice_index, Some};
+ghost use Rattle.std.specs.Prelude.{◌≡◌, ℕ, ◌+◌, ◌-◌, ◌/◌, ◌<◌, ◌≤◌, ◌^◌, true, false, length, remove, slice_get, slice_index, Contains, Some};
 ghost use Rattle.massif_cull.specs.Among.{AreAmong};
 ghost use Rattle.massif_cull.specs.ArrayState.{AreSound};
-ghost use Rattle.massif_cull.specs.Culling.{may_go, gap_at, removed_place, cull};
-ghost use Rattle.massif_cull.specs.Entries.{is_peak_at, last_time, times};
+ghost use Rattle.massif_cull.specs.Culling.{may_go, gap_at, cull};
+ghost use Rattle.massif_cull.specs.Entries.{last_time, times};
 ghost use Rattle.massif_cull.specs.Interval.{least_interval};
+ghost use Rattle.massif_cull.specs.Keyed.{AreKeyed, RemovesNext, gap_to_go};
 ghost use Rattle.massif_cull.specs.Loads.{loads_cull};
 ghost use Rattle.massif_cull.specs.SnapsState.{IsSpot};
 
+use crate::gaps::{Gaps, Key, NEVER};
 use crate::linked::LinkedSnaps;
 use crate::peak::is_peak_entry;
 use crate::snapshot::Spot;
 
 impl<T: Drop> LinkedSnaps<T> {
     /// Removes snapshots with their loads, half of them rounded down, and answers the least time between two
-    /// neighbours that are left. It takes no memory.
-    pub fn cull(&mut self) -> u64
+    /// neighbours that are left. `gaps` has a key for each place; what they are before and behind the call doesn't matter. It
+    /// takes no memory.
+    pub fn cull(&mut self, gaps: &mut Gaps) -> u64
         requires long { 6 ≤ length self.old.entries }
         requires sound { AreSound self.old.entries }
+        requires gaps { length gaps.old.keys ≡ self.old.max }
+        ensures gaps { length gaps.new.keys ≡ length gaps.old.keys }
         ensures max { self.new.max ≡ self.old.max }
         ensures entries { self.new.entries ≡ cull self.old.entries }
         ensures loads { self.new.loads ≡ loads_cull self.old.entries self.old.loads }
@@ -31,42 +36,29 @@ impl<T: Drop> LinkedSnaps<T> {
         ensures last { last_time self.new.entries ≡ last_time self.old.entries }
         ensures among { AreAmong self.old.entries self.old.loads self.new.entries self.new.loads }
     {
-        let mut left = self.len() / 2;
-        // Those whose neighbours have one time go before all others, in their order: one walk finds them.
-        let mut spot = self.spot(1);
-        'equals: while left > 0 {
-            let last = self.len() - 1;
-            if spot.index == last {
-                break;
-            }
-            if !self.is_between_equals(spot) {
+        let count = self.len();
+        let mut left = count / 2;
+        let mut last = count - 1;
+        gaps.clear();
+        // Those whose neighbours have one time go before all others, in their order: the walk that notes the gaps finds them.
+        let mut spot = self.first();
+        'walk: while spot.index < last {
+            let key = self.key(spot);
+            if !goes_at_once(key.gap, left) {
+                gaps.put(spot.place, key);
                 spot = self.after(spot);
                 continue;
             }
             spot = self.remove_at(spot);
+            last -= 1;
             left -= 1;
         }
+        gaps.put(spot.place, self.key(spot));
+        gaps.build(left);
         'each_removal: for _ in 0..left {
-            let least = self.least_gap();
-            let _ = self.remove(least);
+            self.remove_next(gaps);
         }
         self.least_difference()
-    }
-
-    /// Whether the snapshot at the spot is no peak, and its neighbours have one time.
-    fn is_between_equals(&self, spot: Spot) -> bool
-        requires spot { IsSpot self.now spot }
-        requires inside { (0 < spot.index) × (spot.index + 1 < length self.now.entries) }
-        requires sound { AreSound self.now.entries }
-        ensures goes { result ≡ true → may_go self.now.entries spot.index ≡ true }
-        ensures none { result ≡ true → gap_at self.now.entries spot.index ≡ 0 }
-        ensures some { result ≡ false → may_go self.now.entries spot.index ≡ true
-            → 0 < gap_at self.now.entries spot.index }
-    {
-        if is_peak_entry(&self.entry(spot)) {
-            return false;
-        }
-        self.neighbour_gap(spot) == 0
     }
 
     /// Removes the snapshot at the spot with its load, and answers where the next one stands. The spot must not be the last.
@@ -74,6 +66,7 @@ impl<T: Drop> LinkedSnaps<T> {
         requires spot { IsSpot self.old spot }
         requires inside { spot.index + 1 < length self.old.entries }
         ensures max { self.new.max ≡ self.old.max }
+        ensures places { self.new.places ≡ remove self.old.places spot.index }
         ensures entries { self.new.entries ≡ remove self.old.entries spot.index }
         ensures loads { self.new.loads ≡ remove self.old.loads spot.index }
         ensures spot { IsSpot self.new result }
@@ -87,57 +80,63 @@ impl<T: Drop> LinkedSnaps<T> {
         }
     }
 
-    /// Where the snapshot stands that goes next: of those that are neither first, last nor the peak, the first with the
-    /// least difference between the times of its neighbours.
-    fn least_gap(&self) -> Spot
-        requires long { 4 ≤ length self.now.entries }
-        requires sound { AreSound self.now.entries }
-        ensures spot { IsSpot self.now result }
-        ensures place { removed_place self.now.entries ≡ Some result.index }
-        ensures inside { result.index + 1 < length self.now.entries }
-    {
-        let mut least = self.first_removable();
-        let mut least_gap = self.neighbour_gap(least);
-        let mut spot = least;
-        'others: for _ in least.index + 1..self.len() - 1 {
-            spot = self.after(spot);
-            if is_peak_entry(&self.entry(spot)) {
-                continue;
-            }
-            let gap = self.neighbour_gap(spot);
-            if gap < least_gap {
-                least = spot;
-                least_gap = gap;
-            }
-        }
-        least
-    }
-
-    /// Where the first one stands that may go.
-    fn first_removable(&self) -> Spot
-        requires long { 4 ≤ length self.now.entries }
-        requires sound { AreSound self.now.entries }
-        ensures spot { IsSpot self.now result }
-        ensures may_go { may_go self.now.entries result.index ≡ true }
-        ensures early { (0 < result.index) × (result.index ≤ 2) }
-        ensures second { result.index ≡ 2 → is_peak_at self.now.entries 1 ≡ true }
-    {
-        let second = self.spot(1);
-        if is_peak_entry(&self.entry(second)) {
-            self.after(second)
-        } else {
-            second
-        }
-    }
-
-    /// The difference between the times of the snapshots before and after the one at the spot.
-    fn neighbour_gap(&self, spot: Spot) -> u64
+    /// The key of the snapshot at the spot: its gap, and how many stand before it.
+    fn key(&self, spot: Spot) -> Key
         requires spot { IsSpot self.now spot }
-        requires inside { (0 < spot.index) × (spot.index + 1 < length self.now.entries) }
         requires sound { AreSound self.now.entries }
-        ensures { result ≡ gap_at self.now.entries spot.index }
+        ensures { result ≡ record {
+          gap = gap_to_go self.now.entries spot.index;
+          number = spot.index;
+          place = spot.place;
+        } }
     {
-        self.entry(self.after(spot)).time - self.entry(self.before(spot)).time
+        Key {
+            gap: self.gap(spot.place),
+            number: spot.index,
+            place: spot.place,
+        }
+    }
+
+    /// The difference between the times of the neighbours of the snapshot at the place, and `NEVER` where it may not go:
+    /// it is the first, the last or the peak.
+    fn gap(&self, place: u32) -> u64
+        requires held { Contains self.now.places place }
+        requires sound { AreSound self.now.entries }
+        ensures { (k : ℕ) → slice_get self.now.places k ≡ Some place
+            → result ≡ gap_to_go self.now.entries k }
+    {
+        let Some(before) = self.place_before(place) else {
+            return NEVER;
+        };
+        let Some(after) = self.place_after(place) else {
+            return NEVER;
+        };
+        if is_peak_entry(&self.entry_at(place)) {
+            return NEVER;
+        }
+        self.entry_at(after).time - self.entry_at(before).time
+    }
+
+    /// Removes the snapshot that goes next with its load: of those that are neither first, last nor the peak, the first
+    /// with the least difference between the times of its neighbours. The neighbours' gaps are found anew.
+    fn remove_next(&mut self, gaps: &mut Gaps)
+        requires long { 4 ≤ length self.old.entries }
+        requires sound { AreSound self.old.entries }
+        requires keyed { AreKeyed self.old.places self.old.entries gaps.old.keys }
+        requires ready { gaps.old.ready ≡ true }
+        ensures max { self.new.max ≡ self.old.max }
+        ensures removed { RemovesNext self.old self.new }
+        ensures keyed { AreKeyed self.new.places self.new.entries gaps.new.keys }
+        ensures ready { gaps.new.ready ≡ true }
+        ensures gaps { length gaps.new.keys ≡ length gaps.old.keys }
+    {
+        let place = gaps.first().place;
+        let before = self.place_before(place).unwrap();
+        let after = self.place_after(place).unwrap();
+        let _ = self.take_out(place);
+        gaps.set_gap(place, NEVER);
+        gaps.set_gap(before, self.gap(before));
+        gaps.set_gap(after, self.gap(after));
     }
 
     /// The least difference between the times of neighbours.
@@ -166,4 +165,15 @@ impl<T: Drop> LinkedSnaps<T> {
     {
         self.entry(spot).time - self.entry(self.before(spot)).time
     }
+}
+
+/// Whether the snapshot of this gap is removed while the gaps are noted: its neighbours have one time, and removals are left.
+fn goes_at_once(gap: u64, left: u32) -> bool
+    ensures goes { result ≡ true → (gap ≡ 0) × (0 < left) }
+    ensures stays { result ≡ false → 0 < left → 0 < gap }
+{
+    if left == 0 {
+        return false;
+    }
+    gap == 0
 }

@@ -10,7 +10,7 @@ use std::process::Abort;
 
 /// Of how many snapshots half are culled, of how many normal ones one is detailed, and by how many hundredths of a percent a
 /// peak passes the last one.
-type Settings = (u32, u64, u64);
+pub(crate) type Settings = (u32, u64, u64);
 
 /// What is done with an array.
 #[derive(Clone, Copy)]
@@ -213,9 +213,9 @@ dropped 2
 ];
 
 /// A load, which is the number of its step, and counts where it is dropped.
-struct Load<'a> {
-    number: u64,
-    drops: &'a Cell<u64>,
+pub(crate) struct Load<'a> {
+    pub number: u64,
+    pub drops: &'a Cell<u64>,
 }
 
 impl Drop for Load<'_> {
@@ -240,7 +240,7 @@ fn last_time(array: &SnapArray<Load>) -> u64
 }
 
 /// Makes an offer at an early time and of few bytes.
-fn offer<'a>(
+pub(crate) fn offer<'a>(
     rt: &impl Abort,
     array: &mut SnapArray<Load<'a>>,
     time: u64,
@@ -367,7 +367,11 @@ fn put_steps<'a>(
 }
 
 /// An array without snapshots.
-fn array_of<'a>(rt: &impl Abort, alloc: Global, settings: Settings) -> SnapArray<Load<'a>> {
+pub(crate) fn array_of<'a>(
+    rt: &impl Abort,
+    alloc: Global,
+    settings: Settings,
+) -> SnapArray<Load<'a>> {
     let (max, detailed_freq, inaccuracy) = settings;
     SnapArray::new(
         alloc,

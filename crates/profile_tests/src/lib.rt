@@ -14,6 +14,8 @@ mod pages;
 #[cfg(test)]
 mod profiles;
 #[cfg(test)]
+mod random_culls;
+#[cfg(test)]
 mod sampling;
 #[cfg(test)]
 mod texts;

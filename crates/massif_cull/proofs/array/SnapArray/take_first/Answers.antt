@@ -26,7 +26,7 @@ invariant_of-self g c =
         last_peak_most = before.last_peak_most;
         normals_below = before.normals_below;
       },
-      record { max = c.remove-load.ensures.max ∙ c.self.invariant.1.max },
+      record { max = c.remove-load.ensures.max ∙ c.self.invariant.1.max; gaps = c.self.invariant.1.gaps },
       record { normal = c.normal_from-self-inside.ensures.time; normal_most = c.normal_from-self-inside.ensures.most; peak = c.self.invariant.2.peak },
     )
 

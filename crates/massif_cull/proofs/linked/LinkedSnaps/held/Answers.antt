@@ -1,16 +1,11 @@
-use Rattle.std.proofs.Common.{ap, sym, ◌∙◌}
-use Rattle.std.specs.Option.{option_copied}
-use Rattle.massif_cull.proofs.SnapsLemmas.{place-inside, slot-there, entry-there, load-there}
+use Rattle.massif_cull.proofs.SnapsLemmas.{contains-at}
 use Rattle.massif_cull.proofs.linked.LinkedSnaps.held.Goals as goal
 
+pub held_at-requires : goal.held_at-requires
+held_at-requires g c = contains-at _ _ _ c.requires
+
 pub returns-clause-entry : goal.returns-clause-entry
-returns-clause-entry g c =
-    let here = rw (← c.self.view_is) at c.requires in
-    let there = slot-there _ _ _ (place-inside c.self.inside _ _ c.self.invariant here) c.index.ensures ∙ sym c.as_ref.ensures.value ∙ ap option_copied c.unwrap.ensures in
-    rw (← c.self.view_is) (entry-there c.self.inside _ _ _ c.self.invariant here there)
+returns-clause-entry g c = c.held_at.ensures.entry _ c.requires
 
 pub returns-clause-load : goal.returns-clause-load
-returns-clause-load g c =
-    let here = rw (← c.self.view_is) at c.requires in
-    let there = slot-there _ _ _ (place-inside c.self.inside _ _ c.self.invariant here) c.index.ensures ∙ sym c.as_ref.ensures.value ∙ ap option_copied c.unwrap.ensures in
-    rw (← c.self.view_is) (load-there c.self.inside _ _ _ c.self.invariant here there)
+returns-clause-load g c = c.held_at.ensures.load _ c.requires

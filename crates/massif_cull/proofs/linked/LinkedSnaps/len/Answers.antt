@@ -7,3 +7,12 @@ returns-clause-entries g c = rw (← c.self.view_is) (c.len.ensures.length ∙ s
 
 pub returns-clause-loads : goal.returns-clause-loads
 returns-clause-loads g c = rw (← c.self.view_is) (c.len.ensures.length ∙ sym (loads-beside c.self.inside c.self.invariant))
+
+pub returns-clause-placed : goal.returns-clause-placed
+returns-clause-placed g c =
+    rw (← c.self.view_is)
+    (record {
+      beside = sym (entries-beside c.self.inside c.self.invariant);
+      different = c.self.invariant.different;
+      below = c.self.invariant.below;
+    })

@@ -1,0 +1,79 @@
+use Rattle.std.proofs.Common.{◌≡◌, ◌∙◌, ℕ, Option, ap, subst, sym, set, arith}
+use Rattle.std.specs.Prelude.{slice_get, IsSome, Some}
+use Rattle.std.specs.Vec.{with_item}
+use Rattle.massif_cull.specs.declared.linked.Held.{Held}
+use Rattle.massif_cull.specs.declared.linked.LinkedSnaps.TheInside.{Inside}
+use Rattle.massif_cull.specs.Held.{held_at}
+use Rattle.massif_cull.proofs.Linking.{contained-at, each-at}
+use Rattle.massif_cull.proofs.SnapsLemmas.{IsShrunk, place-inside, slot-there, entry-there, load-there, shrunk-entries, shrunk-loads, shrunk-stays}
+use Rattle.massif_cull.proofs.linked.LinkedSnaps.take_out.Goals as goal
+use Rattle.massif_cull.proofs.linked.LinkedSnaps.take_out.Given.{Over}
+use Rattle.massif_cull.proofs.linked.LinkedSnaps.take_out.Goals.{After-unwrap}
+
+-- the fields afterwards
+after : (g : Over) → After-unwrap g → Inside g.row.T.Denot
+after g c = record { links = c.unlink.new.self; slots = with_item c.self.inside.slots c.args.place c.take.new.self }
+
+-- what has become of them
+done : (g : Over) (c : After-unwrap g) (k : ℕ) → slice_get c.self.inside.links.places k ≡ Some c.args.place → IsShrunk c.self.inside (after g c) k c.args.place
+unfolding after
+done g c k here = record {
+  same_max = c.unlink.ensures.max;
+  at = here;
+  places = c.unlink.ensures.removed _ here;
+  different = c.unlink.ensures.different;
+  slots = ap (set c.self.inside.slots.items c.args.place) c.take.ensures.after;
+}
+
+pub unlink-requires : goal.unlink-requires
+unlink-requires g c = rw (← c.self.view_is) at c.requires
+
+pub index_mut-requires : goal.index_mut-requires
+index_mut-requires g c =
+    let held = rw (← c.self.view_is) at c.requires in
+    omega (arith, place-inside c.self.inside _ _ c.self.invariant (contained-at _ _ held).1, c.self.inside.slots.ok.0)
+
+pub unwrap-requires : goal.unwrap-requires
+unwrap-requires g c =
+    let held = rw (← c.self.view_is) at c.requires in
+    let found = contained-at _ _ held in
+    let there = slot-there _ _ _ (place-inside c.self.inside _ _ c.self.invariant found.1) c.index_mut.ensures.value ∙ sym c.take.ensures.value in
+    subst (λ (o : Option (Held g.row.T.Denot)). IsSome o) there
+    (each-at (λ place. IsSome (held_at c.self.inside.slots.items place)) c.self.inside.links.places found.0 c.args.place found.1 c.self.invariant.each)
+
+pub invariant_of-self : goal.invariant_of-self
+unfolding after
+invariant_of-self g c =
+    let held = rw (← c.self.view_is) at c.requires in
+    let found = contained-at _ _ held in
+    shrunk-stays c.self.inside (after g c) _ _ c.self.invariant (done g c found.0 found.1)
+
+pub returns-clause-places : goal.returns-clause-places
+unfolding after
+returns-clause-places g c k at =
+    let here = rw (← c.self.view_is) at at in
+    rw (← c.self.view_is) (done g c k here).places
+
+pub returns-clause-entries : goal.returns-clause-entries
+unfolding after
+returns-clause-entries g c k at =
+    let here = rw (← c.self.view_is) at at in
+    rw (← c.self.view_is) (shrunk-entries c.self.inside (after g c) _ _ c.self.invariant (done g c k here))
+
+pub returns-clause-loads : goal.returns-clause-loads
+unfolding after
+returns-clause-loads g c k at =
+    let here = rw (← c.self.view_is) at at in
+    rw (← c.self.view_is) (shrunk-loads c.self.inside (after g c) _ _ c.self.invariant (done g c k here))
+
+pub returns-clause-entry : goal.returns-clause-entry
+returns-clause-entry g c k at =
+    let here = rw (← c.self.view_is) at at in
+    let there = slot-there _ _ _ (place-inside c.self.inside _ _ c.self.invariant here) c.index_mut.ensures.value ∙ sym c.take.ensures.value ∙ c.unwrap.ensures in
+    rw (← c.self.view_is) (entry-there c.self.inside _ _ _ c.self.invariant here there)
+
+pub returns-clause-load : goal.returns-clause-load
+returns-clause-load g c k at =
+    let here = rw (← c.self.view_is) at at in
+    let there = slot-there _ _ _ (place-inside c.self.inside _ _ c.self.invariant here) c.index_mut.ensures.value ∙ sym c.take.ensures.value ∙ c.unwrap.ensures in
+    rw (← c.self.view_is) (load-there c.self.inside _ _ _ c.self.invariant here there)
