@@ -14,8 +14,8 @@ use Rattle.hp_num.specs.Hexadecimal.{hexadecimal}
 use Rattle.ht_trace.specs.declared.error.LineError.{LineError}
 use Rattle.ht_trace.specs.declared.error.LineError.TheVariants.{TooMany}
 use Rattle.ht_trace.specs.LineFault.{Tells, most_entries}
-use Rattle.interpret.specs.AddsNames.{AddsNames}
-use Rattle.interpret.specs.FirstAppearances.{over_fault, with_all, with_new}
+use Rattle.interpret.specs.AddsNames.{AreAdded}
+use Rattle.interpret.specs.FirstAppearances.{all_fault, over_fault, with_all, with_new}
 use Rattle.interpret.specs.Interpreted.{text_of}
 use Rattle.interpret.specs.Resolved.{SourceFrame, frame_names, frames_of}
 use Rattle.interpret.specs.SymbolEntries.{following}
@@ -38,19 +38,19 @@ pub spelled-append : (xs ys : List ℕ) → spelled (xs ++ ys) ≡ spelled xs ++
 spelled-append [] ys = refl
 spelled-append (x ∷ xs) ys = ap (λ (rest : List ℕ). 32 ∷ (hexadecimal x ++ rest)) (spelled-append xs ys) ∙ ap (λ (l : List ℕ). 32 ∷ l) (sym (append_assoc (hexadecimal x) (spelled xs) (spelled ys)))
 
-pub adds-none : (version : ℕ) (names : List (List ℕ)) (out : List ℕ) → AddsNames version [] names names out out
+pub adds-none : (version : ℕ) (names : List (List ℕ)) (out : List ℕ) → AreAdded version [] names names out out
 adds-none version names out = record { more = []; grown = sym (append-nil names); added = refl; lines = sym (append-nil out) }
 
-pub adds-held : (version : ℕ) (name : List ℕ) (old new : List (List ℕ)) (out : List ℕ) → new ≡ with_new bytes_eq old name → list_any (bytes_eq name) old ≡ true → AddsNames version (name ∷ []) old new out out
+pub adds-held : (version : ℕ) (name : List ℕ) (old new : List (List ℕ)) (out : List ℕ) → new ≡ with_new bytes_eq old name → list_any (bytes_eq name) old ≡ true → AreAdded version (name ∷ []) old new out out
 adds-held version name old new out is there =
     record { more = []; grown = is ∙ with-held bytes_eq old name there ∙ sym (append-nil old); added = is; lines = sym (append-nil out) }
 
 pub adds-new : (version : ℕ) (name : List ℕ) (old new : List (List ℕ)) (before after : List ℕ) → new ≡ with_new bytes_eq old name → list_any (bytes_eq name) old ≡ false
-    → after ≡ before ++ (written version (string_line name) ++ 10 ∷ []) → AddsNames version (name ∷ []) old new before after
+    → after ≡ before ++ (written version (string_line name) ++ 10 ∷ []) → AreAdded version (name ∷ []) old new before after
 adds-new version name old new before after is none wrote =
     record { more = name ∷ []; grown = is ∙ with-absent bytes_eq old name none; added = is; lines = wrote ∙ ap (λ (l : List ℕ). before ++ l) (sym (text-one (written version (string_line name)))) }
 
-pub adds-then : (version : ℕ) (xs ys : List (List ℕ)) (old mid new : List (List ℕ)) (before between after : List ℕ) → AddsNames version xs old mid before between → AddsNames version ys mid new between after → AddsNames version (xs ++ ys) old new before after
+pub adds-then : (version : ℕ) (xs ys : List (List ℕ)) (old mid new : List (List ℕ)) (before between after : List ℕ) → AreAdded version xs old mid before between → AreAdded version ys mid new between after → AreAdded version (xs ++ ys) old new before after
 adds-then version xs ys old mid new before between after a b =
     let lines = said-append version (map string_line a.more) (map string_line b.more) in
     record {
@@ -84,14 +84,14 @@ over-more most m n few error told = λ other. by (nat_lt most m) (nat_lt most n)
     by false b p q is = absurd (cc)
 
 -- a fault of the first names is one of all
-pub fault-first : (xs ys old : List (List ℕ)) (error : LineError) → Tells error (over_fault most_entries (length (with_all bytes_eq old xs))) → Tells error (over_fault most_entries (length (with_all bytes_eq old (xs ++ ys))))
+pub fault-first : (xs ys old : List (List ℕ)) (error : LineError) → Tells error (all_fault bytes_eq old xs) → Tells error (all_fault bytes_eq old (xs ++ ys))
 fault-first xs ys old error told =
     over-more most_entries (length (with_all bytes_eq old xs)) (length (with_all bytes_eq old (xs ++ ys)))
     (subst (λ (l : List (List ℕ)). length (with_all bytes_eq old xs) ≤ length l) (sym (fold-append (with_new bytes_eq) old xs ys)) (all-no_fewer bytes_eq (with_all bytes_eq old xs) ys)) error told
 
 -- and one of those behind them, too
-pub fault-behind : (version : ℕ) (xs ys old mid : List (List ℕ)) (before between : List ℕ) (error : LineError) → AddsNames version xs old mid before between → Tells error (over_fault most_entries (length (with_all bytes_eq mid ys)))
-    → Tells error (over_fault most_entries (length (with_all bytes_eq old (xs ++ ys))))
+pub fault-behind : (version : ℕ) (xs ys old mid : List (List ℕ)) (before between : List ℕ) (error : LineError) → AreAdded version xs old mid before between → Tells error (all_fault bytes_eq mid ys)
+    → Tells error (all_fault bytes_eq old (xs ++ ys))
 fault-behind version xs ys old mid before between error a told =
     subst (λ (l : List (List ℕ)). Tells error (over_fault most_entries (length l))) (ap (λ (l : List (List ℕ)). with_all bytes_eq l ys) a.added ∙ sym (fold-append (with_new bytes_eq) old xs ys)) told
 
@@ -99,20 +99,20 @@ fault-behind version xs ys old mid before between error a told =
 pub record IsAdding (version : ℕ) (all rest : List (List ℕ)) (old new : List (List ℕ)) (before after : List ℕ) : Type 0 where
   pub done : List (List ℕ)
   pub whole : done ++ rest ≡ all
-  pub adds : AddsNames version done old new before after
+  pub adds : AreAdded version done old new before after
 
-pub adding-more : (version : ℕ) (all front rest : List (List ℕ)) (old mid new : List (List ℕ)) (before between after : List ℕ) → IsAdding version all (front ++ rest) old mid before between → AddsNames version front mid new between after → IsAdding version all rest old new before after
+pub adding-more : (version : ℕ) (all front rest : List (List ℕ)) (old mid new : List (List ℕ)) (before between after : List ℕ) → IsAdding version all (front ++ rest) old mid before between → AreAdded version front mid new between after → IsAdding version all rest old new before after
 adding-more version all front rest old mid new before between after a b =
     record { done = a.done ++ front; whole = append_assoc a.done front rest ∙ a.whole; adds = adds-then version a.done front old mid new before between after a.adds b }
 
-pub adding-fault : (version : ℕ) (all front rest : List (List ℕ)) (old mid : List (List ℕ)) (before between : List ℕ) (error : LineError) → IsAdding version all (front ++ rest) old mid before between → Tells error (over_fault most_entries (length (with_all bytes_eq mid front)))
-    → Tells error (over_fault most_entries (length (with_all bytes_eq old all)))
+pub adding-fault : (version : ℕ) (all front rest : List (List ℕ)) (old mid : List (List ℕ)) (before between : List ℕ) (error : LineError) → IsAdding version all (front ++ rest) old mid before between → Tells error (all_fault bytes_eq mid front)
+    → Tells error (all_fault bytes_eq old all)
 adding-fault version all front rest old mid before between error a told =
     let here = fault-behind version a.done front old mid before between error a.adds told in
-    subst (λ (l : List (List ℕ)). Tells error (over_fault most_entries (length (with_all bytes_eq old l)))) (append_assoc a.done front rest ∙ a.whole) (fault-first (a.done ++ front) rest old error here)
+    subst (λ (l : List (List ℕ)). Tells error (all_fault bytes_eq old l)) (append_assoc a.done front rest ∙ a.whole) (fault-first (a.done ++ front) rest old error here)
 
-pub adding-done : (version : ℕ) (all : List (List ℕ)) (old new : List (List ℕ)) (before after : List ℕ) → IsAdding version all [] old new before after → AddsNames version all old new before after
-adding-done version all old new before after a = subst (λ (l : List (List ℕ)). AddsNames version l old new before after) (sym (append-nil a.done) ∙ a.whole) a.adds
+pub adding-done : (version : ℕ) (all : List (List ℕ)) (old new : List (List ℕ)) (before after : List ℕ) → IsAdding version all [] old new before after → AreAdded version all old new before after
+adding-done version all old new before after a = subst (λ (l : List (List ℕ)). AreAdded version l old new before after) (sym (append-nil a.done) ∙ a.whole) a.adds
 
 -- what is left are the names of the next frame, and those behind it
 pub adding-next :
@@ -126,5 +126,7 @@ adding-next version all rest texts frame behind old new before after is next add
 
 -- the parts of an instruction's line
 pub put-line : (out a b c d e : List ℕ) (ip m : ℕ) (frames : List ℕ) → a ≡ out ++ 105 ∷ [] → b ≡ a ++ spelled (ip ∷ []) → c ≡ b ++ spelled (m ∷ []) → d ≡ c ++ spelled frames → e ≡ d ++ 10 ∷ []
-    → e ≡ out ++ ((105 ∷ spelled (ip ∷ m ∷ frames)) ++ 10 ∷ [])
-put-line out a b c d e ip m frames p q r s t = rw (t, s, r, q, p) (simp (append_assoc, append-nil))
+    → e ≡ out ++ text_of ((105 ∷ spelled (ip ∷ m ∷ frames)) ∷ [])
+put-line out a b c d e ip m frames p q r s t =
+    let line : e ≡ out ++ ((105 ∷ spelled (ip ∷ m ∷ frames)) ++ 10 ∷ []) = rw (t, s, r, q, p) (simp (append_assoc, append-nil)) in
+    line ∙ ap (λ (l : List ℕ). out ++ l) (sym (text-one (105 ∷ spelled (ip ∷ m ∷ frames))))

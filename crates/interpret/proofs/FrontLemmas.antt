@@ -1,5 +1,5 @@
 -- A line in its usual form at the front of some bytes is read.
-use Rattle.std.proofs.Common.{◌≡◌, ℕ, Bool, true, ◌||◌, List, [], ◌∷◌, ◌++◌, length, map, drop, drop_of_length-le, Result, Ok, Err, OnOk, ap, refl, sym, ◌∙◌, arith}
+use Rattle.std.proofs.Common.{◌≡◌, ℕ, Bool, true, false, true≢false, ◌||◌, List, [], ◌∷◌, ◌++◌, length, map, drop, drop_of_length-le, Result, Ok, Err, OnOk, OnErr, ap, refl, sym, ◌∙◌, arith}
 use Rattle.std.specs.Prelude.{is_some, unwrap_or}
 use Rattle.std.specs.List.{list_any}
 use Rattle.std.specs.Result.{is_ok}
@@ -19,12 +19,17 @@ use Rattle.interpret.specs.InterpreterState.{InterpreterState}
 use Rattle.interpret.specs.RawContents.{IsRaw}
 use Rattle.interpret.specs.TakesFront.{TakesFront}
 use Rattle.interpret.specs.TakesLine.{HasRead, Takes}
-use Rattle.interpret.proofs.StandLemmas.{lines-push, no-fault, stands-push}
+use Rattle.interpret.proofs.StandLemmas.{adds-line}
 
 -- what a call promises where it succeeds, where it did
 pub ok-holds : {T E P : Type 0} (result : Result T E) (test : Bool) → test ≡ is_ok result → test ≡ true → OnOk result P → P
 ok-holds (Ok x) test is succeeded held = held
 ok-holds (Err e) test is succeeded held = absurd (false≢true (sym is ∙ succeeded))
+
+-- and where it failed
+pub err-holds : {T E P : Type 0} (result : Result T E) (test : Bool) → test ≡ is_ok result → test ≡ false → OnErr result P → P
+err-holds (Ok x) test is failed held = absurd (true≢false (sym is ∙ failed))
+err-holds (Err e) test is failed held = held
 
 -- an info that is held is not added
 pub held-new : (infos : List AllocationInfo) (info : AllocationInfo) → list_any (same_info info) infos ≡ true → infos ≡ with_new same_info infos info
@@ -59,7 +64,5 @@ front-taken old new ready found before after begins versioned takes =
       short = begins.at_most;
       split = begins.split;
       size = begins.counted;
-      no_fault = no-fault old new begins.line before after read;
-      lines = lines-push old new begins.line before after read;
-      stands = stands-push old new begins.line before after read;
+      adds = adds-line old new begins.line before after read;
     }

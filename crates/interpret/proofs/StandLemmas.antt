@@ -1,5 +1,5 @@
 -- That an interpreter stands for one line more.
-use Rattle.std.proofs.Common.{◌≡◌, ℕ, true, List, [], ◌∷◌, ◌++◌, Option, None, Result, Ok, refl, sym, ap, ◌∙◌, append-nil, subst}
+use Rattle.std.proofs.Common.{◌≡◌, ◌≢◌, ℕ, true, List, [], ◌∷◌, ◌++◌, Option, None, Result, Ok, refl, sym, ap, ◌∙◌, append-nil, subst}
 use Rattle.std.specs.Prelude.{◌||◌, is_some, unwrap_or}
 use Rattle.std.specs.Option.{option_or, option_to_list}
 use Rattle.std.specs.List.{AllByRecursion}
@@ -12,12 +12,14 @@ use Rattle.ht_trace.specs.FormContents.{version_in}
 use Rattle.ht_trace.proofs.Laws.{Reads, all-push, gathered-push, reads-by}
 use Rattle.ht_trace.specs.Gathered.{gathered}
 use Rattle.ht_trace.specs.declared.error.LineError.{LineError}
+use Rattle.ht_trace.specs.declared.error.LineError.TheVariants.{NoMemory, TooMany}
 use Rattle.ht_trace.specs.LineFault.{Tells}
 use Rattle.ht_trace.specs.VersionLines.{may_stand_first}
 use Rattle.interpret.specs.declared.infos.AllocationInfo.{AllocationInfo}
 use Rattle.interpret.specs.FirstAppearances.{with_all}
 use Rattle.interpret.specs.Interpreted.{interpreted_lines, lines_for, lines_read, text_of}
-use Rattle.interpret.specs.InterpreterState.{InterpreterState, PointsAs, StandsFor}
+use Rattle.interpret.specs.InterpreterState.{InterpreterState, PointsAs, StandsFor, failed_with}
+use Rattle.interpret.specs.NextLine.{AddsLine, RefusesLine}
 use Rattle.interpret.specs.RawBlocks.{freed_by, freed_info, held}
 use Rattle.interpret.specs.RawContents.{IsRaw, contents, file_version, version_of}
 use Rattle.interpret.specs.RawFault.{content_fault, fault_in, raw_fault}
@@ -42,11 +44,11 @@ fault-is old symbols lines line stands =
     ∙ ap (λ (v : Option ℕ). fault_in old.symbols v (tables_of symbols (contents lines)) line) (sym stands.version)
     ∙ ap (λ (t : RawTables). fault_in old.symbols old.version t line) (sym stands.tables)
 
-pub fault-told : (old new : InterpreterState) (line : List ℕ) (error : LineError) → HasRefused old new line error → (symbols : List Symbol) (lines : List (List ℕ)) → StandsFor old symbols lines → Tells error (raw_fault symbols lines line)
+fault-told : (old new : InterpreterState) (line : List ℕ) (error : LineError) → HasRefused old new line error → (symbols : List Symbol) (lines : List (List ℕ)) → StandsFor old symbols lines → Tells error (raw_fault symbols lines line)
 fault-told old new line error refused symbols lines stands = λ other. fault-is old symbols lines line stands ∙ refused.fault other
 
 -- a line that was taken has none
-pub no-fault : (old new : InterpreterState) (line before after : List ℕ) → HasRead old new line before after → (symbols : List Symbol) (lines : List (List ℕ)) → StandsFor old symbols lines → raw_fault symbols lines line ≡ None
+no-fault : (old new : InterpreterState) (line before after : List ℕ) → HasRead old new line before after → (symbols : List Symbol) (lines : List (List ℕ)) → StandsFor old symbols lines → raw_fault symbols lines line ≡ None
 no-fault old new line before after read symbols lines stands =
     let here : fault_in old.symbols old.version old.tables line ≡ content_fault old.symbols old.version old.tables read.said = rw (read.may_stand, read.read) refl in
     fault-is old symbols lines line stands ∙ here ∙ read.takes.no_fault
@@ -62,7 +64,7 @@ freed-is pointers infos earlier (raw_free_line ptr) points = points.info ptr
 freed-is pointers infos earlier said points = refl
 
 -- the interpreter stands for one line more
-pub stands-push : (old new : InterpreterState) (line before after : List ℕ) → HasRead old new line before after → (symbols : List Symbol) (lines : List (List ℕ)) → StandsFor old symbols lines → StandsFor new symbols (lines ++ line ∷ [])
+stands-push : (old new : InterpreterState) (line before after : List ℕ) → HasRead old new line before after → (symbols : List Symbol) (lines : List (List ℕ)) → StandsFor old symbols lines → StandsFor new symbols (lines ++ line ∷ [])
 stands-push old new line before after read symbols lines stands =
     let said = read.said in
     let reads = reads-next old symbols lines line said stands read.may_stand read.read in
@@ -83,7 +85,7 @@ stands-push old new line before after read symbols lines stands =
     }
 
 -- and its lines are written
-pub lines-push : (old new : InterpreterState) (line before after : List ℕ) → HasRead old new line before after → (symbols : List Symbol) (lines : List (List ℕ)) → StandsFor old symbols lines → after ≡ before ++ text_of (interpreted_lines symbols lines line)
+lines-push : (old new : InterpreterState) (line before after : List ℕ) → HasRead old new line before after → (symbols : List Symbol) (lines : List (List ℕ)) → StandsFor old symbols lines → after ≡ before ++ text_of (interpreted_lines symbols lines line)
 unfolding interpreted_lines
 lines-push old new line before after read symbols lines stands =
     let said = read.said in
@@ -127,5 +129,29 @@ raw-writable version (free_line info) writable = absurd (cc (writable.1))
 raw-writable version _ writable = tt
 
 -- the ledger of what is written is that of what was recorded, with one line more
-pub ledger-push : (old new : InterpreterState) (line before after : List ℕ) → HasRead old new line before after → (symbols : List Symbol) (lines : List (List ℕ)) → StandsFor old symbols lines → KeepsLedger symbols (contents (lines ++ line ∷ []))
+ledger-push : (old new : InterpreterState) (line before after : List ℕ) → HasRead old new line before after → (symbols : List Symbol) (lines : List (List ℕ)) → StandsFor old symbols lines → KeepsLedger symbols (contents (lines ++ line ∷ []))
 ledger-push old new line before after read symbols lines stands = keeps-ledger symbols (contents (lines ++ line ∷ [])) (stands-push old new line before after read symbols lines stands).raw
+
+-- all that a line does which was read
+pub adds-line : (old new : InterpreterState) (line before after : List ℕ) → HasRead old new line before after → AddsLine old new line before after
+adds-line old new line before after read = record {
+  no_fault = no-fault old new line before after read;
+  lines = lines-push old new line before after read;
+  stands = stands-push old new line before after read;
+  ledger = ledger-push old new line before after read;
+}
+
+-- a fault that doesn't stay leaves none behind
+failed-same : (failed : Option LineError) (error : LineError) → error ≢ NoMemory → error ≢ TooMany → failed_with failed error ≡ failed
+failed-same failed NoMemory one two = absurd (one refl)
+failed-same failed TooMany one two = absurd (two refl)
+failed-same failed _ one two = refl
+
+-- and one that was refused, whose fault is kept
+pub refuses-line : (old mid new : InterpreterState) (line : List ℕ) (error : LineError) → HasRefused old mid line error → new ≡ record mid { failed = failed_with mid.failed error } → RefusesLine old new line error
+refuses-line old mid new line error refused kept = record {
+  fault = fault-told old mid line error refused;
+  no_memory = λ is. ap (λ (s : InterpreterState). s.failed) kept ∙ ap (λ (e : LineError). failed_with mid.failed e) is;
+  too_many = λ is. ap (λ (s : InterpreterState). s.failed) kept ∙ ap (λ (e : LineError). failed_with mid.failed e) is;
+  unchanged = λ one two. kept ∙ (ap (λ (f : Option LineError). record mid { failed = f }) (failed-same mid.failed error one two) ∙ refused.unchanged one two);
+}

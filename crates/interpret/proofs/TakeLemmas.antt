@@ -17,7 +17,7 @@ use Rattle.ht_trace.specs.declared.error.LineError.{LineError}
 use Rattle.ht_trace.specs.declared.error.LineError.TheVariants.{NoMemory, SecondVersion, TooMany, UnknownTrace}
 use Rattle.ht_trace.specs.LineFault.{Tells, most_entries, most_nodes}
 use Rattle.interpret.specs.declared.infos.AllocationInfo.{AllocationInfo}
-use Rattle.interpret.specs.FirstAppearances.{over_fault, with_new}
+use Rattle.interpret.specs.FirstAppearances.{new_fault, over_fault, with_new}
 use Rattle.interpret.specs.Interpreted.{info_said, new_in, said_for, text_of}
 use Rattle.interpret.specs.InterpreterState.{InterpreterState, IsWithin, info_at}
 use Rattle.interpret.specs.Modules.{LoadedModule, ranges_said}
@@ -306,14 +306,22 @@ refuses-trace old size trace ptr above =
       failed = refl;
     }
 
+-- a table that is too full has no other fault
+only-over : (count : ℕ) (error : LineError) → over_fault most_entries count ≡ Some error → error ≡ TooMany
+only-over count error is = by (nat_lt most_entries count) is
+  where
+    by : (b : Bool) → cond {A = Option LineError} b (Some TooMany) None ≡ Some error → error ≡ TooMany
+    by true is = cc
+    by false is = absurd (cc)
+
 pub refuses-info : (old new : InterpreterState) (size trace ptr : ℕ) (error : LineError) → IsWithin old.version old.tables.names old.tables.known old.tables.nodes old.tables.infos → trace ≤ length old.tables.nodes
-    → Tells error (over_fault most_entries (length (with_new same_info old.tables.infos (record { size = size; trace = trace })))) → (error ≢ NoMemory → error ≡ TooMany)
+    → Tells error (new_fault same_info old.tables.infos (record { size = size; trace = trace }))
     → new.symbols ≡ old.symbols → new.failed ≡ old.failed → Refuses old new (raw_allocation_line size trace ptr) error
-refuses-info old new size trace ptr error within held told only symbols failed =
+refuses-info old new size trace ptr error within held told symbols failed =
     let here : nat_lt (length old.tables.nodes) trace ≡ false = grind (arith, nat_tests, held) in
     record {
       fault = λ other. allocation-fault old.symbols old.version old.tables size trace ptr within here ∙ told other;
-      unchanged = λ one two. absurd (two (only one));
+      unchanged = λ one two. absurd (two (only-over (length (with_new same_info old.tables.infos (record { size = size; trace = trace }))) error (told one)));
       symbols = symbols;
       failed = failed;
     }

@@ -21,6 +21,10 @@ new_in before after = drop (length before) after
 abbrev pub info_said : AllocationInfo → Content
 info_said info = info_line info.size info.trace
 
+-- a free says that of its block's info, where there is one
+abbrev pub free_said : Option ℕ → List Content
+free_said freed = map free_line (option_to_list freed)
+
 -- what the interpreted lines of a raw line say, with the tables before it and after it and the info of the block that it
 -- frees: first what is new in the tables. A line that is passed on as it is gives nothing here
 abbrev pub said_for : List Symbol → RawTables → RawTables → Option ℕ → Content → List Content
@@ -31,7 +35,7 @@ said_for symbols before after freed (node_line ip parent) =
 said_for symbols before after freed (raw_allocation_line size trace ptr) =
     map info_said (new_in before.infos after.infos)
     ++ allocation_line (info_number after.infos (record { size = size; trace = trace })) ∷ []
-said_for symbols before after freed (raw_free_line ptr) = map free_line (option_to_list freed)
+said_for symbols before after freed (raw_free_line ptr) = free_said freed
 said_for symbols before after freed _ = []
 
 -- the lines: a version line is written anew and a module's gives nothing; a node, an allocation and a free give what

@@ -1,6 +1,7 @@
 -- All lines of the interpretation of a raw trace.
 use Rattle.std.specs.Prelude.{◌≡◌, ℕ, ◌^◌, ◌<◌, true, List, [], ◌∷◌, ◌++◌, length, Option, None}
 use Rattle.std.specs.List.{AllByRecursion}
+use Rattle.ht_lines.specs.OneLine.{IsOneLine}
 use Rattle.ht_trace.specs.Gathered.{gathered}
 use Rattle.live_ledger.specs.declared.event.Event.{Event}
 use Rattle.live_ledger.specs.declared.event.Event.TheVariants.{Alloc, Free, Tick}
@@ -26,6 +27,10 @@ HasShortTexts symbol = AllByRecursion (λ text. length text < 2 ^ 64) symbol.tex
 -- its texts are a function alone, or frames, as each line of a table says them
 abbrev pub HasFrames : Symbol → Type 0
 HasFrames symbol = are_texts symbol.texts ≡ true
+
+-- none of them has a line feed
+abbrev pub HasOneLines : Symbol → Type 0
+HasOneLines symbol = AllByRecursion IsOneLine symbol.texts
 
 -- no line has a fault after those before it, and neither lines nor texts are longer than what can be read
 pub record AreInterpretable (symbols : List Symbol) (lines : List (List ℕ)) : Type 0 where

@@ -37,6 +37,11 @@ info_after infos (raw_allocation_line size trace named) ptr before =
 info_after infos (raw_free_line named) ptr before = if named == ptr then None else before
 info_after infos _ ptr before = before
 
+-- a pointer stands for a block of this info, or for none, and every other for what it did
+abbrev pub SetsPointer : List (ℕ × ℕ) → List (ℕ × ℕ) → ℕ → Option ℕ → Type 0
+SetsPointer old new ptr info = (other : ℕ)
+    → info_at new other ≡ if ptr == other then info else info_at old other
+
 -- the fault after which no line is taken, with one more fault
 abbrev pub failed_with : Option LineError → LineError → Option LineError
 failed_with failed TooMany = Some TooMany
@@ -62,6 +67,11 @@ pub record StandsFor (state : InterpreterState) (symbols : List Symbol)
   pub raw : AllByRecursion IsRaw (contents lines)
   pub first : is_some state.version ≡ false
       → AllByRecursion (λ line. may_stand_first line ≡ true) lines
+
+-- it holds of all lines that it stands for
+abbrev pub OfItsLines : InterpreterState → (List Symbol → List (List ℕ) → Type 0) → Type 0
+OfItsLines state P = (symbols : List Symbol) (lines : List (List ℕ)) → StandsFor state symbols lines
+    → P symbols lines
 
 -- the file version is one that there is, and no table has more than it may have
 pub record IsWithin (version : Option ℕ) (names : List (List ℕ)) (held : List KnownIp)

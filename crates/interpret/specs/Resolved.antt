@@ -1,13 +1,13 @@
 -- What stands at an address of a raw trace: the module that holds it, and the frames of the symbol there.
 use Rattle.std.specs.Prelude.{ℕ, ◌-◌, List, [], ◌∷◌, ◌++◌, if◌then◌else◌, length, max, nat_le, Option, Some, None, unwrap_or}
 use Rattle.std.specs.List.{flat_map}
-use Rattle.std.specs.Option.{option_map, option_to_list}
+use Rattle.std.specs.Option.{option_to_list}
 use Rattle.hp_num.specs.ParsedDec.{parsed_dec}
 use Rattle.ht_lines.specs.Content.{Content, instruction_line}
 use Rattle.intern_tables.specs.Numbers.{number_of}
 use Rattle.interpret.specs.Modules.{LoadedModule, module_of}
 use Rattle.interpret.specs.SymbolLine.{Symbol}
-use Rattle.interpret.specs.SymbolList.{symbol_at}
+use Rattle.interpret.specs.SymbolList.{texts_at}
 
 -- a function, and where it is known a file and the line in it
 pub record SourceFrame : Type 0 where
@@ -33,8 +33,7 @@ frames_of (function ∷ file ∷ line ∷ more) =
 abbrev pub texts_in : List Symbol → LoadedModule → ℕ → List (List ℕ)
 texts_in symbols loaded ip =
     if nat_le loaded.start ip
-    then unwrap_or (option_map (λ symbol. symbol.texts)
-    (symbol_at symbols loaded.name (ip - loaded.start))) []
+    then unwrap_or (texts_at symbols loaded.name (ip - loaded.start)) []
     else []
 
 abbrev pub resolved_in : List Symbol → Option LoadedModule → ℕ → Resolved

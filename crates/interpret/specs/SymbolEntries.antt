@@ -42,6 +42,19 @@ key_cmp x y = ordering_then (nat_cmp x.0 y.0) (nat_cmp x.1 y.1)
 abbrev pub place_at : StartIndex → ℕ → ℕ → Option ℕ
 place_at index number start = get key_cmp index.places (number, start)
 
+-- none of a module's starts up to an offset is later
+abbrev pub IsLatest : StartIndex → ℕ → ℕ → ℕ → Type 0
+IsLatest index number offset latest = (start place : ℕ) → start ≤ offset
+    → place_at index number start ≡ Some place → start ≤ latest
+
+-- all places are as they were, and all but that of one module and start
+abbrev pub SamePlaces : StartIndex → StartIndex → Type 0
+SamePlaces old new = (number start : ℕ) → place_at new number start ≡ place_at old number start
+
+abbrev pub SameElsewhere : StartIndex → StartIndex → ℕ → ℕ → Type 0
+SameElsewhere old new number start = (other from : ℕ) → (other ≢ number) ⊎ (from ≢ start)
+    → place_at new other from ≡ place_at old other from
+
 -- the symbol that an entry keeps
 abbrev pub symbol_kept : List (List ℕ) → SymbolEntry → Symbol
 symbol_kept names entry =

@@ -1,6 +1,7 @@
 -- The symbols of a table: those that its lines say, in the order of the lines.
-use Rattle.std.specs.Prelude.{◌≡◌, ◌≢◌, ℕ, Bool, true, ◌==◌, ◌&&◌, if◌then◌else◌, List, [], ◌∷◌, nat_le, nat_lt, find, Option, None, Some}
+use Rattle.std.specs.Prelude.{◌≡◌, ◌≢◌, ℕ, Bool, true, ◌==◌, ◌&&◌, if◌then◌else◌, List, [], ◌∷◌, ◌++◌, nat_le, nat_lt, find, Option, None, Some}
 use Rattle.std.specs.List.{filter_map, list_any}
+use Rattle.std.specs.Option.{option_map}
 use Rattle.std.specs.Str.{bytes_eq}
 use Rattle.interpret.specs.declared.fault.SymbolFault.{SymbolFault}
 use Rattle.interpret.specs.declared.fault.SymbolFault.TheVariants.{BadSymbolLine, SymbolOverlap, NoMemory}
@@ -19,6 +20,11 @@ symbol_in line = if is_skipped line then None else symbol_of (fields line)
 abbrev pub symbols_of : List (List ℕ) → List Symbol
 symbols_of lines = filter_map symbol_in lines
 
+-- the symbols of any lines are now those of these and one more
+abbrev pub StandForMore : List Symbol → List Symbol → List ℕ → Type 0
+StandForMore old new line = (lines : List (List ℕ)) → old ≡ symbols_of lines
+    → new ≡ symbols_of (lines ++ line ∷ [])
+
 -- whether two symbols of one module have an offset in common
 abbrev pub meets : Symbol → Symbol → Bool
 meets s t = bytes_eq s.module_name t.module_name && (nat_lt s.start t.end && nat_lt t.start s.end)
@@ -30,6 +36,9 @@ holds name offset s = bytes_eq name s.module_name && (nat_le s.start offset && n
 -- the symbol that holds an offset in a module; symbols that were taken don't meet, so that no other does
 abbrev pub symbol_at : List Symbol → List ℕ → ℕ → Option Symbol
 symbol_at symbols name offset = find (holds name offset) symbols
+
+abbrev pub texts_at : List Symbol → List ℕ → ℕ → Option (List (List ℕ))
+texts_at symbols name offset = option_map (λ s. s.texts) (symbol_at symbols name offset)
 
 -- the fault of a symbol, if it is one, after earlier symbols
 abbrev pub fault_after : List Symbol → Option Symbol → Option SymbolFault

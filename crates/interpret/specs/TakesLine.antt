@@ -1,5 +1,6 @@
 -- What an interpreter does with one line.
-use Rattle.std.specs.Prelude.{◌≡◌, ◌≢◌, ◌||◌, ℕ, true, List, ◌++◌, Option, None, is_some, unwrap_or, Ok}
+use Rattle.std.specs.Prelude.{◌≡◌, ◌≢◌, ◌||◌, ℕ, Bool, true, false, List, ◌++◌, Option, None, is_some, unwrap_or, Result, Ok, OnOk, IfErr}
+use Rattle.std.specs.Global.{Vec}
 use Rattle.std.specs.Option.{option_or}
 use Rattle.ht_lines.specs.Content.{Content, raw_free_line}
 use Rattle.ht_lines.specs.declared.item.Form.TheVariants.{Raw}
@@ -41,6 +42,31 @@ pub record Refuses (old new : InterpreterState) (said : Content) (error : LineEr
   pub unchanged : error ≢ NoMemory → error ≢ TooMany → new ≡ old
   pub symbols : new.symbols ≡ old.symbols
   pub failed : new.failed ≡ old.failed
+
+-- a call that takes what a line says, or refuses it
+pub record TakesOrRefuses (old new : InterpreterState) (line : List ℕ) (said : Content)
+    (before after : Vec ℕ) (result : Result (Unit {0}) LineError) : Type 0 where
+  pub takes : OnOk result (Takes old new line said before.items after.items)
+  pub refuses : IfErr result (λ error. Refuses old new said error)
+
+-- one that does so whatever line says it
+abbrev pub TakesSaid : InterpreterState → InterpreterState → Content → Vec ℕ → Vec ℕ
+    → Result (Unit {0}) LineError → Type 0
+TakesSaid old new said before after result = (line : List ℕ)
+    → TakesOrRefuses old new line said before after result
+
+-- and one that writes nothing, whatever was written
+abbrev pub TakesSilent : InterpreterState → InterpreterState → Content
+    → Result (Unit {0}) LineError → Type 0
+TakesSilent old new said result = (out : Vec ℕ) → TakesSaid old new said out out result
+
+-- a call that takes what a line says, or leaves it with all as it was
+pub record TriesSaid (old new : InterpreterState) (said : Content) (before after : Vec ℕ)
+    (is_taken : Bool) : Type 0 where
+  pub taken : is_taken ≡ true → (line : List ℕ)
+      → Takes old new line said before.items after.items
+  pub untaken : is_taken ≡ false → new ≡ old
+  pub unwritten : is_taken ≡ false → after.items ≡ before.items
 
 -- the line may stand there, says something that can be read, and is taken
 pub record HasRead (old new : InterpreterState) (line : List ℕ) (before after : List ℕ) : Type

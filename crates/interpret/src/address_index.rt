@@ -1,6 +1,6 @@
 //! Which module counts at an address, where of those that hold it the last one does. What a module is called is no part of it.
-ghost use Rattle.std.specs.Prelude.{◌≡◌, ◌⊎◌, ℕ, ◌<◌, ◌≤◌, if◌then◌else◌, None, Some, IsSome, IfNone, IfSome, OnOk};
-ghost use Rattle.interpret.specs.Holders.{change_at, holder_at};
+ghost use Rattle.std.specs.Prelude.{◌≡◌, ℕ, ◌<◌, ◌≤◌, None, IsSome, IfNone, IfSome, OnOk};
+ghost use Rattle.interpret.specs.Holders.{PutsOver, RemovesWithin, change_at, holder_at};
 ghost use Rattle.interpret.specs.Modules.{in_range};
 
 use crate::modules::AddressRange;
@@ -42,9 +42,7 @@ impl AddressIndex {
 
     /// Puts the module at a place over all others in a range. After `NoMemory` other addresses may have changed too.
     pub fn put(&mut self, range: AddressRange, place: usize) -> Result<(), NoMemory>
-        ensures { OnOk result
-            ((ip : ℕ) → holder_at self.new ip
-            ≡ if in_range ip range then Some place else holder_at self.old ip) }
+        ensures { OnOk result (PutsOver self.old self.new (λ ip. in_range ip range) place) }
     {
         let AddressRange { begin, end } = range;
         if begin >= end {
@@ -60,9 +58,7 @@ impl AddressIndex {
     // Removes the changes from an address on up to another.
     fn remove_within(&mut self, begin: u64, end: u64)
         requires some { begin < end }
-        ensures within { (from : ℕ) → begin ≤ from → from < end → change_at self.new from ≡ None }
-        ensures others { (from : ℕ) → (from < begin) ⊎ (end ≤ from)
-            → change_at self.new from ≡ change_at self.old from }
+        ensures { RemovesWithin self.old self.new begin end }
     {
         'changes: while let Some(from) = self.first_within(begin, end) {
             self.changes.remove(&from);

@@ -1,16 +1,13 @@
 //! The allocations and frees of a raw trace, and the lines that each gives.
 #![tactic(auto, using(hp_num::proofs::Laws::extends_same, hp_num::proofs::Laws::extends_more, hp_num::proofs::Laws::extends_trans))]
 
-ghost use Rattle.std.specs.Prelude.{◌≡◌, ◌≢◌, ℕ, ◌<◌, ◌≤◌, ◌==◌, List, [], ◌∷◌, ◌++◌, length, map, Some, None, if◌then◌else◌, IfOk, IfErr, OnOk, OnErr};
-ghost use Rattle.std.specs.Option.{option_to_list};
-ghost use Rattle.ht_lines.specs.Content.{allocation_line, free_line};
+ghost use Rattle.std.specs.Prelude.{◌≡◌, [], ◌∷◌, None, Some, OnOk, OnErr};
+ghost use Rattle.ht_lines.specs.Content.{allocation_line};
 ghost use Rattle.hp_num.specs.Extends.{Extends};
-ghost use Rattle.ht_lines.specs.Written.{written};
-ghost use Rattle.ht_trace.specs.LineFault.{Tells, most_entries};
-ghost use Rattle.interpret.specs.FirstAppearances.{over_fault, with_new};
-ghost use Rattle.interpret.specs.Interpreted.{info_said, new_in, text_of};
-ghost use Rattle.interpret.specs.InterpreterState.{info_at};
-ghost use Rattle.interpret.specs.RawTables.{info_number, same_info};
+ghost use Rattle.interpret.specs.AddsAllocation.{AddsAllocation};
+ghost use Rattle.interpret.specs.AppendsLines.{AppendsInEach};
+ghost use Rattle.interpret.specs.Interpreted.{free_said};
+ghost use Rattle.interpret.specs.InterpreterState.{SetsPointer, info_at};
 
 use crate::infos::{AllocationInfo, InfoSet};
 use crate::pointers::Pointers;
@@ -26,12 +23,8 @@ pub fn put_held(
     ptr: u64,
     out: &mut Vec<u8>,
 ) -> Result<(), NoMemory>
-    ensures set { OnOk result
-        ((other : ℕ) → info_at pointers.new other
-        ≡ if ptr == other then Some info else info_at pointers.old other) }
-    ensures lines { OnOk result
-        ((version : ℕ) → out.new.items
-        ≡ out.old.items ++ text_of (written version (allocation_line info) ∷ [])) }
+    ensures set { OnOk result (SetsPointer pointers.old pointers.new ptr (Some info)) }
+    ensures lines { OnOk result (AppendsInEach (allocation_line info ∷ []) out.old out.new) }
     ensures unchanged { OnErr result (pointers.new ≡ pointers.old) }
     ensures unwritten { OnErr result (out.new.items ≡ out.old.items) }
 {
@@ -46,13 +39,9 @@ pub fn put_held(
 /// Appends the line of the free of a block that a pointer stands for, which it then no longer does; where it stands for none,
 /// there is no line. On `NoMemory` both are as they were.
 pub fn put_free(pointers: &mut Pointers, ptr: u64, out: &mut Vec<u8>) -> Result<(), NoMemory>
-    ensures taken { OnOk result
-        ((other : ℕ) → info_at pointers.new other
-        ≡ if ptr == other then None else info_at pointers.old other) }
+    ensures taken { OnOk result (SetsPointer pointers.old pointers.new ptr None) }
     ensures lines { OnOk result
-        ((version : ℕ) → out.new.items ≡ out.old.items
-        ++ text_of (map (written version)
-        (map free_line (option_to_list (info_at pointers.old ptr))))) }
+        (AppendsInEach (free_said (info_at pointers.old ptr)) out.old out.new) }
     ensures unchanged { OnErr result (pointers.new ≡ pointers.old) }
     ensures unwritten { OnErr result (out.new.items ≡ out.old.items) }
     ensures kept { Extends out.old.items out.new.items }
@@ -77,16 +66,7 @@ pub fn put_allocation(
     info: AllocationInfo,
     out: &mut Vec<u8>,
 ) -> Result<u32, LineError>
-    ensures added { IfOk result (λ number. infos.new ≡ with_new same_info infos.old info) }
-    ensures number { IfOk result (λ number. number ≡ info_number infos.new info) }
-    ensures lines { IfOk result (λ number. out.new.items ≡ out.old.items
-        ++ text_of (map (written version)
-        (map info_said (new_in infos.old infos.new) ++ allocation_line number ∷ []))) }
-    ensures fault { IfErr result
-        (λ error. Tells error
-        (over_fault most_entries (length (with_new same_info infos.old info)))) }
-    ensures only { IfErr result (λ error. error ≢ LineError.NoMemory → error ≡ LineError.TooMany) }
-    ensures few { length infos.new ≤ most_entries }
+    ensures adds { AddsAllocation version info infos.old infos.new out.old out.new result }
     ensures kept { Extends out.old.items out.new.items }
 {
     let found = infos.intern(info)?;

@@ -1,10 +1,10 @@
 //! Lines of a raw trace in their usual form, taken from the front of bytes where nothing about them is in doubt. Every other
 //! line is left to `line`.
-ghost use Rattle.std.specs.Prelude.{◌≡◌, ℕ, ◌<◌, ◌≤◌, List, length, true, false, IfNone, IfSome};
+ghost use Rattle.std.specs.Prelude.{◌≡◌, ◌<◌, ◌≤◌, length, IfNone, IfSome};
 ghost use Rattle.ht_lines.specs.Content.{node_line, raw_allocation_line};
 ghost use Rattle.ht_lines.specs.RawLine.{raw_content};
 ghost use Rattle.interpret.specs.TakesFront.{TakesFront};
-ghost use Rattle.interpret.specs.TakesLine.{Takes};
+ghost use Rattle.interpret.specs.TakesLine.{TriesSaid};
 
 use crate::allocation_lines::put_held;
 use crate::infos::AllocationInfo;
@@ -41,10 +41,7 @@ impl Interpreter {
     // Takes what a line says, and answers whether it was taken.
     #[inline(always)]
     fn take_event(&mut self, says: RawEvent, out: &mut Vec<u8>) -> bool
-        ensures taken { result ≡ true → (line : List ℕ)
-            → Takes self.old self.new line (raw_content says) out.old.items out.new.items }
-        ensures untaken { result ≡ false → self.new ≡ self.old }
-        ensures unwritten { result ≡ false → out.new.items ≡ out.old.items }
+        ensures { TriesSaid self.old self.new (raw_content says) out.old out.new result }
     {
         match says {
             RawEvent::Allocation { size, trace, ptr } => self.allocate_held(size, trace, ptr, out),
@@ -56,11 +53,8 @@ impl Interpreter {
     // Takes an allocation of a pair that is held.
     #[inline(always)]
     fn allocate_held(&mut self, size: u64, trace: u64, ptr: u64, out: &mut Vec<u8>) -> bool
-        ensures taken { result ≡ true → (line : List ℕ)
-            → Takes self.old self.new line (raw_allocation_line size trace ptr)
-            out.old.items out.new.items }
-        ensures untaken { result ≡ false → self.new ≡ self.old }
-        ensures unwritten { result ≡ false → out.new.items ≡ out.old.items }
+        ensures { TriesSaid self.old self.new (raw_allocation_line size trace ptr) out.old out.new
+            result }
     {
         if trace > u64::from(self.nodes.len()) {
             return false;
@@ -73,10 +67,7 @@ impl Interpreter {
 
     // Takes a node of an address that has a number.
     fn add_known_node(&mut self, ip: u64, parent: u64, out: &mut Vec<u8>) -> bool
-        ensures taken { result ≡ true → (line : List ℕ)
-            → Takes self.old self.new line (node_line ip parent) out.old.items out.new.items }
-        ensures untaken { result ≡ false → self.new ≡ self.old }
-        ensures unwritten { result ≡ false → out.new.items ≡ out.old.items }
+        ensures { TriesSaid self.old self.new (node_line ip parent) out.old out.new result }
     {
         match self.known.find(ip) {
             Some(instruction) => {

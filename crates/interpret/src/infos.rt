@@ -1,8 +1,8 @@
 //! The pairs of a size and a node of a raw trace's allocations, each once, by their numbers from 0.
-ghost use Rattle.std.specs.Prelude.{◌≡◌, ℕ, ◌+◌, ◌<◌, ◌≤◌, List, [], ◌++◌, true, false, not, length, IfNone, IfSome, IfOk, IfErr, OnOk, OnErr};
+ghost use Rattle.std.specs.Prelude.{◌≡◌, ◌≤◌, [], true, false, not, length, IfNone, IfSome, IfOk, IfErr, OnOk, OnErr};
 ghost use Rattle.std.specs.List.{list_any};
 ghost use Rattle.ht_trace.specs.LineFault.{Tells, most_entries};
-ghost use Rattle.interpret.specs.FirstAppearances.{over_fault, with_new};
+ghost use Rattle.interpret.specs.FirstAppearances.{new_fault, with_new};
 ghost use Rattle.interpret.specs.RawTables.{info_number, same_info};
 
 use ht_trace::LineError;
@@ -70,12 +70,9 @@ impl InfoSet {
     pub fn intern(&mut self, info: AllocationInfo) -> Result<NumberedInfo, LineError>
         ensures added { OnOk result (self.new ≡ with_new same_info self.old info) }
         ensures number { IfOk result (λ found. found.number ≡ info_number self.new info) }
-        ensures held { IfOk result (λ found. found.number < length self.new) }
         ensures is_new { IfOk result
             (λ found. found.is_new ≡ not (list_any (same_info info) self.old)) }
-        ensures fault { IfErr result
-            (λ error. Tells error
-            (over_fault most_entries (length (with_new same_info self.old info)))) }
+        ensures fault { IfErr result (λ error. Tells error (new_fault same_info self.old info)) }
         ensures few { length self.new ≤ most_entries }
         ensures unchanged { OnErr result (self.new ≡ self.old) }
     {

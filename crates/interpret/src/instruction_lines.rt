@@ -1,18 +1,13 @@
 //! The lines of a new instruction: its names that are new, and then its own.
 #![tactic(auto, using(hp_num::proofs::Laws::extends_same, hp_num::proofs::Laws::extends_more, hp_num::proofs::Laws::extends_trans))]
 
-ghost use Rattle.std.specs.Prelude.{◌≡◌, ℕ, ◌+◌, ◌<◌, ◌≤◌, List, [], ◌∷◌, ◌++◌, length, codes, OnOk, OnErr, IfErr};
-ghost use Rattle.std.specs.List.{flat_map};
-ghost use Rattle.std.specs.Option.{option_copied, option_to_list};
-ghost use Rattle.std.specs.Str.{bytes_eq};
+ghost use Rattle.std.specs.Prelude.{◌≡◌, [], ◌∷◌, OnOk};
+ghost use Rattle.std.specs.Option.{option_copied};
 ghost use Rattle.hp_num.specs.Extends.{Extends};
-ghost use Rattle.ht_lines.specs.Written.{spelled, written};
-ghost use Rattle.ht_trace.specs.LineFault.{Tells, most_entries};
 ghost use Rattle.interpret.specs.AddsNames.{AddsNames};
-ghost use Rattle.interpret.specs.FirstAppearances.{over_fault, with_all};
-ghost use Rattle.interpret.specs.FrameKept.{frame_kept, resolved_kept};
-ghost use Rattle.interpret.specs.Resolved.{frame_names, frame_numbers, frames_of, instruction_said, module_number, names_called};
-ghost use Rattle.interpret.specs.SymbolEntries.{following};
+ghost use Rattle.interpret.specs.AppendsLines.{AppendsInEach, AppendsNumbers};
+ghost use Rattle.interpret.specs.FrameKept.{instruction_of, module_names, names_in, names_of_call, names_of_frame, numbers_in, numbers_of_frame};
+ghost use Rattle.interpret.specs.Resolved.{module_number};
 
 use crate::name_table::NameTable;
 use crate::resolved::ResolvedIp;
@@ -31,15 +26,8 @@ pub fn add_names(
     found: &ResolvedIp,
     out: &mut Vec<u8>,
 ) -> Result<(), LineError>
-    requires few { length names.old ≤ most_entries }
-    ensures added { OnOk result
-        (AddsNames version (names_called (resolved_kept found.now)) names.old names.new
-        out.old.items out.new.items) }
-    ensures fault { IfErr result
-        (λ error. Tells error
-        (over_fault most_entries
-        (length (with_all bytes_eq names.old (names_called (resolved_kept found.now)))))) }
-    ensures few { length names.new ≤ most_entries }
+    ensures adds { AddsNames version (names_of_call found.now) names.old names.new out.old out.new
+        result }
     ensures kept { Extends out.old.items out.new.items }
 {
     add_module_name(names, version, found.module_name, out)?;
@@ -53,15 +41,8 @@ fn add_module_name(
     name: Option<&[u8]>,
     out: &mut Vec<u8>,
 ) -> Result<(), LineError>
-    requires few { length names.old ≤ most_entries }
-    ensures added { OnOk result
-        (AddsNames version (option_to_list (option_copied name.entry)) names.old names.new
-        out.old.items out.new.items) }
-    ensures fault { IfErr result
-        (λ error. Tells error
-        (over_fault most_entries
-        (length (with_all bytes_eq names.old (option_to_list (option_copied name.entry)))))) }
-    ensures few { length names.new ≤ most_entries }
+    ensures adds { AddsNames version (module_names name.entry) names.old names.new out.old out.new
+        result }
     ensures kept { Extends out.old.items out.new.items }
 {
     match name {
@@ -77,17 +58,8 @@ fn add_frames(
     texts: Option<&[u8]>,
     out: &mut Vec<u8>,
 ) -> Result<(), LineError>
-    requires few { length names.old ≤ most_entries }
-    ensures added { OnOk result
-        (AddsNames version (flat_map frame_names
-        (frames_of (following (option_copied texts.entry)))) names.old names.new out.old.items
-        out.new.items) }
-    ensures fault { IfErr result
-        (λ error. Tells error
-        (over_fault most_entries
-        (length (with_all bytes_eq names.old
-        (flat_map frame_names (frames_of (following (option_copied texts.entry)))))))) }
-    ensures few { length names.new ≤ most_entries }
+    ensures adds { AddsNames version (names_in texts.entry) names.old names.new out.old out.new
+        result }
     ensures kept { Extends out.old.items out.new.items }
 {
     let mut rest = texts;
@@ -106,15 +78,8 @@ fn add_frame(
     frame: &SymbolFrame,
     out: &mut Vec<u8>,
 ) -> Result<(), LineError>
-    requires few { length names.old ≤ most_entries }
-    ensures added { OnOk result
-        (AddsNames version (frame_names (frame_kept frame.now)) names.old names.new out.old.items
-        out.new.items) }
-    ensures fault { IfErr result
-        (λ error. Tells error
-        (over_fault most_entries
-        (length (with_all bytes_eq names.old (frame_names (frame_kept frame.now)))))) }
-    ensures few { length names.new ≤ most_entries }
+    ensures adds { AddsNames version (names_of_frame frame.now) names.old names.new out.old out.new
+        result }
     ensures kept { Extends out.old.items out.new.items }
 {
     add_name(names, version, frame.function, out)?;
@@ -131,13 +96,8 @@ fn add_name(
     name: &[u8],
     out: &mut Vec<u8>,
 ) -> Result<(), LineError>
-    requires few { length names.old ≤ most_entries }
-    ensures added { OnOk result
-        (AddsNames version (name.now ∷ []) names.old names.new out.old.items out.new.items) }
-    ensures fault { IfErr result
-        (λ error. Tells error
-        (over_fault most_entries (length (with_all bytes_eq names.old (name.now ∷ []))))) }
-    ensures few { length names.new ≤ most_entries }
+    ensures adds { AddsNames version (name.now ∷ []) names.old names.new out.old out.new
+        result }
     ensures kept { Extends out.old.items out.new.items }
 {
     let is_new = names.add(name)?;
@@ -155,9 +115,7 @@ pub fn put_instruction(
     out: &mut Vec<u8>,
 ) -> Result<(), NoMemory>
     ensures appended { OnOk result
-        ((version : ℕ) → out.new.items
-        ≡ out.old.items ++ (written version (instruction_said names.now (resolved_kept found.now))
-        ++ (10 ∷ []))) }
+        (AppendsInEach (instruction_of names.now found.now ∷ []) out.old out.new) }
     ensures kept { Extends out.old.items out.new.items }
 {
     put_bytes(out, b"i")?;
@@ -180,9 +138,7 @@ fn module_number(names: &NameTable, name: Option<&[u8]>) -> u64
 // Appends the numbers of the frames that the texts of a symbol say.
 fn put_frames(names: &NameTable, texts: Option<&[u8]>, out: &mut Vec<u8>) -> Result<(), NoMemory>
     ensures appended { OnOk result
-        (out.new.items ≡ out.old.items
-        ++ spelled (flat_map (frame_numbers names.now)
-        (frames_of (following (option_copied texts.entry))))) }
+        (AppendsNumbers (numbers_in names.now texts.entry) out.old out.new) }
     ensures kept { Extends out.old.items out.new.items }
 {
     let mut rest = texts;
@@ -197,8 +153,7 @@ fn put_frames(names: &NameTable, texts: Option<&[u8]>, out: &mut Vec<u8>) -> Res
 // Appends the numbers of a frame.
 fn put_frame(names: &NameTable, frame: &SymbolFrame, out: &mut Vec<u8>) -> Result<(), NoMemory>
     ensures appended { OnOk result
-        (out.new.items ≡ out.old.items
-        ++ spelled (frame_numbers names.now (frame_kept frame.now))) }
+        (AppendsNumbers (numbers_of_frame names.now frame.now) out.old out.new) }
     ensures kept { Extends out.old.items out.new.items }
 {
     put_number(out, names.number(frame.function))?;
@@ -213,7 +168,7 @@ fn put_frame(names: &NameTable, frame: &SymbolFrame, out: &mut Vec<u8>) -> Resul
 
 // Appends a number after a blank.
 fn put_number(out: &mut Vec<u8>, n: u64) -> Result<(), NoMemory>
-    ensures appended { OnOk result (out.new.items ≡ out.old.items ++ spelled (n ∷ [])) }
+    ensures appended { OnOk result (AppendsNumbers (n ∷ []) out.old out.new) }
     ensures kept { Extends out.old.items out.new.items }
 {
     put_bytes(out, b" ")?;

@@ -1,7 +1,7 @@
 //! From the lines of a raw trace to those of the interpreted one, line by line. Files and outputs are no part of it.
 #![tactic(auto, using(hp_num::proofs::Laws::extends_same, hp_num::proofs::Laws::extends_more, hp_num::proofs::Laws::extends_trans))]
 
-ghost use Rattle.std.specs.Prelude.{◌≡◌, ◌≢◌, ℕ, ◌^◌, ◌<◌, ◌≤◌, ◌↔◌, List, [], ◌∷◌, ◌++◌, length, None, Some, Err, IsNone, IfErr, IfOk, IfSome, OnOk, OnErr, unwrap_or};
+ghost use Rattle.std.specs.Prelude.{◌≡◌, ℕ, ◌^◌, ◌<◌, ◌≤◌, ◌↔◌, List, [], ◌∷◌, ◌++◌, length, None, Some, Err, IsNone, IfErr, IfSome, OnOk, OnErr, unwrap_or};
 ghost use Rattle.ht_lines.specs.Content.{clear_line, module_line, node_line, raw_allocation_line, raw_free_line, version_line};
 ghost use Rattle.hp_num.specs.Extends.{Extends};
 ghost use Rattle.ht_lines.specs.Fields.{numbers};
@@ -9,15 +9,12 @@ ghost use Rattle.ht_lines.specs.ItemContent.{content};
 ghost use Rattle.ht_lines.specs.Reads.{RangesFit};
 ghost use Rattle.ht_lines.specs.Written.{IsWritable};
 ghost use Rattle.ht_lines.specs.declared.item.Form.TheVariants.{Raw};
-ghost use Rattle.ht_trace.specs.LineFault.{Tells};
 ghost use Rattle.ht_trace.specs.VersionLines.{may_stand_first};
-ghost use Rattle.interpret.specs.Interpreted.{interpreted_lines, text_of};
-ghost use Rattle.interpret.specs.InterpreterState.{StandsFor, failed_with};
-ghost use Rattle.interpret.specs.RawContents.{contents};
-ghost use Rattle.interpret.specs.RawFault.{raw_end_fault, raw_fault};
-ghost use Rattle.interpret.specs.RawLedger.{KeepsLedger};
-ghost use Rattle.interpret.specs.SymbolLine.{Symbol};
-ghost use Rattle.interpret.specs.TakesLine.{HasRead, HasRefused, Refuses, Takes};
+ghost use Rattle.interpret.specs.Interpreted.{text_of};
+ghost use Rattle.interpret.specs.InterpreterState.{OfItsLines, StandsFor, failed_with};
+ghost use Rattle.interpret.specs.NextLine.{AddsLine, RefusesLine};
+ghost use Rattle.interpret.specs.RawFault.{raw_end_fault};
+ghost use Rattle.interpret.specs.TakesLine.{HasRead, HasRefused, Takes, TakesOrRefuses, TakesSaid, TakesSilent};
 
 use crate::allocation_lines::{put_allocation, put_free};
 use crate::infos::{AllocationInfo, InfoSet};
@@ -82,9 +79,7 @@ impl Interpreter {
     /// The interpretation of no lines, with these symbols. It takes no memory; that of the tables to come is taken from
     /// `alloc`.
     pub fn new(alloc: Global, symbols: Symbols) -> Self
-        ensures stands { StandsFor result symbols [] }
-        ensures symbols { result.symbols ≡ symbols }
-        ensures not_failed { result.failed ≡ None }
+        ensures { StandsFor result symbols [] }
     {
         Interpreter {
             symbols,
@@ -108,35 +103,12 @@ impl Interpreter {
     /// that fault from then on; after every other the interpreter still stands for the lines before.
     pub fn line(&mut self, line: &[u8], out: &mut Vec<u8>) -> Result<(), LineError>
         requires { length line.now < 2 ^ 32 }
-        // For all lines that the interpreter stands for.
-        ensures stands { OnOk result
-            ((symbols : List Symbol) (lines : List (List ℕ)) → StandsFor self.old symbols lines
-            → StandsFor self.new symbols (lines ++ line.now ∷ [])) }
-        ensures lines { OnOk result
-            ((symbols : List Symbol) (lines : List (List ℕ)) → StandsFor self.old symbols lines
-            → out.new.items ≡ out.old.items ++ text_of (interpreted_lines symbols lines line.now)) }
-        ensures no_fault { OnOk result
-            ((symbols : List Symbol) (lines : List (List ℕ)) → StandsFor self.old symbols lines
-            → raw_fault symbols lines line.now ≡ None) }
-        ensures fault { IfErr result
-            (λ error. (symbols : List Symbol) (lines : List (List ℕ))
-            → StandsFor self.old symbols lines → Tells error (raw_fault symbols lines line.now)) }
+        ensures adds { OnOk result
+            (AddsLine self.old self.new line.now out.old.items out.new.items) }
+        ensures refuses { IfErr result (λ error. RefusesLine self.old self.new line.now error) }
         ensures symbols { self.new.symbols ≡ self.old.symbols }
-
-        // The live blocks of every node.
-        ensures ledger { OnOk result
-            ((symbols : List Symbol) (lines : List (List ℕ)) → StandsFor self.old symbols lines
-            → KeepsLedger symbols (contents (lines ++ line.now ∷ []))) }
-
-        // After a refusal.
         ensures out_unchanged { OnErr result (out.new.items ≡ out.old.items) }
-        ensures unchanged { IfErr result
-            (λ error. error ≢ LineError.NoMemory → error ≢ LineError.TooMany
-            → self.new ≡ self.old) }
-        ensures no_memory { result ≡ Err LineError.NoMemory
-            → self.new.failed ≡ Some LineError.NoMemory }
-        ensures too_many { result ≡ Err LineError.TooMany
-            → self.new.failed ≡ Some LineError.TooMany }
+        // A fault that stays is answered.
         ensures failed { IfSome self.old.failed
             (λ error. (result ≡ Err error) × (self.new ≡ self.old)) }
     {
@@ -157,11 +129,9 @@ impl Interpreter {
         ensures no_version { (result ≡ Err LineError.NoVersion) ↔ IsNone self.now.version }
         ensures only { IfErr result (λ error. error ≡ LineError.NoVersion) }
         ensures no_fault { OnOk result
-            ((symbols : List Symbol) (lines : List (List ℕ)) → StandsFor self.now symbols lines
-            → raw_end_fault lines ≡ None) }
+            (OfItsLines self.now (λ _ lines. raw_end_fault lines ≡ None)) }
         ensures fault { IfErr result
-            (λ error. (symbols : List Symbol) (lines : List (List ℕ))
-            → StandsFor self.now symbols lines → raw_end_fault lines ≡ Some error) }
+            (λ error. OfItsLines self.now (λ _ lines. raw_end_fault lines ≡ Some error)) }
     {
         if self.version.is_none() {
             return Err(LineError::NoVersion);
@@ -187,10 +157,8 @@ impl Interpreter {
     // Takes what a line says.
     fn take(&mut self, line: &[u8], item: &Item, out: &mut Vec<u8>) -> Result<(), LineError>
         requires writable { IsWritable Raw (unwrap_or self.old.version 1) (content item.now) }
-        ensures takes { OnOk result
-            (Takes self.old self.new line.now (content item.now) out.old.items out.new.items) }
-        ensures refuses { IfErr result
-            (λ error. Refuses self.old self.new (content item.now) error) }
+        ensures answers { TakesOrRefuses self.old self.new line.now (content item.now) out.old
+            out.new result }
         ensures kept { Extends out.old.items out.new.items }
     {
         match *item {
@@ -241,11 +209,8 @@ impl Interpreter {
     fn set_version(&mut self, heaptrack: u64, file: u8, out: &mut Vec<u8>) -> Result<(), LineError>
         requires low { 1 ≤ file }
         requires high { file ≤ 3 }
-        ensures takes { OnOk result
-            ((line : List ℕ) → Takes self.old self.new line (version_line heaptrack file)
-            out.old.items out.new.items) }
-        ensures refuses { IfErr result
-            (λ error. Refuses self.old self.new (version_line heaptrack file) error) }
+        ensures answers { TakesSaid self.old self.new (version_line heaptrack file) out.old out.new
+            result }
         ensures kept { Extends out.old.items out.new.items }
     {
         if self.version.is_some() {
@@ -264,24 +229,15 @@ impl Interpreter {
 
     fn add_module(&mut self, name: &[u8], start: u64, tail: &[u8]) -> Result<(), LineError>
         requires fit { RangesFit start (numbers tail.now) }
-        ensures takes { OnOk result
-            ((line before : List ℕ)
-            → Takes self.old self.new line (module_line name.now start (numbers tail.now)) before
-            before) }
-        ensures refuses { IfErr result
-            (λ error. Refuses self.old self.new (module_line name.now start (numbers tail.now))
-            error) }
+        ensures { TakesSilent self.old self.new (module_line name.now start (numbers tail.now))
+            result }
     {
         self.modules.add(name, start, tail)?;
         Ok(())
     }
 
     fn add_node(&mut self, ip: u64, parent: u64, out: &mut Vec<u8>) -> Result<(), LineError>
-        ensures takes { OnOk result
-            ((line : List ℕ) → Takes self.old self.new line (node_line ip parent) out.old.items
-            out.new.items) }
-        ensures refuses { IfErr result
-            (λ error. Refuses self.old self.new (node_line ip parent) error) }
+        ensures answers { TakesSaid self.old self.new (node_line ip parent) out.old out.new result }
         ensures kept { Extends out.old.items out.new.items }
     {
         if let Some(instruction) = self.known.find(ip) {
@@ -311,11 +267,8 @@ impl Interpreter {
         ptr: u64,
         out: &mut Vec<u8>,
     ) -> Result<(), LineError>
-        ensures takes { OnOk result
-            ((line : List ℕ) → Takes self.old self.new line (raw_allocation_line size trace ptr)
-            out.old.items out.new.items) }
-        ensures refuses { IfErr result
-            (λ error. Refuses self.old self.new (raw_allocation_line size trace ptr) error) }
+        ensures answers { TakesSaid self.old self.new (raw_allocation_line size trace ptr) out.old
+            out.new result }
         ensures kept { Extends out.old.items out.new.items }
     {
         if trace > u64::from(self.nodes.len()) {
@@ -333,11 +286,7 @@ impl Interpreter {
     }
 
     pub(crate) fn free(&mut self, ptr: u64, out: &mut Vec<u8>) -> Result<(), LineError>
-        ensures takes { OnOk result
-            ((line : List ℕ) → Takes self.old self.new line (raw_free_line ptr) out.old.items
-            out.new.items) }
-        ensures refuses { IfErr result
-            (λ error. Refuses self.old self.new (raw_free_line ptr) error) }
+        ensures answers { TakesSaid self.old self.new (raw_free_line ptr) out.old out.new result }
         ensures kept { Extends out.old.items out.new.items }
         ensures untaken { OnErr result (self.new ≡ self.old) }
         ensures unwritten { OnErr result (out.new.items ≡ out.old.items) }

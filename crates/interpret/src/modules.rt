@@ -1,11 +1,10 @@
 //! The modules of a raw trace, and which of them holds an address. What stands in a module is no part of it.
-ghost use Rattle.std.specs.Prelude.{◌≡◌, ℕ, ◌+◌, ◌^◌, ◌<◌, ◌≤◌, List, [], ◌∷◌, ◌++◌, if◌then◌else◌, length, map, Some, OnOk, IfNone, IfOk, IfSome};
+ghost use Rattle.std.specs.Prelude.{◌≡◌, ◌<◌, [], ◌∷◌, ◌++◌, length, OnOk, IfNone, IfOk, IfSome};
 ghost use Rattle.std.specs.Option.{option_map};
-ghost use Rattle.std.specs.List.{list_any};
 ghost use Rattle.ht_lines.specs.Fields.{numbers};
 ghost use Rattle.ht_lines.specs.Reads.{RangesFit};
-ghost use Rattle.interpret.specs.Holders.{holder_at};
-ghost use Rattle.interpret.specs.Modules.{LoadedModule, in_range, module_of, ranges_said};
+ghost use Rattle.interpret.specs.Holders.{PutsOver};
+ghost use Rattle.interpret.specs.Modules.{in_ranges, module_of, module_said, ranges_in};
 ghost use Rattle.interpret.specs.ModuleEntries.{module_kept};
 
 use crate::address_index::AddressIndex;
@@ -74,12 +73,7 @@ impl ModuleList {
     pub fn add(&mut self, name: &[u8], start: u64, tail: &[u8]) -> Result<(), NoMemory>
         requires fit { RangesFit start (numbers tail.now) }
         ensures added { OnOk result
-            (self.new ≡ self.old
-            ++ record {
-              name = name.now;
-              start = start;
-              ranges = ranges_said start (numbers tail.now);
-            } ∷ []) }
+            (self.new ≡ self.old ++ module_said name.now start (numbers tail.now) ∷ []) }
     {
         let name = Text::new(self.alloc, name)?;
         let ranges = read_ranges(self.alloc, start, tail)?;
@@ -110,7 +104,7 @@ impl ModuleList {
 // The ranges of a module line.
 fn read_ranges(alloc: Global, start: u64, tail: &[u8]) -> Result<Vec<AddressRange>, NoMemory>
     requires fit { RangesFit start (numbers tail.now) }
-    ensures { IfOk result (λ ranges. ranges.items ≡ ranges_said start (numbers tail.now)) }
+    ensures { IfOk result (λ ranges. ranges.items ≡ ranges_in start tail.now) }
 {
     let mut ranges = Vec::new(alloc);
     let mut rest = tail;
@@ -124,10 +118,9 @@ fn read_ranges(alloc: Global, start: u64, tail: &[u8]) -> Result<Vec<AddressRang
 // The range of the first two numbers of a tail, and what follows them.
 fn next_range(start: u64, tail: &[u8]) -> Option<(AddressRange, &[u8])>
     requires fit { RangesFit start (numbers tail.now) }
-    ensures none { IfNone result (ranges_said start (numbers tail.now) ≡ []) }
+    ensures none { IfNone result (ranges_in start tail.now ≡ []) }
     ensures some { IfSome result
-        (λ found. ranges_said start (numbers tail.now)
-        ≡ found.0 ∷ ranges_said start (numbers found.1.now)) }
+        (λ pair. ranges_in start tail.now ≡ pair.0 ∷ ranges_in start pair.1.now) }
     ensures fit { IfSome result (λ found. RangesFit start (numbers found.1.now)) }
     ensures shorter { IfSome result (λ found. length found.1.now < length tail.now) }
 {
@@ -147,9 +140,7 @@ fn put_ranges(
     ranges: &[AddressRange],
     place: usize,
 ) -> Result<(), NoMemory>
-    ensures { OnOk result
-        ((ip : ℕ) → holder_at index.new ip
-        ≡ if list_any (in_range ip) ranges.now then Some place else holder_at index.old ip) }
+    ensures { OnOk result (PutsOver index.old index.new (in_ranges ranges.now) place) }
 {
     'each_range: for range in ranges {
         index.put(*range, place)?;

@@ -1,9 +1,9 @@
 //! The names that an interpretation calls for, by their numbers from 1.
-ghost use Rattle.std.specs.Prelude.{◌≡◌, ℕ, ◌+◌, ◌<◌, ◌≤◌, List, [], ◌∷◌, ◌++◌, not, length, IfOk, IfErr, OnOk, OnErr};
+ghost use Rattle.std.specs.Prelude.{◌≡◌, ◌≤◌, [], not, length, IfOk, IfErr, OnOk, OnErr};
 ghost use Rattle.std.specs.List.{list_any};
 ghost use Rattle.std.specs.Str.{bytes_eq};
 ghost use Rattle.ht_trace.specs.LineFault.{Tells, most_entries};
-ghost use Rattle.interpret.specs.FirstAppearances.{over_fault, with_new};
+ghost use Rattle.interpret.specs.FirstAppearances.{new_fault, with_new};
 ghost use Rattle.interpret.specs.Resolved.{name_number};
 
 use ht_trace::LineError;
@@ -48,8 +48,7 @@ impl NameTable {
         ensures is_new { IfOk result
             (λ is_new. is_new ≡ not (list_any (bytes_eq name.now) self.old)) }
         ensures fault { IfErr result
-            (λ error. Tells error
-            (over_fault most_entries (length (with_new bytes_eq self.old name.now)))) }
+            (λ error. Tells error (new_fault bytes_eq self.old name.now)) }
         ensures few { length self.new ≤ most_entries }
         ensures unchanged { OnErr result (self.new ≡ self.old) }
     {

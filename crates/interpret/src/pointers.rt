@@ -1,6 +1,6 @@
 //! The pointers that stand for blocks, with the number of the info of each.
-ghost use Rattle.std.specs.Prelude.{◌≡◌, ℕ, ◌==◌, List, [], Some, None, if◌then◌else◌, OnOk, OnErr};
-ghost use Rattle.interpret.specs.InterpreterState.{info_at};
+ghost use Rattle.std.specs.Prelude.{◌≡◌, [], Some, None, OnOk, OnErr};
+ghost use Rattle.interpret.specs.InterpreterState.{SetsPointer, info_at};
 
 use hp_num::NoMemory;
 use std::alloc::Global;
@@ -33,9 +33,7 @@ impl Pointers {
 
     /// Lets a pointer stand for a block of an info, whatever it stood for.
     pub fn set(&mut self, ptr: u64, info: u32) -> Result<(), NoMemory>
-        ensures set { OnOk result
-            ((other : ℕ) → info_at self.new other ≡ if ptr == other then Some info
-            else info_at self.old other) }
+        ensures set { OnOk result (SetsPointer self.old self.new ptr (Some info)) }
         ensures unchanged { OnErr result (self.new ≡ self.old) }
     {
         self.infos.insert(ptr, info)?;
@@ -45,8 +43,7 @@ impl Pointers {
     /// The info of the block that a pointer stands for, which it then no longer does. It takes no memory.
     pub fn take(&mut self, ptr: u64) -> Option<u32>
         ensures info { result ≡ info_at self.old ptr }
-        ensures taken { (other : ℕ)
-            → info_at self.new other ≡ if ptr == other then None else info_at self.old other }
+        ensures taken { SetsPointer self.old self.new ptr None }
     {
         self.infos.remove(&ptr)
     }

@@ -1,6 +1,6 @@
 //! The places of symbols by module and start, in order. What a symbol says is no part of it.
-ghost use Rattle.std.specs.Prelude.{◌≡◌, ◌⊎◌, ◌≢◌, ℕ, ◌≤◌, None, Some, IfNone, IfSome, OnOk, OnErr};
-ghost use Rattle.interpret.specs.SymbolEntries.{place_at};
+ghost use Rattle.std.specs.Prelude.{◌≡◌, ℕ, ◌≤◌, None, Some, IfNone, IfSome, OnOk, OnErr};
+ghost use Rattle.interpret.specs.SymbolEntries.{IsLatest, SameElsewhere, SamePlaces, place_at};
 
 use hp_num::NoMemory;
 use std::alloc::Global;
@@ -34,9 +34,7 @@ impl StartIndex {
         ensures found { IfSome result
             (λ last. place_at self.now «module» last.start ≡ Some last.place) }
         ensures up_to { IfSome result (λ last. last.start ≤ offset) }
-        ensures last { IfSome result
-            (λ last. (start place : ℕ) → start ≤ offset
-            → place_at self.now «module» start ≡ Some place → start ≤ last.start) }
+        ensures last { IfSome result (λ last. IsLatest self.now «module» offset last.start) }
         ensures none { IfNone result
             ((start : ℕ) → start ≤ offset → place_at self.now «module» start ≡ None) }
     {
@@ -53,11 +51,8 @@ impl StartIndex {
     /// Puts a place under a module and a start.
     pub fn insert(&mut self, module: usize, start: u64, place: usize) -> Result<(), NoMemory>
         ensures here { OnOk result (place_at self.new «module» start ≡ Some place) }
-        ensures others { OnOk result
-            ((number other : ℕ) → (number ≢ «module») ⊎ (other ≢ start)
-            → place_at self.new number other ≡ place_at self.old number other) }
-        ensures unchanged { OnErr result
-            ((number other : ℕ) → place_at self.new number other ≡ place_at self.old number other) }
+        ensures others { OnOk result (SameElsewhere self.old self.new «module» start) }
+        ensures unchanged { OnErr result (SamePlaces self.old self.new) }
     {
         self.places.insert((module, start), place)?;
         Ok(())

@@ -1,9 +1,7 @@
 //! The frames that the texts of a symbol say, one after another.
 ghost use Rattle.std.specs.Prelude.{◌≡◌, ◌<◌, ◌∷◌, length, None, IfSome};
-ghost use Rattle.std.specs.Option.{option_copied};
-ghost use Rattle.interpret.specs.FrameKept.{frame_kept};
+ghost use Rattle.interpret.specs.FrameKept.{frame_kept, frames_in};
 ghost use Rattle.interpret.specs.Resolved.{frames_of};
-ghost use Rattle.interpret.specs.SymbolEntries.{following};
 ghost use Rattle.interpret.specs.SymbolLine.{fields};
 
 use crate::symbol_line::next_field;
@@ -25,8 +23,7 @@ pub struct SymbolFrame<'a> {
 
 /// Takes the first frame off the texts of a symbol: that frame, and the texts of the others, where there are any.
 pub fn next_frame(texts: &[u8]) -> (SymbolFrame<'_>, Option<&[u8]>)
-    ensures frames { frames_of (fields texts.now)
-        ≡ frame_kept result.0 ∷ frames_of (following (option_copied result.1)) }
+    ensures frames { frames_of (fields texts.now) ≡ frame_kept result.0 ∷ frames_in result.1 }
     ensures shorter { IfSome result.1 (λ rest. length rest.now < length texts.now) }
 {
     let (function, after) = next_field(texts);

@@ -1,10 +1,10 @@
 //! The symbols of a table by module and range. What one line says is the part of `symbol_line`.
-ghost use Rattle.std.specs.Prelude.{◌≡◌, ◌≢◌, ℕ, ◌<◌, ◌≤◌, true, false, List, [], ◌∷◌, ◌++◌, find, slice_get, None, IfErr, IfNone, IfSome, OnOk, OnErr};
+ghost use Rattle.std.specs.Prelude.{◌≡◌, ◌<◌, [], ◌∷◌, ◌++◌, find, slice_get, None, Some, IfErr, IfNone, IfSome, OnOk, OnErr};
 ghost use Rattle.std.specs.Option.{option_copied, option_map, option_to_list};
 ghost use Rattle.std.specs.List.{list_any};
-ghost use Rattle.interpret.specs.SymbolLine.{Symbol, fields};
-ghost use Rattle.interpret.specs.SymbolEntries.{AreIndexed, HasNone, IsLast, holds_offset, meets_range, said_by, symbol_kept};
-ghost use Rattle.interpret.specs.SymbolList.{Tells, is_skipped, meets, symbol_at, symbol_fault, symbol_in, symbols_of};
+ghost use Rattle.interpret.specs.SymbolLine.{fields};
+ghost use Rattle.interpret.specs.SymbolEntries.{AreIndexed, HasNone, IsLast, holds_offset, meets_range, said_by};
+ghost use Rattle.interpret.specs.SymbolList.{StandForMore, Tells, fault_after, is_skipped, symbol_fault, symbol_in, texts_at};
 
 use crate::fault::SymbolFault;
 use crate::start_index::StartIndex;
@@ -71,9 +71,7 @@ impl Symbols {
     /// After a fault the symbols are as before.
     pub fn line(&mut self, line: &[u8]) -> Result<(), SymbolFault>
         ensures added { OnOk result (self.new ≡ self.old ++ option_to_list (symbol_in line.now)) }
-        ensures stands { OnOk result
-            ((lines : List (List ℕ)) → self.old ≡ symbols_of lines
-            → self.new ≡ symbols_of (lines ++ line.now ∷ [])) }
+        ensures stands { OnOk result (StandForMore self.old self.new line.now) }
         ensures no_fault { OnOk result (symbol_fault self.old line.now ≡ None) }
         ensures fault { IfErr result (λ fault. Tells fault (symbol_fault self.old line.now)) }
         ensures unchanged { OnErr result (self.new ≡ self.old) }
@@ -90,7 +88,7 @@ impl Symbols {
     /// The texts of the symbol of a module that holds an offset: `None` exactly where none does. It takes no memory.
     pub(crate) fn texts_at(&self, name: &[u8], offset: u64) -> Option<&[u8]>
         ensures { option_map (λ texts. fields texts.now) result
-            ≡ option_map (λ symbol. symbol.texts) (symbol_at self.now name.now offset) }
+            ≡ texts_at self.now name.now offset }
     {
         let module_number = self.module_names.find(name)?;
         let entry = entry_at(&self.entries, &self.starts, module_number, offset)?;
@@ -101,11 +99,9 @@ impl Symbols {
     fn add(&mut self, said: &SymbolLine) -> Result<(), SymbolFault>
         requires some { said.now.start < said.now.end }
         ensures added { OnOk result (self.new ≡ self.old ++ said_by said.now ∷ []) }
-        ensures no_fault { OnOk result (list_any (meets (said_by said.now)) self.old ≡ false) }
+        ensures no_fault { OnOk result (fault_after self.old (Some (said_by said.now)) ≡ None) }
         ensures fault { IfErr result
-            (λ fault. fault ≢ SymbolFault.NoMemory
-            → (fault ≡ SymbolFault.SymbolOverlap)
-            × (list_any (meets (said_by said.now)) self.old ≡ true)) }
+            (λ fault. Tells fault (fault_after self.old (Some (said_by said.now)))) }
         ensures unchanged { OnErr result (self.new ≡ self.old) }
     {
         let module_number = self.module_names.intern(said.name)?;

@@ -1,17 +1,15 @@
 use Rattle.std.proofs.Common.{◌≡◌, ◌++◌}
-use Rattle.std.specs.List.{flat_map}
 use Rattle.std.specs.Option.{option_copied}
 use Rattle.hp_num.specs.Extends.{Extends}
 use Rattle.ht_lines.specs.Written.{spelled}
-use Rattle.interpret.specs.Resolved.{frame_numbers, frames_of}
-use Rattle.interpret.specs.SymbolEntries.{bytes_left, following}
+use Rattle.interpret.specs.FrameKept.{numbers_in}
+use Rattle.interpret.specs.SymbolEntries.{bytes_left}
 use Rattle.interpret.proofs.instruction_lines.put_frames.Given as goal
 
 -- what is written and what is left are all
 abbrev pub invariant-frames : goal.invariant-frames
 invariant-frames l =
-    (l.out.items ++ spelled (flat_map (frame_numbers l.names) (frames_of (following (option_copied l.rest))))
-    ≡ l.fn.out.items ++ spelled (flat_map (frame_numbers l.names) (frames_of (following (option_copied l.texts)))))
+    (l.out.items ++ spelled (numbers_in l.names l.rest) ≡ l.fn.out.items ++ spelled (numbers_in l.names l.texts))
     × Extends l.fn.out.items l.out.items
 
 abbrev pub decreases-frames : goal.decreases-frames

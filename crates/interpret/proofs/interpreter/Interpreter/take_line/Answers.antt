@@ -30,6 +30,6 @@ read_as c =
 
 pub returns-clause-read : goal.returns-clause-read
 returns-clause-read c =
-    MatchResult-weaker c.take.result c.take.ensures.takes
+    MatchResult-weaker c.take.result c.take.ensures.answers.takes
     (λ done takes. record { said = content c.in_ok-item.item; may_stand = may_stand c; read = read_as c; raw = raw-writable c.unwrap_or.result (content c.in_ok-item.item) c.in_ok-item.ensures.writable; takes = takes })
     (λ error all. all)

@@ -1,6 +1,8 @@
-use Rattle.std.proofs.Common.{◌≡◌, ℕ, List, [], ◌∷◌, ◌++◌, length, Option, Some, refl, sym, ap, ◌∙◌}
-use Rattle.std.specs.Prelude.{unwrap_or}
+use Rattle.std.proofs.Common.{◌≡◌, ℕ, Bool, List, [], ◌∷◌, ◌++◌, length, Option, Some, None, refl, sym, ap, ◌∙◌}
+use Rattle.std.specs.Prelude.{if◌then◌else◌, unwrap_or}
 use Rattle.std.specs.List.{list_any}
+use Rattle.interpret.specs.declared.fault.SymbolFault.{SymbolFault}
+use Rattle.interpret.specs.declared.fault.SymbolFault.TheVariants.{SymbolOverlap}
 use Rattle.interpret.specs.declared.symbols.SymbolEntry.{SymbolEntry}
 use Rattle.interpret.specs.SymbolLine.{fields}
 use Rattle.interpret.specs.SymbolEntries.{meets_range, said_by}
@@ -18,19 +20,23 @@ returns-then-meets_any-clause-unchanged c =
     view-grown c.self.inside.module_names c.intern.new.self c.self.inside.entries.items c.self.inside.entries.items c.args.self.now c.self.view_is c.self.invariant.0
     (record { stay = c.intern.ensures.names_stay; numbers = c.intern.ensures.numbers_stay; none_lost = c.intern.ensures.none_lost }) refl
 
+-- the fault of a symbol that meets another, or none
+abbrev fault_of : Bool → Option SymbolFault
+fault_of meeting = if meeting then Some SymbolOverlap else None
+
 pub returns-then-meets_any-clause-fault : goal.returns-then-meets_any-clause-fault
-returns-then-meets_any-clause-fault c = λ other. (
-  refl,
-  meets-view c.self.inside.module_names c.intern.new.self c.self.inside.entries.items c.deref.result.now c.args.self.now (said_by c.args.said.now) c.in_ok-module_number.module_number c.self.view_is c.self.invariant.0
-      (record { stay = c.intern.ensures.names_stay; numbers = c.intern.ensures.numbers_stay; none_lost = c.intern.ensures.none_lost }) c.deref.ensures.value c.in_ok-module_number.ensures.name c.in_ok-module_number.ensures.number
-      ∙ sym c.if-meets_any.ensures,
-)
+returns-then-meets_any-clause-fault c = λ other.
+    ap fault_of
+    (meets-view c.self.inside.module_names c.intern.new.self c.self.inside.entries.items c.deref.result.now c.args.self.now (said_by c.args.said.now) c.in_ok-module_number.module_number c.self.view_is c.self.invariant.0
+    (record { stay = c.intern.ensures.names_stay; numbers = c.intern.ensures.numbers_stay; none_lost = c.intern.ensures.none_lost }) c.deref.ensures.value c.in_ok-module_number.ensures.name c.in_ok-module_number.ensures.number
+    ∙ sym c.if-meets_any.ensures)
 
 pub returns-clause-no_fault : goal.returns-clause-no_fault
 returns-clause-no_fault c =
-    meets-view c.self.inside.module_names c.intern.new.self c.self.inside.entries.items c.deref.result.now c.args.self.now (said_by c.args.said.now) c.in_ok-module_number.module_number c.self.view_is c.self.invariant.0
+    ap fault_of
+    (meets-view c.self.inside.module_names c.intern.new.self c.self.inside.entries.items c.deref.result.now c.args.self.now (said_by c.args.said.now) c.in_ok-module_number.module_number c.self.view_is c.self.invariant.0
     (record { stay = c.intern.ensures.names_stay; numbers = c.intern.ensures.numbers_stay; none_lost = c.intern.ensures.none_lost }) c.deref.ensures.value c.in_ok-module_number.ensures.name c.in_ok-module_number.ensures.number
-    ∙ sym c.if-meets_any.ensures
+    ∙ sym c.if-meets_any.ensures)
 
 pub invariant_of-self-in_err-reserve : goal.invariant_of-self-in_err-reserve
 invariant_of-self-in_err-reserve c =
