@@ -1,4 +1,4 @@
-mod LifeLemmas
+mod LivesLemmas
 mod NameLemmas
 mod MassifLemmas
 mod SampleLemmas

@@ -1,4 +1,4 @@
 pub mod DhatReport
-pub mod ReadLives
+pub mod LivesView
 pub mod MassifReport
 pub mod Sampling

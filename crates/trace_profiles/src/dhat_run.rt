@@ -3,9 +3,35 @@ ghost use Rattle.std.specs.Prelude.{◌^◌, ◌<◌, [], ◌∷◌};
 ghost use Rattle.command_frame.specs.RunsTo.{Runs};
 ghost use Rattle.trace_profiles.specs.DhatReport.{dhat_plan};
 
-use crate::dhat_reader::DhatReader;
-use command_frame::{Desk, Halt, run_one_file};
+use crate::lives::Lives;
+use command_frame::{Desk, Halt};
+use dhat_trace::trace_profile_text;
+use hp_num::NoMemory;
 use hp_outside::{Sink, Store};
+use ht_trace::Tables;
+use std::alloc::Global;
+use std::mem;
+use trace_reading::{Trace, TraceWriter, run_followed};
+
+/// Writes the profile and a line feed.
+#[derive(Clone, Copy)]
+pub struct DhatWriter;
+
+impl TraceWriter<Lives> for DhatWriter {
+    ghost use Rattle.trace_profiles.specs.DhatReport.{dhat_written};
+
+    ghost text = { λ _. dhat_written };
+
+    fn write(&self, alloc: Global, trace: &mut Trace<Lives>) -> Result<Vec<u8>, NoMemory> {
+        let none = Lives::new(alloc)?;
+        let Lives { peaks, lifetimes } = mem::replace(&mut trace.follower, none);
+        let tables = mem::replace(&mut trace.tables, Tables::new(alloc));
+        let text = trace_profile_text(alloc, tables, peaks, lifetimes)?;
+        let mut output = text.into_bytes();
+        output.push(b'\n')?;
+        Ok(output)
+    }
+}
 
 /// Reads the named trace, and gives its profile and a line feed.
 pub fn run_dhat<S: Store, O: Sink>(
@@ -18,9 +44,6 @@ pub fn run_dhat<S: Store, O: Sink>(
     ensures { Runs S.Store O.Sink desk.now (name.now ∷ []) (dhat_plan name.now)
         store.old store.new out.old out.new result }
 {
-    let mut reader = DhatReader::new(desk.alloc)?;
-    let ran = run_one_file(desk, name, &mut reader, store, out);
-    // By name: a proof goes through all parts of what an exit lets go.
-    drop(reader);
-    ran
+    let lives = Lives::new(desk.alloc)?;
+    run_followed(desk, name, lives, DhatWriter, store, out)
 }

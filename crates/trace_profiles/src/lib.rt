@@ -3,10 +3,11 @@
 //! frame's.
 //!
 //! What it promises: `run_massif` and `run_dhat` come to the frame's `Runs`, by `massif_plan` and `dhat_plan`, which say the
-//! whole text of the profile by the lines of the trace, and the first fault of each line. Both readers take lines of events
-//! many at a time, as `trace_reading` does.
+//! whole text of the profile by the lines of the trace, and the first fault of each line. Both take lines of events many at a
+//! time.
 //!
-//! `dhat` has `Lifetimes` beside its `ReadTrace`, which take each event that the peaks took.
+//! `dhat` reads a trace as `trace_reading` does, with a follower of its own, `Lives`: peaks, and lifetimes beside them, which
+//! take each event that the peaks took.
 //!
 //! `massif` has tables and a ledger of its own, since a line's fault there is the sampler's too. Where memory is wanting for
 //! a snapshot, the event's line is taken, since it has no fault, and the sampler is let go: from then on a batch takes
@@ -18,13 +19,13 @@
 //!
 //! | File | Does |
 //! |---|---|
-//! | `dhat_reader.rt`, `dhat_run.rt` | the taker of a trace whose lifetimes are kept; a run over one |
+//! | `lives.rt`, `dhat_run.rt` | peaks and lifetimes as what follows a trace; a run over one |
 //! | `massif_reader.rt`, `massif_run.rt` | the taker of a trace whose snapshots are taken; a run over one |
 //! | `name_list.rt` | the names of a list, and whether a name is one of them |
 #![tactic(auto)]
 
-mod dhat_reader;
 mod dhat_run;
+mod lives;
 mod massif_reader;
 mod massif_run;
 mod name_list;

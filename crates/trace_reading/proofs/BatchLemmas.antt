@@ -1,57 +1,19 @@
 -- What a reader of a trace has read when it took lines of events at once.
-use Rattle.std.proofs.Common.{◌≡◌, ℕ, ◌+◌, ◌-◌, ◌≤◌, List, [], ◌∷◌, ◌++◌, length, take, drop, slice_get, None, Some, refl, ap, sym, subst, ◌∙◌, append-nil, append_assoc, length-append, length-drop, arith}
+use Rattle.std.proofs.Common.{◌≡◌, ℕ, ◌+◌, ◌-◌, ◌≤◌, List, [], ◌∷◌, ◌++◌, length, take, drop, slice_get, Some, refl, ap, sym, subst, ◌∙◌, append-nil, append_assoc, length-append, length-drop, arith}
 use Rattle.std.proofs.lemmas.List.{drop-drop, length_push, take_all}
 use Rattle.std.proofs.lemmas.List.Elements.{All-append, All-nil, All-cons}
 use Rattle.std.proofs.Math.Seq.{take-add, take-append-add}
-use Rattle.std.specs.Option.{option_map, option_or}
 use Rattle.hp_outside.specs.WholeLines.{IsLineText, text_of_lines}
-use Rattle.live_ledger.specs.declared.event.Event.{Event}
-use Rattle.live_ledger.specs.Faults.{fault_of}
 use Rattle.live_ledger.specs.LedgerState.{HeldInfo, IsHeld, LedgerState}
-use Rattle.peak_costs.specs.Peak.{StandsFor}
 use Rattle.ht_lines.specs.declared.event.EventKind.{EventKind}
 use Rattle.ht_lines.specs.declared.event.EventKind.TheVariants.{Allocation, Free as FreeKind}
 use Rattle.ht_trace.specs.HeldStack.{HasHeldEvent}
 use Rattle.ht_trace.specs.LedgerFits.{least_length_of}
-use Rattle.ht_trace.specs.PassesEvents.{PassesLine, event_of_info}
-use Rattle.ht_trace.specs.StandsFor.{StandsAfter}
-use Rattle.ht_trace.specs.StepOf.{event_of, step_of}
+use Rattle.ht_trace.specs.PassesEvents.{event_of_info}
 use Rattle.ht_trace.specs.TableState.{TableState}
-use Rattle.ht_trace.specs.TraceEvents.{events}
 use Rattle.command_frame.specs.Batch.{AreGood, HasGivenFront, HasTakenFront, IsShortLine}
 use Rattle.command_frame.specs.Report.{Report, gains_from}
-use Rattle.trace_reading.specs.declared.fault.TraceFault.TheVariants.{Line, Event as event_fault}
-use Rattle.trace_reading.specs.declared.read_trace.ReadTrace.{ReadTrace}
-use Rattle.trace_reading.specs.Batch.{HasGivenLine, HasReadLine, HasTakenLine}
-use Rattle.trace_reading.specs.TraceFault.{told}
-use Rattle.trace_reading.specs.ReadTrace.{HasRead}
-use Rattle.trace_reading.specs.TraceReport.{content_fault, ledger_fault, trace_report}
-use Rattle.trace_reading.proofs.ReadLemmas.{fault_behind}
-
--- the line of an event that the tables pass and the ledger takes has no fault
-pub event_has_no_fault : (trace : ReadTrace) (line : List ℕ) (event : Event) → PassesLine trace.tables line event
-    → ((taken : List Event) → StandsFor trace.peaks taken → fault_of taken event ≡ None)
-    → (patterns earlier : List (List ℕ)) → HasRead trace patterns earlier → content_fault patterns earlier line ≡ None
-event_has_no_fault trace line event passes none patterns earlier has =
-    let brings : event_of (step_of earlier line) ≡ Some event = ap event_of (passes.brings has.given earlier has.tables_of) in
-    let in_ledger : ledger_fault (events earlier) (event_of (step_of earlier line)) ≡ None =
-    ap (ledger_fault (events earlier)) brings ∙ none (events earlier) has.peaks_of in
-    ap (λ found. option_or (option_map (λ error. told (Line error)) found) (option_map (λ fault. told (event_fault fault)) (ledger_fault (events earlier) (event_of (step_of earlier line)))))
-    (fault_behind trace patterns earlier line has ∙ passes.no_fault has.given earlier has.tables_of)
-    ∙ ap (option_map (λ fault. told (event_fault fault))) in_ledger
-
--- it is then read
-pub event_is_read : (old new : ReadTrace) (line : List ℕ) (event : Event) → PassesLine old.tables line event → new.tables ≡ old.tables
-    → ((taken : List Event) → StandsFor old.peaks taken → StandsFor new.peaks (taken ++ event ∷ []))
-    → (patterns earlier : List (List ℕ)) → HasRead old patterns earlier → HasRead new patterns (earlier ++ line ∷ [])
-event_is_read old new line event passes same stands patterns earlier has =
-    let after : events (earlier ++ line ∷ []) ≡ events earlier ++ event ∷ [] = passes.events has.given earlier has.tables_of in
-    record {
-      given = has.given;
-      patterns_are = has.patterns_are;
-      tables_of = subst (λ tables. StandsAfter tables has.given (earlier ++ line ∷ [])) (sym same) (passes.stands has.given earlier has.tables_of);
-      peaks_of = subst (λ es. StandsFor new.peaks es) (sym after) (stands (events earlier) has.peaks_of);
-    }
+use Rattle.trace_reading.specs.Batch.{HasGivenLine, HasTakenLine}
 
 -- the stack of the event of an info is the info's
 pub event_is_held : (tables : TableState) (kind : EventKind) (info : ℕ) (held : HeldInfo) → held.stack ≤ length tables.nodes → HasHeldEvent tables (event_of_info kind info held)
@@ -165,18 +127,3 @@ line_more {before} report initial old new ready bytes number more front one =
 -- a line stands within the bytes
 pub line_within : {before after : List ℕ} (report : Report) (old new : List (List ℕ) → Type 0) (ready : List ℕ) (bytes : ℕ) → HasGivenLine report old new ready bytes before after → bytes ≤ length ready
 line_within report old new ready bytes one = omega (arith, one.size, ap length one.split, length-append one.line (10 ∷ one.rest))
-
--- a line that was read is taken; no line of a trace gives a byte before the end
-pub read_is_taken : (old new : ReadTrace) (ready : List ℕ) (bytes : ℕ) (event : Event) → HasReadLine old new ready bytes event → (patterns : List (List ℕ)) (text : List (List ℕ) → List ℕ)
-    → HasTakenLine (trace_report patterns text) (HasRead old patterns) (HasRead new patterns) ready bytes
-read_is_taken old new ready bytes event one patterns text = record {
-  line = one.line;
-  one_line = one.one_line;
-  short = one.short;
-  rest = one.rest;
-  split = one.split;
-  size = one.size;
-  no_fault = one.no_fault patterns;
-  gained = λ earlier has. refl;
-  taken = one.read patterns;
-}

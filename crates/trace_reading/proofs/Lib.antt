@@ -1,4 +1,4 @@
 pub mod Laws
-mod ReadLemmas
+mod ReadingLemmas
 mod BatchLemmas
 mod TextLemmas

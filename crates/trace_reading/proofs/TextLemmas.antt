@@ -14,11 +14,11 @@ use Rattle.command_frame.specs.Taker.{Tells}
 use Rattle.command_frame.specs.declared.taker.LineRefusal.{LineRefusal}
 use Rattle.command_frame.specs.declared.taker.LineRefusal.TheVariants.{Fault, NoMemory}
 use Rattle.trace_reading.specs.declared.fault.TraceFault.{TraceFault}
-use Rattle.trace_reading.specs.declared.read_trace.ReadTrace.{ReadTrace}
-use Rattle.trace_reading.specs.Batch.{HasReadFront, HasReadTo}
-use Rattle.trace_reading.specs.ReadTrace.{HasRead}
+use Rattle.ht_trace.specs.TableState.{TableState}
+use Rattle.trace_reading.specs.Following.{Following}
+use Rattle.trace_reading.specs.Reading.{HasRead, HasReadEvents, HasReadLine, HasReadText, HasReadTo, IsSound, weight_of}
 use Rattle.trace_reading.specs.TraceFault.{told}
-use Rattle.trace_reading.specs.TraceReport.{HaveNoFault, content_fault, trace_report}
+use Rattle.trace_reading.specs.TraceReport.{EventFaults, HaveNoFault, content_fault, trace_report}
 use Rattle.trace_reading.proofs.BatchLemmas.{good_append}
 
 -- a text is read as the lines that it was made of
@@ -79,77 +79,87 @@ abbrev nothing : List (List ℕ) → List ℕ
 nothing lines = []
 
 -- nothing was read
-pub nothing_read : (old : ReadTrace) (text : List ℕ) → HasReadTo old old text text
-nothing_read old text = record {
+pub nothing_read : (faults : EventFaults) (now : TableState) (follower : Following) (text : List ℕ) → IsSound now follower → HasReadTo faults now follower now follower text text
+nothing_read faults now follower text sound = record {
+  sound = sound;
   lines = [];
   split = refl;
-  read = λ patterns earlier has. subst (HasRead old patterns) (sym (append-nil earlier)) has;
+  read = λ patterns earlier has. subst (HasRead now follower patterns) (sym (append-nil earlier)) has;
   good = λ patterns earlier has. tt;
 }
 
 -- a front of a text was read at once
-pub front_read : (old new : ReadTrace) (text left : List ℕ) (bytes number : ℕ)
-    → ((patterns : List (List ℕ)) (written : List (List ℕ) → List ℕ) → HasReadFront old new patterns written text bytes number) → left ≡ drop bytes text → HasReadTo old new text left
-front_read old new text left bytes number front left_is =
-    let first = front [] nothing in
-    let same : (patterns : List (List ℕ)) → (front patterns nothing).lines ≡ first.lines = λ patterns.
-    sym (lines_of-whole (take bytes text) (front patterns nothing).lines (front patterns nothing).text (front patterns nothing).texts)
+pub front_read : (faults : EventFaults) (now : TableState) (follower grown : Following) (text left : List ℕ) (bytes number : ℕ) → HasReadEvents faults now follower grown text bytes number → left ≡ drop bytes text
+    → HasReadTo faults now follower now grown text left
+front_read faults now follower grown text left bytes number front left_is =
+    let first = front.taken [] nothing in
+    let same : (patterns : List (List ℕ)) → (front.taken patterns nothing).lines ≡ first.lines = λ patterns.
+    sym (lines_of-whole (take bytes text) (front.taken patterns nothing).lines (front.taken patterns nothing).text (front.taken patterns nothing).texts)
     ∙ lines_of-whole (take bytes text) first.lines first.text first.texts in
     record {
+      sound = front.sound;
       lines = first.lines;
       split = ap lines_of (sym (take-append-drop bytes text) ∙ ap₂ (λ front back. front ++ back) first.text (sym left_is)) ∙ lines_of-text first.lines left first.texts;
-      read = λ patterns earlier has. subst (λ l. HasRead new patterns (earlier ++ l)) (same patterns) ((front patterns nothing).taken earlier has);
-      good = λ patterns earlier has. subst (HaveNoFault patterns earlier) (same patterns) ((front patterns nothing).good earlier has);
+      read = λ patterns earlier has. subst (λ l. HasRead now grown patterns (earlier ++ l)) (same patterns) ((front.taken patterns nothing).taken earlier has);
+      good = λ patterns earlier has. subst (HaveNoFault faults patterns earlier) (same patterns) ((front.taken patterns nothing).good earlier has);
     }
 
 -- the first line was read, or refused
-module _ (old : ReadTrace) (text left line : List ℕ) (first : lines_of text ≡ line ∷ lines_of left) where
-  pub line_read : (new : ReadTrace) → ((patterns earlier : List (List ℕ)) → HasRead old patterns earlier → HasRead new patterns (earlier ++ line ∷ []))
-      → ((patterns earlier : List (List ℕ)) → HasRead old patterns earlier → content_fault patterns earlier line ≡ None) → HasReadTo old new text left
-  line_read new read none = record {
+module _ (faults : EventFaults) (old : TableState) (follower : Following) (text left line : List ℕ) (first : lines_of text ≡ line ∷ lines_of left) where
+  pub line_read : (new : TableState) (grown : Following) → HasReadLine faults old follower new grown line → HasReadTo faults old follower new grown text left
+  line_read new grown read = record {
+    sound = read.sound;
     lines = line ∷ [];
     split = first;
-    read = read;
-    good = λ patterns earlier has. (none patterns earlier has, tt);
+    read = read.read;
+    good = λ patterns earlier has. (read.no_fault patterns earlier has, tt);
   }
 
-  pub line_refused : (refusal : LineRefusal TraceFault) → ((patterns earlier : List (List ℕ)) → HasRead old patterns earlier → Tells told refusal (content_fault patterns earlier line))
-      → (patterns earlier : List (List ℕ)) → HasRead old patterns earlier → HaveNoFault patterns earlier (lines_of text) → refusal ≡ NoMemory
-  line_refused refusal tells patterns earlier has good = by refusal (tells patterns earlier has) (subst (HaveNoFault patterns earlier) first good).0
+  pub line_refused : (refusal : LineRefusal TraceFault)
+      → ((patterns earlier : List (List ℕ)) → HasRead old follower patterns earlier → Tells told refusal (content_fault faults patterns earlier line))
+      → (patterns earlier : List (List ℕ)) → HasRead old follower patterns earlier → HaveNoFault faults patterns earlier (lines_of text) → refusal ≡ NoMemory
+  line_refused refusal tells patterns earlier has good = by refusal (tells patterns earlier has) (subst (HaveNoFault faults patterns earlier) first good).0
     where
-      by : (r : LineRefusal TraceFault) → Tells told r (content_fault patterns earlier line) → content_fault patterns earlier line ≡ None → r ≡ NoMemory
+      by : (r : LineRefusal TraceFault) → Tells told r (content_fault faults patterns earlier line) → content_fault faults patterns earlier line ≡ None → r ≡ NoMemory
       by (Fault fault) is none = absurd (cc)
       by NoMemory is none = refl
 
-module _ (old now : ReadTrace) (text rest : List ℕ) (here : HasReadTo old now text rest) where
+module _ (faults : EventFaults) (old : TableState) (follower : Following) (now : TableState) (here : Following) (text rest : List ℕ) (so_far : HasReadTo faults old follower now here text rest) where
   -- more was read
-  pub read_on : (new : ReadTrace) (left : List ℕ) → HasReadTo now new rest left → HasReadTo old new text left
-  read_on new left more = record {
-    lines = here.lines ++ more.lines;
-    split = here.split ∙ (ap (λ l. here.lines ++ l) more.split ∙ sym (append_assoc here.lines more.lines (lines_of left)));
-    read = λ patterns earlier has. subst (HasRead new patterns) (append_assoc earlier here.lines more.lines) (more.read patterns (earlier ++ here.lines) (here.read patterns earlier has));
-    good = λ patterns earlier has. good_append (trace_report patterns nothing) earlier here.lines more.lines (here.good patterns earlier has) (more.good patterns (earlier ++ here.lines) (here.read patterns earlier has));
+  pub read_on : (new : TableState) (grown : Following) (left : List ℕ) → HasReadTo faults now here new grown rest left → HasReadTo faults old follower new grown text left
+  read_on new grown left more = record {
+    sound = more.sound;
+    lines = so_far.lines ++ more.lines;
+    split = so_far.split ∙ (ap (λ l. so_far.lines ++ l) more.split ∙ sym (append_assoc so_far.lines more.lines (lines_of left)));
+    read = λ patterns earlier has.
+        subst (HasRead new grown patterns) (append_assoc earlier so_far.lines more.lines) (more.read patterns (earlier ++ so_far.lines) (so_far.read patterns earlier has));
+    good = λ patterns earlier has.
+        good_append (trace_report faults patterns nothing) earlier so_far.lines more.lines (so_far.good patterns earlier has) (more.good patterns (earlier ++ so_far.lines) (so_far.read patterns earlier has));
   }
 
   -- all was read
-  all : length rest ≡ 0 → here.lines ≡ lines_of text
-  all none = sym (here.split ∙ (ap (λ l. here.lines ++ l) (empty rest none) ∙ append-nil here.lines))
+  all : length rest ≡ 0 → so_far.lines ≡ lines_of text
+  all none = sym (so_far.split ∙ (ap (λ l. so_far.lines ++ l) (empty rest none) ∙ append-nil so_far.lines))
     where
       empty : (left : List ℕ) → length left ≡ 0 → lines_of left ≡ []
       empty [] none = refl
       empty (b ∷ left) none = absurd (omega (arith, none))
 
-  pub all_read : length rest ≡ 0 → (patterns earlier : List (List ℕ)) → HasRead old patterns earlier → HasRead now patterns (earlier ++ lines_of text)
-  all_read none patterns earlier has = subst (λ l. HasRead now patterns (earlier ++ l)) (all none) (here.read patterns earlier has)
-
-  pub all_good : length rest ≡ 0 → (patterns earlier : List (List ℕ)) → HasRead old patterns earlier → HaveNoFault patterns earlier (lines_of text)
-  all_good none patterns earlier has = subst (HaveNoFault patterns earlier) (all none) (here.good patterns earlier has)
+  pub all_read : length rest ≡ 0 → weight_of now here ≤ weight_of old follower + length text + 1 → HasReadText faults old follower now here text
+  all_read none weight = record {
+    sound = so_far.sound;
+    weight = weight;
+    read = λ patterns earlier has. subst (λ l. HasRead now here patterns (earlier ++ l)) (all none) (so_far.read patterns earlier has);
+    good = λ patterns earlier has. subst (HaveNoFault faults patterns earlier) (all none) (so_far.good patterns earlier has);
+  }
 
   -- the rest was refused
-  pub rest_refused : (refusal : LineRefusal TraceFault) → ((patterns earlier : List (List ℕ)) → HasRead now patterns earlier → HaveNoFault patterns earlier (lines_of rest) → refusal ≡ NoMemory)
-      → (patterns earlier : List (List ℕ)) → HasRead old patterns earlier → HaveNoFault patterns earlier (lines_of text) → refusal ≡ NoMemory
+  pub rest_refused : (refusal : LineRefusal TraceFault)
+      → ((patterns earlier : List (List ℕ)) → HasRead now here patterns earlier → HaveNoFault faults patterns earlier (lines_of rest) → refusal ≡ NoMemory)
+      → (patterns earlier : List (List ℕ)) → HasRead old follower patterns earlier → HaveNoFault faults patterns earlier (lines_of text) → refusal ≡ NoMemory
   rest_refused refusal refused patterns earlier has good =
-      refused patterns (earlier ++ here.lines) (here.read patterns earlier has) (behind (trace_report patterns nothing) earlier here.lines (lines_of rest) (subst (HaveNoFault patterns earlier) here.split good))
+      refused patterns (earlier ++ so_far.lines) (so_far.read patterns earlier has)
+      (behind (trace_report faults patterns nothing) earlier so_far.lines (lines_of rest) (subst (HaveNoFault faults patterns earlier) so_far.split good))
     where
       behind : (report : Report) (before lines more : List (List ℕ)) → AreGood report before (lines ++ more) → AreGood report (before ++ lines) more
       behind report before [] more good = subst (λ b. AreGood report b more) (sym (append-nil before)) good

@@ -1,24 +1,69 @@
--- Which lines were read of a trace.
+-- What was read of a trace, by its tables and by what contracts see of its follower.
 use Rattle.std.specs.Prelude.{◌≡◌, ℕ, ◌≤◌, List, length}
-use Rattle.ht_trace.specs.LedgerFits.{IsBeside}
-use Rattle.ht_trace.specs.Pattern.{patterns_of}
-use Rattle.ht_trace.specs.StandsFor.{StandsAfter}
-use Rattle.ht_trace.specs.TraceEvents.{events}
-use Rattle.peak_costs.specs.Peak.{StandsFor}
-use Rattle.trace_reading.specs.declared.read_trace.ReadTrace.{ReadTrace}
+use Rattle.command_frame.specs.Taker.{Tells}
+use Rattle.command_frame.specs.declared.taker.LineRefusal.{LineRefusal}
+use Rattle.command_frame.specs.declared.taker.LineRefusal.TheVariants.{NoMemory}
+use Rattle.hp_outside.specs.Lines.{lines_of}
+use Rattle.trace_reading.specs.declared.fault.TraceFault.{TraceFault}
+use Rattle.trace_reading.specs.declared.trace.Trace.{Trace}
+use Rattle.trace_reading.specs.Following.{Following}
+use Rattle.trace_reading.specs.Reading as reading
+use Rattle.trace_reading.specs.TraceFault.{told}
+use Rattle.trace_reading.specs.TraceReport.{EventFaults, HaveNoFault, content_fault}
 
--- the ledger holds the stacks and infos of the tables
-abbrev pub IsSound : ReadTrace → Type 0
-IsSound trace = IsBeside trace.tables trace.peaks.ledger
+abbrev pub weight_of : {F : Type 0} → (F → Following) → Trace F → ℕ
+weight_of view trace = reading.weight_of trace.tables (view trace.follower)
 
--- so it does, and the tables hold so many patterns that were given before the first line
-pub record IsReady (trace : ReadTrace) (given : ℕ) : Type 0 where
-  pub sound : IsSound trace
+abbrev pub IsSound : {F : Type 0} → (F → Following) → Trace F → Type 0
+IsSound view trace = reading.IsSound trace.tables (view trace.follower)
+
+abbrev pub HasRead : {F : Type 0} → (F → Following) → Trace F → List (List ℕ) → List (List ℕ)
+    → Type 0
+HasRead view trace patterns lines =
+    reading.HasRead trace.tables (view trace.follower) patterns lines
+
+abbrev pub HasReadLine : {F : Type 0} → EventFaults → (F → Following) → Trace F → Trace F → List ℕ
+    → Type 0
+HasReadLine faults view old new line =
+    reading.HasReadLine faults old.tables (view old.follower) new.tables (view new.follower) line
+
+abbrev pub HasReadEvent : {F : Type 0} → EventFaults → (F → Following) → Trace F → Trace F → List ℕ
+    → ℕ → Type 0
+HasReadEvent faults view old new ready bytes =
+    reading.HasReadEvent faults old.tables (view old.follower) (view new.follower) ready bytes
+
+abbrev pub HasReadEvents : {F : Type 0} → EventFaults → (F → Following) → Trace F → Trace F
+    → List ℕ → ℕ → ℕ → Type 0
+HasReadEvents faults view old new ready bytes number =
+    reading.HasReadEvents faults old.tables (view old.follower) (view new.follower) ready bytes
+    number
+
+abbrev pub HasReadTo : {F : Type 0} → EventFaults → (F → Following) → Trace F → Trace F → List ℕ
+    → List ℕ → Type 0
+HasReadTo faults view old new text left =
+    reading.HasReadTo faults old.tables (view old.follower) new.tables (view new.follower) text
+    left
+
+abbrev pub HasReadText : {F : Type 0} → EventFaults → (F → Following) → Trace F → Trace F → List ℕ
+    → Type 0
+HasReadText faults view old new text =
+    reading.HasReadText faults old.tables (view old.follower) new.tables (view new.follower) text
+
+-- a refusal of the next line tells its fault
+abbrev pub RefusesLine : {F : Type 0} → EventFaults → (F → Following) → Trace F → List ℕ
+    → LineRefusal TraceFault → Type 0
+RefusesLine faults view trace line refusal =
+    (patterns lines : List (List ℕ)) → HasRead view trace patterns lines
+    → Tells told refusal (content_fault faults patterns lines line)
+
+-- a refusal of a text of lines without a fault is want of memory
+abbrev pub RefusesText : {F : Type 0} → EventFaults → (F → Following) → Trace F → List ℕ
+    → LineRefusal TraceFault → Type 0
+RefusesText faults view trace text refusal =
+    (patterns lines : List (List ℕ)) → HasRead view trace patterns lines
+    → HaveNoFault faults patterns lines (lines_of text) → refusal ≡ NoMemory
+
+-- the trace is sound, and its tables hold so many patterns that were given before the first line
+pub record IsReady {F : Type 0} (view : F → Following) (trace : Trace F) (given : ℕ) : Type 0 where
+  pub sound : IsSound view trace
   pub given_held : given ≤ length trace.tables.patterns
-
--- the tables stand for these lines, behind texts of suppressions that have the patterns, and the peaks for their events
-pub record HasRead (trace : ReadTrace) (patterns lines : List (List ℕ)) : Type 0 where
-  pub given : List (List ℕ)
-  pub patterns_are : patterns ≡ patterns_of given
-  pub tables_of : StandsAfter trace.tables given lines
-  pub peaks_of : StandsFor trace.peaks (events lines)

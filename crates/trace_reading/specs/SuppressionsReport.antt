@@ -10,7 +10,7 @@ use Rattle.command_frame.specs.Report.{Report, Writes}
 use Rattle.command_frame.specs.Told.{Told}
 use Rattle.trace_reading.specs.declared.fault.TraceFault.TheVariants.{Line}
 use Rattle.trace_reading.specs.TraceFault.{told}
-use Rattle.trace_reading.specs.TraceReport.{trace_plan, trace_report}
+use Rattle.trace_reading.specs.TraceReport.{ledger_faults, trace_plan, trace_report}
 
 -- a line is the text of a suppression: its fault after earlier lines is that a table has no room for its pattern
 abbrev pub text_fault : List (List ℕ) → List ℕ → Option Told
@@ -33,7 +33,8 @@ pub record IsGiven (tables : TableState) : Type 0 where
 
 -- what is made of a trace whose own patterns stand behind those of such lines
 abbrev pub report_behind : (List (List ℕ) → List (List ℕ) → List ℕ) → List (List ℕ) → Report
-report_behind text lines = trace_report (patterns_of lines) (text (patterns_of lines))
+report_behind text lines = trace_report ledger_faults (patterns_of lines)
+    (text (patterns_of lines))
 
 -- a trace is read, and where a suppressions file is named, that file before it
 abbrev pub plan_behind : Option (List ℕ) → List ℕ → (List (List ℕ) → List (List ℕ) → List ℕ) → Plan

@@ -1,5 +1,5 @@
 -- What a command makes of the lines of a trace that writes a text once it has read them all.
-use Rattle.std.specs.Prelude.{ℕ, List, [], ◌++◌, Option, Some, None, take}
+use Rattle.std.specs.Prelude.{ℕ, List, [], ◌∷◌, ◌++◌, Option, Some, None, take}
 use Rattle.std.specs.Option.{option_map, option_or}
 use Rattle.live_ledger.specs.declared.event.Event.{Event}
 use Rattle.live_ledger.specs.declared.event.EventFault.{EventFault}
@@ -26,36 +26,46 @@ tables_behind patterns lines = record (tables_of lines)
 abbrev pub patterns_before : ℕ → TableState → List (List ℕ)
 patterns_before given tables = take given tables.patterns
 
--- the ledger's fault of an event after earlier ones
-abbrev pub ledger_fault : List Event → Option Event → Option EventFault
-ledger_fault earlier None = None
-ledger_fault earlier (Some taken) = fault_of earlier taken
+-- the fault of an event after earlier ones, beside tables that have its line
+abbrev pub EventFaults : Type 0
+EventFaults = TableState → List Event → Event → Option EventFault
 
--- the fault of what a line of a trace says after earlier lines: the tables judge first, and then the ledger
-abbrev pub content_fault : List (List ℕ) → List (List ℕ) → List ℕ → Option Told
-content_fault patterns earlier line =
+-- the ledger's, which needs no tables
+abbrev pub ledger_faults : EventFaults
+ledger_faults tables = fault_of
+
+-- the fault of what a line brings
+abbrev pub fault_among : EventFaults → TableState → List Event → Option Event → Option EventFault
+fault_among faults tables earlier None = None
+fault_among faults tables earlier (Some taken) = faults tables earlier taken
+
+-- the fault of what a line of a trace says after earlier lines: the tables judge first, and then, by the tables with it, what
+-- follows the events
+abbrev pub content_fault : EventFaults → List (List ℕ) → List (List ℕ) → List ℕ → Option Told
+content_fault faults patterns earlier line =
     option_or (option_map (λ error. told (Line error))
     (tables.fault_in (tables_behind patterns earlier) line))
     (option_map (λ fault. told (event fault))
-    (ledger_fault (events earlier) (event_of (step_of earlier line))))
+    (fault_among faults (tables_behind patterns (earlier ++ line ∷ [])) (events earlier)
+    (event_of (step_of earlier line))))
 
 -- the fault of the end of a trace
 abbrev pub end_fault : List (List ℕ) → Option Told
 end_fault lines = option_map (λ error. told (Line error)) (tables.end_fault lines)
 
 -- patterns being given before the first line, a text of the lines is written once all of them were read
-abbrev pub trace_report : List (List ℕ) → (List (List ℕ) → List ℕ) → Report
-trace_report patterns text = record {
-  line_fault = content_fault patterns;
+abbrev pub trace_report : EventFaults → List (List ℕ) → (List (List ℕ) → List ℕ) → Report
+trace_report faults patterns text = record {
+  line_fault = content_fault faults patterns;
   end_fault = λ lines ended. end_fault lines;
   gains = λ earlier line. [];
   verdict = λ lines. Writes (text lines);
 }
 
 -- none of these lines has a fault after the earlier ones and those before it
-abbrev pub HaveNoFault : List (List ℕ) → List (List ℕ) → List (List ℕ) → Type 0
-HaveNoFault patterns = AreGood (trace_report patterns (λ lines. []))
+abbrev pub HaveNoFault : EventFaults → List (List ℕ) → List (List ℕ) → List (List ℕ) → Type 0
+HaveNoFault faults patterns = AreGood (trace_report faults patterns (λ lines. []))
 
--- one trace is read, for which no suppressions are given
+-- one trace is read, for which no suppressions are given; its events have the ledger's faults
 abbrev pub trace_plan : List ℕ → (List (List ℕ) → List ℕ) → Plan
-trace_plan trace text = one_file trace (trace_report [] text)
+trace_plan trace text = one_file trace (trace_report ledger_faults [] text)

@@ -9,6 +9,7 @@ use crate::trace_writer::TraceWriter;
 use command_frame::{Desk, FilePair, Halt, PairNames, run_pair};
 use hp_num::NoMemory;
 use hp_outside::{Sink, Store};
+use peak_costs::Peaks;
 use std::alloc::Global;
 
 /// What is made of a trace whose own patterns stand behind those of a suppressions file.
@@ -17,22 +18,31 @@ pub struct SuppressedTrace<W> {
     pub writer: W,
 }
 
-impl<W: TraceWriter + Copy + Drop> FilePair for SuppressedTrace<W> {
+impl<W: TraceWriter<Peaks> + Copy + Drop> FilePair for SuppressedTrace<W> {
     ghost use Rattle.trace_reading.specs.SuppressionsReport.{report_behind};
 
     type First = SuppressionsTaker;
 
-    type Second = TraceReader<W>;
+    type Second = TraceReader<Peaks, W>;
 
     ghost second_report = { λ pair. report_behind (W.text pair.writer) };
 
-    fn second(&self, alloc: Global, first: SuppressionsTaker) -> Result<TraceReader<W>, NoMemory> {
-        TraceReader::new(alloc, first.tables, self.writer)
+    fn second(
+        &self,
+        alloc: Global,
+        first: SuppressionsTaker,
+    ) -> Result<TraceReader<Peaks, W>, NoMemory> {
+        let tables = first.tables;
+        let Ok(peaks) = Peaks::new(alloc) else {
+            drop(tables);
+            return Err(NoMemory);
+        };
+        Ok(TraceReader::new(tables, peaks, self.writer))
     }
 }
 
 /// Reads the named suppressions file and then the named trace, and gives what is written of it.
-pub fn run_suppressed<W: TraceWriter + Copy + Drop, S: Store, O: Sink>(
+pub fn run_suppressed<W: TraceWriter<Peaks> + Copy + Drop, S: Store, O: Sink>(
     desk: &Desk,
     names: &PairNames,
     writer: W,

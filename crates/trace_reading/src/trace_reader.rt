@@ -1,70 +1,67 @@
 //! The reader of a trace for every command that writes of one once it was read. What each of them writes is the part of its
 //! writer.
-ghost use Rattle.std.specs.Prelude.{◌≡◌, ℕ, ◌*◌, ◌≤◌, List, [], length, IfOk};
+ghost use Rattle.std.specs.Prelude.{◌≡◌, ℕ, List, []};
 ghost use Rattle.ht_trace.specs.StandsFor.{StandsAfter};
-ghost use Rattle.trace_reading.specs.ReadTrace as trace_spec;
+ghost use Rattle.trace_reading.specs.Following.{IsNew};
+ghost use Rattle.trace_reading.specs.ReadTrace.{HasRead, IsReady, weight_of};
 ghost use Rattle.trace_reading.specs.TraceReport.{patterns_before, trace_report};
 
 use crate::fault::TraceFault;
-use crate::read_trace::ReadTrace;
+use crate::follower::Follower;
+use crate::trace::Trace;
 use crate::trace_writer::TraceWriter;
 use command_frame::{Batch, LineRefusal, LineReport, LineTaker};
-use hp_num::NoMemory;
 use ht_trace::Tables;
 use std::alloc::Global;
-use std::mem;
 
 /// What was read of a trace, and what is to be written of it.
 #[derive(Drop)]
-pub struct TraceReader<W> {
-    trace: ReadTrace,
+pub struct TraceReader<F, W> {
+    trace: Trace<F>,
     /// How many patterns were given before the first line.
     given: u32,
     writer: W,
 }
 
-impl<W: TraceWriter + Drop> TraceReader<W> {
-    /// A reader that has read no line, over tables that have read none and hold the patterns of some suppressions.
-    /// `NoMemory` where memory is wanting.
-    pub fn new(alloc: Global, tables: Tables, writer: W) -> Result<TraceReader<W>, NoMemory>
+impl<F: Follower, W: TraceWriter<F>> TraceReader<F, W> {
+    /// A reader that has read no line, over tables that have read none and may hold the patterns of some suppressions, with
+    /// a follower that has followed nothing.
+    pub fn new(tables: Tables, follower: F, writer: W) -> TraceReader<F, W>
         requires nodes { tables.nodes ≡ [] }
         requires infos { tables.infos ≡ [] }
-        ensures sound { IfOk result (λ reader. trace_spec.IsReady reader.trace reader.given) }
-        ensures read { IfOk result
-            (λ reader. (given : List (List ℕ)) → StandsAfter tables given []
-            → trace_spec.HasRead reader.trace (patterns_before reader.given reader.trace.tables)
-            []) }
-        ensures patterns { IfOk result
-            (λ reader. patterns_before reader.given reader.trace.tables ≡ tables.patterns) }
-        ensures writer { IfOk result (λ reader. reader.writer ≡ writer) }
-        ensures events { IfOk result (λ reader. reader.trace.peaks.ledger.totals.events ≡ 0) }
+        requires new { IsNew tables (F.view follower) }
+        ensures sound { IsReady F.view result.trace result.given }
+        ensures read { (given : List (List ℕ)) → StandsAfter tables given []
+            → HasRead F.view result.trace (patterns_before result.given result.trace.tables) [] }
+        ensures patterns { patterns_before result.given result.trace.tables ≡ tables.patterns }
+        ensures writer { result.writer ≡ writer }
+        ensures weight { weight_of F.view result.trace ≡ 0 }
     {
         let given = tables.suppressions();
-        let trace = ReadTrace::new(alloc, tables)?;
-        Ok(TraceReader {
-            trace,
+        TraceReader {
+            trace: Trace { tables, follower },
             given,
             writer,
-        })
+        }
     }
 }
 
-impl<W: TraceWriter> LineTaker for TraceReader<W> {
+impl<F: Follower, W: TraceWriter<F>> LineTaker for TraceReader<F, W> {
     type Fault = TraceFault;
 
     ghost report = { λ reader.
-        trace_report (patterns_before reader.given reader.trace.tables)
+        trace_report F.faults (patterns_before reader.given reader.trace.tables)
         (W.text reader.writer (patterns_before reader.given reader.trace.tables)) };
 
     ghost has_taken = { λ reader.
-        trace_spec.HasRead reader.trace (patterns_before reader.given reader.trace.tables) };
+        HasRead F.view reader.trace (patterns_before reader.given reader.trace.tables) };
 
-    ghost is_sound = { λ reader. trace_spec.IsReady reader.trace reader.given };
+    ghost is_sound = { λ reader. IsReady F.view reader.trace reader.given };
 
-    ghost weight = { λ reader. 4 * reader.trace.peaks.ledger.totals.events };
+    ghost weight = { λ reader. weight_of F.view reader.trace };
 
     fn line(&mut self, line: &[u8], _output: &mut Vec<u8>) -> Result<(), LineRefusal<TraceFault>> {
-        self.trace.read(line)
+        self.trace.line(line)
     }
 
     fn end(&self, _ended: bool) -> Result<(), TraceFault> {
@@ -72,16 +69,13 @@ impl<W: TraceWriter> LineTaker for TraceReader<W> {
     }
 
     fn batch(&mut self, ready: &[u8], _output: &mut Vec<u8>) -> Batch {
-        self.trace.read_front(ready)
+        self.trace.front(ready)
     }
 }
 
-impl<W: TraceWriter> LineReport for TraceReader<W> {
+impl<F: Follower, W: TraceWriter<F>> LineReport for TraceReader<F, W> {
     fn finish(&mut self, alloc: Global) -> Result<Vec<u8>, LineRefusal<TraceFault>> {
-        let none = ReadTrace::new(alloc, Tables::new(alloc))?;
-        let ReadTrace { tables, peaks } = mem::replace(&mut self.trace, none);
-        let mut output = Vec::new(alloc);
-        self.writer.put(tables, peaks, &mut output)?;
+        let output = self.writer.write(alloc, &mut self.trace)?;
         Ok(output)
     }
 }

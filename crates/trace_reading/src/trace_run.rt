@@ -1,16 +1,21 @@
-//! A whole run over one trace. What is written of it is the part of the command's writer.
-ghost use Rattle.std.specs.Prelude.{◌^◌, ◌<◌, [], ◌∷◌};
+//! A whole run over one trace, for which no suppressions are given. What is written of it is the part of the command's writer.
+ghost use Rattle.std.specs.Prelude.{◌≡◌, ◌^◌, ◌<◌, [], ◌∷◌};
+ghost use Rattle.ht_trace.specs.TableState.{TableState};
+ghost use Rattle.command_frame.specs.Plan.{one_file};
 ghost use Rattle.command_frame.specs.RunsTo.{Runs};
-ghost use Rattle.trace_reading.specs.TraceReport.{trace_plan};
+ghost use Rattle.trace_reading.specs.Following.{IsNew};
+ghost use Rattle.trace_reading.specs.TraceReport.{trace_plan, trace_report};
 
+use crate::follower::Follower;
 use crate::trace_reader::TraceReader;
 use crate::trace_writer::TraceWriter;
 use command_frame::{Desk, Halt, run_one_file};
 use hp_outside::{Sink, Store};
 use ht_trace::Tables;
+use peak_costs::Peaks;
 
-/// Reads the named trace, for which no suppressions are given, and gives what is written of it.
-pub fn run_trace<W: TraceWriter + Drop, S: Store, O: Sink>(
+/// Reads the named trace into its peaks, and gives what is written of it.
+pub fn run_trace<W: TraceWriter<Peaks> + Drop, S: Store, O: Sink>(
     desk: &Desk,
     name: &str,
     writer: W,
@@ -21,9 +26,28 @@ pub fn run_trace<W: TraceWriter + Drop, S: Store, O: Sink>(
     ensures { Runs S.Store O.Sink desk.now (name.now ∷ []) (trace_plan name.now (W.text writer []))
         store.old store.new out.old out.new result }
 {
-    let tables = Tables::new(desk.alloc);
-    let mut reader = TraceReader::new(desk.alloc, tables, writer)?;
+    let peaks = Peaks::new(desk.alloc)?;
+    run_followed(desk, name, peaks, writer, store, out)
+}
+
+/// Reads the named trace with a follower that has followed nothing, and gives what is written of it.
+pub fn run_followed<F: Follower + Drop, W: TraceWriter<F> + Drop, S: Store, O: Sink>(
+    desk: &Desk,
+    name: &str,
+    follower: F,
+    writer: W,
+    store: &mut S,
+    out: &mut O,
+) -> Result<Vec<u8>, Halt>
+    requires opens { S.opens store.old < 2 ^ 63 }
+    requires new { (tables : TableState) → IsNew tables (F.view follower) }
+    ensures { Runs S.Store O.Sink desk.now (name.now ∷ [])
+        (one_file name.now (trace_report F.faults [] (W.text writer [])))
+        store.old store.new out.old out.new result }
+{
+    let mut reader = TraceReader::new(Tables::new(desk.alloc), follower, writer);
     let ran = run_one_file(desk, name, &mut reader, store, out);
+    // By name: a proof goes through all parts of what an exit lets go.
     drop(reader);
     ran
 }

@@ -1,26 +1,26 @@
 //! What a command over one trace writes, once all lines were read. Which lines a trace may have is no part of it.
-ghost use Rattle.std.specs.Prelude.{◌≡◌, ℕ, List, ◌++◌, OnOk};
-ghost use Rattle.ht_trace.specs.LedgerFits.{IsBeside};
+ghost use Rattle.std.specs.Prelude.{◌≡◌, ℕ, List, IfOk};
 ghost use Rattle.ht_trace.specs.Pattern.{patterns_of};
 ghost use Rattle.ht_trace.specs.StandsFor.{StandsAfter};
 ghost use Rattle.ht_trace.specs.TraceEvents.{events};
-ghost use Rattle.peak_costs.specs.Peak.{StandsFor};
+ghost use Rattle.trace_reading.specs.ReadTrace.{IsSound};
 
+use crate::follower::Follower;
+use crate::trace::Trace;
 use hp_num::NoMemory;
-use ht_trace::Tables;
-use peak_costs::Peaks;
+use std::alloc::Global;
 
 /// What is written of a trace.
-pub trait TraceWriter {
+pub trait TraceWriter<F: Follower> {
     /// The text of a trace with these lines, the patterns of some suppressions being given before them.
     ghost text: { Self → List (List ℕ) → List (List ℕ) → List ℕ };
 
-    /// Appends the text of the trace whose tables and peaks these are, which it may let go before all of it is made.
-    /// `NoMemory` where memory is wanting.
-    fn put(&self, tables: Tables, peaks: Peaks, out: &mut Vec<u8>) -> Result<(), NoMemory>
-        requires beside { IsBeside tables peaks.ledger }
-        ensures appended { OnOk result
-            ((given lines : List (List ℕ)) → StandsAfter tables given lines
-            → StandsFor peaks (events lines)
-            → out.new.items ≡ out.old.items ++ text self.now (patterns_of given) lines) };
+    /// The text of the trace that was read, of which it may let go parts before all of the text is made. `NoMemory` where
+    /// memory is wanting.
+    fn write(&self, alloc: Global, trace: &mut Trace<F>) -> Result<Vec<u8>, NoMemory>
+        requires { IsSound F.view trace.old }
+        ensures { IfOk result
+            (λ output. (given lines : List (List ℕ)) → StandsAfter trace.old.tables given lines
+            → (F.view trace.old.follower).stands trace.old.tables (events lines)
+            → output.items ≡ text self.now (patterns_of given) lines) };
 }

@@ -5,15 +5,18 @@ use Rattle.hp_outside.specs.Lines.{lines_of}
 use Rattle.hp_outside.specs.WholeLines.{text_of_lines}
 use Rattle.live_ledger.specs.declared.event.Event.{Event}
 use Rattle.ht_trace.specs.StepOf.{event_of, step_of}
+use Rattle.ht_trace.specs.TableState.{TableState}
+use Rattle.peak_costs.specs.PeakState.{PeakState}
 use Rattle.ht_trace.specs.TraceEvents.{events}
 use Rattle.sound_traces.specs.NoFault.{HasNoFault, IsGood, event_fault}
 use Rattle.trace_gen.specs.declared.generator.Generator.{Generator}
 use Rattle.trace_gen.specs.GeneratorState.{MakesLines, lines_yet}
 use Rattle.trace_reading.specs.declared.fault.TraceFault.TheVariants.{Line, Event as in_ledger}
-use Rattle.trace_reading.specs.declared.read_trace.ReadTrace.{ReadTrace}
-use Rattle.trace_reading.specs.ReadTrace.{HasRead, IsSound}
+use Rattle.trace_reading.specs.declared.trace.Trace.{Trace}
+use Rattle.trace_reading.specs.PeaksView.{peaks_view}
+use Rattle.trace_reading.specs.ReadTrace.{HasRead, HasReadText}
 use Rattle.trace_reading.specs.TraceFault.{told}
-use Rattle.trace_reading.specs.TraceReport.{HaveNoFault, content_fault, ledger_fault}
+use Rattle.trace_reading.specs.TraceReport.{HaveNoFault, content_fault, fault_among, ledger_faults, tables_behind}
 use Rattle.trace_reading.proofs.Laws.{lines_of-whole}
 use Rattle.trace_reports.specs.GenTaken.{HasTaken}
 use Rattle.trace_gen.specs.GeneratedTrace.{generated_lines}
@@ -27,16 +30,16 @@ unfolding gen_summary
 summary_of_lines sizes lines all = ap (summary_written []) all
 
 -- a line without a fault in the tables and the event that it brings has none
-same_fault : (earlier : List Event) (event : Option Event) → event_fault earlier event ≡ ledger_fault earlier event
-same_fault earlier None = refl
-same_fault earlier (Some event) = refl
+same_fault : (tables : TableState) (earlier : List Event) (event : Option Event) → event_fault earlier event ≡ fault_among ledger_faults tables earlier event
+same_fault tables earlier None = refl
+same_fault tables earlier (Some event) = refl
 
-line_good : (earlier : List (List ℕ)) (line : List ℕ) → IsGood earlier line → content_fault [] earlier line ≡ None
+line_good : (earlier : List (List ℕ)) (line : List ℕ) → IsGood earlier line → content_fault ledger_faults [] earlier line ≡ None
 line_good earlier line good =
     ap₂ (λ found event. option_or (option_map (λ error. told (Line error)) found) (option_map (λ fault. told (in_ledger fault)) event)) good.0
-    (sym (same_fault (events earlier) (event_of (step_of earlier line))) ∙ good.1)
+    (sym (same_fault (tables_behind [] (earlier ++ line ∷ [])) (events earlier) (event_of (step_of earlier line))) ∙ good.1)
 
-front_good : (earlier lines more : List (List ℕ)) → HasNoFault earlier (lines ++ more) → HaveNoFault [] earlier lines
+front_good : (earlier lines more : List (List ℕ)) → HasNoFault earlier (lines ++ more) → HaveNoFault ledger_faults [] earlier lines
 front_good earlier [] more good = tt
 front_good earlier (line ∷ lines) more good = (line_good earlier line good.0, front_good (earlier ++ line ∷ []) lines more good.1)
 
@@ -44,7 +47,7 @@ back_good : (earlier lines more : List (List ℕ)) → HasNoFault earlier (lines
 back_good earlier [] more good = subst (λ before. HasNoFault before more) (sym (append-nil earlier)) good
 back_good earlier (line ∷ lines) more good = subst (λ before. HasNoFault before more) (append_assoc earlier (line ∷ []) lines) (back_good (earlier ++ line ∷ []) lines more good.1)
 
-module _ (old : ReadTrace) (before after : Generator) (lines : List (List ℕ)) (text : List ℕ) (taken : HasTaken old before lines) (made : MakesLines before after text) where
+module _ (old : Trace PeakState) (before after : Generator) (lines : List (List ℕ)) (text : List ℕ) (taken : HasTaken old before lines) (made : MakesLines before after text) where
   made_good : HasNoFault taken.taken (made.lines ++ lines_yet after)
   made_good = subst (HasNoFault taken.taken) made.split taken.no_fault
 
@@ -55,20 +58,19 @@ module _ (old : ReadTrace) (before after : Generator) (lines : List (List ℕ)) 
   fewer = ap length made.split ∙ length-append made.lines (lines_yet after)
 
   -- the next lines have no fault
-  pub next_good : HaveNoFault [] taken.taken (lines_of text)
-  next_good = subst (HaveNoFault [] taken.taken) (sym lines_are) (front_good taken.taken made.lines (lines_yet after) made_good)
+  pub next_good : HaveNoFault ledger_faults [] taken.taken (lines_of text)
+  next_good = subst (HaveNoFault ledger_faults [] taken.taken) (sym lines_are) (front_good taken.taken made.lines (lines_yet after) made_good)
 
   -- and they were read, where there are any
-  pub next_taken : (new : ReadTrace) → 0 < length text → IsSound new → ((patterns earlier : List (List ℕ)) → HasRead old patterns earlier → HasRead new patterns (earlier ++ lines_of text))
-      → 4 * new.peaks.ledger.totals.events ≤ 4 * old.peaks.ledger.totals.events + length text + 1 → HasTaken new after lines
-  next_taken new some sound read few = record {
+  pub next_taken : (new : Trace PeakState) → 0 < length text → HasReadText ledger_faults peaks_view old new text → HasTaken new after lines
+  next_taken new some read = record {
     at = made.at;
-    sound = sound;
+    sound = read.sound;
     taken = taken.taken ++ made.lines;
-    read = subst (λ more. HasRead new [] (taken.taken ++ more)) lines_are (read [] taken.taken taken.read);
+    read = subst (λ more. HasRead peaks_view new [] (taken.taken ++ more)) lines_are (read.read [] taken.taken taken.read);
     split = taken.split ∙ (ap (λ more. taken.taken ++ more) made.split ∙ sym (append_assoc taken.taken made.lines (lines_yet after)));
     no_fault = back_good taken.taken made.lines (lines_yet after) made_good;
-    room = omega (arith, few, made.short, fewer, taken.room, some);
+    room = omega (arith, read.weight, made.short, fewer, taken.room, some);
   }
 
   -- no line is left

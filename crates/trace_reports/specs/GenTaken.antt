@@ -3,16 +3,18 @@ use Rattle.std.specs.Prelude.{◌≡◌, ℕ, ◌+◌, ◌*◌, ◌^◌, ◌≤�
 use Rattle.trace_gen.specs.declared.generator.Generator.{Generator}
 use Rattle.trace_gen.specs.GeneratorState.{IsAt, lines_yet}
 use Rattle.sound_traces.specs.NoFault.{HasNoFault}
-use Rattle.trace_reading.specs.declared.read_trace.ReadTrace.{ReadTrace}
-use Rattle.trace_reading.specs.ReadTrace.{HasRead, IsSound}
+use Rattle.peak_costs.specs.PeakState.{PeakState}
+use Rattle.trace_reading.specs.declared.trace.Trace.{Trace}
+use Rattle.trace_reading.specs.PeaksView.{peaks_view}
+use Rattle.trace_reading.specs.ReadTrace.{HasRead, IsSound, weight_of}
 
 -- some of these lines were read, and a generator has yet to make the others, which have no fault behind them
-pub record HasTaken (trace : ReadTrace) (generator : Generator) (lines : List (List ℕ)) : Type
-    0 where
+pub record HasTaken (trace : Trace PeakState) (generator : Generator) (lines : List (List ℕ))
+    : Type 0 where
   pub at : IsAt generator
-  pub sound : IsSound trace
+  pub sound : IsSound peaks_view trace
   pub taken : List (List ℕ)
-  pub read : HasRead trace [] taken
+  pub read : HasRead peaks_view trace [] taken
   pub split : lines ≡ taken ++ lines_yet generator
   pub no_fault : HasNoFault taken (lines_yet generator)
-  pub room : 4 * trace.peaks.ledger.totals.events + 64 * length (lines_yet generator) ≤ 2 ^ 30
+  pub room : weight_of peaks_view trace + 64 * length (lines_yet generator) ≤ 2 ^ 30

@@ -12,26 +12,27 @@ use ht_trace::{Style, Tables};
 use peak_costs::Peaks;
 use stack_trees::lists_from_root;
 use std::alloc::Global;
-use trace_reading::{TraceWriter, run_trace};
+use trace_reading::{Trace, TraceWriter, run_trace};
 
 /// Writes the flame stacks.
 #[derive(Clone, Copy)]
 pub struct FlameWriter {
-    alloc: Global,
     cost: FlameCost,
 }
 
-impl TraceWriter for FlameWriter {
+impl TraceWriter<Peaks> for FlameWriter {
     ghost use Rattle.trace_reports.specs.FlameReport.{flame_written};
 
     ghost text = { λ writer. flame_written writer.cost };
 
-    fn put(&self, tables: Tables, peaks: Peaks, out: &mut Vec<u8>) -> Result<(), NoMemory> {
-        let costs = stack_costs(self.alloc, self.cost, &peaks);
-        drop(peaks);
-        let lists = lists_from_root(self.alloc, &tables, Style::Plain);
-        drop(tables);
-        put_flame_of_lists(self.alloc, lists?, costs?, out)
+    fn write(&self, alloc: Global, trace: &mut Trace<Peaks>) -> Result<Vec<u8>, NoMemory> {
+        let costs = stack_costs(alloc, self.cost, &trace.follower)?;
+        trace.follower = Peaks::new(alloc)?;
+        let lists = lists_from_root(alloc, &trace.tables, Style::Plain)?;
+        trace.tables = Tables::new(alloc);
+        let mut output = Vec::new(alloc);
+        put_flame_of_lists(alloc, lists, costs, &mut output)?;
+        Ok(output)
     }
 }
 
@@ -48,9 +49,5 @@ pub fn run_flame<S: Store, O: Sink>(
         (trace_plan trace.now (flame_written cost []))
         store.old store.new out.old out.new result }
 {
-    let writer = FlameWriter {
-        alloc: desk.alloc,
-        cost,
-    };
-    run_trace(desk, trace, writer, store, out)
+    run_trace(desk, trace, FlameWriter { cost }, store, out)
 }

@@ -7,25 +7,23 @@ use command_frame::{Desk, Halt};
 use hp_num::NoMemory;
 use hp_outside::{Sink, Store};
 use ht_print::put_summary;
-use ht_trace::Tables;
 use peak_costs::Peaks;
-use trace_reading::{TraceWriter, run_trace};
+use std::alloc::Global;
+use trace_reading::{Trace, TraceWriter, run_trace};
 
 /// Writes the six lines.
 #[derive(Clone, Copy)]
 pub struct SummaryWriter;
 
-impl TraceWriter for SummaryWriter {
+impl TraceWriter<Peaks> for SummaryWriter {
     ghost use Rattle.trace_reports.specs.SummaryReport.{summary_written};
 
     ghost text = { λ _. summary_written };
 
-    fn put(&self, tables: Tables, peaks: Peaks, out: &mut Vec<u8>) -> Result<(), NoMemory> {
-        let done = put_summary(&peaks, out);
-        // By name, as in the report's.
-        drop(tables);
-        drop(peaks);
-        done
+    fn write(&self, alloc: Global, trace: &mut Trace<Peaks>) -> Result<Vec<u8>, NoMemory> {
+        let mut output = Vec::new(alloc);
+        put_summary(&trace.follower, &mut output)?;
+        Ok(output)
     }
 }
 

@@ -25,10 +25,10 @@ returns g c =
     let err = taken g.E.Sink c.deliver.new.err in
     let ran = c.run_words-outcome.ensures.ran in
     let laws : AreLaws = record {
-      reads_back = c.interpreted_traces.ensures.reads_back;
-      events = c.interpreted_traces.ensures.events;
-      ledger = c.interpreted_traces.ensures.ledger;
-      one_line = c.interpreted_traces.ensures.one_line;
+      reads_back = λ symbols lines are. (c.interpreted_traces.ensures symbols lines are).reads_back;
+      events = λ symbols lines are. (c.interpreted_traces.ensures symbols lines are).events;
+      ledger = λ symbols lines are. (c.interpreted_traces.ensures symbols lines are).ledger;
+      one_line = λ symbols lines are. (c.interpreted_traces.ensures symbols lines are).one_line;
     } in
     let delivery : DeliversTo heapsuite_texts.write_failed answer c.deliver.result mid out old err =
     subst (λ (texts : Texts). DeliversTo texts.write_failed (outcome_answer texts c.run_words-outcome.result) c.deliver.result mid out old err) c.heapsuite_texts.ensures c.deliver.ensures in

@@ -22,9 +22,9 @@ line_taken symbols old new ready bytes before after front was is = record {
   rest = front.rest;
   split = front.split;
   size = front.size;
-  no_fault = λ earlier has. ap (option_map (λ error. told (Line error))) (front.no_fault symbols earlier (subst (λ s. StandsFor old s earlier) was has));
-  gained = λ earlier has. front.lines symbols earlier (subst (λ s. StandsFor old s earlier) was has);
-  taken = λ earlier has. subst (λ s. StandsFor new s (earlier ++ front.line ∷ [])) (sym is) (front.stands symbols earlier (subst (λ s. StandsFor old s earlier) was has));
+  no_fault = λ earlier has. ap (option_map (λ error. told (Line error))) (front.adds.no_fault symbols earlier (subst (λ s. StandsFor old s earlier) was has));
+  gained = λ earlier has. front.adds.lines symbols earlier (subst (λ s. StandsFor old s earlier) was has);
+  taken = λ earlier has. subst (λ s. StandsFor new s (earlier ++ front.line ∷ [])) (sym is) (front.adds.stands symbols earlier (subst (λ s. StandsFor old s earlier) was has));
 }
 
 pub lines-init : goal.lines-init

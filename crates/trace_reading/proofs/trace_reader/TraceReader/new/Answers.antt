@@ -1,22 +1,22 @@
-use Rattle.std.proofs.Common.{◌≡◌, [], ap, sym, subst, ◌∙◌, append-nil, length}
-use Rattle.ht_trace.specs.Pattern.{patterns_of}
-use Rattle.ht_trace.specs.StandsFor.{StandsAfter}
-use Rattle.ht_trace.specs.TableState.{TableState}
-use Rattle.trace_reading.specs.TraceReport.{patterns_before}
-use Rattle.trace_reading.proofs.ReadLemmas.{before_all}
+use Rattle.std.proofs.Common.{ℕ, List, [], sym, subst, arith}
+use Rattle.trace_reading.specs.Reading.{HasRead}
+use Rattle.trace_reading.proofs.ReadingLemmas.{before_all, new_read, new_sound, new_weight}
 use Rattle.trace_reading.proofs.trace_reader.TraceReader.new.Goals as goal
+
+pub returns-clause-sound : goal.returns-clause-sound
+returns-clause-sound g c = record {
+  sound = new_sound c.args.tables (g.F.Follower.view c.args.follower) c.requires.nodes c.requires.infos c.requires.new;
+  given_held = omega (arith, c.suppressions-given.ensures.count);
+}
 
 pub returns-clause-read : goal.returns-clause-read
 returns-clause-read g c = λ given stands.
-    let trace = c.in_ok-trace.trace in
-    let same : trace.tables ≡ c.args.tables = c.in_ok-trace.ensures.tables in
-    let all : patterns_before c.suppressions-given.result trace.tables ≡ trace.tables.patterns =
-    before_all c.suppressions-given.result trace.tables (c.suppressions-given.ensures.count ∙ ap (λ (t : TableState). length t.patterns) (sym same)) in
-    let held : trace.tables.patterns ≡ patterns_of given =
-    ap (λ (t : TableState). t.patterns) (same ∙ stands.tables_is) ∙ append-nil (patterns_of given) in
-    record {
-      given = given;
-      patterns_are = all ∙ held;
-      tables_of = subst (λ tables. StandsAfter tables given []) (sym same) stands;
-      peaks_of = c.in_ok-trace.ensures.peaks;
-    }
+    let follower = g.F.Follower.view c.args.follower in
+    subst (λ (before : List (List ℕ)). HasRead c.args.tables follower before []) (sym (before_all c.suppressions-given.result c.args.tables c.suppressions-given.ensures.count))
+    (new_read c.args.tables follower given c.requires.new stands)
+
+pub returns-clause-patterns : goal.returns-clause-patterns
+returns-clause-patterns g c = before_all c.suppressions-given.result c.args.tables c.suppressions-given.ensures.count
+
+pub returns-clause-weight : goal.returns-clause-weight
+returns-clause-weight g c = new_weight c.args.tables (g.F.Follower.view c.args.follower) c.requires.nodes c.requires.new

@@ -1,0 +1,81 @@
+//! Peaks and the lifetimes of blocks, as what follows a trace.
+ghost use Rattle.std.specs.Prelude.{IfOk};
+ghost use Rattle.ht_trace.specs.TableState.{TableState};
+ghost use Rattle.trace_profiles.specs.LivesView.{lives_view};
+ghost use Rattle.trace_reading.specs.Following.{IsNew};
+
+use command_frame::LineRefusal;
+use dhat_metrics::Lifetimes;
+use hp_num::NoMemory;
+use ht_trace::Tables;
+use live_ledger::{Event, EventFault, Ledger};
+use peak_costs::Peaks;
+use std::alloc::Global;
+use trace_reading::{Follower, take_event};
+
+/// Peaks, and the lifetimes of blocks, which take each event that the peaks took.
+#[derive(Drop)]
+pub struct Lives {
+    pub peaks: Peaks,
+    pub lifetimes: Lifetimes,
+}
+
+impl Lives {
+    /// What has followed nothing, or `NoMemory`.
+    pub fn new(alloc: Global) -> Result<Lives, NoMemory>
+        ensures { IfOk result
+            (λ lives. (tables : TableState)
+            → IsNew tables (lives_view lives.peaks lives.lifetimes)) }
+    {
+        let lifetimes = Lifetimes::new(alloc)?;
+        let peaks = Peaks::new(alloc)?;
+        Ok(Lives { peaks, lifetimes })
+    }
+}
+
+impl Follower for Lives {
+    ghost use Rattle.trace_reading.specs.TraceReport.{ledger_faults};
+
+    ghost view = { λ lives. lives_view lives.peaks lives.lifetimes };
+
+    ghost faults = { ledger_faults };
+
+    // It makes `dhat` a tenth faster.
+    const APART: bool = true;
+
+    #[inline(always)]
+    fn ledger(&self) -> &Ledger {
+        self.peaks.ledger()
+    }
+
+    #[inline(always)]
+    fn goes_on(&self) {}
+
+    fn stack(&mut self, _tables: &Tables) -> Result<(), NoMemory> {
+        match self.peaks.grow_stack() {
+            Ok(_) => match self.lifetimes.grow_stack() {
+                Ok(_) => Ok(()),
+                Err(error) => Err(error),
+            },
+            Err(error) => Err(error),
+        }
+    }
+
+    fn info(&mut self, stack: u32, size: u64, _tables: &Tables) -> Result<(), NoMemory> {
+        match self.peaks.grow_info(stack, size) {
+            Ok(_) => Ok(()),
+            Err(error) => Err(error),
+        }
+    }
+
+    #[inline(always)]
+    fn event(&mut self, event: Event, _tables: &Tables) -> Result<(), LineRefusal<EventFault>> {
+        match take_event(&mut self.peaks, event) {
+            Ok(()) => {
+                self.lifetimes.apply(event);
+                Ok(())
+            }
+            Err(fault) => Err(LineRefusal::Fault(fault)),
+        }
+    }
+}

@@ -1,0 +1,248 @@
+-- One step of tables and of a follower beside them.
+use Rattle.std.proofs.Common.{◌≡◌, ℕ, ◌+◌, ◌*◌, ◌^◌, ◌<◌, ◌≤◌, List, [], ◌∷◌, ◌++◌, length, take, drop, length-drop, length-append, None, refl, ap, ap₂, sym, subst, ◌∙◌, append-nil, arith}
+use Rattle.std.proofs.lemmas.List.{take-append-le, take_all}
+use Rattle.std.specs.Option.{option_map, option_or, option_to_list}
+use Rattle.live_ledger.specs.declared.event.Event.{Event}
+use Rattle.live_ledger.specs.declared.event.Event.TheVariants.{Alloc, Free, Tick}
+use Rattle.peak_costs.specs.Peak as peaks
+use Rattle.peak_costs.specs.PeakState.{PeakState}
+use Rattle.ht_trace.specs.declared.step.Step.{Step}
+use Rattle.ht_trace.specs.declared.step.Step.TheVariants as step
+use Rattle.ht_trace.specs.Continues.{Extends}
+use Rattle.ht_trace.specs.HeldStack.{HasHeldEvent}
+use Rattle.ht_trace.specs.LedgerFits.{CanTake, Grows, IsBeside, infos_in, least_length, least_length_of, stacks_in}
+use Rattle.ht_trace.specs.HeldStack.{HasHeldStack}
+use Rattle.ht_trace.specs.LineFault as tables
+use Rattle.ht_trace.specs.Pattern.{patterns_of}
+use Rattle.ht_trace.specs.StandsFor.{StandsAfter, StandsFor}
+use Rattle.ht_trace.specs.StepOf.{event_of, step_of}
+use Rattle.ht_trace.specs.TableState.{TableState}
+use Rattle.ht_trace.specs.TraceEvents.{events}
+use Rattle.live_ledger.specs.LedgerState.{IsHeld, LedgerState}
+use Rattle.command_frame.proofs.Laws.{nothing_taken}
+use Rattle.trace_reading.proofs.BatchLemmas.{line_more}
+use Rattle.trace_reading.specs.Batch.{PassesFront}
+use Rattle.trace_reading.specs.Following.{Following, HasFollowed, IsAsBefore, IsNew, MayTake, events_in}
+use Rattle.trace_reading.specs.PeaksView.{peaks_view}
+use Rattle.trace_reading.specs.Reading.{HasRead, HasReadEvent, HasReadEvents, IsSound, weight_of}
+use Rattle.trace_reading.specs.TraceFault.{told}
+use Rattle.trace_reading.specs.TraceReport.{EventFaults, content_fault, fault_among, patterns_before, tables_behind, trace_report}
+use Rattle.trace_reading.specs.declared.fault.TraceFault.TheVariants.{Line, Event as event_fault}
+
+-- peaks of no events have followed nothing
+pub new_peaks : (made : PeakState) → peaks.StandsFor made [] → made.ledger.stacks ≡ 1 → made.ledger.infos ≡ [] → (now : TableState) → IsNew now (peaks_view made)
+new_peaks made stands stacks infos now = record {
+  sound = tt;
+  stacks = stacks;
+  infos = infos;
+  events = stands.ledger.figures.events_is;
+  stands = stands;
+}
+
+-- a trace of which no line was read is sound
+pub new_sound : (now : TableState) (follower : Following) → now.nodes ≡ [] → now.infos ≡ [] → IsNew now follower → IsSound now follower
+new_sound now follower nodes infos fresh = record {
+  beside = record {
+    stacks = omega (arith, fresh.stacks, ap length nodes);
+    infos = fresh.infos ∙ sym infos;
+  };
+  follower_sound = fresh.sound;
+  taken = [];
+  stands = fresh.stands;
+  few = omega (arith, fresh.events, ap length nodes);
+}
+
+-- and weighs nothing
+pub new_weight : (now : TableState) (follower : Following) → now.nodes ≡ [] → IsNew now follower → weight_of now follower ≡ 0
+new_weight now follower nodes fresh = omega (arith, fresh.events, ap length nodes)
+
+-- no line was read of it, behind the patterns that its tables hold
+pub new_read : (now : TableState) (follower : Following) (given : List (List ℕ)) → IsNew now follower → StandsAfter now given [] → HasRead now follower now.patterns []
+new_read now follower given fresh stands = record {
+  given = given;
+  patterns_are = ap (λ (t : TableState). t.patterns) stands.tables_is ∙ append-nil (patterns_of given);
+  tables_of = stands;
+  stands = fresh.stands;
+}
+
+-- where no patterns were given before, what is made of a trace is that of its lines alone, by the writer that was handed in
+pub new_report : {W : Type 0} (faults : EventFaults) (text : W → List (List ℕ) → List (List ℕ) → List ℕ) (before : List (List ℕ)) (now : TableState) (given handed : W) → StandsFor now [] → before ≡ now.patterns
+    → given ≡ handed → trace_report faults before (text given before) ≡ trace_report faults [] (text handed [])
+new_report faults text before now given handed stands patterns writer =
+    let none : before ≡ [] = patterns ∙ ap (λ (t : TableState). t.patterns) stands.tables_is in
+    ap (λ patterns. trace_report faults patterns (text given patterns)) none ∙ ap (λ writer. trace_report faults [] (text writer [])) writer
+
+-- patterns that were given before stay where more come
+pub before_stays : (given : ℕ) (old new : List (List ℕ)) → Extends old new → given ≤ length old → take given new ≡ take given old
+before_stays given old new more held = ap (take given) more.1 ∙ take-append-le given old more.0 held
+
+-- and they are held still
+pub held_still : (given : ℕ) (old new : List (List ℕ)) → Extends old new → given ≤ length old → given ≤ length new
+held_still given old new more held = omega (arith, ap length more.1, length-append old more.0, held)
+
+-- at the first line, the patterns that were given are all
+pub before_all : (given : ℕ) (now : TableState) → given ≡ length now.patterns → patterns_before given now ≡ now.patterns
+before_all given now count = take_all given now.patterns (omega arith)
+
+-- tables that stand for lines are those behind the patterns
+pub tables_are : (now : TableState) (given patterns lines : List (List ℕ)) → patterns ≡ patterns_of given → StandsAfter now given lines → now ≡ tables_behind patterns lines
+tables_are now given patterns lines are stands = stands.tables_is ∙ ap (λ before. tables_behind before lines) (sym are)
+
+-- the fault of a line beside the tables is that behind the texts of suppressions that were given
+pub fault_behind : (given patterns lines : List (List ℕ)) (line : List ℕ) → patterns ≡ patterns_of given → tables.fault_in (tables_behind patterns lines) line ≡ tables.line_fault_after given lines line
+fault_behind given patterns lines line are = ap (λ before. tables.fault_in (tables_behind before lines) line) are
+
+-- the fault of a line that the tables take is that of what it brings
+pub taken_line : (faults : EventFaults) (now : TableState) (given patterns earlier : List (List ℕ)) (line : List ℕ) (brought : Step) → patterns ≡ patterns_of given
+    → tables.line_fault_after given earlier line ≡ None → StandsAfter now given (earlier ++ line ∷ []) → brought ≡ step_of earlier line
+    → content_fault faults patterns earlier line ≡ option_map (λ fault. told (event_fault fault)) (fault_among faults now (events earlier) (event_of brought))
+taken_line faults now given patterns earlier line brought are none stands is =
+    ap₂ (λ found followed. option_or (option_map (λ error. told (Line error)) found) (option_map (λ fault. told (event_fault fault)) followed))
+    (fault_behind given patterns earlier line are ∙ none)
+    (ap₂ (λ state says. fault_among faults state (events earlier) (event_of says)) (sym (tables_are now given patterns (earlier ++ line ∷ []) are stands)) (sym is))
+
+-- what a step adds to the weight is within its line
+event_weight : (event : Event) → 4 ≤ least_length_of event + 1
+event_weight (Alloc info stack size) = omega arith
+event_weight (Free info stack size) = omega arith
+event_weight (Tick ms) = omega arith
+
+step_weight : (brought : Step) → 4 * events_in brought + stacks_in brought ≤ least_length brought + 1
+step_weight step.Nothing = omega arith
+step_weight step.Stack = omega arith
+step_weight (step.Info stack size) = omega arith
+step_weight (step.Event event) = omega (arith, event_weight event)
+
+pub weight_still : (old new : TableState) (follower grown : Following) (brought : Step) (size : ℕ) → Grows old brought new → HasFollowed new follower grown brought → least_length brought ≤ size
+    → weight_of new grown ≤ weight_of old follower + size + 1
+weight_still old new follower grown brought size grows followed least = omega (arith, step_weight brought, grows.stacks, followed.events, least)
+
+-- tables and a follower that took a step are sound still
+pub sound_still : (old new : TableState) (follower grown : Following) (brought : Step) (sound : IsSound old follower) → Grows old brought new → HasFollowed new follower grown brought
+    → follower.stands new sound.taken → weight_of new grown ≤ 2 ^ 34 + 1 → IsSound new grown
+sound_still old new follower grown brought sound grows followed stands few = record {
+  beside = record {
+    stacks = omega (arith, followed.stacks, sound.beside.stacks, grows.stacks);
+    infos = followed.infos ∙ (ap (λ infos. infos ++ infos_in brought) sound.beside.infos ∙ sym grows.infos);
+  };
+  follower_sound = followed.sound;
+  taken = sound.taken ++ option_to_list (event_of brought);
+  stands = followed.stands sound.taken stands;
+  few = few;
+}
+
+-- what a line brings may be taken, beside the tables with it
+pub may_take : (old new : TableState) (follower : Following) (brought : Step) (size : ℕ) (sound : IsSound old follower) → CanTake follower.ledger brought → HasHeldStack new brought → Grows old brought new
+    → follower.stands new sound.taken → least_length brought ≤ size → weight_of old follower + size ≤ 2 ^ 34 → MayTake new follower brought
+may_take old new follower brought size sound can held grows stands least room = record {
+  sound = sound.follower_sound;
+  taken = sound.taken;
+  stands = stands;
+  can = can;
+  stacks = omega (arith, sound.beside.stacks, grows.stacks);
+  stack_held = held;
+  room = omega (arith, least, room);
+}
+
+-- what tables and follower have read, with one line more
+pub has_read : (old new : TableState) (follower grown : Following) (line : List ℕ) (brought : Step) → HasFollowed new follower grown brought
+    → ((taken : List Event) → follower.stands old taken → follower.stands new taken)
+    → ((given lines : List (List ℕ)) → StandsAfter old given lines → StandsAfter new given (lines ++ line ∷ []))
+    → ((given lines : List (List ℕ)) → StandsAfter old given lines → events (lines ++ line ∷ []) ≡ events lines ++ option_to_list (event_of brought))
+    → (patterns lines : List (List ℕ)) → HasRead old follower patterns lines → HasRead new grown patterns (lines ++ line ∷ [])
+has_read old new follower grown line brought followed goes stands brings patterns lines has = record {
+  given = has.given;
+  patterns_are = has.patterns_are;
+  tables_of = stands has.given lines has.tables_of;
+  stands = subst (grown.stands new) (sym (brings has.given lines has.tables_of)) (followed.stands (events lines) (goes (events lines) has.stands));
+}
+
+-- tables that pass the line of an event don't grow
+pub same_tables : (now : TableState) (event : Event) → Grows now (step.Event event) now
+same_tables now event = record { stacks = omega arith; infos = sym (append-nil now.infos) }
+
+-- the line of an event at the front may be taken
+pub may_take_event : (now : TableState) (follower : Following) (event : Event) (size : ℕ) → IsSound now follower → IsHeld follower.ledger event → HasHeldEvent now event → least_length_of event ≤ size
+    → weight_of now follower + size ≤ 2 ^ 34 → MayTake now follower (step.Event event)
+may_take_event now follower event size sound held stack least room = may_take now now follower (step.Event event) size sound held stack (same_tables now event) sound.stands least room
+
+-- and it was read where the follower took it
+pub event_read : (faults : EventFaults) (now : TableState) (follower grown : Following) (ready : List ℕ) (bytes : ℕ) (event : Event) → IsSound now follower → PassesFront now ready bytes event → 3 < bytes
+    → bytes ≤ length ready → weight_of now follower + length ready ≤ 2 ^ 34 → HasFollowed now follower grown (step.Event event) → ((taken : List Event) → follower.stands now taken → faults now taken event ≡ None)
+    → HasReadEvent faults now follower grown ready bytes
+event_read faults now follower grown ready bytes event sound front least held room followed none =
+    let weight : weight_of now grown ≤ weight_of now follower + bytes = omega (arith, followed.events, least) in
+    record {
+      sound = sound_still now now follower grown (step.Event event) sound (same_tables now event) followed sound.stands (omega (arith, weight, held, room));
+      some = omega (arith, least);
+      held = held;
+      weight = weight;
+      taken = λ patterns text. record {
+        line = front.line;
+        one_line = front.one_line;
+        short = front.short;
+        rest = front.rest;
+        split = front.split;
+        size = front.size;
+        no_fault = λ earlier has.
+            taken_line faults now has.given patterns earlier front.line (step.Event event) has.patterns_are (front.passes.no_fault has.given earlier has.tables_of) (front.passes.stands has.given earlier has.tables_of)
+            (sym (front.passes.brings has.given earlier has.tables_of))
+            ∙ ap (option_map (λ fault. told (event_fault fault))) (none (events earlier) has.stands);
+        gained = λ earlier has. refl;
+        taken = has_read now now follower grown front.line (step.Event event) followed (λ taken stands. stands) front.passes.stands front.passes.events patterns;
+      };
+    }
+
+-- before any line
+pub none_read : (faults : EventFaults) (now : TableState) (follower : Following) (ready : List ℕ) → IsSound now follower → HasReadEvents faults now follower follower ready 0 0
+none_read faults now follower ready sound = record {
+  sound = sound;
+  held = omega arith;
+  weight = omega arith;
+  taken = λ patterns text. nothing_taken (trace_report faults patterns text) (HasRead now follower patterns) ready;
+}
+
+-- nothing more, where the follower is as before
+pub events_kept : (faults : EventFaults) (now : TableState) (first old new : Following) (ready : List ℕ) (bytes number : ℕ) → HasReadEvents faults now first old ready bytes number → IsAsBefore old new
+    → HasReadEvents faults now first new ready bytes number
+events_kept faults now first old new ready bytes number so_far kept = record {
+  sound = record {
+    beside = subst (IsBeside now) (sym kept.ledger) so_far.sound.beside;
+    follower_sound = kept.sound so_far.sound.follower_sound;
+    taken = so_far.sound.taken;
+    stands = kept.stands now so_far.sound.taken so_far.sound.stands;
+    few = subst (λ (ledger : LedgerState). 4 * ledger.totals.events + length now.nodes ≤ 2 ^ 34 + 1) (sym kept.ledger) so_far.sound.few;
+  };
+  held = so_far.held;
+  weight = subst (λ (ledger : LedgerState). 4 * ledger.totals.events + length now.nodes ≤ weight_of now first + bytes) (sym kept.ledger) so_far.weight;
+  taken = λ patterns text.
+      let front = so_far.taken patterns text in
+      record {
+        lines = front.lines;
+        texts = front.texts;
+        short = front.short;
+        text = front.text;
+        count = front.count;
+        good = front.good;
+        gained = front.gained;
+        taken = λ earlier has.
+            let read = front.taken earlier has in
+            record {
+              given = read.given;
+              patterns_are = read.patterns_are;
+              tables_of = read.tables_of;
+              stands = kept.stands now (events (earlier ++ front.lines)) read.stands;
+            };
+      };
+}
+
+-- one line more
+pub events_more : (faults : EventFaults) (now : TableState) (first old new : Following) (ready : List ℕ) (bytes number more : ℕ) → bytes ≤ length ready
+    → HasReadEvents faults now first old ready bytes number → HasReadEvent faults now old new (drop bytes ready) more → HasReadEvents faults now first new ready (bytes + more) (number + 1)
+events_more faults now first old new ready bytes number more within so_far one = record {
+  sound = one.sound;
+  held = omega (arith, one.held, length-drop bytes ready, within);
+  weight = omega (arith, one.weight, so_far.weight);
+  taken = λ patterns text.
+      line_more (trace_report faults patterns text) (HasRead now first patterns) (HasRead now old patterns) (HasRead now new patterns) ready bytes number more (so_far.taken patterns text) (one.taken patterns text);
+}

@@ -1,5 +1,0 @@
-use Rattle.trace_reading.proofs.read_trace.take_event.Given as goal
-
--- the counter is of the blank ledger that is passed
-abbrev pub ghosts-apply_uncounted : goal.ghosts-apply_uncounted
-ghosts-apply_uncounted a = record { name = a.blank.name; parts = a.blank.parts }

@@ -1,0 +1,86 @@
+-- What was read of a trace: tables, and a follower beside them.
+use Rattle.std.specs.Prelude.{◌≡◌, ℕ, ◌+◌, ◌*◌, ◌^◌, ◌<◌, ◌≤◌, List, [], ◌∷◌, ◌++◌, length, None}
+use Rattle.hp_outside.specs.Lines.{lines_of}
+use Rattle.live_ledger.specs.declared.event.Event.{Event}
+use Rattle.ht_trace.specs.LedgerFits.{IsBeside}
+use Rattle.ht_trace.specs.Pattern.{patterns_of}
+use Rattle.ht_trace.specs.StandsFor.{StandsAfter}
+use Rattle.ht_trace.specs.TableState.{TableState}
+use Rattle.ht_trace.specs.TraceEvents.{events}
+use Rattle.command_frame.specs.Batch.{HasTakenFront}
+use Rattle.trace_reading.specs.Batch.{HasTakenLine}
+use Rattle.trace_reading.specs.Following.{Following}
+use Rattle.trace_reading.specs.TraceReport.{EventFaults, HaveNoFault, content_fault, trace_report}
+
+-- what the lines that were read take at least
+abbrev pub weight_of : TableState → Following → ℕ
+weight_of tables follower = 4 * follower.ledger.totals.events + length tables.nodes
+
+-- the follower has the stacks and infos of the tables and stands for some events beside them, and the lines may be those of
+-- a file
+pub record IsSound (tables : TableState) (follower : Following) : Type 0 where
+  pub beside : IsBeside tables follower.ledger
+  pub follower_sound : follower.sound
+  pub taken : List Event
+  pub stands : follower.stands tables taken
+  pub few : weight_of tables follower ≤ 2 ^ 34 + 1
+
+-- the tables stand for these lines, behind texts of suppressions that have the patterns, and the follower for their events
+pub record HasRead (tables : TableState) (follower : Following) (patterns lines : List (List ℕ))
+    : Type 0 where
+  pub given : List (List ℕ)
+  pub patterns_are : patterns ≡ patterns_of given
+  pub tables_of : StandsAfter tables given lines
+  pub stands : follower.stands tables (events lines)
+
+-- a line was read, which had no fault
+pub record HasReadLine (faults : EventFaults) (tables : TableState) (follower : Following)
+    (grown : TableState) (grown_follower : Following) (line : List ℕ) : Type 0 where
+  pub sound : IsSound grown grown_follower
+  pub weight : weight_of grown grown_follower ≤ weight_of tables follower + length line + 1
+  pub no_fault : (patterns lines : List (List ℕ)) → HasRead tables follower patterns lines
+      → content_fault faults patterns lines line ≡ None
+  pub read : (patterns lines : List (List ℕ)) → HasRead tables follower patterns lines
+      → HasRead grown grown_follower patterns (lines ++ line ∷ [])
+
+-- the first so many of these bytes are the line of an event, which was read and had no fault
+pub record HasReadEvent (faults : EventFaults) (tables : TableState) (old new : Following)
+    (ready : List ℕ) (bytes : ℕ) : Type 0 where
+  pub sound : IsSound tables new
+  pub some : 0 < bytes
+  pub held : bytes ≤ length ready
+  pub weight : weight_of tables new ≤ weight_of tables old + bytes
+  pub taken : (patterns : List (List ℕ)) (text : List (List ℕ) → List ℕ)
+      → HasTakenLine (trace_report faults patterns text) (HasRead tables old patterns)
+      (HasRead tables new patterns) ready bytes
+
+-- the first so many of these bytes are so many lines of events, which were read and had no fault
+pub record HasReadEvents (faults : EventFaults) (tables : TableState) (old new : Following)
+    (ready : List ℕ) (bytes number : ℕ) : Type 0 where
+  pub sound : IsSound tables new
+  pub held : bytes ≤ length ready
+  pub weight : weight_of tables new ≤ weight_of tables old + bytes
+  pub taken : (patterns : List (List ℕ)) (text : List (List ℕ) → List ℕ)
+      → HasTakenFront (trace_report faults patterns text) (HasRead tables old patterns)
+      (HasRead tables new patterns) ready bytes number
+
+-- all lines of a text but those of what is left of it were read without a fault, behind all lines that were read before
+pub record HasReadTo (faults : EventFaults) (tables : TableState) (follower : Following)
+    (grown : TableState) (grown_follower : Following) (text left : List ℕ) : Type 0 where
+  pub sound : IsSound grown grown_follower
+  pub lines : List (List ℕ)
+  pub split : lines_of text ≡ lines ++ lines_of left
+  pub read : (patterns earlier : List (List ℕ)) → HasRead tables follower patterns earlier
+      → HasRead grown grown_follower patterns (earlier ++ lines)
+  pub good : (patterns earlier : List (List ℕ)) → HasRead tables follower patterns earlier
+      → HaveNoFault faults patterns earlier lines
+
+-- all lines of a text were read without a fault, behind all lines that were read before
+pub record HasReadText (faults : EventFaults) (tables : TableState) (follower : Following)
+    (grown : TableState) (grown_follower : Following) (text : List ℕ) : Type 0 where
+  pub sound : IsSound grown grown_follower
+  pub weight : weight_of grown grown_follower ≤ weight_of tables follower + length text + 1
+  pub read : (patterns earlier : List (List ℕ)) → HasRead tables follower patterns earlier
+      → HasRead grown grown_follower patterns (earlier ++ lines_of text)
+  pub good : (patterns earlier : List (List ℕ)) → HasRead tables follower patterns earlier
+      → HaveNoFault faults patterns earlier (lines_of text)

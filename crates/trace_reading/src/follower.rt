@@ -1,0 +1,58 @@
+//! What follows the events of a trace, grown step by step beside the tables. What a line says, and which numbers it may name,
+//! is the tables' part.
+ghost use Rattle.std.specs.Prelude.{◌≡◌, List, Option, OnErr, OnOk};
+ghost use Rattle.live_ledger.specs.declared.event.Event.{Event};
+ghost use Rattle.live_ledger.specs.declared.event.EventFault.{EventFault};
+ghost use Rattle.ht_trace.specs.Continues.{Continues};
+ghost use Rattle.ht_trace.specs.TableState.{TableState};
+ghost use Rattle.ht_trace.specs.declared.step.Step.TheVariants as step;
+ghost use Rattle.trace_reading.specs.Following.{AnswersFault, Following, HasFollowed, IsAsBefore, MayTake};
+
+use command_frame::LineRefusal;
+use hp_num::NoMemory;
+use ht_trace::Tables;
+use live_ledger::{Event, EventFault, Ledger};
+
+/// What follows the events of a trace. The tables that it is handed have the line already whose step it takes.
+pub trait Follower {
+    /// What contracts see of it: its ledger, the lists of events that it stands for, and what always holds of it.
+    ghost view: { Self → Following };
+
+    /// The fault of an event after earlier ones, beside tables that have its line.
+    ghost faults: { TableState → List Event → Event → Option EventFault };
+
+    /// Whether the loop over lines of events stands in a function of its own, and has all registers there. A line that is no
+    /// event then costs a call more.
+    const APART: bool;
+
+    /// Its ledger.
+    fn ledger(&self) -> &Ledger
+        ensures { result.now ≡ (view self.now).ledger };
+
+    /// What it stands for stays so beside tables that have grown. It does nothing.
+    fn goes_on(&self)
+        ensures { (before after : TableState) (taken : List Event) → Continues before after
+            → (view self.now).stands before taken → (view self.now).stands after taken };
+
+    /// Takes the tables' last stack, which is one more. `NoMemory` where memory is wanting; it is of no use then.
+    fn stack(&mut self, tables: &Tables) -> Result<(), NoMemory>
+        requires { MayTake tables.now (view self.old) step.Stack }
+        ensures { OnOk result (HasFollowed tables.now (view self.old) (view self.new) step.Stack) };
+
+    /// Takes an info more, of this stack and with this size in bytes. `NoMemory` where memory is wanting; it is of no use
+    /// then.
+    fn info(&mut self, stack: u32, size: u64, tables: &Tables) -> Result<(), NoMemory>
+        requires { MayTake tables.now (view self.old) (step.Info stack size) }
+        ensures { OnOk result
+            (HasFollowed tables.now (view self.old) (view self.new) (step.Info stack size)) };
+
+    /// Takes an event. `Fault` exactly where it has one; `NoMemory` where an earlier event wanted memory that wasn't there.
+    /// It is as before then. An event that wants memory itself is taken.
+    fn event(&mut self, event: Event, tables: &Tables) -> Result<(), LineRefusal<EventFault>>
+        requires { MayTake tables.now (view self.old) (step.Event event) }
+        ensures followed { OnOk result
+            (HasFollowed tables.now (view self.old) (view self.new) (step.Event event)) }
+        ensures fault { (taken : List Event) → (view self.old).stands tables.now taken
+            → AnswersFault result (faults tables.now taken event) }
+        ensures unchanged { OnErr result (IsAsBefore (view self.old) (view self.new)) };
+}

@@ -1,0 +1,179 @@
+//! The one reader of a trace: its tables, and beside them what follows its events. How lines come from a file, and what is made
+//! of them, is no part of it.
+ghost use Rattle.std.specs.Prelude.{◌≡◌, ℕ, ◌+◌, ◌^◌, ◌<◌, ◌≤◌, List, None, Some, length, IfErr, IfNone, IfSome, OnOk};
+ghost use Rattle.std.specs.Option.{option_map};
+ghost use Rattle.live_ledger.specs.declared.event.Event.{Event};
+ghost use Rattle.ht_trace.specs.Continues.{Continues};
+ghost use Rattle.ht_trace.specs.PassesEvents.{PassesEvents};
+ghost use Rattle.ht_trace.specs.StepOf.{event_of};
+ghost use Rattle.command_frame.specs.Taker.{Tells};
+ghost use Rattle.trace_reading.specs.Following.{HasFollowed, IsAsBefore, MayTake};
+ghost use Rattle.trace_reading.specs.ReadTrace.{HasRead, HasReadEvent, HasReadEvents, HasReadLine, IsSound, RefusesLine, weight_of};
+ghost use Rattle.trace_reading.specs.TraceFault.{told};
+ghost use Rattle.trace_reading.specs.TraceReport.{end_fault, fault_among};
+
+use crate::fault::TraceFault;
+use crate::follower::Follower;
+use crate::front::line_at_front;
+use command_frame::{Batch, LineRefusal};
+use ht_trace::{LineError, Step, Tables};
+
+/// The tables of a trace and what follows its events, which are grown step by step together.
+#[derive(Drop)]
+pub struct Trace<F> {
+    pub tables: Tables,
+    pub follower: F,
+}
+
+impl<F: Follower> Trace<F> {
+    /// Reads the next line. `Fault` exactly where it has one after the lines before it, `NoMemory` where memory is wanting;
+    /// this is of no use then.
+    pub fn line(&mut self, line: &[u8]) -> Result<(), LineRefusal<TraceFault>>
+        requires sound { IsSound F.view self.old }
+        requires short { length line.now < 2 ^ 32 }
+        requires room { weight_of F.view self.old + length line.now ≤ 2 ^ 34 }
+        ensures read { OnOk result (HasReadLine F.faults F.view self.old self.new line.now) }
+        ensures fault { IfErr result
+            (λ refusal. RefusesLine F.faults F.view self.old line.now refusal) }
+        ensures continues { Continues self.old.tables self.new.tables }
+    {
+        self.follower.goes_on();
+        match self.tables.line(line) {
+            Ok(step) => match take_step(&mut self.follower, &self.tables, step) {
+                Ok(()) => Ok(()),
+                Err(refusal) => Err(refusal),
+            },
+            Err(LineError::NoMemory) => Err(LineRefusal::NoMemory),
+            Err(error) => Err(LineRefusal::Fault(TraceFault::Line(error))),
+        }
+    }
+
+    /// Whether the trace may end here, which from then on says that lines of events may be read many at a time.
+    pub fn end(&self) -> Result<(), TraceFault>
+        ensures no_fault { OnOk result
+            ((patterns lines : List (List ℕ)) → HasRead F.view self.now patterns lines
+            → end_fault lines ≡ None) }
+        ensures fault { IfErr result
+            (λ fault. (patterns lines : List (List ℕ)) → HasRead F.view self.now patterns lines
+            → end_fault lines ≡ Some (told fault)) }
+        ensures passes { OnOk result (PassesEvents self.now.tables) }
+    {
+        match self.tables.end() {
+            Ok(()) => Ok(()),
+            Err(error) => Err(TraceFault::Line(error)),
+        }
+    }
+
+    /// Reads lines at the front of the bytes, as `line` would, as long as each is that of an event in its usual form, its
+    /// info is held, and it has no fault; none before a version line.
+    pub fn front(&mut self, ready: &[u8]) -> Batch
+        requires sound { IsSound F.view self.old }
+        requires room { weight_of F.view self.old + length ready.now ≤ 2 ^ 34 }
+        ensures tables { self.new.tables ≡ self.old.tables }
+        ensures read { HasReadEvents F.faults F.view self.old self.new ready.now result.bytes
+            result.lines }
+    {
+        match self.end() {
+            Ok(()) => {
+                if F::APART {
+                    self.events_apart(ready)
+                } else {
+                    self.events(ready)
+                }
+            }
+            Err(_) => Batch { bytes: 0, lines: 0 },
+        }
+    }
+
+    /// Reads lines of events at the front of the bytes, in a function of its own. A version line was read before.
+    #[inline(never)]
+    fn events_apart(&mut self, ready: &[u8]) -> Batch
+        requires sound { IsSound F.view self.old }
+        requires passes { PassesEvents self.old.tables }
+        requires room { weight_of F.view self.old + length ready.now ≤ 2 ^ 34 }
+        ensures tables { self.new.tables ≡ self.old.tables }
+        ensures read { HasReadEvents F.faults F.view self.old self.new ready.now result.bytes
+            result.lines }
+    {
+        self.events(ready)
+    }
+
+    /// The same, in the function that calls it.
+    #[inline(always)]
+    fn events(&mut self, ready: &[u8]) -> Batch
+        requires sound { IsSound F.view self.old }
+        requires passes { PassesEvents self.old.tables }
+        requires room { weight_of F.view self.old + length ready.now ≤ 2 ^ 34 }
+        ensures tables { self.new.tables ≡ self.old.tables }
+        ensures read { HasReadEvents F.faults F.view self.old self.new ready.now result.bytes
+            result.lines }
+    {
+        let mut rest = ready;
+        let mut lines = 0;
+        'lines: loop {
+            let Some(bytes) = self.event(rest) else {
+                return Batch {
+                    bytes: ready.len() - rest.len(),
+                    lines,
+                };
+            };
+            rest = &rest[bytes..];
+            lines += 1;
+        }
+    }
+
+    /// Reads the line of an event at the front, and answers how many bytes it has with its line feed. Where it answers
+    /// `None`, nothing was read.
+    #[inline(always)]
+    fn event(&mut self, ready: &[u8]) -> Option<usize>
+        requires sound { IsSound F.view self.old }
+        requires passes { PassesEvents self.old.tables }
+        requires room { weight_of F.view self.old + length ready.now ≤ 2 ^ 34 }
+        ensures tables { self.new.tables ≡ self.old.tables }
+        ensures read { IfSome result
+            (λ bytes. HasReadEvent F.faults F.view self.old self.new ready.now bytes) }
+        ensures unread { IfNone result
+            (IsAsBefore (F.view self.old.follower) (F.view self.new.follower)) }
+    {
+        let line = line_at_front(self.follower.ledger(), ready)?;
+        match self.follower.event(line.event, &self.tables) {
+            Ok(()) => Some(line.bytes),
+            Err(_) => None,
+        }
+    }
+}
+
+/// Takes what a line brings beside the tables, which have it already.
+fn take_step<F: Follower>(
+    follower: &mut F,
+    tables: &Tables,
+    step: Step,
+) -> Result<(), LineRefusal<TraceFault>>
+    requires { MayTake tables.now (F.view follower.old) step }
+    ensures followed { OnOk result
+        (HasFollowed tables.now (F.view follower.old) (F.view follower.new) step) }
+    ensures no_fault { OnOk result
+        ((taken : List Event) → (F.view follower.old).stands tables.now taken
+        → fault_among F.faults tables.now taken (event_of step) ≡ None) }
+    ensures fault { IfErr result
+        (λ refusal. (taken : List Event) → (F.view follower.old).stands tables.now taken
+        → Tells told refusal (option_map (λ fault. told (TraceFault.Event fault))
+        (fault_among F.faults tables.now taken (event_of step)))) }
+{
+    match step {
+        Step::Nothing => Ok(()),
+        Step::Stack => {
+            follower.stack(tables)?;
+            Ok(())
+        }
+        Step::Info { stack, size } => {
+            follower.info(stack, size, tables)?;
+            Ok(())
+        }
+        Step::Event { event } => match follower.event(event, tables) {
+            Ok(()) => Ok(()),
+            Err(LineRefusal::Fault(fault)) => Err(LineRefusal::Fault(TraceFault::Event(fault))),
+            Err(LineRefusal::NoMemory) => Err(LineRefusal::NoMemory),
+        },
+    }
+}
