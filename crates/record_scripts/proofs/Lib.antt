@@ -1,6 +1,8 @@
 mod KeptLemmas
 mod ModuleLemmas
+mod ModuleLength
 mod NodeLemmas
+mod NumberLemmas
 mod ScriptNodeLemmas
 mod SameLemmas
 mod TableLemmas

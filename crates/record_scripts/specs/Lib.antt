@@ -1,5 +1,6 @@
 pub mod Skipped
 pub mod Turns
+pub mod NumberAtFront
 pub mod ScriptLine
 pub mod ModuleLine
 pub mod ModuleLines

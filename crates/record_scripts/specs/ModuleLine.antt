@@ -1,5 +1,6 @@
 -- What a line of a modules file says.
-use Rattle.std.specs.Prelude.{ℕ, Bool, true, false, if◌then◌else◌, List, [], ◌∷◌, ◌++◌, Option, None, Some, Result, Ok, Err}
+use Rattle.std.specs.Prelude.{ℕ, Bool, true, false, ◌==◌, if◌then◌else◌, List, [], ◌∷◌, ◌++◌, Option, None, Some, Result, Ok, Err}
+use Rattle.std.specs.List.{list_any}
 use Rattle.ht_lines.specs.declared.item.Malformed.{Malformed}
 use Rattle.ht_lines.specs.declared.item.Form.TheVariants.{Raw}
 use Rattle.ht_lines.specs.Content.{Content, clear_line, module_line}
@@ -17,6 +18,10 @@ abbrev pub module_text : Result Content Malformed → Option (List ℕ)
 module_text (Ok said) = if is_module said then Some (written 2 said ++ 10 ∷ []) else None
 module_text (Err fault) = None
 
+-- a line feed stands in the text, so that it is no line
+abbrev pub has_line_feed : List ℕ → Bool
+has_line_feed text = list_any (λ b. b == 10) text
+
 -- the text that a line of a modules file gives to the trace: the line is read in file version 2
 abbrev pub module_in : List ℕ → Option (List ℕ)
-module_in line = module_text (reading Raw 2 line)
+module_in line = if has_line_feed line then None else module_text (reading Raw 2 line)

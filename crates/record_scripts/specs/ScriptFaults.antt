@@ -1,5 +1,5 @@
 -- The first fault of a line of a script or of a modules file, after the lines before it, and what the line adds.
-use Rattle.std.specs.Prelude.{◌≡◌, ◌≢◌, ℕ, ◌+◌, if◌then◌else◌, List, [], ◌++◌, length, nat_lt, Option, None, Some, unwrap_or}
+use Rattle.std.specs.Prelude.{◌≡◌, ◌≢◌, ℕ, ◌+◌, if◌then◌else◌, List, [], ◌++◌, length, nat_lt, Option, None, Some, Result, IfErr, OnOk, OnErr, unwrap_or}
 use Rattle.record_scripts.specs.declared.fault.ScriptFault.{ScriptFault}
 use Rattle.record_scripts.specs.declared.fault.ScriptFault.TheVariants.{BadScriptLine, BlockLive, BlockNotLive, TooManyEvents, NoMemory}
 use Rattle.record_scripts.specs.Skipped.{is_skipped}
@@ -61,3 +61,10 @@ with_module_line job line =
 -- the fault is this one, unless memory was wanting
 abbrev pub Tells : ScriptFault → Option ScriptFault → Type 0
 Tells fault found = fault ≢ NoMemory → found ≡ Some fault
+
+-- a turn, or a line that says none, was taken and had no fault; or its fault is told, and all is as it was
+pub record JudgesTurn {T : Type 0} (old new : Job) (said : Option Turn)
+    (result : Result T ScriptFault) : Type 0 where
+  pub no_fault : OnOk result (turn_fault old said ≡ None)
+  pub fault : IfErr result (λ fault. Tells fault (turn_fault old said))
+  pub unchanged : OnErr result (new ≡ old)

@@ -1,7 +1,9 @@
 -- How scripts are kept: each turn with the node of its stack.
-use Rattle.std.specs.Prelude.{◌≡◌, ℕ, ◌*◌, ◌^◌, ◌<◌, ◌≤◌, Bool, List, [], ◌∷◌, length, map, reverse, vec_capacity, vec_len}
+use Rattle.std.specs.Prelude.{◌≡◌, ℕ, ◌+◌, ◌*◌, ◌^◌, ◌<◌, ◌≤◌, Bool, List, [], ◌∷◌, length, map, reverse, vec_capacity, vec_len, Result, IfOk, OnOk, OnErr}
 use Rattle.std.specs.List.{AllByRecursion}
 use Rattle.stack_table.specs.Node.{Node}
+use Rattle.stack_table.specs.Continues.{Continues}
+use Rattle.stack_table.specs.Interned.{stack_interned}
 use Rattle.stack_table.specs.Stack.{stack}
 use Rattle.record_scripts.specs.declared.script_line.ScriptLine.{ScriptLine}
 use Rattle.record_scripts.specs.declared.script_line.ScriptLine.TheVariants.{Allocation as AllocationLine, Free as FreeLine, Reallocation as ReallocationLine}
@@ -9,7 +11,7 @@ use Rattle.record_scripts.specs.declared.turn_entry.TurnEntry.{TurnEntry}
 use Rattle.record_scripts.specs.declared.script.Script.{Script}
 use Rattle.record_scripts.specs.Turns.{AreBounded, Turn, allocates, frees, reallocates, is_live}
 use Rattle.record_scripts.specs.Events.{event_count}
-use Rattle.record_scripts.specs.Job.{last_script}
+use Rattle.record_scripts.specs.Job.{in_last, last_script}
 use Rattle.record_scripts.specs.KeptTurn.{line_kept}
 use Rattle.record_scripts.specs.Playable.{IsInTurn}
 use Rattle.record_scripts.specs.ScriptNodes.{nodes_in}
@@ -66,3 +68,23 @@ pub record AreScripts (nodes : List Node) (scripts : List Script) (live : ℕ �
   pub bounded : AreBounded (scripts_kept nodes scripts)
   pub in_turn : AllByRecursion IsInTurn (scripts_kept nodes scripts)
   pub live_blocks : (id : ℕ) → live id ≡ is_live (last_script (scripts_kept nodes scripts)) id
+
+-- one turn more stands in the last script; where memory was wanting, all is as it was
+pub record PushesTurn {T E : Type 0} (old new : List Script) (turn : TurnEntry)
+    (result : Result T E) : Type 0 where
+  pub pushed : OnOk result ((nodes : List Node)
+      → scripts_kept nodes new ≡ in_last (scripts_kept nodes old) (turn_kept nodes turn))
+  pub same : OnErr result ((nodes : List Node) → scripts_kept nodes new ≡ scripts_kept nodes old)
+  pub count : length new ≡ length old
+
+-- the stack has the number, and its nodes are there, each of one frame; where memory was wanting, the nodes are as they were
+pub record InternsStack {E : Type 0} (old new : List Node) (ips : List ℕ)
+    (result : Result ℕ E) : Type 0 where
+  pub interned : IfOk result
+      (λ node. stack_interned old ips ≡ record { nodes = new; number = node })
+  pub stack_is : IfOk result (λ node. stack new node ≡ ips)
+  pub within : IfOk result (λ node. node ≤ length new)
+  pub few_more : length new ≤ length old + 256
+  pub single : AreSingle (reverse new)
+  pub continues : Continues old new
+  pub unchanged : OnErr result (new ≡ old)

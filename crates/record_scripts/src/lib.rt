@@ -14,9 +14,8 @@
 //!   how many there may be. `is_kept_as` finds scripts of the same lines the same without a look at their stacks.
 //! - The scripts are ones that threads can take (`IsPlayable`, told by `threads`): each turn follows those before it, so
 //!   that none allocates a live block or frees another.
-//! - The text of the modules is whole lines about modules (`AreModuleLines`) as long as no line that is handed to
-//!   `module_line` has a line feed: its clause `lines` says so, `new` begins with none, and `begin` and `line` leave
-//!   the text as it is.
+//! - The text of the modules is whole lines about modules (`AreModuleLines`, told by `modules`): a text with a line feed is no
+//!   line of a module.
 //!
 //! A turn is kept with the node of its stack, so each distinct stack is kept once, and the IDs that are live are kept
 //! for the last script alone. The tests of these calls are in the crate `record_tests`.
@@ -24,21 +23,22 @@
 //! | File | Does |
 //! |---|---|
 //! | `scripts.rt` | the scripts of all threads, and the modules, by the lines of their files |
-//! | `script.rt`, `script_line.rt` | the script of one thread; one line of it |
-//! | `module_line.rt` | one line of a modules file |
-//! | `script_table.rt`, `turn_entry.rt` | how scripts and turns are kept |
+//! | `script.rt`, `turn_entry.rt`, `stacks.rt` | the script of one thread, how a turn of it is kept, and the nodes of stacks |
+//! | `script_line.rt`, `number.rt` | one line of a script, and the number at its front |
+//! | `module_text.rt` | the text of the modules, and one line more |
 //! | `fault.rt` | why a line is refused |
 #![tactic(auto)]
 
 mod fault;
-mod module_line;
+mod module_text;
+mod number;
 mod script;
 mod script_line;
-mod script_table;
 mod scripts;
+mod stacks;
 mod turn_entry;
 
 pub use fault::ScriptFault;
-pub use module_line::FILE_VERSION;
+pub use module_text::FILE_VERSION;
 pub use script_line::ScriptLine;
 pub use scripts::Scripts;

@@ -1,9 +1,8 @@
 //! The script of one thread, and its next turn. What its lines say is no part of it.
 ghost use Rattle.std.specs.Prelude.{◌≡◌, ℕ, ◌<◌, ◌≤◌, List, length, IsTrue, IfSome, IsOk, OnOk, OnErr, option_map, slice_get};
 ghost use Rattle.stack_table.specs.Node.{Node};
-ghost use Rattle.record_scripts.specs.Job.{in_last};
 ghost use Rattle.record_scripts.specs.Turns.{script_at};
-ghost use Rattle.record_scripts.specs.ScriptTurns.{AreHeld, HasRoom, IsHeld, scripts_kept, turn_kept};
+ghost use Rattle.record_scripts.specs.ScriptTurns.{AreHeld, HasRoom, IsHeld, PushesTurn, scripts_kept, turn_kept};
 
 use crate::turn_entry::TurnEntry;
 use hp_num::NoMemory;
@@ -32,19 +31,12 @@ pub fn reserve_turn(scripts: &mut Vec<Script>) -> Result<(), NoMemory>
 /// Appends a turn to the last script. On `NoMemory` the scripts are as before. It can't fail where there is room.
 pub fn push_turn(scripts: &mut Vec<Script>, turn: TurnEntry) -> Result<(), NoMemory>
     requires { 0 < length scripts.old.items }
-    ensures pushed { OnOk result
-        ((nodes : List Node)
-        → scripts_kept nodes scripts.new.items
-        ≡ in_last (scripts_kept nodes scripts.old.items) (turn_kept nodes turn)) }
+    ensures pushes { PushesTurn scripts.old.items scripts.new.items turn result }
     ensures held { OnOk result
         ((count : ℕ) → IsHeld count turn → AreHeld count scripts.old.items
         → AreHeld count scripts.new.items) }
-    ensures same { OnErr result
-        ((nodes : List Node)
-        → scripts_kept nodes scripts.new.items ≡ scripts_kept nodes scripts.old.items) }
     ensures still_held { OnErr result
         ((count : ℕ) → AreHeld count scripts.old.items → AreHeld count scripts.new.items) }
-    ensures count { length scripts.new.items ≡ length scripts.old.items }
     ensures room { HasRoom scripts.old.items → IsOk result }
 {
     let last = scripts.len() - 1;

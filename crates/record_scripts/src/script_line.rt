@@ -7,7 +7,8 @@ ghost use Rattle.record_scripts.specs.ScriptTurns.{turn_said};
 ghost use Rattle.record_scripts.specs.Turns.{IsBounded};
 
 use crate::fault::ScriptFault;
-use ht_lines::{field, next_number};
+use crate::number::first_number;
+use ht_lines::field;
 
 /// The greatest size of a block in bytes.
 const MAX_SIZE: u64 = 1 << 32;
@@ -106,11 +107,11 @@ fn ends_kind(rest: &[u8]) -> bool
 fn read_free(rest: &[u8]) -> Option<u64>
     ensures { result ≡ free_of (fields rest.now) }
 {
-    let (id, after) = next_number(rest)?;
+    let (id, after) = first_number(rest)?;
     if id == 0 {
         field(rest, 0)?;
     }
-    match next_number(after) {
+    match first_number(after) {
         Some(_) => None,
         None => Some(id),
     }
@@ -142,8 +143,8 @@ fn read_size(rest: &[u8]) -> Option<(Block, &[u8])>
     ensures { option_map (λ found. (found.0.id, found.0.size, numbers found.1.now)) result
         ≡ sized_of (fields rest.now) }
 {
-    let (id, after) = next_number(rest)?;
-    let (size, stack) = next_number(after)?;
+    let (id, after) = first_number(rest)?;
+    let (size, stack) = first_number(after)?;
     if id == 0 {
         field(rest, 0)?;
     }
@@ -164,7 +165,7 @@ fn read_ips(stack: &[u8], ips: &mut Vec<u64>) -> Result<(), ScriptFault>
         → (fault ≡ ScriptFault.BadScriptLine) × (are_ips (numbers stack.now) ≡ false)) }
 {
     let mut rest = stack;
-    'ips: while let Some((ip, after)) = next_number(rest) {
+    'ips: while let Some((ip, after)) = first_number(rest) {
         if ip == 0 || ips.len() == MAX_IPS {
             return Err(ScriptFault::BadScriptLine);
         }

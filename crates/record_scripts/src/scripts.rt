@@ -1,24 +1,29 @@
 //! The scripts of all threads, and the modules, by the lines of their files. The order in which the threads take their
 //! turns is no part of it.
-ghost use Rattle.std.specs.Prelude.{◌≡◌, ℕ, ◌-◌, ◌^◌, ◌<◌, ◌≤◌, List, [], ◌∷◌, ◌++◌, length, None, IsTrue, IfErr, IfOk, IfSome, OnOk, OnErr, option_map, slice_get};
+ghost use Rattle.std.specs.Prelude.{◌≡◌, ℕ, ◌-◌, ◌^◌, ◌<◌, ◌≤◌, List, [], ◌∷◌, ◌++◌, length, None, Some, IsTrue, IfErr, IfOk, IfSome, OnOk, OnErr, option_map, slice_get};
 ghost use Rattle.std.specs.Arc.{arc_value};
-ghost use Rattle.ht_lines.specs.OneLine.{IsOneLine};
 ghost use Rattle.stack_table.specs.Stack.{stack};
 ghost use Rattle.record_scripts.specs.Events.{event_count};
 ghost use Rattle.record_scripts.specs.Job.{Job};
 ghost use Rattle.record_scripts.specs.Playable.{IsPlayable};
 ghost use Rattle.record_scripts.specs.ModuleLines.{AreModuleLines};
-ghost use Rattle.record_scripts.specs.ScriptFaults.{Tells, line_fault, module_fault, with_line, with_module_line};
+ghost use Rattle.record_scripts.specs.ScriptFaults.{JudgesTurn, Tells, line_fault, module_fault, turn_fault, with_line, with_module_line, with_turn};
 ghost use Rattle.record_scripts.specs.ScriptNodes.{nodes_in};
 ghost use Rattle.record_scripts.specs.ScriptTurns.{turn_said};
-ghost use Rattle.record_scripts.specs.Turns.{IsBounded, script_at};
+ghost use Rattle.record_scripts.specs.Turns.{IsBounded, allocates, frees, reallocates, script_at};
 
 use crate::fault::ScriptFault;
+use crate::module_text::ModuleText;
+use crate::script::{Script, are_kept_as, push_turn, reserve_turn, turn_at};
 use crate::script_line::{ScriptLine, is_skipped, read_script_line};
-use crate::script_table::ScriptTable;
+use crate::stacks::{are_same_nodes, intern};
+use crate::turn_entry::TurnEntry;
 use hp_num::NoMemory;
+use stack_table::Nodes;
 use std::alloc::Global;
+use std::collections::HashSet;
 use std::marker::Model;
+use std::mem;
 use std::sync::Arc;
 
 /// The scripts of all threads, and the modules: they stand for the lines that were read so far.
@@ -26,29 +31,51 @@ use std::sync::Arc;
 /// Contracts see it as how many events there may be, the text of the modules, and the list of the scripts.
 #[derive(Drop)]
 pub struct Scripts {
-    table: ScriptTable,
+    limit: u64,
+    events: u64,
+    modules: ModuleText,
+    nodes: Nodes,
+    scripts: Vec<Script>,
+    // The IDs that are live in the last script.
+    live: HashSet<u64>,
+    // The ips of a line that is read.
     ips: Vec<u64>,
     alloc: Global,
 }
 
 impl Model for Scripts {
+    ghost use Rattle.std.specs.Prelude.{nat_eq};
+    ghost use Rattle.std.specs.HashSet.{contains};
     ghost use Rattle.record_scripts.specs.Job.{Job};
+    ghost use Rattle.record_scripts.specs.ScriptTurns.{AreScripts, scripts_kept};
 
     ghost Value = { Job };
 
-    ghost view = { λ scripts. scripts.table };
+    ghost view = { λ t. record {
+      limit = t.limit;
+      modules = t.modules;
+      scripts = scripts_kept t.nodes t.scripts.items;
+    } };
+
+    ghost invariant = { λ t.
+        AreScripts t.nodes t.scripts.items (contains nat_eq t.live) t.events t.limit };
 }
 
 impl Scripts {
     /// No scripts and no modules. All scripts together may have up to `order` events, a number below 2^24. It takes no
     /// memory; that of the scripts to come is taken from `alloc`.
+    #[tactic(auto, unfolding(crate::specs::ScriptNodes::nodes_in))]
     pub fn new(alloc: Global, order: u64) -> Scripts
         requires { order < 2 ^ 24 }
         ensures empty { result ≡ record { limit = order; modules = []; scripts = [] } }
-        ensures no_lines { AreModuleLines result.modules }
     {
         Scripts {
-            table: ScriptTable::new(alloc, order),
+            limit: order,
+            events: 0,
+            modules: ModuleText::new(alloc),
+            nodes: Nodes::new(alloc),
+            scripts: Vec::new(alloc),
+            live: HashSet::new(alloc),
             ips: Vec::new(alloc),
             alloc,
         }
@@ -57,8 +84,8 @@ impl Scripts {
     /// Reads the next line of a modules file, without its line feed, of fewer than 2^32 bytes. Empty lines and lines that
     /// begin with `#` say nothing.
     ///
-    /// - `BadScriptLine` exactly where it is neither the line of a module nor one that clears all modules, by the grammar
-    ///   of traces in file version 2;
+    /// - `BadScriptLine` exactly where it has a line feed, or is neither the line of a module nor one that clears all modules,
+    ///   by the grammar of traces in file version 2;
     /// - `NoMemory` only where memory is wanting.
     ///
     /// After a fault the scripts and the modules are as before.
@@ -68,15 +95,11 @@ impl Scripts {
         ensures no_fault { OnOk result (module_fault line.now ≡ None) }
         ensures fault { IfErr result (λ fault. Tells fault (module_fault line.now)) }
         ensures unchanged { OnErr result (self.new ≡ self.old) }
-
-        // Lines without a line feed keep the modules whole lines about modules.
-        ensures lines { IsOneLine line.now → AreModuleLines self.old.modules
-            → AreModuleLines self.new.modules }
     {
         if is_skipped(line) {
             return Ok(());
         }
-        self.table.add_module(line)
+        self.modules.add(line)
     }
 
     /// Opens the script of the next thread, of which there are fewer than 64 before, and answers the thread's number,
@@ -88,7 +111,12 @@ impl Scripts {
         ensures number { IfOk result (λ thread. thread ≡ length self.old.scripts) }
         ensures unchanged { OnErr result (self.new ≡ self.old) }
     {
-        self.table.begin(self.alloc)
+        let thread = self.scripts.len() as u32;
+        self.scripts.push(Script {
+            turns: Vec::new(self.alloc),
+        })?;
+        self.live.clear();
+        Ok(thread)
     }
 
     /// Reads the next line of the script that was opened last, without its line feed. One has to be open. Empty lines and
@@ -114,8 +142,17 @@ impl Scripts {
         if is_skipped(line) {
             return Ok(());
         }
-        let said = read_script_line(line, &mut self.ips)?;
-        self.table.add(said, &self.ips)
+        let mut ips = mem::replace(&mut self.ips, Vec::new(self.alloc));
+        let said = match read_script_line(line, &mut ips) {
+            Ok(said) => said,
+            Err(fault) => {
+                self.ips = ips;
+                return Err(fault);
+            }
+        };
+        let added = self.add(said, &ips);
+        self.ips = ips;
+        added
     }
 
     /// The turn of a thread with the number `place`, counted from 0, or `None` exactly where the thread's script has no such
@@ -138,10 +175,10 @@ impl Scripts {
             (λ said. IfSome said (λ turn. IsBounded (turn_said turn ips.new.items))) }
         ensures few_events { event_count self.now.scripts < 2 ^ 24 }
     {
-        let Some((line, node)) = self.table.turn(thread, place) else {
+        let Some((line, node)) = self.turn(thread, place) else {
             return Ok(None);
         };
-        self.table.stack_into(node, ips)?;
+        self.stack_into(node, ips)?;
         Ok(Some(line))
     }
 
@@ -163,7 +200,8 @@ impl Scripts {
         ensures few_events { event_count self.now.scripts < 2 ^ 24 }
         ensures few_threads { length self.now.scripts ≤ 64 }
     {
-        self.table.turn(thread, place)
+        let entry = turn_at(&self.scripts, thread, place)?;
+        Some((entry.line(), entry.node))
     }
 
     /// The ips of a node, in `ips` in the place of what that held. On `NoMemory` nothing is said of `ips`.
@@ -171,7 +209,7 @@ impl Scripts {
         requires { node ≤ length (nodes_in self.now.scripts) }
         ensures ips { OnOk result (ips.new.items ≡ stack (nodes_in self.now.scripts) node) }
     {
-        self.table.stack_into(node, ips)
+        self.nodes.stack_into(node, ips)
     }
 
     /// How many nodes the stacks of all scripts have, which is the greatest number of a node.
@@ -179,7 +217,7 @@ impl Scripts {
         ensures count { result ≡ length (nodes_in self.now.scripts) }
         ensures bound { result ≤ 2 ^ 32 - 2 }
     {
-        self.table.nodes()
+        self.nodes.len()
     }
 
     /// Whether the other scripts are kept in the same way, as those are that come from the same lines. Where they aren't, they
@@ -187,28 +225,32 @@ impl Scripts {
     pub fn is_kept_as(&self, other: &Scripts) -> bool
         ensures same { IsTrue result → self.now ≡ other.now }
     {
-        self.table.is_kept_as(&other.table)
+        self.limit == other.limit
+            && self.modules() == other.modules()
+            && are_same_nodes(&self.nodes, &other.nodes)
+            && are_kept_as(&self.scripts, &other.scripts)
     }
 
     /// How many events all scripts together may have.
     pub fn limit(&self) -> u64
         ensures limit { result ≡ self.now.limit }
     {
-        self.table.limit()
+        self.limit
     }
 
     /// How many events all scripts have together.
     pub fn events(&self) -> u64
         ensures count { result ≡ event_count self.now.scripts }
     {
-        self.table.events()
+        self.events
     }
 
-    /// The lines of the modules in their written form, each with its line feed.
+    /// The lines of the modules in their written form, each with its line feed. They are whole lines about modules.
     pub fn modules(&self) -> &[u8]
         ensures lines { result.now ≡ self.now.modules }
+        ensures whole { AreModuleLines self.now.modules }
     {
-        self.table.modules()
+        self.modules.bytes()
     }
 
     /// How many scripts were begun, at most 64. Each turn of them follows those before it.
@@ -217,7 +259,7 @@ impl Scripts {
         ensures few { result ≤ 64 }
         ensures playable { IsPlayable self.now }
     {
-        self.table.threads()
+        self.scripts.len() as u32
     }
 
     /// The same scripts, behind a pointer that threads can share.
@@ -227,5 +269,102 @@ impl Scripts {
         let alloc = self.alloc;
         let shared = Arc::new(alloc, self)?;
         Ok(shared)
+    }
+
+    // Appends the turn that a line says, with its ips, to the last script.
+    fn add(&mut self, line: ScriptLine, ips: &[u64]) -> Result<(), ScriptFault>
+        requires begun { 0 < length self.old.scripts }
+        requires bounded { IsBounded (turn_said line ips.now) }
+        ensures added { OnOk result
+            (self.new ≡ with_turn self.old (Some (turn_said line ips.now))) }
+        ensures judged { JudgesTurn self.old self.new (Some (turn_said line ips.now)) result }
+    {
+        match line {
+            ScriptLine::Allocation { id, size } => self.allocate(id, size, ips),
+            ScriptLine::Free { id } => self.free(id),
+            ScriptLine::Reallocation { id, size } => self.reallocate(id, size, ips),
+        }
+    }
+
+    // Appends an allocation to the last script.
+    fn allocate(&mut self, id: u64, size: u64, ips: &[u64]) -> Result<(), ScriptFault>
+        requires begun { 0 < length self.old.scripts }
+        requires few_bytes { size ≤ 2 ^ 32 }
+        requires few_ips { length ips.now ≤ 256 }
+        ensures added { OnOk result
+            (self.new ≡ with_turn self.old (Some (allocates id size ips.now))) }
+        ensures judged { JudgesTurn self.old self.new (Some (allocates id size ips.now)) result }
+    {
+        reserve_turn(&mut self.scripts)?;
+        if !self.live.insert(id)? {
+            return Err(ScriptFault::BlockLive);
+        }
+        if self.limit - self.events < 1 {
+            self.live.remove(&id);
+            return Err(ScriptFault::TooManyEvents);
+        }
+        let Ok(node) = intern(&mut self.nodes, ips) else {
+            self.live.remove(&id);
+            return Err(ScriptFault::NoMemory);
+        };
+        let turn = TurnEntry::new(ScriptLine::Allocation { id, size }, node);
+        push_turn(&mut self.scripts, turn)?;
+        self.events += 1;
+        Ok(())
+    }
+
+    // Appends a free to the last script.
+    fn free(&mut self, id: u64) -> Result<(), ScriptFault>
+        requires { 0 < length self.old.scripts }
+        ensures added { OnOk result (self.new ≡ with_turn self.old (Some (frees id))) }
+        ensures judged { JudgesTurn self.old self.new (Some (frees id)) result }
+    {
+        if self.limit - self.events < 1 {
+            return Err(self.refused_free(id));
+        }
+        reserve_turn(&mut self.scripts)?;
+        if !self.live.remove(&id) {
+            return Err(ScriptFault::BlockNotLive);
+        }
+        let turn = TurnEntry::new(ScriptLine::Free { id }, 0);
+        push_turn(&mut self.scripts, turn)?;
+        self.events += 1;
+        Ok(())
+    }
+
+    // The fault of a free where no event more is allowed.
+    fn refused_free(&self, id: u64) -> ScriptFault
+        requires begun { 0 < length self.now.scripts }
+        requires full { self.now.limit ≡ event_count self.now.scripts }
+        ensures { turn_fault self.now (Some (frees id)) ≡ Some result }
+    {
+        if self.live.contains(&id) {
+            ScriptFault::TooManyEvents
+        } else {
+            ScriptFault::BlockNotLive
+        }
+    }
+
+    // Appends a reallocation to the last script.
+    fn reallocate(&mut self, id: u64, size: u64, ips: &[u64]) -> Result<(), ScriptFault>
+        requires begun { 0 < length self.old.scripts }
+        requires few_bytes { size ≤ 2 ^ 32 }
+        requires few_ips { length ips.now ≤ 256 }
+        ensures added { OnOk result
+            (self.new ≡ with_turn self.old (Some (reallocates id size ips.now))) }
+        ensures judged { JudgesTurn self.old self.new (Some (reallocates id size ips.now)) result }
+    {
+        if !self.live.contains(&id) {
+            return Err(ScriptFault::BlockNotLive);
+        }
+        if self.limit - self.events < 2 {
+            return Err(ScriptFault::TooManyEvents);
+        }
+        reserve_turn(&mut self.scripts)?;
+        let node = intern(&mut self.nodes, ips)?;
+        let turn = TurnEntry::new(ScriptLine::Reallocation { id, size }, node);
+        push_turn(&mut self.scripts, turn)?;
+        self.events += 2;
+        Ok(())
     }
 }

@@ -10,7 +10,7 @@ use Rattle.record_scripts.specs.ScriptNodes.{nodes_in}
 use Rattle.record_scripts.specs.ScriptTurns.{AreHeld, scripts_kept, turn_kept, turn_said}
 use Rattle.record_scripts.specs.Turns.{IsBounded, script_at}
 use Rattle.record_scripts.proofs.TableLemmas.{bounded-at}
-use Rattle.record_scripts.proofs.script_table.ScriptTable.turn.Goals as goal
+use Rattle.record_scripts.proofs.scripts.Scripts.turn.Goals as goal
 
 pub returns-clause-held : goal.returns-clause-held
 returns-clause-held c =

@@ -1,6 +1,6 @@
 use Rattle.std.proofs.Common.{◌≡◌, ℕ, ◌<◌}
 use Rattle.std.specs.Prelude.{slice_get}
-use Rattle.record_scripts.proofs.script_table.are_same_nodes.Given as goal
+use Rattle.record_scripts.proofs.stacks.are_same_nodes.Given as goal
 
 -- the nodes so far are the same
 abbrev pub invariant-loop-number : goal.invariant-loop-number

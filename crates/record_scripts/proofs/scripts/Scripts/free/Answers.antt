@@ -7,7 +7,7 @@ use Rattle.record_scripts.specs.Turns.{Turn, frees}
 use Rattle.record_scripts.specs.Job.{Job, in_last}
 use Rattle.record_scripts.specs.ScriptTurns.{scripts_kept, turn_kept, turn_said}
 use Rattle.record_scripts.proofs.TurnLemmas.{live-absent, scripts-next, scripts-same, view-next}
-use Rattle.record_scripts.proofs.script_table.ScriptTable.free.Goals as goal
+use Rattle.record_scripts.proofs.scripts.Scripts.free.Goals as goal
 
 pub invariant_of-self : goal.invariant_of-self
 invariant_of-self c =
@@ -31,7 +31,7 @@ kept : (c : goal.After-self-1) → scripts_kept c.self.inside.nodes c.push_turn.
 kept c =
     let nodes = c.self.inside.nodes in
     let entry = c.new-turn.result in
-    c.in_ok-push_turn.ensures.pushed nodes
+    c.in_ok-push_turn.ensures.pushes.pushed nodes
     ∙ ap (λ (kept : List (List Turn)). in_last kept (turn_kept nodes entry))
     (c.reserve_turn.ensures.same nodes)
     ∙ ap (λ (line : ScriptLine). in_last (scripts_kept nodes c.self.inside.scripts.items)
@@ -44,7 +44,7 @@ invariant_of-self-2 c =
     (contains nat_eq c.remove.new.self) c.self.inside.events c.self.inside.limit
     (frees c.args.id) c.self.invariant
     (omega (arith, ap (λ (job : Job). length job.scripts) c.self.view_is))
-    (c.push_turn.ensures.count ∙ c.reserve_turn.ensures.count)
+    (c.push_turn.ensures.pushes.count ∙ c.reserve_turn.ensures.count)
     (c.in_ok-push_turn.ensures.held _ (omega (arith, c.new-turn.ensures.node))
     (c.reserve_turn.ensures.held _ c.self.invariant.held))
     c.self.invariant.single (omega arith) refl (kept c) (omega arith)
@@ -55,6 +55,6 @@ invariant_of-self-2 c =
 
 pub returns-clause-added : goal.returns-clause-added
 returns-clause-added c =
-    view-next c.self.inside.limit c.self.inside.module_lines.items
+    view-next c.self.inside.limit c.self.inside.modules
     (scripts_kept c.self.inside.nodes c.self.inside.scripts.items) _ c.args.self.now
     (frees c.args.id) (kept c) c.self.view_is

@@ -12,7 +12,7 @@ use Rattle.record_scripts.specs.ScriptTurns.{AreScripts, scripts_kept, turn_said
 use Rattle.record_scripts.proofs.KeptLemmas.{held-grown}
 use Rattle.record_scripts.proofs.TableLemmas.{are-words}
 use Rattle.record_scripts.proofs.TurnLemmas.{kept-next, live-there, live-undone, not-false, not-true, scripts-next, scripts-same, view-next}
-use Rattle.record_scripts.proofs.script_table.ScriptTable.allocate.Goals as goal
+use Rattle.record_scripts.proofs.scripts.Scripts.allocate.Goals as goal
 
 pub invariant_of-self : goal.invariant_of-self
 invariant_of-self c =
@@ -69,15 +69,15 @@ kept c =
     c.reserve_turn.new.scripts.items c.push_turn.new.scripts.items c.new-turn.result
     (allocates c.args.id c.args.size c.args.ips.now) c.intern.ensures.continues
     c.self.invariant.held (c.reserve_turn.ensures.same nodes)
-    (c.in_ok-push_turn.ensures.pushed nodes)
+    (c.in_ok-push_turn.ensures.pushes.pushed nodes)
     (ap₂ (λ (line : ScriptLine) (node : ℕ). turn_said line (stack nodes node))
     c.new-turn.ensures.line c.new-turn.ensures.node
-    ∙ ap (λ (ips : List ℕ). allocates c.args.id c.args.size ips) c.in-Ok.ensures.stack)
+    ∙ ap (λ (ips : List ℕ). allocates c.args.id c.args.size ips) c.in-Ok.ensures.stack_is)
 
 pub invariant_of-self-2 : goal.invariant_of-self-2
 invariant_of-self-2 c =
     scripts-next c.self.inside.nodes c.intern.new.nodes c.self.inside.scripts.items c.push_turn.new.scripts.items (contains nat_eq c.self.inside.live) (contains nat_eq c.insert.new.self) c.self.inside.events c.self.inside.limit
-    (allocates c.args.id c.args.size c.args.ips.now) c.self.invariant (omega (arith, ap (λ (job : Job). length job.scripts) c.self.view_is)) (c.push_turn.ensures.count ∙ c.reserve_turn.ensures.count)
+    (allocates c.args.id c.args.size c.args.ips.now) c.self.invariant (omega (arith, ap (λ (job : Job). length job.scripts) c.self.view_is)) (c.push_turn.ensures.pushes.count ∙ c.reserve_turn.ensures.count)
     (c.in_ok-push_turn.ensures.held _ (omega (arith, c.new-turn.ensures.node, c.in-Ok.ensures.within)) (c.reserve_turn.ensures.held _ (held-grown _ _ c.intern.ensures.continues.held c.self.inside.scripts.items c.self.invariant.held)))
     c.intern.ensures.single c.intern.ensures.few_more (ap (λ (x : Interned). x.nodes) (sym c.in-Ok.ensures.interned)) (kept c) (omega arith)
     (λ q. c.in_ok-insert.ensures.updates.0 q ∙ ap (λ (b : Bool). cond (nat_eq c.args.id q) true b) (c.self.invariant.live_blocks q)) (c.requires.few_bytes, c.requires.few_ips)
@@ -85,4 +85,4 @@ invariant_of-self-2 c =
 
 pub returns-clause-added : goal.returns-clause-added
 returns-clause-added c =
-    view-next c.self.inside.limit c.self.inside.module_lines.items (scripts_kept c.self.inside.nodes c.self.inside.scripts.items) _ c.args.self.now (allocates c.args.id c.args.size c.args.ips.now) (kept c) c.self.view_is
+    view-next c.self.inside.limit c.self.inside.modules (scripts_kept c.self.inside.nodes c.self.inside.scripts.items) _ c.args.self.now (allocates c.args.id c.args.size c.args.ips.now) (kept c) c.self.view_is

@@ -6,7 +6,7 @@ use Rattle.record_scripts.specs.declared.script.Script.{Script}
 use Rattle.record_scripts.specs.Job.{Job}
 use Rattle.record_scripts.specs.ScriptTurns.{AreScripts}
 use Rattle.record_scripts.proofs.TurnLemmas.{scripts-begun}
-use Rattle.record_scripts.proofs.script_table.ScriptTable.begin.Goals as goal
+use Rattle.record_scripts.proofs.scripts.Scripts.begin.Goals as goal
 
 pub invariant_of-self-2 : goal.invariant_of-self-2
 invariant_of-self-2 c =

@@ -1,7 +1,7 @@
 use Rattle.std.proofs.Common.{sym, ◌∙◌, arith}
 use Rattle.record_scripts.proofs.NodeLemmas.{node-same, not-true-is}
 use Rattle.record_scripts.proofs.SameLemmas.{same-items, same-next}
-use Rattle.record_scripts.proofs.script_table.are_same_nodes.Goals as goal
+use Rattle.record_scripts.proofs.stacks.are_same_nodes.Goals as goal
 
 pub loop-number-preserved : goal.loop-number-preserved
 loop-number-preserved c =
