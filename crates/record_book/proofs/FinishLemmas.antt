@@ -1,13 +1,15 @@
 -- Turns until a script is done, and until all are.
-use Rattle.std.proofs.Common.{◌≡◌, ◌≢◌, ℕ, zero, suc, ◌<◌, ◌≤◌, ◌==◌, Bool, true, false, cond, ◌⊎◌, inl, inr, List, [], ◌∷◌, ◌++◌, length, Option, None, Some, refl, ap, arith}
+use Rattle.std.proofs.Common.{◌≡◌, ◌≢◌, ℕ, zero, suc, ◌<◌, ◌≤◌, ◌==◌, Bool, true, false, cond, ◌⊎◌, inl, inr, List, [], ◌∷◌, ◌++◌, length, Option, None, Some, refl, ap, ap₂, arith}
 use Rattle.std.specs.Prelude.{nat_lt, slice_get}
 use Rattle.std.proofs.lemmas.Bool.{cases_lt}
 use Rattle.std.proofs.lemmas.Bool.Decides.{nat_tests}
 use Rattle.record_scripts.specs.Events.{Event, allocation, free}
 use Rattle.record_scripts.specs.Turns.{Turn}
-use Rattle.record_book.specs.Actions.{events_at, times}
-use Rattle.record_book.specs.BookState.{stepped, turn_entries}
+use Rattle.record_scripts.specs.Job.{Job}
+use Rattle.record_book.specs.Actions.{actions, events_at, times}
+use Rattle.record_book.specs.BookState.{IsSameWork, stepped, turn_entries}
 use Rattle.record_book.specs.Orders.{IsInterleaving, IsUnder}
+use Rattle.record_book.specs.RecordedTrace.{recorded, trace_text}
 use Rattle.record_book.proofs.OrderLemmas.{times-append}
 
 -- the entries of a turn are its thread's
@@ -66,3 +68,7 @@ interleaving-of scripts order under done = record { under = under; exactly = λ 
     by : (thread : ℕ) → (thread < length scripts) ⊎ (length scripts ≤ thread) → times thread order ≡ length (events_at scripts thread)
     by thread (inl there) = done thread there
     by thread (inr past) = omega (arith, under.at_most thread, none-at scripts thread past)
+
+-- the trace of other scripts, which are the same and have the same modules
+pub recorded-same : (one other : Job) (order : List ℕ) → IsSameWork one other → recorded one order ≡ recorded other order
+recorded-same one other order same = ap₂ (λ (modules : List ℕ) (scripts : List (List Turn)). trace_text modules (actions scripts order)) same.same_modules same.same_scripts

@@ -1,10 +1,13 @@
-mod PlaceKeys
+mod AddressLemmas
+mod FreeLemmas
 mod HeapLemmas
 mod NextLemmas
 mod NodeLemmas
 mod MapLemmas
 mod TraceLemmas
 mod OrderLemmas
+mod DoneLemmas
+mod LiveLemmas
 mod StreamLemmas
 mod FinishLemmas
 mod SameLemmas
@@ -18,4 +21,5 @@ mod SpelledLemmas
 mod SummaryLines
 mod ModuleLines
 mod PlaceLemmas
+mod BlockLemmas
 pub mod Laws

@@ -41,7 +41,7 @@ entry-apart (taken class block ∷ older) t i u j x y only p q e =
     by ih less_x less_y false false a b p q = ih p q
 
 -- no empty place lies at the address of a live block
-entry-not-free : (places : List Place) (t i class : ℕ) (entry : LiveEntry) → AreOnly places → entry_in places t i ≡ Some entry → is_free places class entry.address ≡ false
+pub entry-not-free : (places : List Place) (t i class : ℕ) (entry : LiveEntry) → AreOnly places → entry_in places t i ≡ Some entry → is_free places class entry.address ≡ false
 entry-not-free [] t i class entry only is = refl
 entry-not-free (empty other ∷ older) t i class entry only is =
     let less = below-end older t i entry only.1 is in

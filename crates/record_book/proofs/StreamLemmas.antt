@@ -1,6 +1,6 @@
 -- A recording with a turn more of a thread, of which a front of the trace may be let go.
-use Rattle.std.proofs.Common.{◌≡◌, ◌≢◌, ℕ, zero, suc, ◌+◌, ◌*◌, ◌^◌, ◌<◌, ◌≤◌, ◌==◌, Bool, true, false, List, [], ◌∷◌, ◌++◌, length, get_or, take, drop, Option, Some, refl, sym, ap, ap₂, ◌∙◌, subst, arith, append_assoc, append-nil, length-append}
-use Rattle.std.specs.Prelude.{◌↔◌, IsTrue, replicate, slice_get, slice_set}
+use Rattle.std.proofs.Common.{◌≡◌, ◌≢◌, ℕ, zero, suc, ◌+◌, ◌*◌, ◌^◌, ◌<◌, ◌≤◌, ◌==◌, Bool, true, false, List, [], ◌∷◌, ◌++◌, length, get_or, take, drop, reverse, Option, Some, refl, sym, ap, ap₂, ◌∙◌, subst, arith, append_assoc, append-nil, length-append}
+use Rattle.std.specs.Prelude.{◌↔◌, IsTrue, is_some, replicate, slice_get, slice_set}
 use Rattle.std.specs.List.{AllByRecursion}
 use Rattle.std.proofs.lemmas.Bool.Decides.{nat_tests}
 use Rattle.std.proofs.lemmas.List.Sums.{sum_by-cons}
@@ -10,38 +10,24 @@ use Rattle.hp_num.specs.Extends.{Extends}
 use Rattle.stack_table.specs.Node.{Node}
 use Rattle.record_scripts.specs.Events.{event_count, events_of, events_of_turn}
 use Rattle.record_scripts.specs.Job.{Job}
-use Rattle.record_scripts.specs.Turns.{Turn, script_at}
+use Rattle.record_scripts.specs.Playable.{IsInTurn, IsPlayable}
+use Rattle.record_scripts.specs.Turns.{AreBounded, Turn, allocates, frees, reallocates, is_live_after, script_at}
 use Rattle.record_book.specs.declared.heap.Heap.{Heap}
 use Rattle.record_book.specs.declared.trace.Trace.{Trace}
 use Rattle.record_book.specs.Actions.{Action, actions, events_at, times}
-use Rattle.record_book.specs.BookState.{entries_of}
+use Rattle.record_book.specs.BookState.{IsSameWork, entries_of}
 use Rattle.record_book.specs.StreamState.{IsStream, done_at, done_count}
 use Rattle.record_book.specs.HeapPlaces.{AreApart, LiveBlock, Place, taken, empty, class_of, end_of, live_blocks, places_after}
-use Rattle.record_book.specs.HeapState.{AreOnly, IsHeap}
+use Rattle.record_book.specs.HeapState.{AreOnly, IsHeap, entry_in}
 use Rattle.record_book.specs.NodeNumbers.{stacks_after}
 use Rattle.record_book.specs.NodeState.{AreNumbered}
 use Rattle.record_book.specs.RecordedTrace.{recorded, trace_text}
 use Rattle.record_book.specs.Orders.{ArePaired, IsInterleaving, IsUnder, awaited}
+use Rattle.record_book.specs.TakenTurn.{IsFresh}
 use Rattle.record_book.specs.TraceState.{IsTrace, with_turn}
+use Rattle.record_book.proofs.DoneLemmas.{done-here, done-other, length-slice_set}
+use Rattle.record_book.proofs.LiveLemmas.{live-next, none-live}
 use Rattle.record_book.proofs.OrderLemmas.{actions-none, actions-turn, closed-turn, entries-length, events-more, events-within, paired-turn, some_events, times-append, times-other, times-own, times-within}
-
--- numbers of turns
-pub done-here : (done : List ℕ) (thread count : ℕ) → thread < length done → done_at (slice_set done thread count) thread ≡ count
-done-here [] thread count within = absurd (omega (arith, within))
-done-here (n ∷ done) zero count within = refl
-done-here (n ∷ done) (suc thread) count within = done-here done thread count (omega (arith, within))
-
-pub done-other : (done : List ℕ) (thread other count : ℕ) → thread ≢ other → done_at (slice_set done thread count) other ≡ done_at done other
-done-other [] thread other count apart = refl
-done-other (n ∷ done) zero zero count apart = absurd (apart refl)
-done-other (n ∷ done) zero (suc other) count apart = refl
-done-other (n ∷ done) (suc thread) zero count apart = refl
-done-other (n ∷ done) (suc thread) (suc other) count apart = done-other done thread other count (λ same. apart (ap (λ (k : ℕ). suc k) same))
-
-pub length-slice_set : (done : List ℕ) (thread count : ℕ) → length (slice_set done thread count) ≡ length done
-length-slice_set [] thread count = refl
-length-slice_set (n ∷ done) zero count = refl
-length-slice_set (n ∷ done) (suc thread) count = ap (λ (k : ℕ). suc k) (length-slice_set done thread count)
 
 -- events of the turns of all threads
 count-set : (scripts : List (List Turn)) (done : List ℕ) (thread : ℕ) (turn : Turn) → length done ≡ length scripts → slice_get (script_at scripts thread) (done_at done thread) ≡ Some turn
@@ -121,7 +107,20 @@ stream-next job done order trace new thread turn book held at is nodes end =
       trace_is = subst (λ (all : List Action). IsTrace book.gone new job.modules all) (sym means) (is book.gone book.trace_is);
       few_nodes = omega (arith, nodes, book.few_nodes, len, some_events turn);
       end = omega (arith, end, book.end, len, some_events turn);
+      playable = book.playable;
+      live = λ t i.
+          ap (λ (acts : List Action). is_some (entry_in (places_after acts) t i)) means
+          ∙ live-next job.scripts done thread turn (actions job.scripts order) book.trace_is.heap_is.only within at book.live t i;
     }
+
+-- the block of an allocation to come isn't live
+pub fresh-at : (job : Job) (done order : List ℕ) (trace : Trace) (thread : ℕ) (turn : Turn) → IsStream job done order trace
+    → slice_get (script_at job.scripts thread) (done_at done thread) ≡ Some turn → IsFresh trace.heap thread turn
+fresh-at job done order trace thread (allocates id size ips) book at =
+    book.trace_is.heap_is.live_blocks thread id
+    ∙ none-live job.scripts thread (done_at done thread) id size ips (places_after (actions job.scripts order)) book.playable.in_turn at (book.live thread id)
+fresh-at job done order trace thread (frees id) book at = tt
+fresh-at job done order trace thread (reallocates id size ips) book at = tt
 
 -- the recording of no turns
 pub zero-at : (n thread : ℕ) → done_at (replicate n 0) thread ≡ 0
@@ -139,8 +138,8 @@ length-zeros zero = refl
 length-zeros (suc n) = ap (λ (k : ℕ). suc k) (length-zeros n)
 
 pub stream-none : (job : Job) (done : List ℕ) (n : ℕ) (trace : Trace) → done ≡ replicate n 0 → n ≡ length job.scripts → IsTrace [] trace job.modules [] → length trace.nodes ≡ 0 → trace.heap.end ≡ 65536
-    → IsStream job done [] trace
-stream-none job done n trace zeros all is nodes end = record {
+    → IsPlayable job → IsStream job done [] trace
+stream-none job done n trace zeros all is nodes end playable = record {
   gone = [];
   threads = ap length zeros ∙ length-zeros n ∙ all;
   taken = λ thread. ap (λ (k : ℕ). length (events_of (take k (script_at job.scripts thread)))) (sym (none thread));
@@ -151,6 +150,10 @@ stream-none job done n trace zeros all is nodes end = record {
   trace_is = subst (λ (all : List Action). IsTrace [] trace job.modules all) (sym (actions-none job.scripts)) is;
   few_nodes = omega (arith, nodes);
   end = omega (arith, end);
+  playable = playable;
+  live = λ t i.
+      ap (λ (acts : List Action). is_some (entry_in (places_after acts) t i)) (actions-none job.scripts)
+      ∙ ap (λ (k : ℕ). is_live_after (reverse (take k (script_at job.scripts t))) i) (sym (none t));
 }
   where
     none : (thread : ℕ) → done_at done thread ≡ 0
@@ -201,7 +204,36 @@ let-go job done order trace new book none nodes heap last = record {
   };
   few_nodes = subst (λ (ns : List Node). length ns ≤ 256 * length order) (sym nodes) book.few_nodes;
   end = subst (λ (h : Heap). h.end ≤ 65536 + 2 ^ 33 * length order) (sym heap) book.end;
+  playable = book.playable;
+  live = book.live;
 }
+
+-- that of other scripts, which are the same and have the same modules
+pub stream-moved : (job other : Job) (done order : List ℕ) (trace : Trace) → IsSameWork job other → IsStream job done order trace → IsStream other done order trace
+stream-moved job other done order trace same is =
+    let scripts = same.same_scripts in
+    record {
+      gone = is.gone;
+      threads = is.threads ∙ ap (λ (all : List (List Turn)). length all) scripts;
+      taken = λ thread. is.taken thread ∙ ap (λ (all : List (List Turn)). length (events_of (take (done_at done thread) (script_at all thread)))) scripts;
+      few_taken = λ thread. subst (λ (all : List (List Turn)). done_at done thread ≤ length (script_at all thread)) scripts (is.few_taken thread);
+      count = is.count ∙ ap (λ (all : List (List Turn)). done_count all done) scripts;
+      paired = subst (λ (all : List (List Turn)). ArePaired (actions all order)) scripts is.paired;
+      closed = ap (λ (all : List (List Turn)). awaited (actions all order)) (sym scripts) ∙ is.closed;
+      trace_is = subst (λ (lines : List ℕ). IsTrace is.gone trace lines (actions other.scripts order)) same.same_modules
+          (subst (λ (all : List (List Turn)). IsTrace is.gone trace job.modules (actions all order)) scripts is.trace_is);
+      few_nodes = is.few_nodes;
+      end = is.end;
+      playable = record {
+        in_turn = subst (λ (all : List (List Turn)). AllByRecursion IsInTurn all) scripts is.playable.in_turn;
+        bounded = subst AreBounded scripts is.playable.bounded;
+        few_events = subst (λ (all : List (List Turn)). event_count all < 2 ^ 24) scripts is.playable.few_events;
+        few_scripts = subst (λ (all : List (List Turn)). length all ≤ 64) scripts is.playable.few_scripts;
+      };
+      live = λ t i.
+          subst (λ (all : List (List Turn)). is_some (entry_in (places_after (actions all order)) t i) ≡ is_live_after (reverse (take (done_at done t) (script_at all t))) i)
+          scripts (is.live t i);
+    }
 
 -- all turns are taken where there are as many entries as events
 counts-equal : (scripts : List (List Turn)) (done : List ℕ) → length done ≡ length scripts → done_count scripts done ≡ event_count scripts → (thread : ℕ)

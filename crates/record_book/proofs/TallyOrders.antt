@@ -14,7 +14,7 @@ use Rattle.record_book.specs.StreamState.{done_at}
 use Rattle.record_book.specs.Figures.{alone, with_events}
 use Rattle.record_book.specs.Orders.{ArePaired, IsUnder, awaited}
 use Rattle.record_book.specs.TraceState.{with_turn}
-use Rattle.record_book.proofs.StreamLemmas.{done-here, done-other}
+use Rattle.record_book.proofs.DoneLemmas.{done-here, done-other}
 use Rattle.record_book.proofs.FinishLemmas.{none-at}
 use Rattle.record_book.proofs.OrderLemmas.{actions-push, actions-turn, all-taken, done-length, event-at, events-more, times-append, times-other, times-own, times-reverse}
 

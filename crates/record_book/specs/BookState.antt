@@ -1,14 +1,20 @@
 -- What a book stands for, and what a turn of a thread adds to it.
-use Rattle.std.specs.Prelude.{◌≡◌, ℕ, zero, suc, ◌<◌, true, false, List, [], ◌∷◌, ◌++◌, length, slice_get, Option, None, Some}
+use Rattle.std.specs.Prelude.{◌≡◌, ℕ, zero, suc, ◌<◌, ◌≤◌, Bool, true, false, List, [], ◌∷◌, ◌++◌, length, nat_lt, slice_get, Option, None, Some}
 use Rattle.record_scripts.specs.Events.{Event, allocation, free}
 use Rattle.record_scripts.specs.Job.{Job}
 use Rattle.record_scripts.specs.Turns.{Turn, allocates, frees, reallocates}
 use Rattle.record_book.specs.Actions.{events_at, times}
+use Rattle.record_book.specs.Orders.{IsUnder}
 
 -- what is recorded, and the order in which it was so far
 pub record Recording : Type 0 where
   pub job : Job
   pub order : List ℕ
+
+-- two jobs have the same scripts and modules, however many events there may be
+pub record IsSameWork (one other : Job) : Type 0 where
+  pub same_scripts : one.scripts ≡ other.scripts
+  pub same_modules : one.modules ≡ other.modules
 
 -- the entries of a thread's turn that begins with an event: two where a reallocation does, and none where there is no event
 abbrev pub turn_entries : ℕ → Option Event → List ℕ
@@ -34,3 +40,16 @@ HasStepped scripts thread zero old new = new ≡ old
 HasStepped scripts thread (suc count) old new =
     (mid : List ℕ) × HasStepped scripts thread count old mid
     × (times thread mid < length (events_at scripts thread)) × (new ≡ stepped scripts thread mid)
+
+-- the next turn of a thread is taken, where its script isn't done, and the answer says whether there was one
+pub record IsStep (job : Job) (thread : ℕ) (old new : List ℕ) (more : Bool) : Type 0 where
+  pub order_is : new ≡ stepped job.scripts thread old
+  pub more_is : more ≡ nat_lt (times thread old) (length (events_at job.scripts thread))
+  pub done : more ≡ false → times thread new ≡ length (events_at job.scripts thread)
+  pub under : IsUnder job.scripts new
+
+-- so many turns of a thread are taken, and fewer than asked only where its script is done
+pub record TakesTurns (job : Job) (thread most : ℕ) (old new : List ℕ) (count : ℕ) : Type 0 where
+  pub turns : HasStepped job.scripts thread count old new
+  pub within : count ≤ most
+  pub done : count < most → times thread new ≡ length (events_at job.scripts thread)

@@ -1,21 +1,29 @@
 -- What the heap of the code has.
-use Rattle.std.specs.Prelude.{◌≡◌, ℕ, ◌<◌, ◌==◌, ◌&&◌, ◌||◌, Bool, false, if◌then◌else◌, List, [], ◌∷◌, Option, None, Some}
-use Rattle.std.specs.BTreeSet.{contains}
+use Rattle.std.specs.Prelude.{◌≡◌, ℕ, ◌+◌, ◌^◌, ◌<◌, ◌≤◌, ◌==◌, ◌&&◌, ◌||◌, Bool, true, false, if◌then◌else◌, List, [], ◌∷◌, Option, None, Some, nat_eq}
+use Rattle.std.specs.BinaryHeap.{heap_items}
 use Rattle.std.specs.HashMap.{get}
-use Rattle.std.specs.Ordering.{nat_cmp, ordering_then}
-use Rattle.std.specs.declared.cmp.Ordering.{Ordering}
+use Rattle.record_book.specs.declared.free_addresses.FreeAddresses.{FreeAddresses}
 use Rattle.record_book.specs.declared.free_places.FreePlaces.{FreePlaces}
 use Rattle.record_book.specs.declared.heap.Heap.{Heap}
 use Rattle.record_book.specs.declared.heap.LiveEntry.{LiveEntry}
-use Rattle.record_book.specs.HeapPlaces.{Place, taken, empty, class_of, end_of, is_of}
+use Rattle.record_book.specs.Addresses.{has_address}
+use Rattle.record_book.specs.HeapPlaces.{Place, taken, empty, address_of, class_of, end_of, is_of, next_address, placed, released}
 
--- the order of places without a block: by class, then by address
-abbrev pub place_cmp : ℕ × ℕ → ℕ × ℕ → Ordering
-place_cmp x y = ordering_then (nat_cmp x.0 y.0) (nat_cmp x.1 y.1)
+-- the address is among those of a class, of which there may be none
+abbrev pub is_among : Option FreeAddresses → ℕ → Bool
+is_among None address = false
+is_among (Some addresses) address = has_address (heap_items addresses.heap) address
 
 -- the place is among them
 abbrev pub has_place : FreePlaces → ℕ → ℕ → Bool
-has_place free class address = contains place_cmp free.places (class, address)
+has_place free class address = is_among (get nat_eq free.classes class) address
+
+-- the place of a class with the least address was taken out
+pub record TakesFirst (old new : FreePlaces) (class address : ℕ) : Type 0 where
+  pub held : has_place old class address ≡ true
+  pub first : (other : ℕ) → has_place old class other ≡ true → address ≤ other
+  pub left : (c a : ℕ) → has_place new c a
+      ≡ (if class == c && address == a then false else has_place old c a)
 
 -- whether two keys, each a thread and an ID, are equal
 abbrev pub same_key : ℕ × ℕ → ℕ × ℕ → Bool
@@ -57,3 +65,37 @@ pub record AreOf (live : ℕ → ℕ → Option LiveEntry) (free : ℕ → ℕ �
 -- the heap is that of the places
 abbrev pub IsHeap : Heap → List Place → Type 0
 IsHeap heap places = AreOf (entry_at heap) (has_place heap.free) heap.end places
+
+-- the heap is that of some places, and there is space for one more behind them
+pub record HasSpace (heap : Heap) : Type 0 where
+  pub places : List Place
+  pub heap_is : IsHeap heap places
+  pub end_is : heap.end + 2 ^ 33 ≤ 2 ^ 63
+
+-- the second heap is that of the same places
+pub record IsSameHeap (old new : Heap) : Type 0 where
+  pub places_are : (places : List Place) → IsHeap old places → IsHeap new places
+  pub end_is : new.end ≡ old.end
+
+-- the next address of a class in places was taken, and its block is still to be put there
+pub record TakesNext (old new : Heap) (class : ℕ) (places : List Place) (address : ℕ) : Type 0
+  where
+    pub next : address ≡ next_address class places
+    pub left : (c a : ℕ) → has_place new.free c a
+        ≡ (if class == c && address == a then false else has_place old.free c a)
+    pub end_is : new.end ≡ (if address == old.end then old.end + class else old.end)
+
+-- a block was put at an address, in the place of the live one of its ID
+pub record PutsBlock (old new : Heap) (thread id size address : ℕ) : Type 0 where
+  pub address_is : (places : List Place) → IsHeap old places
+      → address ≡ next_address (class_of size) (released thread id places)
+  pub places_are : (places : List Place) → IsHeap old places
+      → IsHeap new (placed (record { thread = thread; id = id; size = size })
+      (released thread id places))
+
+-- the block of an ID was freed, which lay at the address
+pub record FreesBlock (old new : Heap) (thread id address : ℕ) : Type 0 where
+  pub address_is : (places : List Place) → IsHeap old places
+      → address ≡ address_of thread id places
+  pub places_are : (places : List Place) → IsHeap old places
+      → IsHeap new (released thread id places)

@@ -3,10 +3,12 @@ pub mod Orders
 pub mod HeapPlaces
 pub mod NodeNumbers
 pub mod RecordedTrace
+pub mod Addresses
 pub mod HeapState
 pub mod NodeState
 pub mod MappedNodes
 pub mod TraceState
+pub mod TakenTurn
 pub mod StreamState
 pub mod BookState
 pub mod Figures

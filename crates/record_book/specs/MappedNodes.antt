@@ -1,10 +1,11 @@
 -- Which nodes of the trace have the stacks of nodes of the scripts.
-use Rattle.std.specs.Prelude.{◌≡◌, ◌≢◌, ℕ, ◌+◌, ◌≤◌, List, length, slice_get, unwrap_or}
+use Rattle.std.specs.Prelude.{◌≡◌, ◌≢◌, ℕ, ◌+◌, ◌-◌, ◌^◌, ◌≤◌, List, length, slice_get, unwrap_or}
 use Rattle.stack_table.specs.Node.{Node}
 use Rattle.stack_table.specs.Stack.{stack}
 use Rattle.record_book.specs.declared.node_map.NodeMap.{NodeMap}
 use Rattle.record_book.specs.declared.turn_stack.TurnStack.{TurnStack}
 use Rattle.record_book.specs.declared.turn_stack.TurnStack.TheVariants.{Known, Ips}
+use Rattle.record_book.specs.NodeState.{AreNumbered}
 
 -- the node of the trace for node n of the scripts, 0 where it isn't known
 abbrev pub number_at : NodeMap → ℕ → ℕ
@@ -25,3 +26,9 @@ ips_of nodes (Ips ips) = ips.now
 abbrev pub IsKnown : List Node → TurnStack → Type 0
 IsKnown nodes (Known number) = number ≤ length nodes
 IsKnown nodes (Ips ips) = Unit {0}
+
+-- the nodes are those of some stacks, and there is space for those of this stack
+pub record HasNodeRoom (nodes : List Node) (turn_stack : TurnStack) : Type 0 where
+  pub known : IsKnown nodes turn_stack
+  pub numbered : (stacks : List (List ℕ)) × AreNumbered nodes stacks
+  pub room : length nodes + 256 ≤ 2 ^ 32 - 2

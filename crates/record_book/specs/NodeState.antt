@@ -1,6 +1,7 @@
 -- How nodes stand for numbered stacks.
-use Rattle.std.specs.Prelude.{◌≡◌, ◌≢◌, ℕ, ◌+◌, ◌≤◌, ◌==◌, if◌then◌else◌, List, ◌∷◌, ◌++◌, length}
+use Rattle.std.specs.Prelude.{◌≡◌, ◌≢◌, ℕ, ◌+◌, ◌-◌, ◌^◌, ◌<◌, ◌≤◌, ◌==◌, if◌then◌else◌, List, ◌∷◌, ◌++◌, length, Result, IfOk}
 use Rattle.stack_table.specs.AreNodes.{AreNodes}
+use Rattle.stack_table.specs.Continues.{Continues}
 use Rattle.stack_table.specs.Node.{Node}
 use Rattle.stack_table.specs.Stack.{frame_count, stack}
 use Rattle.record_book.specs.NodeNumbers.{number_in, with_stack, with_suffixes}
@@ -35,3 +36,17 @@ pub record ArePut (known : List (List ℕ)) (ips : List ℕ) (new : List Node) (
   pub numbered : AreNumbered new (with_suffixes known ips)
   pub stack_is : stack new node ≡ ips
   pub text : after ≡ before ++ nodes_text known ips
+
+-- the nodes are those of some stacks, and there is space for one that is called from a parent
+pub record CanCall (nodes : List Node) (parent : ℕ) : Type 0 where
+  pub numbered : (known : List (List ℕ)) × AreNumbered nodes known
+  pub held : parent ≤ length nodes
+  pub shallow : length (stack nodes parent) < 4096
+  pub room : length nodes < 2 ^ 32 - 2
+
+-- nodes only grow, by so many at most, and a node that is answered is one of them
+pub record GrowsNodes {E : Type 0} (old new : List Node) (most : ℕ) (result : Result ℕ E) : Type 0
+  where
+    pub continues : Continues old new
+    pub few_more : length new ≤ length old + most
+    pub held : IfOk result (λ node. node ≤ length new)

@@ -1,10 +1,13 @@
 -- What a recording stands for of which a front of the trace may be let go.
-use Rattle.std.specs.Prelude.{◌≡◌, ℕ, ◌+◌, ◌*◌, ◌^◌, ◌≤◌, List, [], ◌∷◌, length, slice_get, take, unwrap_or, None}
+use Rattle.std.specs.Prelude.{◌≡◌, ℕ, ◌+◌, ◌*◌, ◌^◌, ◌≤◌, List, [], ◌∷◌, length, reverse, slice_get, take, unwrap_or, None, is_some}
 use Rattle.record_scripts.specs.Events.{events_of}
 use Rattle.record_scripts.specs.Job.{Job}
-use Rattle.record_scripts.specs.Turns.{Turn, script_at}
+use Rattle.record_scripts.specs.Playable.{IsPlayable}
+use Rattle.record_scripts.specs.Turns.{Turn, is_live_after, script_at}
 use Rattle.record_book.specs.declared.trace.Trace.{Trace}
 use Rattle.record_book.specs.Actions.{actions, times}
+use Rattle.record_book.specs.HeapPlaces.{places_after}
+use Rattle.record_book.specs.HeapState.{entry_in}
 use Rattle.record_book.specs.Orders.{ArePaired, awaited}
 use Rattle.record_book.specs.TraceState.{IsTrace}
 
@@ -25,7 +28,8 @@ pub record Streamed : Type 0 where
   pub order : List ℕ
   pub text : List ℕ
 
--- the order and the trace are those of so many turns of each thread, and a front of the trace was let go
+-- the order and the trace are those of so many turns of each thread, and a front of the trace was let go; the blocks that lie in
+-- the trace are those that are live in the scripts
 pub record IsStream (job : Job) (done order : List ℕ) (trace : Trace) : Type 0 where
   pub gone : List ℕ
   pub threads : length done ≡ length job.scripts
@@ -39,3 +43,7 @@ pub record IsStream (job : Job) (done order : List ℕ) (trace : Trace) : Type 0
   pub trace_is : IsTrace gone trace job.modules (actions job.scripts order)
   pub few_nodes : length trace.nodes ≤ 256 * length order
   pub end : trace.heap.end ≤ 65536 + 2 ^ 33 * length order
+  pub playable : IsPlayable job
+  pub live : (thread id : ℕ)
+      → is_some (entry_in (places_after (actions job.scripts order)) thread id)
+      ≡ is_live_after (reverse (take (done_at done thread) (script_at job.scripts thread))) id

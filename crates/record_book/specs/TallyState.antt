@@ -1,5 +1,5 @@
 -- What a tally stands for.
-use Rattle.std.specs.Prelude.{◌≡◌, ℕ, if◌then◌else◌, List, [], ◌∷◌, Option, None, Some}
+use Rattle.std.specs.Prelude.{◌≡◌, ℕ, ◌^◌, ◌≤◌, if◌then◌else◌, List, [], ◌∷◌, Option, None, Some}
 use Rattle.std.specs.HashMap.{get}
 use Rattle.record_book.specs.declared.tally.Tally.{Tally}
 use Rattle.record_book.specs.Actions.{Action}
@@ -24,3 +24,9 @@ pub record IsTally (tally : Tally) (actions : List Action) : Type 0 where
   pub calls_is : tally.calls ≡ calls every actions
   pub allocated_is : tally.allocated ≡ allocated every actions
   pub peak_is : tally.peak ≡ peak actions
+
+-- it is the tally of some actions, and has space for one turn more
+pub record HasCountRoom (tally : Tally) : Type 0 where
+  pub tallied : (actions : List Action) × IsTally tally actions
+  pub few_bytes : tally.allocated ≤ 2 ^ 62
+  pub few_calls : tally.calls ≤ 2 ^ 62

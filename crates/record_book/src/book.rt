@@ -3,7 +3,7 @@ ghost use Rattle.std.specs.Prelude.{◌≡◌, ◌≢◌, ℕ, ◌<◌, ◌≤�
 ghost use Rattle.std.specs.Arc.{arc_value};
 ghost use Rattle.record_scripts.specs.Playable.{IsPlayable};
 ghost use Rattle.record_book.specs.Actions.{actions, events_at, times};
-ghost use Rattle.record_book.specs.BookState.{HasStepped, stepped};
+ghost use Rattle.record_book.specs.BookState.{HasStepped, IsSameWork, TakesTurns, stepped};
 ghost use Rattle.record_book.specs.HeapPlaces.{AreApart, live_blocks, places_after};
 ghost use Rattle.record_book.specs.Orders.{Continues, IsInterleaving, IsUnder};
 ghost use Rattle.record_book.specs.RecordedTrace.{recorded};
@@ -77,12 +77,8 @@ impl Book {
         requires there { thread < length self.old.job.scripts }
         requires some { 1 ≤ most }
         requires few { most ≤ 64 }
-        ensures stepped { IfOk result
-            (λ count. HasStepped self.old.job.scripts thread count self.old.order self.new.order) }
-        ensures within { IfOk result (λ count. count ≤ most) }
-        ensures done { IfOk result
-            (λ count. count < most
-            → times thread self.new.order ≡ length (events_at self.new.job.scripts thread)) }
+        ensures taken { IfOk result
+            (TakesTurns self.old.job thread most self.old.order self.new.order) }
         ensures part { OnErr result
             ((count : ℕ) × (count < most)
             × HasStepped self.old.job.scripts thread count self.old.order self.new.order) }
@@ -145,13 +141,14 @@ impl Book {
         put_summary(self.alloc, self.stream.scripts(), self.stream.order(), out)
     }
 
-    /// The book of these scripts with all turns taken. Where this is a book of the same scripts and modules for as many
-    /// events, its order stays and goes on; else they are recorded from nothing on. On `NoMemory` the book is given up.
+    /// The book of these scripts with all turns taken. Where this is a book of the same scripts and modules, however many
+    /// events there may be, its order stays and goes on; else they are recorded from nothing on. On `NoMemory` the book is
+    /// given up.
     pub fn finish(self, job: Arc<Scripts>) -> Result<Book, NoMemory>
         ensures job { IfOk result (λ book. book.job ≡ arc_value job) }
         ensures all { IfOk result (λ book. IsInterleaving book.job.scripts book.order) }
         ensures figures { IfOk result (λ book. HasScriptFigures book.job.scripts book.order) }
-        ensures grown { self.job ≡ arc_value job
+        ensures grown { IsSameWork self.job (arc_value job)
             → IfOk result (λ book. Continues self.order book.order) }
     {
         let mut book = self.for_job(job)?;
@@ -159,15 +156,26 @@ impl Book {
         Ok(book)
     }
 
-    // This book where it is one of the same job, else a new one.
+    // This book with these scripts where they and their modules are the same, else a new one.
     fn for_job(self, job: Arc<Scripts>) -> Result<Book, NoMemory>
         ensures job { IfOk result (λ book. book.job ≡ arc_value job) }
-        ensures same { self.job ≡ arc_value job → IfOk result (λ book. book ≡ self) }
+        ensures same { IsSameWork self.job (arc_value job)
+            → IfOk result (λ book. book.order ≡ self.order) }
     {
         if is_same(self.alloc, self.stream.scripts(), &job)? {
-            return Ok(self);
+            return Ok(self.with_job(job));
         }
         Book::new(self.alloc, job)
+    }
+
+    // This book with other scripts, which are the same and have the same modules.
+    fn with_job(mut self, job: Arc<Scripts>) -> Book
+        requires { IsSameWork self.job (arc_value job) }
+        ensures job { result.job ≡ arc_value job }
+        ensures order { result.order ≡ self.order }
+    {
+        self.stream.take_job(job);
+        self
     }
 
     // Takes the turns that are left of all threads.

@@ -1,15 +1,18 @@
 //! The places that were handed out and have no live block, by class and address.
-ghost use Rattle.std.specs.Prelude.{◌≡◌, ℕ, ◌≤◌, ◌==◌, ◌&&◌, true, false, if◌then◌else◌, IfNone, IfSome, OnOk, OnErr};
-ghost use Rattle.record_book.specs.HeapState.{has_place};
+ghost use Rattle.std.specs.Prelude.{◌≡◌, ℕ, ◌==◌, ◌&&◌, true, false, if◌then◌else◌, IfNone, IfSome, None, OnErr, OnOk, nat_eq};
+ghost use Rattle.std.specs.HashMap.{get};
+ghost use Rattle.record_book.specs.HeapState.{TakesFirst, has_place};
 
+use crate::free_addresses::FreeAddresses;
 use hp_num::NoMemory;
 use std::alloc::Global;
-use std::collections::BTreeSet;
+use std::collections::HashMap;
 
 /// Addresses of places without a live block, by class.
 #[derive(Drop)]
 pub struct FreePlaces {
-    places: BTreeSet<(u64, u64)>,
+    classes: HashMap<u64, FreeAddresses>,
+    alloc: Global,
 }
 
 impl FreePlaces {
@@ -18,41 +21,51 @@ impl FreePlaces {
         ensures { (class address : ℕ) → has_place result class address ≡ false }
     {
         FreePlaces {
-            places: BTreeSet::new(alloc),
+            classes: HashMap::new(alloc),
+            alloc,
         }
     }
 
-    /// The least address of a class.
-    pub fn first(&self, class: u64) -> Option<u64>
-        ensures held { IfSome result (λ address. has_place self.now class address ≡ true) }
-        ensures least { IfSome result
-            (λ address. (other : ℕ) → has_place self.now class other ≡ true → address ≤ other) }
-        ensures none { IfNone result ((other : ℕ) → has_place self.now class other ≡ false) }
-    {
-        let (found, address) = self.places.range((class, 0)..).next()?;
-        if *found != class {
-            return None;
-        }
-        Some(*address)
-    }
-
-    /// Puts a place in. On `NoMemory` the places are as before.
+    /// Puts in a place that isn't in. On `NoMemory` the places are as before.
     pub fn insert(&mut self, class: u64, address: u64) -> Result<(), NoMemory>
+        requires { has_place self.old class address ≡ false }
         ensures put { OnOk result
             ((c a : ℕ) → has_place self.new c a
             ≡ (if class == c && address == a then true else has_place self.old c a)) }
         ensures unchanged { OnErr result
             ((c a : ℕ) → has_place self.new c a ≡ has_place self.old c a) }
     {
-        self.places.insert((class, address))?;
-        Ok(())
+        match self.classes.get_mut(&class) {
+            Some(addresses) => addresses.insert(address),
+            None => self.open(class, address),
+        }
     }
 
-    /// Takes a place out, where it is in. It takes no memory.
-    pub fn remove(&mut self, class: u64, address: u64)
-        ensures { (c a : ℕ) → has_place self.new c a
-            ≡ (if class == c && address == a then false else has_place self.old c a) }
+    /// Takes out the place of a class with the least address.
+    pub fn take_first(&mut self, class: u64) -> Option<u64>
+        ensures taken { IfSome result (TakesFirst self.old self.new class) }
+        ensures none { IfNone result ((a : ℕ) → has_place self.old class a ≡ false) }
+        ensures unchanged { IfNone result
+            ((c a : ℕ) → has_place self.new c a ≡ has_place self.old c a) }
     {
-        self.places.remove(&(class, address));
+        match self.classes.get_mut(&class) {
+            Some(addresses) => addresses.take_first(),
+            None => None,
+        }
+    }
+
+    // Puts in the first place of a class. On `NoMemory` the places are as before.
+    fn open(&mut self, class: u64, address: u64) -> Result<(), NoMemory>
+        requires { get nat_eq self.old.classes class ≡ None }
+        ensures put { OnOk result
+            ((c a : ℕ) → has_place self.new c a
+            ≡ (if class == c && address == a then true else has_place self.old c a)) }
+        ensures unchanged { OnErr result
+            ((c a : ℕ) → has_place self.new c a ≡ has_place self.old c a) }
+    {
+        let mut addresses = FreeAddresses::new(self.alloc);
+        addresses.insert(address)?;
+        self.classes.insert(class, addresses)?;
+        Ok(())
     }
 }

@@ -1,8 +1,8 @@
 //! Where blocks lie: the address of each live block, and those that may be handed out again. What a block is for is no part
 //! of it.
-ghost use Rattle.std.specs.Prelude.{◌≡◌, ◌≢◌, ℕ, ◌+◌, ◌^◌, ◌≤◌, ◌==◌, ◌&&◌, true, if◌then◌else◌, List, [], Some, IfNone, IfSome, OnOk, OnErr};
-ghost use Rattle.record_book.specs.HeapPlaces.{Place, address_of, class_of, next_address, placed, released};
-ghost use Rattle.record_book.specs.HeapState.{IsHeap, entry_at, has_place};
+ghost use Rattle.std.specs.Prelude.{◌≡◌, ℕ, ◌+◌, ◌^◌, ◌≤◌, ◌==◌, ◌&&◌, true, false, if◌then◌else◌, List, [], Option, IfNone, IfOk, IfSome, OnOk, OnErr};
+ghost use Rattle.record_book.specs.HeapPlaces.{Place, address_of, class_of};
+ghost use Rattle.record_book.specs.HeapState.{AreOf, FreesBlock, HasSpace, IsHeap, IsSameHeap, PutsBlock, TakesNext, entry_at, has_place};
 
 use crate::free_places::FreePlaces;
 use hp_num::NoMemory;
@@ -59,86 +59,76 @@ impl Heap {
         self.live.get(&(thread, id)).copied()
     }
 
-    /// Where a block of a size lies once the block that lay at `left` is freed, if there is one.
-    pub fn next_place(&self, left: Option<LiveEntry>, size: u64) -> LiveEntry
-        requires { size ≤ 2 ^ 32 }
-        ensures class { result.class ≡ class_of size }
-        ensures address { (places : List Place) (thread id : ℕ) → IsHeap self.now places
-            → left ≡ entry_at self.now thread id
-            → result.address ≡ next_address (class_of size) (released thread id places) }
-    {
-        let class = class_of(size);
-        let address = self.next_address(left, class);
-        LiveEntry { address, class }
-    }
-
-    /// Puts a block under a thread's ID where `next_place` says, in the place of the live block of that ID, which lies at `left`.
-    /// On `NoMemory` the heap is as before.
-    pub fn place(
+    /// Puts a block of at most 2^32 bytes under a thread's ID, at the next address of its class, and answers that. The live
+    /// block of the ID, which lies at `left`, is freed before. On `NoMemory` the heap is as before.
+    pub fn put(
         &mut self,
         thread: u32,
         id: u64,
         left: Option<LiveEntry>,
-        entry: LiveEntry,
-    ) -> Result<(), NoMemory>
+        size: u64,
+    ) -> Result<u64, NoMemory>
         requires left { left ≡ entry_at self.old thread id }
-        requires few_bytes { entry.class ≤ 2 ^ 33 }
-        requires room { self.old.end + 2 ^ 33 ≤ 2 ^ 63 }
-        ensures placed { OnOk result
-            ((places : List Place) (size : ℕ) → IsHeap self.old places → entry.class ≡ class_of size
-            → entry.address ≡ next_address (class_of size) (released thread id places)
-            → IsHeap self.new (placed (record { thread = thread; id = id; size = size })
-            (released thread id places))) }
-        ensures unchanged { OnErr result
-            ((places : List Place) → IsHeap self.old places → IsHeap self.new places) }
+        requires few_bytes { size ≤ 2 ^ 32 }
+        requires space { HasSpace self.old }
+        ensures put { IfOk result (PutsBlock self.old self.new thread id size) }
+        ensures same { OnErr result (IsSameHeap self.old self.new) }
         ensures end { self.new.end ≤ self.old.end + 2 ^ 33 }
-        ensures same_end { OnErr result (self.new.end ≡ self.old.end) }
     {
+        self.live.reserve(1)?;
         self.free_place(left)?;
-        self.live.insert((thread, id), entry)?;
-        self.free.remove(entry.class, entry.address);
-        if entry.address == self.end {
-            self.end += entry.class;
-        }
-        Ok(())
+        let class = class_of(size);
+        let address = self.take_address(class);
+        self.live
+            .insert((thread, id), LiveEntry { address, class })?;
+        Ok(address)
     }
 
-    /// Frees the live block of a thread's ID, which lies at `left`, where there is one. On `NoMemory` the heap is as before.
-    pub fn release(&mut self, thread: u32, id: u64, left: Option<LiveEntry>) -> Result<(), NoMemory>
-        requires left { left ≡ entry_at self.old thread id }
-        ensures released { OnOk result
-            ((places : List Place) → IsHeap self.old places
-            → IsHeap self.new (released thread id places)) }
-        ensures unchanged { OnErr result
-            ((places : List Place) → IsHeap self.old places → IsHeap self.new places) }
+    /// Frees the live block of a thread's ID, and answers its address; 0 where there is none. On `NoMemory` the heap is as
+    /// before.
+    pub fn release(&mut self, thread: u32, id: u64) -> Result<u64, NoMemory>
+        requires { HasSpace self.old }
+        ensures freed { IfOk result (FreesBlock self.old self.new thread id) }
+        ensures same { OnErr result (IsSameHeap self.old self.new) }
         ensures end { self.new.end ≡ self.old.end }
     {
-        self.free_place(left)?;
-        self.live.remove(&(thread, id));
-        Ok(())
+        self.live.reserve(1)?;
+        let Some(left) = self.live.remove(&(thread, id)) else {
+            return Ok(0);
+        };
+        match self.free.insert(left.class, left.address) {
+            Ok(()) => Ok(left.address),
+            Err(wanting) => {
+                self.live.insert((thread, id), left)?;
+                Err(wanting)
+            }
+        }
     }
 
-    // The address of the next block of a class once the block that lay at `left` is freed, if there is one.
-    fn next_address(&self, left: Option<LiveEntry>, class: u64) -> u64
-        ensures { (places : List Place) (thread id : ℕ) → IsHeap self.now places
-            → left ≡ entry_at self.now thread id
-            → result ≡ next_address class (released thread id places) }
+    // Takes the next address of a class, which is at most 2^33.
+    fn take_address(&mut self, class: u64) -> u64
+        requires few_bytes { class ≤ 2 ^ 33 }
+        requires room { self.old.end + 2 ^ 33 ≤ 2 ^ 63 }
+        ensures taken { (live : ℕ → ℕ → Option LiveEntry) (places : List Place)
+            → AreOf live (has_place self.old.free) self.old.end places
+            → TakesNext self.old self.new class places result }
+        ensures live { self.new.live ≡ self.old.live }
+        ensures end { self.new.end ≤ self.old.end + class }
     {
-        let left = left_address(left, class);
-        match self.free.first(class) {
-            Some(first) => match left {
-                Some(address) => first.min(address),
-                None => first,
-            },
-            None => match left {
-                Some(address) => address,
-                None => self.end,
-            },
+        match self.free.take_first(class) {
+            Some(address) => address,
+            None => {
+                let address = self.end;
+                self.end += class;
+                address
+            }
         }
     }
 
     // Puts the place of a block that was live among those without a block, where there was one.
     fn free_place(&mut self, left: Option<LiveEntry>) -> Result<(), NoMemory>
+        requires { IfSome left
+            (λ entry. has_place self.old.free entry.class entry.address ≡ false) }
         ensures freed { OnOk result
             (IfSome left
             (λ entry. (c a : ℕ) → has_place self.new.free c a
@@ -156,20 +146,6 @@ impl Heap {
             Some(LiveEntry { address, class }) => self.free.insert(class, address),
             None => Ok(()),
         }
-    }
-}
-
-// The address of the block that lay at `left`, where its place has the class.
-fn left_address(left: Option<LiveEntry>, class: u64) -> Option<u64>
-    ensures left { IfSome result
-        (λ address. left ≡ Some (record { address = address; class = class })) }
-    ensures none { IfNone result (IfSome left (λ entry. entry.class ≢ class)) }
-{
-    let entry = left?;
-    if entry.class == class {
-        Some(entry.address)
-    } else {
-        None
     }
 }
 

@@ -13,7 +13,7 @@
 //!   `is_complete` tells whether all turns are taken. A book is such a stream of which nothing was let go.
 //! - `finish` takes all turns that are left: the book that it gives is one of the scripts that are handed in, its order
 //!   is an interleaving of them (`IsInterleaving`) whose figures are those of the scripts (`HasScriptFigures`), and
-//!   where the book had these scripts, its order goes on from the earlier one.
+//!   where the book had these scripts and modules, for as many events or not, its order goes on from the earlier one.
 //! - `put_summary` appends the six lines of a book whose turns are all taken (`rec_summary`), as `finish` gives it;
 //!   they are meant to stand behind its bytes.
 //! - The law `spelled_orders` says which order the bytes of a recording spell (`spelled`): that of the recording, also
@@ -30,13 +30,15 @@
 //! | `trace.rt` | appends the lines of a turn, and takes them back where memory is wanting halfway |
 //! | `node_lines.rt` | interns a stack from the outermost pointer on, and writes each new node |
 //! | `turn_stack.rt`, `node_map.rt` | a turn's stack, by its node or by its pointers; the nodes of the trace by those of the scripts |
-//! | `heap.rt`, `free_places.rt` | where blocks lie, and the places without a block in order |
+//! | `heap.rt` | where blocks lie |
+//! | `free_places.rt`, `free_addresses.rt` | the places without a block: those of a class in a heap each |
 //! | `tally.rt`, `summary.rt` | the figures of turns that are taken one after another; the six lines |
 //! | `same_scripts.rt` | whether two jobs are the same, turn by turn |
 //! | `spelling.rt` | the laws on the order that bytes spell |
 #![tactic(auto)]
 
 mod book;
+mod free_addresses;
 mod free_places;
 mod heap;
 mod node_lines;

@@ -1,12 +1,11 @@
 //! The nodes of a recorded trace, and the lines of new ones.
 #![tactic(auto, using(hp_num::proofs::Laws::extends_same, hp_num::proofs::Laws::extends_more, hp_num::proofs::Laws::extends_trans))]
 
-ghost use Rattle.std.specs.Prelude.{◌≡◌, ℕ, ◌+◌, ◌-◌, ◌^◌, ◌<◌, ◌≤◌, List, length, IfOk, OnErr};
+ghost use Rattle.std.specs.Prelude.{◌≡◌, ℕ, ◌+◌, ◌-◌, ◌^◌, ◌≤◌, List, length, IfOk, OnErr};
 ghost use Rattle.hp_num.specs.Extends.{Extends};
-ghost use Rattle.stack_table.specs.Continues.{Continues};
 ghost use Rattle.stack_table.specs.Stack.{stack as stack_of};
-ghost use Rattle.record_book.specs.MappedNodes.{IsKnown, ips_of};
-ghost use Rattle.record_book.specs.NodeState.{AreNumbered, ArePut, IsInterned, IsNext};
+ghost use Rattle.record_book.specs.MappedNodes.{HasNodeRoom, ips_of};
+ghost use Rattle.record_book.specs.NodeState.{AreNumbered, ArePut, CanCall, GrowsNodes, IsInterned, IsNext};
 
 use crate::turn_stack::TurnStack;
 use hp_num::NoMemory;
@@ -18,18 +17,14 @@ use stack_table::{NodeFault, Nodes};
 ///
 /// On `NoMemory` some of the nodes and of their lines may stand.
 pub fn put_stack(nodes: &mut Nodes, stack: TurnStack, text: &mut Vec<u8>) -> Result<u32, NoMemory>
-    requires numbered { (known : List (List ℕ)) × AreNumbered nodes.old known }
     requires few_ips { length (ips_of nodes.old stack) ≤ 256 }
-    requires known { IsKnown nodes.old stack }
-    requires room { length nodes.old + 256 ≤ 2 ^ 32 - 2 }
+    requires room { HasNodeRoom nodes.old stack }
     ensures put { IfOk result
         (λ node. (known : List (List ℕ)) → AreNumbered nodes.old known
         → ArePut known (ips_of nodes.old stack.entry) nodes.new node text.old.items
         text.new.items) }
     ensures stack { IfOk result (λ node. stack_of nodes.new node ≡ ips_of nodes.old stack.entry) }
-    ensures within { IfOk result (λ node. node ≤ length nodes.new) }
-    ensures few_more { length nodes.new ≤ length nodes.old + 256 }
-    ensures continues { Continues nodes.old nodes.new }
+    ensures grown { GrowsNodes nodes.old nodes.new 256 result }
     ensures kept { Extends text.old.items text.new.items }
 {
     match stack {
@@ -47,9 +42,7 @@ fn put_nodes(nodes: &mut Nodes, ips: &[u64], text: &mut Vec<u8>) -> Result<u32, 
     ensures put { IfOk result
         (λ node. (known : List (List ℕ)) → AreNumbered nodes.old known
         → ArePut known ips.now nodes.new node text.old.items text.new.items) }
-    ensures within { IfOk result (λ node. node ≤ length nodes.new) }
-    ensures few_more { length nodes.new ≤ length nodes.old + 256 }
-    ensures continues { Continues nodes.old nodes.new }
+    ensures grown { GrowsNodes nodes.old nodes.new 256 result }
     ensures kept { Extends text.old.items text.new.items }
 {
     let mut parent = 0;
@@ -61,16 +54,11 @@ fn put_nodes(nodes: &mut Nodes, ips: &[u64], text: &mut Vec<u8>) -> Result<u32, 
 
 // The node of an ip that is called from a node, with its line where it is new.
 fn put_node(nodes: &mut Nodes, ip: u64, parent: u32, text: &mut Vec<u8>) -> Result<u32, NoMemory>
-    requires numbered { (known : List (List ℕ)) × AreNumbered nodes.old known }
-    requires held { parent ≤ length nodes.old }
-    requires shallow { length (stack_of nodes.old parent) < 4096 }
-    requires room { length nodes.old < 2 ^ 32 - 2 }
+    requires { CanCall nodes.old parent }
     ensures next { IfOk result
         (λ node. (known : List (List ℕ)) → AreNumbered nodes.old known
         → IsNext nodes.old known nodes.new node ip parent text.old.items text.new.items) }
-    ensures within { IfOk result (λ node. node ≤ length nodes.new) }
-    ensures few_more { length nodes.new ≤ length nodes.old + 1 }
-    ensures continues { Continues nodes.old nodes.new }
+    ensures grown { GrowsNodes nodes.old nodes.new 1 result }
     ensures kept { Extends text.old.items text.new.items }
 {
     let len = nodes.len();
@@ -84,16 +72,11 @@ fn put_node(nodes: &mut Nodes, ip: u64, parent: u32, text: &mut Vec<u8>) -> Resu
 
 // The number of the node of an ip that is called from a node. On `NoMemory` the nodes are as before.
 fn intern(nodes: &mut Nodes, ip: u64, parent: u32) -> Result<u32, NoMemory>
-    requires numbered { (known : List (List ℕ)) × AreNumbered nodes.old known }
-    requires held { parent ≤ length nodes.old }
-    requires shallow { length (stack_of nodes.old parent) < 4096 }
-    requires room { length nodes.old < 2 ^ 32 - 2 }
+    requires { CanCall nodes.old parent }
     ensures interned { IfOk result
         (λ node. (known : List (List ℕ)) → AreNumbered nodes.old known
         → IsInterned nodes.old known nodes.new node ip parent) }
-    ensures within { IfOk result (λ node. node ≤ length nodes.new) }
-    ensures few_more { length nodes.new ≤ length nodes.old + 1 }
-    ensures continues { Continues nodes.old nodes.new }
+    ensures grown { GrowsNodes nodes.old nodes.new 1 result }
     ensures unchanged { OnErr result (nodes.new ≡ nodes.old) }
 {
     match nodes.intern(ip, u64::from(parent), 1) {

@@ -1,5 +1,5 @@
 //! Which node of the trace has the stack of a node of the scripts. How the lines of nodes are written is no part of it.
-ghost use Rattle.std.specs.Prelude.{◌≡◌, ◌≢◌, ℕ, ◌+◌, ◌<◌, ◌≤◌, List, length, IfOk, OnErr};
+ghost use Rattle.std.specs.Prelude.{◌≡◌, ◌≢◌, ℕ, ◌+◌, ◌<◌, ◌≤◌, List, length, IfOk};
 ghost use Rattle.stack_table.specs.Node.{Node};
 ghost use Rattle.stack_table.specs.Stack.{stack};
 ghost use Rattle.record_scripts.specs.ScriptNodes.{nodes_in};

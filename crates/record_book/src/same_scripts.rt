@@ -2,20 +2,18 @@
 ghost use Rattle.std.specs.Prelude.{◌≡◌, ◌<◌, ◌↔◌, length, option_map, IfOk, IsTrue};
 ghost use Rattle.record_scripts.specs.ScriptTurns.{turn_said};
 ghost use Rattle.record_scripts.specs.Turns.{script_at};
+ghost use Rattle.record_book.specs.BookState.{IsSameWork};
 
 use hp_num::NoMemory;
 use record_scripts::{ScriptLine, Scripts};
 use std::alloc::Global;
 
-/// Whether the scripts, the modules and the number of events that there may be are the same.
+/// Whether the scripts and the modules are the same, however many events there may be.
 pub fn is_same(alloc: Global, left: &Scripts, right: &Scripts) -> Result<bool, NoMemory>
-    ensures { IfOk result (λ same. IsTrue same ↔ (left.now ≡ right.now)) }
+    ensures { IfOk result (λ same. IsTrue same ↔ IsSameWork left.now right.now) }
 {
     if left.is_kept_as(right) {
         return Ok(true);
-    }
-    if left.limit() != right.limit() {
-        return Ok(false);
     }
     if left.modules() != right.modules() {
         return Ok(false);

@@ -5,7 +5,7 @@ ghost use Rattle.record_scripts.specs.Events.{allocation, free};
 ghost use Rattle.record_scripts.specs.ScriptTurns.{turn_said};
 ghost use Rattle.record_scripts.specs.Turns.{IsBounded};
 ghost use Rattle.record_book.specs.Actions.{Action};
-ghost use Rattle.record_book.specs.TallyState.{IsTally};
+ghost use Rattle.record_book.specs.TallyState.{HasCountRoom, IsTally};
 ghost use Rattle.record_book.specs.TraceState.{with_turn};
 
 use hp_num::NoMemory;
@@ -47,9 +47,7 @@ impl Tally {
     /// Takes a turn of a thread. On `NoMemory` nothing is said of the figures.
     pub fn take_turn(&mut self, thread: u32, turn: ScriptLine) -> Result<(), NoMemory>
         requires bounded { (ips : List ℕ) × IsBounded (turn_said turn ips) }
-        requires tallied { (actions : List Action) × IsTally self.old actions }
-        requires few_bytes { self.old.allocated ≤ 2 ^ 62 }
-        requires few_calls { self.old.calls ≤ 2 ^ 62 }
+        requires room { HasCountRoom self.old }
         ensures taken { OnOk result
             ((ips : List ℕ) (actions : List Action) → IsTally self.old actions
             → IsTally self.new (with_turn thread (turn_said turn ips) actions)) }
@@ -72,9 +70,7 @@ impl Tally {
     // Takes an allocation.
     fn allocate(&mut self, thread: u32, id: u64, size: u64) -> Result<(), NoMemory>
         requires few_bytes { size ≤ 2 ^ 32 }
-        requires tallied { (actions : List Action) × IsTally self.old actions }
-        requires byte_room { self.old.allocated ≤ 2 ^ 62 }
-        requires call_room { self.old.calls ≤ 2 ^ 62 }
+        requires room { HasCountRoom self.old }
         ensures taken { OnOk result
             ((ips : List ℕ) (actions : List Action) → IsTally self.old actions
             → IsTally self.new (record { thread = thread; event = allocation id size ips }

@@ -2,27 +2,21 @@
 //! part of it.
 #![tactic(auto, using(hp_num::proofs::Laws::extends_same, hp_num::proofs::Laws::extends_more, hp_num::proofs::Laws::extends_trans))]
 
-ghost use Rattle.std.specs.Prelude.{◌≡◌, ◌≢◌, ℕ, ◌+◌, ◌-◌, ◌^◌, ◌≤◌, List, [], ◌++◌, length, IfOk, OnOk, OnErr};
-ghost use Rattle.ht_lines.specs.Content.{raw_free_line};
+ghost use Rattle.std.specs.Prelude.{◌≡◌, ◌+◌, ◌≤◌, [], ◌++◌, length, vec_capacity, vec_len, IfOk, IsOk, OnOk, OnErr};
+ghost use Rattle.ht_lines.specs.Content.{raw_allocation_line, raw_free_line};
 ghost use Rattle.hp_num.specs.Extends.{Extends};
-ghost use Rattle.stack_table.specs.Continues.{Continues};
-ghost use Rattle.stack_table.specs.Stack.{stack as stack_of};
-ghost use Rattle.record_scripts.specs.ScriptTurns.{turn_said};
 ghost use Rattle.record_scripts.specs.Turns.{IsBounded, allocates};
-ghost use Rattle.record_book.specs.Actions.{Action};
-ghost use Rattle.record_book.specs.HeapPlaces.{Place, address_of};
-ghost use Rattle.record_book.specs.HeapState.{IsHeap, entry_at};
-ghost use Rattle.record_book.specs.MappedNodes.{IsKnown, ips_of};
-ghost use Rattle.record_book.specs.NodeState.{AreNumbered};
+ghost use Rattle.record_book.specs.HeapState.{entry_at};
+ghost use Rattle.record_book.specs.MappedNodes.{ips_of};
 ghost use Rattle.record_book.specs.RecordedTrace.{line_of, switch_text, thread_line};
-ghost use Rattle.record_book.specs.TraceState.{HasTurn, IsTrace, with_turn};
+ghost use Rattle.record_book.specs.TakenTurn.{AddsTurn, CanTake, HasRoom, IsUndone, PutsTurn, TakesTurn, turn_of};
+ghost use Rattle.record_book.specs.TraceState.{IsTrace};
 
 use crate::heap::{Heap, LiveEntry, address};
 use crate::node_lines::put_stack;
 use crate::turn_stack::TurnStack;
-use hp_num::{NoMemory, put_bytes, put_dec};
-use ht_lines::{Item, put_item};
-use record_scripts::{FILE_VERSION, ScriptLine};
+use hp_num::{LONGEST_NUMBER_LINE, NoMemory, put_bytes, put_dec, put_number_line};
+use record_scripts::ScriptLine;
 use stack_table::Nodes;
 use std::alloc::Global;
 
@@ -55,28 +49,12 @@ impl Trace {
 
     /// Appends the events of a turn of a thread. On `NoMemory` the trace is as before.
     pub fn add(&mut self, thread: u32, turn: ScriptLine, stack: TurnStack) -> Result<u32, NoMemory>
-        requires bounded { IsBounded (turn_said turn (ips_of self.old.nodes stack)) }
-        requires known { IsKnown self.old.nodes stack }
-        requires numbered { (known : List (List ℕ)) × AreNumbered self.old.nodes known }
-        requires node_room { length self.old.nodes + 256 ≤ 2 ^ 32 - 2 }
-        requires heap_room { self.old.heap.end + 2 ^ 33 ≤ 2 ^ 63 }
+        requires { CanTake self.old thread turn stack }
         ensures added { OnOk result
-            ((gone modules : List ℕ) (actions : List Action) → IsTrace gone self.old modules actions
-            → IsTrace gone self.new modules
-            (with_turn thread (turn_said turn (ips_of self.old.nodes stack.entry)) actions)) }
-        ensures unchanged { OnErr result
-            ((gone modules : List ℕ) (actions : List Action) → IsTrace gone self.old modules actions
-            → IsTrace gone self.new modules actions) }
+            (AddsTurn self.old self.new thread (turn_of self.old turn stack.entry)) }
         ensures kept { Extends self.old.text.items self.new.text.items }
-        ensures same_text { OnErr result (self.new.text.items ≡ self.old.text.items) }
-        ensures node { IfOk result
-            (λ node. (node ≤ length self.new.nodes) × (node ≢ 0
-            → stack_of self.new.nodes node ≡ ips_of self.old.nodes stack.entry)) }
-        ensures few_more { length self.new.nodes ≤ length self.old.nodes + 256 }
-        ensures continues { OnOk result (Continues self.old.nodes self.new.nodes) }
-        ensures same_nodes { OnErr result (self.new.nodes ≡ self.old.nodes) }
-        ensures end { self.new.heap.end ≤ self.old.heap.end + 2 ^ 33 }
-        ensures same_end { OnErr result (self.new.heap.end ≡ self.old.heap.end) }
+        ensures takes { TakesTurn self.old self.new (ips_of self.old.nodes stack.entry) result }
+        ensures undone { OnErr result (IsUndone self.old self.new) }
     {
         let text_len = self.text.len();
         let node_count = self.nodes.len();
@@ -90,26 +68,11 @@ impl Trace {
 
     // The same; on `NoMemory` the text and the nodes may have more at their ends.
     fn put_turn(&mut self, thread: u32, turn: ScriptLine, stack: TurnStack) -> Result<u32, NoMemory>
-        requires bounded { IsBounded (turn_said turn (ips_of self.old.nodes stack)) }
-        requires known { IsKnown self.old.nodes stack }
-        requires numbered { (known : List (List ℕ)) × AreNumbered self.old.nodes known }
-        requires node_room { length self.old.nodes + 256 ≤ 2 ^ 32 - 2 }
-        requires heap_room { self.old.heap.end + 2 ^ 33 ≤ 2 ^ 63 }
+        requires { CanTake self.old thread turn stack }
         ensures added { OnOk result
-            ((gone modules : List ℕ) (actions : List Action) → IsTrace gone self.old modules actions
-            → IsTrace gone self.new modules
-            (with_turn thread (turn_said turn (ips_of self.old.nodes stack.entry)) actions)) }
-        ensures same_heap { OnErr result
-            ((places : List Place) → IsHeap self.old.heap places → IsHeap self.new.heap places) }
-        ensures same_last { OnErr result (self.new.last ≡ self.old.last) }
-        ensures node { IfOk result
-            (λ node. (node ≤ length self.new.nodes) × (node ≢ 0
-            → stack_of self.new.nodes node ≡ ips_of self.old.nodes stack.entry)) }
-        ensures few_more { length self.new.nodes ≤ length self.old.nodes + 256 }
-        ensures continues { Continues self.old.nodes self.new.nodes }
+            (AddsTurn self.old self.new thread (turn_of self.old turn stack.entry)) }
         ensures kept { Extends self.old.text.items self.new.text.items }
-        ensures end { self.new.heap.end ≤ self.old.heap.end + 2 ^ 33 }
-        ensures same_end { OnErr result (self.new.heap.end ≡ self.old.heap.end) }
+        ensures takes { TakesTurn self.old self.new (ips_of self.old.nodes stack.entry) result }
     {
         put_switch(&mut self.text, self.last, thread)?;
         let node = self.put_events(thread, turn, stack)?;
@@ -124,42 +87,25 @@ impl Trace {
         turn: ScriptLine,
         stack: TurnStack,
     ) -> Result<u32, NoMemory>
-        requires bounded { IsBounded (turn_said turn (ips_of self.old.nodes stack)) }
-        requires known { IsKnown self.old.nodes stack }
-        requires numbered { (known : List (List ℕ)) × AreNumbered self.old.nodes known }
-        requires node_room { length self.old.nodes + 256 ≤ 2 ^ 32 - 2 }
-        requires heap_room { self.old.heap.end + 2 ^ 33 ≤ 2 ^ 63 }
-        ensures put { OnOk result
-            ((known : List (List ℕ)) (places : List Place) → AreNumbered self.old.nodes known
-            → IsHeap self.old.heap places
-            → HasTurn self.old.text.items self.new known places thread
-            (turn_said turn (ips_of self.old.nodes stack.entry))) }
-        ensures same_heap { OnErr result
-            ((places : List Place) → IsHeap self.old.heap places → IsHeap self.new.heap places) }
-        ensures same_last { self.new.last ≡ self.old.last }
-        ensures node { IfOk result
-            (λ node. (node ≤ length self.new.nodes) × (node ≢ 0
-            → stack_of self.new.nodes node ≡ ips_of self.old.nodes stack.entry)) }
-        ensures few_more { length self.new.nodes ≤ length self.old.nodes + 256 }
-        ensures continues { Continues self.old.nodes self.new.nodes }
+        requires { CanTake self.old thread turn stack }
+        ensures put { OnOk result (PutsTurn self.old self.new thread
+            (turn_of self.old turn stack.entry)) }
         ensures kept { Extends self.old.text.items self.new.text.items }
-        ensures end { self.new.heap.end ≤ self.old.heap.end + 2 ^ 33 }
-        ensures same_end { OnErr result (self.new.heap.end ≡ self.old.heap.end) }
+        ensures takes { TakesTurn self.old self.new (ips_of self.old.nodes stack.entry) result }
     {
         match turn {
             ScriptLine::Allocation { id, size } => {
-                let left = self.heap.entry(thread, id);
-                self.put_allocation(thread, id, left, size, stack)
+                self.put_allocation(thread, id, None, size, stack)
             }
             ScriptLine::Free { id } => {
-                let left = self.heap.entry(thread, id);
-                put_free(&mut self.text, left)?;
-                self.heap.release(thread, id, left)?;
+                self.text.reserve(LONGEST_NUMBER_LINE)?;
+                let ptr = self.heap.release(thread, id)?;
+                put_free(&mut self.text, ptr)?;
                 Ok(0)
             }
             ScriptLine::Reallocation { id, size } => {
                 let left = self.heap.entry(thread, id);
-                put_free(&mut self.text, left)?;
+                put_free(&mut self.text, address(left))?;
                 self.put_allocation(thread, id, left, size, stack)
             }
         }
@@ -175,54 +121,39 @@ impl Trace {
         stack: TurnStack,
     ) -> Result<u32, NoMemory>
         requires left { left ≡ entry_at self.old.heap thread id }
-        requires few_bytes { size ≤ 2 ^ 32 }
-        requires few_ips { length (ips_of self.old.nodes stack) ≤ 256 }
-        requires known { IsKnown self.old.nodes stack }
-        requires numbered { (known : List (List ℕ)) × AreNumbered self.old.nodes known }
-        requires node_room { length self.old.nodes + 256 ≤ 2 ^ 32 - 2 }
-        requires heap_room { self.old.heap.end + 2 ^ 33 ≤ 2 ^ 63 }
-        ensures put { OnOk result
-            ((known : List (List ℕ)) (places : List Place) → AreNumbered self.old.nodes known
-            → IsHeap self.old.heap places
-            → HasTurn self.old.text.items self.new known places thread
+        requires bounded { IsBounded (allocates id size (ips_of self.old.nodes stack)) }
+        requires room { HasRoom self.old stack }
+        ensures put { OnOk result (PutsTurn self.old self.new thread
             (allocates id size (ips_of self.old.nodes stack.entry))) }
-        ensures same_heap { OnErr result
-            ((places : List Place) → IsHeap self.old.heap places → IsHeap self.new.heap places) }
-        ensures same_last { self.new.last ≡ self.old.last }
-        ensures node { IfOk result
-            (λ node. (node ≤ length self.new.nodes) × (node ≢ 0
-            → stack_of self.new.nodes node ≡ ips_of self.old.nodes stack.entry)) }
-        ensures few_more { length self.new.nodes ≤ length self.old.nodes + 256 }
-        ensures continues { Continues self.old.nodes self.new.nodes }
         ensures kept { Extends self.old.text.items self.new.text.items }
-        ensures end { self.new.heap.end ≤ self.old.heap.end + 2 ^ 33 }
-        ensures same_end { OnErr result (self.new.heap.end ≡ self.old.heap.end) }
+        ensures takes { TakesTurn self.old self.new (ips_of self.old.nodes stack.entry) result }
     {
         let node = put_stack(&mut self.nodes, stack, &mut self.text)?;
-        let entry = self.heap.next_place(left, size);
-        let trace = u64::from(node);
-        let ptr = entry.address;
-        put_item(
-            FILE_VERSION,
-            &Item::RawAlloc { size, trace, ptr },
-            &mut self.text,
-        )?;
-        self.heap.place(thread, id, left, entry)?;
+        self.text.reserve(LONGEST_NUMBER_LINE)?;
+        let ptr = self.heap.put(thread, id, left, size)?;
+        put_alloc(&mut self.text, size, u64::from(node), ptr)?;
         Ok(node)
     }
 }
 
-// Appends the line of the free of a block that lies at `left`.
-fn put_free(text: &mut Vec<u8>, left: Option<LiveEntry>) -> Result<(), NoMemory>
+// Appends the line of an allocation. It can't fail where there is room for 53 bytes.
+fn put_alloc(text: &mut Vec<u8>, size: u64, trace: u64, ptr: u64) -> Result<(), NoMemory>
     ensures appended { OnOk result
-        ((heap : Heap) (places : List Place) (thread id : ℕ) → IsHeap heap places
-        → left ≡ entry_at heap thread id
-        → text.new.items ≡ text.old.items
-        ++ line_of (raw_free_line (address_of thread id places))) }
+        (text.new.items ≡ text.old.items ++ line_of (raw_allocation_line size trace ptr)) }
     ensures kept { Extends text.old.items text.new.items }
+    ensures room { vec_len text.old + 53 ≤ vec_capacity text.old → IsOk result }
 {
-    let ptr = address(left);
-    put_item(FILE_VERSION, &Item::RawFree { ptr }, text)
+    put_number_line(text, b'+', &[size, trace, ptr])
+}
+
+// Appends the line of a free. It can't fail where there is room for 53 bytes.
+fn put_free(text: &mut Vec<u8>, ptr: u64) -> Result<(), NoMemory>
+    ensures appended { OnOk result
+        (text.new.items ≡ text.old.items ++ line_of (raw_free_line ptr)) }
+    ensures kept { Extends text.old.items text.new.items }
+    ensures room { vec_len text.old + 53 ≤ vec_capacity text.old → IsOk result }
+{
+    put_number_line(text, b'-', &[ptr])
 }
 
 // Appends the line that names a thread, where the event before is of another or there is none.

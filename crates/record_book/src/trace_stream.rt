@@ -1,11 +1,11 @@
 //! The trace of a recording turn by turn, of which a front may be let go. That all of it is kept, is no part of it.
-ghost use Rattle.std.specs.Prelude.{◌≡◌, ◌≢◌, ℕ, ◌+◌, ◌<◌, ◌≤◌, ◌↔◌, false, List, [], ◌++◌, length, vec_capacity, vec_len, IfOk, IsOk, IsTrue, OnOk, OnErr, nat_lt};
+ghost use Rattle.std.specs.Prelude.{◌≡◌, ◌≢◌, ℕ, ◌+◌, ◌<◌, ◌≤◌, ◌↔◌, List, [], ◌++◌, length, vec_capacity, vec_len, IfOk, IsOk, IsTrue, OnOk, OnErr};
 ghost use Rattle.std.specs.Arc.{arc_value};
 ghost use Rattle.stack_table.specs.Node.{Node};
 ghost use Rattle.record_scripts.specs.Events.{event_count};
 ghost use Rattle.record_scripts.specs.ScriptTurns.{turn_said};
-ghost use Rattle.record_book.specs.Actions.{actions, events_at, times};
-ghost use Rattle.record_book.specs.BookState.{entries_of, stepped};
+ghost use Rattle.record_book.specs.Actions.{actions};
+ghost use Rattle.record_book.specs.BookState.{IsSameWork, IsStep, entries_of};
 ghost use Rattle.record_book.specs.HeapPlaces.{AreApart, live_blocks, places_after};
 ghost use Rattle.record_book.specs.Orders.{IsInterleaving, IsUnder};
 ghost use Rattle.record_book.specs.MappedNodes.{IsKnown, ips_of};
@@ -76,19 +76,11 @@ impl TraceStream {
     /// done. On `NoMemory` all is as before.
     pub fn step(&mut self, thread: u32) -> Result<bool, NoMemory>
         requires { thread < length self.old.job.scripts }
-        ensures stepped { OnOk result
-            (self.new.order ≡ stepped self.old.job.scripts thread self.old.order) }
+        ensures step { IfOk result (IsStep self.old.job thread self.old.order self.new.order) }
         ensures job { self.new.job ≡ self.old.job }
         ensures text { OnOk result ((more : List ℕ) × (self.new.text ≡ self.old.text ++ more)
             × (recorded self.new.job self.new.order
             ≡ recorded self.old.job self.old.order ++ more)) }
-        ensures more { IfOk result
-            (λ more. more ≡ nat_lt (times thread self.old.order)
-            (length (events_at self.old.job.scripts thread))) }
-        ensures done { IfOk result
-            (λ more. more ≡ false
-            → times thread self.new.order ≡ length (events_at self.new.job.scripts thread)) }
-        ensures under { OnOk result (IsUnder self.new.job.scripts self.new.order) }
         ensures unchanged { OnErr result (self.new ≡ self.old) }
     {
         let place = self.done[thread as usize];
@@ -125,6 +117,15 @@ impl TraceStream {
         ensures { self.new ≡ record self.old { text = [] } }
     {
         self.trace.text.clear();
+    }
+
+    /// Takes other scripts in the place of these. They and their modules have to be the same, however many events there may
+    /// be.
+    pub(crate) fn take_job(&mut self, job: Arc<Scripts>)
+        requires { IsSameWork self.old.job (arc_value job) }
+        ensures { self.new ≡ record self.old { job = arc_value job } }
+    {
+        self.job = job;
     }
 
     /// The thread of each event so far.

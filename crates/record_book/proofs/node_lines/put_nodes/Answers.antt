@@ -1,4 +1,4 @@
-use Rattle.std.proofs.Common.{◌≡◌, ℕ, List, [], ◌∷◌, ◌++◌, ap, ◌∙◌, arith, append_assoc}
+use Rattle.std.proofs.Common.{rules, ◌≡◌, ℕ, List, [], ◌∷◌, ◌++◌, length, ap, ◌∙◌, arith, append_assoc, length-append}
 use Rattle.record_book.specs.NodeNumbers.{with_suffixes}
 use Rattle.hp_num.proofs.Laws.{extends_trans}
 use Rattle.record_book.proofs.NodeLemmas.{continues-trans, put-more}
@@ -8,8 +8,17 @@ use Rattle.record_book.proofs.node_lines.put_nodes.Goals as goal
 parted : (whole inner left outer : List ℕ) (ip : ℕ) → whole ≡ left ++ outer → left ≡ inner ++ ip ∷ [] → whole ≡ inner ++ ip ∷ outer
 parted whole inner left outer ip is last = is ∙ ap (λ (xs : List ℕ). xs ++ outer) last ∙ append_assoc inner (ip ∷ []) outer
 
-pub returns-in_err-parent-clause-continues : goal.returns-in_err-parent-clause-continues
-returns-in_err-parent-clause-continues c = continues-trans c.args.nodes.now c.loop-ip.nodes c.put_node.new.nodes c.loop-ip.invariant.5 c.in_err-parent.ensures.continues
+pub returns-in_err-parent-clause-grown : goal.returns-in_err-parent-clause-grown
+returns-in_err-parent-clause-grown c =
+    let before = c.loop-ip.invariant in
+    let ip = c.in-Some.ip.now in
+    let rest = c.next.new.self.iter.rest.now in
+    let whole = ap length (parted c.args.ips.now rest c.loop-ip.ip-iterator.iter.rest.now before.0 ip before.1 c.in-Some.ensures.steps) ∙ length-append rest (ip ∷ before.0) in
+    record {
+      continues = continues-trans c.args.nodes.now c.loop-ip.nodes c.put_node.new.nodes before.5 c.in_err-parent.ensures.grown.continues;
+      few_more = omega (arith, before.4, c.in_err-parent.ensures.grown.few_more, whole, c.requires.few_ips);
+      held = search rules;
+    }
 
 pub loop-ip-preserved : goal.loop-ip-preserved
 loop-ip-preserved c =
@@ -20,9 +29,9 @@ loop-ip-preserved c =
       λ known are.
           put-more known before.0 c.loop-ip.nodes c.put_node.new.nodes c.loop-ip.parent c.in_ok-parent.parent ip c.args.text.now.items c.loop-ip.text.items c.put_node.new.text.items
           (before.2 known are) (c.in_ok-parent.ensures.next (with_suffixes known before.0) (before.2 known are).numbered),
-      c.in_ok-parent.ensures.within,
-      omega (arith, before.4, c.in_ok-parent.ensures.few_more),
-      continues-trans c.args.nodes.now c.loop-ip.nodes c.put_node.new.nodes before.5 c.in_ok-parent.ensures.continues,
+      c.in_ok-parent.ensures.grown.held,
+      omega (arith, before.4, c.in_ok-parent.ensures.grown.few_more),
+      continues-trans c.args.nodes.now c.loop-ip.nodes c.put_node.new.nodes before.5 c.in_ok-parent.ensures.grown.continues,
       extends_trans c.args.text.now.items c.loop-ip.text.items c.put_node.new.text.items before.6 c.in_ok-parent.ensures.kept,
     )
 

@@ -12,4 +12,4 @@ returns-in-Known-clause-put c = λ known are.
     subst (λ (stack : TurnStack). ArePut known (ips_of nodes stack) nodes c.in-Known.node text text)
     (sym c.in-Known.is)
     (known-put nodes known c.in-Known.node text are
-    (subst (λ (stack : TurnStack). IsKnown nodes stack) c.in-Known.is c.requires.known))
+    (subst (λ (stack : TurnStack). IsKnown nodes stack) c.in-Known.is c.requires.room.known))

@@ -8,7 +8,8 @@ use Rattle.record_scripts.specs.Turns.{script_at}
 use Rattle.record_book.specs.Actions.{Action, actions}
 use Rattle.record_book.specs.StreamState.{done_at}
 use Rattle.record_book.specs.TallyState.{IsTally}
-use Rattle.record_book.proofs.StreamLemmas.{length-slice_set, length-zeros, place-is, zero-at}
+use Rattle.record_book.proofs.DoneLemmas.{length-slice_set}
+use Rattle.record_book.proofs.StreamLemmas.{length-zeros, place-is, zero-at}
 use Rattle.record_book.proofs.OrderLemmas.{actions-none}
 use Rattle.record_book.proofs.MapLemmas.{said_in}
 use Rattle.record_book.proofs.SameLemmas.{place-few}

@@ -1,4 +1,4 @@
-use Rattle.std.proofs.Common.{◌∷◌, true, false, sym, subst}
+use Rattle.std.proofs.Common.{◌∷◌, true, false, sym, subst, arith}
 use Rattle.record_scripts.specs.declared.script_line.ScriptLine.{ScriptLine}
 use Rattle.record_scripts.specs.Events.{free}
 use Rattle.record_scripts.specs.ScriptTurns.{turn_said}
@@ -7,9 +7,14 @@ use Rattle.record_book.specs.TraceState.{with_turn}
 use Rattle.record_book.proofs.TallyLemmas.{if-ok}
 use Rattle.record_book.proofs.tally.Tally.take_turn.Goals as goal
 
-pub allocate-requires-in-Reallocation-clause-tallied : goal.allocate-requires-in-Reallocation-clause-tallied
-allocate-requires-in-Reallocation-clause-tallied c =
-    (record { thread = c.args.thread; event = free c.in-Reallocation.id true } ∷ c.requires.tallied.0, c.free-in-Reallocation.ensures.taken true c.requires.tallied.0 c.requires.tallied.1)
+pub allocate-requires-in-Reallocation-clause-room : goal.allocate-requires-in-Reallocation-clause-room
+allocate-requires-in-Reallocation-clause-room c =
+    let tallied = c.requires.room.tallied in
+    record {
+      tallied = (record { thread = c.args.thread; event = free c.in-Reallocation.id true } ∷ tallied.0, c.free-in-Reallocation.ensures.taken true tallied.0 tallied.1);
+      few_bytes = omega (arith, c.free-in-Reallocation.ensures.bytes, c.requires.room.few_bytes);
+      few_calls = omega (arith, c.free-in-Reallocation.ensures.calls, c.requires.room.few_calls);
+    }
 
 pub returns-in-Allocation-clause-taken : goal.returns-in-Allocation-clause-taken
 returns-in-Allocation-clause-taken c =

@@ -1,6 +1,7 @@
 use Rattle.std.proofs.Common.{ℕ, [], List, length, sym, ap, ◌∙◌, subst}
 use Rattle.std.specs.Arc.{arc_value}
 use Rattle.record_scripts.specs.Job.{Job}
+use Rattle.record_scripts.specs.Playable.{IsPlayable}
 use Rattle.record_scripts.specs.ScriptNodes.{nodes_in}
 use Rattle.record_book.specs.MappedNodes.{AreMapped}
 use Rattle.record_book.specs.StreamState.{IsStream}
@@ -18,7 +19,8 @@ invariant_of-result c =
     let stream = subst (λ (order : List ℕ). IsStream job c.in_ok-done.done.items order c.in_ok-trace.trace) (sym c.new-3.ensures.items)
     (stream-none job c.in_ok-done.done.items c.threads.result c.in_ok-trace.trace (c.in_ok-done.ensures.items_if_clones_equal (λ y same. same))
     (c.threads.ensures.count ∙ ap (λ (j : Job). length j.scripts) c.deref.ensures)
-    (subst (λ (lines : List ℕ). IsTrace [] c.in_ok-trace.trace lines []) modules c.in_ok-trace.ensures.new) c.in_ok-trace.ensures.no_nodes c.in_ok-trace.ensures.end) in
+    (subst (λ (lines : List ℕ). IsTrace [] c.in_ok-trace.trace lines []) modules c.in_ok-trace.ensures.new) c.in_ok-trace.ensures.no_nodes c.in_ok-trace.ensures.end
+    (subst IsPlayable c.deref.ensures c.threads.ensures.playable)) in
     (stream, subst (λ (j : Job). AreMapped c.in_ok-nodes.nodes (nodes_in j.scripts) c.in_ok-trace.trace.nodes) c.deref-2.ensures (c.in_ok-nodes.ensures.mapped c.in_ok-trace.trace.nodes))
 
 pub returns-clause-whole : goal.returns-clause-whole
