@@ -43,7 +43,7 @@ before-refused input line job bytes count at Fault refused cut faulty = by (case
         faulty (λ before less. refused.lengths before (omega (arith, less, below, there)))
     by (inr past) =
         let within = cut.before.within in
-        refused.no_front (omega (arith, past, within)) (front-shorter job (lines_of bytes) (count + 1) at past cut.before.front)
+        refused.breaks.no_front (omega (arith, past, within)) (front-shorter job (lines_of bytes) (count + 1) at past cut.before.front)
 
 long-faulty : (input line : ℕ) (bytes : List ℕ) (at : ℕ) → LineTooLongAt input line bytes at → HasNoLengthFault input line bytes (at + 1) → ⊥
 long-faulty input line bytes at fault none = (none at (omega arith)).0 fault
@@ -57,8 +57,8 @@ same-refused input line job bytes count other refused another = by (cases_lt oth
     by : (other < count) ⊎ (count ≤ other) → count ≤ other
     by (inr within) = within
     by (inl below) =
-        let within = refused.before.within in
-        absurd (another.no_front (omega (arith, below, within)) (front-shorter job (lines_of bytes) (other + 1) count (omega (arith, below)) refused.before.front))
+        let within = refused.breaks.within in
+        absurd (another.breaks.no_front (omega (arith, below, within)) (front-shorter job (lines_of bytes) (other + 1) count (omega (arith, below)) refused.breaks.front))
 
 one-length : (input line : ℕ) (job : Job) (bytes : List ℕ) (at other : ℕ) → IsCutAt input line job bytes at (LineTooLongAt input line bytes at) → IsCutAt input line job bytes other (InputTooLongAt input line bytes other) → ⊥
 one-length input line job bytes at other long past = by (cases_lt at other) (cases_lt other at)
@@ -73,10 +73,10 @@ one-length input line job bytes at other long past = by (cases_lt at other) (cas
 pub one-answer : (input line : ℕ) (job : Job) (bytes : List ℕ) (left other_left : Option (List ℕ)) (result other : Result Verdict CheckFault) → Tells result → Tells other
     → CheckAnswer input line job bytes left result → CheckAnswer input line job bytes other_left other → result ≡ other
 one-answer input line job bytes left other_left (Ok (Yes events)) (Ok (Yes count)) t u x y = ap (λ (n : ℕ). Ok (Yes n)) (x.count ∙ sym y.count)
-one-answer input line job bytes left other_left (Ok (Yes events)) (Ok (No number)) t u x y = absurd (y.2.no_recording x.recording)
+one-answer input line job bytes left other_left (Ok (Yes events)) (Ok (No number)) t u x y = absurd (y.2.breaks.no_recording x.recording)
 one-answer input line job bytes left other_left (Ok (Yes events)) (Err LineTooLong) t u x y = absurd ((x.lengths y.0 y.1.there).0 y.1.fault)
 one-answer input line job bytes left other_left (Ok (Yes events)) (Err InputTooLong) t u x y = absurd ((x.lengths y.0 y.1.there).1 y.1.fault)
-one-answer input line job bytes left other_left (Ok (No number)) (Ok (Yes count)) t u x y = absurd (x.2.no_recording y.recording)
+one-answer input line job bytes left other_left (Ok (No number)) (Ok (Yes count)) t u x y = absurd (x.2.breaks.no_recording y.recording)
 one-answer input line job bytes left other_left (Ok (No number)) (Ok (No count)) t u x y =
     let less = same-refused input line job bytes x.0 y.0 x.2 y.2 in
     let more = same-refused input line job bytes y.0 x.0 y.2 x.2 in

@@ -7,4 +7,5 @@ mod SpelledFronts
 mod LengthLemmas
 mod LinesLoop
 mod StepLemmas
+mod KeptLemmas
 mod AnswerLemmas

@@ -141,12 +141,18 @@ pub refused-at : (input line passed : ℕ) (line_ended : Bool) (kept bytes : Lis
     → ¬ (IsLineTooLong input line passed before.rest) → ¬ (IsInputTooLong input line passed before.rest) → lines_of before.rest ≡ next ∷ more
     → is_front check.job (taken ++ next ∷ []) ≡ false → IsRefusedAt input line check.job bytes (length taken)
 refused-at input line passed line_ended kept bytes taken left check next more spelling has before short within lines_are refused = record {
-  before = good-front input line passed line_ended kept bytes taken left check spelling has before;
+  breaks = record {
+    within = good.within;
+    front = good.front;
+    no_front = λ less. no_front;
+    no_recording = λ recording. no_front (recording-front check.job bytes (length taken + 1) recording);
+  };
   lengths = subst (HasNoLengthFault input line bytes) (sym fits) (lengths-more input line bytes (length taken) before.lengths (λ long. short ((long-at input line passed line_ended kept bytes taken left before).2 long)) (λ long. within ((long-at input line passed line_ended kept bytes taken left before).3 long)));
-  no_front = λ less. no_front;
-  no_recording = λ recording. no_front (recording-front check.job bytes (length taken + 1) recording);
 }
   where
+    good : IsGoodFront input line check.job bytes (length taken)
+    good = good-front input line passed line_ended kept bytes taken left check spelling has before
+
     all : lines_of bytes ≡ (taken ++ next ∷ []) ++ more
     all = before.lines_are ∙ ap (λ (ls : List (List ℕ)). taken ++ ls) lines_are ∙ sym (append_assoc taken (next ∷ []) more)
 
@@ -181,15 +187,21 @@ pub refused-end : (input line passed : ℕ) (line_ended : Bool) (kept bytes : Li
     → IsSpelling check.job → HasTaken check taken → (before : ToldReading input line passed line_ended kept bytes taken left) → before.rest ≡ []
     → whole_events check.job taken line_ended ≡ None → IsRefusedAt input line check.job bytes (length taken)
 refused-end input line passed line_ended kept bytes taken left check spelling has before none whole = record {
-  before = good-front input line passed line_ended kept bytes taken left check spelling has before;
+  breaks = record {
+    within = good.within;
+    front = good.front;
+    no_front = λ less. absurd (omega (arith, less, ap length all));
+    no_recording = λ recording.
+        let found = only-whole check.job taken line_ended bytes spelling all (λ e. (before.cut e).1) recording in
+        let both : None ≡ Some (length (spelled bytes)) = sym whole ∙ found in
+        absurd (cc);
+  };
   lengths = subst (HasNoLengthFault input line bytes) (sym fits) before.lengths;
-  no_front = λ less. absurd (omega (arith, less, ap length all));
-  no_recording = λ recording.
-      let found = only-whole check.job taken line_ended bytes spelling all (λ e. (before.cut e).1) recording in
-      let both : None ≡ Some (length (spelled bytes)) = sym whole ∙ found in
-      absurd (cc);
 }
   where
+    good : IsGoodFront input line check.job bytes (length taken)
+    good = good-front input line passed line_ended kept bytes taken left check spelling has before
+
     all : lines_of bytes ≡ taken
     all = all-lines bytes before.rest taken before.lines_are none
 

@@ -8,7 +8,7 @@ use Rattle.order_check.specs.declared.verdict.CheckFault.{CheckFault}
 use Rattle.order_check.specs.declared.verdict.CheckFault.TheVariants.{InputTooLong, LineTooLong, NoMemory, ReadFailed}
 use Rattle.order_check.specs.declared.verdict.Verdict.{Verdict}
 use Rattle.order_check.specs.declared.verdict.Verdict.TheVariants.{No, Yes}
-use Rattle.order_check.specs.Fronts.{IsFront, IsRecording}
+use Rattle.order_check.specs.Fronts.{BreaksOff, IsFront, IsRecording}
 use Rattle.order_check.specs.LengthFaults.{HasNoLengthFault, InputTooLongAt, LineTooLongAt, behind_lines, length_before}
 
 -- the first so many lines of a file have no fault of their length, and some recording begins with them
@@ -23,13 +23,11 @@ pub record IsWhole (input line : ℕ) (job : Job) (bytes : List ℕ) (events : �
   pub recording : IsRecording job bytes
   pub count : events ≡ length (spelled bytes)
 
--- the file is none: the line behind so many is the first up to which no recording begins so, or the one behind the last
+-- the file is none: the line behind so many is the first up to which no recording begins so, or the one behind the last. None up
+-- to there has a fault of its length
 pub record IsRefusedAt (input line : ℕ) (job : Job) (bytes : List ℕ) (count : ℕ) : Type 0 where
-  pub before : IsGoodFront input line job bytes count
+  pub breaks : BreaksOff job bytes count
   pub lengths : HasNoLengthFault input line bytes (min (count + 1) (length (lines_of bytes)))
-  pub no_front : count < length (lines_of bytes)
-      → ¬ (IsFront job (take (count + 1) (lines_of bytes)))
-  pub no_recording : ¬ (IsRecording job bytes)
 
 -- the line behind so many is the first with a fault of its length, and some recording begins with the lines before it
 pub record IsCutAt (input line : ℕ) (job : Job) (bytes : List ℕ) (count : ℕ) (Fault : Type 0) : Type

@@ -1,13 +1,14 @@
 -- What the check of a trace stands for.
-use Rattle.std.specs.Prelude.{◌≡◌, ℕ, List, Some}
+use Rattle.std.specs.Prelude.{◌≡◌, ℕ, Bool, List, Option, Some}
 use Rattle.record_scripts.specs.Job.{Job}
-use Rattle.order_check.specs.Following.{Following, at_place, followed}
+use Rattle.order_check.specs.Following.{Following, at_place, followed, thread_for, turn_begun, whole_events, with_line}
 
--- the scripts with their modules, the order of the turns that the lines have begun, and the bytes of its recording that are
--- to come
+-- the scripts with their modules, the order of the turns that the lines have begun, the bytes of its recording that are kept,
+-- and the last of these, which are to come
 pub record CheckState : Type 0 where
   pub job : Job
   pub order : List ℕ
+  pub kept : List ℕ
   pub coming : List ℕ
 
 -- how far the lines were followed
@@ -17,3 +18,16 @@ following_of check = at_place check.order check.coming
 -- these lines were taken
 abbrev pub HasTaken : CheckState → List (List ℕ) → Type 0
 HasTaken check lines = followed check.job lines ≡ Some (following_of check)
+
+-- one line further
+abbrev pub line_step : CheckState → List ℕ → Option Following
+line_step check line = with_line check.job (following_of check) line
+
+-- the turn that a line begins is begun
+abbrev pub turn_step : CheckState → List ℕ → Option Following
+turn_step check line = turn_begun check.job check.order (thread_for check.order line)
+
+-- the number of events, where all lines are taken
+abbrev pub TellsEvents : CheckState → Bool → Option ℕ → Type 0
+TellsEvents check ended events =
+    (lines : List (List ℕ)) → HasTaken check lines → events ≡ whole_events check.job lines ended

@@ -1,5 +1,5 @@
 -- With which lines recordings begin, and which bytes are one.
-use Rattle.std.specs.Prelude.{◌≡◌, ℕ, List, ◌++◌}
+use Rattle.std.specs.Prelude.{◌≡◌, ◌+◌, ◌<◌, ◌≤◌, ℕ, List, ◌++◌, length, take}
 use Rattle.hp_outside.specs.Lines.{lines_of}
 use Rattle.record_scripts.specs.Job.{Job}
 use Rattle.record_book.specs.Orders.{IsInterleaving, IsUnder}
@@ -18,3 +18,11 @@ IsFront job lines = (order : List ℕ) × IsUnder job.scripts order × Begins jo
 pub record IsRecording (job : Job) (bytes : List ℕ) : Type 0 where
   pub trace : bytes ≡ recorded job (spelled bytes)
   pub all : IsInterleaving job.scripts (spelled bytes)
+
+-- some recording begins with the first so many lines of bytes that are none, and none with one line more, where there is one
+pub record BreaksOff (job : Job) (bytes : List ℕ) (count : ℕ) : Type 0 where
+  pub within : count ≤ length (lines_of bytes)
+  pub front : IsFront job (take count (lines_of bytes))
+  pub no_front : count < length (lines_of bytes)
+      → ¬ (IsFront job (take (count + 1) (lines_of bytes)))
+  pub no_recording : ¬ (IsRecording job bytes)

@@ -1,8 +1,12 @@
 pub mod Fronts
 pub mod FewOrders
 pub mod Following
+pub mod FrontLaws
 pub mod Spelling
 pub mod CheckState
+pub mod KeptTurn
+pub mod TakenLine
 pub mod LengthFaults
 pub mod CheckAnswer
+pub mod CheckedFile
 pub mod CheckedLines

@@ -1,10 +1,7 @@
 //! The check of the current file of a store. What its lines are compared with is no part of it.
-ghost use Rattle.std.specs.Prelude.{◌≡◌, ◌≢◌, ℕ, ◌+◌, ◌^◌, ◌≤◌, List, [], Ok, Err, IsTrue, IfOk, OnOk, length};
+ghost use Rattle.std.specs.Prelude.{◌≡◌, ◌^◌, ◌≤◌, [], IsTrue};
 ghost use Rattle.std.specs.Arc.{arc_value};
-ghost use Rattle.hp_outside.specs.Faults.{Rose};
-ghost use Rattle.hp_outside.specs.Taken.{WhereTold};
-ghost use Rattle.record_scripts.specs.ModuleLines.{AreModuleLines};
-ghost use Rattle.order_check.specs.CheckAnswer.{CheckAnswer};
+ghost use Rattle.order_check.specs.CheckedFile.{AnswersFile, OnlyReads};
 ghost use Rattle.order_check.specs.CheckState.{HasTaken};
 ghost use Rattle.hp_outside.specs.NewReader.{IsNewReader};
 ghost use Rattle.order_check.specs.CheckedLines.{end_verdict};
@@ -19,8 +16,7 @@ use record_scripts::Scripts;
 use std::alloc::Global;
 use std::sync::Arc;
 
-/// Says whether the current file is a recording of these scripts. Nothing of the file may be read before. The modules of the
-/// scripts are whole lines about modules.
+/// Says whether the current file is a recording of these scripts. Nothing of the file may be read before.
 ///
 /// - `Yes` exactly where no line is past a limit, and the bytes are the recording of the order that they spell, in which
 ///   all turns of the scripts are taken;
@@ -35,21 +31,15 @@ pub fn check_order<S: Store>(
     limits: &Limits,
     store: &mut S,
 ) -> Result<Verdict, CheckFault>
-    requires current { IsTrue (S.current store.old) }
-    requires modules { AreModuleLines (arc_value job).modules }
-    ensures answer { WhereTold (S.left store.old)
-        (λ bytes. CheckAnswer limits.now.input limits.now.line (arc_value job) bytes
-        (S.left store.new) result) }
-    ensures failed { result ≡ Err CheckFault.ReadFailed
-        → Rose (S.faults store.old) (S.faults store.new) }
-    ensures sound { result ≢ Err CheckFault.ReadFailed → S.faults store.new ≡ S.faults store.old }
-    ensures files { S.files store.new ≡ S.files store.old }
-    ensures current { S.current store.new ≡ S.current store.old }
-    ensures opens { S.opens store.new ≡ S.opens store.old }
+    requires { IsTrue (S.current store.old) }
+    ensures answer { AnswersFile S.Store limits.now.input limits.now.line (arc_value job)
+        store.old store.new result }
+    ensures store { OnlyReads S.Store store.old store.new result }
 {
     quiet_modules();
     decimal_texts();
     let _threads = job.threads();
+    let _modules = job.modules();
     let mut check = OrderCheck::new(alloc, job)?;
     let mut lines = LineReader::new(alloc, limits)?;
     compare_lines(&mut check, &mut lines, store)
@@ -66,15 +56,9 @@ fn compare_lines<S: Store>(
     requires new_lines { IsNewReader lines.old }
     requires new_check { HasTaken check.old [] }
     requires spelling { IsSpelling check.old.job }
-    ensures answer { WhereTold (S.left store.old)
-        (λ bytes. CheckAnswer lines.old.input lines.old.line_limit check.old.job bytes
-        (S.left store.new) result) }
-    ensures failed { result ≡ Err CheckFault.ReadFailed
-        → Rose (S.faults store.old) (S.faults store.new) }
-    ensures sound { result ≢ Err CheckFault.ReadFailed → S.faults store.new ≡ S.faults store.old }
-    ensures files { S.files store.new ≡ S.files store.old }
-    ensures current { S.current store.new ≡ S.current store.old }
-    ensures opens { S.opens store.new ≡ S.opens store.old }
+    ensures answer { AnswersFile S.Store lines.old.input lines.old.line_limit check.old.job
+        store.old store.new result }
+    ensures store { OnlyReads S.Store store.old store.new result }
 {
     'lines: loop {
         let number = lines.number() + 1;

@@ -6,11 +6,12 @@
 //!
 //! - `check_order` compares the current file of a store with the recordings of scripts: `Yes` exactly where it is one, else
 //!   `No` with the first line up to which it begins as none does, or the faults of a reader of lines (`CheckAnswer`).
-//! - `OrderCheck` takes the lines one at a time: `line` refuses exactly where the lines up to this one are no front, and
-//!   `end` tells the number of events where all lines are a recording. Contracts say so by functions of the lines
-//!   (`followed`, `is_front`, `whole_events`), which a caller's report can cite.
-//! - The law `front_laws` says what these functions mean: `is_front` holds exactly of fronts, and `whole_events` tells
-//!   exactly of recordings. It also says that a front is one of few orders: that which the lines spell, with at most two
+//! - `OrderCheck` takes the lines one at a time: `line` refuses exactly where the lines up to this one are no front
+//!   (`TakesLine`), and `end` tells the number of events where all lines are a recording. Contracts say so by functions of the
+//!   lines (`followed`, `is_front`, `whole_events`), which a caller's report can cite. No more is kept of the recording than one
+//!   turn's lines (`KeepsOneTurn`).
+//! - The law `front_laws` says what these functions mean (`FrontLaws`): `is_front` holds exactly of fronts, and `whole_events`
+//!   tells exactly of recordings. It also says that a front is one of few orders: that which the lines spell, with at most two
 //!   entries of one thread more (`BeginsAsSpelled`). The law `one_answer` says that a file has one answer, so that each comes
 //!   exactly where what it says holds.
 //!

@@ -1,10 +1,12 @@
 //! The check of a trace line by line: what was compared with a recording is let go. Where the lines come from is no part
 //! of it.
-ghost use Rattle.std.specs.Prelude.{◌≡◌, ℕ, ◌+◌, ◌<◌, ◌≤◌, true, false, List, [], ◌∷◌, ◌++◌, length, drop, None, Some, IfErr, IfOk, OnErr, OnOk};
+ghost use Rattle.std.specs.Prelude.{◌≡◌, ◌+◌, ◌≤◌, true, false, [], ◌∷◌, ◌++◌, length, drop, None, Some, IfErr, IfOk, OnErr, OnOk};
 ghost use Rattle.std.specs.Arc.{arc_value};
 ghost use Rattle.record_book.specs.Spelled.{behind, named};
-ghost use Rattle.order_check.specs.CheckState.{HasTaken, following_of};
-ghost use Rattle.order_check.specs.Following.{is_empty, is_front, thread_for, turn_begun, whole_events, with_line};
+ghost use Rattle.order_check.specs.CheckState.{HasTaken, TellsEvents, following_of, line_step, turn_step};
+ghost use Rattle.order_check.specs.Following.{is_empty, thread_for};
+ghost use Rattle.order_check.specs.KeptTurn.{KeepsOneTurn};
+ghost use Rattle.order_check.specs.TakenLine.{TakesLine};
 
 use crate::verdict::LineRefusal;
 use hp_num::{NoMemory, parse_dec};
@@ -17,12 +19,15 @@ use std::sync::Arc;
 /// A trace that is compared with the recordings of scripts.
 ///
 /// Contracts see it as the scripts with their modules, the order of the turns that the lines have begun, and the bytes of
-/// its recording that are to come. It keeps no more of the recording than that of one turn.
+/// its recording that are kept and that are to come. It keeps no more of the recording than that of one turn.
 #[derive(Drop)]
 pub struct OrderCheck {
     stream: TraceStream,
     compared: usize,
 }
+
+// No further field, in which lines could be kept.
+const _: () = prove!(size_of::<OrderCheck>() == size_of::<TraceStream>() + size_of::<usize>());
 
 impl Model for OrderCheck {
     ghost use Rattle.std.specs.Prelude.{◌≤◌, drop, length};
@@ -33,6 +38,7 @@ impl Model for OrderCheck {
     ghost view = { λ c. record {
       job = c.stream.job;
       order = c.stream.order;
+      kept = c.stream.text;
       coming = drop c.compared c.stream.text;
     } };
 
@@ -44,6 +50,7 @@ impl OrderCheck {
     pub fn new(alloc: Global, job: Arc<Scripts>) -> Result<OrderCheck, NoMemory>
         ensures job { IfOk result (λ check. check.job ≡ arc_value job) }
         ensures none { IfOk result (λ check. HasTaken check []) }
+        ensures kept { IfOk result (λ check. KeepsOneTurn check) }
     {
         let stream = TraceStream::new(alloc, job)?;
         Ok(OrderCheck {
@@ -59,15 +66,7 @@ impl OrderCheck {
     ///
     /// After a refusal the check is of no use.
     pub fn line(&mut self, line: &[u8]) -> Result<(), LineRefusal>
-        ensures taken { OnOk result
-            ((lines : List (List ℕ)) → HasTaken self.old lines
-            → HasTaken self.new (lines ++ line.now ∷ [])) }
-        ensures front { OnOk result
-            ((lines : List (List ℕ)) → HasTaken self.old lines
-            → is_front self.old.job (lines ++ line.now ∷ []) ≡ true) }
-        ensures refused { result ≡ Err LineRefusal.NotRecorded → (lines : List (List ℕ))
-            → HasTaken self.old lines → is_front self.old.job (lines ++ line.now ∷ []) ≡ false }
-        ensures job { self.new.job ≡ self.old.job }
+        ensures { TakesLine self.old self.new line.now result }
     {
         self.step(line)
     }
@@ -75,8 +74,7 @@ impl OrderCheck {
     /// The number of events, where the lines are all of a recording in which all turns are taken. `ended` says whether the
     /// last line ended with its line feed, which it does where there is none.
     pub fn end(&self, ended: bool) -> Option<u64>
-        ensures events { (lines : List (List ℕ)) → HasTaken self.now lines
-            → result ≡ whole_events self.now.job lines ended }
+        ensures events { TellsEvents self.now ended result }
     {
         if !ended {
             return None;
@@ -94,10 +92,10 @@ impl OrderCheck {
     // One line further.
     fn step(&mut self, line: &[u8]) -> Result<(), LineRefusal>
         ensures stepped { OnOk result
-            (with_line self.old.job (following_of self.old) line.now
-            ≡ Some (following_of self.new)) }
+            (line_step self.old line.now ≡ Some (following_of self.new)) }
         ensures refused { result ≡ Err LineRefusal.NotRecorded
-            → with_line self.old.job (following_of self.old) line.now ≡ None }
+            → line_step self.old line.now ≡ None }
+        ensures kept { KeepsOneTurn self.old → KeepsOneTurn self.new }
         ensures job { self.new.job ≡ self.old.job }
     {
         if self.is_compared() {
@@ -110,10 +108,10 @@ impl OrderCheck {
     fn begin_with(&mut self, line: &[u8]) -> Result<(), LineRefusal>
         requires { self.old.coming ≡ [] }
         ensures stepped { OnOk result
-            (with_line self.old.job (following_of self.old) line.now
-            ≡ Some (following_of self.new)) }
+            (line_step self.old line.now ≡ Some (following_of self.new)) }
         ensures refused { result ≡ Err LineRefusal.NotRecorded
-            → with_line self.old.job (following_of self.old) line.now ≡ None }
+            → line_step self.old line.now ≡ None }
+        ensures kept { KeepsOneTurn self.new }
         ensures job { self.new.job ≡ self.old.job }
     {
         match self.begin_turn(line) {
@@ -133,20 +131,21 @@ impl OrderCheck {
     fn begin_turn(&mut self, line: &[u8]) -> Result<(), LineRefusal>
         requires { self.old.coming ≡ [] }
         ensures begun { OnOk result
-            (turn_begun self.old.job self.old.order (thread_for self.old.order line.now)
-            ≡ Some (following_of self.new)) }
+            (turn_step self.old line.now ≡ Some (following_of self.new)) }
         ensures refused { result ≡ Err LineRefusal.NotRecorded
-            → turn_begun self.old.job self.old.order (thread_for self.old.order line.now) ≡ None }
+            → turn_step self.old line.now ≡ None }
+        ensures kept { OnOk result (self.new.kept ≡ self.new.coming) }
+        ensures gone { OnErr result (self.new.kept ≡ []) }
         ensures job { self.new.job ≡ self.old.job }
     {
+        self.stream.let_go();
+        self.compared = 0;
         let Some(thread) = thread_for(line, self.stream.order()) else {
             return Err(LineRefusal::NotRecorded);
         };
         if thread >= u64::from(self.stream.scripts().threads()) {
             return Err(LineRefusal::NotRecorded);
         }
-        self.stream.let_go();
-        self.compared = 0;
         if self.stream.step(thread as u32)? {
             return Ok(());
         }
@@ -160,6 +159,7 @@ impl OrderCheck {
         ensures refused { OnErr result (behind (line.now ++ 10 ∷ []) self.old.coming ≡ None) }
         ensures fault { IfErr result (λ refusal. refusal ≡ LineRefusal.NotRecorded) }
         ensures order { self.new.order ≡ self.old.order }
+        ensures kept { self.new.kept ≡ self.old.kept }
         ensures job { self.new.job ≡ self.old.job }
     {
         let coming = &self.stream.text()[self.compared..];
@@ -174,8 +174,8 @@ impl OrderCheck {
 // Whether a text begins with a line and its line feed.
 fn begins_with_line(text: &[u8], line: &[u8]) -> bool
     ensures begins { result ≡ true
-        → (behind (line.now ++ 10 ∷ []) text.now ≡ Some (drop (length line.now + 1) text.now))
-        × (length line.now + 1 ≤ length text.now) }
+        → behind (line.now ++ 10 ∷ []) text.now ≡ Some (drop (length line.now + 1) text.now) }
+    ensures within { result ≡ true → length line.now + 1 ≤ length text.now }
     ensures other { result ≡ false → behind (line.now ++ 10 ∷ []) text.now ≡ None }
 {
     let count = line.len();

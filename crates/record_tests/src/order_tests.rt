@@ -1,7 +1,5 @@
 //! Checks of traces of small scripts, which are held in memory.
-ghost use Rattle.std.specs.Prelude.{◌≡◌, IsSome, OnOk};
-ghost use Rattle.std.specs.Arc.{arc_value};
-ghost use Rattle.record_scripts.specs.ModuleLines.{AreModuleLines};
+ghost use Rattle.std.specs.Prelude.{IsSome};
 
 use hp_outside::{Limits, MemStore, Store};
 use order_check::{CheckFault, Verdict, check_order};
@@ -194,9 +192,7 @@ static CASES: [Case; 27] = [
 ];
 
 /// Adds the script of a thread, whose lines are parted by `;`.
-fn add_script(scripts: &mut Scripts, text: &[u8]) -> Result<(), ScriptFault>
-    ensures { OnOk result (scripts.new.modules ≡ scripts.old.modules) }
-{
+fn add_script(scripts: &mut Scripts, text: &[u8]) -> Result<(), ScriptFault> {
     if scripts.threads() == 64 {
         return Ok(());
     }
@@ -210,9 +206,7 @@ fn add_script(scripts: &mut Scripts, text: &[u8]) -> Result<(), ScriptFault>
 }
 
 /// Adds the scripts of a text, which are parted by `|`.
-fn add_scripts(scripts: &mut Scripts, text: &[u8]) -> Result<(), ScriptFault>
-    ensures { OnOk result (scripts.new.modules ≡ scripts.old.modules) }
-{
+fn add_scripts(scripts: &mut Scripts, text: &[u8]) -> Result<(), ScriptFault> {
     for script in text.split(|byte| *byte == b'|') {
         add_script(scripts, script)?;
     }
@@ -220,9 +214,7 @@ fn add_scripts(scripts: &mut Scripts, text: &[u8]) -> Result<(), ScriptFault>
 }
 
 /// The scripts of a text.
-fn scripts_of(rt: &impl Abort, alloc: Global, text: &[u8]) -> Arc<Scripts>
-    ensures { AreModuleLines (arc_value result).modules }
-{
+fn scripts_of(rt: &impl Abort, alloc: Global, text: &[u8]) -> Arc<Scripts> {
     let mut scripts = Scripts::new(alloc, 300);
     add_scripts(&mut scripts, text).expect(rt, "scripts");
     scripts.share().expect(rt, "memory")

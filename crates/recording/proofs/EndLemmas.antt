@@ -1,6 +1,7 @@
 -- From the reading of files to the run of the words, and from there to all that is promised of a run.
-use Rattle.std.proofs.Common.{◌≡◌, ◌≢◌, ◌⊎◌, ℕ, Bool, IsErrAnd, List, [], ◌∷◌, option_to_list, Option, Some, None, Ok, Err, refl, ap, sym, subst, ◌∙◌, inl, inr, Vec, Result, arith}
+use Rattle.std.proofs.Common.{◌≡◌, ◌≢◌, ◌⊎◌, ℕ, Bool, false, IsErrAnd, List, [], ◌∷◌, option_to_list, Option, Some, None, Ok, Err, refl, ap, sym, subst, ◌∙◌, inl, inr, Vec, Result, arith}
 use Rattle.std.specs.Io.KnownBytes.{append_known}
+use Rattle.std.proofs.lemmas.Bool.Decides.{eqb_tells}
 use Rattle.hp_outside.specs.Faults.{Rose}
 use Rattle.hp_outside.specs.Folder.{Folder}
 use Rattle.hp_outside.specs.Taken.{WhereTold}
@@ -21,18 +22,19 @@ use Rattle.command_frame.specs.Task.{IsSilentTask, task_names}
 use Rattle.command_frame.specs.Texts.{Texts, texts_of}
 use Rattle.command_frame.specs.WordsRan.{WordsRan}
 use Rattle.command_frame.proofs.Laws.{TaskEnded, append_nothing, defined_by, gives_as, judged_by, run_ends, silent_by, status_told, told_by, words_not_ran, wrote}
+use Rattle.order_check.specs.FrontLaws.{FrontLaws}
 use Rattle.record_scripts.specs.Job.{Job}
-use Rattle.recording.specs.Answer.{names_asked, names_of, record_plan, task_asked, task_plan}
+use Rattle.recording.specs.Answer.{names_asked, names_of, record_plan, task_asked, task_plan, trace_asked, unchecked}
 use Rattle.recording.specs.CheckReport.{check_report}
 use Rattle.recording.specs.FileLines.{no_job}
 use Rattle.recording.specs.FilesPlan.{files_front, job_in}
 use Rattle.recording.specs.FrontRead.{FrontRead}
 use Rattle.recording.specs.HeaprecRan.{HasDelivered, HeaprecRan}
 use Rattle.recording.specs.Recorded.{IsRecorded}
-use Rattle.recording.specs.RecordWords.{Checks, RecordAsked, Records, Task, trace_of}
-use Rattle.recording.specs.Run.{IsDone, IsDoneBy, IsRecording, WordsRecord}
+use Rattle.recording.specs.RecordWords.{Checks, RecordAsked, Records, Task, record_asked, trace_of}
+use Rattle.recording.specs.Run.{IsDone, IsDoneBy, IsFaulty, IsRecording, IsRefused, WordsRecord}
 use Rattle.recording.specs.Texts.{heaprec_texts}
-use Rattle.recording.proofs.CheckLemmas.{WholeLaw, checked_run}
+use Rattle.recording.proofs.CheckLemmas.{checked_run, refused_run}
 use Rattle.recording.proofs.HaltLemmas.{code_isnt_zero}
 use Rattle.recording.proofs.SilentLemmas.{files_silent, task_silent}
 
@@ -62,6 +64,7 @@ asked_halted may_write desk limit asked before now old new halt texts read = rec
     sound = read.sound;
   };
   done = λ zero. absurd (code_isnt_zero halt.status zero);
+  faulty = λ trace is one. inl (ran_asked desk limit before.files (asks asked.modules asked.scripts (Records false)) [] before.moment now.moment (λ t. halt_answer t halt) texts (read.goes_on [] [] (task_plan [] (Records false))));
 }
 
 -- the files were read, and what they say was recorded
@@ -82,6 +85,7 @@ asked_done may_write desk limit modules scripts summary before now old new job t
         sound = λ other. read.sound (λ four. absurd (omega (arith, four)));
       };
       done = λ zero. recording;
+      faulty = λ trace is one. absurd (cc);
     }
 
 -- the files were read, and memory was wanting for a recording
@@ -104,19 +108,22 @@ asked_wanting may_write desk limit modules scripts summary before now old new jo
         sound = λ other. read.sound (λ four. absurd (omega (arith, four)));
       };
       done = λ zero. absurd (code_isnt_zero halt.status zero);
+      faulty = λ trace is one. absurd (cc);
     }
 
 -- the files were read, and a trace was run over
 pub asked_checked : {Z : Type 0} (may_write : Bool → Job → List ℕ → Type 0) (desk : Desk) (limit : ℕ) (modules : Option (List ℕ)) (scripts : List (List ℕ)) (trace : List ℕ) (before mid now : Shown) (old between new : Taken) (job : Job)
-    (result : Result (Vec ℕ Z) Halt) → texts_of desk.texts ≡ heaprec_texts → WholeLaw job → WhereTold before.files (λ folder. job ≡ job_in folder modules scripts limit)
+    (result : Result (Vec ℕ Z) Halt) → texts_of desk.texts ≡ heaprec_texts → FrontLaws job → WhereTold before.files (λ folder. job ≡ job_in folder modules scripts limit)
     → FrontRead desk (files_front modules scripts (no_job limit)) before mid old between (Ok job)
     → RunsTo desk (trace ∷ []) (one_file trace (check_report job)) mid now between new result
     → WordsRecord may_write (bounds_of desk.limits) limit (Some (asks modules scripts (Checks trace))) before now old new (rest_of heaprec_texts result)
-asked_checked may_write desk limit modules scripts trace before mid now old between new job result texts law told read check =
+asked_checked may_write desk limit modules scripts trace before mid now old between new job result texts laws told read check =
     let leads = read.goes_on [] (trace ∷ []) (task_plan [] (Checks trace)) in
     let run = check.ran leads.0 in
     let ran : Ran (texts_of desk.texts) (bounds_of desk.limits) before.files leads.0 (trace ∷ []) (one_file trace (check_report job)) mid.moment now.moment (after run.0 (rest_of (texts_of desk.texts) result)) =
     subst (λ files. Ran (texts_of desk.texts) (bounds_of desk.limits) files leads.0 (trace ∷ []) (one_file trace (check_report job)) mid.moment now.moment (after run.0 (rest_of (texts_of desk.texts) result))) read.files run.1.1 in
+    let said : Ran heaprec_texts (bounds_of desk.limits) before.files leads.0 (trace ∷ []) (one_file trace (check_report job)) mid.moment now.moment (after run.0 (rest_of heaprec_texts result)) =
+    subst (λ (t : Texts). Ran t (bounds_of desk.limits) before.files leads.0 (trace ∷ []) (one_file trace (check_report job)) mid.moment now.moment (after run.0 (rest_of t result))) texts ran in
     let same : between.faults ≡ old.faults = read.sound (λ four. absurd (omega (arith, four))) in
     let status : (rest_of heaprec_texts result).status ≡ status_of result = status_told heaprec_texts result in
     record {
@@ -130,8 +137,12 @@ asked_checked may_write desk limit modules scripts trace before mid now old betw
         unwritten = λ four. subst (λ n. Rose n new.faults) same (check.unwritten (sym status ∙ four));
         sound = λ other. check.sound (λ four. other (status ∙ four)) ∙ same;
       };
-      done = λ zero. checked_run heaprec_texts (bounds_of desk.limits) limit before.files modules scripts leads.0 trace job mid.moment now.moment (after run.0 (rest_of heaprec_texts result)) law told
-          (subst (λ (t : Texts). Ran t (bounds_of desk.limits) before.files leads.0 (trace ∷ []) (one_file trace (check_report job)) mid.moment now.moment (after run.0 (rest_of t result))) texts ran) zero;
+      done = λ zero. checked_run heaprec_texts (bounds_of desk.limits) limit before.files modules scripts leads.0 trace job mid.moment now.moment (after run.0 (rest_of heaprec_texts result)) laws told said zero;
+      faulty = λ other is one. inr (λ folder known.
+          let same : trace ≡ other = cc in
+          subst (λ (name : List ℕ). IsRefused folder name (job_in folder modules scripts limit) (rest_of heaprec_texts result).message) same
+          (subst (λ (j : Job). IsRefused folder trace j (rest_of heaprec_texts result).message) (told folder known)
+          (refused_run (bounds_of desk.limits) before.files leads.0 trace job mid.moment now.moment (after run.0 (rest_of heaprec_texts result)) laws said one folder known)));
     }
 
 -- what runs of a request come to, runs of the words that ask for it come to
@@ -143,14 +154,15 @@ words_run may_write bounds limit asking asked before now old new given answer as
 
 -- nothing was run
 pub words_not_run : (may_write : Bool → Job → List ℕ → Type 0) (bounds : Bounds) (limit : ℕ) (asking : Option RecordAsked) (store : Shown) (out : Taken) (answer : Answer) → answer.status ≢ 0
-    → ((answer ≡ memory_answer heaprec_texts) ⊎ ((answer ≡ usage_answer heaprec_texts) × (asking ≡ None))) → WordsRecord may_write bounds limit asking store store out out answer
-words_not_run may_write bounds limit asking store out answer other is = record {
+    → answer.status ≢ 1 → ((answer ≡ memory_answer heaprec_texts) ⊎ ((answer ≡ usage_answer heaprec_texts) × (asking ≡ None))) → WordsRecord may_write bounds limit asking store store out out answer
+words_not_run may_write bounds limit asking store out answer other sound is = record {
   text = [];
   run = words_not_ran heaprec_texts bounds (task_asked limit [] asking) store out answer (elim is [
     | inl memory ↦ inl memory
     | inr usage ↦ inr (usage.0, ap (task_asked limit []) usage.1)
   ]);
   done = λ zero. absurd (other zero);
+  faulty = λ trace checks one. absurd (sound one);
 }
 
 -- the files of a task are those that the words name, and nothing is written before they are read
@@ -171,14 +183,21 @@ nothing-asked limit text None none = refl
 nothing-asked limit text (Some asked) none = absurd (cc)
 
 -- all that follows where an answer was delivered
-pub heaprec_ran : (bounds : Bounds) (limit : ℕ) (asking : Option RecordAsked) (before now : Outside) (status : ℕ) → HasDelivered bounds limit asking before now status
-    → now.store.files ≡ before.store.files → HeaprecRan bounds limit asking before now status
-heaprec_ran bounds limit asking before now status run files =
+pub heaprec_ran : (bounds : Bounds) (limit : ℕ) (words : List (List ℕ)) (before now : Outside) (status : ℕ) → (run : HasDelivered bounds limit (record_asked words) before now status)
+    → now.store.files ≡ before.store.files → (words ≡ [] → run.given.status ≡ 2)
+    → ((trace : List ℕ) → trace_asked (record_asked words) ≡ Some trace → run.given.status ≡ 1 → IsFaulty bounds limit (record_asked words) trace before.store now.store run.given)
+    → HeaprecRan bounds limit words before now status
+heaprec_ran bounds limit words before now status run files none faulty =
+    let asking = record_asked words in
     let e : TaskEnded heaprec_texts bounds (task_asked limit run.text asking) before now status run.given = record { ran = run.ran; delivered = run.delivered; files = files } in
     let whole = run.delivered.whole in
     let done_is : (zero : status ≡ 0) → run.given.status ≡ 0 = λ zero. sym (told_by e (λ four. omega (arith, zero, four))) ∙ zero in
     record {
       run = run;
+      none = λ is. elim (eqb_tells status 4) [
+        | inl four ↦ inr four.1
+        | inr other ↦ inl (told_by e other.1 ∙ none is)
+      ];
       recorded = λ none zero. (
         run.given.output,
         (
@@ -193,6 +212,15 @@ heaprec_ran bounds limit asking before now status run files =
           subst (λ (o : Option (List ℕ)). IsDoneBy IsRecorded limit before.store.files asking run.given.output o) is (run.done (done_is zero)),
         ),
       );
+      refused = λ trace is one folder known sound.
+          let given_one : run.given.status ≡ 1 = sym (told_by e (λ four. omega (arith, one, four))) ∙ one in
+          elim (faulty trace is given_one) [
+            | inl ran ↦
+                let other : TaskEnded heaprec_texts bounds (task_asked limit [] (unchecked asking)) before now status run.given = record { ran = ran; delivered = run.delivered; files = files } in
+                let same = judged_by other folder known (λ three. omega (arith, one, three)) (λ four. omega (arith, one, four)) (λ five. omega (arith, one, five)) in
+                absurd (omega (arith, given_one, ap (λ (a : Answer). a.status) same, sound))
+            | inr says ↦ (run.given.message, ((whole (λ four. omega (arith, one, four))).message, says folder known))
+          ];
       defined = λ folder known quiet out_quiet err_quiet five.
           let same = defined_by e folder known quiet (wrote e out_quiet err_quiet) five in
           (run.text, (gives_as before now status same (whole (wrote e out_quiet err_quiet)), λ zero. subst (λ (a : Answer). IsDone IsRecorded limit before.store.files asking a.output) same (run.done (done_is zero))));

@@ -1,7 +1,10 @@
+mod NoWords
 mod LineLemmas
 mod FrontLemmas
 mod SilentLemmas
+mod TakenLemmas
 mod HaltLemmas
+mod BreakLemmas
 mod CheckLemmas
 mod EndLemmas
 mod RecordedLemmas

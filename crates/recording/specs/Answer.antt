@@ -1,5 +1,5 @@
 -- What a run is to write and to answer, for its words, the files of a folder, and the text of the recording.
-use Rattle.std.specs.Prelude.{ℕ, List, [], ◌++◌, Bool, false, Option, None, Some, length}
+use Rattle.std.specs.Prelude.{◌≡◌, ℕ, List, [], ◌++◌, Bool, false, Option, None, Some, length}
 use Rattle.std.specs.Option.{option_map, option_to_list}
 use Rattle.hp_outside.specs.Folder.{Folder}
 use Rattle.command_frame.specs.Answer.{Answer}
@@ -70,6 +70,18 @@ summary_asked (Some asked) = has_summary asked.task
 abbrev pub trace_asked : Option RecordAsked → Option (List ℕ)
 trace_asked None = None
 trace_asked (Some asked) = trace_of asked.task
+
+-- what is asked for but for the trace: the modules file and the scripts alone
+abbrev pub without_trace : RecordAsked → RecordAsked
+without_trace asked = record asked { task = Records false }
+
+abbrev pub unchecked : Option RecordAsked → Option RecordAsked
+unchecked asking = option_map without_trace asking
+
+-- these have no fault
+abbrev pub HaveNoFault : Bounds → ℕ → Folder → Option RecordAsked → Type 0
+HaveNoFault bounds limit folder asking =
+    (asked_answer bounds limit folder [] (unchecked asking)).status ≡ 0
 
 -- what the files of a folder say that words name
 abbrev pub job_asked : ℕ → Folder → Option RecordAsked → Job

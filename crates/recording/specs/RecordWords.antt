@@ -65,9 +65,14 @@ record_given modules trace summary None = None
 record_given modules trace summary (Some scripts) = option_and_then (record_of modules scripts)
     (task_given trace summary)
 
+-- the same by the names of the options and of the flag
+abbrev pub record_by : (List ℕ → Option (List ℕ)) → (List ℕ → Bool) → Option (List (List ℕ))
+    → Option RecordAsked
+record_by value flag files = record_given (value (codes "modules")) (value (codes "check"))
+    (flag (codes "summary")) files
+
 -- what the words ask for
 unfoldable pub record_asked : List (List ℕ) → Option RecordAsked
 record_asked words = option_and_then
-    (λ rows. record_given (value_in rows (codes "modules")) (value_in rows (codes "check"))
-    (flag_in rows (codes "summary")) (files_in rows))
+    (λ rows. record_by (value_in rows) (flag_in rows) (files_in rows))
     (words_taken record_table words)

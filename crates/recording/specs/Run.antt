@@ -1,17 +1,18 @@
 -- What a run may come to, whatever the store and the threads do.
-use Rattle.std.specs.Prelude.{◌≡◌, ℕ, Bool, List, ◌++◌, length, Option, None, Some}
+use Rattle.std.specs.Prelude.{◌≡◌, ◌+◌, ◌⊎◌, ℕ, Bool, List, [], ◌++◌, length, Option, None, Some}
 use Rattle.hp_outside.specs.Folder.{Folder, file_of}
 use Rattle.hp_outside.specs.Taken.{WhereTold}
-use Rattle.command_frame.specs.Answer.{Answer}
+use Rattle.command_frame.specs.Answer.{Answer, after}
 use Rattle.command_frame.specs.FirstFault.{Bounds}
 use Rattle.command_frame.specs.RunsTo.{Shown, Taken}
-use Rattle.command_frame.specs.WordsRan.{WordsRunTo}
-use Rattle.order_check.specs.Fronts.{IsRecording as IsRecordingOf}
+use Rattle.command_frame.specs.Texts.{at_line}
+use Rattle.command_frame.specs.WordsRan.{WordsRan, WordsRunTo}
+use Rattle.order_check.specs.Fronts.{BreaksOff, IsRecording as IsRecordingOf}
 use Rattle.record_book.specs.Spelled.{spelled}
 use Rattle.record_scripts.specs.Job.{Job}
-use Rattle.recording.specs.CheckReport.{checked_text}
+use Rattle.recording.specs.CheckReport.{checked_text, not_a_recording}
 use Rattle.recording.specs.RecordWords.{RecordAsked}
-use Rattle.recording.specs.Answer.{count_asked, job_asked, summary_asked, task_asked, trace_asked}
+use Rattle.recording.specs.Answer.{count_asked, job_asked, summary_asked, task_asked, trace_asked, unchecked}
 use Rattle.recording.specs.Texts.{heaprec_texts}
 
 -- the output may be written of a job: one of as many scripts as are named, and where the files are told, what they say
@@ -37,6 +38,23 @@ pub record IsChecked (limit : ℕ) (files : Option Folder) (asking : Option Reco
   pub told : WhereTold files
       (λ folder. IsFileOf folder trace (job_asked limit folder asking) events)
 
+-- a trace of a folder is no recording of a job, in no order: the message names the line, the first with which none goes on
+pub record IsRefused (folder : Folder) (trace : List ℕ) (job : Job) (message : List ℕ)
+    : Type 0 where
+  pub bytes : List ℕ
+  pub count : ℕ
+  pub file : file_of folder trace ≡ Some bytes
+  pub breaks : BreaksOff job bytes count
+  pub message_is : message ≡ at_line heaprec_texts trace (count + 1) not_a_recording.text
+
+-- a run with a trace to check came to its answer before the trace, or the trace is refused
+abbrev pub IsFaulty : Bounds → ℕ → Option RecordAsked → List ℕ → Shown → Shown → Answer → Type 0
+IsFaulty bounds limit asking trace before now answer =
+    WordsRan heaprec_texts bounds before.files (task_asked limit [] (unchecked asking))
+    before.moment now.moment answer
+    ⊎ WhereTold before.files
+    (λ folder. IsRefused folder trace (job_asked limit folder asking) answer.message)
+
 -- what is said by the output of a run that is done: it is a recording, or says so of the trace that is checked
 abbrev pub IsDoneBy : (may_write : Bool → Job → List ℕ → Type 0) → ℕ → Option Folder
     → Option RecordAsked → List ℕ → Option (List ℕ) → Type 0
@@ -50,7 +68,7 @@ IsDone may_write limit files asking output = IsDoneBy may_write limit files aski
     (trace_asked asking)
 
 -- the words were run with some text. Where that is done, what was written early and what is yet to be delivered are together the
--- output of a run that is done
+-- output of a run that is done; and where a trace was to be checked, status 1 tells of a fault before it, or refuses it
 pub record WordsRecord (may_write : Bool → Job → List ℕ → Type 0) (bounds : Bounds) (limit : ℕ)
     (asking : Option RecordAsked) (before now : Shown) (old new : Taken) (answer : Answer) : Type
     0 where
@@ -58,3 +76,5 @@ pub record WordsRecord (may_write : Bool → Job → List ℕ → Type 0) (bound
   pub run : WordsRunTo heaprec_texts bounds (task_asked limit text asking) before now old new answer
   pub done : answer.status ≡ 0
       → IsDone may_write limit before.files asking (run.early ++ answer.output)
+  pub faulty : (trace : List ℕ) → trace_asked asking ≡ Some trace → answer.status ≡ 1
+      → IsFaulty bounds limit asking trace before now (after run.early answer)

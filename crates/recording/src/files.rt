@@ -2,7 +2,6 @@
 ghost use Rattle.std.specs.Prelude.{◌≡◌, ℕ, ◌+◌, ◌-◌, ◌^◌, ◌<◌, ◌≤◌, List, [], ◌∷◌, length, map, IfOk};
 ghost use Rattle.std.specs.Option.{option_copied};
 ghost use Rattle.hp_outside.specs.Taken.{WhereTold};
-ghost use Rattle.record_scripts.specs.ModuleLines.{AreModuleLines};
 ghost use Rattle.recording.specs.declared.reader.FileKind.TheVariants.{Script as ScriptFile};
 ghost use Rattle.recording.specs.FileLines.{begun, no_job};
 ghost use Rattle.recording.specs.FilesPlan.{file_front, files_front, job_in, modules_front, modules_in, scripts_front, scripts_in};
@@ -25,7 +24,7 @@ pub struct ScriptFiles<'a> {
 }
 
 /// Reads the modules file, if there is one, and then the scripts in their order, 1 to 64 of them. All together may have as many
-/// events as the limits of the run say. Nothing is written. The text of the modules is whole lines about modules.
+/// events as the limits of the run say. Nothing is written.
 pub fn read_files<S: Store, O: Sink>(
     desk: &Desk,
     files: &ScriptFiles,
@@ -43,7 +42,6 @@ pub fn read_files<S: Store, O: Sink>(
         ≡ job_in folder (option_copied files.now.modules)
         (map (λ name. name.now) files.now.scripts.now) desk.now.limits.order)) }
     ensures count { IfOk result (λ job. length job.scripts ≡ length files.now.scripts.now) }
-    ensures modules { IfOk result (λ job. AreModuleLines job.modules) }
     ensures opens { IfOk result (λ job. S.opens store.new ≤ S.opens store.old + 65) }
 {
     let mut lines = LineReader::new(desk.alloc, &desk.limits)?;
@@ -67,7 +65,6 @@ fn read_modules<S: Store, O: Sink>(
     requires opens { S.opens store.old < 2 ^ 63 }
     requires input { lines.old.input ≡ desk.now.limits.input }
     requires line { lines.old.line_limit ≡ desk.now.limits.line }
-    requires modules { AreModuleLines scripts.modules }
     ensures read { ReadsFront S.Store O.Sink desk.now
         (modules_front (option_copied modules.entry) scripts)
         store.old store.new out.old out.new result }
@@ -75,7 +72,6 @@ fn read_modules<S: Store, O: Sink>(
         WhereTold (S.files store.old)
         (λ folder. job ≡ modules_in folder (option_copied modules.entry) scripts)) }
     ensures count { IfOk result (λ job. length job.scripts ≡ length scripts.scripts) }
-    ensures modules { IfOk result (λ job. AreModuleLines job.modules) }
     ensures opens { IfOk result (λ job. S.opens store.new ≤ S.opens store.old + 1) }
     ensures input { lines.new.input ≡ lines.old.input }
     ensures line { lines.new.line_limit ≡ lines.old.line_limit }
@@ -105,7 +101,6 @@ fn read_scripts<S: Store, O: Sink>(
     requires few { length scripts.scripts + length names.now ≤ 64 }
     requires input { lines.old.input ≡ desk.now.limits.input }
     requires line { lines.old.line_limit ≡ desk.now.limits.line }
-    requires modules { AreModuleLines scripts.modules }
     ensures read { ReadsFront S.Store O.Sink desk.now
         (scripts_front (map (λ name. name.now) names.now) scripts)
         store.old store.new out.old out.new result }
@@ -114,7 +109,6 @@ fn read_scripts<S: Store, O: Sink>(
         (λ folder. job ≡ scripts_in folder (map (λ name. name.now) names.now) scripts)) }
     ensures count { IfOk result
         (λ job. length job.scripts ≡ length scripts.scripts + length names.now) }
-    ensures modules { IfOk result (λ job. AreModuleLines job.modules) }
     ensures opens { IfOk result (λ job. S.opens store.new ≡ S.opens store.old + length names.now) }
 {
     let mut scripts = scripts;
@@ -140,7 +134,6 @@ fn read_script<S: Store, O: Sink>(
     requires few { length scripts.scripts < 64 }
     requires input { lines.old.input ≡ desk.now.limits.input }
     requires line { lines.old.line_limit ≡ desk.now.limits.line }
-    requires modules { AreModuleLines scripts.modules }
     ensures read { ReadsFront S.Store O.Sink desk.now
         (file_front ScriptFile name.now (begun scripts))
         store.old store.new out.old out.new result }
@@ -148,7 +141,6 @@ fn read_script<S: Store, O: Sink>(
         (names : List (List ℕ))
         → scripts_in folder names job ≡ scripts_in folder (name.now ∷ names) scripts)) }
     ensures count { IfOk result (λ job. length job.scripts ≡ length scripts.scripts + 1) }
-    ensures modules { IfOk result (λ job. AreModuleLines job.modules) }
     ensures opens { IfOk result (λ job. S.opens store.new ≡ S.opens store.old + 1) }
     ensures input { lines.new.input ≡ lines.old.input }
     ensures line { lines.new.line_limit ≡ lines.old.line_limit }

@@ -15,7 +15,8 @@
 //! |---|---|
 //! | `inputs.rt`, `request.rt` | the words: which ones are taken, and what they ask for |
 //! | `files.rt`, `one_file.rt` | the files that the words name, read one after another |
-//! | `reader.rt`, `take_line.rt`, `refusal.rt` | one file, line by line, and what a refused line is called |
+//! | `reader.rt`, `take_line.rt`, `ready_lines.rt` | one file, line by line, and many lines of a script at a time |
+//! | `refusal.rt` | what a refused line is called |
 //! | `record_text.rt` | the text of a recording by threads |
 //! | `check_trace.rt`, `trace_reader.rt`, `check_refusal.rt` | the trace that is checked, line by line, and what it is called where it is none |
 //! | `run_words.rt` | from the words and the files to what is to be delivered |
@@ -30,6 +31,7 @@ mod inputs;
 mod one_file;
 mod open_gate;
 mod reader;
+mod ready_lines;
 mod record_text;
 mod refusal;
 mod request;

@@ -1,7 +1,6 @@
 //! Reading one named file of a recording. Which files there are is no part of it.
 ghost use Rattle.std.specs.Prelude.{◌≡◌, ℕ, ◌+◌, ◌-◌, ◌^◌, ◌<◌, List, length, IfOk};
 ghost use Rattle.hp_outside.specs.Taken.{WhereTold};
-ghost use Rattle.record_scripts.specs.ModuleLines.{AreModuleLines};
 ghost use Rattle.recording.specs.declared.reader.FileKind.TheVariants.{Script};
 ghost use Rattle.recording.specs.FileLines.{with_lines};
 ghost use Rattle.recording.specs.FilesPlan.{file_front, lines_in};
@@ -31,7 +30,6 @@ pub fn read_file<S: Store, O: Sink>(
 ) -> Result<Scripts, Halt>
     requires opens { S.opens store.old < 2 ^ 64 - 1 }
     requires open { file.now.kind ≡ Script → 0 < length scripts.scripts }
-    requires modules { AreModuleLines scripts.modules }
     requires input { lines.old.input ≡ desk.now.limits.input }
     requires line { lines.old.line_limit ≡ desk.now.limits.line }
     ensures read { ReadsFront S.Store O.Sink desk.now
@@ -40,7 +38,6 @@ pub fn read_file<S: Store, O: Sink>(
     ensures lines { IfOk result (λ job. (taken : List (List ℕ))
         × ((job ≡ with_lines file.now.kind scripts taken)
         × WhereTold (S.files store.old) (λ folder. taken ≡ lines_in folder file.now.name.now))) }
-    ensures modules { IfOk result (λ job. AreModuleLines job.modules) }
     ensures opens { IfOk result (λ job. S.opens store.new ≡ S.opens store.old + 1) }
     ensures input { lines.new.input ≡ lines.old.input }
     ensures line { lines.new.line_limit ≡ lines.old.line_limit }
@@ -59,7 +56,6 @@ fn read_behind<B: Start, S: Store, O: Sink>(
 ) -> Result<Scripts, Halt>
     requires opens { S.opens store.old < 2 ^ 64 - 1 }
     requires open { file.now.kind ≡ Script → 0 < length scripts.scripts }
-    requires modules { AreModuleLines scripts.modules }
     requires input { lines.old.input ≡ desk.now.limits.input }
     requires line { lines.old.line_limit ≡ desk.now.limits.line }
     requires kind { file.now.kind ≡ B.kind }
@@ -69,7 +65,6 @@ fn read_behind<B: Start, S: Store, O: Sink>(
     ensures lines { IfOk result
         (λ job. (taken : List (List ℕ)) × ((job ≡ with_lines B.kind B.job taken)
         × WhereTold (S.files store.old) (λ folder. taken ≡ lines_in folder file.now.name.now))) }
-    ensures modules { IfOk result (λ job. AreModuleLines job.modules) }
     ensures opens { IfOk result (λ job. S.opens store.new ≡ S.opens store.old + 1) }
     ensures input { lines.new.input ≡ lines.old.input }
     ensures line { lines.new.line_limit ≡ lines.old.line_limit }

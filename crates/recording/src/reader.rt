@@ -2,9 +2,10 @@
 ghost use Rattle.std.specs.Prelude.{◌≡◌, ◌<◌, length};
 ghost use Rattle.record_scripts.specs.Job.{Job};
 
+use crate::ready_lines::take_lines;
 use crate::refusal::RefusedLine;
 use crate::take_line::take_line;
-use command_frame::{LineRefusal, LineTaker};
+use command_frame::{Batch, LineRefusal, LineTaker};
 use record_scripts::{ScriptFault, Scripts};
 use std::marker::{Brand, PhantomData};
 
@@ -47,7 +48,6 @@ pub struct FileReader<B: Start> {
 
 impl<B: Start> LineTaker for FileReader<B> {
     ghost use Rattle.recording.specs.declared.reader.FileKind.TheVariants.{Script};
-    ghost use Rattle.record_scripts.specs.ModuleLines.{AreModuleLines};
     ghost use Rattle.recording.specs.FileLines.{file_report, with_lines};
 
     type Fault = RefusedLine;
@@ -57,8 +57,7 @@ impl<B: Start> LineTaker for FileReader<B> {
     ghost has_taken = { λ reader lines. reader.scripts ≡ with_lines B.kind B.job lines };
 
     ghost is_sound = { λ reader.
-        (reader.kind ≡ B.kind) × (B.kind ≡ Script → 0 < length reader.scripts.scripts)
-        × AreModuleLines reader.scripts.modules };
+        (reader.kind ≡ B.kind) × (B.kind ≡ Script → 0 < length reader.scripts.scripts) };
 
     ghost weight = { λ _. 0 };
 
@@ -72,5 +71,12 @@ impl<B: Start> LineTaker for FileReader<B> {
 
     fn end(&self, _ended: bool) -> Result<(), RefusedLine> {
         Ok(())
+    }
+
+    fn batch(&mut self, ready: &[u8], _output: &mut Vec<u8>) -> Batch {
+        match self.kind {
+            FileKind::Modules => Batch { bytes: 0, lines: 0 },
+            FileKind::Script => take_lines(&mut self.scripts, ready),
+        }
     }
 }

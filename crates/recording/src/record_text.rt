@@ -15,7 +15,7 @@ use std::sync::Wait;
 use std::thread::Threads;
 
 /// Records these scripts by a worker for each of them, which passes the gate before each hold of the lock, and answers the
-/// trace, and behind it the summary where that is asked for. The modules of the scripts are whole lines about modules.
+/// trace, and behind it the summary where that is asked for.
 pub fn record_text<R: Threads + Wait + Sync, G: Gate + Sync>(
     rt: &R,
     alloc: Global,
@@ -23,9 +23,9 @@ pub fn record_text<R: Threads + Wait + Sync, G: Gate + Sync>(
     summary: bool,
     gate: &G,
 ) -> Result<Vec<u8>, NoMemory>
-    requires { AreModuleLines scripts.modules }
     ensures { IfOk result (λ text. IsRecorded summary scripts text.items) }
 {
+    let _modules = scripts.modules();
     let book = record_job(rt, alloc, scripts.share()?, gate)?;
     book_text(alloc, book, summary)
 }

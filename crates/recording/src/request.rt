@@ -1,9 +1,8 @@
 //! What the words of the recorder ask for.
-ghost use Rattle.std.specs.Prelude.{◌≡◌, ◌≤◌, codes, length, Err, IfOk, IfSome, IfNone, None, Some, map, string_bytes};
+ghost use Rattle.std.specs.Prelude.{◌≡◌, ◌≤◌, [], length, Err, IfOk, IfSome, IfNone, None, Some, map, string_bytes};
 ghost use Rattle.std.specs.Option.{option_copied};
-ghost use Rattle.command_words.specs.WordsTaken.{files_in, flag_in, rows_in, value_in};
-ghost use Rattle.recording.specs.RecordWords.{record_asked, record_given, task_given, trace_of};
-ghost use Rattle.recording.specs.Requests.{asked_by, task_by};
+ghost use Rattle.recording.specs.RecordWords.{record_asked, task_given, trace_of};
+ghost use Rattle.recording.specs.Requests.{asked_by, taken_asks, task_by};
 
 use crate::inputs::inputs_in;
 use command_words::{TakenWords, WordTable, WordsFault, take_words};
@@ -61,15 +60,20 @@ pub struct RecordRequest<'a> {
 }
 
 impl<'a> RecordRequest<'a> {
-    /// The request that the words make. `NotTaken` exactly where they aren't taken, unless memory is wanting.
+    /// The request that the words make. `NotTaken` exactly where they aren't taken, unless memory is wanting; no words at all
+    /// take none.
     pub fn read(alloc: Global, words: &'a [String]) -> Result<RecordRequest<'a>, WordsFault>
         ensures taken { IfOk result
             (λ request. record_asked (map string_bytes words.entry.now) ≡ Some (asked_by request)) }
         ensures refused { result ≡ Err WordsFault.NotTaken
             → record_asked (map string_bytes words.entry.now) ≡ None }
+        ensures none { map string_bytes words.entry.now ≡ [] → result ≡ Err WordsFault.NotTaken }
         ensures some { IfOk result (λ request. 1 ≤ length request.scripts.items) }
         ensures few { IfOk result (λ request. length request.scripts.items ≤ 64) }
     {
+        if words.is_empty() {
+            return Err(WordsFault::NotTaken);
+        }
         let words = take_words(alloc, &WORDS, words)?;
         request_in(alloc, &words)
     }
@@ -91,14 +95,8 @@ fn task_in<'a>(trace: Option<&'a str>, summary: bool) -> Option<RecordTask<'a>>
 /// What taken words ask for.
 fn request_in<'a>(alloc: Global, words: &TakenWords<'a>) -> Result<RecordRequest<'a>, WordsFault>
     ensures taken { IfOk result
-        (λ request. record_given (value_in (rows_in words.now) (codes "modules"))
-        (value_in (rows_in words.now) (codes "check"))
-        (flag_in (rows_in words.now) (codes "summary")) (files_in (rows_in words.now))
-        ≡ Some (asked_by request)) }
-    ensures refused { result ≡ Err WordsFault.NotTaken
-        → record_given (value_in (rows_in words.now) (codes "modules"))
-        (value_in (rows_in words.now) (codes "check"))
-        (flag_in (rows_in words.now) (codes "summary")) (files_in (rows_in words.now)) ≡ None }
+        (λ request. taken_asks words.now ≡ Some (asked_by request)) }
+    ensures refused { result ≡ Err WordsFault.NotTaken → taken_asks words.now ≡ None }
     ensures some { IfOk result (λ request. 1 ≤ length request.scripts.items) }
     ensures few { IfOk result (λ request. length request.scripts.items ≤ 64) }
 {

@@ -5,7 +5,6 @@ ghost use Rattle.command_frame.specs.FirstFault.{bounds_of};
 ghost use Rattle.command_frame.specs.Outside.{outside};
 ghost use Rattle.command_frame.specs.RunEnds.{HasNotBegun};
 ghost use Rattle.recording.specs.HeaprecRan.{HeaprecRan};
-ghost use Rattle.recording.specs.RecordWords.{record_asked};
 ghost use Rattle.recording.specs.Texts.{heaprec_texts as the_texts};
 
 use crate::open_gate::OpenGate;
@@ -31,7 +30,7 @@ use std::thread::Threads;
 /// - 0: the trace was written, or the one that was checked is a recording; and each file was read to its end.
 /// - 1: a script or the modules file has a fault, the first of which the message names; or the trace is no recording, and the
 ///   message names the first line with which none goes on.
-/// - 2: the words aren't taken; the message is the usage text.
+/// - 2: the words aren't taken; the message is the usage text. No words at all take no memory.
 /// - 3: a file is absent, or a call on the store failed. A fault of a line that was taken whole before the failed call
 ///   is told in its stead, and so is one of a line's length that the bytes taken show.
 /// - 4: a write or a flush failed.
@@ -53,8 +52,7 @@ pub fn heaprec_run<R: Threads + Wait + Sync, S: Store, O: Sink, E: Sink, G: Gate
     gate: &G,
 ) -> u8
     requires { S.opens store.old < 2 ^ 63 }
-    ensures { HeaprecRan (bounds_of limits.now) limits.now.order
-        (record_asked (map string_bytes words.now))
+    ensures { HeaprecRan (bounds_of limits.now) limits.now.order (map string_bytes words.now)
         (outside S.Store O.Sink E.Sink store.old out.old err.old)
         (outside S.Store O.Sink E.Sink store.new out.new err.new) result }
 {
@@ -80,7 +78,7 @@ pub fn heaprec_main<R: Threads + Wait + Sync, S: Store, O: Sink, E: Sink>(
     requires { S.opens store.old < 2 ^ 63 }
     ensures run { IfOk words.now (λ words.
         HeaprecRan (record { input = 2 ^ 34; line = 1048576 }) 10000000
-        (record_asked (map string_bytes words.items))
+        (map string_bytes words.items)
         (outside S.Store O.Sink E.Sink store.old out.old err.old)
         (outside S.Store O.Sink E.Sink store.new out.new err.new) (exit_status result)) }
     ensures wanting { IfErr words.now (λ fault. HasNotBegun the_texts

@@ -1,5 +1,5 @@
 //! From the words and the files to what is to be delivered. How that is written is the business of the frame.
-ghost use Rattle.std.specs.Prelude.{◌≡◌, ◌^◌, ◌<◌, ◌≤◌, length, map, string_bytes, Some};
+ghost use Rattle.std.specs.Prelude.{◌≡◌, ◌^◌, ◌<◌, ◌≤◌, [], length, map, string_bytes, Some};
 ghost use Rattle.command_frame.specs.FirstFault.{bounds_of};
 ghost use Rattle.command_frame.specs.OutcomeAnswer.{outcome_answer};
 ghost use Rattle.command_frame.specs.RunsTo.{rest_of, shown, taken};
@@ -24,7 +24,7 @@ use std::alloc::Global;
 use std::sync::Wait;
 use std::thread::Threads;
 
-/// Runs what the words ask for. Nothing is written.
+/// Runs what the words ask for. Nothing is written, and no words at all take no memory.
 pub fn run_words<R: Threads + Wait + Sync, S: Store, O: Sink, G: Gate + Sync>(
     rt: &R,
     desk: &Desk,
@@ -35,10 +35,12 @@ pub fn run_words<R: Threads + Wait + Sync, S: Store, O: Sink, G: Gate + Sync>(
 ) -> Outcome
     requires opens { S.opens store.old < 2 ^ 63 }
     requires texts { texts_of desk.now.texts ≡ heaprec_texts }
-    ensures { WordsRecord IsRecorded (bounds_of desk.now.limits) desk.now.limits.order
+    ensures run { WordsRecord IsRecorded (bounds_of desk.now.limits) desk.now.limits.order
         (record_asked (map string_bytes words.now)) (shown S.Store store.old)
         (shown S.Store store.new)
         (taken O.Sink out.old) (taken O.Sink out.new) (outcome_answer heaprec_texts result) }
+    ensures none { map string_bytes words.now ≡ []
+        → (outcome_answer heaprec_texts result).status ≡ 2 }
 {
     match RecordRequest::read(desk.alloc, words) {
         Ok(request) => Outcome::new(
@@ -84,6 +86,7 @@ fn run_request<R: Threads + Wait + Sync, S: Store, O: Sink, G: Gate + Sync>(
         RecordTask::Check { trace } => {
             front_laws();
             quiet_modules();
+            let _modules = scripts.modules();
             check_trace(desk, trace, scripts, store, out)
         }
     }

@@ -1,7 +1,5 @@
 //! One line of a modules file or of a script.
 ghost use Rattle.std.specs.Prelude.{◌≡◌, ◌^◌, ◌<◌, length, IfErr, None, OnOk};
-ghost use Rattle.hp_outside.specs.WholeLines.{IsLineText};
-ghost use Rattle.record_scripts.specs.ModuleLines.{AreModuleLines};
 ghost use Rattle.record_scripts.specs.ScriptFaults.{Tells};
 ghost use Rattle.recording.specs.declared.reader.FileKind.TheVariants.{Script};
 ghost use Rattle.recording.specs.FileLines.{one_fault, with_one};
@@ -16,8 +14,6 @@ pub fn take_line(kind: FileKind, scripts: &mut Scripts, line: &[u8]) -> Result<(
     ensures taken { OnOk result (scripts.new ≡ with_one kind scripts.old line.now) }
     ensures no_fault { OnOk result (one_fault kind scripts.old line.now ≡ None) }
     ensures fault { IfErr result (λ fault. Tells fault (one_fault kind scripts.old line.now)) }
-    ensures lines { IsLineText line.now → AreModuleLines scripts.old.modules
-        → AreModuleLines scripts.new.modules }
 {
     match kind {
         FileKind::Modules => scripts.module_line(line),

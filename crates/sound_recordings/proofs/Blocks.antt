@@ -1,5 +1,5 @@
 -- What the pointers of a recorded trace stand for: the live blocks of the scripts.
-use Rattle.std.proofs.Common.{◌≡◌, ◌≢◌, ℕ, ◌==◌, ◌&&◌, Bool, true, false, cond, List, [], ◌∷◌, ◌++◌, length, Option, None, Some, refl, sym, ap, ap₂, ◌∙◌, subst, arith, true≢false}
+use Rattle.std.proofs.Common.{◌≡◌, ℕ, ◌==◌, Bool, true, false, cond, List, [], ◌∷◌, ◌++◌, length, Option, None, Some, refl, sym, ap, ◌∙◌, subst, arith, true≢false}
 use Rattle.std.proofs.lemmas.Bool.Decides.{nat_tests}
 use Rattle.ht_lines.specs.Content.{Content, raw_allocation_line, raw_free_line}
 use Rattle.interpret.specs.Eventless.{IsEventless}
@@ -10,47 +10,47 @@ use Rattle.record_book.specs.declared.heap.LiveEntry.{LiveEntry}
 use Rattle.record_book.specs.Figures.{Held, without}
 use Rattle.record_book.specs.HeapPlaces.{Place, address_of, class_of, next_address, places_with, released}
 use Rattle.record_book.specs.HeapState.{AreOnly, entry_in}
-use Rattle.record_book.specs.TallyState.{size_in}
-use Rattle.record_book.proofs.Laws.{address-some, entry-allocated, entry-apart, entry-next, entry-released, same, size-without}
-use Rattle.std.specs.List.{AllByRecursion}
+use Rattle.record_book.proofs.Laws.{address-some, entry-allocated, entry-apart, entry-next, entry-released, same}
+use Rattle.sound_recordings.proofs.HeldBlocks.{held-without, held_in}
 
--- where a live block lies, and its size: its address stands for a block of this size. Where none lies, there is none
-abbrev pub StandsAt : List Content → Option LiveEntry → Option ℕ → Type 0
-StandsAt said None None = Unit {0}
-StandsAt said (Some entry) (Some size) = (block : RawBlock) × (held said entry.address ≡ Some block) × (block.info.size ≡ size)
-StandsAt said _ _ = ⊥
+-- where a live block lies: its address stands for a raw block of its size, whose node has its stack. Where none lies, there is none
+abbrev pub StandsAt : (ℕ → List ℕ) → List Content → Option LiveEntry → Option Held → Type 0
+StandsAt stack_at said None None = Unit {0}
+StandsAt stack_at said (Some entry) (Some own) = (block : RawBlock) × (held said entry.address ≡ Some block) × (block.info.size ≡ own.size) × (stack_at block.info.trace ≡ own.ips)
+StandsAt stack_at said _ _ = ⊥
 
 -- the same of the block of each thread's ID
-pub record AreLive (said : List Content) (places : List Place) (blocks : List Held) : Type 0 where
-  pub each : (t i : ℕ) → StandsAt said (entry_in places t i) (size_in blocks t i)
+pub record AreLive (stack_at : ℕ → List ℕ) (said : List Content) (places : List Place) (blocks : List Held) : Type 0 where
+  pub each : (t i : ℕ) → StandsAt stack_at said (entry_in places t i) (held_in blocks t i)
   pub only : AreOnly places
 
-stands-still : (said more : List Content) (entry : Option LiveEntry) (size : Option ℕ) → ((e : LiveEntry) → entry ≡ Some e → held more e.address ≡ held said e.address) → StandsAt said entry size → StandsAt more entry size
-stands-still said more None None same at = tt
-stands-still said more (Some e) (Some size) same at = (at.0, same e refl ∙ at.1, at.2)
-stands-still said more None (Some size) same at = absurd at
-stands-still said more (Some e) None same at = absurd at
+stands-still : (stack_at : ℕ → List ℕ) (said more : List Content) (entry : Option LiveEntry) (own : Option Held) → ((e : LiveEntry) → entry ≡ Some e → held more e.address ≡ held said e.address) → StandsAt stack_at said entry own → StandsAt stack_at more entry own
+stands-still stack_at said more None None same at = tt
+stands-still stack_at said more (Some e) (Some own) same at = (at.0, same e refl ∙ at.1, at.2, at.3)
+stands-still stack_at said more None (Some own) same at = absurd at
+stands-still stack_at said more (Some e) None same at = absurd at
 
 -- lines without an event
-pub live-none : (said : List Content) (c : Content) (places : List Place) (blocks : List Held) → IsEventless c → AreLive said places blocks → AreLive (said ++ c ∷ []) places blocks
-live-none said c places blocks none live = record {
-  each = λ t i. stands-still said (said ++ c ∷ []) (entry_in places t i) (size_in blocks t i) (λ e is. held-none said c e.address none) (live.each t i);
+pub live-none : (stack_at : ℕ → List ℕ) (said : List Content) (c : Content) (places : List Place) (blocks : List Held) → IsEventless c → AreLive stack_at said places blocks → AreLive stack_at (said ++ c ∷ []) places blocks
+live-none stack_at said c places blocks none live = record {
+  each = λ t i. stands-still stack_at said (said ++ c ∷ []) (entry_in places t i) (held_in blocks t i) (λ e is. held-none said c e.address none) (live.each t i);
   only = live.only;
 }
 
 -- the block of a live ID
-pub record IsThere (said : List Content) (places : List Place) (thread id size : ℕ) : Type 0 where
+pub record IsThere (stack_at : ℕ → List ℕ) (said : List Content) (places : List Place) (thread id : ℕ) (own : Held) : Type 0 where
   pub entry : LiveEntry
   pub block : RawBlock
   pub lies : entry_in places thread id ≡ Some entry
   pub stands : held said (address_of thread id places) ≡ Some block
-  pub size_is : block.info.size ≡ size
+  pub size_is : block.info.size ≡ own.size
+  pub stack_is : stack_at block.info.trace ≡ own.ips
 
-pub there : (said : List Content) (places : List Place) (blocks : List Held) (thread id size : ℕ) → AreLive said places blocks → size_in blocks thread id ≡ Some size → IsThere said places thread id size
-there said places blocks thread id size live is =
-    by (entry_in places thread id) refl (subst (λ (o : Option ℕ). StandsAt said (entry_in places thread id) o) is (live.each thread id))
+pub there : (stack_at : ℕ → List ℕ) (said : List Content) (places : List Place) (blocks : List Held) (thread id : ℕ) (own : Held) → AreLive stack_at said places blocks → held_in blocks thread id ≡ Some own → IsThere stack_at said places thread id own
+there stack_at said places blocks thread id own live is =
+    by (entry_in places thread id) refl (subst (λ (o : Option Held). StandsAt stack_at said (entry_in places thread id) o) is (live.each thread id))
   where
-    by : (o : Option LiveEntry) → entry_in places thread id ≡ o → StandsAt said o (Some size) → IsThere said places thread id size
+    by : (o : Option LiveEntry) → entry_in places thread id ≡ o → StandsAt stack_at said o (Some own) → IsThere stack_at said places thread id own
     by None lies at = absurd at
     by (Some entry) lies at = record {
       entry = entry;
@@ -58,15 +58,16 @@ there said places blocks thread id size live is =
       lies = lies;
       stands = ap (λ (a : ℕ). held said a) (address-some places thread id entry lies) ∙ at.1;
       size_is = at.2;
+      stack_is = at.3;
     }
 
 -- a free of it
-pub live-freed : (said : List Content) (places : List Place) (blocks : List Held) (thread id size : ℕ) → AreLive said places blocks → AreOnly (released thread id places) → IsThere said places thread id size
-    → AreLive (said ++ raw_free_line (address_of thread id places) ∷ []) (released thread id places) (without thread id blocks)
-live-freed said places blocks thread id size live only here = record {
+pub live-freed : (stack_at : ℕ → List ℕ) (said : List Content) (places : List Place) (blocks : List Held) (thread id : ℕ) (own : Held) → AreLive stack_at said places blocks → AreOnly (released thread id places) → IsThere stack_at said places thread id own
+    → AreLive stack_at (said ++ raw_free_line (address_of thread id places) ∷ []) (released thread id places) (without thread id blocks)
+live-freed stack_at said places blocks thread id own live only here = record {
   each = λ t i.
-      subst (λ (o : Option ℕ). StandsAt (said ++ raw_free_line (address_of thread id places) ∷ []) (entry_in (released thread id places) t i) o) (sym (size-without thread id blocks t i))
-      (subst (λ (o : Option LiveEntry). StandsAt (said ++ raw_free_line (address_of thread id places) ∷ []) o (cond (same thread id t i) None (size_in blocks t i))) (sym (entry-released thread id places t i)) (by t i (same thread id t i) refl));
+      subst (λ (o : Option Held). StandsAt stack_at (said ++ raw_free_line (address_of thread id places) ∷ []) (entry_in (released thread id places) t i) o) (sym (held-without thread id blocks t i))
+      (subst (λ (o : Option LiveEntry). StandsAt stack_at (said ++ raw_free_line (address_of thread id places) ∷ []) o (cond (same thread id t i) None (held_in blocks t i))) (sym (entry-released thread id places t i)) (by t i (same thread id t i) refl));
   only = only;
 }
   where
@@ -80,19 +81,19 @@ live-freed said places blocks thread id size live only here = record {
             let first : here.entry.address ≡ e.address = sym (address-some places thread id here.entry here.lies) ∙ at_it in
             absurd (true≢false (sym (entry-apart places thread id t i here.entry e live.only here.lies is first) ∙ other))
 
-    by : (t i : ℕ) (b : Bool) → same thread id t i ≡ b → StandsAt (said ++ raw_free_line (address_of thread id places) ∷ []) (cond b None (entry_in places t i)) (cond b None (size_in blocks t i))
+    by : (t i : ℕ) (b : Bool) → same thread id t i ≡ b → StandsAt stack_at (said ++ raw_free_line (address_of thread id places) ∷ []) (cond b None (entry_in places t i)) (cond b None (held_in blocks t i))
     by t i true p = tt
-    by t i false p = stands-still said (said ++ raw_free_line (address_of thread id places) ∷ []) (entry_in places t i) (size_in blocks t i) (still t i p) (live.each t i)
+    by t i false p = stands-still stack_at said (said ++ raw_free_line (address_of thread id places) ∷ []) (entry_in places t i) (held_in blocks t i) (still t i p) (live.each t i)
 
 -- an allocation
-pub live-allocated : (said : List Content) (places : List Place) (blocks : List Held) (thread id size trace : ℕ) (ips : List ℕ) → AreLive said places blocks
+pub live-allocated : (stack_at : ℕ → List ℕ) (said : List Content) (places : List Place) (blocks : List Held) (thread id size trace : ℕ) (ips : List ℕ) → AreLive stack_at said places blocks → stack_at trace ≡ ips
     → AreOnly (released thread id places) → AreOnly (places_with thread (allocation id size ips) places)
-    → AreLive (said ++ raw_allocation_line size trace (next_address (class_of size) (released thread id places)) ∷ []) (places_with thread (allocation id size ips) places)
+    → AreLive stack_at (said ++ raw_allocation_line size trace (next_address (class_of size) (released thread id places)) ∷ []) (places_with thread (allocation id size ips) places)
     (record { thread = thread; id = id; size = size; ips = ips } ∷ without thread id blocks)
-live-allocated said places blocks thread id size trace ips live left only = record {
+live-allocated stack_at said places blocks thread id size trace ips live named left only = record {
   each = λ t i.
-      subst (λ (o : Option ℕ). StandsAt (said ++ raw_allocation_line size trace (next_address (class_of size) (released thread id places)) ∷ []) (entry_in (places_with thread (allocation id size ips) places) t i) (cond (same thread id t i) (Some size) o)) (sym (size-without thread id blocks t i))
-      (subst (λ (o : Option LiveEntry). StandsAt (said ++ raw_allocation_line size trace (next_address (class_of size) (released thread id places)) ∷ []) o (cond (same thread id t i) (Some size) (cond (same thread id t i) None (size_in blocks t i)))) (sym (entry-allocated thread id size ips places t i live.only))
+      subst (λ (o : Option Held). StandsAt stack_at (said ++ raw_allocation_line size trace (next_address (class_of size) (released thread id places)) ∷ []) (entry_in (places_with thread (allocation id size ips) places) t i) (cond (same thread id t i) (Some (record { thread = thread; id = id; size = size; ips = ips })) o)) (sym (held-without thread id blocks t i))
+      (subst (λ (o : Option LiveEntry). StandsAt stack_at (said ++ raw_allocation_line size trace (next_address (class_of size) (released thread id places)) ∷ []) o (cond (same thread id t i) (Some (record { thread = thread; id = id; size = size; ips = ips })) (cond (same thread id t i) None (held_in blocks t i)))) (sym (entry-allocated thread id size ips places t i live.only))
       (by t i (same thread id t i) refl));
   only = only;
 }
@@ -116,14 +117,15 @@ live-allocated said places blocks thread id size trace ips live left only = reco
             absurd (entry-next (released thread id places) t i (class_of size) e left lies (sym at_it))
 
     by : (t i : ℕ) (b : Bool) → same thread id t i ≡ b
-        → StandsAt (said ++ raw_allocation_line size trace (next_address (class_of size) (released thread id places)) ∷ [])
-        (cond b (Some (record { address = next_address (class_of size) (released thread id places); class = class_of size })) (entry_in places t i)) (cond b (Some size) (cond b None (size_in blocks t i)))
+        → StandsAt stack_at (said ++ raw_allocation_line size trace (next_address (class_of size) (released thread id places)) ∷ [])
+        (cond b (Some (record { address = next_address (class_of size) (released thread id places); class = class_of size })) (entry_in places t i)) (cond b (Some (record { thread = thread; id = id; size = size; ips = ips })) (cond b None (held_in blocks t i)))
     by t i true p =
         let equal : (next_address (class_of size) (released thread id places) == next_address (class_of size) (released thread id places)) ≡ true = grind (arith, nat_tests) in
         let block : RawBlock = record { place = length said; info = record { size = size; trace = trace } } in (
           block,
           held-alloc said size trace (next_address (class_of size) (released thread id places)) (next_address (class_of size) (released thread id places)) ∙ own block _ equal,
           refl,
+          named,
         )
     by t i false p =
-        stands-still said (said ++ raw_allocation_line size trace (next_address (class_of size) (released thread id places)) ∷ []) (entry_in places t i) (size_in blocks t i) (still t i p) (live.each t i)
+        stands-still stack_at said (said ++ raw_allocation_line size trace (next_address (class_of size) (released thread id places)) ∷ []) (entry_in places t i) (held_in blocks t i) (still t i p) (live.each t i)

@@ -1,8 +1,11 @@
 mod Said
 mod Readable
 mod Played
+mod Names
+mod HeldBlocks
 mod Blocks
 mod Figures
+mod StackFigures
 mod Turns
 mod NoFault
 mod ToldAgain

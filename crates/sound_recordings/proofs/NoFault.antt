@@ -1,6 +1,6 @@
 -- Without symbols, no line of a recorded trace has a fault after those before it.
-use Rattle.std.proofs.Common.{◌≡◌, ℕ, ◌+◌, ◌*◌, ◌^◌, ◌<◌, ◌≤◌, ◌==◌, ◌||◌, Bool, true, false, cond, List, [], ◌∷◌, ◌++◌, length, map, Option, Some, None, Ok, refl, sym, ap, ap₂, ◌∙◌, subst, arith, append_assoc, append-nil, length-append, true≢false}
-use Rattle.std.specs.Prelude.{codes, is_some, unwrap_or, Result}
+use Rattle.std.proofs.Common.{◌≡◌, ◌≢◌, ℕ, ◌+◌, ◌^◌, ◌<◌, ◌≤◌, ◌==◌, Bool, true, false, cond, List, [], ◌∷◌, ◌++◌, length, map, Option, Some, None, refl, sym, ap, ap₂, ◌∙◌, subst, arith, append_assoc, append-nil, length-append, true≢false}
+use Rattle.std.specs.Prelude.{codes, Result}
 use Rattle.std.specs.List.{AllByRecursion, filter_map}
 use Rattle.std.specs.Option.{option_to_list}
 use Rattle.std.specs.Str.{bytes_eq}
@@ -9,7 +9,6 @@ use Rattle.std.proofs.lemmas.Slice.Eq.{bytes_eq-Decides}
 use Rattle.hp_num.specs.Hexadecimal.{hexadecimal}
 use Rattle.hp_num.specs.ParsedHex.{parsed_hex}
 use Rattle.ht_lines.specs.Content.{Content, clear_line, command_line, comment_line, module_line, node_line, raw_allocation_line, raw_free_line, version_line}
-use Rattle.ht_lines.specs.Reading.{reading}
 use Rattle.ht_lines.specs.Written.{written}
 use Rattle.ht_lines.specs.declared.item.Form.TheVariants.{Raw}
 use Rattle.ht_lines.specs.declared.item.Malformed.{Malformed}
@@ -17,10 +16,9 @@ use Rattle.ht_lines.proofs.Laws.{reading-written}
 use Rattle.ht_trace.specs.declared.error.LineError.{LineError}
 use Rattle.ht_trace.specs.Gathered.{gathered}
 use Rattle.ht_trace.specs.LineFault.{most_nodes}
-use Rattle.ht_trace.specs.VersionLines.{may_stand_first}
 use Rattle.stack_table.specs.Node.{Node}
-use Rattle.stack_table.specs.Stack.{frame_count}
-use Rattle.stack_table.proofs.Laws.{frame_count-newest, frame_count-older, frame_count-zero}
+use Rattle.stack_table.specs.Stack.{frame_count, stack, stack_nodes}
+use Rattle.stack_table.proofs.Laws.{frame_count-newest, frame_count-older, frame_count-zero, stack-newest, stack-older}
 use Rattle.interpret.specs.declared.infos.AllocationInfo.{AllocationInfo}
 use Rattle.interpret.specs.IpLists.{raw_node_in, raw_nodes}
 use Rattle.interpret.specs.RawContents.{contents, version_of}
@@ -35,23 +33,46 @@ use Rattle.record_book.specs.Actions.{Action}
 use Rattle.record_book.specs.HeapPlaces.{address_of, class_of, next_address, places_after, released}
 use Rattle.record_book.specs.NodeNumbers.{number_in, stacks_after, stacks_with, with_stack, with_suffixes}
 use Rattle.record_book.specs.RecordedTrace.{last_thread}
+use Rattle.sound_recordings.proofs.Names.{AreNamed, named, suffix-known}
 use Rattle.sound_recordings.proofs.Played.{ArePlayed, Plays, number-few, stacks-few, suffixes-few}
 use Rattle.sound_recordings.proofs.Readable.{IsReadable, all-append, contents-of, version-first}
-use Rattle.sound_recordings.proofs.Said.{before_event, event_said, node_said, nodes_said, opening_said, switch_said, thread_said, trace_said}
+use Rattle.sound_recordings.proofs.Said.{before_event, event_said, node_said, nodes_said, switch_said, thread_said, trace_said}
 
--- as many nodes as stacks, none of which is deeper than it is long
+-- as many nodes as stacks, none of which is deeper than it is long: that of a stack's number is the stack
 pub record AreShallow (known : List (List ℕ)) (nodes : List Node) : Type 0 where
   pub count : length nodes ≡ length known
   pub depth : (ips : List ℕ) → frame_count nodes (number_in known ips) ≤ length ips
+  pub names : AreNamed (stack nodes) known
 
 -- a stack more
-shallow-more : (known : List (List ℕ)) (nodes : List Node) (ip : ℕ) (outer : List ℕ) → AreShallow known nodes
+shallow-more : (known : List (List ℕ)) (nodes : List Node) (ip : ℕ) (outer : List ℕ) → AreShallow known nodes → (outer ≢ [] → number_in known outer ≢ 0)
     → AreShallow ((ip ∷ outer) ∷ known) (nodes ++ record { ip = ip; parent = number_in known outer; frames = 1 } ∷ [])
-shallow-more known nodes ip outer are = record {
+shallow-more known nodes ip outer are there = record {
   count = let h = length-append nodes (record { ip = ip; parent = number_in known outer; frames = 1 } ∷ []) in omega (arith, h, are.count);
   depth = λ ips. by ips (bytes_eq (ip ∷ outer) ips) refl;
+  names = record {
+    empty = stack-older nodes (record { ip = ip; parent = number_in known outer; frames = 1 }) 0 (omega arith) ∙ are.names.empty;
+    none = none (bytes_eq (ip ∷ outer) []) refl;
+    stacks = λ ips some. stacks ips (bytes_eq (ip ∷ outer) ips) refl some;
+  };
 }
   where
+    none : (b : Bool) → bytes_eq (ip ∷ outer) [] ≡ b → cond b (length known + 1) (number_in known []) ≡ 0
+    none true is = let same : ip ∷ outer ≡ [] = (bytes_eq-Decides (ip ∷ outer) []).0 is in absurd (cc)
+    none false is = are.names.none
+
+    outer_is : stack nodes (number_in known outer) ≡ outer
+    outer_is = named (stack nodes) known outer are.names there
+
+    stacks : (ips : List ℕ) (b : Bool) → bytes_eq (ip ∷ outer) ips ≡ b → cond b (length known + 1) (number_in known ips) ≢ 0
+        → stack (nodes ++ record { ip = ip; parent = number_in known outer; frames = 1 } ∷ []) (cond b (length known + 1) (number_in known ips)) ≡ ips
+    stacks ips true is some =
+        stack-newest nodes (record { ip = ip; parent = number_in known outer; frames = 1 }) (length known + 1) (omega (arith, are.count))
+        ∙ ap (λ (rest : List ℕ). ip ∷ rest) outer_is ∙ (bytes_eq-Decides (ip ∷ outer) ips).0 is
+    stacks ips false is some =
+        let few = number-few known ips in
+        stack-older nodes (record { ip = ip; parent = number_in known outer; frames = 1 }) (number_in known ips) (omega (arith, few, are.count)) ∙ are.names.stacks ips some
+
     by : (ips : List ℕ) (b : Bool) → bytes_eq (ip ∷ outer) ips ≡ b
         → frame_count (nodes ++ record { ip = ip; parent = number_in known outer; frames = 1 } ∷ []) (cond b (length known + 1) (number_in known ips)) ≤ length ips
     by ips true is =
@@ -155,8 +176,8 @@ module _ (back : (n : ℕ) → n < 2 ^ 64 → parsed_hex (hexadecimal n) ≡ Som
 
   -- a node, where it is new
   sound-node : (said : List Content) (known : List (List ℕ)) (most ip : ℕ) (outer : List ℕ) → AreSound said known most → AllByRecursion IsReadable (node_said known ip outer) → length outer < 4096
-      → length known < most_nodes → most < 2 ^ 24 → AreSound (said ++ node_said known ip outer) (with_stack known (ip ∷ outer)) most
-  sound-node said known most ip outer are readable short room few = by (number_in known (ip ∷ outer) == 0) readable
+      → length known < most_nodes → most < 2 ^ 24 → (outer ≢ [] → number_in known outer ≢ 0) → AreSound (said ++ node_said known ip outer) (with_stack known (ip ∷ outer)) most
+  sound-node said known most ip outer are readable short room few there = by (number_in known (ip ∷ outer) == 0) readable
     where
       by : (b : Bool) → AllByRecursion IsReadable (cond b (node_line ip (number_in known outer) ∷ []) [])
           → AreSound (said ++ cond b (node_line ip (number_in known outer) ∷ []) []) (cond b ((ip ∷ outer) ∷ known) known) most
@@ -168,7 +189,7 @@ module _ (back : (n : ℕ) → n < 2 ^ 64 → parsed_hex (hexadecimal n) ≡ Som
           let good = plain-node (Some 2) said ip (number_in known outer) (omega (arith, number, count)) (omega (arith, are.shallow.depth outer, short)) (omega (arith, room, count)) (omega (arith, are.few, few)) in
           let nodes : raw_nodes (said ++ c ∷ []) ≡ raw_nodes said ++ record { ip = ip; parent = number_in known outer; frames = 1 } ∷ [] = filter_map-push raw_node_in said c in
           let infos = ap length (filter_map-push info_in said c ∙ append-nil (filter_map info_in said)) in
-          sound-more said known ((ip ∷ outer) ∷ known) most most c are readable.0 good (subst (AreShallow ((ip ∷ outer) ∷ known)) (sym nodes) (shallow-more known (raw_nodes said) ip outer are.shallow))
+          sound-more said known ((ip ∷ outer) ∷ known) most most c are readable.0 good (subst (AreShallow ((ip ∷ outer) ∷ known)) (sym nodes) (shallow-more known (raw_nodes said) ip outer are.shallow there))
           (omega (arith, infos, are.few))
 
   sound-nodes : (said : List Content) (known : List (List ℕ)) (most : ℕ) (ips : List ℕ) → AreSound said known most → AllByRecursion IsReadable (nodes_said known ips) → length ips ≤ 256
@@ -180,7 +201,7 @@ module _ (back : (n : ℕ) → n < 2 ^ 64 → parsed_hex (hexadecimal n) ≡ Som
       let rest = sound-nodes said known most outer are parts.0 (omega (arith, short)) (omega (arith, room)) few in
       let count = suffixes-few known outer in
       subst (λ (l : List Content). AreSound l (with_suffixes known (ip ∷ outer)) most) (append_assoc said (nodes_said known outer) own)
-      (sound-node (said ++ nodes_said known outer) (with_suffixes known outer) most ip outer rest parts.1 (omega (arith, short)) (omega (arith, count, room)) few)
+      (sound-node (said ++ nodes_said known outer) (with_suffixes known outer) most ip outer rest parts.1 (omega (arith, short)) (omega (arith, count, room)) few (suffix-known known outer))
 
   -- the lines of an event
   sound-event : (said : List Content) (before : List Action) (thread : ℕ) (event : Event) → AreSound said (stacks_after before) (length before) → ArePlayed before → Plays before thread event
@@ -216,12 +237,16 @@ module _ (back : (n : ℕ) → n < 2 ^ 64 → parsed_hex (hexadecimal n) ≡ Som
 
   -- the version line alone
   sound-version : IsReadable (version_line 66816 2) → AreSound (version_line 66816 2 ∷ []) [] 0
-  unfolding raw_fault content_fault
+  unfolding raw_fault content_fault stack stack_nodes
   sound-version readable = record {
     first = ([], refl);
     readable = (readable, tt);
     no_fault = ap (λ (r : Result Content Malformed). option_to_list (reading_fault [] None (tables_of [] []) r) ++ []) (reading-written back Raw 1 (version_line 66816 2) (omega arith, omega arith, omega arith));
-    shallow = record { count = refl; depth = λ ips. let h = frame_count-zero [] in omega (arith, h) };
+    shallow = record {
+      count = refl;
+      depth = λ ips. let h = frame_count-zero [] in omega (arith, h);
+      names = record { empty = refl; none = refl; stacks = λ ips some. absurd (some refl) };
+    };
     few = omega arith;
   }
 

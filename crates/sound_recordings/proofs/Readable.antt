@@ -1,5 +1,5 @@
 -- What lines say that are written and read again: where each of them can be read, a trace says exactly this.
-use Rattle.std.proofs.Common.{◌≡◌, ℕ, ◌^◌, ◌<◌, ◌≤◌, List, [], ◌∷◌, ◌++◌, map, Option, Some, None, Ok, refl, sym, ap, ◌∙◌, subst, arith}
+use Rattle.std.proofs.Common.{◌≡◌, ℕ, ◌^◌, ◌<◌, List, [], ◌∷◌, ◌++◌, length, map, Option, Some, None, refl, ap, ◌∙◌, arith}
 use Rattle.std.specs.Prelude.{Result, option_and_then, slice_get, unwrap_or}
 use Rattle.std.specs.List.{AllByRecursion, cons_option, filter_map}
 use Rattle.std.specs.Result.{result_ok}
@@ -15,14 +15,17 @@ use Rattle.ht_lines.specs.declared.item.Form.TheVariants.{Raw}
 use Rattle.ht_lines.specs.declared.item.Malformed.{Malformed}
 use Rattle.ht_lines.proofs.Laws.{reading-written, written-one_line}
 use Rattle.ht_trace.specs.FormContents.{version_in, versions}
+use Rattle.ht_trace.specs.TraceLists.{pattern_in, patterns}
 use Rattle.interpret.specs.RawContents.{IsRaw, contents, version_of}
 use Rattle.record_book.proofs.Laws.{line-of}
 
--- a line of a raw trace of file version 2 says this, and it has no line feed
+-- a line of a raw trace of file version 2 says this: it has no line feed, is no longer than what can be read, and suppresses nothing
 pub record IsReadable (said : Content) : Type 0 where
   pub writable : IsWritable Raw 2 said
   pub one_line : HasOneLineTexts said
   pub raw : IsRaw said
+  pub short : length (written 2 said) < 2 ^ 32
+  pub no_pattern : pattern_in said ≡ None
 
 pub all-append : {X : Type 0} (P : X → Type 0) (xs ys : List X) → AllByRecursion P xs → AllByRecursion P ys → AllByRecursion P (xs ++ ys)
 all-append P [] ys a b = b
@@ -31,6 +34,14 @@ all-append P (x ∷ xs) ys a b = (a.0, all-append P xs ys a.1 b)
 pub all-raw : (said : List Content) → AllByRecursion IsReadable said → AllByRecursion IsRaw said
 all-raw [] all = tt
 all-raw (x ∷ xs) all = (all.0.raw, all-raw xs all.1)
+
+pub all-short : (said : List Content) → AllByRecursion IsReadable said → AllByRecursion (λ line. length line < 2 ^ 32) (map (written 2) said)
+all-short [] all = tt
+all-short (x ∷ xs) all = (all.0.short, all-short xs all.1)
+
+pub no-patterns : (said : List Content) → AllByRecursion IsReadable said → patterns said ≡ []
+no-patterns [] all = refl
+no-patterns (x ∷ xs) all = ap (λ (o : Option (List ℕ)). cons_option o (filter_map pattern_in xs)) all.0.no_pattern ∙ no-patterns xs all.1
 
 -- the lines of the text
 pub lines-of : (said : List Content) → AllByRecursion IsReadable said → lines_of (text_of_lines (map (written 2) said)) ≡ map (written 2) said

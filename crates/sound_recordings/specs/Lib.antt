@@ -1,1 +1,2 @@
+pub mod StackFigures
 pub mod ToldAgain

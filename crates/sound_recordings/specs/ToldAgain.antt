@@ -1,15 +1,23 @@
 -- What is told of a recording once its trace is interpreted.
-use Rattle.std.specs.Prelude.{◌≡◌, ℕ, List, [], None}
+use Rattle.std.specs.Prelude.{◌≡◌, ℕ, ◌+◌, ◌^◌, ◌<◌, Bool, List, [], length, map, Option, None, Some}
+use Rattle.std.specs.List.{AllByRecursion}
 use Rattle.hp_outside.specs.Lines.{lines_of}
 use Rattle.ht_print.specs.SummaryText as trace
+use Rattle.ht_trace.specs.Contents.{contents}
 use Rattle.ht_trace.specs.Gathered.{gathered}
+use Rattle.ht_trace.specs.LineFault.{end_fault, line_fault}
 use Rattle.ht_trace.specs.TraceEvents.{events}
-use Rattle.interpret.specs.InterpretedTrace.{AreInterpretable, interpreted_trace}
+use Rattle.interpret.specs.InterpretedTrace.{HasFrames, HasShortTexts, interpreted_trace}
+use Rattle.interpret.specs.IpLists.{interpreted_ips}
 use Rattle.interpret.specs.RawFault.{raw_end_fault, raw_fault}
 use Rattle.interpret.specs.SymbolLine.{Symbol}
 use Rattle.live_ledger.specs.declared.event.Event.{Event}
+use Rattle.live_ledger.specs.Faults.{fault_of}
+use Rattle.record_book.specs.Actions.{actions}
+use Rattle.record_book.specs.Figures as own
 use Rattle.record_book.specs.SummaryText as recording
 use Rattle.record_scripts.specs.Turns.{Turn}
+use Rattle.sound_recordings.specs.StackFigures.{allocated_at, calls_at, freed_at, frees_at}
 
 -- what `summary` tells of a trace of these events is what the summary of a recording tells, which has nothing of temporary allocations
 -- and no moment of the peak
@@ -22,10 +30,46 @@ pub record TellSame (told : List Event) (scripts : List (List Turn)) (order : Li
   pub blocks : (trace.summary_of told).totals.blocks ≡ (recording.summary_of scripts order).blocks
   pub peak : (trace.summary_of told).peak ≡ (recording.summary_of scripts order).peak
 
--- without symbols, no line of these bytes has a fault in an interpretation, nor has their end; and with any symbols by which none has
--- one, the figures of the interpreted trace are those of scripts that are recorded in this order
+-- the stacks of a trace are counted by their instruction pointers, from the innermost frame outwards
+abbrev pub is_at : List (List ℕ) → (List (Option ℕ) → Bool) → ℕ → Bool
+is_at lines counted stack = counted (interpreted_ips (contents lines) stack)
+
+-- at the stacks that are counted, a trace of these lines has the calls and the bytes of the recording; and what it frees there, with
+-- what the recording leaves live, is what it allocates
+pub record TellStacks (lines : List (List ℕ)) (scripts : List (List Turn)) (order : List ℕ)
+    (counted : List (Option ℕ) → Bool) : Type 0 where
+  pub calls : calls_at (is_at lines counted) (events lines)
+      ≡ own.calls (λ ips. counted (map Some ips)) (actions scripts order)
+  pub allocated : allocated_at (is_at lines counted) (events lines)
+      ≡ own.allocated (λ ips. counted (map Some ips)) (actions scripts order)
+  pub bytes : freed_at (is_at lines counted) (events lines)
+      + own.live_bytes (λ ips. counted (map Some ips)) (actions scripts order)
+      ≡ allocated_at (is_at lines counted) (events lines)
+  pub blocks : frees_at (is_at lines counted) (events lines)
+      + own.live_count (λ ips. counted (map Some ips)) (actions scripts order)
+      ≡ calls_at (is_at lines counted) (events lines)
+
+-- no line of a trace has a fault, nor has its end, nor an event
+pub record AreRead (lines : List (List ℕ)) : Type 0 where
+  pub no_fault : gathered line_fault [] lines ≡ []
+  pub end : end_fault lines ≡ None
+  pub event_fault : gathered fault_of [] (events lines) ≡ []
+
+-- what is told of lines that scripts were recorded in, in this order, once they are interpreted: all figures and those at any stacks
+-- are the recording's; and where the texts of the symbols are frames, as those of a file are, the trace is read without a fault
+pub record TellAgain (lines : List (List ℕ)) (scripts : List (List Turn)) (order : List ℕ)
+    (symbols : List Symbol) : Type 0 where
+  pub figures : TellSame (events (interpreted_trace symbols lines)) scripts order
+  pub stacks : (counted : List (Option ℕ) → Bool)
+      → TellStacks (interpreted_trace symbols lines) scripts order counted
+  pub read : AllByRecursion HasFrames symbols → AreRead (interpreted_trace symbols lines)
+
+-- without symbols, no line of these bytes has a fault in an interpretation, nor has their end; none is longer than what can be read; and
+-- with any symbols by which none has a fault, the interpreted trace tells what scripts do that are recorded in this order
 pub record IsToldAgain (bytes : List ℕ) (scripts : List (List Turn)) (order : List ℕ) : Type 0 where
   pub no_fault : gathered (raw_fault []) [] (lines_of bytes) ≡ []
   pub end : raw_end_fault (lines_of bytes) ≡ None
-  pub figures : (symbols : List Symbol) → AreInterpretable symbols (lines_of bytes)
-      → TellSame (events (interpreted_trace symbols (lines_of bytes))) scripts order
+  pub short : AllByRecursion (λ line. length line < 2 ^ 32) (lines_of bytes)
+  pub again : (symbols : List Symbol) → AllByRecursion HasShortTexts symbols
+      → gathered (raw_fault symbols) [] (lines_of bytes) ≡ []
+      → TellAgain (lines_of bytes) scripts order symbols

@@ -17,7 +17,7 @@ returns-then-text-count-ne10-clause-other c = λ same.
 pub returns-clause-begins : goal.returns-clause-begins
 returns-clause-begins c = λ same.
     let within : length c.args.line.now < length c.args.text.now = omega (arith, c.if-count-text.false) in
-    (behind-line c.args.line.now c.args.text.now ((slice_eq-Decides Decides-eqb _ _ _ c.eq.ensures).0 same) (grind (arith, nat_tests, c.if-text-count-ne10.false)) within, omega (arith, within))
+    behind-line c.args.line.now c.args.text.now ((slice_eq-Decides Decides-eqb _ _ _ c.eq.ensures).0 same) (grind (arith, nat_tests, c.if-text-count-ne10.false)) within
 
 pub returns-clause-other : goal.returns-clause-other
 returns-clause-other c = λ other.

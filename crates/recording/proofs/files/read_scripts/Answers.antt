@@ -12,7 +12,6 @@ each_name-init g c = record {
   leads = λ last more next. (last, λ later answer ran. ran);
   job = λ folder known. refl;
   count = omega arith;
-  modules = c.requires.modules;
   opens = omega arith;
   input = c.requires.input;
   line_limit = c.requires.line;
@@ -36,7 +35,6 @@ each_name-preserved g c =
           read.job folder (held.files ∙ known) rest
           ∙ ap (λ (names : List (List ℕ)). scripts_in folder names c.each_name.scripts) (sym step) ∙ held.job folder known;
       count = omega (arith, read.count, held.count);
-      modules = read.modules;
       opens = omega (arith, read.opens, held.opens);
       input = c.read_script.ensures.input ∙ held.input;
       line_limit = c.read_script.ensures.line ∙ held.line_limit;

@@ -4,7 +4,6 @@ use Rattle.hp_outside.specs.Taken.{WhereTold}
 use Rattle.command_frame.specs.FirstFault.{bounds_of}
 use Rattle.command_frame.specs.RunsTo.{shown}
 use Rattle.command_frame.specs.Texts.{texts_of}
-use Rattle.record_scripts.specs.ModuleLines.{AreModuleLines}
 use Rattle.recording.specs.FilesPlan.{scripts_front, scripts_in}
 use Rattle.recording.specs.FrontRead.{LeadsTo}
 use Rattle.recording.proofs.files.read_scripts.Given as goal
@@ -16,7 +15,6 @@ invariant-each_name g l = record {
       (scripts_front (map (λ name. name.now) (drop l.name-index l.names)) l.scripts) (shown g.S.Store l.store).moment;
   job : WhereTold (g.S.Store.files l.initial.store) (λ folder. scripts_in folder (map (λ name. name.now) (drop l.name-index l.names)) l.scripts ≡ scripts_in folder (map (λ name. name.now) l.names) l.initial.scripts);
   count : length l.scripts.scripts ≡ length l.initial.scripts.scripts + l.name-index;
-  modules : AreModuleLines l.scripts.modules;
   opens : g.S.Store.opens l.store ≡ g.S.Store.opens l.initial.store + l.name-index;
   input : l.lines.input ≡ l.desk.limits.input;
   line_limit : l.lines.line_limit ≡ l.desk.limits.line;

@@ -1,12 +1,11 @@
 use Rattle.std.proofs.Common.{◌^◌, ℕ, List, IfOk, map, string_bytes, subst, sym}
 use Rattle.command_frame.specs.Outside.{outside}
 use Rattle.recording.specs.HeaprecRan.{HeaprecRan}
-use Rattle.recording.specs.RecordWords.{record_asked}
 use Rattle.recording.proofs.run.heaprec_main.Goals as goal
 
 pub returns-in-Ok-clause-run : goal.returns-in-Ok-clause-run
 returns-in-Ok-clause-run g c =
-    let ran : (input line order : ℕ) (words : List (List ℕ)) (status : ℕ) → Type 0 = λ input line order words status. HeaprecRan (record { input = input; line = line }) order (record_asked words)
+    let ran : (input line order : ℕ) (words : List (List ℕ)) (status : ℕ) → Type 0 = λ input line order words status. HeaprecRan (record { input = input; line = line }) order words
     (outside g.S.Store g.O.Sink g.E.Sink c.args.store.now c.args.out.now c.args.err.now)
     (outside g.S.Store g.O.Sink g.E.Sink c.heaprec_run-status.new.store c.heaprec_run-status.new.out c.heaprec_run-status.new.err) status in
     let given = map string_bytes c.deref.result.now in

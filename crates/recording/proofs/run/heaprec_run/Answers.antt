@@ -1,4 +1,4 @@
-use Rattle.std.proofs.Common.{subst}
+use Rattle.std.proofs.Common.{map, string_bytes, subst}
 use Rattle.command_frame.specs.Answer.{after}
 use Rattle.command_frame.specs.Delivers.{DeliversTo}
 use Rattle.command_frame.specs.FirstFault.{bounds_of}
@@ -14,7 +14,7 @@ use Rattle.recording.proofs.run.heaprec_run.Goals as goal
 
 pub returns : goal.returns
 returns g c =
-    let ran = c.run_words-outcome.ensures in
+    let ran = c.run_words-outcome.ensures.run in
     let limit = c.args.limits.now.order in
     let mid = taken g.O.Sink c.run_words-outcome.new.out in
     let new = taken g.O.Sink c.deliver.new.out in
@@ -23,7 +23,7 @@ returns g c =
     let answer = outcome_answer heaprec_texts c.run_words-outcome.result in
     let delivery : DeliversTo heaprec_texts.write_failed answer c.deliver.result mid new err_old err_new =
     subst (λ (texts : Texts). DeliversTo texts.write_failed (outcome_answer texts c.run_words-outcome.result) c.deliver.result mid new err_old err_new) c.heaprec_texts.ensures c.deliver.ensures in
-    heaprec_ran (bounds_of c.args.limits.now) limit _ (outside g.S.Store g.O.Sink g.E.Sink c.args.store.now c.args.out.now c.args.err.now)
+    heaprec_ran (bounds_of c.args.limits.now) limit (map string_bytes c.args.words.now) (outside g.S.Store g.O.Sink g.E.Sink c.args.store.now c.args.out.now c.args.err.now)
     (outside g.S.Store g.O.Sink g.E.Sink c.run_words-outcome.new.store c.deliver.new.out c.deliver.new.err) c.deliver.result
     (record {
       text = ran.text;
@@ -33,4 +33,4 @@ returns g c =
       delivered = is_delivered heaprec_texts (bounds_of c.args.limits.now) (task_asked limit ran.text _) (shown g.S.Store c.args.store.now) (shown g.S.Store c.run_words-outcome.new.store)
           (taken g.O.Sink c.args.out.now) mid new err_old err_new c.deliver.result answer ran.run delivery;
     })
-    ran.run.files
+    ran.run.files c.run_words-outcome.ensures.none ran.faulty

@@ -1,7 +1,6 @@
-use Rattle.std.proofs.Common.{◌≡◌, ◌≤◌, Bor, ℕ, List, Some, Ok, Err, map, length, ap, sym, subst, ◌∙◌, refl, arith}
+use Rattle.std.proofs.Common.{◌≡◌, ◌≤◌, Bor, ℕ, List, Some, Ok, Err, map, length, ap, sym, subst, ◌∙◌, arith}
 use Rattle.std.proofs.lemmas.List.{length-map}
 use Rattle.std.specs.Option.{option_copied}
-use Rattle.hp_outside.specs.Lines.{lines_of}
 use Rattle.hp_outside.specs.Taken.{WhereTold}
 use Rattle.command_frame.specs.Answer.{done}
 use Rattle.command_frame.specs.FirstFault.{bounds_of}
@@ -76,7 +75,7 @@ returns-in-Check g c =
     let few : length job.scripts ≤ 64 = omega (arith, c.in-Ok.ensures.count ∙ ap (λ (names : List (Bor (List ℕ))). length names) c.deref.ensures.value, c.requires.few) in
     subst (λ (task : Task). WordsRecord IsRecorded (bounds_of c.args.desk.now.limits) limit (Some (asks modules scripts task)) before now old new (rest_of heaprec_texts c.check_trace.result)) (sym (ap task_by c.in-Check.is))
     (asked_checked IsRecorded c.args.desk.now limit modules scripts c.in-Check.trace.now before mid now old between new job c.check_trace.result c.requires.texts
-    (λ bytes ended events text is. c.front_laws.ensures.whole job (lines_of bytes) ended events bytes few (c.quiet_modules.ensures job.modules c.in-Ok.ensures.modules) refl text is)
+    (c.front_laws.ensures job few (c.quiet_modules.ensures job.modules c.modules-modules.ensures.whole))
     (subst (λ (names : List (Bor (List ℕ))). WhereTold before.files (λ folder. job ≡ job_in folder modules (map (λ name. name.now) names) limit)) c.deref.ensures.value c.in-Ok.ensures.job)
     (subst (λ (names : List (Bor (List ℕ))). FrontRead c.args.desk.now (files_front modules (map (λ name. name.now) names) (no_job limit)) before mid old between (Ok job)) c.deref.ensures.value c.in-Ok.ensures.read)
     c.check_trace.ensures)

@@ -12,7 +12,6 @@ returns-in-Ok-clause-sound g c = (
       let same = ap (λ (job : Job). length job.scripts) c.in-Ok.ensures.taken ∙ count-one c.args.self.now.kind c.args.self.now.scripts c.args.line.now in
       let some = c.requires.sound.1 is in
       omega (arith, same, some),
-  c.in-Ok.ensures.lines c.requires.one_line c.requires.sound.2,
 )
 
 pub returns-in-Ok-clause-taken : goal.returns-in-Ok-clause-taken

@@ -1,0 +1,25 @@
+-- What the check of the current file of a store comes to.
+use Rattle.std.specs.Prelude.{◌≡◌, ◌≢◌, ℕ, Result, Err}
+use Rattle.hp_outside.specs.declared.store.Store as store
+use Rattle.hp_outside.specs.Faults.{Rose}
+use Rattle.hp_outside.specs.Taken.{WhereTold}
+use Rattle.record_scripts.specs.Job.{Job}
+use Rattle.order_check.specs.declared.verdict.CheckFault.{CheckFault}
+use Rattle.order_check.specs.declared.verdict.CheckFault.TheVariants.{ReadFailed}
+use Rattle.order_check.specs.declared.verdict.Verdict.{Verdict}
+use Rattle.order_check.specs.CheckAnswer.{CheckAnswer}
+
+-- where the store tells what is left of the file, the answer is the one to these bytes, of which none may have more, nor longer lines
+abbrev pub AnswersFile : {S : Type 0} → store.Ghosts S → ℕ → ℕ → Job → S → S
+    → Result Verdict CheckFault → Type 0
+AnswersFile s input line job old new result = WhereTold (s.left old)
+    (λ bytes. CheckAnswer input line job bytes (s.left new) result)
+
+-- the file is only read, and a call failed exactly where the answer says so
+pub record OnlyReads {S : Type 0} (s : store.Ghosts S) (old new : S)
+    (result : Result Verdict CheckFault) : Type 0 where
+  pub failed : result ≡ Err ReadFailed → Rose (s.faults old) (s.faults new)
+  pub sound : result ≢ Err ReadFailed → s.faults new ≡ s.faults old
+  pub files : s.files new ≡ s.files old
+  pub current : s.current new ≡ s.current old
+  pub opens : s.opens new ≡ s.opens old
