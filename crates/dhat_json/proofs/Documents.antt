@@ -21,14 +21,18 @@ pub document_is : (bytes : List ℕ) (d : Data) → value_of bytes ≡ Some d �
 unfolding document_of
 document_is bytes d e = ap dhat_in_some e
 
-pub no_value : (bytes : List ℕ) → (IsUtf8 bytes → read bytes ≡ None) → document_of bytes ≡ Err NotJson
+-- the profile of bytes that are UTF-8 is that of the text
+pub text_document : (bytes : List ℕ) → IsUtf8 bytes → document_of bytes ≡ dhat_in_some (read bytes)
 unfolding document_of
-no_value bytes h =
-    let none : (b : Bool) → is_utf8 bytes ≡ b → cond b (read bytes) None ≡ None = λ b. elim b as (λ b. is_utf8 bytes ≡ b → cond b (read bytes) None ≡ None) [
-      | true ↦ λ e. h (IsUtf8-from_is_utf8 bytes e)
-      | false ↦ λ e. refl
-    ] in
-    ap dhat_in_some (none (is_utf8 bytes) refl)
+text_document bytes utf8 = rw (is_utf8-from_IsUtf8 bytes utf8) refl
+
+pub no_text : (bytes : List ℕ) → (IsUtf8 bytes → ⊥) → document_of bytes ≡ Err NotJson
+unfolding document_of
+no_text bytes h = at (is_utf8 bytes) refl
+  where
+    at : (b : Bool) → is_utf8 bytes ≡ b → dhat_in_some (cond b (read bytes) None) ≡ Err NotJson
+    at true e = absurd (h (IsUtf8-from_is_utf8 bytes e))
+    at false e = refl
 
 pub document_says : (bytes : List ℕ) (d : Dhat) → document_of bytes ≡ Ok d → IsDocument bytes d
 unfolding document_of

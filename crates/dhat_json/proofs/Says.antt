@@ -10,7 +10,7 @@ use Rattle.dhat_json.specs.declared.fault.DhatFault.{DhatFault}
 use Rattle.dhat_json.specs.declared.fault.DhatFault.TheVariants.{TooMany}
 use Rattle.dhat_json.specs.declared.key.Key.TheVariants.{Mode, Verb, Bklt, Bkacc, Bu, Bsu, Bksu, Tu, Mtu, Tuth, Cmd, Pid, Te, Tg, Ftbl, Pps, Tb, Tbk, Tl, Mb, Mbk, Gb, Gbk, Eb, Ebk, Rb, Wb, Acc, Fs}
 use Rattle.dhat_json.specs.declared.profile.Dhat.{Dhat}
-use Rattle.dhat_json.specs.DhatFault.{Finding, life_findings, access_findings, count_findings, frames_findings, point_findings, points_findings, head_findings, unit_findings, run_findings, table_findings, all_points_findings, dhat_findings, dhat_fault}
+use Rattle.dhat_json.specs.DhatFault.{Finding, life_findings, access_findings, pair_findings, frames_findings, point_findings, points_findings, head_findings, unit_findings, run_findings, table_findings, all_points_findings, dhat_findings, dhat_fault}
 use Rattle.dhat_json.specs.Document.{dhat_in, unless_fault}
 use Rattle.dhat_json.specs.IsDhat.{SaysLife, SaysAccess, IsPart, is_point, is_dhat}
 use Rattle.dhat_json.specs.ProfileIn.{text_in, list_at, flag_at, life_in, access_in, part_in, point_in, profile_in}
@@ -41,8 +41,8 @@ point_says : (bklt bkacc : Bool) (frames point : ℕ) (d : Data) → AllNone (po
 point_says bklt bkacc frames point d h =
     let access_on = access_findings bkacc point d ++ frames_findings point frames d in
     let life_on = life_findings bklt point d ++ access_on in
-    let counts = none_left (count_findings point d) life_on h.1 in
-    let later = none_right (count_findings point d) life_on h.1 in
+    let counts = none_left (pair_findings point Tb Tbk d) life_on h.1 in
+    let later = none_right (pair_findings point Tb Tbk d) life_on h.1 in
     let life = none_left (life_findings bklt point d) access_on later in
     let behind = none_right (life_findings bklt point d) access_on later in
     let access = none_left (access_findings bkacc point d) (frames_findings point frames d) behind in

@@ -16,7 +16,7 @@ use Rattle.dhat_json.specs.declared.profile.Life.{Life}
 use Rattle.dhat_json.specs.declared.profile.Access.{Access}
 use Rattle.dhat_json.specs.declared.profile.Point.{Point}
 use Rattle.dhat_json.specs.declared.profile.Dhat.{Dhat}
-use Rattle.dhat_json.specs.DhatFault.{Finding, needed_value, optional_value, other_kind, version_value, no_object, life_findings, access_findings, count_findings, frames_findings, frame_finding, point_findings, points_findings, head_findings, unit_findings, run_findings, table_findings, all_points_findings, listed_points_findings, dhat_findings, dhat_fault, too_many}
+use Rattle.dhat_json.specs.DhatFault.{Finding, needed_value, optional_value, other_kind, version_value, no_object, life_findings, access_findings, pair_findings, frames_findings, frame_finding, point_findings, points_findings, head_findings, unit_findings, run_findings, table_findings, all_points_findings, listed_points_findings, dhat_findings, dhat_fault, too_many}
 use Rattle.dhat_json.specs.DhatValue.{whole}
 use Rattle.dhat_json.specs.Document.{dhat_in, unless_fault}
 use Rattle.dhat_json.specs.IsDhat.{IsOptional, SaysLife, SaysAccess, IsPart, is_point, is_dhat}
@@ -130,7 +130,7 @@ point_found bklt bkacc frames n d point h =
     let fs = list_again _ (map whole point.fs) h.fs in
     let in_table : AllNone (map (frame_finding n frames) (list_at Fs d)) = subst (λ (ds : List Data). AllNone (map (frame_finding n frames) ds)) (sym fs) (frames_found n frames point.fs h.in_table) in (
       object_found (Some n) Pps d h.object,
-      none_both (count_findings n d) _ (whole_found (Some n) Tb _ point.tb h.tb, (whole_found (Some n) Tbk _ point.tbk h.tbk, tt))
+      none_both (pair_findings n Tb Tbk d) _ (whole_found (Some n) Tb _ point.tb h.tb, (whole_found (Some n) Tbk _ point.tbk h.tbk, tt))
           (none_both (life_findings bklt n d) _ (life_found bklt n d point.life h.life)
           (none_both (access_findings bkacc n d) (frames_findings n frames d) (access_found bkacc n d point.access h.access)
           (list_found (Some n) Fs _ (map whole point.fs) h.fs, in_table))),

@@ -1,5 +1,5 @@
 -- Lists of JSON values, and reading them one by one.
-use Rattle.std.proofs.Common.{◌≡◌, ℕ, suc, ◌+◌, ◌<◌, ◌≤◌, List, [], ◌∷◌, ◌++◌, length, map, get_or, drop, Some, None, refl, sym, ap, ◌∙◌, Bool, add-one, append_assoc}
+use Rattle.std.proofs.Common.{◌≡◌, ℕ, ◌+◌, ◌<◌, ◌≤◌, List, [], ◌∷◌, ◌++◌, length, map, get_or, drop, Some, None, refl, sym, ap, ◌∙◌, append_assoc}
 use Rattle.std.proofs.lemmas.List.{drop_more, drop_all, append-nil}
 use Rattle.serde_json.specs.Data.{Data}
 use Rattle.std.specs.declared.alloc.Global.{Global}
@@ -7,9 +7,7 @@ use Rattle.json.specs.declared.value.Value.{Value}
 use Rattle.serde_json.specs.View.{items_of}
 use Rattle.dhat_json.specs.DataOf.{data_of}
 use Rattle.dhat_json.specs.declared.fault.DhatFault.{DhatFault}
-use Rattle.dhat_json.specs.DhatFault.{Finding, first_of, point_findings, points_findings}
-use Rattle.dhat_json.specs.ProfileIn.{point_in}
-use Rattle.dhat_json.specs.declared.profile.Point.{Point}
+use Rattle.dhat_json.specs.DhatFault.{Finding, first_of}
 use Rattle.dhat_json.specs.Kinds.{list_of}
 use Rattle.dhat_json.proofs.Findings.{passed_then}
 
@@ -64,42 +62,3 @@ pub list_read : {A : Type 0} (needed : Finding) (f : Data → Finding) (g : Data
 list_read needed f g values ds i done none same end p =
     let all = passed_all f g values i done end p in
     (passed_then needed (map f ds) none ∙ ap (λ (all : List Data). first_of (map f all)) (sym same) ∙ all.none, all.all ∙ ap (map g) same)
-
--- ---- points, each of which is told with its number
-
--- Nothing was found in the first i points, and what they say was read.
-pub record PassedPoints (bklt bkacc : Bool) (frames : ℕ) (values : List (Value Global)) (i : ℕ) (done : List Point) : Type 0 where
-  pub left : first_of (points_findings bklt bkacc frames 0 (map data_of values)) ≡ first_of (points_findings bklt bkacc frames i (map data_of (drop i values)))
-  pub whole : map (point_in bklt bkacc) (map data_of values) ≡ done ++ map (point_in bklt bkacc) (map data_of (drop i values))
-
-pub no_point_passed : (bklt bkacc : Bool) (frames : ℕ) (values : List (Value Global)) → PassedPoints bklt bkacc frames values 0 []
-no_point_passed bklt bkacc frames values = record { left = refl; whole = refl }
-
-found_next : (bklt bkacc : Bool) (frames : ℕ) (values : List (Value Global)) (i : ℕ) (done : List Point) (x : Value Global) → i < length values → x ≡ get_or values i x → PassedPoints bklt bkacc frames values i done
-    → first_of (points_findings bklt bkacc frames 0 (map data_of values)) ≡ first_of (first_of (point_findings bklt bkacc frames i (data_of x)) ∷ points_findings bklt bkacc frames (suc i) (map data_of (drop (i + 1) values)))
-found_next bklt bkacc frames values i done x lt is p = p.left ∙ ap (λ (ys : List (Value Global)). first_of (points_findings bklt bkacc frames i (map data_of ys))) (here values i x lt is)
-
-pub point_passed : (bklt bkacc : Bool) (frames : ℕ) (values : List (Value Global)) (i : ℕ) (done : List Point) (x : Value Global) → i < length values → x ≡ get_or values i x → PassedPoints bklt bkacc frames values i done
-    → first_of (point_findings bklt bkacc frames i (data_of x)) ≡ None → PassedPoints bklt bkacc frames values (i + 1) (done ++ point_in bklt bkacc (data_of x) ∷ [])
-point_passed bklt bkacc frames values i done x lt is p none = record {
-  left = found_next bklt bkacc frames values i done x lt is p
-      ∙ ap (λ (o : Finding). first_of (o ∷ points_findings bklt bkacc frames (suc i) (map data_of (drop (i + 1) values)))) none
-      ∙ ap (λ (n : ℕ). first_of (points_findings bklt bkacc frames n (map data_of (drop (i + 1) values)))) (sym (add-one i));
-  whole = p.whole ∙ ap (λ (ys : List (Value Global)). done ++ map (point_in bklt bkacc) (map data_of ys)) (here values i x lt is)
-      ∙ sym (append_assoc done (point_in bklt bkacc (data_of x) ∷ []) (map (point_in bklt bkacc) (map data_of (drop (i + 1) values))));
-}
-
-pub point_refused : (bklt bkacc : Bool) (frames : ℕ) (values : List (Value Global)) (i : ℕ) (done : List Point) (x : Value Global) (fault : DhatFault) → i < length values → x ≡ get_or values i x → PassedPoints bklt bkacc frames values i done
-    → first_of (point_findings bklt bkacc frames i (data_of x)) ≡ Some fault → first_of (points_findings bklt bkacc frames 0 (map data_of values)) ≡ Some fault
-point_refused bklt bkacc frames values i done x fault lt is p found =
-    found_next bklt bkacc frames values i done x lt is p ∙ ap (λ (o : Finding). first_of (o ∷ points_findings bklt bkacc frames (suc i) (map data_of (drop (i + 1) values)))) found
-
-pub record PassedAllPoints (bklt bkacc : Bool) (frames : ℕ) (values : List (Value Global)) (done : List Point) : Type 0 where
-  pub none : first_of (points_findings bklt bkacc frames 0 (map data_of values)) ≡ None
-  pub all : done ≡ map (point_in bklt bkacc) (map data_of values)
-
-pub all_points_passed : (bklt bkacc : Bool) (frames : ℕ) (values : List (Value Global)) (i : ℕ) (done : List Point) → length values ≤ i → PassedPoints bklt bkacc frames values i done → PassedAllPoints bklt bkacc frames values done
-all_points_passed bklt bkacc frames values i done end p = record {
-  none = p.left ∙ ap (λ (ys : List (Value Global)). first_of (points_findings bklt bkacc frames i (map data_of ys))) (drop_all i values end);
-  all = sym (p.whole ∙ ap (λ (ys : List (Value Global)). done ++ map (point_in bklt bkacc) (map data_of ys)) (drop_all i values end) ∙ append-nil done);
-}

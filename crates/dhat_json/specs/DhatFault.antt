@@ -1,5 +1,5 @@
--- Why a JSON value is no profile. What each check of the format finds stands in a list, in the order of the checks, and
--- the fault of a value is the first that was found.
+-- What each check finds stands in a list in the order of the checks, and the fault of a value is
+-- the first that was found.
 use Rattle.std.specs.Prelude.{ℕ, suc, ◌-◌, ◌^◌, ◌==◌, nat_lt, List, [], ◌∷◌, ◌++◌, length, map, Bool, true, false, if◌then◌else◌, Option, Some, None, is_some}
 use Rattle.serde_json.specs.Data.{Data}
 use Rattle.serde_json.specs.Find.{get, as_str, as_bool, as_object}
@@ -58,35 +58,29 @@ abbrev pub frames_findings : ℕ → ℕ → Data → List Finding
 frames_findings point frames d = needed as_list (Some point) Fs d
     ∷ map (frame_finding point frames) (list_at Fs d)
 
+-- two whole numbers that must be there
+abbrev pub pair_findings : ℕ → Key → Key → Data → List Finding
+pair_findings point first second d = needed as_whole (Some point) first d
+    ∷ needed as_whole (Some point) second d
+    ∷ []
+
 -- the keys of a part that the profile tells of
 abbrev pub life_findings : Bool → ℕ → Data → List Finding
 life_findings false point d = []
-life_findings true point d =
-    needed as_whole (Some point) Tl d
-    ∷ needed as_whole (Some point) Mb d
-    ∷ needed as_whole (Some point) Mbk d
-    ∷ needed as_whole (Some point) Gb d
-    ∷ needed as_whole (Some point) Gbk d
-    ∷ needed as_whole (Some point) Eb d
-    ∷ needed as_whole (Some point) Ebk d
-    ∷ []
+life_findings true point d = needed as_whole (Some point) Tl d
+    ∷ (pair_findings point Mb Mbk d
+    ++ (pair_findings point Gb Gbk d ++ pair_findings point Eb Ebk d))
 
 abbrev pub access_findings : Bool → ℕ → Data → List Finding
 access_findings false point d = []
-access_findings true point d =
-    needed as_whole (Some point) Rb d
-    ∷ needed as_whole (Some point) Wb d
-    ∷ allowed as_list (Some point) Acc d
-    ∷ []
-
-abbrev pub count_findings : ℕ → Data → List Finding
-count_findings point d = needed as_whole (Some point) Tb d ∷ needed as_whole (Some point) Tbk d ∷ []
+access_findings true point d = pair_findings point Rb Wb d
+    ++ allowed as_list (Some point) Acc d ∷ []
 
 -- A point that is no object is told as the wrong kind of the points at its number.
 abbrev pub point_findings : Bool → Bool → ℕ → ℕ → Data → List Finding
 point_findings bklt bkacc frames point d =
     other_kind as_object (Some point) Pps d
-    ∷ (count_findings point d
+    ∷ (pair_findings point Tb Tbk d
     ++ (life_findings bklt point d
     ++ (access_findings bkacc point d
     ++ frames_findings point frames d)))
@@ -127,15 +121,23 @@ head_findings value =
     ∷ needed as_bool None Bkacc value
     ∷ [])
 
-abbrev pub unit_findings : Data → List Finding
-unit_findings value =
+-- the units of sizes and of blocks, and the unit of time
+abbrev pub block_unit_findings : Data → List Finding
+block_unit_findings value =
     allowed as_str None Bu value
     ∷ allowed as_str None Bsu value
     ∷ allowed as_str None Bksu value
-    ∷ needed as_str None Tu value
+    ∷ []
+
+abbrev pub time_unit_findings : Data → List Finding
+time_unit_findings value =
+    needed as_str None Tu value
     ∷ needed as_str None Mtu value
     ∷ allowed as_whole None Tuth value
     ∷ []
+
+abbrev pub unit_findings : Data → List Finding
+unit_findings value = block_unit_findings value ++ time_unit_findings value
 
 abbrev pub run_findings : Data → List Finding
 run_findings value =

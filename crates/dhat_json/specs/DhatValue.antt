@@ -1,4 +1,5 @@
--- The JSON value of a profile, its keys in the order of their bytes, and its text.
+-- The value of a profile has its keys in the order of their bytes, and its text has no blank
+-- between.
 use Rattle.std.specs.Prelude.{ℕ, List, map, Option, Some, None, codes}
 use Rattle.std.specs.Option.{option_map}
 use Rattle.serde_json.specs.Data.{Data, boolean, number, string, array, object, unsigned, Members, member, no_members}

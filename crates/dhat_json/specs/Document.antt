@@ -1,4 +1,5 @@
--- What the bytes of a document are: a profile, or one fault.
+-- The bytes of a document have a JSON value where they are UTF-8 and JSON; their profile, or their
+-- one fault, is that of the value.
 use Rattle.std.specs.Prelude.{◌≡◌, ℕ, List, if◌then◌else◌, Option, Some, None, Result, Ok, Err}
 use Rattle.std.specs.Str.{is_utf8}
 use Rattle.serde_json.specs.Data.{Data}

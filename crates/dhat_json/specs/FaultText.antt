@@ -1,4 +1,5 @@
--- What the faults of a document are called, and what is told of them.
+-- What the faults of a document are called, and what is told of them. What a fault is called, and
+-- what is told of it: its point, its key and its frame.
 use Rattle.std.specs.Prelude.{ℕ, List, [], ◌++◌, codes, decimal, Option, Some, None}
 use Rattle.dhat_json.specs.declared.fault.DhatFault.{DhatFault}
 use Rattle.dhat_json.specs.declared.fault.DhatFault.TheVariants.{NotJson, WrongFileVersion, MissingKey, WrongKind, FrameOutOfTable, TooMany, NoMemory}

@@ -1,4 +1,5 @@
--- The figures of a point by their keys.
+-- The figures of a point by their keys. The figure of a key is that of its part, where the point
+-- has it.
 use Rattle.std.specs.Prelude.{ℕ, Bool, true, Option, Some}
 use Rattle.std.specs.Option.{option_map}
 use Rattle.dhat_json.specs.declared.key.Key.{Key}

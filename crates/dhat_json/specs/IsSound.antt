@@ -1,4 +1,6 @@
--- Which profiles hang together, and which of them can be written.
+-- Which profiles hang together, and which of them can be written. A profile is sound where its
+-- points are few enough to be numbered, have the parts that it tells of, and frames within the
+-- table; it can be written where its texts are UTF-8 too.
 use Rattle.std.specs.Prelude.{◌≡◌, ◌-◌, ◌^◌, ◌<◌, ℕ, Bool, length, All, is_some, IfSome, IsUtf8}
 use Rattle.dhat_json.specs.declared.profile.Point.{Point}
 use Rattle.dhat_json.specs.declared.profile.Dhat.{Dhat}

@@ -1,4 +1,5 @@
 pub mod Adds
+pub mod Ahead
 pub mod Begun
 pub mod DataOf
 pub mod DhatFault
@@ -6,13 +7,18 @@ pub mod DhatValue
 pub mod Document
 pub mod FaultText
 pub mod Figure
+pub mod Front
+pub mod Gathered
 pub mod Groups
 pub mod IsDhat
 pub mod IsSound
 pub mod KeyName
 pub mod Kinds
+pub mod Opening
+pub mod Outline
 pub mod Parts
 pub mod PointWriter
 pub mod ProfileIn
 pub mod Reads
 pub mod Shown
+pub mod Survey

@@ -1,4 +1,6 @@
--- What a writer of points has written so far.
+-- A writer of points has written a profile where its tokens, with those of any points to come and
+-- of what stands behind the points, are those of the profile with these points behind its own, and
+-- it keeps what stands behind them.
 use Rattle.dhat_json.specs.declared.point_writer.PointWriter.{PointWriter}
 use Rattle.dhat_json.specs.declared.profile.Dhat.{Dhat}
 use Rattle.dhat_json.specs.Begun.{HasBegun, HasTimes}

@@ -1,5 +1,6 @@
--- The profile that a JSON value says, where the value has no fault: each field is what stands at its key. Where
--- the value has a fault, what this gives means nothing.
+-- The profile that a JSON value says, where the value has no fault: each field is what stands at
+-- its key. Where the value has a fault, what this gives means nothing. A value without a fault says
+-- the profile whose fields are what stands at their keys.
 use Rattle.std.specs.Prelude.{ℕ, List, [], map, Bool, false, if◌then◌else◌, Option, Some, None, unwrap_or}
 use Rattle.std.specs.Option.{option_and_then}
 use Rattle.serde_json.specs.Data.{Data}

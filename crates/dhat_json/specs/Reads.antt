@@ -1,4 +1,5 @@
--- What a part of the reader answers. Want of memory is the one answer that may come without a cause.
+-- What a part of the reader answers. Want of memory is the one answer that may come without a
+-- cause. What the reader answers is the defined profile or fault, unless memory was wanting.
 use Rattle.std.specs.Prelude.{◌≡◌, Option, Some, None, Result, Ok, Err}
 use Rattle.dhat_json.specs.declared.fault.DhatFault.{DhatFault}
 use Rattle.dhat_json.specs.declared.fault.DhatFault.TheVariants.{NotJson, WrongFileVersion, MissingKey, WrongKind, FrameOutOfTable, TooMany, NoMemory}

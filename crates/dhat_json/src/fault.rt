@@ -1,11 +1,12 @@
 //! Why a document is no DHAT profile, and what each reason is called. Which program tells it is no part of it.
 ghost use Rattle.std.specs.Prelude.{◌≡◌, ◌++◌, OnOk, Some, codes};
-ghost use Rattle.dhat_json.specs.declared.fault.DhatFault.TheVariants.{NoMemory as OutOfMemory};
+ghost use Rattle.dhat_json.specs.declared.fault.DhatFault.TheVariants.{NoMemory as OutOfMemory, NotJson};
 ghost use Rattle.dhat_json.specs.FaultText.{fault_message, fault_text, frame_text, point_text};
 ghost use Rattle.dhat_json.specs.KeyName.{key_name};
 
 use crate::key::Key;
 use hp_num::{NoMemory, put_bytes, put_dec};
+use json::Invalid;
 use thiserror::Error;
 
 /// Why a document is no DHAT profile. Points are numbered from 0.
@@ -114,5 +115,13 @@ impl From<NoMemory> for DhatFault {
 
     fn from(_error: NoMemory) -> DhatFault {
         DhatFault::NoMemory
+    }
+}
+
+impl From<Invalid> for DhatFault {
+    ghost from_gives = { λ _ fault. fault ≡ NotJson };
+
+    fn from(_error: Invalid) -> DhatFault {
+        DhatFault::NotJson
     }
 }

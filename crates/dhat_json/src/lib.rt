@@ -21,8 +21,10 @@
 //! |---|---|
 //! | `profile.rt`, `lists.rt` | what a file says, as values; its lists |
 //! | `key.rt`, `figure.rt` | its keys, and the figures of a point by their keys |
-//! | `value.rt`, `number.rt` | a JSON value of a document, and its numbers |
-//! | `reader.rt`, `parts.rt`, `point.rt`, `member.rt` | a document, the parts of a profile, its points, one member |
+//! | `value.rt`, `number.rt`, `opening.rt` | a JSON value of a document, its numbers, and what a token begins |
+//! | `pass.rt`, `outline.rt` | passing over a value, and a value without its parts |
+//! | `survey.rt`, `gathered.rt`, `shape.rt`, `table.rt` | a document member by member, its points as they come, the shape in which they are read, and their frames |
+//! | `reader.rt`, `parts.rt`, `point.rt`, `member.rt` | a document, the parts of a profile, a point, one member |
 //! | `writer.rt`, `point_writer.rt`, `tokens.rt` | a profile as its one text, point by point, and the members of an object one by one |
 //! | `shown.rt` | the shown form of a text |
 //! | `fault.rt` | why a document is no profile, and what is told of it |
@@ -31,17 +33,24 @@
 
 mod fault;
 mod figure;
+mod gathered;
 mod key;
 mod laws;
 mod lists;
 mod member;
 mod number;
+mod opening;
+mod outline;
 mod parts;
+mod pass;
 mod point;
 mod point_writer;
 mod profile;
 mod reader;
+mod shape;
 mod shown;
+mod survey;
+mod table;
 mod tokens;
 mod value;
 mod writer;

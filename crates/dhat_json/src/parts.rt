@@ -1,10 +1,11 @@
 //! Parts of a profile, as the reader reads them one after the other.
-ghost use Rattle.std.specs.Prelude.{◌≡◌, Ok, Err, IfOk, IfErr};
+ghost use Rattle.std.specs.Prelude.{◌≡◌, Ok, Err, IfOk, IfErr, length};
 ghost use Rattle.dhat_json.specs.Parts.{joined};
 
 use crate::fault::DhatFault;
 use crate::lists::{Points, Texts};
 use crate::profile::Dhat;
+use crate::shape::Shape;
 use hp_num::Text;
 
 /// How a profile was made, and what its points tell of.
@@ -48,6 +49,30 @@ pub(crate) struct Run {
     pub(crate) tg: Option<u64>,
 }
 
+/// All parts but the points.
+#[derive(Drop)]
+pub(crate) struct Front {
+    pub(crate) head: Head,
+    pub(crate) units: Units,
+    pub(crate) run: Run,
+    pub(crate) ftbl: Texts,
+}
+
+impl Front {
+    /// What it says of all points.
+    pub(crate) fn shape(&self) -> Shape
+        ensures bklt { result.bklt ≡ self.now.head.bklt }
+        ensures bkacc { result.bkacc ≡ self.now.head.bkacc }
+        ensures frames { result.frames ≡ length self.now.ftbl }
+    {
+        Shape {
+            bklt: self.head.bklt,
+            bkacc: self.head.bkacc,
+            frames: self.ftbl.len(),
+        }
+    }
+}
+
 /// Both parts, or the fault of the second, where the first is let go.
 pub(crate) fn beside<A: Drop, B>(
     first: A,
@@ -66,9 +91,15 @@ pub(crate) fn beside<A: Drop, B>(
 }
 
 /// The profile of these parts.
-pub(crate) fn join_parts(head: Head, units: Units, run: Run, ftbl: Texts, pps: Points) -> Dhat
-    ensures { result ≡ joined head units run ftbl pps }
+pub(crate) fn join_parts(front: Front, pps: Points) -> Dhat
+    ensures { result ≡ joined front pps }
 {
+    let Front {
+        head,
+        units,
+        run,
+        ftbl,
+    } = front;
     Dhat {
         mode: head.mode,
         verb: head.verb,

@@ -1,50 +1,28 @@
-//! The points of a profile, read from their JSON values: the first fault of the first faulty point is the answer.
-ghost use Rattle.std.specs.Prelude.{◌≡◌, ◌-◌, ◌^◌, ◌<◌, length, map, Some};
+//! A point of a profile, read from its JSON value: its first fault is the answer.
+ghost use Rattle.std.specs.Prelude.{◌≡◌, map, Some};
 ghost use Rattle.dhat_json.specs.DataOf.{data_of};
-ghost use Rattle.dhat_json.specs.DhatFault.{first_of, frame_finding, frames_findings, life_findings, access_findings, point_findings, points_findings, allowed};
+ghost use Rattle.dhat_json.specs.DhatFault.{first_of, frame_finding, frames_findings, life_findings, access_findings, pair_findings, point_findings, allowed};
 ghost use Rattle.dhat_json.specs.Kinds.{as_list};
-ghost use Rattle.dhat_json.specs.Parts.{pair_findings};
 ghost use Rattle.dhat_json.specs.ProfileIn.{whole_at, whole_in, list_at, life_in, access_in, part_in, point_in};
 ghost use Rattle.dhat_json.specs.Reads.{Reads};
 
 use crate::fault::DhatFault;
 use crate::key::Key;
-use crate::lists::{FrameList, Points};
+use crate::lists::FrameList;
 use crate::member::{read_list, read_whole};
 use crate::profile::{Access, Life, Point};
+use crate::shape::Shape;
 use crate::value::{as_list, as_whole, is_object, member};
 use json::Value;
 use std::alloc::Global;
 
-/// What a profile says of all its points: the parts that they have, and the length of the table of frames.
-#[derive(Clone, Copy)]
-pub(crate) struct Shape {
-    pub(crate) bklt: bool,
-    pub(crate) bkacc: bool,
-    pub(crate) frames: usize,
-}
-
-/// The points, which are few enough to be numbered.
-pub(crate) fn read_points(
+/// The point that a value says, or its first fault.
+pub(crate) fn read_point(
     alloc: Global,
-    values: &[Value],
+    value: &Value,
     shape: Shape,
-) -> Result<Points, DhatFault>
-    requires few { length values.now < 2 ^ 32 - 1 }
-    ensures { Reads result
-        (first_of (points_findings shape.bklt shape.bkacc shape.frames 0 (map data_of values.now)))
-        (map (point_in shape.bklt shape.bkacc) (map data_of values.now)) }
-{
-    let mut points = Points::new(alloc);
-    let mut number: u32 = 0;
-    for value in values {
-        points.push(read_point(alloc, value, shape, number)?)?;
-        number += 1;
-    }
-    Ok(points)
-}
-
-fn read_point(alloc: Global, value: &Value, shape: Shape, number: u32) -> Result<Point, DhatFault>
+    number: u32,
+) -> Result<Point, DhatFault>
     ensures { Reads result
         (first_of (point_findings shape.bklt shape.bkacc shape.frames number (data_of value.now)))
         (point_in shape.bklt shape.bkacc (data_of value.now)) }

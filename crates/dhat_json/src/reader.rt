@@ -1,32 +1,36 @@
-//! A DHAT profile read from the bytes of a document. The document is read as JSON first, whole, and then its keys in
-//! the order of the format's checks.
-ghost use Rattle.std.specs.Prelude.{◌≡◌, ◌-◌, ◌^◌, ◌<◌, length, map, Ok, IfOk, IfErr, IfSome, All, IsUtf8};
+//! A DHAT profile read from the bytes of a document. The document is gone through as JSON first, and then asked for its keys
+//! in the order of the format's checks.
+ghost use Rattle.std.specs.Prelude.{◌≡◌, map, Err, IfErr, IfOk, IfSome, Ok, All, IsUtf8};
+ghost use Rattle.serde_json.specs.Data.{Data};
 ghost use Rattle.serde_json.specs.Find.{as_str};
+ghost use Rattle.serde_json.specs.Read.{read};
 ghost use Rattle.dhat_json.specs.DataOf.{data_of};
 ghost use Rattle.dhat_json.specs.declared.profile.Dhat.{Dhat};
-ghost use Rattle.dhat_json.specs.DhatFault.{first_of, version_findings, head_findings, unit_findings, run_findings, table_findings, listed_points_findings, other_kind};
-ghost use Rattle.dhat_json.specs.Document.{document_of, dhat_in, IsDocument};
+ghost use Rattle.dhat_json.specs.DhatFault.{first_of, version_findings, head_findings, block_unit_findings, time_unit_findings, unit_findings, run_findings, table_findings, needed, other_kind};
+ghost use Rattle.dhat_json.specs.Document.{document_of, dhat_in, dhat_in_some, IsDocument};
+ghost use Rattle.dhat_json.specs.Front.{HasFrontTexts, HasRead, IsFront, front_findings, front_in, shape_in};
+ghost use Rattle.dhat_json.specs.Gathered.{HasGathered};
 ghost use Rattle.dhat_json.specs.IsSound.{IsWritable, HasTexts};
-ghost use Rattle.dhat_json.specs.Parts.{HasBlockTexts, HasTimeTexts, block_unit_findings, block_units_in, head_in, run_in, time_unit_findings, time_units_in, units_in};
-ghost use Rattle.dhat_json.specs.ProfileIn.{text_in, list_at, point_in};
+ghost use Rattle.dhat_json.specs.Kinds.{as_list};
+ghost use Rattle.dhat_json.specs.Parts.{HasBlockTexts, HasTimeTexts, block_units_in, head_in, run_in, time_units_in, units_in};
+ghost use Rattle.dhat_json.specs.ProfileIn.{text_in, list_at};
 ghost use Rattle.dhat_json.specs.Reads.{Answers, Reads, UnlessNoMemory};
 
 use crate::fault::DhatFault;
+use crate::gathered::Gathered;
 use crate::key::Key;
-use crate::lists::{Points, Texts};
+use crate::lists::Texts;
 use crate::member::{
     read_flag, read_list, read_optional_text, read_optional_whole, read_text, read_whole,
 };
-use crate::parts::{BlockUnits, Head, Run, TimeUnits, Units, beside, join_parts};
-use crate::point::{Shape, read_points};
+use crate::parts::{BlockUnits, Front, Head, Run, TimeUnits, Units, beside, join_parts};
 use crate::profile::{Dhat, VERSION};
-use crate::value::{as_text, as_whole, is_object, member, parse_value};
+use crate::shape::Shape;
+use crate::survey::Survey;
+use crate::value::{as_text, as_whole, is_object, member};
 use hp_num::Text;
 use json::{Scratch, Value};
 use std::alloc::Global;
-
-/// The number of points that can't be numbered any more.
-const TOO_MANY: usize = 0xffff_ffff;
 
 /// The profile that the document says, or its first fault in the order of the format's checks.
 ///
@@ -48,33 +52,67 @@ fn read_document(alloc: Global, bytes: &[u8]) -> Result<Dhat, DhatFault>
     ensures exact { Answers result (document_of bytes.now) }
     ensures texts { IfOk result HasTexts }
 {
-    let Ok(text) = str::from_utf8(bytes) else {
-        return Err(DhatFault::NotJson);
-    };
-    let mut scratch = Scratch::new(alloc);
-    match parse_value(alloc, text, &mut scratch) {
-        Ok(value) => read_value(alloc, &value),
-        Err(fault) => Err(fault),
+    match str::from_utf8(bytes) {
+        Ok(text) => read_text_whole(alloc, text),
+        Err(_) => Err(DhatFault::NotJson),
     }
 }
 
-fn read_value(alloc: Global, value: &Value) -> Result<Dhat, DhatFault>
-    ensures exact { Answers result (dhat_in (data_of value.now)) }
+/// The profile of a text. Its points are read as they come, in the shape that the members before them tell. Where that
+/// isn't the shape of the profile, the text is gone through once more.
+fn read_text_whole(alloc: Global, text: &str) -> Result<Dhat, DhatFault>
+    ensures exact { Answers result (dhat_in_some (read text.now)) }
     ensures texts { IfOk result HasTexts }
 {
+    let mut scratch = Scratch::new(alloc);
+    let (front, gathered) = read_once(alloc, text, &mut scratch, None)?;
+    let shape = front.shape();
+    if gathered.fits(shape) {
+        return with_points(front, gathered);
+    }
+    drop(front);
+    drop(gathered);
+    let (front, gathered) = read_once(alloc, text, &mut scratch, Some(shape))?;
+    with_points(front, gathered)
+}
+
+/// What a text says but for its points, and these as far as they were read in that shape.
+fn read_once(
+    alloc: Global,
+    text: &str,
+    scratch: &mut Scratch,
+    given: Option<Shape>,
+) -> Result<(Front, Gathered), DhatFault>
+    ensures read { IfOk result (λ parts. HasRead text.now given parts.0 parts.1) }
+    ensures fault { IfErr result
+        (λ fault. UnlessNoMemory fault (dhat_in_some (read text.now) ≡ Err fault)) }
+{
+    let survey = Survey::of(alloc, text, scratch, given)?;
+    let (members, gathered) = survey.into_parts();
+    let outline = Value::Object(members);
+    let front = read_front(alloc, &outline);
+    drop(outline);
+    let (gathered, front) = beside(gathered, front)?;
+    Ok((front, gathered))
+}
+
+fn read_front(alloc: Global, value: &Value) -> Result<Front, DhatFault>
+    ensures read { Reads result (first_of (front_findings (data_of value.now)))
+        (front_in (data_of value.now)) }
+    ensures utf8 { IfOk result HasFrontTexts }
+{
     let head = read_head(alloc, value)?;
-    let (bklt, bkacc) = (head.bklt, head.bkacc);
     let parts = beside(head, read_units(alloc, value))?;
     let parts = beside(parts, read_run(alloc, value))?;
     let parts = beside(parts, read_table(alloc, value))?;
-    let shape = Shape {
-        bklt,
-        bkacc,
-        frames: parts.1.len(),
-    };
-    let parts = beside(parts, read_all_points(alloc, value, shape))?;
-    let ((((head, units), run), ftbl), pps) = parts;
-    Ok(join_parts(head, units, run, ftbl, pps))
+    let (parts, ()) = beside(parts, check_points(value))?;
+    let (((head, units), run), ftbl) = parts;
+    Ok(Front {
+        head,
+        units,
+        run,
+        ftbl,
+    })
 }
 
 fn read_head(alloc: Global, value: &Value) -> Result<Head, DhatFault>
@@ -185,14 +223,34 @@ fn read_entry(alloc: Global, value: &Value) -> Result<Text, DhatFault>
     Ok(Text::new(alloc, text.as_bytes())?)
 }
 
-fn read_all_points(alloc: Global, value: &Value, shape: Shape) -> Result<Points, DhatFault>
-    ensures { Reads result
-        (first_of (listed_points_findings shape.bklt shape.bkacc shape.frames (data_of value.now)))
-        (map (point_in shape.bklt shape.bkacc) (list_at Key.Pps (data_of value.now))) }
+/// Whether the points are a list.
+fn check_points(value: &Value) -> Result<(), DhatFault>
+    ensures { Reads result (needed as_list None Key.Pps (data_of value.now)) tt }
 {
-    let values = read_list(value, None, Key::Pps)?;
-    if values.len() >= TOO_MANY {
+    match read_list(value, None, Key::Pps) {
+        Ok(_) => Ok(()),
+        Err(fault) => Err(fault),
+    }
+}
+
+/// The profile, where the points have no fault and are few enough to be numbered.
+fn with_points(front: Front, gathered: Gathered) -> Result<Dhat, DhatFault>
+    ensures exact { (value : Data) → IsFront front value
+        → HasGathered (record gathered { shape = shape_in value }) (list_at Key.Pps value)
+        → Answers result (dhat_in value) }
+    ensures texts { HasFrontTexts front → IfOk result HasTexts }
+{
+    if gathered.count == u32::MAX {
+        drop(front);
+        drop(gathered);
         return Err(DhatFault::TooMany);
     }
-    read_points(alloc, values, shape)
+    match gathered.fault {
+        Some(fault) => {
+            drop(front);
+            drop(gathered);
+            Err(fault)
+        }
+        None => Ok(join_parts(front, gathered.points)),
+    }
 }

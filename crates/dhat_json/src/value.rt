@@ -1,46 +1,35 @@
 //! A JSON value whose texts are borrowed from the document: read whole, and asked for what it is.
 //! What its members mean is the readers' business.
-ghost use Rattle.std.specs.Prelude.{◌≡◌, None, Some, map, option_map, is_some, IfOk, IfErr};
+ghost use Rattle.std.specs.Prelude.{◌≡◌, ◌<◌, None, Some, length, map, option_map, is_some, IfOk, IfErr, OnOk};
 ghost use Rattle.json.specs.Value.{items_view, members_view, value_view};
 ghost use Rattle.serde_json.specs.Find.{as_bool, as_object, as_str, get};
-ghost use Rattle.serde_json.specs.Read.{read};
+ghost use Rattle.dhat_json.specs.Ahead.{IsNone, value_ahead};
 ghost use Rattle.dhat_json.specs.DataOf.{data_of, has_data, items_have_data, members_have_data};
 ghost use Rattle.dhat_json.specs.KeyName.{key_name};
 ghost use Rattle.dhat_json.specs.Kinds.{as_list, as_whole};
-ghost use Rattle.dhat_json.specs.Reads.{UnlessNoMemory};
 
 use crate::fault::DhatFault;
 use crate::key::Key;
 use crate::number::{is_in_range, whole_number};
-use json::{Error, Reader, Scratch, Value};
+use json::{Error, Reader, Value};
 use std::alloc::Global;
 
-/// How deep arrays and objects may nest.
-const MAX_DEPTH: usize = 127;
-
-/// The value of the text.
-pub(crate) fn parse_value<'a>(
+/// The next value, whole. Arrays and objects may nest `depth` deep.
+pub(crate) fn next_value<'a>(
     alloc: Global,
-    text: &'a str,
-    scratch: &'a mut Scratch,
+    reader: &mut Reader<'a>,
+    depth: usize,
 ) -> Result<Value<'a>, DhatFault>
-    ensures read { IfOk result (λ value. read text.now ≡ Some (data_of value)) }
-    ensures fault { IfErr result (λ fault. UnlessNoMemory fault
-        ((fault ≡ DhatFault.NotJson) × (read text.now ≡ None))) }
+    ensures read { IfOk result (λ v. value_ahead depth reader.old ≡ Some (data_of v, reader.new)) }
+    ensures shorter { OnOk result (length reader.new < length reader.old) }
+    ensures fault { IfErr result (λ fault. IsNone fault (value_ahead depth reader.old)) }
 {
-    let Ok(mut reader) = Reader::new(text, scratch) else {
-        return Err(DhatFault::NoMemory);
-    };
-    let value = match Value::read(alloc, &mut reader, MAX_DEPTH) {
+    let value = match Value::read(alloc, reader, depth) {
         Ok(value) => value,
         Err(Error::OutOfMemory) => return Err(DhatFault::NoMemory),
         Err(Error::Invalid) => return Err(DhatFault::NotJson),
         Err(Error::TooLong | Error::DuplicateKey) => unreachable!(),
     };
-    if reader.next().is_some() {
-        drop(value);
-        return Err(DhatFault::NotJson);
-    }
     if !has_data(&value) {
         drop(value);
         return Err(DhatFault::NotJson);

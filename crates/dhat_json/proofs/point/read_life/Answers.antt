@@ -3,9 +3,8 @@ use Rattle.std.proofs.lemmas.Result.{err_from_is_err_and}
 use Rattle.serde_json.specs.Data.{Data}
 use Rattle.dhat_json.specs.DataOf.{data_of}
 use Rattle.dhat_json.specs.declared.key.Key.TheVariants.{Tl, Mb, Mbk, Gb, Gbk, Eb, Ebk}
-use Rattle.dhat_json.specs.DhatFault.{Finding, needed}
+use Rattle.dhat_json.specs.DhatFault.{Finding, needed, pair_findings}
 use Rattle.dhat_json.specs.Kinds.{as_whole}
-use Rattle.dhat_json.specs.Parts.{pair_findings}
 use Rattle.dhat_json.specs.ProfileIn.{life_in, whole_at}
 use Rattle.dhat_json.proofs.Findings.{fault_follows, passed_then, found_first, first_later, first_stays}
 use Rattle.dhat_json.proofs.point.read_life.Goals as goal

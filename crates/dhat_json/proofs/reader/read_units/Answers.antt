@@ -1,7 +1,8 @@
 use Rattle.std.proofs.Common.{refl, sym, ◌∙◌, subst}
 use Rattle.std.proofs.lemmas.Result.{err_from_is_err_and, IfOk-at_ok}
 use Rattle.dhat_json.specs.DataOf.{data_of}
-use Rattle.dhat_json.specs.Parts.{HasBlockTexts, HasTimeTexts, block_unit_findings, time_unit_findings}
+use Rattle.dhat_json.specs.DhatFault.{block_unit_findings, time_unit_findings}
+use Rattle.dhat_json.specs.Parts.{HasBlockTexts, HasTimeTexts}
 use Rattle.dhat_json.proofs.Findings.{fault_follows, first_later, first_stays, read_as, refused_as}
 use Rattle.dhat_json.proofs.reader.read_units.Goals as goal
 

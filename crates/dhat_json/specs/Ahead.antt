@@ -1,0 +1,32 @@
+-- What stands next among the tokens of a text, as data, with the tokens behind it. A value whose
+-- numbers are in range has data, for private clauses.
+use Rattle.std.specs.Prelude.{◌≡◌, ℕ, List, length, Option, None}
+use Rattle.std.specs.Option.{option_map}
+use Rattle.json.specs.Token.{Token}
+use Rattle.json.specs.Json.{value, items, members}
+use Rattle.serde_json.specs.Data.{Data, Items, Members, no_members}
+use Rattle.serde_json.specs.Read.{of_json, of_items, of_members, converted}
+use Rattle.dhat_json.specs.declared.fault.DhatFault.{DhatFault}
+use Rattle.dhat_json.specs.declared.fault.DhatFault.TheVariants.{NotJson}
+use Rattle.dhat_json.specs.Reads.{UnlessNoMemory}
+
+-- a value that nests so deep at most
+abbrev pub value_ahead : ℕ → List Token → Option (Data × List Token)
+value_ahead depth ts = converted of_json (value depth ts)
+
+-- the items of a list, and its bracket
+abbrev pub items_ahead : ℕ → List Token → Option (Items × List Token)
+items_ahead depth ts = converted of_items (items (value depth) (length ts) ts)
+
+-- the members of an object, and its brace
+abbrev pub members_ahead : ℕ → List Token → Option (Members × List Token)
+members_ahead depth ts = converted (λ ms. of_members ms no_members)
+    (members (value depth) (length ts) ts)
+
+-- the tokens behind it
+abbrev pub behind : {A : Type 0} → Option (A × List Token) → Option (List Token)
+behind ahead = option_map (λ p. p.1) ahead
+
+-- nothing of the kind stands there, or memory was wanting
+abbrev pub IsNone : {A : Type 0} → DhatFault → Option (A × List Token) → Type 0
+IsNone fault ahead = UnlessNoMemory fault ((fault ≡ NotJson) × (ahead ≡ None))

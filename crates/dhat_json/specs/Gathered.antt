@@ -1,0 +1,34 @@
+-- What was gathered of the items of a list of points, for private clauses.
+use Rattle.std.specs.Prelude.{◌≡◌, ◌-◌, ◌^◌, ◌<◌, ◌≤◌, List, [], ◌∷◌, ◌++◌, length, map, Some, None}
+use Rattle.json.specs.Token.{Token}
+use Rattle.serde_json.specs.Data.{Data}
+use Rattle.dhat_json.specs.declared.gathered.Gathered.{Gathered}
+use Rattle.dhat_json.specs.declared.shape.Shape.{Shape}
+use Rattle.dhat_json.specs.Ahead.{value_ahead}
+use Rattle.dhat_json.specs.DhatFault.{Finding, first_of, points_findings}
+use Rattle.dhat_json.specs.ProfileIn.{point_in}
+use Rattle.dhat_json.specs.Reads.{UnlessNoMemory}
+
+-- what is found of points in a profile of this shape
+abbrev pub shape_findings : Shape → List Data → List Finding
+shape_findings shape values = points_findings shape.bklt shape.bkacc shape.frames 0 values
+
+abbrev pub FaultIs : Finding → Finding → Type 0
+FaultIs None finding = finding ≡ None
+FaultIs (Some fault) finding = UnlessNoMemory fault (finding ≡ Some fault)
+
+-- The items came, and were read in this shape up to the first fault. Where they are too many to be numbered, nothing but
+-- that is said.
+pub record HasGathered (gathered : Gathered) (values : List Data) : Type 0 where
+  pub count : length values < 2 ^ 32 - 1 → gathered.count ≡ length values
+  pub full : 2 ^ 32 - 1 ≤ length values → gathered.count ≡ 2 ^ 32 - 1
+  pub fault : length values < 2 ^ 32 - 1
+      → FaultIs gathered.fault (first_of (shape_findings gathered.shape values))
+  pub points : length values < 2 ^ 32 - 1 → gathered.fault ≡ None
+      → gathered.points ≡ map (point_in gathered.shape.bklt gathered.shape.bkacc) values
+
+-- one item more came, which stood next
+pub record Takes (old new : Gathered) (ahead behind : List Token) : Type 0 where
+  pub item : Data
+  pub is : value_ahead 125 ahead ≡ Some (item, behind)
+  pub taken : (values : List Data) → HasGathered old values → HasGathered new (values ++ item ∷ [])

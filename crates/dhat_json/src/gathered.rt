@@ -1,0 +1,125 @@
+//! The points of a list, read as its items come. An item is kept no longer than it takes to read its point.
+ghost use Rattle.std.specs.Prelude.{◌≡◌, ◌⊎◌, [], ◌∷◌, ◌++◌, ◌<◌, List, Ok, Some, IfErr, IfOk, IsTrue, OnOk, length};
+ghost use Rattle.serde_json.specs.Data.{Data, Items};
+ghost use Rattle.dhat_json.specs.Ahead.{IsNone, items_ahead, value_ahead};
+ghost use Rattle.dhat_json.specs.DataOf.{data_of};
+ghost use Rattle.dhat_json.specs.declared.gathered.Gathered.{Gathered as GatheredPoints};
+ghost use Rattle.dhat_json.specs.Gathered.{HasGathered, Takes};
+ghost use Rattle.dhat_json.specs.Kinds.{list_of};
+
+use crate::fault::DhatFault;
+use crate::lists::Points;
+use crate::outline::ITEM_DEPTH;
+use crate::point::read_point;
+use crate::profile::Point;
+use crate::shape::Shape;
+use crate::table::are_in_table;
+use crate::value::next_value;
+use json::{Reader, Value};
+use std::alloc::Global;
+
+/// The points that came, up to the first fault.
+#[derive(Drop)]
+pub(crate) struct Gathered {
+    /// The shape in which they are read.
+    pub(crate) shape: Shape,
+    pub(crate) points: Points,
+    /// How many items came, up to 2^32 - 1.
+    pub(crate) count: u32,
+    pub(crate) fault: Option<DhatFault>,
+}
+
+impl Gathered {
+    /// No points.
+    pub(crate) fn new(alloc: Global, shape: Shape) -> Gathered
+        ensures none { HasGathered result [] }
+        ensures shape { result.shape ≡ shape }
+    {
+        Gathered {
+            shape,
+            points: Points::new(alloc),
+            count: 0,
+            fault: None,
+        }
+    }
+
+    /// Reads the items of a list and its bracket.
+    pub(crate) fn take_items(
+        &mut self,
+        alloc: Global,
+        reader: &mut Reader<'_>,
+    ) -> Result<(), DhatFault>
+        ensures taken { OnOk result ((items : Items)
+            × (items_ahead ITEM_DEPTH reader.old ≡ Some (items, reader.new))
+            × (HasGathered self.old [] → HasGathered self.new (list_of items))) }
+        ensures shape { self.new.shape ≡ self.old.shape }
+        ensures shorter { OnOk result (length reader.new < length reader.old) }
+        ensures fault { IfErr result
+            (λ fault. IsNone fault (items_ahead ITEM_DEPTH reader.old)) }
+    {
+        'items: while !reader.take_end_array() {
+            self.take_next(alloc, reader)?;
+        }
+        Ok(())
+    }
+
+    /// Takes the next item.
+    fn take_next(&mut self, alloc: Global, reader: &mut Reader<'_>) -> Result<(), DhatFault>
+        ensures taken { OnOk result (Takes self.old self.new reader.old reader.new) }
+        ensures shape { self.new.shape ≡ self.old.shape }
+        ensures shorter { OnOk result (length reader.new < length reader.old) }
+        ensures fault { IfErr result (λ fault. IsNone fault (value_ahead ITEM_DEPTH reader.old)) }
+    {
+        let item = next_value(alloc, reader, ITEM_DEPTH)?;
+        self.take(alloc, &item);
+        drop(item);
+        Ok(())
+    }
+
+    /// Reads a point, unless one before it had a fault.
+    fn take(&mut self, alloc: Global, item: &Value)
+        ensures taken { (values : List Data) → HasGathered self.old values
+            → HasGathered self.new (values ++ data_of item.now ∷ []) }
+        ensures shape { self.new.shape ≡ self.old.shape }
+    {
+        if self.count == u32::MAX {
+            return;
+        }
+        let number = self.count;
+        self.count += 1;
+        if self.fault.is_some() {
+            return;
+        }
+        match read_point(alloc, item, self.shape, number) {
+            Ok(point) => self.push(point),
+            Err(fault) => self.fault = Some(fault),
+        }
+    }
+
+    /// Whether the points are the same in that shape: they were read with the parts that it has, without a fault, and their
+    /// frames are in its table.
+    pub(crate) fn fits(&self, shape: Shape) -> bool
+        ensures { IsTrue result → (values : List Data) → HasGathered self.now values
+            → HasGathered (record self.now { shape = shape }) values }
+    {
+        if self.fault.is_some() {
+            return false;
+        }
+        if self.shape.bklt != shape.bklt {
+            return false;
+        }
+        if self.shape.bkacc != shape.bkacc {
+            return false;
+        }
+        are_in_table(self.points.as_slice(), shape.frames)
+    }
+
+    fn push(&mut self, point: Point)
+        ensures pushed { (self.new ≡ record self.old { points = self.old.points ++ point ∷ [] })
+            ⊎ (self.new ≡ record self.old { fault = Some DhatFault.NoMemory }) }
+    {
+        if self.points.push(point).is_err() {
+            self.fault = Some(DhatFault::NoMemory);
+        }
+    }
+}
