@@ -8,27 +8,13 @@ use Rattle.std.proofs.Math.Seq.{get_or-append_seam, take-append_seam}
 use Rattle.hp_outside.specs.Lines.{lines_of, put_first}
 use Rattle.hp_outside.specs.WholeLines.{IsLineText, text_of_lines}
 use Rattle.record_book.specs.Spelled.{behind}
-use Rattle.record_book.proofs.Laws.{line-of}
-
--- the text of lines behind others
-pub text-append : (xs ys : List (List ℕ)) → text_of_lines (xs ++ ys) ≡ text_of_lines xs ++ text_of_lines ys
-text-append [] ys = refl
-text-append (line ∷ xs) ys =
-    ap (λ (rest : List ℕ). line ++ (10 ∷ rest)) (text-append xs ys) ∙ sym (append_assoc line (10 ∷ text_of_lines xs) (text_of_lines ys))
+use Rattle.record_book.proofs.Laws.{text-append}
 
 -- one line more
 pub text-push : (xs : List (List ℕ)) (line more : List ℕ) → text_of_lines (xs ++ line ∷ []) ++ more ≡ text_of_lines xs ++ (line ++ (10 ∷ more))
 text-push xs line more =
     ap (λ (text : List ℕ). text ++ more) (text-append xs (line ∷ [])) ∙ append_assoc (text_of_lines xs) (line ++ (10 ∷ [])) more
     ∙ ap (λ (rest : List ℕ). text_of_lines xs ++ rest) (append_assoc line (10 ∷ []) more)
-
--- the lines of a text that begins with lines
-pub lines-text : (lines : List (List ℕ)) (rest : List ℕ) → All IsLineText lines → lines_of (text_of_lines lines ++ rest) ≡ lines ++ lines_of rest
-lines-text [] rest texts = refl
-lines-text (line ∷ lines) rest texts =
-    ap lines_of (append_assoc line (10 ∷ text_of_lines lines) rest)
-    ∙ line-of line (text_of_lines lines ++ rest) (All-head IsLineText line lines texts)
-    ∙ ap (λ (more : List (List ℕ)). line ∷ more) (lines-text lines rest (All-tail IsLineText line lines texts))
 
 -- a text that ends with a line feed is the text of its lines
 put-text : (b : ℕ) (lines : List (List ℕ)) (text : List ℕ) → text_of_lines lines ≡ text → text ≢ [] → text_of_lines (put_first b lines) ≡ b ∷ text

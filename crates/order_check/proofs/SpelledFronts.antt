@@ -5,6 +5,7 @@ use Rattle.std.proofs.lemmas.List.Elements.{All-append, All-cons, All-head, All-
 use Rattle.std.proofs.lemmas.List.{append_cancel_left}
 use Rattle.hp_outside.specs.Lines.{lines_of}
 use Rattle.hp_outside.specs.WholeLines.{IsLineText}
+use Rattle.hp_outside.proofs.Laws.{lines_of-text}
 use Rattle.record_scripts.specs.Events.{Event, allocation, free}
 use Rattle.record_scripts.specs.Job.{Job}
 use Rattle.record_book.specs.Actions.{events_at, times}
@@ -17,7 +18,6 @@ use Rattle.order_check.specs.Following.{Following, added, at_line, at_place, beh
 use Rattle.order_check.specs.Fronts.{Begins, IsFront}
 use Rattle.order_check.specs.Spelling.{IsSpelling}
 use Rattle.order_check.proofs.FollowLemmas.{Follows, Outcome, follow-all, follow-line, follows-none}
-use Rattle.order_check.proofs.LineTexts.{lines-text}
 use Rattle.order_check.proofs.WholeLemmas.{begins-text, text-begins}
 
 -- what lines spell, and others behind them
@@ -67,7 +67,7 @@ turn-few thread (Some (free id true)) = inr (inr refl)
 whole-spelled : (job : Job) (lines : List (List ℕ)) (now : Following) → IsSpelling job → All IsLineText lines → Follows job lines now
     → spelled_by 0 (lines ++ lines_of now.coming) ≡ now.order
 whole-spelled job lines now spelling texts follows =
-    ap (λ (all : List (List ℕ)). spelled_by 0 all) (sym (ap lines_of follows.text_is ∙ lines-text lines now.coming texts))
+    ap (λ (all : List (List ℕ)). spelled_by 0 all) (sym (ap lines_of follows.text_is ∙ lines_of-text lines now.coming texts))
     ∙ spelled-order job now.order spelling.reads spelling.few spelling.quiet follows.under
 
 -- one line more

@@ -5,6 +5,7 @@ use Rattle.std.proofs.lemmas.Bool.Decides.{nat_tests}
 use Rattle.std.proofs.lemmas.List.Elements.{All-cons, All-head, All-nil, All-tail}
 use Rattle.hp_outside.specs.Lines.{lines_of, put_first}
 use Rattle.hp_outside.specs.WholeLines.{IsLineText, text_of_lines}
+use Rattle.hp_outside.proofs.Laws.{lines_of-text}
 use Rattle.record_scripts.specs.Events.{events_of}
 use Rattle.record_scripts.specs.Job.{Job}
 use Rattle.record_scripts.specs.Turns.{Turn, script_at}
@@ -13,12 +14,12 @@ use Rattle.record_book.specs.BookState.{stepped}
 use Rattle.record_book.specs.Orders.{Continues, IsInterleaving, IsUnder}
 use Rattle.record_book.specs.RecordedTrace.{recorded}
 use Rattle.record_book.specs.Spelled.{spelled}
-use Rattle.record_book.proofs.Laws.{none-at, spelled-order}
+use Rattle.record_book.proofs.Laws.{none-at, spelled-order, text-append}
 use Rattle.order_check.specs.Following.{Following, added, are_done, events_at_end, followed, is_empty, is_front, whole_events}
 use Rattle.order_check.specs.Fronts.{Begins, IsFront, IsRecording}
 use Rattle.order_check.specs.Spelling.{IsSpelling}
 use Rattle.order_check.proofs.FollowLemmas.{Follows, HasText, Outcome, follow-all, turn-calls, turn-text}
-use Rattle.order_check.proofs.LineTexts.{lines-text, nothing-more, text-append, whole-text}
+use Rattle.order_check.proofs.LineTexts.{nothing-more, whole-text}
 use Rattle.order_check.proofs.NextTurn.{goes-on}
 use Rattle.order_check.proofs.RecordedLines.{ends-recorded, grows}
 use Rattle.order_check.proofs.StepLemmas.{empty-is}
@@ -45,7 +46,7 @@ begins-text job order lines spelling begins =
     (text_of_lines begins.0, sym whole ∙ ap text_of_lines begins.1 ∙ text-append lines begins.0)
 
 pub text-begins : (job : Job) (order : List ℕ) (lines : List (List ℕ)) → All IsLineText lines → HasText job order lines → Begins job order lines
-text-begins job order lines texts has = (lines_of has.0, ap lines_of has.1 ∙ lines-text lines has.0 texts)
+text-begins job order lines texts has = (lines_of has.0, ap lines_of has.1 ∙ lines_of-text lines has.0 texts)
 
 -- whether some recording begins so
 pub front-is : (job : Job) (lines : List (List ℕ)) → IsSpelling job → All IsLineText lines → is_front job lines ≡ true → IsFront job lines

@@ -1,4 +1,5 @@
--- What the check of a trace answers.
+-- What the check of a trace answers. The answer to a file: it is whole, it is refused at a line, a
+-- line's length has a fault, or a read failed behind lines without any of these.
 use Rattle.std.specs.Prelude.{◌≡◌, ℕ, ◌+◌, ◌≤◌, ◌<◌, min, List, ◌++◌, length, take, Option, Some, Result, Ok, Err}
 use Rattle.hp_outside.specs.Lines.{lines_of}
 use Rattle.hp_outside.specs.NextLine.{IsUndecided}

@@ -1,4 +1,5 @@
--- What the check of a trace stands for.
+-- What the check of a trace stands for: the scripts, the order of the turns that the lines have
+-- begun, what is kept of its recording, and what is to come of that.
 use Rattle.std.specs.Prelude.{◌≡◌, ℕ, Bool, List, Option, Some}
 use Rattle.record_scripts.specs.Job.{Job}
 use Rattle.order_check.specs.Following.{Following, at_place, followed, thread_for, turn_begun, whole_events, with_line}

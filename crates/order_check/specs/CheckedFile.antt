@@ -1,4 +1,4 @@
--- What the check of the current file of a store comes to.
+-- A check only reads the current file, and answers by what the store tells of it.
 use Rattle.std.specs.Prelude.{◌≡◌, ◌≢◌, ℕ, Result, Err}
 use Rattle.hp_outside.specs.declared.store.Store as store
 use Rattle.hp_outside.specs.Faults.{Rose}

@@ -1,4 +1,4 @@
--- The verdict on a file.
+-- The verdict on a file. The verdict where all lines were taken.
 use Rattle.std.specs.Prelude.{ℕ, Option, None, Some}
 use Rattle.order_check.specs.declared.verdict.Verdict.{Verdict}
 use Rattle.order_check.specs.declared.verdict.Verdict.TheVariants.{No, Yes}

@@ -1,4 +1,5 @@
--- The few orders of which one begins with given lines, where any does.
+-- The few orders of which one begins with given lines, where any does. A front begins the recording
+-- of the order that it spells, with at most two entries of one thread more.
 use Rattle.std.specs.Prelude.{◌≡◌, ◌⊎◌, ℕ, List, [], ◌∷◌, ◌++◌}
 use Rattle.record_scripts.specs.Job.{Job}
 use Rattle.record_book.specs.Orders.{IsUnder}

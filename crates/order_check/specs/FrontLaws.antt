@@ -1,4 +1,5 @@
--- What following the lines of a trace says of recordings.
+-- What following lines says of recordings: they are followed exactly where they are a front, and to
+-- the end exactly where they are a recording.
 use Rattle.std.specs.Prelude.{◌≡◌, ◌≢◌, ◌↔◌, ℕ, Bool, true, false, List, Some, All, length, take}
 use Rattle.hp_outside.specs.Lines.{lines_of}
 use Rattle.hp_outside.specs.WholeLines.{IsLineText, text_of_lines}

@@ -1,4 +1,7 @@
--- With which lines recordings begin, and which bytes are one.
+-- Lines are a front where the lines of the recording of some order under the scripts begin with
+-- them. Bytes are a recording where they are that of the order that they spell, and that is an
+-- interleaving. Bytes that are none break off behind so many lines where these are a front, and
+-- none is one line longer.
 use Rattle.std.specs.Prelude.{◌≡◌, ◌+◌, ◌<◌, ◌≤◌, ℕ, List, ◌++◌, length, take}
 use Rattle.hp_outside.specs.Lines.{lines_of}
 use Rattle.record_scripts.specs.Job.{Job}

@@ -1,4 +1,5 @@
--- How much of the recording a check keeps.
+-- What a check keeps of the recording is the lines of the turn that was begun last, or before any
+-- turn what stands before them, or nothing.
 use Rattle.std.specs.Prelude.{◌≡◌, ◌⊎◌, ℕ, List, []}
 use Rattle.record_scripts.specs.Job.{Job}
 use Rattle.record_book.specs.BookState.{stepped}

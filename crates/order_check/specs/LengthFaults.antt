@@ -1,4 +1,5 @@
--- The faults of the length of lines.
+-- The faults of the length of lines. The line behind so many is too long, or ends behind the most
+-- bytes of a file; none of the first so many has such a fault.
 use Rattle.std.specs.Prelude.{ℕ, zero, suc, ◌-◌, ◌<◌, List, length}
 use Rattle.hp_outside.specs.Lines.{after_line}
 use Rattle.hp_outside.specs.NextLine.{IsInputTooLong, IsLineTooLong}

@@ -4,6 +4,7 @@ pub mod Following
 pub mod FrontLaws
 pub mod Spelling
 pub mod CheckState
+pub mod NewCheck
 pub mod KeptTurn
 pub mod TakenLine
 pub mod LengthFaults

@@ -1,4 +1,5 @@
--- What a check makes of a line.
+-- What a check makes of a line. A line is taken behind the lines before it, or refused exactly
+-- where these and it are no front.
 use Rattle.std.specs.Prelude.{◌≡◌, ℕ, true, false, List, [], ◌∷◌, ◌++◌, Result, Err, OnOk}
 use Rattle.order_check.specs.declared.verdict.LineRefusal.{LineRefusal}
 use Rattle.order_check.specs.declared.verdict.LineRefusal.TheVariants.{NotRecorded}

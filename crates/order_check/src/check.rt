@@ -1,11 +1,10 @@
 //! The check of the current file of a store. What its lines are compared with is no part of it.
-ghost use Rattle.std.specs.Prelude.{◌≡◌, ◌^◌, ◌≤◌, [], IsTrue};
+ghost use Rattle.std.specs.Prelude.{◌≡◌, ◌^◌, ◌≤◌, IsTrue};
 ghost use Rattle.std.specs.Arc.{arc_value};
 ghost use Rattle.order_check.specs.CheckedFile.{AnswersFile, OnlyReads};
-ghost use Rattle.order_check.specs.CheckState.{HasTaken};
 ghost use Rattle.hp_outside.specs.NewReader.{IsNewReader};
 ghost use Rattle.order_check.specs.CheckedLines.{end_verdict};
-ghost use Rattle.order_check.specs.Spelling.{IsSpelling};
+ghost use Rattle.order_check.specs.NewCheck.{IsNewCheck};
 
 use crate::order_check::OrderCheck;
 use crate::verdict::{CheckFault, LineRefusal, Verdict};
@@ -54,8 +53,7 @@ fn compare_lines<S: Store>(
     requires current { IsTrue (S.current store.old) }
     requires bounds { lines.old.input ≤ 2 ^ 34 }
     requires new_lines { IsNewReader lines.old }
-    requires new_check { HasTaken check.old [] }
-    requires spelling { IsSpelling check.old.job }
+    requires new_check { IsNewCheck check.old }
     ensures answer { AnswersFile S.Store lines.old.input lines.old.line_limit check.old.job
         store.old store.new result }
     ensures store { OnlyReads S.Store store.old store.new result }

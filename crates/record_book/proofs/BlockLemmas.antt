@@ -3,7 +3,7 @@ use Rattle.std.proofs.Common.{◌≡◌, ℕ, ◌+◌, ◌==◌, ◌&&◌, Bool,
 use Rattle.std.specs.Prelude.{IfNone, IfSome, Result, Ok, Err, OnErr}
 use Rattle.std.proofs.lemmas.Bool.Decides.{nat_tests}
 use Rattle.record_book.specs.declared.heap.Heap.{Heap}
-use Rattle.record_book.specs.declared.heap.LiveEntry.{LiveEntry}
+use Rattle.record_book.specs.declared.live_blocks.LiveEntry.{LiveEntry}
 use Rattle.record_book.specs.HeapPlaces.{Place, class_of, next_address, placed, released}
 use Rattle.record_book.specs.HeapState.{AreOf, IsHeap, IsSameHeap, TakesNext, entry_at, has_place}
 use Rattle.record_book.proofs.HeapLemmas.{same}

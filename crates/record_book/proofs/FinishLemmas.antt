@@ -5,9 +5,9 @@ use Rattle.std.proofs.lemmas.Bool.{cases_lt}
 use Rattle.std.proofs.lemmas.Bool.Decides.{nat_tests}
 use Rattle.record_scripts.specs.Events.{Event, allocation, free}
 use Rattle.record_scripts.specs.Turns.{Turn}
-use Rattle.record_scripts.specs.Job.{Job}
+use Rattle.record_scripts.specs.Job.{IsSameWork, Job}
 use Rattle.record_book.specs.Actions.{actions, events_at, times}
-use Rattle.record_book.specs.BookState.{IsSameWork, stepped, turn_entries}
+use Rattle.record_book.specs.BookState.{stepped, turn_entries}
 use Rattle.record_book.specs.Orders.{IsInterleaving, IsUnder}
 use Rattle.record_book.specs.RecordedTrace.{recorded, trace_text}
 use Rattle.record_book.proofs.OrderLemmas.{times-append}

@@ -3,7 +3,7 @@ use Rattle.std.proofs.Common.{◌≡◌, ℕ, ◌+◌, ◌<◌, ◌≤◌, ◌==
 use Rattle.std.specs.Prelude.{min}
 use Rattle.std.proofs.lemmas.Bool.Decides.{nat_tests}
 use Rattle.std.proofs.lemmas.Option.{same_Some}
-use Rattle.record_book.specs.declared.heap.LiveEntry.{LiveEntry}
+use Rattle.record_book.specs.declared.live_blocks.LiveEntry.{LiveEntry}
 use Rattle.record_book.specs.HeapPlaces.{Block, Place, taken, empty, class_of, end_of, free_addresses, is_of, least, next_address, placed, placed_at, released}
 use Rattle.record_book.specs.HeapState.{AreOf, AreOnly, entry_in, is_free}
 
@@ -18,7 +18,7 @@ of-same block thread id t i owned =
     let b : block.id ≡ id = grind (arith, nat_tests, owned) in
     ap₂ (λ (x y : ℕ). x == t && y == i) a b
 
-of-other : (block : Block) (thread id t i : ℕ) → is_of thread id block ≡ false → same thread id t i ≡ true → is_of t i block ≡ false
+pub of-other : (block : Block) (thread id t i : ℕ) → is_of thread id block ≡ false → same thread id t i ≡ true → is_of t i block ≡ false
 of-other block thread id t i other is =
     let a : thread ≡ t = grind (arith, nat_tests, is) in
     let b : id ≡ i = grind (arith, nat_tests, is) in

@@ -10,7 +10,8 @@ mod DoneLemmas
 mod LiveLemmas
 mod StreamLemmas
 mod FinishLemmas
-mod SameLemmas
+mod FewTurns
+mod HeldLemmas
 mod TallyLemmas
 mod TallyOrders
 mod SumLemmas
@@ -22,4 +23,5 @@ mod SummaryLines
 mod ModuleLines
 mod PlaceLemmas
 mod BlockLemmas
+mod TableLemmas
 pub mod Laws

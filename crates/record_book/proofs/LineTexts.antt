@@ -1,11 +1,11 @@
--- Texts without a line feed.
-use Rattle.std.proofs.Common.{◌≡◌, ◌≢◌, ℕ, zero, suc, ◌+◌, ◌%◌, ◌/◌, Bool, true, false, cond, eqb, nat_lt, List, [], ◌∷◌, ◌++◌, refl, sym, arith, true≢false}
+-- Texts without a line feed, and texts of lines.
+use Rattle.std.proofs.Common.{◌≡◌, ◌≢◌, ℕ, zero, suc, ◌+◌, ◌%◌, ◌/◌, Bool, true, false, cond, eqb, nat_lt, List, [], ◌∷◌, ◌++◌, refl, sym, arith, true≢false, ap, ◌∙◌, append_assoc}
 use Rattle.std.specs.Fmt.{digits, digits_onto, digit_glyph}
 use Rattle.std.proofs.lemmas.Bool.Decides.{nat_tests}
 use Rattle.std.proofs.lemmas.List.Elements.{All-append, All-cons, All-nil}
 use Rattle.hp_num.specs.Hexadecimal.{hexadecimal}
 use Rattle.ht_lines.specs.Written.{spelled}
-use Rattle.hp_outside.specs.WholeLines.{IsLineText}
+use Rattle.hp_outside.specs.WholeLines.{IsLineText, text_of_lines}
 
 abbrev NoFeed : ℕ → Type 0
 NoFeed b = b ≢ 10
@@ -62,3 +62,8 @@ literal-text (b ∷ rest) none = by (λ more. literal-text rest more) (eqb b 10)
     by : (has_no_feed rest ≡ true → IsLineText rest) → (t : Bool) → eqb b 10 ≡ t → cond t false (has_no_feed rest) ≡ true → IsLineText (b ∷ rest)
     by text true p none = absurd (true≢false (sym none))
     by text false p none = byte-text b rest (λ same. absurd (grind (arith, nat_tests, p, same))) (text none)
+
+-- the text of lines behind others
+pub text-append : (xs ys : List (List ℕ)) → text_of_lines (xs ++ ys) ≡ text_of_lines xs ++ text_of_lines ys
+text-append [] ys = refl
+text-append (line ∷ xs) ys = ap (λ (rest : List ℕ). line ++ (10 ∷ rest)) (text-append xs ys) ∙ sym (append_assoc line (10 ∷ text_of_lines xs) (text_of_lines ys))

@@ -8,7 +8,7 @@ use Rattle.std.proofs.lemmas.Option.{get_or_from_slice_get, slice_get_within}
 use Rattle.std.proofs.Math.Seq.{take-suc}
 use Rattle.record_scripts.specs.Playable.{AreInTurn, Follows, IsInTurn}
 use Rattle.record_scripts.specs.Turns.{Turn, allocates, frees, reallocates, is_live_after, script_at}
-use Rattle.record_book.specs.declared.heap.LiveEntry.{LiveEntry}
+use Rattle.record_book.specs.declared.live_blocks.LiveEntry.{LiveEntry}
 use Rattle.record_book.specs.Actions.{Action}
 use Rattle.record_book.specs.HeapPlaces.{Place, class_of, next_address, places_after, released}
 use Rattle.record_book.specs.HeapState.{AreOnly, entry_in}

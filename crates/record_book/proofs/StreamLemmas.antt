@@ -9,13 +9,13 @@ use Rattle.std.proofs.lemmas.Option.{slice_get_within, unwrap_or-slice_get}
 use Rattle.hp_num.specs.Extends.{Extends}
 use Rattle.stack_table.specs.Node.{Node}
 use Rattle.record_scripts.specs.Events.{event_count, events_of, events_of_turn}
-use Rattle.record_scripts.specs.Job.{Job}
+use Rattle.record_scripts.specs.Job.{IsSameWork, Job}
 use Rattle.record_scripts.specs.Playable.{IsInTurn, IsPlayable}
 use Rattle.record_scripts.specs.Turns.{AreBounded, Turn, allocates, frees, reallocates, is_live_after, script_at}
 use Rattle.record_book.specs.declared.heap.Heap.{Heap}
 use Rattle.record_book.specs.declared.trace.Trace.{Trace}
 use Rattle.record_book.specs.Actions.{Action, actions, events_at, times}
-use Rattle.record_book.specs.BookState.{IsSameWork, entries_of}
+use Rattle.record_book.specs.BookState.{entries_of}
 use Rattle.record_book.specs.StreamState.{IsStream, done_at, done_count}
 use Rattle.record_book.specs.HeapPlaces.{AreApart, LiveBlock, Place, taken, empty, class_of, end_of, live_blocks, places_after}
 use Rattle.record_book.specs.HeapState.{AreOnly, IsHeap, entry_in}

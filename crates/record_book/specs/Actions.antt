@@ -1,4 +1,5 @@
--- What the entries of an order mean.
+-- An entry of an order means the event of its thread's script whose number is the count of that
+-- thread among the entries before.
 use Rattle.std.specs.Prelude.{ℕ, ◌+◌, ◌==◌, if◌then◌else◌, List, [], ◌∷◌, reverse, slice_get, Option, None, Some}
 use Rattle.record_scripts.specs.Turns.{Turn, script_at}
 use Rattle.record_scripts.specs.Events.{Event, events_of}

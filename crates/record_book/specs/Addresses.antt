@@ -1,4 +1,5 @@
--- The addresses of one class that have no live block, as a heap has them.
+-- The addresses of one class that have no live block, as a heap has them. The free addresses of one
+-- class, the least of which is taken first.
 use Rattle.std.specs.Prelude.{◌≡◌, ℕ, ◌≤◌, ◌==◌, Bool, true, false, if◌then◌else◌, List}
 use Rattle.std.specs.List.{list_any}
 use Rattle.std.specs.Ordering.{nat_cmp}

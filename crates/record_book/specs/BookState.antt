@@ -1,4 +1,4 @@
--- What a book stands for, and what a turn of a thread adds to it.
+-- What a book stands for; the order with the next turn of a thread, and with several.
 use Rattle.std.specs.Prelude.{◌≡◌, ℕ, zero, suc, ◌<◌, ◌≤◌, Bool, true, false, List, [], ◌∷◌, ◌++◌, length, nat_lt, slice_get, Option, None, Some}
 use Rattle.record_scripts.specs.Events.{Event, allocation, free}
 use Rattle.record_scripts.specs.Job.{Job}
@@ -10,11 +10,6 @@ use Rattle.record_book.specs.Orders.{IsUnder}
 pub record Recording : Type 0 where
   pub job : Job
   pub order : List ℕ
-
--- two jobs have the same scripts and modules, however many events there may be
-pub record IsSameWork (one other : Job) : Type 0 where
-  pub same_scripts : one.scripts ≡ other.scripts
-  pub same_modules : one.modules ≡ other.modules
 
 -- the entries of a thread's turn that begins with an event: two where a reallocation does, and none where there is no event
 abbrev pub turn_entries : ℕ → Option Event → List ℕ

@@ -1,4 +1,7 @@
--- The figures of a recording: what its events allocate, what they leave live, and the greatest total.
+-- The figures of a recording: what its events allocate, what they leave live, and the greatest
+-- total. The blocks that are live after the events of an order, each with its thread, ID, size and
+-- stack; the calls, the allocated bytes and the live bytes of the stacks that are counted; the
+-- greatest total; what a thread does alone; the sum and the greatest of a figure over threads.
 use Rattle.std.specs.Prelude.{ℕ, zero, suc, ◌+◌, Bool, true, ◌==◌, ◌&&◌, if◌then◌else◌, max, List, [], ◌∷◌}
 use Rattle.record_scripts.specs.Events.{Event, allocation, free}
 use Rattle.record_scripts.specs.Turns.{Turn}

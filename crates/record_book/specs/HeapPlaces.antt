@@ -1,4 +1,7 @@
--- Where blocks lie. Places are handed out one behind the other, and one whose block was freed may be handed out again.
+-- Where blocks lie. Places are handed out one behind the other, and one whose block was freed may
+-- be handed out again. The class of a size is the size rounded up to a multiple of 16, at least 16.
+-- A block gets the least address that was handed out for its class and isn't live, else one behind
+-- all that were handed out, from hexadecimal 10000 on.
 use Rattle.std.specs.Prelude.{ℕ, ◌+◌, ◌*◌, ◌/◌, ◌≤◌, Bool, ◌==◌, ◌&&◌, if◌then◌else◌, max, min, List, [], ◌∷◌}
 use Rattle.std.specs.List.{AllByRecursion}
 use Rattle.record_scripts.specs.Events.{Event, allocation, free}

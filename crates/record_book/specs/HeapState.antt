@@ -1,12 +1,14 @@
--- What the heap of the code has.
+-- What the heap of the code has: a live block's place by thread and ID, the free places, and the
+-- end; what a block that is put or freed changes of it.
 use Rattle.std.specs.Prelude.{◌≡◌, ℕ, ◌+◌, ◌^◌, ◌<◌, ◌≤◌, ◌==◌, ◌&&◌, ◌||◌, Bool, true, false, if◌then◌else◌, List, [], ◌∷◌, Option, None, Some, nat_eq}
 use Rattle.std.specs.BinaryHeap.{heap_items}
 use Rattle.std.specs.HashMap.{get}
 use Rattle.record_book.specs.declared.free_addresses.FreeAddresses.{FreeAddresses}
 use Rattle.record_book.specs.declared.free_places.FreePlaces.{FreePlaces}
 use Rattle.record_book.specs.declared.heap.Heap.{Heap}
-use Rattle.record_book.specs.declared.heap.LiveEntry.{LiveEntry}
+use Rattle.record_book.specs.declared.live_blocks.LiveEntry.{LiveEntry}
 use Rattle.record_book.specs.Addresses.{has_address}
+use Rattle.record_book.specs.LiveBlocks.{block_at}
 use Rattle.record_book.specs.HeapPlaces.{Place, taken, empty, address_of, class_of, end_of, is_of, next_address, placed, released}
 
 -- the address is among those of a class, of which there may be none
@@ -25,13 +27,9 @@ pub record TakesFirst (old new : FreePlaces) (class address : ℕ) : Type 0 wher
   pub left : (c a : ℕ) → has_place new c a
       ≡ (if class == c && address == a then false else has_place old c a)
 
--- whether two keys, each a thread and an ID, are equal
-abbrev pub same_key : ℕ × ℕ → ℕ × ℕ → Bool
-same_key x y = x.0 == y.0 && x.1 == y.1
-
 -- the live block that is kept for a thread's ID
 abbrev pub entry_at : Heap → ℕ → ℕ → Option LiveEntry
-entry_at heap thread id = get same_key heap.live (thread, id)
+entry_at heap thread id = block_at heap.live thread id
 
 -- the live block of a thread's ID, as the heap keeps it
 abbrev pub entry_in : List Place → ℕ → ℕ → Option LiveEntry

@@ -1,6 +1,7 @@
 pub mod Actions
 pub mod Orders
 pub mod HeapPlaces
+pub mod LiveBlocks
 pub mod NodeNumbers
 pub mod RecordedTrace
 pub mod Addresses

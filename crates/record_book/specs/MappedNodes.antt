@@ -1,4 +1,5 @@
--- Which nodes of the trace have the stacks of nodes of the scripts.
+-- Which nodes of the trace have the stacks of nodes of the scripts. A node of the trace that is
+-- known for a node of the scripts has the same stack.
 use Rattle.std.specs.Prelude.{◌≡◌, ◌≢◌, ℕ, ◌+◌, ◌-◌, ◌^◌, ◌≤◌, List, length, slice_get, unwrap_or}
 use Rattle.stack_table.specs.Node.{Node}
 use Rattle.stack_table.specs.Stack.{stack}

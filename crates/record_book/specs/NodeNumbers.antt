@@ -1,4 +1,5 @@
--- The numbers of stacks in a recorded trace.
+-- The numbers of stacks in a recorded trace. The number of a stack is its place among all suffixes
+-- of the stacks so far, from the shortest of each on, without repeats.
 use Rattle.std.specs.Prelude.{ℕ, ◌+◌, ◌==◌, if◌then◌else◌, List, [], ◌∷◌, length}
 use Rattle.std.specs.Str.{bytes_eq}
 use Rattle.record_scripts.specs.Events.{Event, allocation, free}

@@ -1,4 +1,4 @@
--- How nodes stand for numbered stacks.
+-- The nodes of the code are the numbered stacks, one frame for each pointer.
 use Rattle.std.specs.Prelude.{◌≡◌, ◌≢◌, ℕ, ◌+◌, ◌-◌, ◌^◌, ◌<◌, ◌≤◌, ◌==◌, if◌then◌else◌, List, ◌∷◌, ◌++◌, length, Result, IfOk}
 use Rattle.stack_table.specs.AreNodes.{AreNodes}
 use Rattle.stack_table.specs.Continues.{Continues}

@@ -1,4 +1,7 @@
--- The orders in which threads may take the events of their scripts.
+-- The orders in which threads may take the events of their scripts. An order is under scripts where
+-- each thread stands in it at most as often as its script has events, and behind the free of a
+-- reallocation comes an event of the same thread; it is an interleaving where each stands in it
+-- exactly as often. It goes on from an earlier order that it begins with.
 use Rattle.std.specs.Prelude.{◌≡◌, ℕ, ◌≤◌, true, false, List, [], ◌∷◌, ◌++◌, length, Option, None, Some, IfSome}
 use Rattle.record_scripts.specs.Turns.{Turn}
 use Rattle.record_scripts.specs.Events.{Event, allocation, free}

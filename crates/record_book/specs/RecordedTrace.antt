@@ -1,4 +1,5 @@
--- The text of a recorded trace.
+-- The recorded trace has a line with the thread where that changes, the lines of new nodes before
+-- an allocation, and a line for each event.
 use Rattle.std.specs.Prelude.{ℕ, ◌==◌, if◌then◌else◌, List, [], ◌∷◌, ◌++◌, codes, Option, None, Some}
 use Rattle.std.specs.Prelude.{decimal}
 use Rattle.ht_lines.specs.Content.{Content, node_line, raw_allocation_line, raw_free_line}

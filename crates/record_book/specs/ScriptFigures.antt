@@ -1,4 +1,6 @@
--- The figures of a recording by those of its scripts, whatever the order of the threads.
+-- The figures of a recording by those of its scripts, whatever the order of the threads. The
+-- figures of an interleaving are the sums of those of its scripts; its peak lies between their
+-- greatest peak and the sum of their peaks.
 use Rattle.std.specs.Prelude.{◌≡◌, ℕ, ◌≤◌, Bool, List, length}
 use Rattle.record_scripts.specs.Events.{event_count}
 use Rattle.record_scripts.specs.Turns.{Turn}

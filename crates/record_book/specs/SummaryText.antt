@@ -1,4 +1,6 @@
--- The summary of a recording, and its text: six lines of figures.
+-- The summary of a recording, and its text: six lines of figures. The summary has the threads, the
+-- events, the calls, the allocated bytes, what is live at the end, and the peak of the order from
+-- the greatest peak of a script alone to the sum of these peaks: six lines.
 use Rattle.std.specs.Prelude.{ℕ, List, ◌++◌, codes, decimal, length}
 use Rattle.record_scripts.specs.Turns.{Turn}
 use Rattle.record_book.specs.Actions.{actions}

@@ -1,10 +1,10 @@
--- What a tally stands for.
+-- What a tally stands for: the sizes of the live blocks, and the figures of the events so far.
 use Rattle.std.specs.Prelude.{◌≡◌, ℕ, ◌^◌, ◌≤◌, if◌then◌else◌, List, [], ◌∷◌, Option, None, Some}
 use Rattle.std.specs.HashMap.{get}
 use Rattle.record_book.specs.declared.tally.Tally.{Tally}
 use Rattle.record_book.specs.Actions.{Action}
 use Rattle.record_book.specs.Figures.{Held, allocated, calls, every, has_id, held_after, live_bytes, live_count, peak}
-use Rattle.record_book.specs.HeapState.{same_key}
+use Rattle.record_book.specs.LiveBlocks.{same_key}
 
 -- the size that is kept for a thread's ID
 abbrev pub size_at : Tally → ℕ → ℕ → Option ℕ

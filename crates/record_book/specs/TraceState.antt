@@ -1,4 +1,5 @@
--- What the trace that is written stands for.
+-- What the trace that is written stands for. What the text that is written, its nodes and its heap
+-- stand for; what a turn brings.
 use Rattle.std.specs.Prelude.{◌≡◌, ℕ, true, false, List, ◌∷◌, ◌++◌}
 use Rattle.record_scripts.specs.Events.{allocation, free}
 use Rattle.record_scripts.specs.Turns.{Turn, allocates, frees, reallocates}

@@ -1,16 +1,16 @@
 //! The book: a recording with all of its trace. How a turn is taken, and how its lines are made, is no part of it.
 ghost use Rattle.std.specs.Prelude.{◌≡◌, ◌≢◌, ℕ, ◌<◌, ◌≤◌, false, [], ◌++◌, length, IfOk, OnOk, OnErr, nat_lt};
 ghost use Rattle.std.specs.Arc.{arc_value};
+ghost use Rattle.record_scripts.specs.Job.{IsSameWork};
 ghost use Rattle.record_scripts.specs.Playable.{IsPlayable};
 ghost use Rattle.record_book.specs.Actions.{actions, events_at, times};
-ghost use Rattle.record_book.specs.BookState.{HasStepped, IsSameWork, TakesTurns, stepped};
+ghost use Rattle.record_book.specs.BookState.{HasStepped, TakesTurns, stepped};
 ghost use Rattle.record_book.specs.HeapPlaces.{AreApart, live_blocks, places_after};
 ghost use Rattle.record_book.specs.Orders.{Continues, IsInterleaving, IsUnder};
 ghost use Rattle.record_book.specs.RecordedTrace.{recorded};
 ghost use Rattle.record_book.specs.ScriptFigures.{HasScriptFigures};
 ghost use Rattle.record_book.specs.SummaryText.{rec_summary};
 
-use crate::same_scripts::is_same;
 use crate::summary::put_summary;
 use crate::trace_stream::TraceStream;
 use hp_num::NoMemory;
@@ -162,7 +162,7 @@ impl Book {
         ensures same { IsSameWork self.job (arc_value job)
             → IfOk result (λ book. book.order ≡ self.order) }
     {
-        if is_same(self.alloc, self.stream.scripts(), &job)? {
+        if self.stream.scripts().is_same(&job) {
             return Ok(self.with_job(job));
         }
         Book::new(self.alloc, job)

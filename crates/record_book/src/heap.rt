@@ -5,9 +5,9 @@ ghost use Rattle.record_book.specs.HeapPlaces.{Place, address_of, class_of};
 ghost use Rattle.record_book.specs.HeapState.{AreOf, FreesBlock, HasSpace, IsHeap, IsSameHeap, PutsBlock, TakesNext, entry_at, has_place};
 
 use crate::free_places::FreePlaces;
+use crate::live_blocks::{LiveBlocks, LiveEntry};
 use hp_num::NoMemory;
 use std::alloc::Global;
-use std::collections::HashMap;
 
 /// The address of the first place.
 const FIRST_ADDRESS: u64 = 0x10000;
@@ -15,17 +15,10 @@ const FIRST_ADDRESS: u64 = 0x10000;
 /// What the size of a place is a multiple of, in bytes.
 const ALIGNMENT: u64 = 16;
 
-/// Where a live block lies: the address of its place, and the place's class.
-#[derive(Clone, Copy)]
-pub struct LiveEntry {
-    pub address: u64,
-    pub class: u64,
-}
-
 /// The live blocks by thread and ID, the places without a block, and the address behind all places.
 #[derive(Drop)]
 pub struct Heap {
-    live: HashMap<(u32, u64), LiveEntry>,
+    live: LiveBlocks,
     free: FreePlaces,
     end: u64,
 }
@@ -40,23 +33,25 @@ pub fn class_of(size: u64) -> u64
 }
 
 impl Heap {
-    /// No places. It takes no memory.
-    pub fn new(alloc: Global) -> Self
-        ensures empty { IsHeap result [] }
-        ensures end { result.end ≡ 65536 }
+    /// No places, for the blocks of so many threads.
+    pub fn new(alloc: Global, threads: u32) -> Result<Heap, NoMemory>
+        requires { threads ≤ 64 }
+        ensures empty { IfOk result (λ heap. IsHeap heap []) }
+        ensures end { IfOk result (λ heap. heap.end ≡ 65536) }
     {
-        Heap {
-            live: HashMap::new(alloc),
+        let live = LiveBlocks::new(alloc, threads)?;
+        Ok(Heap {
+            live,
             free: FreePlaces::new(alloc),
             end: FIRST_ADDRESS,
-        }
+        })
     }
 
     /// Where the live block of a thread's ID lies, if there is one.
     pub fn entry(&self, thread: u32, id: u64) -> Option<LiveEntry>
         ensures entry { result ≡ entry_at self.now thread id }
     {
-        self.live.get(&(thread, id)).copied()
+        self.live.get(thread, id)
     }
 
     /// Puts a block of at most 2^32 bytes under a thread's ID, at the next address of its class, and answers that. The live
@@ -75,12 +70,11 @@ impl Heap {
         ensures same { OnErr result (IsSameHeap self.old self.new) }
         ensures end { self.new.end ≤ self.old.end + 2 ^ 33 }
     {
-        self.live.reserve(1)?;
+        self.live.reserve()?;
         self.free_place(left)?;
         let class = class_of(size);
         let address = self.take_address(class);
-        self.live
-            .insert((thread, id), LiveEntry { address, class })?;
+        self.live.insert(thread, id, LiveEntry { address, class })?;
         Ok(address)
     }
 
@@ -92,14 +86,14 @@ impl Heap {
         ensures same { OnErr result (IsSameHeap self.old self.new) }
         ensures end { self.new.end ≡ self.old.end }
     {
-        self.live.reserve(1)?;
-        let Some(left) = self.live.remove(&(thread, id)) else {
+        self.live.reserve()?;
+        let Some(left) = self.live.remove(thread, id) else {
             return Ok(0);
         };
         match self.free.insert(left.class, left.address) {
             Ok(()) => Ok(left.address),
             Err(wanting) => {
-                self.live.insert((thread, id), left)?;
+                self.live.insert(thread, id, left)?;
                 Err(wanting)
             }
         }

@@ -30,10 +30,9 @@
 //! | `trace.rt` | appends the lines of a turn, and takes them back where memory is wanting halfway |
 //! | `node_lines.rt` | interns a stack from the outermost pointer on, and writes each new node |
 //! | `turn_stack.rt`, `node_map.rt` | a turn's stack, by its node or by its pointers; the nodes of the trace by those of the scripts |
-//! | `heap.rt` | where blocks lie |
+//! | `heap.rt`, `live_blocks.rt` | where blocks lie; the live ones by thread and ID |
 //! | `free_places.rt`, `free_addresses.rt` | the places without a block: those of a class in a heap each |
 //! | `tally.rt`, `summary.rt` | the figures of turns that are taken one after another; the six lines |
-//! | `same_scripts.rt` | whether two jobs are the same, turn by turn |
 //! | `spelling.rt` | the laws on the order that bytes spell |
 #![tactic(auto)]
 
@@ -41,9 +40,9 @@ mod book;
 mod free_addresses;
 mod free_places;
 mod heap;
+mod live_blocks;
 mod node_lines;
 mod node_map;
-mod same_scripts;
 mod spelling;
 mod summary;
 mod tally;

@@ -12,7 +12,8 @@ ghost use Rattle.record_book.specs.RecordedTrace.{line_of, switch_text, thread_l
 ghost use Rattle.record_book.specs.TakenTurn.{AddsTurn, CanTake, HasRoom, IsUndone, PutsTurn, TakesTurn, turn_of};
 ghost use Rattle.record_book.specs.TraceState.{IsTrace};
 
-use crate::heap::{Heap, LiveEntry, address};
+use crate::heap::{Heap, address};
+use crate::live_blocks::LiveEntry;
 use crate::node_lines::put_stack;
 use crate::turn_stack::TurnStack;
 use hp_num::{LONGEST_NUMBER_LINE, NoMemory, put_bytes, put_dec, put_number_line};
@@ -30,19 +31,21 @@ pub struct Trace {
 }
 
 impl Trace {
-    /// The trace without events, behind the lines of modules.
-    pub fn new(alloc: Global, modules: &[u8]) -> Result<Trace, NoMemory>
+    /// The trace of so many threads without events, behind the lines of modules.
+    pub fn new(alloc: Global, modules: &[u8], threads: u32) -> Result<Trace, NoMemory>
+        requires { threads ≤ 64 }
         ensures new { IfOk result (λ trace. IsTrace [] trace modules.now []) }
         ensures no_nodes { IfOk result (λ trace. length trace.nodes ≡ 0) }
         ensures end { IfOk result (λ trace. trace.heap.end ≡ 65536) }
     {
+        let heap = Heap::new(alloc, threads)?;
         let mut text = Vec::new(alloc);
         put_bytes(&mut text, b"v 10500 2\nX heaprec\n")?;
         put_bytes(&mut text, modules)?;
         Ok(Trace {
             text,
             nodes: Nodes::new(alloc),
-            heap: Heap::new(alloc),
+            heap,
             last: None,
         })
     }

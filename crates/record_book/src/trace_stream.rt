@@ -3,9 +3,10 @@ ghost use Rattle.std.specs.Prelude.{◌≡◌, ◌≢◌, ℕ, ◌+◌, ◌<◌,
 ghost use Rattle.std.specs.Arc.{arc_value};
 ghost use Rattle.stack_table.specs.Node.{Node};
 ghost use Rattle.record_scripts.specs.Events.{event_count};
+ghost use Rattle.record_scripts.specs.Job.{IsSameWork};
 ghost use Rattle.record_scripts.specs.ScriptTurns.{turn_said};
 ghost use Rattle.record_book.specs.Actions.{actions};
-ghost use Rattle.record_book.specs.BookState.{IsSameWork, IsStep, entries_of};
+ghost use Rattle.record_book.specs.BookState.{IsStep, entries_of};
 ghost use Rattle.record_book.specs.HeapPlaces.{AreApart, live_blocks, places_after};
 ghost use Rattle.record_book.specs.Orders.{IsInterleaving, IsUnder};
 ghost use Rattle.record_book.specs.MappedNodes.{IsKnown, ips_of};
@@ -61,7 +62,7 @@ impl TraceStream {
     {
         let done = vec![in alloc; 0; job.threads() as usize]?;
         let nodes = NodeMap::new(alloc, &job)?;
-        let trace = Trace::new(alloc, job.modules())?;
+        let trace = Trace::new(alloc, job.modules(), job.threads())?;
         Ok(TraceStream {
             job,
             done,

@@ -1,5 +1,5 @@
 -- Scripts as they are kept: one turn more in the last of them, and more nodes.
-use Rattle.std.proofs.Common.{◌≡◌, ℕ, zero, suc, ◌+◌, ◌<◌, ◌≤◌, List, [], ◌∷◌, ◌++◌, length, get_or, map, Some, refl, sym, ap, ap₂, ◌∙◌, subst, arith}
+use Rattle.std.proofs.Common.{◌≡◌, ℕ, zero, suc, ◌+◌, ◌<◌, ◌≤◌, List, [], ◌∷◌, ◌++◌, length, map, Some, refl, sym, ap, ap₂, ◌∙◌, subst, arith}
 use Rattle.std.specs.Prelude.{slice_get, slice_set, vec_capacity, vec_len, Result, Ok, Err, OnErr}
 use Rattle.std.specs.List.{AllByRecursion}
 use Rattle.std.proofs.lemmas.List.{map-append}
@@ -87,13 +87,3 @@ held-grown count more within (script ∷ scripts) held = (turns-held count more 
 pub on-err : {X E : Type 0} (r : Result X E) (P : Type 0) → P → OnErr r P
 on-err (Ok x) P p = tt
 on-err (Err e) P p = p
-
--- a script by its place
-pub kept-get : (nodes : List Node) (scripts : List Script) (k : ℕ) (default : Script)
-    → k < length scripts
-    → slice_get (scripts_kept nodes scripts) k
-    ≡ Some (script_kept nodes (get_or scripts k default))
-kept-get nodes [] k default within = absurd (omega (arith, within))
-kept-get nodes (script ∷ scripts) zero default within = refl
-kept-get nodes (script ∷ scripts) (suc k) default within =
-    kept-get nodes scripts k default (omega (arith, within))

@@ -1,9 +1,13 @@
 mod KeptLemmas
+mod KnownLemmas
+mod LiveLemmas
 mod ModuleLemmas
 mod ModuleLength
 mod NodeLemmas
 mod NumberLemmas
 mod ScriptNodeLemmas
 mod SameLemmas
+mod StackNumbers
+mod SameTurns
 mod TableLemmas
 mod TurnLemmas

@@ -11,7 +11,6 @@ use Rattle.std.proofs.Math.Nat.{pow-le-pow_right}
 use Rattle.std.proofs.Math.Seq.{drop-cons}
 use Rattle.std.specs.Char.{digit_value, is_digit}
 use Rattle.std.specs.Str.Parse.{AllDigits, digits_value}
-use Rattle.hp_num.specs.ParsedHex.{parsed_hex}
 use Rattle.hp_num.proofs.Laws.{parsed_digits}
 use Rattle.ht_lines.specs.Fields.{field_ends, fields, is_blank, number, numbers}
 use Rattle.record_scripts.specs.NumberAtFront.{BeginsWithDigits, BeginsWithNumber}

@@ -1,6 +1,6 @@
 -- Lists that are the same place by place, and nodes that are.
-use Rattle.std.proofs.Common.{◌≡◌, ℕ, suc, ◌+◌, ◌<◌, ◌≤◌, ◌⊎◌, inl, inr, List, [], ◌∷◌, length, refl, ap₂, subst, arith}
-use Rattle.std.specs.Prelude.{slice_get}
+use Rattle.std.proofs.Common.{◌≡◌, ℕ, zero, suc, ◌+◌, ◌<◌, ◌≤◌, ◌⊎◌, inl, inr, true, false, IsTrue, List, [], ◌∷◌, length, get_or, map, Some, refl, sym, ap₂, subst, arith, true≢false}
+use Rattle.std.specs.Prelude.{◌↔◌, slice_get}
 use Rattle.std.proofs.lemmas.Bool.{cases_lt}
 use Rattle.std.proofs.lemmas.Option.{same_Some}
 
@@ -25,3 +25,17 @@ same-next xs ys place before here k within = by (cases_lt k place)
     by (inr last) =
         let same : place ≡ k = omega (arith, within, last) in
         subst (λ (n : ℕ). slice_get xs n ≡ slice_get ys n) same here
+
+-- an element of a list that a function gave
+pub map-at : {X Y : Type 0} (f : X → Y) (xs : List X) (k : ℕ) (default : X) → k < length xs
+    → slice_get (map f xs) k ≡ Some (f (get_or xs k default))
+map-at f [] k default within = absurd (omega (arith, within))
+map-at f (x ∷ xs) zero default within = refl
+map-at f (x ∷ xs) (suc k) default within = map-at f xs k default (omega (arith, within))
+
+-- an answer that a fact decides
+pub answers-true : (P : Type 0) → P → IsTrue true ↔ P
+answers-true P holds = (λ _. holds, λ _. refl)
+
+pub answers-false : (P : Type 0) → (P → ⊥) → IsTrue false ↔ P
+answers-false P never = (λ is. absurd (true≢false (sym is)), λ holds. absurd (never holds))

@@ -1,4 +1,5 @@
--- The events of scripts.
+-- The events of scripts. The events of a turn are its allocation, its free, or its free and then
+-- its allocation.
 use Rattle.std.specs.Prelude.{ℕ, Bool, true, false, List, [], ◌∷◌, length, flat_map, sum_by}
 use Rattle.record_scripts.specs.Turns.{Turn, allocates, frees, reallocates}
 

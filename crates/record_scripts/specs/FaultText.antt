@@ -1,4 +1,4 @@
--- What the faults of a line are called.
+-- What the faults of a line of a script or of a modules file are called.
 use Rattle.std.specs.Prelude.{ℕ, List, codes}
 use Rattle.record_scripts.specs.declared.fault.ScriptFault.{ScriptFault}
 use Rattle.record_scripts.specs.declared.fault.ScriptFault.TheVariants.{BadScriptLine, BlockLive, BlockNotLive, TooManyEvents, NoMemory}

@@ -12,3 +12,5 @@ pub mod FaultText
 pub mod ScriptNodes
 pub mod KeptTurn
 pub mod ScriptTurns
+pub mod KnownText
+pub mod LiveIds

@@ -1,4 +1,5 @@
--- The text of modules, as scripts keep it: whole lines about modules.
+-- A text is whole lines about modules where it is the written forms of such lines one after
+-- another, each with its line feed; no name in them has one, and each can be read again.
 use Rattle.std.specs.Prelude.{◌≡◌, ◌<◌, ◌^◌, ℕ, true, List, [], ◌∷◌, ◌++◌, length}
 use Rattle.std.specs.List.{AllByRecursion}
 use Rattle.ht_lines.specs.Content.{Content}

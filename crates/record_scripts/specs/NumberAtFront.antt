@@ -1,4 +1,5 @@
--- The number of a text in the form in which it is mostly written: one blank, and digits up to a blank or the end.
+-- A number stands at the front as it is mostly written: one blank, and 1 to 16 digits up to a blank
+-- or the end.
 use Rattle.std.specs.Prelude.{◌≡◌, ℕ, ◌<◌, ◌≤◌, List, ◌∷◌, ◌++◌, length, take, drop, Some, IsTrue}
 use Rattle.std.specs.Str.Parse.{AllDigits, digits_value}
 use Rattle.hp_num.specs.ParsedHex.{parsed_hex}

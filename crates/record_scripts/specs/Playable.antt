@@ -1,4 +1,7 @@
--- Which scripts threads can take: what lines without a fault say, one after another.
+-- Which scripts threads can take: what lines without a fault say, one after another. A turn follows
+-- those before it where the block of an allocation isn't live, that of a free or a reallocation is,
+-- and its pointers fit 64 bits. At most 64 scripts of fewer than 2^24 events are playable where
+-- each turn follows those before it and is within its bounds.
 use Rattle.std.specs.Prelude.{◌≡◌, ◌^◌, ◌<◌, ◌≤◌, true, false, List, [], ◌∷◌, length, reverse}
 use Rattle.std.specs.List.{AllByRecursion}
 use Rattle.ht_lines.specs.Written.{AreWords}

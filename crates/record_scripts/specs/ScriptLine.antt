@@ -1,4 +1,5 @@
--- What a line of a script says.
+-- A line of a script says a turn: `a` or `r`, an ID, a size of at most 2^32 and at most 256
+-- pointers other than 0; or `f` and an ID.
 use Rattle.std.specs.Prelude.{ℕ, ◌^◌, Bool, ◌==◌, ◌&&◌, if◌then◌else◌, List, [], ◌∷◌, length, map, nat_le, nat_lt, Option, None, Some, option_map}
 use Rattle.std.specs.List.{list_all}
 use Rattle.hp_num.specs.ParsedHex.{parsed_hex}
@@ -20,6 +21,10 @@ abbrev pub sized_of : List (List ℕ) → Option (ℕ × ℕ × List ℕ)
 sized_of [] = None
 sized_of (id ∷ []) = None
 sized_of (id ∷ size ∷ ips) = sized_from (parsed_hex id) (parsed_hex size) (map number ips)
+
+-- a block with these numbers, where they are ips
+abbrev pub block_read : ℕ → ℕ → List ℕ → Option (ℕ × ℕ × List ℕ)
+block_read id size ips = if are_ips ips then Some (id, size, ips) else None
 
 -- a block of at most 2^32 bytes, with the ips that allocate it
 abbrev pub block_from : Option (ℕ × ℕ × List ℕ) → Option (ℕ × ℕ × List ℕ)

@@ -1,4 +1,4 @@
--- The nodes of the stacks of scripts.
+-- The nodes of scripts are those of the stacks of their turns, each where it is called for first.
 use Rattle.std.specs.Prelude.{List, [], ◌∷◌}
 use Rattle.stack_table.specs.Interned.{stack_interned}
 use Rattle.stack_table.specs.Node.{Node}

@@ -1,5 +1,6 @@
--- How scripts are kept: each turn with the node of its stack.
-use Rattle.std.specs.Prelude.{◌≡◌, ℕ, ◌+◌, ◌*◌, ◌^◌, ◌<◌, ◌≤◌, Bool, List, [], ◌∷◌, length, map, reverse, vec_capacity, vec_len, Result, IfOk, OnOk, OnErr}
+-- How scripts are kept: each turn with the node of its stack, its ID and its size in two parts
+-- each. Turns are numbered where that number stands in the place of the stack.
+use Rattle.std.specs.Prelude.{◌≡◌, ℕ, ◌+◌, ◌*◌, ◌^◌, ◌<◌, ◌≤◌, Bool, if◌then◌else◌, Option, None, Some, List, [], ◌∷◌, length, map, reverse, vec_capacity, vec_len, Result, IfOk, OnOk, OnErr}
 use Rattle.std.specs.List.{AllByRecursion}
 use Rattle.stack_table.specs.Node.{Node}
 use Rattle.stack_table.specs.Continues.{Continues}
@@ -14,6 +15,7 @@ use Rattle.record_scripts.specs.Events.{event_count}
 use Rattle.record_scripts.specs.Job.{in_last, last_script}
 use Rattle.record_scripts.specs.KeptTurn.{line_kept}
 use Rattle.record_scripts.specs.Playable.{IsInTurn}
+use Rattle.record_scripts.specs.ScriptLine.{are_ips}
 use Rattle.record_scripts.specs.ScriptNodes.{nodes_in}
 
 -- the turn that a line says with these ips
@@ -21,6 +23,16 @@ abbrev pub turn_said : ScriptLine → List ℕ → Turn
 turn_said (AllocationLine id size) ips = allocates id size ips
 turn_said (FreeLine id) ips = frees id
 turn_said (ReallocationLine id size) ips = reallocates id size ips
+
+-- a turn with these numbers, where they are ips
+abbrev pub stack_turn : List ℕ → Turn → Option Turn
+stack_turn ips turn = if are_ips ips then Some turn else None
+
+-- the turn that a line says with these numbers: the fields of an allocation or a reallocation have to be ips
+abbrev pub turn_read : ScriptLine → List ℕ → Option Turn
+turn_read (AllocationLine id size) ips = stack_turn ips (allocates id size ips)
+turn_read (FreeLine id) ips = Some (frees id)
+turn_read (ReallocationLine id size) ips = stack_turn ips (reallocates id size ips)
 
 -- the turn that an entry keeps
 abbrev pub turn_kept : List Node → TurnEntry → Turn
@@ -32,6 +44,16 @@ script_kept nodes script = map (turn_kept nodes) script.turns.items
 
 abbrev pub scripts_kept : List Node → List Script → List (List Turn)
 scripts_kept nodes scripts = map (script_kept nodes) scripts
+
+-- the same with the number of a turn's node in the place of its stack, which counts for nothing where the turn has none
+abbrev pub turn_numbered : TurnEntry → Turn
+turn_numbered entry = turn_said (line_kept entry) (entry.node ∷ [])
+
+abbrev pub script_numbered : Script → List Turn
+script_numbered script = map turn_numbered script.turns.items
+
+abbrev pub scripts_numbered : List Script → List (List Turn)
+scripts_numbered scripts = map script_numbered scripts
 
 -- the node of the turn is one of the first `count`, or none
 abbrev pub IsHeld : ℕ → TurnEntry → Type 0

@@ -1,4 +1,4 @@
--- Lines that say nothing.
+-- Empty lines and lines that begin with `#` say nothing.
 use Rattle.std.specs.Prelude.{ℕ, Bool, true, ◌==◌, List, [], ◌∷◌}
 
 -- the line is empty, or begins with `#`

@@ -1,8 +1,8 @@
 //! The script of one thread, and its next turn. What its lines say is no part of it.
-ghost use Rattle.std.specs.Prelude.{◌≡◌, ℕ, ◌<◌, ◌≤◌, List, length, IsTrue, IfSome, IsOk, OnOk, OnErr, option_map, slice_get};
+ghost use Rattle.std.specs.Prelude.{◌≡◌, ℕ, ◌<◌, ◌≤◌, ◌↔◌, List, length, map, IsTrue, IfSome, IsOk, OnOk, OnErr, option_map, slice_get};
 ghost use Rattle.stack_table.specs.Node.{Node};
 ghost use Rattle.record_scripts.specs.Turns.{script_at};
-ghost use Rattle.record_scripts.specs.ScriptTurns.{AreHeld, HasRoom, IsHeld, PushesTurn, scripts_kept, turn_kept};
+ghost use Rattle.record_scripts.specs.ScriptTurns.{AreHeld, HasRoom, IsHeld, PushesTurn, scripts_kept, scripts_numbered, turn_kept, turn_numbered};
 
 use crate::turn_entry::TurnEntry;
 use hp_num::NoMemory;
@@ -60,8 +60,7 @@ pub fn turn_at(scripts: &[Script], thread: u32, place: u32) -> Option<TurnEntry>
 
 /// Whether the turns of all threads are kept in the same way.
 pub fn are_kept_as(scripts: &[Script], others: &[Script]) -> bool
-    ensures { IsTrue result
-        → (nodes : List Node) → scripts_kept nodes scripts.now ≡ scripts_kept nodes others.now }
+    ensures { IsTrue result ↔ (scripts_numbered scripts.now ≡ scripts_numbered others.now) }
 {
     if scripts.len() != others.len() {
         return false;
@@ -76,7 +75,7 @@ pub fn are_kept_as(scripts: &[Script], others: &[Script]) -> bool
 
 // Whether turns are kept in the same way.
 fn are_same_turns(turns: &[TurnEntry], others: &[TurnEntry]) -> bool
-    ensures { IsTrue result → turns.now ≡ others.now }
+    ensures { IsTrue result ↔ (map turn_numbered turns.now ≡ map turn_numbered others.now) }
 {
     if turns.len() != others.len() {
         return false;

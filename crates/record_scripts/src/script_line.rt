@@ -1,9 +1,9 @@
 //! One line of a script, by itself. Which blocks are live, and how many events there are, is no part of it.
-ghost use Rattle.std.specs.Prelude.{◌≡◌, ◌≢◌, ◌^◌, ◌≤◌, true, false, [], length, None, Some, IfErr, IfOk, OnOk, option_map};
+ghost use Rattle.std.specs.Prelude.{◌≡◌, ◌≢◌, ◌^◌, ◌≤◌, true, false, [], None, IfErr, IfNone, IfSome, OnOk, option_map};
 ghost use Rattle.ht_lines.specs.Fields.{field_ends, fields, numbers};
 ghost use Rattle.record_scripts.specs.Skipped.{is_skipped};
-ghost use Rattle.record_scripts.specs.ScriptLine.{are_ips, block_of, free_of, sized_of, turn_in, turn_of};
-ghost use Rattle.record_scripts.specs.ScriptTurns.{turn_said};
+ghost use Rattle.record_scripts.specs.ScriptLine.{are_ips, block_of, block_read, free_of, sized_of, turn_in, turn_of};
+ghost use Rattle.record_scripts.specs.ScriptTurns.{turn_read, turn_said};
 ghost use Rattle.record_scripts.specs.Turns.{IsBounded};
 
 use crate::fault::ScriptFault;
@@ -44,52 +44,45 @@ pub fn is_skipped(line: &[u8]) -> bool
     }
 }
 
-/// What a line says that is neither empty nor a comment, with its ips in `ips` in the place of what that held.
-///
-/// - `BadScriptLine` exactly where it is no line of a script;
-/// - `NoMemory` only where memory for the ips is wanting.
-pub fn read_script_line(line: &[u8], ips: &mut Vec<u64>) -> Result<ScriptLine, ScriptFault>
-    ensures said { IfOk result (λ said. turn_in line.now ≡ Some (turn_said said ips.new.items)) }
-    ensures bounded { IfOk result (λ said. IsBounded (turn_said said ips.new.items)) }
-    ensures fault { IfErr result
-        (λ fault. fault ≢ ScriptFault.NoMemory
-        → (fault ≡ ScriptFault.BadScriptLine) × (turn_in line.now ≡ None)) }
+/// What a line says that is neither empty nor a comment, and the text of its ips, which are still to be read; a free has none.
+/// `None` exactly where no ips make it a line of a script.
+pub fn read_script_line(line: &[u8]) -> Option<(ScriptLine, &[u8])>
+    ensures said { IfSome result
+        (λ found. turn_in line.now ≡ turn_read found.0 (numbers found.1.now)) }
+    ensures bounded { IfSome result (λ found. IsBounded (turn_said found.0 [])) }
+    ensures none { IfNone result (turn_in line.now ≡ None) }
 {
-    ips.clear();
     let [kind, rest @ ..] = line else {
-        return Err(ScriptFault::BadScriptLine);
+        return None;
     };
     if !ends_kind(rest) {
-        return Err(ScriptFault::BadScriptLine);
+        return None;
     }
-    read_turn(*kind, rest, ips)
+    read_turn(*kind, rest)
 }
 
-// What a line of a kind says; its ips are appended to `ips`, which is empty.
+// What a line of a kind says, and the text of its ips.
 #[tactic(auto, unfolding(crate::specs::ScriptLine::turn_of))]
-fn read_turn(kind: u8, rest: &[u8], ips: &mut Vec<u64>) -> Result<ScriptLine, ScriptFault>
-    requires { ips.old.items ≡ [] }
-    ensures said { IfOk result
-        (λ said. turn_of kind (fields rest.now) ≡ Some (turn_said said ips.new.items)) }
-    ensures bounded { IfOk result (λ said. IsBounded (turn_said said ips.new.items)) }
-    ensures fault { IfErr result
-        (λ fault. fault ≢ ScriptFault.NoMemory
-        → (fault ≡ ScriptFault.BadScriptLine) × (turn_of kind (fields rest.now) ≡ None)) }
+fn read_turn(kind: u8, rest: &[u8]) -> Option<(ScriptLine, &[u8])>
+    ensures said { IfSome result
+        (λ found. turn_of kind (fields rest.now) ≡ turn_read found.0 (numbers found.1.now)) }
+    ensures bounded { IfSome result (λ found. IsBounded (turn_said found.0 [])) }
+    ensures none { IfNone result (turn_of kind (fields rest.now) ≡ None) }
 {
     match kind {
-        b'a' => match read_block(rest, ips) {
-            Ok(Block { id, size }) => Ok(ScriptLine::Allocation { id, size }),
-            Err(fault) => Err(fault),
+        b'a' => match read_block(rest) {
+            Some((Block { id, size }, ips)) => Some((ScriptLine::Allocation { id, size }, ips)),
+            None => None,
         },
-        b'r' => match read_block(rest, ips) {
-            Ok(Block { id, size }) => Ok(ScriptLine::Reallocation { id, size }),
-            Err(fault) => Err(fault),
+        b'r' => match read_block(rest) {
+            Some((Block { id, size }, ips)) => Some((ScriptLine::Reallocation { id, size }, ips)),
+            None => None,
         },
         b'f' => match read_free(rest) {
-            Some(id) => Ok(ScriptLine::Free { id }),
-            None => Err(ScriptFault::BadScriptLine),
+            Some(id) => Some((ScriptLine::Free { id }, &[])),
+            None => None,
         },
-        _ => Err(ScriptFault::BadScriptLine),
+        _ => None,
     }
 }
 
@@ -117,25 +110,18 @@ fn read_free(rest: &[u8]) -> Option<u64>
     }
 }
 
-// The block that a line allocates; its ips are appended to `ips`, which is empty.
-fn read_block(rest: &[u8], ips: &mut Vec<u64>) -> Result<Block, ScriptFault>
-    requires { ips.old.items ≡ [] }
-    ensures said { IfOk result
-        (λ block. block_of (fields rest.now) ≡ Some (block.id, block.size, ips.new.items)) }
-    ensures few_bytes { IfOk result (λ block. block.size ≤ 2 ^ 32) }
-    ensures few_ips { OnOk result (length ips.new.items ≤ 256) }
-    ensures fault { IfErr result
-        (λ fault. fault ≢ ScriptFault.NoMemory
-        → (fault ≡ ScriptFault.BadScriptLine) × (block_of (fields rest.now) ≡ None)) }
+// The block that a line allocates, and the text of its ips.
+fn read_block(rest: &[u8]) -> Option<(Block, &[u8])>
+    ensures said { IfSome result (λ found. block_of (fields rest.now)
+        ≡ block_read found.0.id found.0.size (numbers found.1.now)) }
+    ensures few_bytes { IfSome result (λ found. found.0.size ≤ 2 ^ 32) }
+    ensures none { IfNone result (block_of (fields rest.now) ≡ None) }
 {
-    let Some((block, stack)) = read_size(rest) else {
-        return Err(ScriptFault::BadScriptLine);
-    };
+    let (block, ips) = read_size(rest)?;
     if block.size > MAX_SIZE {
-        return Err(ScriptFault::BadScriptLine);
+        return None;
     }
-    read_ips(stack, ips)?;
-    Ok(block)
+    Some((block, ips))
 }
 
 // The ID and the size of a block, and what follows them; 0 is looked at again, as in `read_free`.
@@ -154,16 +140,18 @@ fn read_size(rest: &[u8]) -> Option<(Block, &[u8])>
     Some((Block { id, size }, stack))
 }
 
-// Appends the ips of a stack to `ips`, which is empty.
-fn read_ips(stack: &[u8], ips: &mut Vec<u64>) -> Result<(), ScriptFault>
-    requires { ips.old.items ≡ [] }
+/// Reads the ips of a stack into `ips`, in the place of what that held.
+///
+/// - `BadScriptLine` exactly where a field is no number or 0, or there are more than 256;
+/// - `NoMemory` only where memory is wanting.
+pub fn read_ips(stack: &[u8], ips: &mut Vec<u64>) -> Result<(), ScriptFault>
     ensures said { OnOk result (ips.new.items ≡ numbers stack.now) }
-    ensures few { OnOk result (length ips.new.items ≤ 256) }
     ensures are_ips { OnOk result (are_ips (numbers stack.now) ≡ true) }
     ensures fault { IfErr result
         (λ fault. fault ≢ ScriptFault.NoMemory
         → (fault ≡ ScriptFault.BadScriptLine) × (are_ips (numbers stack.now) ≡ false)) }
 {
+    ips.clear();
     let mut rest = stack;
     'ips: while let Some((ip, after)) = first_number(rest) {
         if ip == 0 || ips.len() == MAX_IPS {

@@ -1,29 +1,29 @@
 //! The scripts of all threads, and the modules, by the lines of their files. The order in which the threads take their
 //! turns is no part of it.
-ghost use Rattle.std.specs.Prelude.{◌≡◌, ℕ, ◌-◌, ◌^◌, ◌<◌, ◌≤◌, List, [], ◌∷◌, ◌++◌, length, None, Some, IsTrue, IfErr, IfOk, IfSome, OnOk, OnErr, option_map, slice_get};
+ghost use Rattle.std.specs.Prelude.{◌≡◌, ℕ, ◌-◌, ◌^◌, ◌<◌, ◌≤◌, ◌↔◌, List, [], ◌∷◌, ◌++◌, length, None, Some, IsTrue, IfErr, IfOk, IfSome, OnOk, OnErr, option_map, slice_get};
 ghost use Rattle.std.specs.Arc.{arc_value};
+ghost use Rattle.ht_lines.specs.Fields.{numbers};
 ghost use Rattle.stack_table.specs.Stack.{stack};
 ghost use Rattle.record_scripts.specs.Events.{event_count};
-ghost use Rattle.record_scripts.specs.Job.{Job};
+ghost use Rattle.record_scripts.specs.Job.{IsSameWork, Job};
 ghost use Rattle.record_scripts.specs.Playable.{IsPlayable};
 ghost use Rattle.record_scripts.specs.ModuleLines.{AreModuleLines};
 ghost use Rattle.record_scripts.specs.ScriptFaults.{JudgesTurn, Tells, line_fault, module_fault, turn_fault, with_line, with_module_line, with_turn};
 ghost use Rattle.record_scripts.specs.ScriptNodes.{nodes_in};
-ghost use Rattle.record_scripts.specs.ScriptTurns.{turn_said};
-ghost use Rattle.record_scripts.specs.Turns.{IsBounded, allocates, frees, reallocates, script_at};
+ghost use Rattle.record_scripts.specs.ScriptTurns.{turn_read, turn_said};
+ghost use Rattle.record_scripts.specs.Turns.{IsBounded, frees, script_at};
+ghost use Rattle.record_scripts.specs.declared.script_line.ScriptLine.TheVariants.{Allocation as AllocationLine, Reallocation as ReallocationLine};
 
 use crate::fault::ScriptFault;
+use crate::live_ids::LiveIds;
 use crate::module_text::ModuleText;
 use crate::script::{Script, are_kept_as, push_turn, reserve_turn, turn_at};
 use crate::script_line::{ScriptLine, is_skipped, read_script_line};
-use crate::stacks::{are_same_nodes, intern};
+use crate::stacks::{Stacks, are_same_nodes};
 use crate::turn_entry::TurnEntry;
 use hp_num::NoMemory;
-use stack_table::Nodes;
 use std::alloc::Global;
-use std::collections::HashSet;
 use std::marker::Model;
-use std::mem;
 use std::sync::Arc;
 
 /// The scripts of all threads, and the modules: they stand for the lines that were read so far.
@@ -34,19 +34,18 @@ pub struct Scripts {
     limit: u64,
     events: u64,
     modules: ModuleText,
-    nodes: Nodes,
+    stacks: Stacks,
     scripts: Vec<Script>,
     // The IDs that are live in the last script.
-    live: HashSet<u64>,
+    live: LiveIds,
     // The ips of a line that is read.
     ips: Vec<u64>,
     alloc: Global,
 }
 
 impl Model for Scripts {
-    ghost use Rattle.std.specs.Prelude.{nat_eq};
-    ghost use Rattle.std.specs.HashSet.{contains};
     ghost use Rattle.record_scripts.specs.Job.{Job};
+    ghost use Rattle.record_scripts.specs.LiveIds.{has_id};
     ghost use Rattle.record_scripts.specs.ScriptTurns.{AreScripts, scripts_kept};
 
     ghost Value = { Job };
@@ -54,11 +53,11 @@ impl Model for Scripts {
     ghost view = { λ t. record {
       limit = t.limit;
       modules = t.modules;
-      scripts = scripts_kept t.nodes t.scripts.items;
+      scripts = scripts_kept t.stacks t.scripts.items;
     } };
 
     ghost invariant = { λ t.
-        AreScripts t.nodes t.scripts.items (contains nat_eq t.live) t.events t.limit };
+        AreScripts t.stacks t.scripts.items (has_id t.live) t.events t.limit };
 }
 
 impl Scripts {
@@ -73,9 +72,9 @@ impl Scripts {
             limit: order,
             events: 0,
             modules: ModuleText::new(alloc),
-            nodes: Nodes::new(alloc),
+            stacks: Stacks::new(alloc),
             scripts: Vec::new(alloc),
-            live: HashSet::new(alloc),
+            live: LiveIds::none(alloc),
             ips: Vec::new(alloc),
             alloc,
         }
@@ -111,11 +110,12 @@ impl Scripts {
         ensures number { IfOk result (λ thread. thread ≡ length self.old.scripts) }
         ensures unchanged { OnErr result (self.new ≡ self.old) }
     {
+        let live = LiveIds::new(self.alloc)?;
         let thread = self.scripts.len() as u32;
         self.scripts.push(Script {
             turns: Vec::new(self.alloc),
         })?;
-        self.live.clear();
+        self.live = live;
         Ok(thread)
     }
 
@@ -142,44 +142,12 @@ impl Scripts {
         if is_skipped(line) {
             return Ok(());
         }
-        let mut ips = mem::replace(&mut self.ips, Vec::new(self.alloc));
-        let said = match read_script_line(line, &mut ips) {
-            Ok(said) => said,
-            Err(fault) => {
-                self.ips = ips;
-                return Err(fault);
-            }
-        };
-        let added = self.add(said, &ips);
-        self.ips = ips;
-        added
-    }
-
-    /// The turn of a thread with the number `place`, counted from 0, or `None` exactly where the thread's script has no such
-    /// turn. The ips of an allocation or a reallocation are in `ips`, in the place of what that held.
-    ///
-    /// The thread's script has to be begun. On `NoMemory` nothing is said of `ips`.
-    pub fn turn_into(
-        &self,
-        thread: u32,
-        place: u32,
-        ips: &mut Vec<u64>,
-    ) -> Result<Option<ScriptLine>, NoMemory>
-        requires { thread < length self.now.scripts }
-        ensures turn { IfOk result
-            (λ said. slice_get (script_at self.now.scripts thread) place
-            ≡ option_map (λ turn. turn_said turn ips.new.items) said) }
-
-        // Its bounds, and that of all events.
-        ensures bounded { IfOk result
-            (λ said. IfSome said (λ turn. IsBounded (turn_said turn ips.new.items))) }
-        ensures few_events { event_count self.now.scripts < 2 ^ 24 }
-    {
-        let Some((line, node)) = self.turn(thread, place) else {
-            return Ok(None);
-        };
-        self.stack_into(node, ips)?;
-        Ok(Some(line))
+        match read_script_line(line) {
+            Some((ScriptLine::Allocation { id, size }, ips)) => self.allocate(id, size, ips),
+            Some((ScriptLine::Free { id }, _)) => self.free(id),
+            Some((ScriptLine::Reallocation { id, size }, ips)) => self.reallocate(id, size, ips),
+            None => Err(ScriptFault::BadScriptLine),
+        }
     }
 
     /// The turn of a thread with the number `place`, counted from 0: what its line says, and the node of its stack. It is `None`
@@ -209,7 +177,7 @@ impl Scripts {
         requires { node ≤ length (nodes_in self.now.scripts) }
         ensures ips { OnOk result (ips.new.items ≡ stack (nodes_in self.now.scripts) node) }
     {
-        self.nodes.stack_into(node, ips)
+        self.stacks.nodes().stack_into(node, ips)
     }
 
     /// How many nodes the stacks of all scripts have, which is the greatest number of a node.
@@ -217,25 +185,20 @@ impl Scripts {
         ensures count { result ≡ length (nodes_in self.now.scripts) }
         ensures bound { result ≤ 2 ^ 32 - 2 }
     {
-        self.nodes.len()
+        self.stacks.nodes().len()
     }
 
-    /// Whether the other scripts are kept in the same way, as those are that come from the same lines. Where they aren't, they
-    /// may be the same still. It takes no memory.
-    pub fn is_kept_as(&self, other: &Scripts) -> bool
-        ensures same { IsTrue result → self.now ≡ other.now }
+    /// Whether the other scripts and modules are the same, however many events there may be. It takes no memory.
+    pub fn is_same(&self, other: &Scripts) -> bool
+        ensures { IsTrue result ↔ IsSameWork self.now other.now }
     {
-        self.limit == other.limit
-            && self.modules() == other.modules()
-            && are_same_nodes(&self.nodes, &other.nodes)
-            && are_kept_as(&self.scripts, &other.scripts)
-    }
-
-    /// How many events all scripts together may have.
-    pub fn limit(&self) -> u64
-        ensures limit { result ≡ self.now.limit }
-    {
-        self.limit
+        if self.modules() != other.modules() {
+            return false;
+        }
+        if !are_same_nodes(self.stacks.nodes(), other.stacks.nodes()) {
+            return false;
+        }
+        are_kept_as(&self.scripts, &other.scripts)
     }
 
     /// How many events all scripts have together.
@@ -271,40 +234,29 @@ impl Scripts {
         Ok(shared)
     }
 
-    // Appends the turn that a line says, with its ips, to the last script.
-    fn add(&mut self, line: ScriptLine, ips: &[u64]) -> Result<(), ScriptFault>
-        requires begun { 0 < length self.old.scripts }
-        requires bounded { IsBounded (turn_said line ips.now) }
-        ensures added { OnOk result
-            (self.new ≡ with_turn self.old (Some (turn_said line ips.now))) }
-        ensures judged { JudgesTurn self.old self.new (Some (turn_said line ips.now)) result }
-    {
-        match line {
-            ScriptLine::Allocation { id, size } => self.allocate(id, size, ips),
-            ScriptLine::Free { id } => self.free(id),
-            ScriptLine::Reallocation { id, size } => self.reallocate(id, size, ips),
-        }
-    }
-
-    // Appends an allocation to the last script.
-    fn allocate(&mut self, id: u64, size: u64, ips: &[u64]) -> Result<(), ScriptFault>
+    // Appends an allocation to the last script, of which the text is that of its ips.
+    fn allocate(&mut self, id: u64, size: u64, text: &[u8]) -> Result<(), ScriptFault>
         requires begun { 0 < length self.old.scripts }
         requires few_bytes { size ≤ 2 ^ 32 }
-        requires few_ips { length ips.now ≤ 256 }
-        ensures added { OnOk result
-            (self.new ≡ with_turn self.old (Some (allocates id size ips.now))) }
-        ensures judged { JudgesTurn self.old self.new (Some (allocates id size ips.now)) result }
+        ensures added { OnOk result (self.new
+            ≡ with_turn self.old (turn_read (AllocationLine id size) (numbers text.now))) }
+        ensures judged { JudgesTurn self.old self.new
+            (turn_read (AllocationLine id size) (numbers text.now)) result }
     {
+        let known = match self.stacks.read(text, &mut self.ips) {
+            Ok(known) => known,
+            Err(fault) => return Err(fault),
+        };
         reserve_turn(&mut self.scripts)?;
         if !self.live.insert(id)? {
             return Err(ScriptFault::BlockLive);
         }
         if self.limit - self.events < 1 {
-            self.live.remove(&id);
+            self.live.remove(id);
             return Err(ScriptFault::TooManyEvents);
         }
-        let Ok(node) = intern(&mut self.nodes, ips) else {
-            self.live.remove(&id);
+        let Ok(node) = self.stacks.intern(text, known, &self.ips) else {
+            self.live.remove(id);
             return Err(ScriptFault::NoMemory);
         };
         let turn = TurnEntry::new(ScriptLine::Allocation { id, size }, node);
@@ -323,7 +275,7 @@ impl Scripts {
             return Err(self.refused_free(id));
         }
         reserve_turn(&mut self.scripts)?;
-        if !self.live.remove(&id) {
+        if !self.live.remove(id) {
             return Err(ScriptFault::BlockNotLive);
         }
         let turn = TurnEntry::new(ScriptLine::Free { id }, 0);
@@ -338,30 +290,34 @@ impl Scripts {
         requires full { self.now.limit ≡ event_count self.now.scripts }
         ensures { turn_fault self.now (Some (frees id)) ≡ Some result }
     {
-        if self.live.contains(&id) {
+        if self.live.contains(id) {
             ScriptFault::TooManyEvents
         } else {
             ScriptFault::BlockNotLive
         }
     }
 
-    // Appends a reallocation to the last script.
-    fn reallocate(&mut self, id: u64, size: u64, ips: &[u64]) -> Result<(), ScriptFault>
+    // Appends a reallocation to the last script, of which the text is that of its ips.
+    fn reallocate(&mut self, id: u64, size: u64, text: &[u8]) -> Result<(), ScriptFault>
         requires begun { 0 < length self.old.scripts }
         requires few_bytes { size ≤ 2 ^ 32 }
-        requires few_ips { length ips.now ≤ 256 }
-        ensures added { OnOk result
-            (self.new ≡ with_turn self.old (Some (reallocates id size ips.now))) }
-        ensures judged { JudgesTurn self.old self.new (Some (reallocates id size ips.now)) result }
+        ensures added { OnOk result (self.new
+            ≡ with_turn self.old (turn_read (ReallocationLine id size) (numbers text.now))) }
+        ensures judged { JudgesTurn self.old self.new
+            (turn_read (ReallocationLine id size) (numbers text.now)) result }
     {
-        if !self.live.contains(&id) {
+        let known = match self.stacks.read(text, &mut self.ips) {
+            Ok(known) => known,
+            Err(fault) => return Err(fault),
+        };
+        if !self.live.contains(id) {
             return Err(ScriptFault::BlockNotLive);
         }
         if self.limit - self.events < 2 {
             return Err(ScriptFault::TooManyEvents);
         }
         reserve_turn(&mut self.scripts)?;
-        let node = intern(&mut self.nodes, ips)?;
+        let node = self.stacks.intern(text, known, &self.ips)?;
         let turn = TurnEntry::new(ScriptLine::Reallocation { id, size }, node);
         push_turn(&mut self.scripts, turn)?;
         self.events += 2;

@@ -1,7 +1,7 @@
 //! The turns of scripts as they are kept. What a turn leaves in a trace is no part of it.
-ghost use Rattle.std.specs.Prelude.{◌≡◌, ℕ, ◌+◌, ◌*◌, ◌^◌, ◌≤◌, [], IsTrue};
+ghost use Rattle.std.specs.Prelude.{◌≡◌, ℕ, ◌+◌, ◌*◌, ◌^◌, ◌≤◌, ◌↔◌, [], IsTrue};
 ghost use Rattle.record_scripts.specs.KeptTurn.{line_kept, wide};
-ghost use Rattle.record_scripts.specs.ScriptTurns.{turn_said};
+ghost use Rattle.record_scripts.specs.ScriptTurns.{turn_numbered, turn_said};
 ghost use Rattle.record_scripts.specs.Turns.{IsBounded};
 
 use crate::script_line::ScriptLine;
@@ -60,16 +60,24 @@ impl TurnEntry {
         }
     }
 
-    /// Whether the other is kept in the same way.
+    /// Whether the other is kept in the same way: it says the same, by the same node.
     pub fn is_kept_as(&self, other: &TurnEntry) -> bool
-        ensures { IsTrue result → self.now ≡ other.now }
+        ensures { IsTrue result ↔ (turn_numbered self.now ≡ turn_numbered other.now) }
     {
-        self.id_low == other.id_low
-            && self.id_high == other.id_high
-            && self.size_low == other.size_low
-            && self.node == other.node
-            && self.size_high == other.size_high
-            && self.kind == other.kind
+        if self.kind != other.kind {
+            return false;
+        }
+        if self.id_low != other.id_low || self.id_high != other.id_high {
+            return false;
+        }
+        match self.kind {
+            TurnKind::Free => true,
+            _ => {
+                self.size_low == other.size_low
+                    && self.size_high == other.size_high
+                    && self.node == other.node
+            }
+        }
     }
 
     // The turn of a kind with these numbers.

@@ -1,4 +1,6 @@
--- What a thread does to an order while it has the lock.
+-- What a thread does to an order while it has the lock. A hold of the lock is at most 64 turns of
+-- one thread. Where more may be left it is 64 of them, and else the thread has taken all turns of
+-- its script.
 use Rattle.std.specs.Prelude.{◌≡◌, ℕ, ◌≤◌, true, false, Bool, List, length}
 use Rattle.record_scripts.specs.Turns.{Turn}
 use Rattle.record_book.specs.Actions.{events_at, times}

@@ -1,5 +1,6 @@
 //! Which workers have ended. What they did is no part of it.
 ghost use Rattle.std.specs.Prelude.{◌≡◌, ◌+◌};
+ghost use Rattle.recorder.specs.Ending.{HaveEnded};
 
 /// That the workers from a number on and below an end have ended, and none of them for want of memory. The last hold of a worker
 /// gives its own, and that of two halves is made of theirs.
@@ -12,8 +13,7 @@ pub struct Ended {
 impl Ended {
     /// That of no worker, in front of the one with this number.
     pub fn none(next: u32) -> Ended
-        ensures first { result.first ≡ next }
-        ensures end { result.end ≡ next }
+        ensures { HaveEnded next next result }
     {
         Ended {
             first: next,
@@ -23,8 +23,7 @@ impl Ended {
 
     /// That of one worker.
     pub fn one(worker: u32) -> Ended
-        ensures first { result.first ≡ worker }
-        ensures end { result.end ≡ worker + 1 }
+        ensures { HaveEnded worker (worker + 1) result }
     {
         Ended {
             first: worker,
@@ -35,8 +34,7 @@ impl Ended {
     /// That of two halves, of which the other begins where this one ends.
     pub fn and(self, other: Ended) -> Ended
         requires { self.end ≡ other.first }
-        ensures first { result.first ≡ self.first }
-        ensures end { result.end ≡ other.end }
+        ensures { HaveEnded self.first other.end result }
     {
         Ended {
             first: self.first,

@@ -13,7 +13,7 @@
 //!   bytes are its trace, and no two live blocks overlap. `close` says so of the book that it gives.
 //! - One hold is at most 64 turns of one thread (`IsHold`, of the private call `take_turns`).
 //! - Want of memory of any worker is told: that workers have ended well is told by their last holds alone (`Ended`), and the
-//!   tree of joins puts together what its halves tell (`first` and `end` of the private call `run_between`).
+//!   tree of joins puts together what its halves tell (`HaveEnded`, of the private call `run_between`).
 //! - What `record_job` answers is a book of the scripts that were handed in, whose order is an interleaving of them,
 //!   whatever the workers did: `finish` takes what they left.
 //!

@@ -4,6 +4,7 @@ ghost use Rattle.record_book.specs.Actions.{actions};
 ghost use Rattle.record_book.specs.BookState.{HasStepped};
 ghost use Rattle.record_book.specs.HeapPlaces.{AreApart, live_blocks, places_after};
 ghost use Rattle.record_book.specs.Orders.{IsUnder};
+ghost use Rattle.recorder.specs.Ending.{HaveEnded};
 ghost use Rattle.recorder.specs.Holds.{IsHold};
 
 use crate::ended::Ended;
@@ -42,8 +43,7 @@ impl Recorder {
 
     /// Takes the lock for one hold of a thread. It was the last where the answer says that the thread's worker has ended.
     pub(crate) fn hold<R: Wait>(&self, rt: &R, thread: u32) -> Result<Option<Ended>, NoMemory>
-        ensures first { IfOk result (λ ended. IfSome ended (λ ended. ended.first ≡ thread)) }
-        ensures end { IfOk result (λ ended. IfSome ended (λ ended. ended.end ≡ thread + 1)) }
+        ensures { IfOk result (λ last. IfSome last (HaveEnded thread (thread + 1))) }
     {
         take_turns(&mut self.book.lock(rt), thread)
     }
@@ -53,10 +53,9 @@ impl Recorder {
 // script. More may be left where it doesn't say that the worker has ended. On `NoMemory` those that were taken stay.
 fn take_turns(book: &mut Book, thread: u32) -> Result<Option<Ended>, NoMemory>
     ensures job { book.new.job ≡ book.old.job }
-    ensures hold { IfOk result (λ ended.
-        IsHold book.old.job.scripts thread book.old.order book.new.order (is_none ended)) }
-    ensures first { IfOk result (λ ended. IfSome ended (λ ended. ended.first ≡ thread)) }
-    ensures end { IfOk result (λ ended. IfSome ended (λ ended. ended.end ≡ thread + 1)) }
+    ensures hold { IfOk result (λ last.
+        IsHold book.old.job.scripts thread book.old.order book.new.order (is_none last)) }
+    ensures ended { IfOk result (λ last. IfSome last (HaveEnded thread (thread + 1))) }
     ensures part { OnErr result
         ((count : ℕ) × (count < 64)
         × HasStepped book.old.job.scripts thread count book.old.order book.new.order) }

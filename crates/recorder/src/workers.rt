@@ -1,6 +1,7 @@
 //! The workers: one for each script, in a tree of joins.
-ghost use Rattle.std.specs.Prelude.{◌≡◌, ◌+◌, ◌≤◌, IfOk};
+ghost use Rattle.std.specs.Prelude.{◌+◌, ◌≤◌, IfOk};
 ghost use Rattle.std.specs.Thread.{IsSync};
+ghost use Rattle.recorder.specs.Ending.{HaveEnded};
 
 use crate::ended::Ended;
 use crate::gate::Gate;
@@ -34,8 +35,7 @@ fn run_between<R: Threads + Wait + Sync, G: Gate + Sync>(
     gate: &G,
 ) -> Result<Ended, NoMemory>
     requires { first ≤ end }
-    ensures first { IfOk result (λ ended. ended.first ≡ first) }
-    ensures end { IfOk result (λ ended. ended.end ≡ end) }
+    ensures { IfOk result (HaveEnded first end) }
 {
     if first >= end {
         return Ok(Ended::none(first));
@@ -49,14 +49,12 @@ fn run_between<R: Threads + Wait + Sync, G: Gate + Sync>(
         || -> Result<Ended, NoMemory>
             requires sync { IsSync R.row }
             requires within { first ≤ middle }
-            ensures first { IfOk result (λ ended. ended.first ≡ first) }
-            ensures end { IfOk result (λ ended. ended.end ≡ middle) }
+            ensures ended { IfOk result (HaveEnded first middle) }
         { run_between(rt, recorder, first, middle, gate) },
         || -> Result<Ended, NoMemory>
             requires sync { IsSync R.row }
             requires within { middle ≤ end }
-            ensures first { IfOk result (λ ended. ended.first ≡ middle) }
-            ensures end { IfOk result (λ ended. ended.end ≡ end) }
+            ensures ended { IfOk result (HaveEnded middle end) }
         { run_between(rt, recorder, middle, end, gate) },
     );
     let left = left?;
@@ -71,8 +69,7 @@ fn work<R: Wait, G: Gate>(
     thread: u32,
     gate: &G,
 ) -> Result<Ended, NoMemory>
-    ensures first { IfOk result (λ ended. ended.first ≡ thread) }
-    ensures end { IfOk result (λ ended. ended.end ≡ thread + 1) }
+    ensures { IfOk result (HaveEnded thread (thread + 1)) }
 {
     let mut hold = 0u64;
     for _ in rt.forever() {

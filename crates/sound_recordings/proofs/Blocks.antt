@@ -6,12 +6,11 @@ use Rattle.interpret.specs.Eventless.{IsEventless}
 use Rattle.interpret.specs.RawBlocks.{RawBlock, held}
 use Rattle.interpret.proofs.Laws.{held-alloc, held-free, held-none}
 use Rattle.record_scripts.specs.Events.{allocation}
-use Rattle.record_book.specs.declared.heap.LiveEntry.{LiveEntry}
+use Rattle.record_book.specs.declared.live_blocks.LiveEntry.{LiveEntry}
 use Rattle.record_book.specs.Figures.{Held, without}
 use Rattle.record_book.specs.HeapPlaces.{Place, address_of, class_of, next_address, places_with, released}
 use Rattle.record_book.specs.HeapState.{AreOnly, entry_in}
-use Rattle.record_book.proofs.Laws.{address-some, entry-allocated, entry-apart, entry-next, entry-released, same}
-use Rattle.sound_recordings.proofs.HeldBlocks.{held-without, held_in}
+use Rattle.record_book.proofs.Laws.{address-some, entry-allocated, entry-apart, entry-next, entry-released, held-without, held_in, same}
 
 -- where a live block lies: its address stands for a raw block of its size, whose node has its stack. Where none lies, there is none
 abbrev pub StandsAt : (ℕ → List ℕ) → List Content → Option LiveEntry → Option Held → Type 0

@@ -2,7 +2,6 @@ mod Said
 mod Readable
 mod Played
 mod Names
-mod HeldBlocks
 mod Blocks
 mod Figures
 mod StackFigures

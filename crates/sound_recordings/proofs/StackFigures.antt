@@ -8,8 +8,8 @@ use Rattle.record_scripts.specs.Events.{allocation, free}
 use Rattle.record_book.specs.Actions.{Action}
 use Rattle.record_book.specs.Figures as own
 use Rattle.record_book.specs.Figures.{Held, bytes_held, held_after, one_held, weigh, without}
+use Rattle.record_book.proofs.Laws.{held-split, held_in, weight_of}
 use Rattle.sound_recordings.specs.StackFigures.{allocated_at, bytes_called, bytes_freed, calls_at, freed_at, frees_at, one_called, one_freed}
-use Rattle.sound_recordings.proofs.HeldBlocks.{held-split, held_in, weight_of}
 
 -- what events at some stacks come to, and what actions with their instruction pointers do
 pub record AreAt (at : ℕ → Bool) (counted : List ℕ → Bool) (events : List Event) (acts : List Action) : Type 0 where

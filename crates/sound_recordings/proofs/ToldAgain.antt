@@ -43,12 +43,11 @@ use Rattle.record_book.specs.Orders.{IsUnder}
 use Rattle.record_book.specs.RecordedTrace.{last_thread, recorded, trace_text}
 use Rattle.record_book.specs.SummaryText as recording
 use Rattle.record_book.specs.SummaryText.{rec_summary}
-use Rattle.record_book.proofs.Laws.{order-within, summary-text, threads-order, threads_of}
+use Rattle.record_book.proofs.Laws.{held-none, held-some, order-within, summary-text, text-append, threads-order, threads_of}
 use Rattle.stack_table.specs.Stack.{stack}
 use Rattle.sound_recordings.specs.ToldAgain.{IsToldAgain, TellAgain, TellSame, is_at}
 use Rattle.sound_recordings.proofs.Blocks.{AreLive, live-allocated, live-freed, live-none, there}
 use Rattle.sound_recordings.proofs.Figures.{AreEventsOf, events-allocated, events-freed, events-none}
-use Rattle.sound_recordings.proofs.HeldBlocks.{held-none, held-some}
 use Rattle.sound_recordings.proofs.Names.{AreNamed, named, named-before, suffix-known}
 use Rattle.sound_recordings.proofs.NoFault.{AreSound, IsHarmless, comment-harmless, says-all, sound-all, sound-trace, version-is}
 use Rattle.sound_recordings.proofs.Played.{ArePlayed, Plays, places-only, summary-readable, trace-readable}
@@ -191,10 +190,6 @@ tell-same told scripts order are count = record {
 threads-count : (acts : List Action) → length (threads_of acts) ≡ length acts
 threads-count [] = refl
 threads-count (action ∷ before) = let h = length-append (threads_of before) (action.thread ∷ []) in omega (arith, h, threads-count before)
-
-text-append : (xs ys : List (List ℕ)) → text_of_lines (xs ++ ys) ≡ text_of_lines xs ++ text_of_lines ys
-text-append [] ys = refl
-text-append (x ∷ xs) ys = ap (λ (rest : List ℕ). x ++ 10 ∷ rest) (text-append xs ys) ∙ sym (append_assoc x (10 ∷ text_of_lines xs) (text_of_lines ys))
 
 module _ (back : (n : ℕ) → n < 2 ^ 64 → parsed_hex (hexadecimal n) ≡ Some n) (laws : OfInterpretable IsReadAgain) where
   -- lines that say this, and more of which no line brings an event or has a fault

@@ -1,4 +1,4 @@
--- The figures of the events of a trace at the stacks that are counted.
+-- The calls, frees and bytes of a trace's events at the stacks that are counted.
 use Rattle.std.specs.Prelude.{ℕ, Bool, List, if◌then◌else◌, sum_by}
 use Rattle.live_ledger.specs.declared.event.Event.{Event}
 use Rattle.live_ledger.specs.declared.event.Event.TheVariants.{Alloc, Free, Tick}

@@ -1,5 +1,10 @@
--- What is told of a recording once its trace is interpreted.
-use Rattle.std.specs.Prelude.{◌≡◌, ℕ, ◌+◌, ◌^◌, ◌<◌, Bool, List, [], length, map, Option, None, Some}
+-- A recording is told again by bytes where none of their lines is too long; without symbols none
+-- has a fault in an interpretation, nor has their end; and with any symbols by which none has one,
+-- `summary` of the interpreted trace tells the events, the calls, the allocated bytes, what is live
+-- at the end, in bytes and in blocks, and the peak of the recording, any test of instruction
+-- pointers counts in it the calls and bytes that it counts in the recording, and the trace is read
+-- without a fault.
+use Rattle.std.specs.Prelude.{◌≡◌, ℕ, ◌+◌, ◌^◌, ◌<◌, Bool, List, [], ◌++◌, length, map, Option, None, Some}
 use Rattle.std.specs.List.{AllByRecursion}
 use Rattle.hp_outside.specs.Lines.{lines_of}
 use Rattle.ht_print.specs.SummaryText as trace
@@ -15,7 +20,13 @@ use Rattle.live_ledger.specs.declared.event.Event.{Event}
 use Rattle.live_ledger.specs.Faults.{fault_of}
 use Rattle.record_book.specs.Actions.{actions}
 use Rattle.record_book.specs.Figures as own
+use Rattle.record_book.specs.Orders.{IsUnder}
+use Rattle.record_book.specs.RecordedTrace.{recorded}
 use Rattle.record_book.specs.SummaryText as recording
+use Rattle.record_book.specs.SummaryText.{rec_summary}
+use Rattle.record_scripts.specs.Job.{Job}
+use Rattle.record_scripts.specs.ModuleLines.{AreModuleLines}
+use Rattle.record_scripts.specs.Playable.{IsPlayable}
 use Rattle.record_scripts.specs.Turns.{Turn}
 use Rattle.sound_recordings.specs.StackFigures.{allocated_at, calls_at, freed_at, frees_at}
 
@@ -73,3 +84,14 @@ pub record IsToldAgain (bytes : List ℕ) (scripts : List (List Turn)) (order : 
   pub again : (symbols : List Symbol) → AllByRecursion HasShortTexts symbols
       → gathered (raw_fault symbols) [] (lines_of bytes) ≡ []
       → TellAgain (lines_of bytes) scripts order symbols
+
+-- a job that lines without a fault can say, and an order under its scripts
+pub record CanBeRecorded (job : Job) (order : List ℕ) : Type 0 where
+  pub playable : IsPlayable job
+  pub modules : AreModuleLines job.modules
+  pub under : IsUnder job.scripts order
+
+-- its recording is told again, and so it is with its summary behind it
+pub record AreToldAgain (job : Job) (order : List ℕ) : Type 0 where
+  pub trace : IsToldAgain (recorded job order) job.scripts order
+  pub summary : IsToldAgain (recorded job order ++ rec_summary job.scripts order) job.scripts order

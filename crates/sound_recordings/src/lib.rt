@@ -5,7 +5,7 @@
 //! symbols and then `summary` tell of these bytes: how many events and calls there are, the bytes that were allocated,
 //! what is live at the end, in bytes and in blocks, and the greatest total. The calls, the bytes and what is live are the same
 //! at the stacks that any test of instruction pointers counts, and `summary` reads the interpreted trace without a fault
-//! (`TellAgain`). It holds for each job that lines without a fault can say (`IsPlayable`, `AreModuleLines`), and each order
+//! (`TellAgain`). It holds for each job that lines without a fault can say, and each order (`CanBeRecorded`)
 //! under its scripts. The summary may stand behind the trace.
 //!
 //! Its proof goes over the actions of the order. What the lines say is a list beside their text (`Said`), each of which
@@ -15,14 +15,9 @@
 //! and frees no other (`Turns`).
 #![tactic(auto)]
 
-ghost use Rattle.std.specs.Prelude.{◌++◌, ℕ, List};
+ghost use Rattle.std.specs.Prelude.{ℕ, List};
 ghost use Rattle.record_scripts.specs.Job.{Job};
-ghost use Rattle.record_scripts.specs.ModuleLines.{AreModuleLines};
-ghost use Rattle.record_scripts.specs.Playable.{IsPlayable};
-ghost use Rattle.record_book.specs.Orders.{IsUnder};
-ghost use Rattle.record_book.specs.RecordedTrace.{recorded};
-ghost use Rattle.record_book.specs.SummaryText.{rec_summary};
-ghost use Rattle.sound_recordings.specs.ToldAgain.{IsToldAgain};
+ghost use Rattle.sound_recordings.specs.ToldAgain.{AreToldAgain, CanBeRecorded};
 
 use hp_num::hexadecimal_texts;
 use interpret::interpreted_traces;
@@ -30,12 +25,7 @@ use interpret::interpreted_traces;
 /// Read again, the trace of a recording has the figures that its summary tells, whether the summary stands behind it or
 /// not. It does nothing: a caller whose contract speaks of a recording calls it for its clauses.
 pub fn recorded_summaries()
-    ensures trace { (job : Job) (order : List ℕ) → IsPlayable job → AreModuleLines job.modules
-        → IsUnder job.scripts order →
-        IsToldAgain (recorded job order) job.scripts order }
-    ensures summary { (job : Job) (order : List ℕ) → IsPlayable job → AreModuleLines job.modules
-        → IsUnder job.scripts order →
-        IsToldAgain (recorded job order ++ rec_summary job.scripts order) job.scripts order }
+    ensures { (job : Job) (order : List ℕ) → CanBeRecorded job order → AreToldAgain job order }
 {
     hexadecimal_texts();
     interpreted_traces();

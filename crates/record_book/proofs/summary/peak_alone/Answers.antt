@@ -8,7 +8,7 @@ use Rattle.record_scripts.specs.Turns.{script_at}
 use Rattle.record_book.specs.Actions.{Action}
 use Rattle.record_book.specs.TallyState.{IsTally}
 use Rattle.record_book.proofs.MapLemmas.{said_in}
-use Rattle.record_book.proofs.SameLemmas.{place-few}
+use Rattle.record_book.proofs.FewTurns.{place-few}
 use Rattle.record_book.proofs.TallyLemmas.{tally-within}
 use Rattle.record_book.proofs.TallyOrders.{alone-more}
 use Rattle.record_book.proofs.summary.peak_alone.Goals as goal

@@ -12,7 +12,7 @@ use Rattle.record_book.proofs.DoneLemmas.{length-slice_set}
 use Rattle.record_book.proofs.StreamLemmas.{length-zeros, place-is, zero-at}
 use Rattle.record_book.proofs.OrderLemmas.{actions-none}
 use Rattle.record_book.proofs.MapLemmas.{said_in}
-use Rattle.record_book.proofs.SameLemmas.{place-few}
+use Rattle.record_book.proofs.FewTurns.{place-few}
 use Rattle.record_book.proofs.TallyOrders.{at-place, entry-there, taken-none, turn-there, walk-next}
 use Rattle.record_book.proofs.summary.tally_order.Goals as goal
 

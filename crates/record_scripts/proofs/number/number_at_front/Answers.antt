@@ -1,5 +1,5 @@
 -- One digit more, and its value.
-use Rattle.std.proofs.Common.{◌≡◌, ◌<◌, ◌≤◌, length, get_or, arith, ◌∙◌}
+use Rattle.std.proofs.Common.{◌≡◌, ◌<◌, length, get_or, arith, ◌∙◌}
 use Rattle.std.proofs.lemmas.Int.Digits.{digits_value_more, digits_more}
 use Rattle.std.specs.Char.{digit_value}
 use Rattle.record_scripts.proofs.NumberLemmas.{room-for-digit}

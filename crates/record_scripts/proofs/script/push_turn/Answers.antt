@@ -1,5 +1,4 @@
-use Rattle.std.proofs.Common.{◌≡◌, ◌-◌, Some, rules, sym, ap, ◌∙◌, arith, true≢false}
-use Rattle.std.specs.Prelude.{slice_get}
+use Rattle.std.proofs.Common.{◌-◌, Some, rules, sym, ap, ◌∙◌, arith, true≢false}
 use Rattle.std.proofs.lemmas.Option.{slice_get-get_or}
 use Rattle.record_scripts.specs.declared.script.Script.{Script}
 use Rattle.record_scripts.proofs.KeptLemmas.{kept-same, kept-set, on-err, room-at}

@@ -1,6 +1,6 @@
 use Rattle.std.proofs.Common.{sym, ◌∙◌, arith}
 use Rattle.record_scripts.proofs.NodeLemmas.{node-same, not-true-is}
-use Rattle.record_scripts.proofs.SameLemmas.{same-items, same-next}
+use Rattle.record_scripts.proofs.SameLemmas.{answers-true, same-items, same-next}
 use Rattle.record_scripts.proofs.stacks.are_same_nodes.Goals as goal
 
 pub loop-number-preserved : goal.loop-number-preserved
@@ -16,8 +16,8 @@ loop-number-preserved c =
     c.node.ensures.entry c.node-in-loop-number.ensures.entry
     (not-true-is _ (sym c.if-ne.false ∙ c.ne.ensures)))
 
-pub returns : goal.returns
-returns c = λ _. same-items c.args.nodes.now c.args.others.now
+pub returns-clause-same : goal.returns-clause-same
+returns-clause-same c = answers-true _ (same-items c.args.nodes.now c.args.others.now
     (omega (arith, c.len-count.ensures.count, c.len.ensures.count, c.if-count-len.false))
     (λ k within. c.loop-number.invariant k
-    (omega (arith, within, c.len-count.ensures.count, c.loop-number-test.false)))
+    (omega (arith, within, c.len-count.ensures.count, c.loop-number-test.false))))

@@ -1,6 +1,6 @@
 use Rattle.std.proofs.Common.{◌≡◌, false, Option, subst}
 use Rattle.std.specs.Prelude.{IfSome}
-use Rattle.record_book.specs.declared.heap.LiveEntry.{LiveEntry}
+use Rattle.record_book.specs.declared.live_blocks.LiveEntry.{LiveEntry}
 use Rattle.record_book.specs.HeapState.{has_place}
 use Rattle.record_book.proofs.heap.Heap.free_place.Goals as goal
 

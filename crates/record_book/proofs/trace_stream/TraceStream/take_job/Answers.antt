@@ -1,8 +1,8 @@
 use Rattle.std.proofs.Common.{List, sym, subst}
 use Rattle.std.specs.Arc.{arc_value}
+use Rattle.record_scripts.specs.Job.{IsSameWork}
 use Rattle.record_scripts.specs.ScriptNodes.{nodes_in}
 use Rattle.record_scripts.specs.Turns.{Turn}
-use Rattle.record_book.specs.BookState.{IsSameWork}
 use Rattle.record_book.specs.MappedNodes.{AreMapped}
 use Rattle.record_book.specs.StreamState.{Streamed}
 use Rattle.record_book.proofs.StreamLemmas.{stream-moved}

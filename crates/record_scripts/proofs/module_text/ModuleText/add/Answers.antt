@@ -1,4 +1,4 @@
-use Rattle.std.proofs.Common.{List, ℕ, arith, subst, sym, ap, refl, ◌∙◌}
+use Rattle.std.proofs.Common.{arith, subst, sym, ◌∙◌}
 use Rattle.ht_lines.specs.ItemContent.{content}
 use Rattle.record_scripts.specs.ModuleLines.{AreModuleLines}
 use Rattle.record_scripts.proofs.ModuleLemmas.{lines-more, one-line}

@@ -14,7 +14,7 @@ use Rattle.record_scripts.proofs.scripts.Scripts.turn.Goals as goal
 
 pub returns-clause-held : goal.returns-clause-held
 returns-clause-held c =
-    let nodes = c.self.inside.nodes in
+    let nodes = c.self.inside.stacks in
     let same : nodes ≡ nodes_in c.args.self.now.scripts =
     c.self.invariant.nodes_are ∙ ap (λ (job : Job). nodes_in job.scripts) c.self.view_is in
     subst (λ (ns : List Node). c.in_ok-entry.entry.node ≤ length ns) same
@@ -24,7 +24,7 @@ returns-clause-held c =
 
 pub returns-clause-bounded : goal.returns-clause-bounded
 returns-clause-bounded c =
-    let nodes = c.self.inside.nodes in
+    let nodes = c.self.inside.stacks in
     let entry = c.in_ok-entry.entry in
     let same : nodes ≡ nodes_in c.args.self.now.scripts =
     c.self.invariant.nodes_are ∙ ap (λ (job : Job). nodes_in job.scripts) c.self.view_is in

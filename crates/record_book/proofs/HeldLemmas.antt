@@ -1,12 +1,13 @@
--- The live block of a thread's ID, and what it weighs among the others.
+-- The live block of a thread's ID, its size, and what it weighs among the others.
 use Rattle.std.proofs.Common.{◌≡◌, ℕ, ◌+◌, ◌==◌, ◌&&◌, Bool, true, false, cond, List, [], ◌∷◌, Option, None, Some, refl, sym, ap, ap₂, ◌∙◌, arith, true≢false}
 use Rattle.std.specs.Prelude.{option_map}
 use Rattle.std.proofs.lemmas.Bool.Decides.{nat_tests}
 use Rattle.record_scripts.specs.Events.{Event, allocation, free}
 use Rattle.record_book.specs.Actions.{Action}
 use Rattle.record_book.specs.Figures.{Held, has_id, held_after, weigh, without}
+use Rattle.record_book.specs.HeapPlaces.{Block}
 use Rattle.record_book.specs.TallyState.{size_in}
-use Rattle.record_book.proofs.Laws.{same, size-without}
+use Rattle.record_book.proofs.HeapLemmas.{of-other, of-same, same}
 
 abbrev pub held_in : List Held → ℕ → ℕ → Option Held
 held_in [] thread id = None
@@ -37,68 +38,66 @@ held-none blocks thread id is = by (held_in blocks thread id) refl (sym (held-si
     by None p q = p
     by (Some block) p q = absurd (cc)
 
--- a block that has an ID has another one exactly where the two are the same
-of-same : (block : Held) (thread id t i : ℕ) → has_id thread id block ≡ true → has_id t i block ≡ same thread id t i
-of-same block thread id t i owned =
-    let a : block.thread ≡ thread = grind (arith, nat_tests, owned) in
-    let b : block.id ≡ id = grind (arith, nat_tests, owned) in
-    ap₂ (λ (x y : ℕ). x == t && y == i) a b
+-- its block, without the stack
+abbrev block_of : Held → Block
+block_of held = record { thread = held.thread; id = held.id; size = held.size }
 
-of-other : (block : Held) (thread id t i : ℕ) → has_id thread id block ≡ false → same thread id t i ≡ true → has_id t i block ≡ false
-of-other block thread id t i other is =
-    let a : thread ≡ t = grind (arith, nat_tests, is) in
-    let b : id ≡ i = grind (arith, nat_tests, is) in
-    sym (ap₂ (λ (x y : ℕ). has_id x y block) a b) ∙ other
+never : {X : Type 0} (b : Bool) → None ≡ cond {A = Option X} b None None
+never true = refl
+never false = refl
 
+-- the block is gone, and no other
 pub held-without : (thread id : ℕ) (blocks : List Held) (t i : ℕ) → held_in (without thread id blocks) t i ≡ cond (same thread id t i) None (held_in blocks t i)
-held-without thread id [] t i = by (same thread id t i)
-  where
-    by : (b : Bool) → None ≡ cond {A = Option Held} b None None
-    by true = refl
-    by false = refl
+held-without thread id [] t i = never (same thread id t i)
 held-without thread id (block ∷ older) t i = by (held-without thread id older t i) (has_id thread id block) (same thread id t i) (has_id t i block) refl refl refl
   where
     by : held_in (without thread id older) t i ≡ cond (same thread id t i) None (held_in older t i) → (b s o : Bool) → has_id thread id block ≡ b → same thread id t i ≡ s → has_id t i block ≡ o
         → held_in (cond b (without thread id older) (block ∷ without thread id older)) t i ≡ cond s None (cond o (Some block) (held_in older t i))
     by ih true true o p q r = ih ∙ ap (λ (x : Bool). cond x None (held_in older t i)) q
-    by ih true false true p q r = absurd (true≢false (sym r ∙ of-same block thread id t i p ∙ q))
+    by ih true false true p q r = absurd (true≢false (sym r ∙ of-same (block_of block) thread id t i p ∙ q))
     by ih true false false p q r = ih ∙ ap (λ (x : Bool). cond x None (held_in older t i)) q
     by ih false true o p q r =
-        ap (λ (x : Bool). cond x (Some block) (held_in (without thread id older) t i)) (of-other block thread id t i p q)
+        ap (λ (x : Bool). cond x (Some block) (held_in (without thread id older) t i)) (of-other (block_of block) thread id t i p q)
         ∙ ih ∙ ap (λ (x : Bool). cond x None (held_in older t i)) q
     by ih false false true p q r = ap (λ (x : Bool). cond x (Some block) (held_in (without thread id older) t i)) r
     by ih false false false p q r =
         ap (λ (x : Bool). cond x (Some block) (held_in (without thread id older) t i)) r ∙ ih ∙ ap (λ (x : Bool). cond x None (held_in older t i)) q
 
+-- and its size
+pub size-without : (thread id : ℕ) (blocks : List Held) (t i : ℕ) → size_in (without thread id blocks) t i ≡ cond (same thread id t i) None (size_in blocks t i)
+size-without thread id blocks t i =
+    held-size (without thread id blocks) t i ∙ ap (option_map (λ (block : Held). block.size)) (held-without thread id blocks t i)
+    ∙ by (same thread id t i) ∙ ap (cond (same thread id t i) None) (sym (held-size blocks t i))
+  where
+    by : (b : Bool) → option_map (λ (block : Held). block.size) (cond b None (held_in blocks t i)) ≡ cond b None (option_map (λ (block : Held). block.size) (held_in blocks t i))
+    by true = refl
+    by false = refl
+
 -- each block is the only one of its ID
 abbrev AreOnce : List Held → Type 0
 AreOnce [] = Unit {0}
-AreOnce (block ∷ older) = (size_in older block.thread block.id ≡ None) × AreOnce older
+AreOnce (block ∷ older) = (held_in older block.thread block.id ≡ None) × AreOnce older
 
 once-without : (thread id : ℕ) (blocks : List Held) → AreOnce blocks → AreOnce (without thread id blocks)
 once-without thread id [] once = tt
 once-without thread id (block ∷ older) once = by (once-without thread id older once.1) (has_id thread id block)
   where
-    none : (b : Bool) → None ≡ cond {A = Option ℕ} b None None
-    none true = refl
-    none false = refl
-
     by : AreOnce (without thread id older) → (b : Bool) → AreOnce (cond b (without thread id older) (block ∷ without thread id older))
     by rest true = rest
     by rest false = (
-      size-without thread id older block.thread block.id ∙ ap (cond (same thread id block.thread block.id) None) once.0 ∙ sym (none (same thread id block.thread block.id)),
+      held-without thread id older block.thread block.id ∙ ap (cond (same thread id block.thread block.id) None) once.0 ∙ sym (never (same thread id block.thread block.id)),
       rest,
     )
 
-same-self : (thread id : ℕ) → same thread id thread id ≡ true
+pub same-self : (thread id : ℕ) → same thread id thread id ≡ true
 same-self thread id = by (same thread id thread id) refl
   where
     by : (b : Bool) → same thread id thread id ≡ b → b ≡ true
     by true p = refl
     by false p = absurd (grind (arith, nat_tests, p))
 
-gone : (thread id : ℕ) (blocks : List Held) → size_in (without thread id blocks) thread id ≡ None
-gone thread id blocks = size-without thread id blocks thread id ∙ ap (λ (b : Bool). cond b None (size_in blocks thread id)) (same-self thread id)
+gone : (thread id : ℕ) (blocks : List Held) → held_in (without thread id blocks) thread id ≡ None
+gone thread id blocks = held-without thread id blocks thread id ∙ ap (λ (b : Bool). cond b None (held_in blocks thread id)) (same-self thread id)
 
 once-held : (acts : List Action) → AreOnce (held_after acts)
 once-held [] = tt
@@ -122,7 +121,7 @@ blocks-split weight thread id (block ∷ older) once = by (blocks-split weight t
     by ih true p =
         let a : block.thread ≡ thread = grind (arith, nat_tests, p) in
         let i : block.id ≡ id = grind (arith, nat_tests, p) in
-        let none : held_in older thread id ≡ None = held-none older thread id (sym (ap₂ (λ (x y : ℕ). size_in older x y) a i) ∙ once.0) in
+        let none : held_in older thread id ≡ None = sym (ap₂ (λ (x y : ℕ). held_in older x y) a i) ∙ once.0 in
         let rest : weigh weight older ≡ weigh weight (without thread id older) + 0 = ih ∙ ap (λ (found : Option Held). weigh weight (without thread id older) + weight_of weight found) none in
         omega (arith, rest)
     by ih false p = omega (arith, ih)
