@@ -1,5 +1,5 @@
 -- The least difference of neighbours, number by number.
-use Rattle.std.proofs.Common.{◌≡◌, ℕ, ◌+◌, ◌-◌, ◌<◌, ◌≤◌, min, List, [], ◌∷◌, ◌++◌, length, get_or, take, refl, sym, ap, ◌∙◌, arith}
+use Rattle.std.proofs.Common.{◌≡◌, ℕ, ◌+◌, ◌-◌, ◌<◌, ◌≤◌, zero, suc, min, List, [], ◌∷◌, ◌++◌, length, get_or, take, refl, sym, ap, ◌∙◌, arith}
 use Rattle.std.specs.Prelude.{fold, slice_index}
 use Rattle.std.proofs.lemmas.List.{take_more, take_all, get_or-take, length-take-le, length-map}
 use Rattle.massif_cull.specs.declared.snapshot.SnapEntry.{SnapEntry}
@@ -80,3 +80,10 @@ unfolding least_interval
 interval-all entries p end =
     let long : length (times entries) ≡ length entries = length-map entries (λ (entry : SnapEntry). entry.time) in
     ap (λ (ts : List ℕ). least (differences ts)) (take_all p (times entries) (omega arith))
+
+-- where two neighbours have one time, no more entries are needed
+pub interval-none : (entries : List SnapEntry) (n p : ℕ) → 2 ≤ p → p + n ≡ length entries → least_of_first entries p ≡ 0 → 0 ≡ least_interval entries
+interval-none entries zero p two end none = sym none ∙ interval-all entries p (omega arith)
+interval-none entries (suc n) p two end none =
+    let more = interval-more entries p two (omega arith) in
+    interval-none entries n (p + 1) (omega arith) (omega arith) (omega (arith, more, none))

@@ -9,16 +9,19 @@ use Rattle.massif_cull.specs.declared.snapshot.SnapEntry.{SnapEntry}
 use Rattle.massif_cull.specs.ArrayState.{AreSound}
 use Rattle.massif_cull.specs.Culling.{may_go, gap_at, removed_place}
 use Rattle.massif_cull.specs.Entries.{is_peak, is_peak_at, times}
+use Rattle.massif_cull.specs.Left.{AreLeft}
 use Rattle.massif_cull.proofs.Places.{may_go-between, may_go-inside, may_go-peak, no_entry, removed-is, time-at}
-use Rattle.massif_cull.proofs.Removals.{AreLeft, map-remove}
+use Rattle.massif_cull.proofs.Removals.{map-remove}
 
 -- of those that were passed, none that may go is between equals
 pub record ArePassed (entries : List SnapEntry) (place : ℕ) : Type 0 where
   pub each : (j : ℕ) → j < place → may_go entries j ≡ true → 0 < gap_at entries j
 
--- none was passed
-pub passed-none : (entries : List SnapEntry) (place : ℕ) → place ≡ 0 → ArePassed entries place
-passed-none entries place first = record { each = λ j below goes. absurd (omega arith) }
+-- the first may not go
+pub passed-first : (entries : List SnapEntry) (place : ℕ) → place ≡ 1 → ArePassed entries place
+passed-first entries place second = record {
+  each = λ j below goes. (let between = may_go-between entries j goes in absurd (omega arith));
+}
 
 -- one more
 pub passed-more : (entries : List SnapEntry) (place next : ℕ) → next ≡ place + 1 → ArePassed entries place → (may_go entries place ≡ true → 0 < gap_at entries place) → ArePassed entries next
@@ -33,7 +36,7 @@ passed-more entries place next is passed here = record {
 }
 
 -- what may go is no peak
-no-peak : (entries : List SnapEntry) (j : ℕ) → may_go entries j ≡ true → is_peak_at entries j ≡ false
+pub no-peak : (entries : List SnapEntry) (j : ℕ) → may_go entries j ≡ true → is_peak_at entries j ≡ false
 no-peak entries j goes =
     elim (cases_Bool (is_peak_at entries j)) [
       | inl peak ↦ absurd (both_ways _ (may_go-peak entries j peak) goes)
@@ -68,9 +71,9 @@ later entries k sound inside =
     omega arith
 
 -- where an entry goes, the differences of those before it don't fall
-gap-below : (entries : List SnapEntry) (p j : ℕ) → AreSound entries → p + 1 < length entries → 0 < j → j < p → gap_at entries j ≤ gap_at (remove entries p) j
+pub gap-grows : (entries : List SnapEntry) (p j : ℕ) → AreSound entries → p + 1 < length entries → 0 < j → j < p → gap_at entries j ≤ gap_at (remove entries p) j
 unfolding gap_at
-gap-below entries p j sound inside some below =
+gap-grows entries p j sound inside some below =
     let before = time-below entries p (j - 1) (omega arith) (omega arith) in
     elim (cases_lt (j + 1) p) [
       | inl early ↦ (let after = time-below entries p (j + 1) (omega arith) early in omega arith)
@@ -98,7 +101,7 @@ passed-removed entries after place next is same sound inside passed =
           let between = may_go-between (remove entries place) j goes in
           let normal = sym (peak-below entries place j (omega arith) (omega arith)) ∙ no-peak (remove entries place) j goes in
           let at = passed.each j (omega arith) (may_go-inside entries j between.0 (omega arith) normal) in
-          let more = gap-below entries place j sound inside between.0 (omega arith) in
+          let more = gap-grows entries place j sound inside between.0 (omega arith) in
           omega arith);
     })
 

@@ -15,7 +15,7 @@ use Rattle.massif_cull.specs.Keyed.{gap_to_go, AreKeyed}
 use Rattle.massif_cull.specs.Keys.{never, no_key, key_at, with_gap, IsFirst}
 use Rattle.massif_cull.specs.Linked.{AreBelow, AreDifferent, IsOutside}
 use Rattle.massif_cull.specs.SnapsState.{SnapsState, ArePlaced}
-use Rattle.massif_cull.proofs.Equals.{later, peak-below, time-above, time-below}
+use Rattle.massif_cull.proofs.Equals.{peak-below, time-above, time-below}
 use Rattle.massif_cull.proofs.Linking.{apart-at, each-at, each-left, each-remove, each-right}
 use Rattle.massif_cull.proofs.Places.{IsFirstLeast, may_go-between, may_go-inside, may_go-peak, no_entry, removed-is, second-may_go, time-at}
 use Rattle.massif_cull.proofs.Removals.{get-remove_above, get-remove_below, map-remove}
@@ -60,11 +60,11 @@ kept-at places k j p at =
 -- ---- gaps
 
 -- the gap of one that may go
-goes-gap : (entries : List SnapEntry) (k : ℕ) → may_go entries k ≡ true → gap_to_go entries k ≡ gap_at entries k
+pub goes-gap : (entries : List SnapEntry) (k : ℕ) → may_go entries k ≡ true → gap_to_go entries k ≡ gap_at entries k
 goes-gap entries k goes = rw goes refl
 
 -- the gap of one that may not
-stays-gap : (entries : List SnapEntry) (k : ℕ) → may_go entries k ≡ false → gap_to_go entries k ≡ never
+pub stays-gap : (entries : List SnapEntry) (k : ℕ) → may_go entries k ≡ false → gap_to_go entries k ≡ never
 stays-gap entries k stays = rw stays refl
 
 -- the first and the last may not go
@@ -115,7 +115,7 @@ gap-most entries k sound inside =
 
 -- ---- gaps away from the entry that goes
 
-may-below : (entries : List SnapEntry) (p j : ℕ) → p + 1 < length entries → j < p → may_go (remove entries p) j ≡ may_go entries j
+pub may-below : (entries : List SnapEntry) (p j : ℕ) → p + 1 < length entries → j < p → may_go (remove entries p) j ≡ may_go entries j
 unfolding may_go
 may-below entries p j inside below =
     let long = length-remove entries p (omega arith) in
@@ -131,7 +131,7 @@ peak-above entries p j inside above =
     ap (λ (flags : List Bool). slice_index_or flags j false) (map-remove is_peak entries p)
     ∙ get_or-remove_above (map is_peak entries) p false j above (omega arith)
 
-may-above : (entries : List SnapEntry) (p j : ℕ) → 0 < p → p + 1 < length entries → p < j → may_go (remove entries p) j ≡ may_go entries (j + 1)
+pub may-above : (entries : List SnapEntry) (p j : ℕ) → 0 < p → p + 1 < length entries → p ≤ j → may_go (remove entries p) j ≡ may_go entries (j + 1)
 unfolding may_go
 may-above entries p j some inside above =
     let long = length-remove entries p (omega arith) in
@@ -337,72 +337,6 @@ numbered-all places entries count keys beside different below all numbered =
           let two = ap (λ (key : Key). key.number) (numbered.each k place (within k place at) at) in
           omega arith);
       others = λ place out. ap (λ (key : Key). key.gap) (numbered.others place (subst (IsOutside place) (sym (take_all count places all)) out));
-    }
-
--- where the entry behind those that have keys goes, and its neighbours have one time, their gaps stay
-times-equal : (entries : List SnapEntry) (p : ℕ) → AreSound entries → 0 < p → p + 1 < length entries → gap_at entries p ≡ 0 → slice_index (times entries) (p + 1) ≡ slice_index (times entries) p
-unfolding gap_at
-times-equal entries p sound some inside none =
-    let before = later entries (p - 1) sound (omega arith) in
-    let after = later entries p sound inside in
-    let here : slice_index (times entries) (p - 1 + 1) ≡ slice_index (times entries) p = ap (slice_index (times entries)) {x = p - 1 + 1} {y = p} (omega arith) in
-    omega arith
-
-gap-before-equal : (entries : List SnapEntry) (p j : ℕ) → AreSound entries → p + 1 < length entries → j + 1 ≡ p → gap_at entries p ≡ 0 → gap_at (remove entries p) j ≡ gap_at entries j
-unfolding gap_at
-gap-before-equal entries p j sound inside next none =
-    let same = times-equal entries p sound (omega arith) inside none in
-    rw (next, time-above entries p p (omega arith) (omega arith), time-below entries p (j - 1) (omega arith) (omega arith), same) refl
-
-gap-equal-kept : (entries : List SnapEntry) (p j : ℕ) → AreSound entries → p + 1 < length entries → j < p → gap_at entries p ≡ 0 → gap_to_go (remove entries p) j ≡ gap_to_go entries j
-gap-equal-kept entries p j sound inside below none =
-    let may = may-below entries p j inside below in
-    elim (cases_eq (j + 1) p) [
-      | inl next ↦ (let gap = gap-before-equal entries p j sound inside next none in rw (may, gap) refl)
-      | inr early ↦ (let gap = gap-below entries p j inside (omega arith) in rw (may, gap) refl)
-    ]
-
--- the places before one that goes are the first ones of those left
-take-remove : (xs : List ℕ) (p : ℕ) → take p (remove xs p) ≡ take p xs
-take-remove [] zero = refl
-take-remove [] (suc p) = refl
-take-remove (x ∷ xs) zero = refl
-take-remove (x ∷ xs) (suc p) = ap (λ (ys : List ℕ). x ∷ ys) (take-remove xs p)
-
-pub numbered-removed :
-    (places after : List ℕ) (entries entries_after : List SnapEntry) (count next : ℕ) (keys : List Key)
-    → after ≡ remove places count
-    → entries_after ≡ remove entries count
-    → next ≡ count
-    → AreSound entries
-    → count + 1 < length entries
-    → gap_at entries count ≡ 0
-    → AreNumbered places entries count keys
-    → AreNumbered after entries_after next keys
-numbered-removed places after entries entries_after count next keys is is_entries same sound inside none so_far =
-    subst (λ (ps : List ℕ). AreNumbered ps entries_after next keys) (sym is)
-    (subst (λ (es : List SnapEntry). AreNumbered (remove places count) es next keys) (sym is_entries)
-    (subst (λ (n : ℕ). AreNumbered (remove places count) (remove entries count) n keys) (sym same)
-    (record {
-      each = λ k place below at.
-          let before : slice_get places k ≡ Some place = sym (get-remove_below places count k below) ∙ at in
-          so_far.each k place below before
-          ∙ ap (λ (gap : ℕ). let key : Key = record { gap = gap; number = k; place = place } in key) (sym (gap-equal-kept entries count k sound inside below none));
-      others = λ place out. so_far.others place (subst (IsOutside place) (take-remove places count) out);
-    })))
-
--- facts of the places stay
-pub placed-removed : {T : Type 0} (old new : SnapsState T) (k : ℕ) → new.max ≡ old.max → new.places ≡ remove old.places k → new.entries ≡ remove old.entries k → k < length old.entries → ArePlaced old → ArePlaced new
-placed-removed old new k same is is_entries inside placed =
-    let beside = placed.beside in
-    let fewer = length-remove old.places k (omega arith) in
-    let fewer_entries = length-remove old.entries k inside in
-    let count = ap length is in
-    let count_entries = ap length is_entries in
-    record {
-      beside = omega arith;
-      different = subst AreDifferent (sym is) (different-remove old.places k placed.different);
-      below = subst (λ (n : ℕ). AreBelow n new.places) (sym same) (subst (AreBelow old.max) (sym is) (each-remove (λ p. p < old.max) old.places k placed.below));
     }
 
 -- where a place stands

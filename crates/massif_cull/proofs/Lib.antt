@@ -9,6 +9,7 @@ mod Removals
 mod Equals
 mod Pyramid
 mod Keying
+mod EndLemmas
 mod Standing
 mod Sound
 mod Taking

@@ -80,6 +80,11 @@ gap-of entries k i j earlier later before after here there =
     ∙ ap (λ (t : ℕ). slice_index (times entries) (k + 1) - t)
     (sym (time-of entries i earlier here) ∙ ap (slice_index (times entries)) {x = i} {y = k - 1} (omega arith))
 
+-- the same of the two times
+pub gap-between : (entries : List SnapEntry) (k later earlier : ℕ) → later ≡ slice_index (times entries) (k + 1) → earlier ≡ slice_index (times entries) (k - 1) → later - earlier ≡ gap_at entries k
+unfolding gap_at
+gap-between entries k later earlier after before = ap (λ (t : ℕ). t - earlier) after ∙ ap (λ (t : ℕ). slice_index (times entries) (k + 1) - t) before
+
 -- of the places below `other` that may go, `place` is the first with the least difference
 pub record IsFirstLeast (entries : List SnapEntry) (place other : ℕ) : Type 0 where
   pub goes : may_go entries place ≡ true

@@ -11,6 +11,7 @@ use Rattle.massif_cull.specs.Among.{AreAmong}
 use Rattle.massif_cull.specs.ArrayState.{AreSound}
 use Rattle.massif_cull.specs.Culling.{removed_place, cull1, cull_times, cull}
 use Rattle.massif_cull.specs.Entries.{is_peak, times, last_time}
+use Rattle.massif_cull.specs.Left.{AreLeft}
 use Rattle.massif_cull.specs.Loads.{loads_cull1, loads_cull_times, loads_cull}
 
 -- before the removed place a list stays
@@ -76,16 +77,6 @@ among-remove earlier earlier_loads entries loads p inside among = record {
             (from.0, from.1, (get-remove_above entries p k above ∙ from.2.0, get-remove_above loads p k above ∙ from.2.1))
       ];
 }
-
--- after some removals of a cull, `rest` of them are still to come
-pub record AreLeft {T : Type 0} (rest : ℕ) (earlier : List SnapEntry) (earlier_loads : List T) (entries : List SnapEntry) (loads : List T) : Type 0 where
-  pub entries_left : cull_times rest entries ≡ cull earlier
-  pub loads_left : loads_cull_times rest entries loads ≡ loads_cull earlier earlier_loads
-  pub count : length entries + length earlier / 2 ≡ length earlier + rest
-  pub beside : length loads ≡ length entries
-  pub sound : AreSound entries
-  pub last : last_time entries ≡ last_time earlier
-  pub among : AreAmong earlier earlier_loads entries loads
 
 -- where an entry before the last goes, the last stays
 pub last-remove : (entries : List SnapEntry) (p : ℕ) → p + 1 < length entries → last_time (remove entries p) ≡ last_time entries

@@ -1,7 +1,9 @@
 -- What an array stands for: the number of normal offers taken serves by its remainder alone.
-use Rattle.std.proofs.Common.{◌≡◌, ℕ, ◌+◌, ◌*◌, ◌/◌, ◌%◌, List, [], ◌∷◌, ◌++◌, sym, ap, ◌∙◌, arith}
+use Rattle.std.proofs.Common.{◌≡◌, ℕ, ◌+◌, ◌*◌, ◌/◌, ◌%◌, ◌<◌, List, [], ◌∷◌, ◌++◌, inl, inr, sym, ap, ◌∙◌, arith}
 use Rattle.std.specs.Prelude.{◌==◌, nat_lt, nat_le, if◌then◌else◌}
-use Rattle.std.proofs.Math.Nat.{add-mul-mod_self_left, mod-add-div, zero-mod}
+use Rattle.std.proofs.Math.Nat.{add-mul-mod_self_left, mod-add-div, mod-eq_of_lt, zero-mod}
+use Rattle.std.proofs.lemmas.Bool.{cases_eq}
+use Rattle.std.proofs.lemmas.Bool.Decides.{nat_tests}
 use Rattle.std.proofs.lemmas.List.Sums.{fold-append}
 use Rattle.massif_cull.specs.declared.snapshot.Offer.{Offer}
 use Rattle.massif_cull.specs.declared.snapshot.Taken.{Taken}
@@ -23,6 +25,22 @@ mod-more n f =
 pub mod-again : (n f : ℕ) → n % f % f ≡ n % f
 mod-again n f =
     sym (add-mul-mod_self_left (n % f) f (n / f)) ∙ ap (λ (k : ℕ). k % f) (mod-add-div n f)
+
+-- at the end of a turn, and within it
+pub turn-full : (n f : ℕ) → n + 1 ≡ f → (n + 1) % f ≡ 0
+turn-full n f full =
+    let whole : 0 + f * 1 ≡ n + 1 = omega (arith, full) in
+    ap (λ (k : ℕ). k % f) (sym whole) ∙ add-mul-mod_self_left 0 f 1 ∙ zero-mod f
+
+pub turn-within : (n f : ℕ) → n + 1 < f → (n + 1) % f ≡ n + 1
+turn-within n f less = mod-eq_of_lt less
+
+pub turn-ends : (n f : ℕ) → n < f → (n + 1 == f) ≡ ((n + 1) % f == 0)
+turn-ends n f below =
+    elim (cases_eq (n + 1) f) [
+      | inl full ↦ (let none = turn-full n f full in rw none (grind (arith, nat_tests)))
+      | inr apart ↦ (let same = turn-within n f (omega arith) in rw same (grind (arith, nat_tests)))
+    ]
 
 -- the remainder says whether the next normal offer taken is detailed
 pub taken-held : (settings : Settings) (kept : Kept) (offer : Offer) → taken_as settings (held_of settings kept) offer ≡ taken_as settings kept offer

@@ -1,4 +1,4 @@
--- What is read off a list of entries.
+-- What is read off entries: which are peaks, and the time of the last.
 use Rattle.std.specs.Prelude.{ℕ, ◌-◌, Bool, true, false, List, map, length, slice_index}
 use Rattle.std.specs.List.{slice_index_or}
 use Rattle.massif_cull.specs.declared.snapshot.Kind.{Kind}

@@ -1,4 +1,5 @@
--- What linked snapshots hold, by their fields.
+-- What linked snapshots hold, by their fields. Linked snapshots are what stands at the places, in
+-- their order.
 use Rattle.std.specs.Prelude.{◌≡◌, ℕ, ◌≤◌, List, length, map, Option, None, IsSome}
 use Rattle.std.specs.List.{slice_index_or, filter_map}
 use Rattle.massif_cull.specs.declared.linked.Held.{Held}

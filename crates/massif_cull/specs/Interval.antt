@@ -1,4 +1,5 @@
--- The interval after a cull.
+-- The interval after a cull. The interval is then the least difference between the times of
+-- neighbours.
 use Rattle.std.specs.Prelude.{ℕ, ◌-◌, min, List, [], ◌∷◌, map, drop, fold}
 use Rattle.std.specs.List.{zip}
 use Rattle.massif_cull.specs.declared.snapshot.SnapEntry.{SnapEntry}

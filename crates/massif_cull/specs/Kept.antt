@@ -1,4 +1,5 @@
--- What an array of snapshots is made with, and what it keeps.
+-- What an array is made with and keeps: the entries, the interval, the total of the last peak, and
+-- how many normal offers were taken.
 use Rattle.std.specs.Prelude.{ℕ, List, []}
 use Rattle.massif_cull.specs.declared.snapshot.SnapEntry.{SnapEntry}
 

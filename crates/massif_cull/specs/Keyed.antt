@@ -1,4 +1,5 @@
--- Which keys places have while snapshots are culled, and which snapshot goes next.
+-- Which keys places have while snapshots are culled, and which snapshot goes next, for private
+-- clauses.
 use Rattle.std.specs.Prelude.{◌≡◌, ℕ, ◌+◌, ◌<◌, if◌then◌else◌, List, length, remove, slice_get, Some}
 use Rattle.massif_cull.specs.declared.gaps.Key.{Key}
 use Rattle.massif_cull.specs.declared.snapshot.SnapEntry.{SnapEntry}

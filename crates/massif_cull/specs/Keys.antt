@@ -1,4 +1,4 @@
--- Keys by which places are chosen, and which of them comes first.
+-- Keys by which places are chosen, and which of them comes first, for private clauses.
 use Rattle.std.specs.Prelude.{◌≡◌, ◌≢◌, Bool, ℕ, ◌+◌, ◌<◌, ◌≤◌, ◌^◌, nat_lt, if◌then◌else◌, List, length, slice_set}
 use Rattle.std.specs.List.{slice_index_or}
 use Rattle.massif_cull.specs.declared.gaps.Key.{Key}

@@ -11,6 +11,7 @@ pub mod ArrayState
 pub mod StandsFor
 pub mod View
 pub mod Origins
+pub mod TakesOffer
 pub mod SnapsState
 pub mod Held
 pub mod LinksState
@@ -18,3 +19,5 @@ pub mod Linked
 pub mod Keys
 pub mod Pyramid
 pub mod Keyed
+pub mod Left
+pub mod Ends

@@ -1,4 +1,5 @@
--- Where each snapshot after an offer comes from.
+-- A snapshot that is kept after an offer is that offer with its load, or one that was kept before,
+-- with its load; a cull keeps some of them, each with its load.
 use Rattle.std.specs.Prelude.{◌≡◌, ◌≢◌, ◌⊎◌, ℕ, List, slice_get, EachIndex, SomeIndex, Some}
 use Rattle.std.specs.Option.{option_map}
 use Rattle.massif_cull.specs.declared.snapshot.Kind.{Kind}

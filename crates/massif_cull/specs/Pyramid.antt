@@ -1,4 +1,4 @@
--- How contracts see keys in a pyramid, by its fields.
+-- How contracts see keys in a pyramid, by its fields, for private clauses.
 use Rattle.std.specs.Prelude.{◌≡◌, ◌+◌, ◌≤◌, true, length, drop}
 use Rattle.massif_cull.specs.declared.gaps.Gaps.TheInside.{Inside}
 use Rattle.massif_cull.specs.Keys.{AreFirsts, GapsState}

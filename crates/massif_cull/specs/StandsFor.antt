@@ -1,4 +1,5 @@
--- Which lists of offers an array stands for.
+-- An array stands for offers where it holds what is kept of them, of the normal offers that were
+-- taken the remainder alone; contracts see beside it the load of each entry.
 use Rattle.std.specs.Prelude.{◌≡◌, ◌%◌, List}
 use Rattle.massif_cull.specs.declared.snapshot.Offer.{Offer}
 use Rattle.massif_cull.specs.Kept.{Settings, Kept}

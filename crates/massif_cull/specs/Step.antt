@@ -1,4 +1,5 @@
--- What is kept after one more offer.
+-- What is kept after one more offer. What is kept after offers is what one step after another
+-- leaves.
 use Rattle.std.specs.Prelude.{ℕ, ◌+◌, nat_le, if◌then◌else◌, List, [], ◌∷◌, ◌++◌, length, map}
 use Rattle.massif_cull.specs.declared.snapshot.Kind.{Kind}
 use Rattle.massif_cull.specs.declared.snapshot.Kind.TheVariants as kind

@@ -1,4 +1,5 @@
--- Whether an offer is taken, and as what.
+-- An offer is taken where its time has come, as a detailed snapshot at each so many-th, or as the
+-- peak where its total is above the last peak's by more than the inaccuracy.
 use Rattle.std.specs.Prelude.{ℕ, ◌+◌, ◌*◌, ◌/◌, ◌%◌, ◌==◌, nat_lt, nat_le, if◌then◌else◌, List, [], ◌∷◌}
 use Rattle.massif_cull.specs.declared.snapshot.SnapEntry.{SnapEntry}
 use Rattle.massif_cull.specs.declared.snapshot.Offer.{Offer}

@@ -1,4 +1,4 @@
--- How contracts see the fields of an array.
+-- How contracts see the fields of an array, for private clauses.
 use Rattle.std.specs.Prelude.{◌≡◌, ◌≤◌, ◌^◌, length}
 use Rattle.massif_cull.specs.declared.array.SnapArray.TheInside.{Inside}
 use Rattle.massif_cull.specs.ArrayState.{ArrayState}

@@ -1,6 +1,6 @@
 //! The array of snapshots: which offers it takes, and what it keeps of them.
 //! How entries are removed is in `removal`.
-ghost use Rattle.std.specs.Prelude.{◌≡◌, ◌+◌, ◌*◌, ◌/◌, ◌^◌, ◌<◌, ◌≤◌, List, [], ◌∷◌, ◌++◌, false, length, map, slice_get, Some, None, IfOk, IfSome, vec_capacity};
+ghost use Rattle.std.specs.Prelude.{◌≡◌, ◌+◌, ◌*◌, ◌/◌, ◌%◌, ◌==◌, ◌^◌, ◌<◌, ◌≤◌, List, [], ◌∷◌, ◌++◌, false, length, map, slice_get, Some, None, IfOk, IfSome, vec_capacity};
 ghost use Rattle.massif_cull.specs.declared.snapshot.Offer.{Offer};
 ghost use Rattle.massif_cull.specs.declared.snapshot.Taken.TheVariants.{No};
 ghost use Rattle.massif_cull.specs.Among.{AreAmong};
@@ -13,6 +13,7 @@ ghost use Rattle.massif_cull.specs.Step.{culled, bounded, entries_bounded, inter
 ghost use Rattle.massif_cull.specs.KeptOf.{kept_of};
 ghost use Rattle.massif_cull.specs.Loads.{loads_cull, loads_bounded, loads_step};
 ghost use Rattle.massif_cull.specs.StandsFor.{StandsFor, held_of};
+ghost use Rattle.massif_cull.specs.TakesOffer.{TakesOffer};
 
 use crate::gaps::Gaps;
 use crate::linked::{Held, LinkedSnaps};
@@ -119,7 +120,7 @@ impl<T: Drop> SnapArray<T> {
         if offer.time < self.normal_from {
             return Taken::No;
         }
-        if (self.normals + 1) % self.detailed_freq == 0 {
+        if is_last_in_turn(self.normals, self.detailed_freq) {
             return Taken::Detailed;
         }
         Taken::Normal
@@ -156,13 +157,28 @@ impl<T: Drop> SnapArray<T> {
         ensures below_max { length self.new.kept.entries < self.new.settings.max }
     {
         let taken = self.judge(&offer);
+        self.take(offer, taken, load);
+        taken
+    }
+
+    /// Does what `offer` does of an offer that is judged: it is taken as `judge` says.
+    pub fn take(&mut self, offer: Offer, taken: Taken, load: T)
+        requires in_order { last_time self.old.kept.entries ≤ offer.time }
+        requires time { offer.time ≤ 2 ^ 62 }
+        requires total { offer.total ≤ 2 ^ 62 }
+        requires first_is_normal { length self.old.kept.entries ≡ 0 → offer.peak ≡ false }
+        requires judged { taken ≡ taken_as self.old.settings self.old.kept offer }
+        ensures takes { TakesOffer self.old self.new offer load taken }
+        ensures not_empty { 0 < length self.new.kept.entries }
+    {
+        // Says what holds of every array.
+        let _count = self.len();
         match taken {
             Taken::No => {}
             Taken::Normal => self.take_normal(snapshot(&offer, Kind::Normal), load),
             Taken::Detailed => self.take_normal(snapshot(&offer, Kind::Detailed), load),
             Taken::Peak => self.take_peak(snapshot(&offer, Kind::Peak), load),
         }
-        taken
     }
 
     /// Removes half of the snapshots with their loads, rounded down: each time, of those that are neither first, last
@@ -271,7 +287,7 @@ impl<T: Drop> SnapArray<T> {
         ensures not_empty { 0 < length self.new.kept.entries }
         ensures below_max { length self.new.kept.entries < self.new.settings.max }
     {
-        self.normals = (self.normals + 1) % self.detailed_freq;
+        self.normals = next_in_turn(self.normals, self.detailed_freq);
         self.interval = append(&mut self.snaps, &mut self.gaps, entry, load, self.interval);
         self.normal_from = normal_from(&self.snaps, self.interval);
     }
@@ -368,6 +384,26 @@ fn snapshot(offer: &Offer, kind: Kind) -> SnapEntry
         total: offer.total,
         kind,
     }
+}
+
+/// Whether one more than the number comes to the length of a turn, which is above the number.
+fn is_last_in_turn(number: u64, length: u64) -> bool
+    requires { number < length }
+    ensures { result ≡ ((number + 1) % length == 0) }
+{
+    number + 1 == length
+}
+
+/// One more than the number, and 0 where that comes to the length of a turn, which is above the number.
+fn next_in_turn(number: u64, length: u64) -> u64
+    requires { number < length }
+    ensures { result ≡ (number + 1) % length }
+{
+    let next = number + 1;
+    if next == length {
+        return 0;
+    }
+    next
 }
 
 /// By how much at most a total may be above the last peak's and not be taken as one, in bytes.

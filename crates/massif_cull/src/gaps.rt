@@ -71,14 +71,11 @@ impl Gaps {
         self.ready = false;
     }
 
-    /// Finds out which key comes first, where that is to be asked so often that it is asked at all.
-    pub fn build(&mut self, times: u32)
+    /// Finds out which key comes first.
+    pub fn build(&mut self)
         ensures keys { self.new.keys ≡ self.old.keys }
-        ensures ready { 0 < times → self.new.ready ≡ true }
+        ensures ready { self.new.ready ≡ true }
     {
-        if times == 0 {
-            return;
-        }
         build_all(&mut self.nodes, self.max as usize);
         self.ready = true;
     }

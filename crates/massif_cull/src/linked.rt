@@ -227,7 +227,7 @@ impl<T: Drop> LinkedSnaps<T> {
     }
 
     /// Where the last one stands, and None where none is held.
-    fn last_spot(&self) -> Option<Spot>
+    pub fn last_spot(&self) -> Option<Spot>
         ensures spot { IfSome result (λ spot. IsSpot self.now spot) }
         ensures last { IfSome result (λ spot. spot.index + 1 ≡ length self.now.entries) }
         ensures none { result ≡ None → self.now.entries ≡ [] }

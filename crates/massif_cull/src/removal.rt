@@ -1,5 +1,5 @@
 //! Removing snapshots by their times, and the interval of what is left.
-//! When they are culled is decided by the array.
+//! When they are culled is decided by the array, and where their end goes whole in `ends`.
 ghost use Rattle.std.specs.Prelude.{◌≡◌, ℕ, ◌+◌, ◌-◌, ◌/◌, ◌<◌, ◌≤◌, ◌^◌, true, false, length, remove, slice_get, slice_index, Contains, Some};
 ghost use Rattle.massif_cull.specs.Among.{AreAmong};
 ghost use Rattle.massif_cull.specs.ArrayState.{AreSound};
@@ -7,6 +7,7 @@ ghost use Rattle.massif_cull.specs.Culling.{may_go, gap_at, cull};
 ghost use Rattle.massif_cull.specs.Entries.{last_time, times};
 ghost use Rattle.massif_cull.specs.Interval.{least_interval};
 ghost use Rattle.massif_cull.specs.Keyed.{AreKeyed, RemovesNext, gap_to_go};
+ghost use Rattle.massif_cull.specs.Left.{AreLeft};
 ghost use Rattle.massif_cull.specs.Loads.{loads_cull};
 ghost use Rattle.massif_cull.specs.SnapsState.{IsSpot};
 
@@ -36,16 +37,62 @@ impl<T: Drop> LinkedSnaps<T> {
         ensures last { last_time self.new.entries ≡ last_time self.old.entries }
         ensures among { AreAmong self.old.entries self.old.loads self.new.entries self.new.loads }
     {
+        self.remove_half(gaps);
+        self.least_difference()
+    }
+
+    /// Removes half of the snapshots, rounded down, with their loads.
+    fn remove_half(&mut self, gaps: &mut Gaps)
+        requires long { 6 ≤ length self.old.entries }
+        requires sound { AreSound self.old.entries }
+        requires gaps { length gaps.old.keys ≡ self.old.max }
+        ensures gaps { length gaps.new.keys ≡ length gaps.old.keys }
+        ensures max { self.new.max ≡ self.old.max }
+        ensures left { AreLeft 0 self.old.entries self.old.loads self.new.entries self.new.loads }
+    {
+        match self.whole_end() {
+            Some(spot) => self.remove_end(spot),
+            None => self.remove_by_gaps(gaps),
+        }
+    }
+
+    /// Removes half of the snapshots one by one, each time the one that goes next.
+    fn remove_by_gaps(&mut self, gaps: &mut Gaps)
+        requires long { 6 ≤ length self.old.entries }
+        requires sound { AreSound self.old.entries }
+        requires gaps { length gaps.old.keys ≡ self.old.max }
+        ensures gaps { length gaps.new.keys ≡ length gaps.old.keys }
+        ensures max { self.new.max ≡ self.old.max }
+        ensures left { AreLeft 0 self.old.entries self.old.loads self.new.entries self.new.loads }
+    {
+        let left = self.remove_equals();
+        if left == 0 {
+            return;
+        }
+        self.note(gaps);
+        'each_removal: for _ in 0..left {
+            self.remove_next(gaps);
+        }
+    }
+
+    /// Removes the snapshots whose neighbours have one time, in their order, until half of all are gone, and answers how
+    /// many removals are left. They go before all others, and none of the gaps behind one changes by that.
+    fn remove_equals(&mut self) -> u32
+        requires long { 6 ≤ length self.old.entries }
+        requires sound { AreSound self.old.entries }
+        ensures max { self.new.max ≡ self.old.max }
+        ensures left { AreLeft result self.old.entries self.old.loads self.new.entries
+            self.new.loads }
+    {
         let count = self.len();
         let mut left = count / 2;
         let mut last = count - 1;
-        gaps.clear();
-        // Those whose neighbours have one time go before all others, in their order: the walk that notes the gaps finds them.
-        let mut spot = self.first();
-        'walk: while spot.index < last {
-            let key = self.key(spot);
-            if !goes_at_once(key.gap, left) {
-                gaps.put(spot.place, key);
+        let first = self.first();
+        let mut time = self.entry(first).time;
+        let mut spot = self.after(first);
+        'walk: while left > 0 && spot.index < last {
+            if self.gap_from(spot, time) > 0 {
+                time = self.entry(spot).time;
                 spot = self.after(spot);
                 continue;
             }
@@ -53,16 +100,46 @@ impl<T: Drop> LinkedSnaps<T> {
             last -= 1;
             left -= 1;
         }
-        gaps.put(spot.place, self.key(spot));
-        gaps.build(left);
-        'each_removal: for _ in 0..left {
-            self.remove_next(gaps);
+        left
+    }
+
+    /// Gives the place of each snapshot its key, and finds out which comes first.
+    fn note(&self, gaps: &mut Gaps)
+        requires some { 0 < length self.now.entries }
+        requires sound { AreSound self.now.entries }
+        requires gaps { length gaps.old.keys ≡ self.now.max }
+        ensures gaps { length gaps.new.keys ≡ length gaps.old.keys }
+        ensures keyed { AreKeyed self.now.places self.now.entries gaps.new.keys }
+        ensures ready { gaps.new.ready ≡ true }
+    {
+        gaps.clear();
+        let last = self.len() - 1;
+        let mut spot = self.first();
+        'walk: while spot.index < last {
+            gaps.put(spot.place, self.key(spot));
+            spot = self.after(spot);
         }
-        self.least_difference()
+        gaps.put(spot.place, self.key(spot));
+        gaps.build();
+    }
+
+    /// The gap of the snapshot at the spot, where the one before it has this time. The spot must be neither the first nor the
+    /// last.
+    pub(crate) fn gap_from(&self, spot: Spot, time: u64) -> u64
+        requires spot { IsSpot self.now spot }
+        requires inside { (0 < spot.index) × (spot.index + 1 < length self.now.entries) }
+        requires sound { AreSound self.now.entries }
+        requires time { time ≡ slice_index (times self.now.entries) (spot.index - 1) }
+        ensures { result ≡ gap_to_go self.now.entries spot.index }
+    {
+        if is_peak_entry(&self.entry(spot)) {
+            return NEVER;
+        }
+        self.entry(self.after(spot)).time - time
     }
 
     /// Removes the snapshot at the spot with its load, and answers where the next one stands. The spot must not be the last.
-    fn remove_at(&mut self, spot: Spot) -> Spot
+    pub(crate) fn remove_at(&mut self, spot: Spot) -> Spot
         requires spot { IsSpot self.old spot }
         requires inside { spot.index + 1 < length self.old.entries }
         ensures max { self.new.max ≡ self.old.max }
@@ -146,34 +223,19 @@ impl<T: Drop> LinkedSnaps<T> {
         ensures value { result ≡ least_interval self.now.entries }
         ensures most { result ≤ 2 ^ 62 }
     {
-        let mut spot = self.spot(1);
-        let mut least = self.gap_before(spot);
+        let first = self.first();
+        let mut spot = self.after(first);
+        let mut time = self.entry(spot).time;
+        let mut least = time - self.entry(first).time;
         'spots: for _ in 2..self.len() {
+            if least == 0 {
+                return 0;
+            }
             spot = self.after(spot);
-            least = least.min(self.gap_before(spot));
+            let next = self.entry(spot).time;
+            least = least.min(next - time);
+            time = next;
         }
         least
     }
-
-    /// The difference between the times of the snapshot at the spot and of the one before it.
-    fn gap_before(&self, spot: Spot) -> u64
-        requires spot { IsSpot self.now spot }
-        requires inside { (0 < spot.index) × (spot.index < length self.now.entries) }
-        requires sound { AreSound self.now.entries }
-        ensures { result ≡ slice_index (times self.now.entries) spot.index - slice_index
-            (times self.now.entries) (spot.index - 1) }
-    {
-        self.entry(spot).time - self.entry(self.before(spot)).time
-    }
-}
-
-/// Whether the snapshot of this gap is removed while the gaps are noted: its neighbours have one time, and removals are left.
-fn goes_at_once(gap: u64, left: u32) -> bool
-    ensures goes { result ≡ true → (gap ≡ 0) × (0 < left) }
-    ensures stays { result ≡ false → 0 < left → 0 < gap }
-{
-    if left == 0 {
-        return false;
-    }
-    gap == 0
 }

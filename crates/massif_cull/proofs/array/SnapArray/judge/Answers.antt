@@ -6,8 +6,8 @@ use Rattle.massif_cull.proofs.Standing.{stands-push, stands-taken}
 use Rattle.massif_cull.proofs.Taking.{none-kept}
 use Rattle.massif_cull.proofs.array.SnapArray.judge.Goals as goal
 
-pub returns-then-self-eq0-clause-of_offers : goal.returns-then-self-eq0-clause-of_offers
-returns-then-self-eq0-clause-of_offers g c =
+pub returns-then-is_last_in_turn-clause-of_offers : goal.returns-then-is_last_in_turn-clause-of_offers
+returns-then-is_last_in_turn-clause-of_offers g c =
     let taken : Detailed ≡ taken_as c.args.self.now.settings c.args.self.now.kept c.args.offer.now = search rules in
     λ offers stands. taken ∙ stands-taken c.args.self.now offers c.args.offer.now stands
 
