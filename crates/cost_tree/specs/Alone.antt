@@ -1,4 +1,5 @@
--- Lists that are cut where they go on alone.
+-- Lists are cut where they go on alone: no other one begins with what is left of a list that is
+-- cut.
 use Rattle.std.specs.Prelude.{◌≡◌, ℕ, ◌<◌, true, List, Some, length, slice_get, take}
 use Rattle.cost_tree.specs.declared.cut.Cut.{Cut}
 use Rattle.cost_tree.specs.CutShapes.{IsCutOf}

@@ -1,4 +1,5 @@
--- What the lines of a tree are.
+-- Lines are those of a tree where they stand for the lines of its stacks, whichever these are, and
+-- each is a line of that tree.
 use Rattle.std.specs.Prelude.{◌≡◌, ℕ, List, All, map}
 use Rattle.cost_tree.specs.declared.line.CostLine.{CostLine}
 use Rattle.cost_tree.specs.declared.scale.Scale.{Scale}

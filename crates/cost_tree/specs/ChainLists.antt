@@ -1,4 +1,5 @@
--- How lists that go on with earlier ones are kept: the own numbers of all, and where those of each stand among them.
+-- How lists that go on with earlier ones are kept: the own numbers of all, and where those of each
+-- stand among them, for private clauses.
 use Rattle.std.specs.Prelude.{◌≡◌, ℕ, ◌^◌, ◌<◌, ◌≤◌, List, [], ◌∷◌, ◌++◌, fold, length, take, IfSome, Some, slice_get}
 use Rattle.std.specs.List.{between}
 use Rattle.cost_tree.specs.declared.chain.Chain.{Chain}

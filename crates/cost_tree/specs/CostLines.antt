@@ -1,5 +1,9 @@
--- The lines of a tree of costs: a front has one of its own where its share of a total reaches a threshold, and of the
--- fronts one text longer than a front, those below the threshold stand together in one.
+-- The lines of a tree of costs: a front has one of its own where its share of a total reaches a
+-- threshold, and of the fronts one text longer than a front, those below the threshold stand
+-- together in one. A front one text longer has a line of its own where 10,000 times its cost is at
+-- least the threshold times the total. Those stand by descending cost, of equal ones by the least
+-- stack; the others stand together in one last line with their number and sum. A line says its
+-- level and how many lines of the next level belong to it.
 use Rattle.std.specs.Prelude.{ℕ, zero, suc, ◌+◌, ◌-◌, ◌*◌, not, nat_lt, Bool, List, [], ◌∷◌, ◌++◌, filter, length, slice_index_or, sum_by}
 use Rattle.std.specs.List.{flat_map}
 use Rattle.cost_tree.specs.declared.scale.Scale.{Scale}

@@ -1,4 +1,5 @@
--- Stacks with their costs.
+-- Stacks with their costs. A stack is a list of texts, of which the first stands next to the root,
+-- and a cost.
 use Rattle.std.specs.Prelude.{ℕ, List, [], ◌∷◌}
 
 -- a stack: its texts, of which the first stands next to the root of a tree, and its cost

@@ -1,4 +1,5 @@
--- What a closure says that stacks cost.
+-- What a closure says that stacks cost. A closure states a list of costs where it may be called on
+-- each stack of the list and answers its cost there, and the costs sum to at most 2^62.
 use Rattle.std.specs.Prelude.{◌≡◌, ℕ, ◌^◌, ◌<◌, ◌≤◌, List, length, sum, Some, slice_get}
 
 -- a closure with these predicates may be called on each stack below the number of stacks, and answers the stack's

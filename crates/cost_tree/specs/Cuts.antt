@@ -1,4 +1,7 @@
--- Lists that are cut where no line of a tree needs more of them.
+-- Lists that are cut where no line of a tree needs more of them. So many first texts of a stack are
+-- enough for the lines of fronts of at most so many texts where they are all, or more than these
+-- have, or where there is one and what the stacks cost that begin with them is too small for a
+-- line.
 use Rattle.std.specs.Prelude.{◌≡◌, ℕ, ◌<◌, ◌⊎◌, true, List, [], ◌∷◌, Some, length, slice_get, take}
 use Rattle.cost_tree.specs.declared.scale.Scale.{Scale}
 use Rattle.cost_tree.specs.Costed.{Costed}

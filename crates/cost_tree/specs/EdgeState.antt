@@ -1,4 +1,5 @@
--- What contracts see of the edges of a shape, and where each is found.
+-- What contracts see of the edges of a shape: their list. Each begins at an earlier node, which is
+-- the one right before its own or an index has its place.
 use Rattle.std.specs.Prelude.{◌≡◌, ℕ, ◌==◌, ◌≤◌, ◌&&◌, ◌⊎◌, Bool, List, Option, Some, slice_get}
 use Rattle.cost_tree.specs.declared.edge.Edge.{Edge}
 

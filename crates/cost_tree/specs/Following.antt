@@ -1,4 +1,4 @@
--- A list that goes on with an earlier one.
+-- What follows a list's own elements: an earlier list, or nothing.
 use Rattle.std.specs.Prelude.{ℕ, List, [], Option, slice_index_or}
 use Rattle.std.specs.Option.{option_map_or}
 

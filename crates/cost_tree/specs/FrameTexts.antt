@@ -1,4 +1,4 @@
--- The names that a closure means.
+-- A closure states a list of names where it answers true exactly for them.
 use Rattle.std.specs.Prelude.{ℕ, ◌↔◌, Bool, List, Contains, IsTrue}
 
 -- a closure with these answers answers true exactly for the names of the list

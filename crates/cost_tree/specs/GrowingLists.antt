@@ -1,4 +1,5 @@
--- How lists of lists grow: by one that begins with that of a caller, and by elements at the end of the last.
+-- A list more begins with that of a caller, or is empty for caller 0; the last list gains elements
+-- at its end.
 use Rattle.std.specs.Prelude.{◌≡◌, ◌==◌, ℕ, if◌then◌else◌, List, [], ◌∷◌, ◌++◌, slice_index_or}
 
 -- the list of a caller, and none for 0

@@ -1,4 +1,4 @@
--- The names of a tree's texts.
+-- The names of a tree's texts, for private clauses.
 use Rattle.std.specs.Prelude.{ℕ, List}
 use Rattle.cost_tree.specs.declared.held_names.HeldNames.{HeldNames}
 use Rattle.cost_tree.specs.declared.held_names.HeldNames.TheVariants.{Own, Lent}

@@ -1,4 +1,6 @@
--- What the stacks cost that begin with a front, a list of texts.
+-- The cost of a front, a list of texts, is the sum of the costs of the stacks that begin with it;
+-- its own cost is the sum over those that are it; its first stack is the least that begins with it
+-- and costs something.
 use Rattle.std.specs.Prelude.{ℕ, ◌&&◌, Bool, List, nat_lt, sum_by, if◌then◌else◌}
 use Rattle.std.specs.Cmp.Lexicographic.{pointwise}
 use Rattle.std.specs.List.{position_or_len, starts_with}

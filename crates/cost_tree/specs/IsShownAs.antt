@@ -1,4 +1,6 @@
--- How a line of fronts is shown to what takes it.
+-- A line of fronts is shown with its level, how many lines belong to it, its cost, and its front's
+-- last text and the number of that or how many fronts are gathered; a front stands on the level of
+-- its length.
 use Rattle.std.specs.Prelude.{◌≡◌, ℕ, List, length}
 use Rattle.cost_tree.specs.declared.shown_line.ShownLine.{ShownLine}
 use Rattle.cost_tree.specs.declared.shown_line.ShownPlace.{ShownPlace}

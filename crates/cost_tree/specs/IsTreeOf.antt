@@ -1,4 +1,7 @@
--- What a tree says of the stacks that it stands for.
+-- A tree of stacks has one node for each front of at most so many texts that costs something, and
+-- node 0 for the empty one, with these figures. A node's parent stands before it, and is that of
+-- its front without the last text. Of two children of a node the one with the lower number has the
+-- lower first stack.
 use Rattle.std.specs.Prelude.{◌≡◌, ℕ, ◌<◌, ◌≤◌, List, [], ◌∷◌, ◌++◌, length, Some, slice_get}
 use Rattle.cost_tree.specs.declared.node.CostNode.{CostNode}
 use Rattle.cost_tree.specs.Costed.{Costed}

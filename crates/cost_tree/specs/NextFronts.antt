@@ -1,4 +1,6 @@
--- The fronts that are one text longer than a front.
+-- The next fronts of a front are those one text longer whose cost isn't 0: for each stack, by
+-- ascending number, that begins with the front, goes on and is the least one of its longer front,
+-- that longer front.
 use Rattle.std.specs.Prelude.{ℕ, ◌==◌, ◌+◌, ◌&&◌, Bool, List, length, map, filter, nat_lt, [], slice_get, take}
 use Rattle.std.specs.List.{range_with_len}
 use Rattle.std.specs.Option.{option_map_or}

@@ -1,4 +1,5 @@
--- What nodes cost with those below them.
+-- What nodes cost with those below them. Each node but node 0 costs what ends at it and what its
+-- children cost together.
 use Rattle.std.specs.Prelude.{◌≡◌, ℕ, ◌+◌, ◌<◌, List, length, Some, slice_get, sum_by}
 use Rattle.std.specs.Option.{option_map_or}
 use Rattle.cost_tree.specs.declared.node.CostNode.{CostNode}

@@ -1,4 +1,4 @@
--- How lists of texts are kept: each text once, and the lists as numbers of texts.
+-- The texts of lists that are kept as numbers, and the fronts of nodes that are kept as edges.
 use Rattle.std.specs.Prelude.{◌≡◌, ℕ, ◌≤◌, List, [], All, Some, length, map, slice_get, unwrap_or}
 use Rattle.intern_tables.specs.Distinct.{AreDistinct}
 use Rattle.intern_tables.specs.Numbers.{name_at}

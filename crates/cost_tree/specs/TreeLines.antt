@@ -1,4 +1,5 @@
--- How the lines that a tree gives stand for lines of fronts.
+-- How the lines that a tree gives stand for lines of fronts. A tree has lines where it is that of
+-- fewer than 2^32 stacks, which cost at most 2^62 together, to fewer than 2^32 texts.
 use Rattle.std.specs.Prelude.{ℕ, ◌^◌, ◌<◌, ◌≤◌, List, [], length, slice_index_or, sum_by}
 use Rattle.cost_tree.specs.declared.line.CostLine.{CostLine}
 use Rattle.cost_tree.specs.declared.line.Place.{Place}

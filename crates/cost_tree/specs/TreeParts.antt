@@ -1,4 +1,4 @@
--- What the parts of a tree say together, by the names of its texts.
+-- What the parts of a tree say together, by the names of its texts, for private clauses.
 use Rattle.std.specs.Prelude.{ℕ, List}
 use Rattle.cost_tree.specs.declared.edge.Edge.{Edge}
 use Rattle.cost_tree.specs.declared.linked.Linked.{Linked}

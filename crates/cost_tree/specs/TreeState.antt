@@ -1,4 +1,5 @@
--- What contracts see of a tree.
+-- What contracts see of a tree: its texts by their numbers, the front of each node, and the nodes
+-- with their costs, both by number.
 use Rattle.std.specs.Prelude.{ℕ, List}
 use Rattle.cost_tree.specs.declared.node.CostNode.{CostNode}
 

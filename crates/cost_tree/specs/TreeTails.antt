@@ -1,4 +1,5 @@
--- What the lines of a tree stand for, where lists go on alone behind its fronts.
+-- What the lines of a tree stand for, where lists go on alone behind its fronts, for private
+-- clauses.
 use Rattle.std.specs.Prelude.{ℕ, List, Option, None, Some, slice_get}
 use Rattle.std.specs.Option.{option_map_or}
 use Rattle.cost_tree.specs.declared.line.CostLine.{CostLine}

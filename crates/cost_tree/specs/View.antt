@@ -1,4 +1,4 @@
--- How contracts see the fields of a tree.
+-- How contracts see the fields of a tree, for private clauses.
 use Rattle.std.specs.Prelude.{List}
 use Rattle.cost_tree.specs.declared.edge.Edge.{Edge}
 use Rattle.cost_tree.specs.declared.tree.CostTree.TheInside.{Inside}

@@ -23,6 +23,7 @@
 //! - `take_front_lines` gives the same lines of lists with costs, without a tree that has a node for each: `ForkedFronts` keeps lists cut
 //!   where they go on alone, and the lines behind that are made of their texts. `FrontLineTaker` takes the
 //!   texts, and then each line with its front's last text and the number of that.
+//! - `sums_of_fronts` is the law that a front costs what it costs itself and what the fronts cost that are one text longer.
 //!
 //! A text is compared with others once, when it is pushed, and a front once, when its last number is; a tree hashes nothing and
 //! copies no text. The crates above may cite its `proofs/Laws`. The tests of these calls are the crate `cost_tree_tests`
@@ -43,6 +44,7 @@
 //! | `room.rt` | the vectors that trees are made in, one after another |
 //! | `scale.rt`, `line.rt`, `line_taker.rt` | what costs are measured by; a line; what takes lines |
 //! | `children.rt`, `lines.rt` | which children of a node have lines of their own; the walk that gives the lines |
+//! | `sum_law.rt` | that figures of fronts are sums |
 //! | `shown_line.rt`, `front_line_taker.rt`, `front_lines.rt` | a line with what it shows; what takes such lines; those of lists |
 #![tactic(auto)]
 
@@ -74,6 +76,7 @@ mod room;
 mod scale;
 mod shape;
 mod shown_line;
+mod sum_law;
 mod summing;
 mod tails;
 mod told_lists;
@@ -95,5 +98,6 @@ pub use room::TreeRoom;
 pub use scale::Scale;
 pub use shape::Shape;
 pub use shown_line::{ShownLine, ShownPlace};
+pub use sum_law::sums_of_fronts;
 pub use told_lists::ToldLists;
 pub use tree::CostTree;

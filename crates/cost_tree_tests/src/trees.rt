@@ -4,7 +4,7 @@ ghost use Rattle.std.specs.Prelude.{◌≡◌, ◌+◌, ◌^◌, ◌≤◌, IsTr
 use cost_tree::{CostTree, Costing, Fronts};
 use hp_num::{NoMemory, put_bytes, put_dec};
 use ht_trace::{LineError, Style, Tables};
-use stack_trees::{Direction, stack_tree};
+use stack_trees::{Direction, OfStacks};
 use std::alloc::Global;
 use std::process::Abort;
 
@@ -249,7 +249,7 @@ fn tree_of_stacks<'a>(
     requires bound { sum costs.now ≤ 2 ^ 62 }
 {
     let costing = Costing::new(tables.stacks(), |stack: u32| costs[stack as usize]);
-    stack_tree(alloc, tables, &costing, direction, style, 4096)
+    CostTree::build(alloc, tables, &costing, direction, style, 4096)
 }
 
 /// The tree of a trace's stacks with these costs shows these nodes.

@@ -1,4 +1,5 @@
--- The texts of a trace's stacks.
+-- The texts of a trace's stacks. The list of a stack is the texts of its frames in a style, from
+-- the innermost on, or turned round for the direction from the root.
 use Rattle.std.specs.Prelude.{ℕ, ◌+◌, List, length, map, reverse}
 use Rattle.std.specs.List.{range_with_len}
 use Rattle.ht_trace.specs.declared.frame.Style.{Style}

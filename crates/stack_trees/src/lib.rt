@@ -3,8 +3,8 @@
 //!
 //! What it promises:
 //!
-//! - `stack_tree` gives the tree of the stacks of a trace with their costs (`IsTreeOf`), whose lists are the texts of their frames
-//!   in a style and from one end (`lists_towards`). From the root it makes the texts of each node once, and its memory goes by
+//! - `CostTree::build` gives the tree of the stacks of a trace with their costs (`IsTreeOf`), by the trait `OfStacks`. Its lists are the texts of
+//!   their frames in a style and from one end (`lists_towards`). From the root it makes the texts of each node once, and its memory goes by
 //!   nodes. From the allocation it makes no text of a stack that costs nothing, and of each other stack one text more than `depth`
 //!   at most. `lists_from_root` and `CostTree::of_lists` are its two steps from the root, for a caller that lets go the tables
 //!   between them: the first one tells the lists (`ToldLists`), and the second one looks for their fronts.
@@ -33,4 +33,4 @@ pub use call_chains::CallChains;
 pub use direction::Direction;
 pub use list_form::ListForm;
 pub use root_lists::lists_from_root;
-pub use tree::stack_tree;
+pub use tree::OfStacks;

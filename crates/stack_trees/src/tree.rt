@@ -4,6 +4,7 @@ ghost use Rattle.std.specs.Prelude.{◌≡◌, ℕ, ◌+◌, ◌^◌, ◌≤◌,
 ghost use Rattle.cost_tree.specs.Costed.{costed};
 ghost use Rattle.cost_tree.specs.Costs.{AreCosts};
 ghost use Rattle.cost_tree.specs.IsTreeOf.{IsTreeOf};
+ghost use Rattle.cost_tree.specs.TreeState.{TreeState};
 ghost use Rattle.stack_trees.specs.StackTexts.{lists_towards};
 
 use crate::direction::Direction;
@@ -13,26 +14,44 @@ use hp_num::NoMemory;
 use ht_trace::{Style, Tables};
 use std::alloc::Global;
 
-/// The tree of the stacks of a trace with these costs, to fronts of at most `depth` texts, or `NoMemory`. A stack's
-/// texts are those of its frames in this style, from the innermost one or from the outermost.
-pub fn stack_tree<'a, F: Fn(u32) -> u64>(
-    alloc: Global,
-    tables: &Tables,
-    costing: &Costing<F>,
-    direction: Direction,
-    style: Style,
-    depth: u32,
-) -> Result<CostTree<'a>, NoMemory>
-    requires as_many { costing.now.stacks ≡ length tables.now.nodes + 1 }
-    requires stated { (costs : List ℕ)
-        × AreCosts (F.pre costing.now.cost) (F.post costing.now.cost) costing.now.stacks costs }
-    ensures tree { IfOk result
-        (λ tree. (costs : List ℕ)
-        → AreCosts (F.pre costing.now.cost) (F.post costing.now.cost) costing.now.stacks costs
-        → IsTreeOf tree (costed (lists_towards direction style tables.now) costs) depth) }
-{
-    let costs = costing.list(alloc)?;
-    tree_of_stacks(alloc, tables, &costs, direction, style, depth)
+/// What is made of the stacks of a trace: a `CostTree`.
+pub trait OfStacks: Sized {
+    /// What contracts see of it.
+    ghost tree: { Self → TreeState };
+
+    /// The tree of the stacks of a trace with these costs, to fronts of at most `depth` texts, or `NoMemory`. A stack's
+    /// texts are those of its frames in this style, from the innermost one or from the outermost.
+    fn build<F: Fn(u32) -> u64>(
+        alloc: Global,
+        tables: &Tables,
+        costing: &Costing<F>,
+        direction: Direction,
+        style: Style,
+        depth: u32,
+    ) -> Result<Self, NoMemory>
+        requires as_many { costing.now.stacks ≡ length tables.now.nodes + 1 }
+        requires stated { (costs : List ℕ)
+            × AreCosts (F.pre costing.now.cost) (F.post costing.now.cost) costing.now.stacks costs }
+        ensures tree { IfOk result
+            (λ made. (costs : List ℕ)
+            → AreCosts (F.pre costing.now.cost) (F.post costing.now.cost) costing.now.stacks costs
+            → IsTreeOf (tree made) (costed (lists_towards direction style tables.now) costs) depth) };
+}
+
+impl<'a> OfStacks for CostTree<'a> {
+    ghost tree = { λ made. made };
+
+    fn build<F: Fn(u32) -> u64>(
+        alloc: Global,
+        tables: &Tables,
+        costing: &Costing<F>,
+        direction: Direction,
+        style: Style,
+        depth: u32,
+    ) -> Result<CostTree<'a>, NoMemory> {
+        let costs = costing.list(alloc)?;
+        tree_of_stacks(alloc, tables, &costs, direction, style, depth)
+    }
 }
 
 /// The tree of the stacks of a trace with these costs, or `NoMemory`.
