@@ -7,7 +7,7 @@ use Rattle.std.specs.Io.KnownBytes.{prepend_known}
 use Rattle.hp_outside.specs.LineReaderState.{LineReaderState}
 use Rattle.hp_outside.specs.Lines.{after_line, first_line, lines_of}
 use Rattle.hp_outside.specs.WholeLines.{IsLineText, text_of_lines}
-use Rattle.command_frame.specs.Batch.{AreGood, HasGivenFront, HasTakenFront, HasTakenKept, IsShortLine}
+use Rattle.command_frame.specs.Batch.{AreGood, HasGivenFront, HasTakenKept, IsShortLine}
 use Rattle.command_frame.specs.FirstFault.{Bounds, bytes_of_lines}
 use Rattle.command_frame.specs.LinesRun.{Gained}
 use Rattle.command_frame.specs.Report.{Report, gains_from, written}
@@ -26,20 +26,6 @@ nothing_taken {output} report has ready = record {
   good = λ earlier old. tt;
   gained = λ earlier old. sym (append-nil output);
   taken = λ earlier old. subst has (sym (append-nil earlier)) old;
-}
-
--- lines that give nothing leave any output as it was
-pub gives_no_more : {output : List ℕ} (report : Report) (old new : List (List ℕ) → Type 0) (ready : List ℕ) (bytes number : ℕ) → HasTakenFront report old new ready bytes number
-    → HasGivenFront report old new ready bytes number output output
-gives_no_more {output} report old new ready bytes number front = record {
-  lines = front.lines;
-  texts = front.texts;
-  short = front.short;
-  text = front.text;
-  count = front.count;
-  good = front.good;
-  gained = λ earlier has. sym (append-nil output) ∙ ap (λ l. output ++ l) (front.gained earlier has);
-  taken = front.taken;
 }
 
 -- where nothing is kept that may be taken, nothing was taken of it

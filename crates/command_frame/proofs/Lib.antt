@@ -9,8 +9,10 @@ mod EndedLemmas
 mod RunLemmas
 mod DocumentLemmas
 mod TextLoop
+mod PageLemmas
 mod DeliveryLemmas
 mod FrontLemmas
+mod FrontLoop
 mod StatusFactLemmas
 mod NotReadLemmas
 mod BehindFactLemmas

@@ -1,11 +1,11 @@
 -- From the run of a task to the run of the words that ask for it.
-use Rattle.std.proofs.Common.{◌≡◌, ◌⊎◌, ℕ, [], Option, Some, None, Result, Vec, refl, ap, sym, subst, ◌∙◌, inl, inr, arith}
+use Rattle.std.proofs.Common.{◌≡◌, ◌⊎◌, ℕ, List, [], Option, Some, None, Result, refl, ap, sym, subst, ◌∙◌, inl, inr, arith}
 use Rattle.command_frame.specs.declared.desk.Desk.{Desk}
 use Rattle.command_frame.specs.declared.halt.Halt.{Halt}
 use Rattle.command_frame.specs.Answer.{Answer, after, memory_answer, usage_answer}
 use Rattle.command_frame.specs.FirstFault.{Bounds, bounds_of}
 use Rattle.command_frame.specs.Run.{Ran}
-use Rattle.command_frame.specs.RunsTo.{RunsTo, Shown, Taken, rest_of, status_of}
+use Rattle.command_frame.specs.RunsTo.{RunsReady, Shown, Taken, answer_of, status_of}
 use Rattle.command_frame.specs.Task.{Task}
 use Rattle.command_frame.specs.Texts.{Texts, texts_of}
 use Rattle.command_frame.specs.WordsRan.{WordsRan, WordsRunTo}
@@ -13,20 +13,20 @@ use Rattle.command_frame.proofs.OutputLemmas.{append_nothing}
 use Rattle.command_frame.proofs.RunsToLemmas.{status_told}
 
 -- a task was run
-pub words_ran : {Z : Type 0} (desk : Desk) (texts : Texts) (task : Task) (asking : Option Task) (before now : Shown) (old new : Taken) (result : Result (Vec ℕ Z) Halt) (answer : Answer)
-    → texts_of desk.texts ≡ texts → asking ≡ Some task → answer ≡ rest_of texts result
-    → RunsTo desk task.names task.plan before now old new result
+pub words_ran : {R : Type 0} {text : R → List ℕ} (desk : Desk) (texts : Texts) (task : Task) (asking : Option Task) (before now : Shown) (old new : Taken) (result : Result R Halt) (answer : Answer)
+    → texts_of desk.texts ≡ texts → asking ≡ Some task → answer ≡ answer_of text texts result
+    → RunsReady text desk task.names task.plan before now old new result
     → WordsRunTo texts (bounds_of desk.limits) asking before now old new answer
-words_ran desk texts task asking before now old new result answer same asks is ran =
+words_ran {text = text} desk texts task asking before now old new result answer same asks is ran =
     let whole = ran.ran [] in
-    let given : rest_of (texts_of desk.texts) result ≡ answer = ap (λ t. rest_of t result) same ∙ sym is in
-    let status : status_of result ≡ answer.status = sym (status_told (texts_of desk.texts) result) ∙ ap (λ (a : Answer). a.status) given in
+    let given : answer_of text (texts_of desk.texts) result ≡ answer = ap (λ t. answer_of text t result) same ∙ sym is in
+    let status : status_of result ≡ answer.status = sym (status_told text (texts_of desk.texts) result) ∙ ap (λ (a : Answer). a.status) given in
     record {
       early = whole.0;
       written = whole.1.0;
       ran = subst (λ o. WordsRan texts (bounds_of desk.limits) before.files o before.moment now.moment (after whole.0 answer)) (sym asks)
           (inr (subst (λ a. Ran texts (bounds_of desk.limits) before.files [] task.names task.plan before.moment now.moment (after whole.0 a)) given
-          (subst (λ t. Ran t (bounds_of desk.limits) before.files [] task.names task.plan before.moment now.moment (after whole.0 (rest_of (texts_of desk.texts) result))) same whole.1.1)));
+          (subst (λ t. Ran t (bounds_of desk.limits) before.files [] task.names task.plan before.moment now.moment (after whole.0 (answer_of text (texts_of desk.texts) result))) same whole.1.1)));
       files = ran.files;
       unwritten = λ four. ran.unwritten (status ∙ four);
       sound = λ other. ran.sound (λ four. other (sym status ∙ four));

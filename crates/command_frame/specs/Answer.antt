@@ -1,4 +1,4 @@
--- What a run is to write and to answer, for its plan and the files of a folder.
+-- The answer of a plan over a folder: the file's absence, its first fault, or the output.
 use Rattle.std.specs.Prelude.{ℕ, ◌-◌, List, [], ◌++◌, Option, Some, None, take}
 use Rattle.hp_outside.specs.FaultTexts.{line_text, open_text}
 use Rattle.hp_outside.specs.declared.span.LineFault.TheVariants as reading

@@ -1,5 +1,7 @@
--- What a taker of lines takes of bytes at once.
-use Rattle.std.specs.Prelude.{◌≡◌, ℕ, ◌+◌, ◌<◌, ◌≤◌, List, [], ◌∷◌, ◌++◌, length, take, drop, All, None}
+-- A taker has taken a front of bytes where that front is so many whole short lines, each with its
+-- line feed, none has a fault after those before it, what they give stands behind what was given,
+-- and it has taken them behind all that it had taken. It takes them one by one.
+use Rattle.std.specs.Prelude.{◌≡◌, ℕ, ◌+◌, ◌<◌, ◌≤◌, List, [], ◌∷◌, ◌++◌, length, take, drop, All, Option, Some, None}
 use Rattle.hp_outside.specs.LineReaderState.{LineReaderState}
 use Rattle.hp_outside.specs.WholeLines.{IsLineText, text_of_lines}
 use Rattle.command_frame.specs.Report.{Report, gains_from}
@@ -28,11 +30,32 @@ pub record HasGivenFront (report : Report) (old new : List (List ℕ) → Type 0
       → after ≡ before ++ gains_from report earlier lines
   pub taken : (earlier : List (List ℕ)) → old earlier → new (earlier ++ lines)
 
--- the same, and they give nothing
-abbrev pub HasTakenFront : Report → (List (List ℕ) → Type 0) → (List (List ℕ) → Type 0) → List ℕ
-    → ℕ → ℕ → Type 0
-HasTakenFront report old new ready bytes number =
-    HasGivenFront report old new ready bytes number [] []
+-- the first line of these bytes has so many bytes with its line feed. It was taken behind all lines that were taken before,
+-- without a fault, and what it gives to standard output stands behind what stood there
+pub record HasGivenLine (report : Report) (old new : List (List ℕ) → Type 0) (ready : List ℕ)
+    (bytes : ℕ) (before after : List ℕ) : Type 0 where
+  pub line : List ℕ
+  pub one_line : IsLineText line
+  pub short : IsShortLine line
+  pub rest : List ℕ
+  pub split : ready ≡ line ++ (10 ∷ rest)
+  pub size : bytes ≡ length line + 1
+  pub no_fault : (earlier : List (List ℕ)) → old earlier → report.line_fault earlier line ≡ None
+  pub gained : (earlier : List (List ℕ)) → old earlier
+      → after ≡ before ++ report.gains earlier line
+  pub taken : (earlier : List (List ℕ)) → old earlier → new (earlier ++ line ∷ [])
+
+-- no line was taken, and the output is as it was
+pub record HasGivenNone (old new : List (List ℕ) → Type 0) (before after : List ℕ) : Type 0 where
+  pub kept : (lines : List (List ℕ)) → old lines → new lines
+  pub same : after ≡ before
+
+-- an answer of so many bytes says that the first line of these bytes was taken, and no answer that none was
+abbrev pub TakesFirst : Report → (List (List ℕ) → Type 0) → (List (List ℕ) → Type 0) → List ℕ
+    → List ℕ → List ℕ → Option ℕ → Type 0
+TakesFirst report old new ready before after (Some bytes) =
+    HasGivenLine report old new ready bytes before after
+TakesFirst report old new ready before after None = HasGivenNone old new before after
 
 -- a front of the bytes that a reader of lines keeps was taken and passed
 pub record HasTakenKept (report : Report) (old new : List (List ℕ) → Type 0)

@@ -1,4 +1,5 @@
--- What delivering an answer does to both outputs.
+-- What delivering an answer does to both outputs, standard output having gained bytes before or
+-- not.
 use Rattle.std.specs.Prelude.{◌≡◌, ◌≢◌, ◌≤◌, ℕ, List, Some}
 use Rattle.std.specs.Io.KnownBytes.{append_known}
 use Rattle.hp_outside.specs.declared.sink.Sink as sink

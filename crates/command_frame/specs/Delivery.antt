@@ -1,4 +1,6 @@
--- What the two outputs hold, and the status, once an answer was delivered.
+-- What the two outputs hold, and the status, once an answer was delivered. An answer is delivered
+-- where the status is its own and each output gained exactly its bytes; where a call failed, each
+-- output gained a front of them.
 use Rattle.std.specs.Prelude.{◌≡◌, ◌⊎◌, ℕ, List, Option}
 use Rattle.std.specs.Io.KnownBytes.{append_known}
 use Rattle.hp_outside.specs.Taken.{GainsFront}

@@ -1,4 +1,6 @@
--- How the reading of a named file as a whole may end, whatever a store tells and does.
+-- How the reading of a named file as a whole may end, whatever a store tells and does. The same of
+-- a file that is read whole: no fault of it is told where a read failed, and any but that it is too
+-- long only where its end was read.
 use Rattle.std.specs.Prelude.{◌≡◌, ◌+◌, ℕ, true, false, List, [], Option, Some, None}
 use Rattle.hp_outside.specs.Faults.{Rose}
 use Rattle.hp_outside.specs.Folder.{Folder, file_of}

@@ -1,4 +1,5 @@
--- How the reading of a named file by lines may end, whatever a store tells and does.
+-- Whatever a store tells and does, how the reading of a file by lines may end; a read that failed
+-- is told only where no line that was taken whole before it has a fault.
 use Rattle.std.specs.Prelude.{◌≡◌, ◌≤◌, ◌+◌, ◌-◌, ℕ, true, false, List, [], ◌++◌, length, take, Option, Some, None}
 use Rattle.hp_outside.specs.Faults.{Rose}
 use Rattle.hp_outside.specs.Folder.{Folder, file_of}

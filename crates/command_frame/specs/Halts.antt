@@ -1,4 +1,4 @@
--- What the end of a run is as an answer.
+-- The text and the status of each end of a run; what is yet to be delivered, as an answer.
 use Rattle.std.specs.Prelude.{ℕ, List}
 use Rattle.command_frame.specs.declared.halt.Halt.{Halt}
 use Rattle.command_frame.specs.declared.halt.Message.{Message}

@@ -1,4 +1,5 @@
--- What a store shows of itself beside its files, and how opening a file changes that.
+-- What a store shows of itself beside its files, and how opening a file changes that. What a store
+-- shows at a moment beside its files.
 use Rattle.std.specs.Prelude.{◌≡◌, ◌+◌, ℕ, Bool, List, Option}
 
 -- a moment of a store

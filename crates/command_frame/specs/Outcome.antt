@@ -1,4 +1,5 @@
--- What a run comes to before it is delivered.
+-- What a run comes to before it is delivered. How an open, a reading by lines and a reading of a
+-- whole file end, as data.
 use Rattle.std.specs.Prelude.{◌≡◌, ℕ, Bool, List, Option, Result, Ok, Err}
 use Rattle.hp_outside.specs.declared.store.OpenFault.{OpenFault}
 use Rattle.hp_outside.specs.declared.store.OpenFault.TheVariants as opening

@@ -1,4 +1,5 @@
--- What the store and both outputs show.
+-- What the store and both outputs show, whether a call of one failed, and that an answer was
+-- delivered whole.
 use Rattle.std.specs.Prelude.{ℕ}
 use Rattle.hp_outside.specs.declared.store.Store as store
 use Rattle.hp_outside.specs.declared.sink.Sink as sink

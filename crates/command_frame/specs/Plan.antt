@@ -1,4 +1,5 @@
--- What a command does with its files, one after another.
+-- What a command does with its files, one after another, each read by lines or whole; or a text
+-- that it writes while it is made.
 use Rattle.std.specs.Prelude.{ℕ, List}
 use Rattle.command_frame.specs.Report.{Report, Verdict}
 

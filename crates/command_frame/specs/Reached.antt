@@ -1,5 +1,7 @@
--- Faults that were reached before a call of the store failed. A failed call stands behind all that was taken before it, so what
--- the bytes taken show is told, and nothing that only the file's end shows.
+-- The first fault of a plan is reached, by what a store gave, where files behind its own were
+-- opened, or where the bytes taken of its file show it: the refused line and its line feed are
+-- among them, or one byte more than the line or the file may have. The end of a file, a last line
+-- without a line feed and a file that is read whole have faults that only the end shows.
 use Rattle.std.specs.Prelude.{◌≡◌, ◌⊎◌, ◌+◌, ◌-◌, ◌<◌, ◌≤◌, ℕ, if◌then◌else◌, List, length, take, Option, Some, None, unwrap_or}
 use Rattle.hp_outside.specs.Folder.{Folder, file_of}
 use Rattle.hp_outside.specs.Lines.{lines_of}

@@ -1,4 +1,5 @@
--- Files that were read to their ends, one after another.
+-- Files were read to their ends where there is a moment behind each at which it was opened and
+-- nothing of it is left, with no failed call before, and the next one was opened behind that.
 use Rattle.std.specs.Prelude.{◌≡◌, ℕ, true, List, [], ◌∷◌, Option, IsSome}
 use Rattle.hp_outside.specs.Folder.{Folder, file_of}
 use Rattle.hp_outside.specs.Taken.{WhereTold}

@@ -1,4 +1,5 @@
--- What is made of the lines of a file.
+-- What is made of the lines of a file: the fault of each and of the end, the bytes that each gives,
+-- and what all of them give.
 use Rattle.std.specs.Prelude.{ℕ, Bool, List, [], ◌∷◌, ◌++◌, Option}
 use Rattle.command_frame.specs.Told.{Told}
 

@@ -1,4 +1,7 @@
--- How a run of a program ends, of what the store and both outputs show before it and after it.
+-- How a run of a program ends, of what the store and both outputs show before it and after it. What
+-- every run promises: how an answer was delivered, where an answer of status 4 comes only where
+-- standard output failed; what each status says; and, where memory for the words was wanting, that
+-- nothing was read and that this is told.
 use Rattle.std.specs.Prelude.{◌≡◌, ◌≢◌, ◌+◌, ◌≤◌, ℕ, List, [], true, length, Some}
 use Rattle.std.specs.Io.KnownBytes.{append_known}
 use Rattle.hp_outside.specs.Taken.{GainsFront, WhereTold}

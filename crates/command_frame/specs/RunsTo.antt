@@ -1,5 +1,7 @@
--- What reading a file and running a plan come to, of what a store and an output show before it and after it.
-use Rattle.std.specs.Prelude.{◌≡◌, ◌≢◌, ℕ, List, Option, Result, Ok, Err, Vec}
+-- What reading a file and running a plan come to, of what a store and an output show before and
+-- after: how it ended, what is yet to be delivered, the files as they were, and failed writes
+-- exactly where the status says so.
+use Rattle.std.specs.Prelude.{◌≡◌, ◌≢◌, ℕ, List, Option, Result, Ok, Err, Vec, vec_items}
 use Rattle.std.specs.Io.KnownBytes.{append_known}
 use Rattle.hp_outside.specs.declared.store.Store as store
 use Rattle.hp_outside.specs.declared.sink.Sink as sink
@@ -48,9 +50,12 @@ abbrev pub status_of : {T : Type 0} → Result T Halt → ℕ
 status_of (Ok all) = 0
 status_of (Err halt) = status_code halt.status
 
+abbrev pub answer_of : {R : Type 0} → (R → List ℕ) → Texts → Result R Halt → Answer
+answer_of bytes texts (Ok rest) = done (bytes rest)
+answer_of bytes texts (Err halt) = halt_answer texts halt
+
 abbrev pub rest_of : {Z : Type 0} → Texts → Result (Vec ℕ Z) Halt → Answer
-rest_of texts (Ok rest) = done rest.items
-rest_of texts (Err halt) = halt_answer texts halt
+rest_of texts result = answer_of vec_items texts result
 
 -- a named file was read by lines: how that ended, and that writes failed exactly where the status says so
 pub record ReadsTo (desk : Desk) (name : List ℕ) (report : Report)
@@ -74,18 +79,25 @@ pub record WholeReadTo (desk : Desk) (name : List ℕ) (before now : Shown)
   pub files : now.files ≡ before.files
   pub no_write : status_of result ≢ 4
 
--- a plan was run over files of these names, whatever file was read last before it
-pub record RunsTo {Z : Type 0} (desk : Desk) (names : List (List ℕ)) (plan : Plan)
-    (before now : Shown)
-    (old new : Taken) (result : Result (Vec ℕ Z) Halt) : Type 0 where
+-- a plan was run over files of these names, whatever file was read last before it, and gave a text of these bytes that is ready to
+-- be written
+pub record RunsReady {R : Type 0} (bytes : R → List ℕ) (desk : Desk) (names : List (List ℕ))
+    (plan : Plan) (before now : Shown) (old new : Taken) (result : Result R Halt) : Type 0 where
   pub ran : (last : List ℕ)
       → RanTo (texts_of desk.texts) (bounds_of desk.limits) before.files last names plan
-      before.moment now.moment old.written new.written (rest_of (texts_of desk.texts) result)
+      before.moment now.moment old.written new.written
+      (answer_of bytes (texts_of desk.texts) result)
   pub files : now.files ≡ before.files
   pub unwritten : status_of result ≡ 4 → Rose old.faults new.faults
   pub sound : status_of result ≢ 4 → new.faults ≡ old.faults
 
--- the three, of a store and an output before it and after it
+-- the same, and the text is held
+abbrev pub RunsTo : {Z : Type 0} → Desk → List (List ℕ) → Plan → Shown → Shown → Taken → Taken
+    → Result (Vec ℕ Z) Halt → Type 0
+RunsTo desk names plan before now old new result =
+    RunsReady vec_items desk names plan before now old new result
+
+-- the four, of a store and an output before it and after it
 abbrev pub Reads : {S O : Type 0} → store.Ghosts S → sink.Ghosts O → Desk → List ℕ → Report
     → (List (List ℕ) → Type 0) → S → S → O → O → Result (Unit {0}) Halt → Type 0
 Reads s o desk name report has_taken before now old new result =
@@ -95,6 +107,12 @@ Reads s o desk name report has_taken before now old new result =
 abbrev pub ReadsWhole : {S : Type 0} → store.Ghosts S → Desk → List ℕ → S → S → Result (List ℕ) Halt
     → Type 0
 ReadsWhole s desk name before now result = WholeReadTo desk name (shown s before) (shown s now)
+    result
+
+abbrev pub Readies : {S O R : Type 0} → store.Ghosts S → sink.Ghosts O → (R → List ℕ) → Desk
+    → List (List ℕ) → Plan → S → S → O → O → Result R Halt → Type 0
+Readies s o bytes desk names plan before now old new result =
+    RunsReady bytes desk names plan (shown s before) (shown s now) (taken o old) (taken o new)
     result
 
 abbrev pub Runs : {S O Z : Type 0} → store.Ghosts S → sink.Ghosts O → Desk → List (List ℕ) → Plan

@@ -1,4 +1,5 @@
--- What a taker of lines says of its faults, and of what it makes of all lines.
+-- What a taker of lines says of its faults, and of what it makes of all lines. A refusal of a taker
+-- is the fault that its report says, unless memory was wanting.
 use Rattle.std.specs.Prelude.{◌≡◌, Option, Some}
 use Rattle.command_frame.specs.Told.{Told}
 use Rattle.command_frame.specs.Report as report

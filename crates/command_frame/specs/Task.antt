@@ -1,4 +1,5 @@
--- What a program's words ask for.
+-- What a program's words ask for: files in order, and a plan over them; the answer of that over a
+-- folder, and whether it writes nothing while it reads.
 use Rattle.std.specs.Prelude.{ℕ, List, [], Option, Some, None}
 use Rattle.hp_outside.specs.Folder.{Folder}
 use Rattle.command_frame.specs.Answer.{Answer, plan_answer, usage_answer}

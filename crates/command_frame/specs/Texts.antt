@@ -1,4 +1,4 @@
--- The texts of a program, and its messages.
+-- The texts of a program, and the messages at a file and at a line of it.
 use Rattle.std.specs.Prelude.{ℕ, List, ◌++◌, codes, decimal}
 use Rattle.command_frame.specs.declared.texts.ProgramTexts.{ProgramTexts}
 

@@ -1,4 +1,4 @@
--- What a fault is told as.
+-- What a fault is told as, and the status of each kind of fault.
 use Rattle.std.specs.Prelude.{ℕ, List}
 use Rattle.command_frame.specs.declared.fault.FaultStatus.{FaultStatus}
 use Rattle.command_frame.specs.declared.fault.FaultStatus.TheVariants.{Malformed, PastLimit}

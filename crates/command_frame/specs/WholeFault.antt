@@ -1,4 +1,4 @@
--- The fault of a file that is read whole.
+-- A file that is read whole has a fault of its own where it has more bytes than a file may have.
 use Rattle.std.specs.Prelude.{ℕ, nat_lt, if◌then◌else◌, List, length, Option, Some, None}
 use Rattle.command_frame.specs.FirstFault.{Bounds, input_too_long}
 use Rattle.command_frame.specs.Told.{Told}

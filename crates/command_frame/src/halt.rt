@@ -1,7 +1,8 @@
 //! Why a run ends before its output is whole: a message and a status that are ready to be delivered.
 ghost use Rattle.std.specs.Prelude.{◌≡◌, ◌≢◌, ◌++◌, codes, IfOk};
-ghost use Rattle.command_frame.specs.Answer.{file_answer, line_answer, memory_answer, refused};
-ghost use Rattle.command_frame.specs.Halts.{halt_answer, message_bytes, status_code};
+ghost use Rattle.command_frame.specs.Answer.{file_answer, line_answer, refused};
+ghost use Rattle.command_frame.specs.Halts.{message_bytes, status_code};
+ghost use Rattle.command_frame.specs.HaltsWith.{HaltsWith};
 ghost use Rattle.command_frame.specs.Texts.{at_file, at_line, texts_of};
 ghost use Rattle.command_frame.specs.Told.{code_of};
 
@@ -121,12 +122,8 @@ impl Halt {
     /// A file that is absent, or of which a call failed; or the halt for want of memory, where that is wanting for the
     /// message.
     pub fn unreadable(alloc: Global, texts: &ProgramTexts, file: &str, text: &str) -> Halt
-        ensures answer { status_code result.status ≢ 5
-            → halt_answer (texts_of texts.now) result
-            ≡ refused (at_file (texts_of texts.now) file.now text.now) 3 }
-        ensures memory { status_code result.status ≡ 5
-            → halt_answer (texts_of texts.now) result ≡ memory_answer (texts_of texts.now) }
-        ensures write { status_code result.status ≢ 4 }
+        ensures { HaltsWith (texts_of texts.now)
+            (refused (at_file (texts_of texts.now) file.now text.now) 3) result }
     {
         match text_message(alloc, texts, file, text) {
             Ok(message) => Halt {
@@ -139,12 +136,8 @@ impl Halt {
 
     /// A fault of a file, at no line; or the halt for want of memory.
     pub fn at_file<F: Fault>(alloc: Global, texts: &ProgramTexts, file: &str, fault: &F) -> Halt
-        ensures answer { status_code result.status ≢ 5
-            → halt_answer (texts_of texts.now) result
-            ≡ file_answer (texts_of texts.now) file.now (F.told fault.now) }
-        ensures memory { status_code result.status ≡ 5
-            → halt_answer (texts_of texts.now) result ≡ memory_answer (texts_of texts.now) }
-        ensures write { status_code result.status ≢ 4 }
+        ensures { HaltsWith (texts_of texts.now)
+            (file_answer (texts_of texts.now) file.now (F.told fault.now)) result }
     {
         match file_message(alloc, texts, file, fault) {
             Ok(message) => Halt {
@@ -163,12 +156,8 @@ impl Halt {
         number: u64,
         fault: &F,
     ) -> Halt
-        ensures answer { status_code result.status ≢ 5
-            → halt_answer (texts_of texts.now) result
-            ≡ line_answer (texts_of texts.now) file.now number (F.told fault.now) }
-        ensures memory { status_code result.status ≡ 5
-            → halt_answer (texts_of texts.now) result ≡ memory_answer (texts_of texts.now) }
-        ensures write { status_code result.status ≢ 4 }
+        ensures { HaltsWith (texts_of texts.now)
+            (line_answer (texts_of texts.now) file.now number (F.told fault.now)) result }
     {
         match line_message(alloc, texts, file, number, fault) {
             Ok(message) => Halt {

@@ -4,11 +4,12 @@ ghost use Rattle.std.specs.Prelude.{◌≡◌, ◌≢◌, ◌+◌, ◌-◌, ◌^
 ghost use Rattle.std.specs.Io.KnownBytes.{append_known};
 ghost use Rattle.hp_outside.specs.Faults.{Rose};
 ghost use Rattle.hp_outside.specs.Taken.{GainsFront, WhereTold};
-ghost use Rattle.command_frame.specs.Batch.{HasTakenKept};
-ghost use Rattle.hp_outside.specs.NewReader.{IsNewReader};
-ghost use Rattle.command_frame.specs.LinesRun.{LinesRun, end_of};
+ghost use Rattle.command_frame.specs.NewTaker.{IsNewTaker, KeepsTaker};
+ghost use Rattle.command_frame.specs.TakenReady.{HasTakenReady};
+ghost use Rattle.command_frame.specs.TakesFile.{MayReadLines, RanThrough, TakesFile};
 
 use crate::fault::{Fault, FaultStatus};
+use crate::front::take_batch;
 use crate::taker::{LineRefusal, LineTaker};
 use hp_num::{NoMemory, put_bytes};
 use hp_outside::{Failed, LineFault, LineReader, Sink, Store, write_whole};
@@ -59,7 +60,7 @@ pub enum LinesStop<F> {
 }
 
 /// Bytes of output that are kept back at most before they are written, but for what lines that are taken at once give.
-const PIECE: usize = 65_536;
+pub const PIECE: usize = 65_536;
 
 /// A line must be allowed so many bytes where lines are taken at once, since their lengths aren't judged.
 const LONGEST_AT_ONCE: u32 = 64;
@@ -72,35 +73,15 @@ pub fn read_through_buffer<T: LineTaker, S: Store, O: Sink>(
     out: &mut O,
     buffer: &mut Vec<u8>,
 ) -> Result<(), LinesStop<T::Fault>>
-    requires current { IsTrue (S.current store.old) }
-    requires bounds { lines.old.input ≤ 2 ^ 34 }
-    requires line_bound { lines.old.line_limit ≤ 1048576 }
-    requires new_lines { IsNewReader lines.old }
-    requires sound { T.is_sound taker.old }
-    requires new_taker { T.has_taken taker.old [] }
-    requires no_weight { T.weight taker.old ≡ 0 }
+    requires file { MayReadLines S.Store lines.old store.old }
+    requires taker { IsNewTaker T.LineTaker taker.old }
     requires no_output { buffer.old.items ≡ [] }
-    ensures run { (taken : List (List ℕ))
-        × ((count : ℕ) × (LinesRun (record { input = lines.old.input; line = lines.old.line_limit })
-        (T.report taker.old) (S.left store.old) (S.left store.new)
-        (O.written out.old) (O.written out.new) buffer.new.items
-        (end_of T.Fault.told result taken count) × OnOk result (T.has_taken taker.new taken))) }
-    ensures input { lines.new.input ≡ lines.old.input }
-    ensures line { lines.new.line_limit ≡ lines.old.line_limit }
-    ensures report { T.report taker.new ≡ T.report taker.old }
-    ensures sound_taker { OnOk result (T.is_sound taker.new) }
-    ensures ended { OnOk result (WhereTold (S.left store.new) (λ left. left ≡ [])) }
-    ensures failed { result ≡ Err LinesStop.ReadFailed
-        → Rose (S.faults store.old) (S.faults store.new) }
-    ensures sound_reads { result ≢ Err LinesStop.ReadFailed
-        → S.faults store.new ≡ S.faults store.old }
-    ensures write_failed { result ≡ Err LinesStop.WriteFailed
-        → Rose (O.faults out.old) (O.faults out.new) }
-    ensures sound_writes { result ≢ Err LinesStop.WriteFailed
-        → O.faults out.new ≡ O.faults out.old }
-    ensures files { S.files store.new ≡ S.files store.old }
-    ensures current { S.current store.new ≡ S.current store.old }
-    ensures opens { S.opens store.new ≡ S.opens store.old }
+    ensures run { RanThrough S.Store O.Sink T.Fault.told (T.report taker.old)
+        (T.has_taken taker.new) lines.old store.old store.new out.old out.new
+        buffer.new.items result }
+    ensures file { TakesFile S.Store O.Sink lines.old lines.new store.old store.new out.old out.new
+        result }
+    ensures taker { KeepsTaker T.LineTaker taker.old taker.new result }
 {
     'lines: loop {
         let number = lines.number() + 1;
@@ -146,17 +127,8 @@ fn take_ready<T: LineTaker>(lines: &mut LineReader, taker: &mut T, buffer: &mut 
     requires given { lines.old.given ≤ lines.old.input + 1 }
     requires sound { T.is_sound taker.old }
     requires weight { T.weight taker.old ≤ lines.old.given }
-    ensures taken { HasTakenKept (T.report taker.old) (T.has_taken taker.old)
-        (T.has_taken taker.new) lines.old lines.new buffer.old.items buffer.new.items }
-    ensures sound { T.is_sound taker.new }
-    ensures weight { T.weight taker.new ≤ lines.new.given }
-    ensures report { T.report taker.new ≡ T.report taker.old }
-    ensures given { lines.old.given ≤ lines.new.given }
-    ensures bounded { lines.new.given ≤ lines.new.input + 1 }
-    ensures input { lines.new.input ≡ lines.old.input }
-    ensures limit { lines.new.line_limit ≡ lines.old.line_limit }
-    ensures ended { lines.new.ended ≡ lines.old.ended }
-    ensures fault { lines.new.fault ≡ lines.old.fault }
+    ensures { HasTakenReady T.LineTaker lines.old lines.new taker.old taker.new buffer.old
+        buffer.new }
 {
     let ready = lines.ready_lines();
     if ready.is_empty() {
@@ -165,7 +137,7 @@ fn take_ready<T: LineTaker>(lines: &mut LineReader, taker: &mut T, buffer: &mut 
     if lines.line_limit() < LONGEST_AT_ONCE {
         return;
     }
-    let batch = taker.batch(ready, buffer);
+    let batch = take_batch(taker, ready, buffer);
     lines.pass(batch.bytes, batch.lines);
 }
 

@@ -1,8 +1,9 @@
 //! A whole run over two files that are read by lines, of which the first says what is made of the second.
 ghost use Rattle.std.specs.Prelude.{◌≡◌, ◌-◌, ◌^◌, ◌<◌, ℕ, List, [], ◌∷◌, IfOk};
+ghost use Rattle.command_frame.specs.NewTaker.{IsNewTaker};
 ghost use Rattle.command_frame.specs.Plan.{two_files};
 ghost use Rattle.command_frame.specs.Report.{Report};
-ghost use Rattle.command_frame.specs.RunsTo.{Runs};
+ghost use Rattle.command_frame.specs.RunsTo.{Readies};
 
 use crate::desk::Desk;
 use crate::files::read_named_file;
@@ -20,7 +21,7 @@ pub trait FilePair {
     type First: LineTaker + Drop;
 
     /// What takes those of the second, and makes the rest of the output.
-    type Second: LineReport + Drop;
+    type Second: LineReport;
 
     /// What is made of the second file, the first one having these lines.
     ghost second_report: { Self → List (List ℕ) → Report };
@@ -29,9 +30,7 @@ pub trait FilePair {
     /// wanting.
     fn second(&self, alloc: Global, first: Self::First) -> Result<Self::Second, NoMemory>
         requires sound { Self.First.is_sound first }
-        ensures sound { IfOk result (λ second. Self.Second.is_sound second) }
-        ensures new_taker { IfOk result (λ second. Self.Second.has_taken second []) }
-        ensures no_weight { IfOk result (λ second. Self.Second.weight second ≡ 0) }
+        ensures new { IfOk result (λ second. IsNewTaker Self.Second.LineTaker second) }
         ensures report { IfOk result
             (λ second. (lines : List (List ℕ)) → Self.First.has_taken first lines
             → Self.Second.report second ≡ second_report self.now lines) };
@@ -52,12 +51,11 @@ pub fn run_pair<P: FilePair, S: Store, O: Sink>(
     first: P::First,
     store: &mut S,
     out: &mut O,
-) -> Result<Vec<u8>, Halt>
+) -> Result<<P::Second as LineReport>::Rest, Halt>
     requires opens { S.opens store.old < 2 ^ 64 - 2 }
-    requires sound { P.First.is_sound first }
-    requires new_taker { P.First.has_taken first [] }
-    requires no_weight { P.First.weight first ≡ 0 }
-    ensures { Runs S.Store O.Sink desk.now (names.now.first.now ∷ names.now.second.now ∷ [])
+    requires taker { IsNewTaker P.First.LineTaker first }
+    ensures { Readies S.Store O.Sink P.Second.Rest.bytes desk.now
+        (names.now.first.now ∷ names.now.second.now ∷ [])
         (two_files names.now.first.now (P.First.report first)
         names.now.second.now (P.second_report pair.now))
         store.old store.new out.old out.new result }
@@ -68,6 +66,6 @@ pub fn run_pair<P: FilePair, S: Store, O: Sink>(
         Ok(()) => {}
         Err(halt) => return Err(halt),
     }
-    let mut second = pair.second(desk.alloc, first)?;
-    run_last_file(desk, &mut lines, names.second, &mut second, store, out)
+    let second = pair.second(desk.alloc, first)?;
+    run_last_file(desk, &mut lines, names.second, second, store, out)
 }

@@ -1,7 +1,9 @@
 //! A whole run over one file that is read by lines.
 ghost use Rattle.std.specs.Prelude.{◌≡◌, ◌-◌, ◌^◌, ◌<◌, [], ◌∷◌};
+ghost use Rattle.command_frame.specs.NewTaker.{IsNewTaker};
 ghost use Rattle.command_frame.specs.Plan.{one_file};
-ghost use Rattle.command_frame.specs.RunsTo.{Runs};
+ghost use Rattle.command_frame.specs.RunsTo.{Readies};
+ghost use Rattle.command_frame.specs.TakesFile.{HasLimits};
 
 use crate::desk::Desk;
 use crate::files::read_named_file;
@@ -14,18 +16,20 @@ use hp_outside::{LineReader, Sink, Store};
 pub fn run_one_file<T: LineReport, S: Store, O: Sink>(
     desk: &Desk,
     name: &str,
-    taker: &mut T,
+    taker: T,
     store: &mut S,
     out: &mut O,
-) -> Result<Vec<u8>, Halt>
+) -> Result<T::Rest, Halt>
     requires opens { S.opens store.old < 2 ^ 64 - 1 }
-    requires sound { T.is_sound taker.old }
-    requires new_taker { T.has_taken taker.old [] }
-    requires no_weight { T.weight taker.old ≡ 0 }
-    ensures { Runs S.Store O.Sink desk.now (name.now ∷ []) (one_file name.now (T.report taker.old))
+    requires taker { IsNewTaker T.LineTaker taker }
+    ensures { Readies S.Store O.Sink T.Rest.bytes desk.now (name.now ∷ [])
+        (one_file name.now (T.report taker))
         store.old store.new out.old out.new result }
 {
-    let mut lines = LineReader::new(desk.alloc, &desk.limits)?;
+    let Ok(mut lines) = LineReader::new(desk.alloc, &desk.limits) else {
+        taker.close();
+        return Err(Halt::no_memory());
+    };
     run_last_file(desk, &mut lines, name, taker, store, out)
 }
 
@@ -34,22 +38,24 @@ pub fn run_last_file<T: LineReport, S: Store, O: Sink>(
     desk: &Desk,
     lines: &mut LineReader,
     name: &str,
-    taker: &mut T,
+    taker: T,
     store: &mut S,
     out: &mut O,
-) -> Result<Vec<u8>, Halt>
+) -> Result<T::Rest, Halt>
     requires opens { S.opens store.old < 2 ^ 64 - 1 }
-    requires input { lines.old.input ≡ desk.now.limits.input }
-    requires line { lines.old.line_limit ≡ desk.now.limits.line }
-    requires sound { T.is_sound taker.old }
-    requires new_taker { T.has_taken taker.old [] }
-    requires no_weight { T.weight taker.old ≡ 0 }
-    ensures { Runs S.Store O.Sink desk.now (name.now ∷ []) (one_file name.now (T.report taker.old))
+    requires limits { HasLimits lines.old desk.now.limits }
+    requires taker { IsNewTaker T.LineTaker taker }
+    ensures { Readies S.Store O.Sink T.Rest.bytes desk.now (name.now ∷ [])
+        (one_file name.now (T.report taker))
         store.old store.new out.old out.new result }
 {
-    match read_named_file(desk, lines, name, taker, store, out) {
+    let mut taker = taker;
+    match read_named_file(desk, lines, name, &mut taker, store, out) {
         Ok(()) => {}
-        Err(halt) => return Err(halt),
+        Err(halt) => {
+            taker.close();
+            return Err(halt);
+        }
     }
     match taker.finish(desk.alloc) {
         Ok(rest) => Ok(rest),

@@ -1,7 +1,7 @@
 //! What takes the lines of a file, one after another. What the lines mean is the business of the commands.
-ghost use Rattle.std.specs.Prelude.{◌≡◌, ℕ, ◌+◌, ◌^◌, ◌<◌, ◌≤◌, List, [], ◌∷◌, ◌++◌, None, Some, length, OnOk, OnErr, IfErr};
+ghost use Rattle.std.specs.Prelude.{◌≡◌, ℕ, ◌+◌, ◌^◌, ◌<◌, ◌≤◌, List, [], ◌∷◌, ◌++◌, None, Some, length, unwrap_or, OnOk, OnErr, IfErr};
 ghost use Rattle.hp_outside.specs.WholeLines.{IsLineText};
-ghost use Rattle.command_frame.specs.Batch.{HasGivenFront};
+ghost use Rattle.command_frame.specs.Batch.{TakesFirst};
 ghost use Rattle.command_frame.specs.Report.{Report};
 ghost use Rattle.command_frame.specs.Taker.{Tells};
 
@@ -25,13 +25,6 @@ impl<F> From<NoMemory> for LineRefusal<F> {
     fn from(_: NoMemory) -> LineRefusal<F> {
         LineRefusal::NoMemory
     }
-}
-
-/// How many bytes at the front of others were taken, and how many lines these are.
-#[derive(Clone, Copy)]
-pub struct Batch {
-    pub bytes: usize,
-    pub lines: u64,
 }
 
 /// What takes the lines of a file.
@@ -85,19 +78,18 @@ pub trait LineTaker {
             (λ fault. (lines : List (List ℕ)) → has_taken self.now lines
             → (report self.now).end_fault lines ended ≡ Some (Self.Fault.told fault)) };
 
-    /// Takes whole lines at the front of the bytes, as `line` would, as long as each has fewer than 64 bytes and no fault,
-    /// and appends what they give to standard output. It may stop before any line. Where memory is wanting, a later call
-    /// tells it.
-    fn batch(&mut self, ready: &[u8], output: &mut Vec<u8>) -> Batch
+    /// Takes the line at the front of the bytes, as `line` would, and answers how many bytes it has with its line feed: a
+    /// whole line of fewer than 64 bytes that has no fault. `None` where it takes none, as it may of any line; then it
+    /// stands for the same lines. Where memory is wanting, a later call tells it.
+    fn front(&mut self, ready: &[u8], output: &mut Vec<u8>) -> Option<usize>
         requires sound { is_sound self.old }
         requires room { weight self.old + length ready.now ≤ 2 ^ 34 }
         ensures sound { is_sound self.new }
-        ensures taken { HasGivenFront (report self.old) (has_taken self.old) (has_taken self.new)
-            ready.now result.bytes result.lines output.old.items output.new.items }
-        ensures held { result.bytes ≤ length ready.now }
-        ensures weight { weight self.new ≤ weight self.old + result.bytes }
+        ensures taken { TakesFirst (report self.old) (has_taken self.old) (has_taken self.new)
+            ready.now output.old.items output.new.items result }
+        ensures weight { weight self.new ≤ weight self.old + unwrap_or result 0 }
         ensures report { report self.new ≡ report self.old }
     {
-        Batch { bytes: 0, lines: 0 }
+        None
     }
 }

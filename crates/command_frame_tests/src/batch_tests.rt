@@ -75,7 +75,7 @@ fn lines_at_once(rt: HostRuntime) -> Result<(), Fail> {
     for (piece, at_once, called) in [
         (1, true, 5),
         (7, true, 3),
-        (64, true, 3),
+        (64, true, 2),
         (1, false, 5),
         (7, false, 5),
         (64, false, 5),

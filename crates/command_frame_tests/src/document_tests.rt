@@ -3,7 +3,7 @@ ghost use Rattle.std.specs.Prelude.{◌≡◌};
 
 use crate::echo::Echo;
 use crate::runs::{Answer, Outputs, TEXTS, assert_answer, folder, sound_outputs};
-use command_frame::{Desk, Outcome, deliver, run_document};
+use command_frame::{Desk, deliver, run_document};
 use hp_outside::{Limits, MemStore};
 use std::alloc::Global;
 use std::process::Abort;
@@ -57,8 +57,7 @@ fn status_of(alloc: Global, case: &Case, store: &mut MemStore, outputs: &mut Out
     };
     let echo = Echo { refuses: false };
     let ran = run_document(&desk, case.file, &echo, store);
-    let outcome = Outcome::new(alloc, ran);
-    deliver(&outcome, &TEXTS, &mut outputs.out, &mut outputs.err)
+    deliver(ran, &TEXTS, &mut outputs.out, &mut outputs.err)
 }
 
 /// Runs a case, and asserts the status and what both outputs hold.

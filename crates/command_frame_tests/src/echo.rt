@@ -64,7 +64,9 @@ impl LineTaker for Echo {
 }
 
 impl LineReport for Echo {
-    fn finish(&mut self, alloc: Global) -> Result<Vec<u8>, LineRefusal<Bad>> {
+    type Rest = Vec<u8>;
+
+    fn finish(self, alloc: Global) -> Result<Vec<u8>, LineRefusal<Bad>> {
         if self.refuses {
             return Err(LineRefusal::Fault(Bad));
         }
@@ -72,4 +74,6 @@ impl LineReport for Echo {
         put_bytes(&mut output, b"end\n")?;
         Ok(output)
     }
+
+    fn close(self) {}
 }

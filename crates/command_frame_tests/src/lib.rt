@@ -9,6 +9,8 @@ mod document;
 mod document_tests;
 mod echo;
 #[cfg(test)]
+mod paged_tests;
+#[cfg(test)]
 mod pair_tests;
 mod refusing;
 #[cfg(test)]

@@ -4,7 +4,7 @@ ghost use Rattle.std.specs.Prelude.{◌≡◌};
 use crate::refusing::Refusing;
 use crate::runs::{Answer, Outputs, TEXTS, assert_answer, sound_outputs, two_files};
 use crate::signs::Signs;
-use command_frame::{Desk, Outcome, PairNames, deliver, run_pair};
+use command_frame::{Desk, PairNames, deliver, run_pair};
 use hp_outside::{Limits, MemStore};
 use std::alloc::Global;
 use std::process::Abort;
@@ -57,8 +57,7 @@ fn status_of(alloc: Global, case: &Case, store: &mut MemStore, outputs: &mut Out
         store,
         &mut outputs.out,
     );
-    let outcome = Outcome::new(alloc, ran);
-    deliver(&outcome, &TEXTS, &mut outputs.out, &mut outputs.err)
+    deliver(ran, &TEXTS, &mut outputs.out, &mut outputs.err)
 }
 
 /// Runs a case, and asserts the status and what both outputs hold.

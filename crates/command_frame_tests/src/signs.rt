@@ -2,7 +2,7 @@
 ghost use Rattle.std.specs.Prelude.{◌≡◌, ◌≤◌, ◌++◌, IsTrue, codes, drop, length};
 ghost use Rattle.command_frame_tests.specs.Signs.{no_fault, sign_report};
 
-use command_frame::{Batch, Fault, FaultStatus, LineRefusal, LineTaker};
+use command_frame::{Fault, FaultStatus, LineRefusal, LineTaker};
 use hp_num::{NoMemory, put_bytes};
 
 /// No line has a fault.
@@ -53,18 +53,18 @@ impl LineTaker for Signs {
         Ok(())
     }
 
-    fn batch(&mut self, ready: &[u8], _output: &mut Vec<u8>) -> Batch {
-        if self.at_once && begins_with_signs(ready) {
-            self.taken += 2;
-            return Batch { bytes: 4, lines: 2 };
+    fn front(&mut self, ready: &[u8], _output: &mut Vec<u8>) -> Option<usize> {
+        if self.at_once && begins_with_sign(ready) {
+            self.taken += 1;
+            return Some(2);
         }
-        Batch { bytes: 0, lines: 0 }
+        None
     }
 }
 
-/// Whether two lines of one sign stand at the front.
-fn begins_with_signs(ready: &[u8]) -> bool
-    ensures { IsTrue result → ready.now ≡ codes "+\n+\n" ++ drop 4 ready.now }
+/// Whether a line of one sign stands at the front.
+fn begins_with_sign(ready: &[u8]) -> bool
+    ensures { IsTrue result → ready.now ≡ codes "+\n" ++ drop 2 ready.now }
 {
-    ready.starts_with(b"+\n+\n")
+    ready.starts_with(b"+\n")
 }

@@ -3,7 +3,7 @@ ghost use Rattle.std.specs.Prelude.{◌≡◌};
 
 use crate::echo::Echo;
 use crate::runs::{Answer, Outputs, TEXTS, assert_answer, folder, sink, two_files};
-use command_frame::{Desk, Outcome, deliver, read_named_file, run_one_file};
+use command_frame::{Desk, deliver, read_named_file, run_one_file};
 use hp_num::{NoMemory, put_bytes};
 use hp_outside::{Limits, LineReader, MemSink, MemStore};
 use std::alloc::Global;
@@ -58,12 +58,11 @@ fn outputs(alloc: Global, case: &Case) -> Result<Outputs, NoMemory> {
 fn status_of(alloc: Global, case: &Case, store: &mut MemStore, outputs: &mut Outputs) -> u8
     requires unopened { store.old.store.opens ≡ 0 }
 {
-    let mut echo = Echo {
+    let echo = Echo {
         refuses: case.refuses,
     };
-    let ran = run_one_file(&desk(alloc), case.file, &mut echo, store, &mut outputs.out);
-    let outcome = Outcome::new(alloc, ran);
-    deliver(&outcome, &TEXTS, &mut outputs.out, &mut outputs.err)
+    let ran = run_one_file(&desk(alloc), case.file, echo, store, &mut outputs.out);
+    deliver(ran, &TEXTS, &mut outputs.out, &mut outputs.err)
 }
 
 /// Runs a case over these bytes, and asserts the status and what both outputs hold.
@@ -183,8 +182,8 @@ fn assert_one_piece(
 ) -> Result<(), Fail>
     requires unopened { store.old.store.opens ≡ 0 }
 {
-    let mut echo = Echo { refuses: false };
-    let ran = run_one_file(&desk(alloc), "t", &mut echo, store, out);
+    let echo = Echo { refuses: false };
+    let ran = run_one_file(&desk(alloc), "t", echo, store, out);
     assert!(rt; ran.is_err());
     assert_eq!(rt; out.bytes().len(), 65_540);
     Ok(())

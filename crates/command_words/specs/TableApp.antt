@@ -1,4 +1,5 @@
--- The command of `clap` that a table stands for.
+-- A table of words stands for a command of `clap`; words are taken where that finds no error in
+-- them, and give what it finds.
 use Rattle.std.specs.Prelude.{List, [], ◌∷◌, ◌++◌, Bool, true, Some, map, codes, if◌then◌else◌}
 use Rattle.clap.specs.Words.{App, Rule, Text, new_app, new_rule}
 use Rattle.clap.specs.declared.builder.ArgAction.TheVariants.{Append, SetTrue}

@@ -1,4 +1,4 @@
--- What a run is to write and to answer, for its words and the files of a folder.
+-- The answer to words over a folder.
 use Rattle.std.specs.Prelude.{ℕ, List, Option}
 use Rattle.hp_outside.specs.Folder.{Folder}
 use Rattle.command_frame.specs.Answer.{Answer}

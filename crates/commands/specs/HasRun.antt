@@ -1,4 +1,7 @@
--- What a run of the program comes to, of what the store and both outputs show before it and after it.
+-- What a run of the program comes to, of what the store and both outputs show before it and after
+-- it. All that is promised of a run of `heapsuite`: the defined answer unless something failed, and
+-- also then where its first fault was reached before; one that the words and the files allow
+-- whatever failed; and what every run promises.
 use Rattle.std.specs.Prelude.{◌≡◌, ◌≢◌, ◌⊎◌, ℕ, List, false, Some, None}
 use Rattle.std.specs.Io.KnownBytes.{append_known}
 use Rattle.hp_outside.specs.Folder.{Folder}

@@ -1,4 +1,5 @@
 pub mod Texts
+pub mod Output
 pub mod ReportPlans
 pub mod ProfilePlans
 pub mod Tasks

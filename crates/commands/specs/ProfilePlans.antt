@@ -1,4 +1,5 @@
--- What is done with the file of a command over one profile.
+-- What is done with the file of a command over one profile. The plan of `ms_print`, of `dhat_view`
+-- and of `convert` is to read the one file that was asked for, and to write of it what was asked.
 use Rattle.command_frame.specs.Plan.{Plan}
 use Rattle.profile_reading.specs.ConvertReport.{conversion_plan}
 use Rattle.profile_reading.specs.DhatFileReport.{dhat_file_plan}

@@ -1,4 +1,8 @@
--- What is done with the files of a command over one trace, or without one.
+-- What is done with the files of a command over one trace, or without one. The plan of `print` and
+-- of `flame` is to read the one trace, that of `print` behind a suppressions file where one is
+-- named, and then to write what was asked; that of `interpret` is to read the raw trace, behind the
+-- table of symbols where one is named; that of `gen` to write the generated trace while it is made,
+-- or its summary.
 use Rattle.std.specs.Prelude.{ℕ, List, [], if◌then◌else◌}
 use Rattle.command_frame.specs.Plan.{Ends, Pieces, Plan}
 use Rattle.command_frame.specs.Report.{Writes}

@@ -1,4 +1,4 @@
--- What is done for what was asked: the files that are read, and what becomes of them.
+-- What is done for what was asked: its files are read in order, by the plan of its command.
 use Rattle.std.specs.Prelude.{ℕ, List, [], ◌∷◌, Option}
 use Rattle.std.specs.Option.{option_map}
 use Rattle.command_frame.specs.Plan.{Ends, Plan}

@@ -1,7 +1,7 @@
 //! What each request comes to: a run of a report or of a profile. What the words say of it was read before.
 ghost use Rattle.std.specs.Prelude.{◌^◌, ◌<◌, [], ◌∷◌};
 ghost use Rattle.std.specs.Option.{option_copied};
-ghost use Rattle.command_frame.specs.RunsTo.{Runs, RunsTo, Shown, Taken, shown, taken};
+ghost use Rattle.command_frame.specs.RunsTo.{Readies, Runs, RunsTo, Shown, Taken, shown, taken};
 ghost use Rattle.heapsuite_words.specs.Requests.{convert_asked_by, flame_asked_by, gen_asked_by, massif_asked_by, page_asked_by, print_asked_by, view_asked_by};
 ghost use Rattle.trace_profiles.specs.DhatReport.{dhat_plan};
 ghost use Rattle.trace_profiles.specs.MassifReport.{massif_plan};
@@ -11,7 +11,7 @@ ghost use Rattle.trace_reports.specs.SummaryReport.{summary_plan};
 ghost use Rattle.commands.specs.ProfilePlans.{convert_plan, page_plan, view_plan};
 ghost use Rattle.commands.specs.ReportPlans.{flame_plan, gen_plan, print_plan};
 
-use command_frame::{Desk, Halt};
+use command_frame::{Desk, Halt, Paged, ReadyText};
 use heapsuite_words::{
     ConvertRequest, DhatRequest, DhatViewRequest, FlameRequest, GenRequest, InterpretRequest,
     MassifRequest, PageRequest, PrintRequest, SummaryRequest,
@@ -19,7 +19,9 @@ use heapsuite_words::{
 use hp_outside::{Sink, Store};
 use profile_reading::{PageReport, ViewReport, run_conversion, run_dhat_file, run_massif_file};
 use trace_profiles::{run_dhat, run_massif};
-use trace_reports::{run_flame, run_gen, run_gen_summary, run_interpret, run_print, run_summary};
+use trace_reports::{
+    FlameText, run_flame, run_gen, run_gen_summary, run_interpret, run_print, run_summary,
+};
 
 /// Reads the trace, and gives the text of its summary.
 pub fn summary<S: Store, O: Sink>(
@@ -65,9 +67,10 @@ pub fn flame<S: Store, O: Sink>(
     request: &FlameRequest,
     store: &mut S,
     out: &mut O,
-) -> Result<Vec<u8>, Halt>
+) -> Result<Paged<FlameText>, Halt>
     requires { S.opens store.old < 2 ^ 63 }
-    ensures { Runs S.Store O.Sink desk.now (request.now.trace.now ∷ [])
+    ensures { Readies S.Store O.Sink ⟦<Paged<FlameText> as ReadyText>⟧.bytes desk.now
+        (request.now.trace.now ∷ [])
         (flame_plan (flame_asked_by request.now))
         store.old store.new out.old out.new result }
 {

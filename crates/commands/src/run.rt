@@ -48,6 +48,6 @@ pub fn heapsuite_run<S: Store, O: Sink, E: Sink>(
         limits: *limits,
         texts: heapsuite_texts(),
     };
-    let outcome = run_words(&desk, words, store, out);
-    deliver(&outcome, &desk.texts, out, err)
+    let ran = run_words(&desk, words, store, out);
+    deliver(ran, &desk.texts, out, err)
 }

@@ -1,6 +1,6 @@
 //! Messages that no run here comes to: a table is full behind 2^32 entries, and memory is ample.
 
-use command_frame::{Halt, Outcome, deliver};
+use command_frame::{Halt, deliver};
 use commands::heapsuite_texts;
 use dhat_json::DhatFault;
 use hp_num::{NoMemory, put_bytes, put_dec};
@@ -14,9 +14,8 @@ use trace_reading::TraceFault;
 fn put_halt(alloc: Global, halt: Halt, all: &mut Vec<u8>) -> Result<(), NoMemory> {
     let mut out = MemSink::new(alloc, 99)?;
     let mut err = MemSink::new(alloc, 99)?;
-    let outcome = Outcome::new(alloc, Err(halt));
-    let status = deliver(&outcome, &heapsuite_texts(), &mut out, &mut err);
-    drop(outcome);
+    let ran: Result<Vec<u8>, Halt> = Err(halt);
+    let status = deliver(ran, &heapsuite_texts(), &mut out, &mut err);
     put_bytes(all, out.bytes())?;
     put_bytes(all, err.bytes())?;
     put_bytes(all, b"[")?;

@@ -1,4 +1,5 @@
--- What folded lines are: for each list the sum of the items with that list.
+-- What folded lines are: for each list the sum of the items with that list. For each list whose
+-- items' sum isn't 0 one line has that sum, and no other list has a line.
 use Rattle.std.specs.Prelude.{◌≡◌, ℕ, ◌<◌, List, Some, slice_get}
 use Rattle.cost_tree.specs.Costed.{Costed}
 use Rattle.cost_tree.specs.Inclusive.{own}

@@ -1,4 +1,7 @@
--- What the trees of a converted profile are: for each front of the points' lists the sum over the points that begin with it.
+-- What the trees of a converted profile are: for each front of the points' lists the sum over the
+-- points that begin with it. For each front of at most 200 texts whose points' sum isn't 0, and for
+-- the empty one, one line of a tree has that sum, and no other front has a line; a line's front is
+-- the labels from the root's child down to it.
 use Rattle.std.specs.Prelude.{◌≡◌, ◌≢◌, ℕ, ◌<◌, ◌≤◌, List, [], length, map, Some, IfSome, slice_get}
 use Rattle.cost_tree.specs.Costed.{Costed}
 use Rattle.cost_tree.specs.Inclusive.{inclusive}

@@ -1,4 +1,5 @@
--- The Massif profile of a DHAT profile.
+-- The Massif profile of a DHAT profile is its command, its unit, and two snapshots: what was live
+-- at the peak and at the end, each with the whole tree of the points to 200 frames.
 use Rattle.std.specs.Prelude.{ℕ, if◌then◌else◌, List, [], ◌∷◌, bytes_eq, codes, min, sum}
 use Rattle.std.specs.Option.{option_map_or}
 use Rattle.dhat_json.specs.declared.figure.FigureKey.{FigureKey}

@@ -1,4 +1,5 @@
--- What the faults of a conversion are called.
+-- What the faults of a conversion are called. What it is called that a profile can't be converted:
+-- as for a view where that has the fault too.
 use Rattle.std.specs.Prelude.{ℕ, List, codes}
 use Rattle.dhat_view.specs.declared.fault.ViewFault.TheVariants as view
 use Rattle.dhat_view.specs.FaultText.{fault_text as view_text}

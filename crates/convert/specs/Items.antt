@@ -1,4 +1,6 @@
--- What a DHAT profile has to fold: its points by their lists of texts, with the figure of a key.
+-- What a DHAT profile has to fold: its points by their lists of texts, with the figure of a key. An
+-- item is a list of texts and a number: of a profile one for each point, its list and its figure of
+-- the key.
 use Rattle.std.specs.Prelude.{List}
 use Rattle.cost_tree.specs.Costed.{Costed, costed}
 use Rattle.dhat_json.specs.declared.figure.FigureKey.{FigureKey}

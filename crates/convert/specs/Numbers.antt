@@ -1,4 +1,5 @@
--- How texts and lists of them are kept: each different text once, and a list as the numbers of its texts. For private clauses.
+-- How texts and lists of them are kept: each different text once, and a list as the numbers of its
+-- texts. For private clauses, for private clauses.
 use Rattle.std.specs.Prelude.{◌≡◌, ℕ, ◌≤◌, All, List, length, map}
 use Rattle.std.specs.Global.{Vec}
 use Rattle.cost_tree.specs.Costed.{Costed, costed}

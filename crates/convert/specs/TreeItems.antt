@@ -1,6 +1,8 @@
--- What a Massif tree has to fold: its lines by the labels above them, with the bytes that their children leave.
--- Of trees side by side, whose lines follow one another, a line has the first so many of the trees behind it below itself
--- as it has children, and the others beside itself.
+-- What a Massif tree has to fold: its lines by the labels above them, with the bytes that their
+-- children leave. Of trees side by side, whose lines follow one another, a line has the first so
+-- many of the trees behind it below itself as it has children, and the others beside itself. Of a
+-- Massif tree one for each line: the shown labels from the root's child down to it, and its bytes
+-- without those of its children, or 0 where they have more.
 use Rattle.std.specs.Prelude.{ℕ, ◌-◌, List, [], ◌∷◌, drop, flat_map, map, sum, take}
 use Rattle.cost_tree.specs.Costed.{Costed}
 use Rattle.dhat_json.specs.Shown.{shown}

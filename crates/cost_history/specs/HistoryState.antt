@@ -1,4 +1,6 @@
--- What contracts see of a history of costs.
+-- What contracts see of a history, and for how many stacks there is room to list their marks; each
+-- stack that isn't marked costs what it says; it is roomy while it has no more changes than twice
+-- those left and one for each stack.
 use Rattle.std.specs.Prelude.{◌≡◌, ℕ, ◌+◌, ◌<◌, ◌≤◌, nat_lt, false, List, [], length, map, filter}
 use Rattle.cost_history.specs.declared.change.Change.{Change}
 use Rattle.cost_history.specs.Changes.{cost_at}

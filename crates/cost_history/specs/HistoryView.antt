@@ -1,4 +1,4 @@
--- How contracts see the fields of a history, and what holds of these.
+-- How contracts see the fields of a history, and what holds of these, for private clauses.
 use Rattle.std.specs.Prelude.{ℕ, ◌^◌, ◌≤◌, List, length}
 use Rattle.cost_history.specs.declared.change.Change.{Change}
 use Rattle.cost_history.specs.Changes.{IsBetween}

@@ -1,4 +1,5 @@
--- What contracts see of marks.
+-- A stack is marked where it is listed or all are; the candidates are those that may be. A mark
+-- adds its stack alone, and marks all where there is no room to list it.
 use Rattle.std.specs.Prelude.{ℕ, Bool, true, false, ◌==◌, ◌||◌, nat_lt, if◌then◌else◌, List, [], ◌∷◌, ◌++◌}
 use Rattle.std.specs.List.{range_with_len}
 

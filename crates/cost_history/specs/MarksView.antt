@@ -1,4 +1,4 @@
--- How contracts see the fields of marks, and what holds of these.
+-- How contracts see the fields of marks, and what holds of these, for private clauses.
 use Rattle.std.specs.Prelude.{◌≡◌, ℕ, ◌^◌, ◌<◌, ◌≤◌, Bool, List, length, slice_index, take}
 use Rattle.cost_history.specs.Marks.{MarksState, RoomyMarks}
 

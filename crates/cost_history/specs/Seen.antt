@@ -1,4 +1,4 @@
--- What is kept of a list of changes while it is read from its end.
+-- What is kept of a list of changes while it is read from its end, for private clauses.
 use Rattle.std.specs.Prelude.{◌≡◌, ℕ, ◌-◌, ◌^◌, ◌<◌, ◌≤◌, ◌⊎◌, true, All, List, [], ◌∷◌, length, slice_index}
 use Rattle.cost_history.specs.declared.change.Change.{Change}
 use Rattle.cost_history.specs.Changes.{says}

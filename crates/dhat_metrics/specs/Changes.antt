@@ -1,4 +1,5 @@
--- What one event changes in lifetimes.
+-- What one event changes in lifetimes. Over an allocation or a free each block that was live has
+-- lived one event more; the event's stack alone gains or loses a block.
 use Rattle.std.specs.Prelude.{◌≡◌, ℕ, ◌+◌, ◌<◌, nat_lt, Bool, length, if◌then◌else◌}
 use Rattle.live_ledger.specs.declared.event.Event.{Event}
 use Rattle.live_ledger.specs.declared.event.Event.TheVariants.{Alloc, Free, Tick}

@@ -1,4 +1,4 @@
--- A stack's sums, and the figures that follow from them.
+-- The sums that a stack keeps, and the figures that follow from them.
 use Rattle.std.specs.Prelude.{ℕ, ◌+◌, ◌*◌, ◌-◌, ◌^◌, ◌<◌, ◌≤◌, nat_lt, List, length, map, slice_index_or, if◌then◌else◌}
 use Rattle.dhat_metrics.specs.declared.figures.LifeFigures.{LifeFigures}
 use Rattle.dhat_metrics.specs.declared.life.Life.{Life}

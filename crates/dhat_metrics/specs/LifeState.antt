@@ -1,4 +1,4 @@
--- What contracts see of lifetimes, and what holds of all of them.
+-- What holds of all lifetimes: the order of a stack's figures, and their bounds.
 use Rattle.std.specs.Prelude.{ℕ, ◌^◌, ◌<◌, ◌≤◌, List, length, slice_index_or}
 use Rattle.dhat_metrics.specs.declared.figures.LifeFigures.{LifeFigures}
 

@@ -1,4 +1,7 @@
--- Which lists of events lifetimes stand for.
+-- The lifetimes of a stack's blocks are the times of its frees and, for each block that is live,
+-- the time of the last event, less the times of its allocations. A stack's most is what it has live
+-- after the least number of events after which it has the most bytes. Lifetimes stand for a list
+-- where they count its events and each stack's figures are the list's.
 use Rattle.std.specs.Prelude.{◌≡◌, ℕ, ◌+◌, ◌*◌, ◌<◌, ◌≤◌, List, take}
 use Rattle.live_ledger.specs.declared.event.Event.{Event}
 use Rattle.live_ledger.specs.Events.{counted, event_count}

@@ -60,7 +60,7 @@ pub trace_is : (tables : TableState) (peaks : PeakState) (lifetimes : LifeState)
     → profile_of tables peaks.ledger.totals.events peaks.moment (figures_of peaks lifetimes) ≡ dhat_of tables events
 unfolding dhat_of
 trace_is tables peaks lifetimes events by_peaks by_lives =
-    let te : peaks.ledger.totals.events ≡ event_count events = by_peaks.ledger.figures.events_is in
+    let te : peaks.ledger.totals.events ≡ event_count events = by_peaks.ledger.whole.figures.events_is in
     let tg : peaks.moment ≡ peak_moment events = sym (peak_moment_is peaks.moment events by_peaks.peak) in
     let figures : figures_of peaks lifetimes ≡ figures_in events = all_figures peaks lifetimes events by_peaks by_lives in
     ap (λ n. profile_of tables n peaks.moment (figures_of peaks lifetimes)) te

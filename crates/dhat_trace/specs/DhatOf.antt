@@ -1,4 +1,5 @@
--- The DHAT profile of a trace.
+-- The profile of a trace has these points and this table; it ends at the number of events and peaks
+-- at the first greatest total.
 use Rattle.std.specs.Prelude.{ℕ, ◌+◌, true, false, List, length, codes, Some, None}
 use Rattle.dhat_json.specs.declared.profile.Dhat.{Dhat}
 use Rattle.dhat_json.specs.declared.profile.Point.{Point}

@@ -1,4 +1,5 @@
--- The table of frames, in which each text has a place, from 0.
+-- The table of frames is `[root]` and then each text of the frames of the points where it first
+-- comes; a text's place is its first one.
 use Rattle.std.specs.Prelude.{◌≡◌, ℕ, List, ◌∷◌, ◌++◌, map, position, unwrap_or, codes, Some}
 use Rattle.std.specs.List.{flat_map}
 use Rattle.std.specs.Str.{bytes_eq}

@@ -1,4 +1,5 @@
--- The figures of a stack as a point tells them.
+-- The figures of a stack as a point tells them. The figures of a stack are its allocations, its
+-- lifetimes, its most bytes and the blocks then, and what it has live at the peak and at the end.
 use Rattle.std.specs.Prelude.{ℕ, ◌+◌, ◌*◌, ◌-◌, List, map, slice_index}
 use Rattle.std.specs.List.{range_with_len}
 use Rattle.dhat_metrics.specs.LifeState as lives

@@ -1,4 +1,6 @@
--- Texts of a trace as they stand in a profile, whose texts are UTF-8.
+-- Texts of a trace as they stand in a profile, whose texts are UTF-8. A text of a profile is the
+-- trace's where that is UTF-8, and else has `?` for each byte that isn't ASCII; the command has no
+-- blanks at its begin, and is `(none)` where nothing is left.
 use Rattle.std.specs.Prelude.{ℕ, ◌==◌, nat_lt, if◌then◌else◌, List, [], ◌∷◌, map, codes, Option, Some, None}
 use Rattle.std.specs.Str.{is_utf8}
 

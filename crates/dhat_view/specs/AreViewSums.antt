@@ -1,4 +1,8 @@
--- What the lines of a view are: of a front the sum over the stacks that begin with it, and of gathered fronts their sum and number.
+-- What the lines of a view are: of a front the sum over the stacks that begin with it, and of
+-- gathered fronts their sum and number. Each line of a front has the sum of the points that begin
+-- with it, and each front of at most so many texts whose sum isn't 0 and whose share is not below
+-- the threshold has one line. A line of gathered places stands below a front's line and has the sum
+-- and the number of all fronts one text longer whose share is below the threshold.
 use Rattle.std.specs.Prelude.{◌≡◌, ◌≢◌, ℕ, ◌+◌, ◌*◌, ◌<◌, ◌≤◌, All, AllPairs, Contains, List, [], ◌∷◌, ◌++◌, drop, length, take, Some, slice_get, sum, sum_by}
 use Rattle.std.specs.List.{flat_map}
 use Rattle.cost_tree.specs.declared.scale.Scale.{Scale}

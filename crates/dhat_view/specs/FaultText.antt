@@ -1,4 +1,4 @@
--- What the faults of a view are called.
+-- What it is called that a profile has no view.
 use Rattle.std.specs.Prelude.{ℕ, List, codes}
 use Rattle.dhat_view.specs.declared.fault.ViewFault.{ViewFault}
 use Rattle.dhat_view.specs.declared.fault.ViewFault.TheVariants.{NoFigures, TooLarge, NoMemory}

@@ -1,4 +1,6 @@
--- The lines of a view.
+-- The lines of a view. A line is two blanks for each level behind the first, the share, the cost
+-- with commas in brackets, and the front's last text, or of gathered places their number and the
+-- threshold.
 use Rattle.std.specs.Prelude.{ℕ, ◌-◌, ◌*◌, ◌==◌, if◌then◌else◌, List, [], ◌++◌, codes, decimal}
 use Rattle.cost_tree.specs.declared.scale.Scale.{Scale}
 use Rattle.cost_tree.specs.CostLines.{FrontLine, Shown, a_front, gathered, last_of}

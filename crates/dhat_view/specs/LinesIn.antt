@@ -1,4 +1,4 @@
--- What private clauses say of a tree and its lines.
+-- What private clauses say of a tree and its lines, for private clauses.
 use Rattle.std.specs.Prelude.{◌≡◌, ℕ, ◌^◌, ◌≤◌, List, sum_by}
 use Rattle.cost_tree.specs.declared.line.CostLine.{CostLine}
 use Rattle.cost_tree.specs.declared.scale.Scale.{Scale}

@@ -1,4 +1,5 @@
--- Texts by numbers of names.
+-- The numbers of a profile's shown texts are those of names, one for each, and a point's numbers
+-- are those of its frames.
 use Rattle.std.specs.Prelude.{◌≡◌, ℕ, All, List, [], ◌∷◌, ◌++◌, map, slice_index}
 use Rattle.cost_tree.specs.Texts.{IsText, texts_of}
 use Rattle.dhat_json.specs.declared.profile.Point.{Point}

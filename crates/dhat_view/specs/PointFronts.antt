@@ -1,4 +1,5 @@
--- The frames of a profile's points as lists of texts.
+-- The frames of a profile's points as lists of texts. The list of a point is the shown texts of its
+-- frames, from the first to the last, and its cost the figure of the key.
 use Rattle.std.specs.Prelude.{ℕ, List, [], map, slice_index_or}
 use Rattle.dhat_json.specs.declared.profile.Point.{Point}
 use Rattle.dhat_json.specs.declared.profile.Dhat.{Dhat}

@@ -1,4 +1,5 @@
--- The tree of a view: what some points cost below each front of their texts.
+-- The tree of a view: what some points cost below each front of their texts. The view's tree is the
+-- lines of the points' tree without the first.
 use Rattle.std.specs.Prelude.{ℕ, List, drop}
 use Rattle.std.specs.List.{flat_map}
 use Rattle.cost_tree.specs.declared.scale.Scale.{Scale}

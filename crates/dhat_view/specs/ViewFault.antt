@@ -1,4 +1,5 @@
--- Why a profile has no view.
+-- A profile has no view where its points have no figures of the key, or where these sum to more
+-- than 2^62.
 use Rattle.std.specs.Prelude.{◌^◌, nat_lt, if◌then◌else◌, Option, Some, None, sum}
 use Rattle.dhat_json.specs.declared.figure.FigureKey.{FigureKey}
 use Rattle.dhat_json.specs.declared.profile.Dhat.{Dhat}

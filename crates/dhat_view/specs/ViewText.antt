@@ -1,4 +1,5 @@
--- The view of a profile.
+-- The view of a profile. The view is the command, the number of points, the sum of the figures, an
+-- empty line and the tree, to so many frames.
 use Rattle.std.specs.Prelude.{ℕ, List, ◌++◌, codes, decimal, length, sum}
 use Rattle.cost_tree.specs.Costed.{costed}
 use Rattle.dhat_json.specs.declared.figure.FigureKey.{FigureKey}

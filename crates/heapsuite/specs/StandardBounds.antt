@@ -1,4 +1,4 @@
--- The bounds within which the program reads: 2^34 bytes a file, and 1,048,576 a line.
+-- The bounds of the program: a file has at most 2^34 bytes, a line 1,048,576.
 use Rattle.std.specs.Prelude.{◌^◌}
 use Rattle.command_frame.specs.FirstFault.{Bounds}
 

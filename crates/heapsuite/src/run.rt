@@ -7,7 +7,7 @@ ghost use Rattle.commands.specs.HasRun.{HasRun};
 ghost use Rattle.commands.specs.Texts.{heapsuite_texts as the_texts};
 ghost use Rattle.heapsuite.specs.StandardBounds.{standard_bounds};
 
-use command_frame::{Halt, Outcome, deliver};
+use command_frame::{Halt, deliver};
 use commands::{heapsuite_run, heapsuite_texts};
 use hp_num::NoMemory;
 use hp_outside::{Limits, Sink, Store};
@@ -37,8 +37,8 @@ pub fn heapsuite_main<S: Store, O: Sink, E: Sink>(
             ExitCode::from(status)
         }
         Err(NoMemory) => {
-            let outcome = Outcome::new(alloc, Err(Halt::no_memory()));
-            let status = deliver(&outcome, &heapsuite_texts(), out, err);
+            let ran: Result<Vec<u8>, Halt> = Err(Halt::no_memory());
+            let status = deliver(ran, &heapsuite_texts(), out, err);
             ExitCode::from(status)
         }
     }

@@ -1,4 +1,6 @@
--- The commands by their names.
+-- The commands by their names. The first word names a command or, as `--help`, the usage text; what
+-- words ask for is what those behind it ask of that command, and nothing where the first names none
+-- or the others aren't taken.
 use Rattle.std.specs.Prelude.{ℕ, List, codes, Option, Some, None, if◌then◌else◌}
 use Rattle.std.specs.Str.{bytes_eq}
 use Rattle.heapsuite_words.specs.declared.command.Command.{Command}

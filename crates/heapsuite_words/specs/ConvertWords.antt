@@ -1,4 +1,6 @@
--- The words of `convert`.
+-- The words of `convert` name one file, what kind of file it is and what is written of it, and a
+-- figure and a snapshot or none; they settle one of three conversions, since no Massif file is
+-- written of a Massif file.
 use Rattle.std.specs.Prelude.{ℕ, List, [], ◌∷◌, codes, true, Option, Some, None, if◌then◌else◌}
 use Rattle.std.specs.Option.{option_and_then, option_map}
 use Rattle.std.specs.Str.{bytes_eq}

@@ -1,4 +1,4 @@
--- The words of `dhat`.
+-- The words of `dhat` name one trace.
 use Rattle.std.specs.Prelude.{ℕ, List, [], true, Option}
 use Rattle.std.specs.Option.{option_and_then}
 use Rattle.command_words.specs.TableApp.{Table}

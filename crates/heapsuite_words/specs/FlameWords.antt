@@ -1,4 +1,4 @@
--- The words of `flame`.
+-- The words of `flame` name one trace, and a cost or none, which is allocations.
 use Rattle.std.specs.Prelude.{ℕ, List, [], ◌∷◌, codes, true, Option, Some, None, if◌then◌else◌}
 use Rattle.std.specs.Option.{option_and_then, option_map}
 use Rattle.std.specs.Str.{bytes_eq}

@@ -1,4 +1,5 @@
--- The words of `gen`.
+-- The words of `gen` give a seed, a number of events and one of stacks, each in its range, and
+-- whether the summary is asked for.
 use Rattle.std.specs.Prelude.{ℕ, List, [], ◌∷◌, codes, Bool, false, Option}
 use Rattle.std.specs.Option.{option_and_then, option_map}
 use Rattle.command_words.specs.TableApp.{Table}

@@ -1,4 +1,5 @@
--- The words of `interpret`.
+-- The words of `interpret` name one raw trace, and a table of symbols or none; standard input is
+-- only one of them.
 use Rattle.std.specs.Prelude.{ℕ, List, [], ◌∷◌, codes, Bool, false, true, ◌&&◌, Option, Some, None, if◌then◌else◌}
 use Rattle.std.specs.Option.{option_and_then}
 use Rattle.std.specs.Str.{bytes_eq}

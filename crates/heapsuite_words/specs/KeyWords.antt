@@ -1,4 +1,5 @@
--- The key of a figure as the value of an option.
+-- The value of an option is the key of a figure where it is the name of one; where the option isn't
+-- given, it is that of all bytes.
 use Rattle.std.specs.Prelude.{ℕ, List, codes, Option, Some, None, if◌then◌else◌}
 use Rattle.std.specs.Str.{bytes_eq}
 use Rattle.dhat_json.specs.declared.figure.FigureKey.{FigureKey}

@@ -1,4 +1,6 @@
--- Numbers as values of options.
+-- Numbers as values of options. The value of an option is a number in a range where it is the
+-- decimal digits of one, or a percentage up to 100; an option that isn't given has its default, or
+-- no number where it has none.
 use Rattle.std.specs.Prelude.{ℕ, ◌&&◌, nat_le, List, Option, Some, None, if◌then◌else◌}
 use Rattle.std.specs.Option.{option_and_then, option_map}
 use Rattle.hp_num.specs.ParsedDec.{parsed_dec}

@@ -1,4 +1,5 @@
--- The words of `ms_print`.
+-- The words of `ms_print` name one Massif file, and a value in its range for the threshold and both
+-- sizes of the graph, or leave it as it is.
 use Rattle.std.specs.Prelude.{ℕ, List, [], ◌∷◌, codes, true, Option}
 use Rattle.std.specs.Option.{option_and_then, option_map}
 use Rattle.command_words.specs.TableApp.{Table}

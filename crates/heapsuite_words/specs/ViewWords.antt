@@ -1,4 +1,5 @@
--- The words of `dhat_view`.
+-- The words of `dhat_view` name one profile, and for the figure, the threshold and the depth a
+-- value in its range each, or leave it as it is.
 use Rattle.std.specs.Prelude.{ℕ, List, [], ◌∷◌, codes, true, Option}
 use Rattle.std.specs.Option.{option_and_then, option_map}
 use Rattle.command_words.specs.TableApp.{Table}

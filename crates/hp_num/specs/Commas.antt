@@ -1,4 +1,5 @@
--- How a number is written with commas.
+-- How a number is written with commas. In the text with commas a comma stands after each digit that
+-- full groups of three digits follow, one group at least.
 use Rattle.std.specs.Prelude.{ℕ, ◌%◌, Bool, ◌&&◌, List, [], ◌∷◌, length, decimal, nat_eq, nat_lt, if◌then◌else◌}
 
 -- so many digits are full groups of three, one at least

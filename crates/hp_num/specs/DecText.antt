@@ -1,4 +1,5 @@
--- Which texts are numbers in decimal digits.
+-- Which texts are numbers in decimal digits. A decimal text is 1 to 20 digits whose value is at
+-- most 2^64 - 1.
 use Rattle.std.specs.Prelude.{◌≡◌, ℕ, ◌^◌, ◌<◌, ◌≤◌, List, length, slice_index, All}
 use Rattle.std.specs.Str.Parse.{digits_value}
 use Rattle.hp_num.specs.Digits.{IsDecimalDigit}

@@ -1,4 +1,5 @@
--- The bytes that are digits.
+-- The bytes that are digits. A digit is a byte from `0` to `9`; a hexadecimal one may be `a` to `f`
+-- too.
 use Rattle.std.specs.Prelude.{ℕ, ◌⊎◌}
 use Rattle.std.specs.Int.{IsInRange}
 

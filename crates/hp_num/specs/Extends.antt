@@ -1,4 +1,4 @@
--- What stands after an append that may have failed halfway.
+-- After an append that may have failed halfway the new list begins with the old one.
 use Rattle.std.specs.Prelude.{◌≡◌, ℕ, List, length, take}
 
 -- the new list begins with the old one

@@ -1,4 +1,5 @@
--- Which texts are numbers in hexadecimal digits.
+-- Which texts are numbers in hexadecimal digits. A hexadecimal text is 1 to 16 digits of either
+-- case, and its value is theirs in base 16.
 use Rattle.std.specs.Prelude.{◌≡◌, ℕ, ◌<◌, ◌≤◌, List, length, slice_index, All}
 use Rattle.hp_num.specs.Digits.{IsHexDigit, IsLowerHexDigit}
 

@@ -1,4 +1,5 @@
--- How a number is written in hexadecimal digits.
+-- How a number is written in hexadecimal digits. The decimal and the hexadecimal text of a number
+-- are its shortest ones; hexadecimal letters are in lower case.
 use Rattle.std.specs.Prelude.{ℕ, false, List}
 use Rattle.std.specs.Fmt.{digits}
 

@@ -1,4 +1,5 @@
--- Which texts are digits in a base.
+-- A numeral in a base is 1 to so many of its digits, letters being of either case, and nothing
+-- else.
 use Rattle.std.specs.Prelude.{ℕ, Bool, ◌&&◌, List, length, nat_lt, nat_le}
 use Rattle.std.specs.List.{list_all}
 use Rattle.std.specs.Char.{is_digit}

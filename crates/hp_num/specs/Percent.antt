@@ -1,4 +1,5 @@
--- How hundredths of a percent are written.
+-- How hundredths of a percent are written. A percentage is written as its whole percents in two
+-- digits at least, a point, two digits and `%`.
 use Rattle.std.specs.Prelude.{ℕ, ◌/◌, ◌%◌, List, [], ◌∷◌, ◌++◌, nat_lt, decimal, if◌then◌else◌}
 
 -- n in decimal digits, of which there are at least two

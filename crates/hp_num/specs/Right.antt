@@ -1,4 +1,4 @@
--- How bytes are set to the right.
+-- Bytes to the right of a width have blanks before them up to it; longer ones stand whole.
 use Rattle.std.specs.Prelude.{ℕ, ◌-◌, List, ◌++◌, length, replicate}
 
 -- blanks up to the width, and the bytes; bytes that are longer stand whole

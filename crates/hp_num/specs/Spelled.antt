@@ -1,4 +1,4 @@
--- Numbers as the fields of a line.
+-- Numbers as the fields of a line stand in hexadecimal, each behind a blank.
 use Rattle.std.specs.Prelude.{ℕ, List, [], ◌∷◌, ◌++◌}
 use Rattle.hp_num.specs.Hexadecimal.{hexadecimal}
 

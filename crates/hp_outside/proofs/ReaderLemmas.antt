@@ -1,5 +1,5 @@
 -- What a reader of lines says of itself where it gives a line, and where it gives none.
-use Rattle.std.proofs.Common.{◌≡◌, ◌≢◌, ◌+◌, ◌<◌, ◌≤◌, ℕ, Bool, true, false, List, [], ◌∷◌, Option, None, Some, Result, Ok, Err, ◌++◌, length, length-append, take, length-take, refl, sym, ap, subst, ◌-◌, ◌∙◌, arith, is_some, is_ok}
+use Rattle.std.proofs.Common.{◌≡◌, ◌≢◌, ◌⊎◌, inl, inr, if◌then◌else◌, ◌+◌, ◌<◌, ◌≤◌, ℕ, Bool, true, false, List, [], ◌∷◌, Option, None, Some, Result, Ok, Err, ◌++◌, length, length-append, take, length-take, refl, sym, ap, subst, ◌-◌, ◌∙◌, arith, is_some, is_ok}
 use Rattle.std.proofs.lemmas.Bool.{false≢true}
 use Rattle.std.proofs.Math.Seq.{take-length}
 use Rattle.std.specs.Io.KnownBytes.{prepend_known}
@@ -7,6 +7,7 @@ use Rattle.hp_outside.specs.Taken.{WhereTold}
 use Rattle.hp_outside.specs.Judgement.{IsJudgement}
 use Rattle.hp_outside.specs.NextLine.{IsUndecided}
 use Rattle.hp_outside.specs.LineReaderState.{LineReaderState}
+use Rattle.hp_outside.specs.ReaderCalls.{StandsAt}
 use Rattle.hp_outside.specs.declared.span.LineFault.{LineFault}
 use Rattle.hp_outside.specs.declared.span.LineFault.TheVariants.{ReadFailed}
 use Rattle.hp_outside.specs.declared.span.Span.{Span}
@@ -15,14 +16,6 @@ use Rattle.hp_outside.specs.declared.line_end.Judgement.TheVariants.{Open}
 use Rattle.hp_outside.proofs.LineLemmas.{judged_at}
 
 -- what is the same where no line is given
-pub record StandsAt (old new : LineReaderState) : Type 0 where
-  pub input : new.input ≡ old.input
-  pub line_limit : new.line_limit ≡ old.line_limit
-  pub passed : new.passed ≡ old.passed
-  pub number : new.number ≡ old.number
-  pub given : new.given ≡ old.given
-  pub line_ended : new.line_ended ≡ old.line_ended
-
 pub stands_still : (reader : LineReaderState) → StandsAt reader reader
 stands_still reader = record { input = refl; line_limit = refl; passed = refl; number = refl; given = refl; line_ended = refl }
 
@@ -38,15 +31,14 @@ stands_refused old reader new fault same after = record {
 }
 
 -- and where each of these was the same a step before
-pub stands_on : (old reader new : LineReaderState) → StandsAt old reader → new.input ≡ reader.input → new.line_limit ≡ reader.line_limit → new.passed ≡ reader.passed → new.number ≡ reader.number
-    → new.given ≡ reader.given → new.line_ended ≡ reader.line_ended → StandsAt old new
-stands_on old reader new same input limit passed number given line_ended = record {
-  input = input ∙ same.input;
-  line_limit = limit ∙ same.line_limit;
-  passed = passed ∙ same.passed;
-  number = number ∙ same.number;
-  given = given ∙ same.given;
-  line_ended = line_ended ∙ same.line_ended;
+pub stands_on : {old reader new : LineReaderState} → StandsAt old reader → StandsAt reader new → StandsAt old new
+stands_on same more = record {
+  input = more.input ∙ same.input;
+  line_limit = more.line_limit ∙ same.line_limit;
+  passed = more.passed ∙ same.passed;
+  number = more.number ∙ same.number;
+  given = more.given ∙ same.given;
+  line_ended = more.line_ended ∙ same.line_ended;
 }
 
 -- a judgement of the bytes that a reader keeps, by what it had at first
@@ -149,3 +141,12 @@ left_at_end (Some was) (Some left) kept more count none rest long ended value to
 -- a read that gave something leaves more
 pub longer_by : (old kept new count : ℕ) → kept ≡ old → new ≡ kept + count → (count ≢ 0) → old < new
 longer_by old kept new count same long some = omega arith
+
+-- a reader moves behind a line and its line feed, or behind the last line of its file
+pub law_moved : (old new : LineReaderState) → new.passed ≡ old.passed + length new.line + (if new.line_ended then 1 else 0) → (new.line_ended ≡ false → (new.ended ≡ true) × (new.kept ≡ []))
+    → (new.passed ≡ old.passed + length new.line + 1) ⊎ ((new.passed ≡ old.passed + length new.line) × (new.ended ≡ true))
+law_moved old new step last = by new.line_ended refl
+  where
+    by : (b : Bool) → new.line_ended ≡ b → (new.passed ≡ old.passed + length new.line + 1) ⊎ ((new.passed ≡ old.passed + length new.line) × (new.ended ≡ true))
+    by true fed = inl (step ∙ ap (λ b. old.passed + length new.line + (if b then 1 else 0)) fed)
+    by false unfed = inr (omega (arith, step ∙ ap (λ b. old.passed + length new.line + (if b then 1 else 0)) unfed), (last unfed).0)

@@ -1,8 +1,8 @@
 -- Whole lines in front of other bytes are the first lines of them all.
-use Rattle.std.proofs.Common.{◌≡◌, ◌≢◌, ℕ, suc, Bool, true, false, cond, not, if◌then◌else◌, ◌+◌, ◌≤◌, List, [], ◌∷◌, ◌++◌, Option, IfSome, None, Some, length, take, drop, refl, sym, ap, subst, ◌∙◌, arith, append_assoc, length-append, length-take, All}
+use Rattle.std.proofs.Common.{◌≡◌, ◌≢◌, ℕ, suc, Bool, true, false, cond, not, if◌then◌else◌, ◌+◌, ◌≤◌, List, [], ◌∷◌, ◌++◌, Option, IfSome, None, Some, length, take, drop, refl, sym, ap, subst, ◌∙◌, arith, append_assoc, length-append, length-take, ne_eqb, All}
 use Rattle.std.proofs.lemmas.List.{take-append-drop}
 use Rattle.std.proofs.lemmas.Bool.Decides.{nat_tests}
-use Rattle.std.proofs.lemmas.List.Elements.{All-cons, All-nil}
+use Rattle.std.proofs.lemmas.List.Elements.{All-cons, All-head, All-nil, All-tail}
 use Rattle.std.proofs.Math.Seq.{take-length}
 use Rattle.std.specs.List.{position_or_len}
 use Rattle.std.specs.Io.KnownBytes.{prepend_known}
@@ -10,7 +10,21 @@ use Rattle.hp_outside.specs.Lines.{is_line_feed, lines_of}
 use Rattle.hp_outside.specs.declared.span.Span.{Span}
 use Rattle.hp_outside.specs.WholeLines.{IsLineText, IsWholeLines, text_of_lines}
 use Rattle.hp_outside.proofs.Known.{prepend_known-append}
-use Rattle.hp_outside.proofs.Laws.{lines_of-text}
+
+-- one line with its line feed
+lines_of-line : (line rest : List ℕ) → IsLineText line → lines_of (line ++ (10 ∷ rest)) ≡ line ∷ lines_of rest
+lines_of-line [] rest text = refl
+lines_of-line (byte ∷ line) rest text =
+    let other : byte ≢ 10 = All-head (λ b. b ≢ 10) byte line text in
+    rw (ne_eqb byte 10 other, lines_of-line line rest (All-tail (λ b. b ≢ 10) byte line text))
+
+-- all of them
+pub lines_of-text : (lines : List (List ℕ)) (rest : List ℕ) → All IsLineText lines → lines_of (text_of_lines lines ++ rest) ≡ lines ++ lines_of rest
+lines_of-text [] rest texts = refl
+lines_of-text (line ∷ lines) rest texts =
+    ap lines_of (append_assoc line (10 ∷ text_of_lines lines) rest)
+    ∙ (lines_of-line line (text_of_lines lines ++ rest) (All-head IsLineText line lines texts)
+    ∙ ap (λ l. line ∷ l) (lines_of-text lines rest (All-tail IsLineText line lines texts)))
 
 -- what stands behind them is left
 pub lines_passed : (kept new_kept : List ℕ) (count : ℕ) (lines : List (List ℕ)) (left : List ℕ) → new_kept ≡ drop count kept → All IsLineText lines → take count kept ≡ text_of_lines lines

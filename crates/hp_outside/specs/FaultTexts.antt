@@ -1,4 +1,4 @@
--- What the faults of files are called.
+-- What the faults of opening a file, of its lines and of reading it whole are called.
 use Rattle.std.specs.Prelude.{ℕ, List, codes}
 use Rattle.hp_outside.specs.declared.store.OpenFault.{OpenFault}
 use Rattle.hp_outside.specs.declared.store.OpenFault.TheVariants.{Absent, Failed}

@@ -1,3 +1,4 @@
+-- A count of faults rose if it is one further than before, or stands at 2^64 - 1, where it stays.
 use Rattle.std.specs.Prelude.{◌+◌, ◌-◌, ◌^◌, ◌≤◌, ℕ, min}
 
 -- a count one further: it stays at the end of a `u64`

@@ -1,3 +1,4 @@
+-- A folder is a finite map from names to bytes. A store may tell its folder or not.
 use Rattle.std.specs.Prelude.{ℕ, List, Option}
 use Rattle.std.specs.Ordering.{nat_cmp}
 use Rattle.std.specs.Cmp.Lexicographic.{slice_cmp}

@@ -1,3 +1,4 @@
+-- The folder that files in memory make, and what an open of a name answers there.
 use Rattle.std.specs.Prelude.{ℕ, ◌<◌, ◌≤◌, List, [], Option, map, drop, length, slice_index_or, option_map}
 use Rattle.std.specs.FinMap.{from_entries}
 use Rattle.hp_outside.specs.Folder.{Folder}

@@ -1,3 +1,4 @@
+-- What bytes tell of the next line, for private clauses.
 use Rattle.std.specs.Prelude.{◌≡◌, ◌<◌, ◌≤◌, ℕ, List, length}
 use Rattle.std.specs.List.{position_or_len}
 use Rattle.hp_outside.specs.Lines.{is_line_feed}

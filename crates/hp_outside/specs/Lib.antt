@@ -14,5 +14,9 @@ pub mod NextLine
 pub mod LineReaderState
 pub mod NewReader
 pub mod WholeLines
+pub mod NextCall
+pub mod ReaderCalls
+pub mod StoreCalls
 pub mod WindowState
+pub mod WindowCalls
 pub mod FaultTexts

@@ -1,3 +1,5 @@
+-- What contracts see of a reader of lines: its limits, how many bytes it passed, those that it
+-- keeps, and its fault.
 use Rattle.std.specs.Prelude.{ℕ, List, Bool, Option}
 use Rattle.hp_outside.specs.declared.span.Span.{Span}
 use Rattle.hp_outside.specs.declared.span.LineFault.{LineFault}

@@ -1,3 +1,5 @@
+-- The lines of bytes are the pieces between line feeds; a last piece that isn't empty is a line
+-- too.
 use Rattle.std.specs.Prelude.{ℕ, List, [], ◌∷◌, Bool, ◌==◌, if◌then◌else◌}
 use Rattle.std.specs.List.{before_first, after_first}
 

@@ -1,3 +1,4 @@
+-- What a store in memory holds, and which of its calls fail.
 use Rattle.std.specs.Prelude.{refl}
 use Rattle.std.specs.Coded.{Coded, code_by, coded×}
 use Rattle.hp_outside.specs.Calls.{Calls, calls_code}

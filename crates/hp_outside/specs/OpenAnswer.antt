@@ -1,3 +1,4 @@
+-- What an open of a name answers where files are held in memory.
 use Rattle.std.specs.Prelude.{ℕ, List, Bool, true, false, Option, None, Some, Result, Ok, Err}
 use Rattle.hp_outside.specs.declared.store.OpenFault.{OpenFault}
 use Rattle.hp_outside.specs.declared.store.OpenFault.TheVariants.{Absent, Failed}

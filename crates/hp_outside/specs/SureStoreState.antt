@@ -1,3 +1,4 @@
+-- What a store or a sink in memory holds, and which of its calls fail.
 use Rattle.std.specs.Prelude.{ℕ, ◌+◌, List, [], Option, None, unwrap_or, option_map, length, drop, min, refl}
 use Rattle.std.specs.Coded.{Coded, code_by, coded×, coded_ℕ, coded_list, coded_option}
 use Rattle.std.specs.FinMap.{code, empty, insert}

@@ -1,3 +1,5 @@
+-- A source lost a front of what it had left; an output gained a front of these bytes, or one that
+-- is not all of them.
 use Rattle.std.specs.Prelude.{◌≡◌, ◌<◌, ◌≤◌, ℕ, List, Option, Some, length, take}
 use Rattle.std.specs.Io.KnownBytes.{prepend_known, append_known}
 

@@ -1,3 +1,5 @@
+-- A whole file is given where its bytes are within the limit, and is too long only where they are
+-- more.
 use Rattle.std.specs.Prelude.{◌≡◌, ◌<◌, ◌≤◌, ℕ, List, Result, Ok, Err, length}
 use Rattle.hp_outside.specs.declared.whole.WholeFault.{WholeFault}
 use Rattle.hp_outside.specs.declared.whole.WholeFault.TheVariants.{ReadFailed, InputTooLong, NoMemory}

@@ -1,4 +1,5 @@
--- Lines in a row, each with its line feed.
+-- Bytes are so many whole lines where they are those lines, none of which holds a line feed, each
+-- with one behind it.
 use Rattle.std.specs.Prelude.{◌≡◌, ◌≢◌, ℕ, List, [], ◌∷◌, ◌++◌, length, All}
 
 -- no line feed stands in it

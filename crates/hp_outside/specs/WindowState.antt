@@ -1,3 +1,4 @@
+-- A window on a file: the bytes that were shown last and those kept behind them, for private clauses.
 use Rattle.std.specs.Prelude.{ℕ, ◌-◌, List, take, drop}
 use Rattle.hp_outside.specs.declared.span.Span.{Span}
 

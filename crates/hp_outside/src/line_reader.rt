@@ -6,7 +6,10 @@ ghost use Rattle.hp_outside.specs.Faults.{Rose};
 ghost use Rattle.hp_outside.specs.Taken.{WhereTold};
 ghost use Rattle.hp_outside.specs.LineReaderState.{LineReaderState};
 ghost use Rattle.hp_outside.specs.Lines.{lines_of};
-ghost use Rattle.hp_outside.specs.NextLine.{NextAnswer, GivesLine, IsLine, IsUndecided, has_line_feed};
+ghost use Rattle.hp_outside.specs.NextCall.{CountsNext, GivesNext, HasFile, LosesNothing, OnlyReads};
+ghost use Rattle.hp_outside.specs.ReaderCalls.{Gives, GivesLast, MayGive, MayTakeMore, Passes, StandsAt, TakesMore};
+ghost use Rattle.hp_outside.specs.StoreCalls.{ReadsOn};
+ghost use Rattle.hp_outside.specs.NextLine.{IsLine};
 ghost use Rattle.hp_outside.specs.WholeLines.{IsLineText, IsWholeLines, text_of_lines};
 
 use crate::limits::Limits;
@@ -136,72 +139,18 @@ impl LineReader {
     /// did not. A fault of a length yields to a read that failed before the bytes that show it were
     /// taken.
     pub fn next<S: Store>(&mut self, store: &mut S) -> Result<Option<Span>, LineFault>
-        requires current { IsTrue (S.current store.old) }
-        requires ended { self.old.ended ≡ true
-            → WhereTold (S.left store.old) (λ bytes. bytes ≡ []) }
-        ensures files { S.files store.new ≡ S.files store.old }
-        ensures current { S.current store.new ≡ S.current store.old }
-        ensures opens { S.opens store.new ≡ S.opens store.old }
-        ensures faults { S.faults store.old ≤ S.faults store.new }
-        ensures input { self.new.input ≡ self.old.input }
-        ensures limit { self.new.line_limit ≡ self.old.line_limit }
+        requires { HasFile S.Store self.old store.old }
         ensures again { (fault : LineFault) → self.old.fault ≡ Some fault
             → (result ≡ Err fault) × (self.new ≡ self.old) × (store.new ≡ store.old) }
-        ensures answer { self.old.fault ≡ None
+        ensures next { self.old.fault ≡ None
             → WhereTold (prepend_known self.old.kept (S.left store.old))
-            (λ rest. NextAnswer self.old.input self.old.line_limit self.old.passed rest result) }
-        ensures line { self.old.fault ≡ None
-            → WhereTold (prepend_known self.old.kept (S.left store.old))
-            (λ rest. GivesLine self.old.passed rest self.new.passed
-            (prepend_known self.new.kept (S.left store.new)) self.new.line result) }
-        ensures decided { ¬ (IsUndecided self.old.input self.old.line_limit self.old.passed
-            self.old.kept)
-            → store.new ≡ store.old }
-        ensures unread { self.old.ended ≡ true → store.new ≡ store.old }
-        ensures failed { self.old.fault ≡ None → result ≡ Err LineFault.ReadFailed
-            → Rose (S.faults store.old) (S.faults store.new) }
-        ensures sound { result ≢ Err LineFault.ReadFailed
-            → S.faults store.new ≡ S.faults store.old }
-        ensures kept_fault { IfErr result (λ fault. self.new.fault ≡ Some fault) }
-        ensures no_fault { OnOk result (self.new.fault ≡ None) }
-        ensures span { IfOk result (λ place. IfSome place (λ span. self.new.span ≡ span)) }
-        ensures number { IfOk result
-            (λ place. self.new.number ≡ self.old.number + (if is_some place then 1 else 0)) }
-        ensures given { IfOk result
-            (λ place. IfSome place
-            (λ span. self.new.given ≡ self.old.given + length self.new.line + 1)) }
-        ensures bounded { self.new.given ≤ self.new.input + 1 }
-        ensures within { self.new.passed ≤ self.new.input }
-        ensures moved { IfOk result (λ place. IfSome place (λ span.
-            (self.new.passed ≡ self.old.passed + length self.new.line + 1)
-            ⊎ ((self.new.passed ≡ self.old.passed + length self.new.line)
-            × (self.new.ended ≡ true)))) }
-        ensures short { IfOk result
-            (λ place. IfSome place (λ span. length self.new.line ≤ self.new.line_limit)) }
-        ensures one_line { IfOk result (λ place. IfSome place (λ span. IsLineText self.new.line)) }
-
-        // Whether a line feed ends the line: what is told of the file says so, and how far the reader moved.
-        ensures line_ended { self.old.fault ≡ None
-            → WhereTold (prepend_known self.old.kept (S.left store.old))
-            (λ rest. IfOk result
-            (λ place. IfSome place (λ span. self.new.line_ended ≡ has_line_feed rest))) }
-        ensures step { IfOk result (λ place. IfSome place (λ span. self.new.passed
-            ≡ self.old.passed + length self.new.line + (if self.new.line_ended then 1 else 0))) }
-        ensures last { self.new.line_ended ≡ false
-            → (self.new.ended ≡ true) × (self.new.kept ≡ []) }
-        ensures same_end { ¬ IsLine result → self.new.line_ended ≡ self.old.line_ended }
-
-        // Where no line is given, nothing of the file is passed over or lost; a failed read comes where the bytes that
-        // were taken show neither the next line nor a fault of its length.
-        ensures unmoved { ¬ IsLine result → (self.new.passed ≡ self.old.passed)
-            × (self.new.number ≡ self.old.number) × (self.new.given ≡ self.old.given)
-            × (prepend_known self.new.kept (S.left store.new)
-            ≡ prepend_known self.old.kept (S.left store.old)) }
-        ensures place { self.old.fault ≡ None → result ≡ Err LineFault.ReadFailed
-            → IsUndecided self.new.input self.new.line_limit self.new.passed self.new.kept }
-        ensures end_seen { IfOk result (λ place. IfNone place (self.new.ended ≡ true)) }
-        ensures end { self.new.ended ≡ true → WhereTold (S.left store.new) (λ bytes. bytes ≡ []) }
-        ensures stays_ended { self.old.ended ≡ true → self.new.ended ≡ true }
+            (λ rest. GivesNext self.old self.new rest
+            (prepend_known self.new.kept (S.left store.new)) result) }
+        ensures store { OnlyReads S.Store store.old store.new self.old self.new result }
+        ensures reader { CountsNext self.old self.new result }
+        ensures unmoved { ¬ IsLine result → LosesNothing self.old self.new
+            (prepend_known self.old.kept (S.left store.old))
+            (prepend_known self.new.kept (S.left store.new)) }
     {
         if let Some(fault) = self.fault {
             return Err(fault);
@@ -276,26 +225,7 @@ impl LineReader {
         requires held { count ≤ length self.old.kept }
         requires within { self.old.passed + count ≤ self.old.input }
         requires whole { IsWholeLines (take count self.old.kept) lines }
-        ensures kept { self.new.kept ≡ drop count self.old.kept }
-        ensures passed { self.new.passed ≡ self.old.passed + count }
-        ensures number { self.new.number ≡ self.old.number + lines }
-        ensures given { self.new.given ≡ self.old.given + count }
-        ensures input { self.new.input ≡ self.old.input }
-        ensures limit { self.new.line_limit ≡ self.old.line_limit }
-        ensures ended { self.new.ended ≡ self.old.ended }
-        ensures fault { self.new.fault ≡ self.old.fault }
-        ensures line_ended { self.new.line_ended ≡ self.old.line_ended }
-        ensures line { self.new.line ≡ self.old.line }
-        ensures span { self.new.span ≡ self.old.span }
-
-        // Whatever the store has left: the lines of the file's rest are those that are passed, and those of what is left.
-        ensures lines { (lines : List (List ℕ)) → All IsLineText lines
-            → take count self.old.kept ≡ text_of_lines lines
-            → (left : List ℕ) → lines_of (self.old.kept ++ left)
-            ≡ lines ++ lines_of (self.new.kept ++ left) }
-        ensures rest { (left : Option (List ℕ))
-            → prepend_known (take count self.old.kept) (prepend_known self.new.kept left)
-            ≡ prepend_known self.old.kept left }
+        ensures { Passes self.old self.new count lines }
     {
         self.window.pass(count);
         self.passed += count as u64;
@@ -304,22 +234,8 @@ impl LineReader {
 
     /// Gives the next `count` bytes as a line, and passes over `skipped` bytes behind them.
     fn give(&mut self, count: usize, skipped: usize) -> Span
-        requires held { count + skipped ≤ length self.old.kept }
-        requires within { self.old.passed + count + skipped ≤ self.old.input }
-        requires last { skipped ≡ 0
-            → (count ≡ length self.old.kept) × (self.old.ended ≡ true) × (0 < count) }
-        requires one { skipped ≤ 1 }
-        ensures span { result ≡ self.new.span }
-        ensures line { self.new.line ≡ take count self.old.kept }
-        ensures kept { self.new.kept ≡ drop (count + skipped) self.old.kept }
-        ensures passed { self.new.passed ≡ self.old.passed + count + skipped }
-        ensures given { self.new.given ≡ self.old.given + count + 1 }
-        ensures line_ended { self.new.line_ended ≡ nat_eq skipped 1 }
-        ensures number { self.new.number ≡ self.old.number + 1 }
-        ensures input { self.new.input ≡ self.old.input }
-        ensures limit { self.new.line_limit ≡ self.old.line_limit }
-        ensures ended { self.new.ended ≡ self.old.ended }
-        ensures fault { self.new.fault ≡ self.old.fault }
+        requires { MayGive self.old count skipped }
+        ensures { Gives self.old self.new count skipped result }
     {
         self.window.show(count, skipped);
         self.passed += (count + skipped) as u64;
@@ -333,19 +249,7 @@ impl LineReader {
         requires all { count ≡ length self.old.kept }
         requires within { self.old.passed + count ≤ self.old.input }
         requires ended { self.old.ended ≡ true }
-        ensures some { IsSome result ↔ (0 < count) }
-        ensures none { IfNone result (self.new ≡ self.old) }
-        ensures line { IfSome result (λ span. self.new.line ≡ self.old.kept) }
-        ensures span { IfSome result (λ span. self.new.span ≡ span) }
-        ensures kept { self.new.kept ≡ [] }
-        ensures passed { self.new.passed ≡ self.old.passed + count }
-        ensures given { IfSome result (λ span. self.new.given ≡ self.old.given + count + 1) }
-        ensures line_ended { IfSome result (λ span. self.new.line_ended ≡ false) }
-        ensures number { self.new.number ≡ self.old.number + (if is_some result then 1 else 0) }
-        ensures input { self.new.input ≡ self.old.input }
-        ensures limit { self.new.line_limit ≡ self.old.line_limit }
-        ensures ended { self.new.ended ≡ self.old.ended }
-        ensures fault { self.new.fault ≡ self.old.fault }
+        ensures { GivesLast self.old self.new count result }
     {
         if count == 0 {
             return None;
@@ -365,37 +269,10 @@ impl LineReader {
     /// Takes more bytes from the store, or sees the end of the file.
     fn take_more<S: Store>(&mut self, store: &mut S) -> Result<(), LineFault>
         requires current { IsTrue (S.current store.old) }
-        requires line { length self.old.kept ≤ self.old.line_limit }
-        requires input { self.old.passed + length self.old.kept ≤ self.old.input }
-        requires ended { self.old.ended ≡ false }
-        ensures files { S.files store.new ≡ S.files store.old }
-        ensures current { S.current store.new ≡ S.current store.old }
-        ensures opens { S.opens store.new ≡ S.opens store.old }
-        ensures faults { S.faults store.old ≤ S.faults store.new }
-        ensures input { self.new.input ≡ self.old.input }
-        ensures limit { self.new.line_limit ≡ self.old.line_limit }
-        ensures passed { self.new.passed ≡ self.old.passed }
-        ensures number { self.new.number ≡ self.old.number }
-        ensures given { self.new.given ≡ self.old.given }
-        ensures line_ended { self.new.line_ended ≡ self.old.line_ended }
-        ensures rest { prepend_known self.old.kept (S.left store.old)
-            ≡ prepend_known self.new.kept (S.left store.new) }
-        ensures front { take (length self.old.kept) self.new.kept ≡ self.old.kept }
-        ensures sound { OnOk result (S.faults store.new ≡ S.faults store.old) }
-        ensures failed { IfErr result
-            (λ fault. (fault ≡ LineFault.ReadFailed)
-            × Rose (S.faults store.old) (S.faults store.new)) }
-        ensures fault { self.new.fault
-            ≡ (if is_ok result then self.old.fault else Some LineFault.ReadFailed) }
-        ensures more { OnOk result
-            ((self.new.ended ≡ true) ⊎ (self.new.ended ≡ false)
-            × (length self.old.kept < length self.new.kept)) }
-        ensures end { OnOk result
-            (self.new.ended ≡ true → WhereTold (S.left store.new) (λ bytes. bytes ≡ [])) }
-        ensures end_kept { OnOk result (self.new.ended ≡ true → self.new.kept ≡ self.old.kept) }
-        ensures still { OnErr result (self.new.ended ≡ self.old.ended) }
-        ensures kept { OnErr result (self.new.kept ≡ self.old.kept) }
-        ensures bounded { self.new.passed + length self.new.kept ≤ self.new.input + 1 }
+        requires more { MayTakeMore self.old }
+        ensures store { ReadsOn S.Store store.old store.new }
+        ensures same { StandsAt self.old self.new }
+        ensures took { TakesMore S.Store store.old store.new self.old self.new result }
     {
         let kept = self.window.kept().len();
         let limit = (self.limits.input - self.passed) as usize - kept + 1;

@@ -4,7 +4,8 @@ ghost use Rattle.std.specs.Prelude.{◌≡◌, ◌+◌, ◌*◌, ◌<◌, ◌≤
 ghost use Rattle.std.specs.Io.KnownBytes.{prepend_known};
 ghost use Rattle.hp_outside.specs.Faults.{Rose};
 ghost use Rattle.hp_outside.specs.Taken.{WhereTold};
-ghost use Rattle.hp_outside.specs.WindowState.{part_of};
+ghost use Rattle.hp_outside.specs.StoreCalls.{ReadsOn};
+ghost use Rattle.hp_outside.specs.WindowCalls.{Fills, KeepsFront, MakesRoom, ReadsPart};
 
 use crate::span::Span;
 use crate::store::{Failed, Store};
@@ -124,22 +125,8 @@ impl Window {
         requires current { IsTrue (S.current store.old) }
         requires few { length self.old.kept ≤ self.old.most }
         requires limit { 0 < limit }
-        ensures files { S.files store.new ≡ S.files store.old }
-        ensures current { S.current store.new ≡ S.current store.old }
-        ensures opens { S.opens store.new ≡ S.opens store.old }
-        ensures faults { S.faults store.old ≤ S.faults store.new }
-        ensures most { self.new.most ≡ self.old.most }
-        ensures rest { prepend_known self.old.kept (S.left store.old)
-            ≡ prepend_known self.new.kept (S.left store.new) }
-        ensures front { take (length self.old.kept) self.new.kept ≡ self.old.kept }
-        ensures count { IfOk result
-            (λ count. (count ≤ limit) × (length self.new.kept ≡ length self.old.kept + count)) }
-        ensures end { IfOk result
-            (λ count. count ≡ 0 → WhereTold (S.left store.old) (λ bytes. bytes ≡ [])) }
-        ensures kept { OnErr result (self.new.kept ≡ self.old.kept) }
-        ensures left { OnErr result (S.left store.new ≡ S.left store.old) }
-        ensures sound { OnOk result (S.faults store.new ≡ S.faults store.old) }
-        ensures failed { OnErr result (Rose (S.faults store.old) (S.faults store.new)) }
+        ensures store { ReadsOn S.Store store.old store.new }
+        ensures filled { Fills S.Store store.old store.new self.old self.new limit result }
     {
         let kept = self.end - self.start;
         self.start = make_room(&mut self.buffer, self.start, self.end, self.most);
@@ -179,22 +166,9 @@ fn read_part<S: Store>(
     requires part { start < end }
     requires held { start ≤ vec_len buffer.old }
     requires room { end ≤ vec_capacity buffer.old }
-    ensures files { S.files store.new ≡ S.files store.old }
-    ensures current { S.current store.new ≡ S.current store.old }
-    ensures opens { S.opens store.new ≡ S.opens store.old }
-    ensures faults { S.faults store.old ≤ S.faults store.new }
-    ensures len { end ≤ vec_len buffer.new }
-    ensures longer { vec_len buffer.old ≤ vec_len buffer.new }
-    ensures capacity { vec_capacity buffer.old ≤ vec_capacity buffer.new }
-    ensures front { take start buffer.new.items ≡ take start buffer.old.items }
-    ensures count { IfOk result (λ count. start + count ≤ end) }
-    ensures taken { IfOk result (λ count. S.left store.old
-        ≡ prepend_known (part_of buffer.new.items start (start + count)) (S.left store.new)) }
-    ensures end { IfOk result
-        (λ count. count ≡ 0 → WhereTold (S.left store.old) (λ bytes. bytes ≡ [])) }
-    ensures left { OnErr result (S.left store.new ≡ S.left store.old) }
-    ensures sound { OnOk result (S.faults store.new ≡ S.faults store.old) }
-    ensures failed { OnErr result (Rose (S.faults store.old) (S.faults store.new)) }
+    ensures store { ReadsOn S.Store store.old store.new }
+    ensures buffer { KeepsFront buffer.old buffer.new start end }
+    ensures read { ReadsPart S.Store store.old store.new buffer.new start end result }
 {
     fill_to(buffer, end);
     store.read(&mut buffer.as_mut_slice()[start..end])
@@ -207,12 +181,7 @@ fn make_room(buffer: &mut Vec<u8>, start: usize, end: usize, most: usize) -> usi
     requires held { end ≤ vec_len buffer.old }
     requires few { end ≤ start + most }
     requires long { 2 * most + 65536 ≤ vec_capacity buffer.old }
-    ensures kept { part_of buffer.new.items result (result + (end - start))
-        ≡ part_of buffer.old.items start end }
-    ensures room { result + (end - start) + 65536 ≤ vec_capacity buffer.new }
-    ensures within { result + (end - start) ≤ vec_len buffer.new }
-    ensures capacity { vec_capacity buffer.new ≡ vec_capacity buffer.old }
-    ensures len { vec_len buffer.new ≡ vec_len buffer.old }
+    ensures { MakesRoom buffer.old buffer.new start end result }
 {
     if end - start > start {
         return start;

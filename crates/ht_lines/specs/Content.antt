@@ -1,4 +1,5 @@
--- What a line says, its texts as lists of bytes and the numbers of its tail as a list.
+-- What a line says: one content for each kind, with texts as lists of bytes and the numbers of its
+-- tail as a list.
 use Rattle.std.specs.Prelude.{ℕ, List}
 
 pub data Content : Type 0 where

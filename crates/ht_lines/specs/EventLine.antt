@@ -1,4 +1,4 @@
--- The line of an event in the form in which it is mostly written: its kind, a blank, and one to eight digits.
+-- Bytes begin with the line of an event: a kind, a blank, one to eight digits and a line feed.
 use Rattle.std.specs.Prelude.{◌≡◌, ◌≢◌, ℕ, ◌+◌, ◌^◌, ◌<◌, ◌≤◌, List, ◌∷◌, ◌++◌, length, drop, All, Ok}
 use Rattle.ht_lines.specs.declared.event.EventKind.{EventKind}
 use Rattle.ht_lines.specs.declared.event.EventKind.TheVariants.{Allocation, Free}

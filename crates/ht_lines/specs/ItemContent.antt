@@ -1,4 +1,5 @@
--- What an item says.
+-- An item is whole where its tail has numbers alone, as many as it says; its tail is what follows
+-- the fields before it.
 use Rattle.std.specs.Prelude.{◌≡◌, ℕ, ◌+◌, ◌*◌, List, length, IsTrue, IfSome, Result, Ok, Err}
 use Rattle.ht_lines.specs.declared.item.Item.{Item}
 use Rattle.ht_lines.specs.declared.item.Item.TheVariants.{Version, Executable, Command, System, Str, ModuleClear, Module, Instr, Node, Info, Alloc, Free, RawAlloc, RawFree, Clock, Rss, Attached, Suppress, Comment, Other}

@@ -1,4 +1,5 @@
--- The kinds of lines by their first byte.
+-- A line is of a known kind where its first byte is one; every other line but a comment says
+-- nothing. In a raw trace the kinds of strings, instructions and infos are foreign.
 use Rattle.std.specs.Prelude.{◌≡◌, ◌≢◌, ℕ, Bool, ◌==◌, List, [], ◌∷◌, drop, codes, false, IsTrue}
 use Rattle.std.specs.List.{list_any}
 use Rattle.ht_lines.specs.declared.item.Form.{Form}

@@ -1,4 +1,4 @@
--- How long a line is at least that says something.
+-- A line that says something has at least so many bytes.
 use Rattle.std.specs.Prelude.{ℕ}
 use Rattle.ht_lines.specs.Content.{Content, version_line, system_line, instruction_line, node_line, info_line, allocation_line, free_line, raw_allocation_line, raw_free_line, clock_line, resident_line, other_line}
 

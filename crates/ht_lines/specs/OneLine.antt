@@ -1,4 +1,4 @@
--- Texts without a line feed, so that a line that has them is one line.
+-- A text is of one line where it has no line feed, and what a line says has such texts.
 use Rattle.std.specs.Prelude.{◌≢◌, ℕ, List, All}
 use Rattle.ht_lines.specs.Content.{Content, executable_line, command_line, string_line, module_line, suppression_line, comment_line, other_line}
 

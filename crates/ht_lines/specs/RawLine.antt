@@ -1,4 +1,5 @@
--- The line of a raw trace in the form in which it is mostly written: its kind, and numbers of one to 16 digits behind a blank.
+-- Bytes begin with an allocation, a free or a node of a raw trace: a kind, so many numbers of one
+-- to 16 digits, each behind one blank, and a line feed.
 use Rattle.std.specs.Prelude.{◌≡◌, ◌≢◌, ℕ, ◌+◌, ◌<◌, ◌≤◌, List, ◌∷◌, ◌++◌, length, drop, All, Some, Ok}
 use Rattle.hp_num.specs.ParsedHex.{parsed_hex}
 use Rattle.ht_lines.specs.declared.raw.RawEvent.{RawEvent}

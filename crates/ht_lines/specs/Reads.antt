@@ -1,4 +1,6 @@
--- Which lines of a trace of a form are read, and what they say: one case a kind.
+-- Which lines of a trace of a form are read, and what they say: one case a kind. What a line of a
+-- trace of a form says in a file version, or its first fault. The ranges of a module fit where none
+-- ends above 2^64 - 1.
 use Rattle.std.specs.Prelude.{◌≡◌, ◌⊎◌, ℕ, ◌+◌, ◌%◌, ◌^◌, ◌<◌, ◌≤◌, List, [], ◌∷◌, length, codes}
 use Rattle.ht_lines.specs.declared.item.Form.{Form}
 use Rattle.ht_lines.specs.declared.item.Form.TheVariants.{Raw, Interpreted}

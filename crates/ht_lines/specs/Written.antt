@@ -1,5 +1,7 @@
--- The written form of what a line says: its kind, one blank, and its fields in shortest lower-case hexadecimal,
--- separated by one blank. Texts and names stand after their size in file version 3.
+-- The written form of what a line says: its kind, one blank, and its fields in shortest lower-case
+-- hexadecimal, separated by one blank. Texts and names stand after their size in file version 3.
+-- The written form of what an item says, and which contents have one that is read as the same again
+-- in a trace of a form.
 use Rattle.std.specs.Prelude.{◌≡◌, ◌≢◌, ◌⊎◌, ℕ, ◌%◌, ◌^◌, ◌<◌, ◌≤◌, ◌==◌, if◌then◌else◌, List, [], ◌∷◌, ◌++◌, length, codes}
 use Rattle.std.specs.List.{AllByRecursion}
 use Rattle.hp_num.specs.Hexadecimal.{hexadecimal}

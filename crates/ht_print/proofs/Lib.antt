@@ -6,6 +6,8 @@ mod Sizes
 mod FlameLemmas
 mod FlameTrees
 mod FlameWalks
+mod FlameNodes
+mod FlameLineLemmas
 mod FrontTexts
 mod FlameFigures
 mod EntryOrder
@@ -18,3 +20,4 @@ mod GroupLemmas
 mod GroupTexts
 mod LeakLemmas
 mod ReportParts
+mod SummaryLemmas

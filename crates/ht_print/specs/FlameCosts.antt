@@ -1,4 +1,5 @@
--- What a flame graph is drawn of.
+-- What a flame graph is drawn of. The cost of a stack in flame stacks is its allocations, its
+-- temporary allocations, the bytes that it has live at the end, or those at the peak.
 use Rattle.std.specs.Prelude.{ℕ, List, map}
 use Rattle.std.specs.List.{range_with_len}
 use Rattle.live_ledger.specs.declared.event.Event.{Event}

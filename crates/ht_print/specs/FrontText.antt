@@ -1,5 +1,5 @@
 -- The text of a front, as it goes from one node's to another's, for private clauses.
-use Rattle.std.specs.Prelude.{◌≡◌, ℕ, ◌<◌, List, ◌++◌, All, length, map, reverse}
+use Rattle.std.specs.Prelude.{◌≡◌, ℕ, ◌<◌, ◌≤◌, List, ◌++◌, All, length, map, reverse, vec_capacity}
 use Rattle.cost_tree.specs.TreeState.{TreeState}
 use Rattle.ht_print.specs.declared.front_text.Between.{Between}
 use Rattle.ht_print.specs.declared.front_text.FrontText.{FrontText}
@@ -27,3 +27,13 @@ pub record LeadsTo (tree : TreeState) (n : ℕ) (text path : List ℕ) : Type 0 
   pub text_of : text ≡ flame_rest front
   pub path_to : front ++ map (last_text tree) path ≡ front_at tree n
   pub path_held : All (IsBelowRoot tree) path
+
+-- there is room for the texts of all fronts, and for the nodes on the ways to them
+pub record HasRoom (tree : TreeState) (front : FrontText) : Type 0 where
+  pub text : All (λ texts. length (flame_rest texts) ≤ vec_capacity front.text) tree.fronts
+  pub path : All (λ texts. length texts ≤ vec_capacity front.path) tree.fronts
+
+-- the room is what it was
+pub record KeepsRoom (old new : FrontText) : Type 0 where
+  pub text : vec_capacity new.text ≡ vec_capacity old.text
+  pub path : vec_capacity new.path ≡ vec_capacity old.path

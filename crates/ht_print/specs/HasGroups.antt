@@ -1,4 +1,4 @@
--- Whether a report has groups of stacks.
+-- Whether a report has groups of stacks, for private clauses.
 use Rattle.std.specs.Prelude.{◌&&◌, ◌||◌, Bool}
 use Rattle.ht_print.specs.declared.options.PrintOptions.{PrintOptions}
 

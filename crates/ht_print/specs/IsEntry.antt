@@ -1,4 +1,4 @@
--- What holds of the entries of a section.
+-- What holds of the entries of a section, for private clauses.
 use Rattle.std.specs.Prelude.{ℕ, ◌≤◌, length}
 use Rattle.ht_trace.specs.TableState.{TableState}
 use Rattle.ht_print.specs.declared.entry.Entry.{Entry}

@@ -1,4 +1,5 @@
--- Patterns in order, without those that begin with another: a text has one of them exactly where it has one of all.
+-- Patterns in order, without those that begin with another: a text has one of them exactly where it
+-- has one of all, for private clauses.
 use Rattle.std.specs.Prelude.{◌≡◌, ℕ, ◌-◌, ◌<◌, Bool, false, List, length, nat_eq, slice_get, slice_index_or, unwrap_or}
 use Rattle.std.specs.Option.{option_map}
 use Rattle.std.specs.List.{list_any, starts_with}

@@ -7,6 +7,7 @@ pub mod FlameCosts
 pub mod FlameText
 pub mod FlameWalk
 pub mod FrontText
+pub mod FlameLines
 pub mod ReportOrder
 pub mod IsEntry
 pub mod ReportGroups

@@ -1,4 +1,4 @@
--- In which frames a pattern of a trace stands.
+-- In which frames a pattern of a trace stands, for private clauses.
 use Rattle.std.specs.Prelude.{◌≡◌, ℕ, ◌+◌, List, Bool, length, map}
 use Rattle.std.specs.List.{list_any, range_with_len}
 use Rattle.ht_trace.specs.declared.frame.FrameAt.{FrameAt}

@@ -1,4 +1,4 @@
--- The places of a trace's stacks by number.
+-- The places of a trace's stacks by number, for private clauses.
 use Rattle.std.specs.Prelude.{◌≡◌, ℕ, ◌+◌, ◌<◌, ◌≤◌, Bool, true, length, slice_index}
 use Rattle.ht_trace.specs.TableState.{TableState}
 use Rattle.ht_print.specs.declared.places.Places.{Places}

@@ -1,4 +1,5 @@
--- Stacks in groups, by the text of their innermost frame.
+-- A group has the stacks of one place, which is the text of the innermost frame. Its figure is the
+-- sum of theirs, and its number that of the least of them.
 use Rattle.std.specs.Prelude.{ℕ, List, [], ◌∷◌, filter, map, min, sum_by}
 use Rattle.std.specs.Str.{bytes_eq}
 use Rattle.stack_trees.specs.StackTexts.{stack_texts}

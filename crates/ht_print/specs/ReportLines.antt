@@ -1,4 +1,8 @@
--- The lines of a report's stacks and groups.
+-- The lines of a report's stacks and groups. A figure is told with its unit and its share of the
+-- sum of the section's figures over all stacks, in hundredths of a percent. A section shows the
+-- first groups up to a limit, each with its first stacks up to another one, or the first stacks by
+-- themselves; and says how many are left, where some are. Of a stack it writes the frames behind
+-- the innermost one.
 use Rattle.std.specs.Prelude.{ℕ, ◌==◌, ◌-◌, List, [], ◌++◌, codes, decimal, length, take, if◌then◌else◌}
 use Rattle.std.specs.List.{flat_map}
 use Rattle.stack_trees.specs.StackTexts.{stack_texts}

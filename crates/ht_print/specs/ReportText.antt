@@ -1,4 +1,10 @@
--- Reports: up to four sections of a trace's stacks, the histogram, and the summary.
+-- Reports: up to four sections of a trace's stacks, the histogram, and the summary. The figures of
+-- a section are the allocations of each stack, the bytes that it has live at the peak, those that
+-- it has live at the end with 0 for a suppressed stack, or its temporary allocations. A section has
+-- the stacks whose figure isn't 0. A report is the sections that are asked for, in a fixed order
+-- and each with an empty line behind it, the histogram where it is asked for, and the summary. The
+-- section of leaks says in a line how many bytes suppressed stacks have live at the end, where they
+-- have some.
 use Rattle.std.specs.Prelude.{ℕ, ◌==◌, ◌+◌, Bool, List, [], ◌∷◌, ◌++◌, codes, decimal, length, sum, if◌then◌else◌}
 use Rattle.ht_trace.specs.TableState.{TableState}
 use Rattle.live_ledger.specs.declared.event.Event.{Event}

@@ -1,4 +1,4 @@
--- The summary of a trace, and its text: six lines of figures.
+-- The summary of a trace is its six figures, written as six lines.
 use Rattle.std.specs.Prelude.{ℕ, List, ◌++◌, codes, decimal}
 use Rattle.live_ledger.specs.declared.event.Event.{Event}
 use Rattle.live_ledger.specs.Events.{counted, event_count}

@@ -1,4 +1,5 @@
--- Which stacks of a trace are suppressed.
+-- Which stacks of a trace are suppressed. A stack is suppressed where a pattern stands as
+-- consecutive bytes in the text of one of its frames, in the plain style.
 use Rattle.std.specs.Prelude.{ℕ, ◌+◌, List, Bool, length, map}
 use Rattle.std.specs.List.{list_any, range_with_len}
 use Rattle.memchr.specs.Find.{occurs_at}

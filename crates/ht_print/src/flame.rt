@@ -7,12 +7,11 @@ ghost use Rattle.ht_print.specs.FlameCosts.{flame_costs};
 ghost use Rattle.ht_print.specs.FlameText.{flame_of_lists, flame_of_trace, flame_text};
 
 use crate::costs::stack_costs;
-use crate::flame_lines::put_lines;
-use cost_tree::{CostTree, ToldLists};
+use crate::flame_lines::FlameLines;
+use cost_tree::ToldLists;
 use hp_num::NoMemory;
 use ht_trace::{Style, Tables};
 use peak_costs::Peaks;
-use stack_table::MOST_FRAMES;
 use stack_trees::lists_from_root;
 use std::alloc::Global;
 
@@ -34,7 +33,8 @@ pub enum FlameCost {
 /// a text is written `:`.
 ///
 /// There must be as many stacks in the peaks as in the tables. On `NoMemory`, `out` holds what it held before. A caller that
-/// has no more use for the peaks or the tables can take these three steps itself, and let each go after its own.
+/// has no more use for the peaks or the tables can take these steps itself, and let each go after its own; and one that writes
+/// the lines one after another takes them from `FlameLines`.
 pub fn put_flame(
     alloc: Global,
     cost: FlameCost,
@@ -70,7 +70,6 @@ pub fn put_flame_of_lists(
         (out.new.items ≡ out.old.items ++ flame_of_lists lists costs.items) }
     ensures unchanged { OnErr result (out.new.items ≡ out.old.items) }
 {
-    let tree = CostTree::of_lists(alloc, lists, &costs, MOST_FRAMES)?;
-    drop(costs);
-    put_lines(alloc, &tree, out)
+    let mut lines = FlameLines::of_lists(alloc, lists, costs)?;
+    lines.put_all(out)
 }

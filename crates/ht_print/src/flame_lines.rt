@@ -1,98 +1,137 @@
-//! The lines of a tree's nodes: those of a node stand before those of its children, whose order is the tree's.
-//! What the tree stands for is no part of it.
-#![tactic(auto, using(hp_num::proofs::Laws::extends_same, hp_num::proofs::Laws::extends_more, hp_num::proofs::Laws::extends_trans))]
-
-ghost use Rattle.std.specs.Prelude.{◌≡◌, ◌<◌, List, [], ◌++◌, length, reverse, OnErr, OnOk, Some, slice_get};
-ghost use Rattle.cost_tree.specs.declared.node.CostNode.{CostNode};
-ghost use Rattle.cost_tree.specs.Children.{children_of};
+//! The lines of flame stacks, one after another: all memory that they need is taken before the first one.
+//! Which nodes have a line, and in which order, is found in `flame_nodes`.
+ghost use Rattle.std.specs.Prelude.{◌≡◌, ◌+◌, ◌^◌, ◌<◌, ◌≤◌, List, ℕ, ◌++◌, Ok, true, false, codes, decimal, length, sum, IfOk, IsOk, OnOk, vec_capacity, vec_len, [], OnErr};
 ghost use Rattle.cost_tree.specs.Costed.{Costed};
 ghost use Rattle.cost_tree.specs.IsTreeOf.{IsTreeOf};
-ghost use Rattle.hp_num.specs.Extends.{Extends};
-ghost use Rattle.ht_print.specs.FlameText.{flame_line, flame_of};
+ghost use Rattle.ht_print.specs.FlameLines.{HasGiven, figure_bytes};
+ghost use Rattle.ht_print.specs.FlameText.{flame_of, flame_of_lists};
 ghost use Rattle.stack_table.specs.Stack.{most_frames};
-ghost use Rattle.ht_print.specs.FlameWalk.{IsRooted, front_at};
-ghost use Rattle.ht_print.specs.FrontText.{IsTextOf};
 
+use crate::flame_nodes::{line_nodes, longest_line};
 use crate::front_text::FrontText;
-use cost_tree::CostTree;
+use cost_tree::{CostTree, ToldLists};
 use hp_num::{NoMemory, put_bytes, put_dec};
+use stack_table::MOST_FRAMES;
 use std::alloc::Global;
+use std::marker::Model;
 
-/// Appends the lines of all nodes. On `NoMemory`, `out` holds what it held before.
-pub(crate) fn put_lines(alloc: Global, tree: &CostTree, out: &mut Vec<u8>) -> Result<(), NoMemory>
-    requires tree { (stacks : List Costed) × IsTreeOf tree.now stacks most_frames }
-    ensures appended { OnOk result
-        ((stacks : List Costed) → IsTreeOf tree.now stacks most_frames
-        → out.new.items ≡ out.old.items ++ flame_of most_frames stacks []) }
-    ensures unchanged { OnErr result (out.new.items ≡ out.old.items) }
-{
-    let start = out.len();
-    let done = put_nodes(alloc, tree, out);
-    if done.is_err() {
-        out.truncate(start);
-    }
-    done
+/// The lines that are still to be given, with the memory that they need.
+#[derive(Drop)]
+pub struct FlameLines {
+    tree: CostTree<'static>,
+    /// The nodes that have a line, in the order of the lines.
+    nodes: Vec<usize>,
+    /// How many lines were given.
+    given: usize,
+    front: FrontText,
+    /// No line has more bytes.
+    longest: usize,
 }
 
-/// Appends the lines of all nodes. On `NoMemory`, some of them may stand at the end of `out`.
-fn put_nodes(alloc: Global, tree: &CostTree, out: &mut Vec<u8>) -> Result<(), NoMemory>
-    requires tree { (stacks : List Costed) × IsTreeOf tree.now stacks most_frames }
-    ensures appended { OnOk result
-        ((stacks : List Costed) → IsTreeOf tree.now stacks most_frames
-        → out.new.items ≡ out.old.items ++ flame_of most_frames stacks []) }
-    ensures kept { Extends out.old.items out.new.items }
-{
-    // The nodes whose lines are still to be written, the next one last.
-    let mut left = Vec::new(alloc);
-    let mut buffer = Vec::new(alloc);
-    let mut front = FrontText::new(alloc);
-    left.push(0)?;
-    'each_node: while let Some(n) = left.pop() {
-        put_line(tree, n, &mut front, out)?;
-        push_children(tree, n, &mut buffer, &mut left)?;
-    }
-    Ok(())
+impl Model for FlameLines {
+    ghost use Rattle.ht_print.specs.FlameLines.{AreLines, FlameState, lines_behind};
+
+    ghost Value = { FlameState };
+
+    ghost view = { λ lines. lines_behind lines.tree lines.nodes.items lines.given lines.longest };
+
+    ghost invariant = { λ lines. AreLines lines.tree lines.nodes lines.front lines.longest };
 }
 
-/// Appends the children of node `n`, the first one last. `children` is a buffer.
-fn push_children(
-    tree: &CostTree,
-    n: usize,
-    children: &mut Vec<usize>,
-    left: &mut Vec<usize>,
-) -> Result<(), NoMemory>
-    requires held { n < length tree.now.nodes }
-    ensures appended { OnOk result
-        (left.new.items ≡ left.old.items ++ reverse (children_of tree.now.nodes n)) }
-{
-    tree.children_into(n, children)?;
-    children.reverse();
-    left.extend_from_slice(children)?;
-    Ok(())
+impl FlameLines {
+    /// The lines of lists of texts: one for each list whose costs have a sum other than 0. `NoMemory` where memory is wanting.
+    ///
+    /// There must be a cost for each list, and they sum to at most 2^62.
+    pub fn of_lists(
+        alloc: Global,
+        lists: ToldLists,
+        costs: Vec<u64>,
+    ) -> Result<FlameLines, NoMemory>
+        requires as_many { length costs.items ≡ length lists }
+        requires bound { sum costs.items ≤ 2 ^ 62 }
+        ensures { IfOk result (λ lines. lines.rest ≡ flame_of_lists lists costs.items) }
+    {
+        let tree = CostTree::of_lists(alloc, lists, &costs, MOST_FRAMES)?;
+        drop(costs);
+        FlameLines::of_tree(alloc, tree)
+    }
+
+    /// The lines of all nodes of a tree.
+    fn of_tree(alloc: Global, tree: CostTree<'static>) -> Result<FlameLines, NoMemory>
+        requires { (stacks : List Costed) × IsTreeOf tree stacks most_frames }
+        ensures { IfOk result
+            (λ lines. (stacks : List Costed) → IsTreeOf tree.entry stacks most_frames
+            → lines.rest ≡ flame_of most_frames stacks []) }
+    {
+        let nodes = line_nodes(alloc, &tree)?;
+        let longest = longest_line(alloc, &tree)?;
+        let front = FrontText::new(alloc, longest)?;
+        Ok(FlameLines {
+            tree,
+            nodes,
+            given: 0,
+            front,
+            longest,
+        })
+    }
+
+    /// How many bytes a line has at most.
+    pub fn longest_line(&self) -> usize
+        ensures { result ≡ self.now.longest }
+    {
+        self.longest
+    }
+
+    /// Appends the next line, and answers whether there was one. It can't fail where `out` has room for the longest line. On
+    /// `NoMemory` a front of the line may stand at the end of `out`.
+    pub fn put_next(&mut self, out: &mut Vec<u8>) -> Result<bool, NoMemory>
+        ensures given { OnOk result
+            (HasGiven self.old.rest self.new.rest out.old.items out.new.items) }
+        ensures fewer { result ≡ Ok true → self.new.left < self.old.left }
+        ensures all { result ≡ Ok false → self.new.rest ≡ [] }
+        ensures longest { self.new.longest ≡ self.old.longest }
+        ensures capacity { vec_capacity out.old ≤ vec_capacity out.new }
+        ensures room { vec_len out.old + self.old.longest ≤ vec_capacity out.old → IsOk result }
+    {
+        if self.given >= self.nodes.len() {
+            return Ok(false);
+        }
+        let n = self.nodes[self.given];
+        self.front.go_to(&self.tree, n);
+        put_line(self.front.path(), self.tree.node(n).own, out)?;
+        self.given += 1;
+        Ok(true)
+    }
+
+    /// Appends all lines that are left. On `NoMemory`, `out` holds what it held before.
+    pub(crate) fn put_all(&mut self, out: &mut Vec<u8>) -> Result<(), NoMemory>
+        ensures appended { OnOk result (out.new.items ≡ out.old.items ++ self.old.rest) }
+        ensures unchanged { OnErr result (out.new.items ≡ out.old.items) }
+    {
+        let start = out.len();
+        'each_line: loop {
+            if out.reserve(self.longest_line()).is_err() {
+                out.truncate(start);
+                return Err(NoMemory);
+            }
+            match self.put_next(out) {
+                Ok(true) => {}
+                Ok(false) => return Ok(()),
+                Err(NoMemory) => unreachable!(),
+            }
+        }
+    }
 }
 
-/// Appends the line of node `n`, where its own cost isn't 0. `front` has the text of some node's front.
-fn put_line(
-    tree: &CostTree,
-    n: usize,
-    front: &mut FrontText,
-    out: &mut Vec<u8>,
-) -> Result<(), NoMemory>
-    requires held { n < length tree.now.nodes }
-    requires tree { IsRooted tree.now }
-    requires text { IsTextOf tree.now front.old }
-    ensures appended { OnOk result
-        ((node : CostNode) → slice_get tree.now.nodes n ≡ Some node
-        → out.new.items ≡ out.old.items ++ flame_line (front_at tree.now n) node.own) }
-    ensures text { OnOk result (IsTextOf tree.now front.new) }
-    ensures kept { Extends out.old.items out.new.items }
+/// Appends a line: the texts of a front, and what it costs.
+fn put_line(path: &[u8], own: u64, out: &mut Vec<u8>) -> Result<(), NoMemory>
+    ensures appended { OnOk result (out.new.items
+        ≡ out.old.items ++ (path.now ++ (codes " " ++ (decimal own ++ codes "\n")))) }
+    ensures capacity { vec_capacity out.old ≤ vec_capacity out.new }
+    ensures room { vec_len out.old + (length path.now + figure_bytes) ≤ vec_capacity out.old
+        → IsOk result }
 {
-    let own = tree.node(n).own;
-    if own == 0 {
-        return Ok(());
-    }
-    front.go_to(tree, n)?;
-    put_bytes(out, front.path())?;
+    put_bytes(out, path)?;
     put_bytes(out, b" ")?;
     put_dec(out, own)?;
     put_bytes(out, b"\n")

@@ -1,15 +1,14 @@
 //! The text of a node's front, which goes from one node's to another's: what both fronts begin with stays as it is.
-//! What lines are made of it is no part of it.
-#![tactic(auto, using(hp_num::proofs::Laws::extends_same, hp_num::proofs::Laws::extends_more, hp_num::proofs::Laws::extends_trans))]
-
-ghost use Rattle.std.specs.Prelude.{◌≡◌, ◌≢◌, ℕ, ◌<◌, ◌+◌, All, List, [], ◌++◌, length, map, IfOk, OnOk};
-ghost use Rattle.hp_num.specs.Extends.{Extends};
+//! It has room for the fronts of all nodes from the first on. What lines are made of it is no part of it.
+ghost use Rattle.std.specs.Prelude.{◌≡◌, ◌≢◌, ℕ, ◌<◌, ◌≤◌, ◌+◌, All, List, [], ◌++◌, length, map, IfOk, vec_capacity, vec_len};
+ghost use Rattle.stack_table.specs.Stack.{most_frames};
 ghost use Rattle.ht_print.specs.FlameText.{flame_byte, flame_name, flame_path, flame_rest};
 ghost use Rattle.ht_print.specs.FlameWalk.{IsBelowRoot, IsRooted, last_text};
-ghost use Rattle.ht_print.specs.FrontText.{IsBetween, IsTextOf, LeadsTo};
+ghost use Rattle.ht_print.specs.FrontText.{HasRoom, IsBetween, IsTextOf, KeepsRoom, LeadsTo};
 
 use cost_tree::CostTree;
-use hp_num::{NoMemory, put_bytes};
+use hp_num::NoMemory;
+use stack_table::MOST_FRAMES;
 use std::alloc::Global;
 
 /// The texts of a node's front, with a semicolon before each.
@@ -29,22 +28,27 @@ pub(crate) struct Between {
 }
 
 impl FrontText {
-    /// That of node 0.
-    pub(crate) fn new(alloc: Global) -> FrontText
-        ensures node { result.node ≡ 0 }
-        ensures text { result.text.items ≡ [] }
+    /// That of node 0, with room for fronts of at most so many bytes.
+    pub(crate) fn new(alloc: Global, longest: usize) -> Result<FrontText, NoMemory>
+        ensures node { IfOk result (λ front. front.node ≡ 0) }
+        ensures text { IfOk result (λ front. front.text.items ≡ []) }
+        ensures room { IfOk result (λ front. longest ≤ vec_capacity front.text) }
+        ensures path_room { IfOk result (λ front. most_frames ≤ vec_capacity front.path) }
     {
-        FrontText {
+        let text = Vec::with_capacity(alloc, longest)?;
+        let path = Vec::with_capacity(alloc, MOST_FRAMES as usize)?;
+        Ok(FrontText {
             node: 0,
-            text: Vec::new(alloc),
-            path: Vec::new(alloc),
-        }
+            text,
+            path,
+        })
     }
 
     /// The texts with semicolons between them.
     pub(crate) fn path(&self) -> &[u8]
         ensures path { (front : List (List ℕ)) → self.now.text.items ≡ flame_rest front
             → result.now ≡ flame_path front }
+        ensures within { length result.now ≤ length self.now.text.items }
     {
         match self.text.split_first() {
             Some((_, path)) => path,
@@ -52,26 +56,29 @@ impl FrontText {
         }
     }
 
-    /// Goes to the front of node `n`. After `NoMemory` this is of no use.
-    pub(crate) fn go_to(&mut self, tree: &CostTree, n: usize) -> Result<(), NoMemory>
+    /// Goes to the front of node `n`.
+    pub(crate) fn go_to(&mut self, tree: &CostTree, n: usize)
         requires held { n < length tree.now.nodes }
         requires tree { IsRooted tree.now }
         requires text { IsTextOf tree.now self.old }
-        ensures text { OnOk result (IsTextOf tree.now self.new) }
-        ensures node { OnOk result (self.new.node ≡ n) }
+        requires room { HasRoom tree.now self.old }
+        ensures text { IsTextOf tree.now self.new }
+        ensures node { self.new.node ≡ n }
+        ensures room { HasRoom tree.now self.new }
     {
-        self.cut_back(tree, n)?;
-        put_rest(tree, &self.path, &mut self.text)?;
+        self.cut_back(tree, n);
+        put_rest(tree, &self.path, &mut self.text);
         self.node = n;
-        Ok(())
     }
 
     /// Leaves of the text what the front of node `n` begins with too, and in `path` the nodes that follow on the way to it.
-    fn cut_back(&mut self, tree: &CostTree, n: usize) -> Result<(), NoMemory>
+    fn cut_back(&mut self, tree: &CostTree, n: usize)
         requires held { n < length tree.now.nodes }
         requires tree { IsRooted tree.now }
         requires text { IsTextOf tree.now self.old }
-        ensures left { OnOk result (LeadsTo tree.now n self.new.text.items self.new.path.items) }
+        requires room { HasRoom tree.now self.old }
+        ensures left { LeadsTo tree.now n self.new.text.items self.new.path.items }
+        ensures room { HasRoom tree.now self.new }
     {
         let mut between = Between {
             at: self.node,
@@ -79,72 +86,74 @@ impl FrontText {
         };
         self.path.clear();
         'upwards: while between.at != between.above {
-            between = self.climb(tree, between)?;
+            between = self.climb(tree, between);
         }
         self.path.reverse();
-        Ok(())
     }
 
     /// Goes up from the later one of two different nodes. Where this is on the way from the text's node, its own text is cut
     /// off, and else it is one of those whose texts are to be appended.
-    fn climb(&mut self, tree: &CostTree, between: Between) -> Result<Between, NoMemory>
+    fn climb(&mut self, tree: &CostTree, between: Between) -> Between
         requires tree { IsRooted tree.now }
         requires apart { between.at ≢ between.above }
         requires held { between.at < length tree.now.nodes }
         requires held_above { between.above < length tree.now.nodes }
-        ensures between { IfOk result
-            (λ next. (n : ℕ) → IsBetween tree.now n self.old.text.items self.old.path.items between
-            → IsBetween tree.now n self.new.text.items self.new.path.items next) }
-        ensures nearer { IfOk result
-            (λ next. next.at + next.above < between.at + between.above) }
+        requires room { between.at < between.above
+            → vec_len self.old.path < vec_capacity self.old.path }
+        ensures between { (n : ℕ)
+            → IsBetween tree.now n self.old.text.items self.old.path.items between
+            → IsBetween tree.now n self.new.text.items self.new.path.items result }
+        ensures nearer { result.at + result.above < between.at + between.above }
         ensures node { self.new.node ≡ self.old.node }
+        ensures room { KeepsRoom self.old self.new }
     {
         let Between { at, above } = between;
         if at < above {
-            self.path.push(above)?;
+            self.path.push_reserved(above);
             let parent = tree.node(above).parent;
-            return Ok(Between { at, above: parent });
+            return Between { at, above: parent };
         }
         let own = tree.text(at).len();
         self.text.truncate(self.text.len().saturating_sub(own + 1));
         let parent = tree.node(at).parent;
-        Ok(Between { at: parent, above })
+        Between { at: parent, above }
     }
 }
 
-/// Appends the last texts of the nodes, with a semicolon before each.
-fn put_rest(tree: &CostTree, rest: &[usize], out: &mut Vec<u8>) -> Result<(), NoMemory>
+/// Appends the last texts of the nodes, with a semicolon before each. There is room for them.
+fn put_rest(tree: &CostTree, rest: &[usize], out: &mut Vec<u8>)
     requires held { All (IsBelowRoot tree.now) rest.now }
-    ensures appended { OnOk result
-        (out.new.items ≡ out.old.items ++ flame_rest (map (last_text tree.now) rest.now)) }
-    ensures kept { Extends out.old.items out.new.items }
+    requires room { vec_len out.old + length (flame_rest (map (last_text tree.now) rest.now))
+        ≤ vec_capacity out.old }
+    ensures appended { out.new.items
+        ≡ out.old.items ++ flame_rest (map (last_text tree.now) rest.now) }
+    ensures capacity { vec_capacity out.new ≡ vec_capacity out.old }
 {
     'each_node: for node in rest {
-        put_bytes(out, b";")?;
-        put_node(tree, *node, out)?;
+        out.push_reserved(b';');
+        put_node(tree, *node, out);
     }
-    Ok(())
 }
 
 /// Appends the last text of the node.
-fn put_node(tree: &CostTree, n: usize, out: &mut Vec<u8>) -> Result<(), NoMemory>
+fn put_node(tree: &CostTree, n: usize, out: &mut Vec<u8>)
     requires held { IsBelowRoot tree.now n }
-    ensures appended { OnOk result
-        (out.new.items ≡ out.old.items ++ flame_name (last_text tree.now n)) }
-    ensures kept { Extends out.old.items out.new.items }
+    requires room { vec_len out.old + length (last_text tree.now n) ≤ vec_capacity out.old }
+    ensures appended { out.new.items ≡ out.old.items ++ flame_name (last_text tree.now n) }
+    ensures capacity { vec_capacity out.new ≡ vec_capacity out.old }
 {
-    put_name(tree.text(n), out)
+    put_name(tree.text(n), out);
 }
 
 /// Appends a text with a colon for each semicolon.
-fn put_name(text: &[u8], out: &mut Vec<u8>) -> Result<(), NoMemory>
-    ensures appended { OnOk result (out.new.items ≡ out.old.items ++ flame_name text.now) }
-    ensures kept { Extends out.old.items out.new.items }
+fn put_name(text: &[u8], out: &mut Vec<u8>)
+    requires room { vec_len out.old + length text.now ≤ vec_capacity out.old }
+    ensures appended { out.new.items ≡ out.old.items ++ flame_name text.now }
+    ensures capacity { vec_capacity out.new ≡ vec_capacity out.old }
 {
     'each_byte: for byte in text {
-        out.push(plain_byte(*byte))?;
+        out.push_reserved(plain_byte(*byte));
     }
-    Ok(())
 }
 
 /// A colon for a semicolon, which stands between texts.

@@ -2,11 +2,12 @@
 ghost use Rattle.std.specs.Prelude.{◌≡◌, ◌++◌, List, OnErr, OnOk, take, vec_len};
 ghost use Rattle.live_ledger.specs.declared.event.Event.{Event};
 ghost use Rattle.peak_costs.specs.Peak.{StandsFor};
+ghost use Rattle.peak_costs.specs.PeakTotals as peak_totals;
 ghost use Rattle.ht_print.specs.SummaryText.{count_lines, figure, live_lines, summary_of, summary_text};
 
 use hp_num::{NoMemory, put_bytes, put_dec};
 use live_ledger::Totals;
-use peak_costs::Peaks;
+use peak_costs::{PeakTotals, Peaks};
 
 /// The figures of a whole trace.
 #[derive(Clone, Copy)]
@@ -26,17 +27,23 @@ pub fn put_summary(peaks: &Peaks, out: &mut Vec<u8>) -> Result<(), NoMemory>
         → out.new.items ≡ out.old.items ++ summary_text events) }
     ensures unchanged { OnErr result (out.new.items ≡ out.old.items) }
 {
-    let before = out.len();
-    let put = Summary::of(peaks).put(out);
-    if put.is_err() {
-        out.truncate(before);
-    }
-    put
+    Summary::of_peaks(peaks).put(out)
+}
+
+/// Appends the six lines of a trace of which the totals with their peak alone were kept, as `put_summary` does. On
+/// `NoMemory`, `out` holds what it held before.
+pub fn put_totals_summary(totals: &PeakTotals, out: &mut Vec<u8>) -> Result<(), NoMemory>
+    ensures appended { OnOk result
+        ((events : List Event) → peak_totals.StandsFor totals.now events
+        → out.new.items ≡ out.old.items ++ summary_text events) }
+    ensures unchanged { OnErr result (out.new.items ≡ out.old.items) }
+{
+    Summary::of_totals(totals).put(out)
 }
 
 impl Summary {
     /// The figures of the trace whose peaks these are.
-    fn of(peaks: &Peaks) -> Summary
+    fn of_peaks(peaks: &Peaks) -> Summary
         ensures { (events : List Event) → StandsFor peaks.now events → result ≡ summary_of events }
     {
         Summary {
@@ -46,8 +53,34 @@ impl Summary {
         }
     }
 
-    /// Appends the six lines.
+    /// The figures of the trace whose totals these are.
+    fn of_totals(totals: &PeakTotals) -> Summary
+        ensures { (events : List Event) → peak_totals.StandsFor totals.now events
+            → result ≡ summary_of events }
+    {
+        Summary {
+            totals: totals.ledger().totals(),
+            peak: totals.peak_total(),
+            moment: totals.peak_moment(),
+        }
+    }
+
+    /// Appends the six lines. On `NoMemory`, `out` holds what it held before.
     fn put(&self, out: &mut Vec<u8>) -> Result<(), NoMemory>
+        ensures appended { OnOk result
+            (out.new.items ≡ out.old.items ++ (count_lines self.now ++ live_lines self.now)) }
+        ensures unchanged { OnErr result (out.new.items ≡ out.old.items) }
+    {
+        let before = out.len();
+        let put = self.put_lines(out);
+        if put.is_err() {
+            out.truncate(before);
+        }
+        put
+    }
+
+    /// Appends the six lines.
+    fn put_lines(&self, out: &mut Vec<u8>) -> Result<(), NoMemory>
         ensures kept { take (vec_len out.old) out.new.items ≡ out.old.items }
         ensures appended { OnOk result
             (out.new.items ≡ out.old.items ++ (count_lines self.now ++ live_lines self.now)) }

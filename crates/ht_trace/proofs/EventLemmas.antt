@@ -1,5 +1,5 @@
 -- Lines of events of held infos.
-use Rattle.std.proofs.Common.{◌≡◌, ℕ, true, List, Option, Some, Ok, refl, sym, ap, ◌∙◌, arith}
+use Rattle.std.proofs.Common.{◌≡◌, ℕ, true, false, List, [], length, Option, Some, Ok, refl, sym, ap, ◌∙◌, arith}
 use Rattle.std.specs.Prelude.{◌||◌, Bool, is_some, slice_get, unwrap_or}
 use Rattle.std.specs.Option.{option_map}
 use Rattle.std.proofs.lemmas.Bool.Decides.{nat_tests}
@@ -17,11 +17,13 @@ use Rattle.ht_trace.specs.declared.step.Step.TheVariants as step
 use Rattle.ht_trace.specs.Contents.{contents, file_version}
 use Rattle.ht_trace.specs.LineFault.{fault_in}
 use Rattle.ht_trace.specs.VersionLines.{may_stand_first}
-use Rattle.ht_trace.specs.PassesEvents.{PassesEvents, PassesLine, event_of_info}
+use Rattle.ht_trace.specs.PassesLine.{PassesLine, event_of_info}
+use Rattle.ht_trace.specs.StandsFor.{StandsAfter}
 use Rattle.ht_trace.specs.StateAfter.{Takes}
 use Rattle.ht_trace.specs.StepOf.{event_step, reading_step, step_in}
 use Rattle.ht_trace.specs.TableState.{TableState}
 use Rattle.ht_trace.specs.TraceLists.{infos}
+use Rattle.ht_trace.proofs.FirstLemmas.{first_bring_none}
 use Rattle.ht_trace.proofs.LineLemmas.{events-push, no_fault_in, stands-push}
 
 -- the tables take what such a line says, and stay as they are
@@ -55,8 +57,25 @@ passes-line tables line said event versioned says takes =
       events = λ given lines stands. events-push tables tables said (step.Event event) line may read takes given lines stands;
     }
 
--- once there was a version line, all such lines are
-pub passes-events : (tables : TableState) → is_some tables.version ≡ true → PassesEvents tables
-passes-events tables versioned = record {
-  each = λ line kind info held says at. passes-line tables line (event_content kind info) (event_of_info kind info held) versioned says (takes-event tables kind info held at);
-}
+-- before it there is no info
+no_info : (tables : TableState) (given lines : List (List ℕ)) (info : ℕ) (held : HeldInfo) → is_some tables.version ≡ false → slice_get tables.infos info ≡ Some held → StandsAfter tables given lines → ⊥
+no_info tables given lines info held unversioned at stands =
+    let none : tables.infos ≡ [] = ap (λ (t : TableState). t.infos) stands.tables_is ∙ first_bring_none (file_version lines) lines (stands.first unversioned) in
+    let within = slice_get_within tables.infos info held at in
+    omega (arith, within, ap length none)
+
+-- so all such lines are taken, of any tables
+pub passes_event : (tables : TableState) (line : List ℕ) (kind : EventKind) (info : ℕ) (held : HeldInfo) → ((version : ℕ) → reading Interpreted version line ≡ Ok (event_content kind info))
+    → slice_get tables.infos info ≡ Some held → PassesLine tables line (event_of_info kind info held)
+passes_event tables line kind info held says at = by (is_some tables.version) refl
+  where
+    by : (versioned : Bool) → is_some tables.version ≡ versioned → PassesLine tables line (event_of_info kind info held)
+    by true is = passes-line tables line (event_content kind info) (event_of_info kind info held) is says (takes-event tables kind info held at)
+    by false is =
+        let never : (given lines : List (List ℕ)) → StandsAfter tables given lines → ⊥ = λ given lines stands. no_info tables given lines info held is at stands in
+        record {
+          no_fault = λ given lines stands. absurd (never given lines stands);
+          brings = λ given lines stands. absurd (never given lines stands);
+          stands = λ given lines stands. absurd (never given lines stands);
+          events = λ given lines stands. absurd (never given lines stands);
+        }

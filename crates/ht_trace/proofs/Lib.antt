@@ -1,5 +1,6 @@
 mod EntryLemmas
 mod EventLemmas
+mod FirstLemmas
 mod FrameLemmas
 mod Growing
 mod GrowthLemmas

@@ -15,7 +15,7 @@ use Rattle.ht_trace.specs.VersionLines.{may_stand_first}
 use Rattle.ht_trace.proofs.Growing.{all-push, filter_map-push, first-push}
 
 -- its first byte is that of a comment or of a version line
-byte_of : (b : ℕ) → (eqb b 35 || eqb b 118) ≡ true → (b ≡ 35) ⊎ (b ≡ 118)
+pub byte_of : (b : ℕ) → (eqb b 35 || eqb b 118) ≡ true → (b ≡ 35) ⊎ (b ≡ 118)
 byte_of b may = grind (arith, nat_tests)
 
 -- a line that may stand before the version line reads alike in each file version

@@ -1,4 +1,5 @@
--- That tables only grow.
+-- That tables only grow. Tables continue others where each of their lists is the other's and more
+-- at the end; then stacks keep their frames, and frames their texts.
 use Rattle.std.specs.Prelude.{◌≡◌, ℕ, ◌≤◌, List, ◌++◌, length, Some}
 use Rattle.stack_table.specs.Continues as nodes
 use Rattle.ht_trace.specs.declared.frame.FrameAt.{FrameAt}

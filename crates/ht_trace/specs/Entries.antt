@@ -1,4 +1,4 @@
--- How the tables are kept.
+-- How the tables are kept, for private clauses.
 use Rattle.live_ledger.specs.LedgerState.{HeldInfo}
 use Rattle.ht_trace.specs.declared.infos.InfoEntry.{InfoEntry}
 

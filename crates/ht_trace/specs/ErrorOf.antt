@@ -1,4 +1,5 @@
--- The faults of the crates below, as errors of a line.
+-- The faults of the crates below, as errors of a line. Which error of a line a refusal of the
+-- grammar or of the nodes is.
 use Rattle.ht_lines.specs.declared.item.Malformed.{Malformed}
 use Rattle.ht_lines.specs.declared.item.Malformed.TheVariants as grammar
 use Rattle.stack_table.specs.declared.fault.NodeFault.{NodeFault}

@@ -1,4 +1,5 @@
--- What the lines of a trace of either form say, each read in the trace's file version.
+-- The file version of a trace is that of its first version line, and the lines are read in it; of
+-- either form of trace, and of an interpreted one.
 use Rattle.std.specs.Prelude.{ℕ, List, Option, Some, None, option_and_then, slice_get, unwrap_or}
 use Rattle.std.specs.Result.{result_ok}
 use Rattle.std.specs.List.{filter_map}

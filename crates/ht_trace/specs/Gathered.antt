@@ -1,4 +1,4 @@
--- Lists in which an element depends on those before it.
+-- A list in which each element depends on those before it.
 use Rattle.std.specs.Prelude.{List, [], ◌∷◌, ◌++◌, Option}
 use Rattle.std.specs.Option.{option_to_list}
 

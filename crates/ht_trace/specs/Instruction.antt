@@ -1,4 +1,5 @@
--- The instructions of a trace, by their numbers.
+-- The instructions of a trace, by their numbers. An instruction has its pointer, the number of its
+-- module's string, and its frames from the innermost on.
 use Rattle.std.specs.Prelude.{ℕ, ◌==◌, ◌-◌, if◌then◌else◌, List, length, Option, Some, slice_get}
 use Rattle.std.specs.Option.{option_map}
 use Rattle.ht_trace.specs.declared.frame.Frame.{Frame}

@@ -1,4 +1,5 @@
--- How the instructions are kept: the frames of all in one list, of which each has a part.
+-- How the instructions are kept: the frames of all in one list, of which each has a part, for
+-- private clauses.
 use Rattle.std.specs.Prelude.{◌+◌, ◌-◌, ◌^◌, ◌≤◌, List, length, map, take, drop}
 use Rattle.std.specs.List.{AllByRecursion}
 use Rattle.ht_trace.specs.declared.frame.Frame.{Frame}

@@ -1,4 +1,5 @@
--- The places that are frames of the tables.
+-- The places that are frames of the tables. A place is a frame where its instruction is held and
+-- has it; instruction 0 and stack 0 have one each.
 use Rattle.std.specs.Prelude.{ℕ, ◌==◌, ◌<◌, if◌then◌else◌, List, unwrap_or}
 use Rattle.ht_trace.specs.declared.frame.FrameAt.{FrameAt}
 use Rattle.ht_trace.specs.Instruction.{Instruction, frame_count_of}

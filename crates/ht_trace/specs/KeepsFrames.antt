@@ -1,4 +1,4 @@
--- What stands after an append of frames that may have failed halfway.
+-- What stands after an append of frames that may have failed halfway, for private clauses.
 use Rattle.std.specs.Prelude.{◌≡◌, List, length, take}
 use Rattle.ht_trace.specs.declared.frame.Frame.{Frame}
 

@@ -17,7 +17,7 @@ pub mod Continues
 pub mod FrameText
 pub mod HeldStack
 pub mod IsFrame
-pub mod PassesEvents
+pub mod PassesLine
 pub mod Pattern
 pub mod Sound
 pub mod LedgerFits

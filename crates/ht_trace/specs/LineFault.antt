@@ -1,4 +1,7 @@
--- The fault of a line after earlier lines: the first that holds in the order of the tests here.
+-- The fault of a line after earlier lines: the first that holds in the order of the tests here. The
+-- fault of a line is told from the lines before it: the version line, its form, a second version
+-- line, what it names, the depth of its stack, and the room of the tables. A string, an instruction
+-- or a node is named by 0 or a number up to their count, an info by a number below it.
 use Rattle.std.specs.Prelude.{◌≡◌, ◌≢◌, ℕ, ◌+◌, ◌-◌, ◌^◌, Bool, ◌&&◌, ◌||◌, if◌then◌else◌, List, [], length, nat_le, nat_lt, Option, Some, None, is_some, unwrap_or, Result, Ok, Err}
 use Rattle.std.specs.List.{list_all}
 use Rattle.std.specs.Option.{option_or}

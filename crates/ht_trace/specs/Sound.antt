@@ -1,4 +1,5 @@
--- What the tables keep: what their lists refer to is held.
+-- What lists refer to is held: the strings of instructions, the instructions of nodes, and the
+-- stacks of infos and of steps.
 use Rattle.std.specs.Prelude.{◌≡◌, ℕ, ◌<◌, ◌≤◌, List, length, Option, unwrap_or}
 use Rattle.std.specs.List.{AllByRecursion, flat_map}
 use Rattle.live_ledger.specs.LedgerState.{HeldInfo}

@@ -1,4 +1,4 @@
--- Which lists of lines the tables stand for.
+-- The tables stand for lines where each table is the lines' list.
 use Rattle.std.specs.Prelude.{◌≡◌, ℕ, true, false, List, [], is_some}
 use Rattle.std.specs.List.{AllByRecursion}
 use Rattle.ht_trace.specs.Gathered.{gathered}

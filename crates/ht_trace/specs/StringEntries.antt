@@ -1,4 +1,4 @@
--- How the strings are kept: each as the number of its name.
+-- How the strings are kept: each as the number of its name, for private clauses.
 use Rattle.std.specs.Prelude.{ℕ, ◌-◌, ◌^◌, ◌<◌, ◌≤◌, List, [], length, map, unwrap_or}
 use Rattle.std.specs.List.{AllByRecursion}
 use Rattle.intern_tables.specs.Numbers.{name_at}

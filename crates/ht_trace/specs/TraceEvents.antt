@@ -1,4 +1,5 @@
--- The events of a trace.
+-- The events of a trace. The events are those of the `+`, `-` and `c` lines, each with the stack
+-- and the size of the info that it names.
 use Rattle.std.specs.Prelude.{ℕ, List, []}
 use Rattle.live_ledger.specs.declared.event.Event.{Event}
 use Rattle.ht_trace.specs.Contents.{contents}

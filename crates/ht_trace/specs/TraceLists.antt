@@ -1,4 +1,6 @@
--- The lists of a trace, each in the order of its lines, from what the lines say.
+-- The lists of a trace, each in the order of its lines, from what the lines say. The strings,
+-- instructions, nodes and infos are those of the lines of their kind, in the lines' order; the
+-- patterns are those of the suppressions that were given, and then those of the `S` lines.
 use Rattle.std.specs.Prelude.{ℕ, List, [], Option, Some, None, slice_get, unwrap_or}
 use Rattle.std.specs.List.{filter_map}
 use Rattle.ht_lines.specs.Content.{Content, command_line, string_line, instruction_line, node_line, info_line, suppression_line}

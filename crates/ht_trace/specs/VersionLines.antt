@@ -1,4 +1,7 @@
--- The rules on version lines, for both forms of trace: one stands before all other lines but comments, and no second one.
+-- The rules on version lines, for both forms of trace: one stands before all other lines but
+-- comments, and no second one. Before the version line stand comments alone, and behind it no
+-- second one; a trace's end without one is its fault. It holds of raw traces and of interpreted
+-- ones.
 use Rattle.std.specs.Prelude.{ℕ, Bool, false, ◌==◌, ◌||◌, if◌then◌else◌, List, [], ◌∷◌, Option, Some, None, is_some}
 use Rattle.ht_trace.specs.declared.error.LineError.{LineError}
 use Rattle.ht_trace.specs.declared.error.LineError.TheVariants.{NoVersion, SecondVersion}

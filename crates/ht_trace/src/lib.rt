@@ -11,9 +11,9 @@
 //!   held, and `least_length` how many bytes the line of an event has at least.
 //! - Tables only grow: `Continues` says that each list is the old one and more, and so each stack keeps its frames, and
 //!   each frame its text and function. `continues` of `stacks` and `goes_on` of `line` and `suppress` are its laws.
-//! - `PassesEvents`, told by `end` once there was a version line: the line of an allocation or a free of a held info
-//!   has no fault, brings that event and leaves the tables as they are. So a caller that reads it by `event_line` and
-//!   asks the ledger for the info may leave `line` out.
+//! - `PassesLine`: a line has no fault, brings an event and leaves the tables as they are. By the law `passes_event` this
+//!   holds of the line of an allocation or a free of a held info. So a caller that reads it by `event_line` and asks the
+//!   ledger for the info may leave `line` out.
 //! - `info` gives an info by its number, whose stack is held; `command` the first command.
 //! - `frames_into` gives the frames of a stack, 1 to 4,096, as the numbers of their instructions and their places
 //!   there: each `IsFrame`, which stays so. `put_frame` appends such a frame's text in one of two styles

@@ -8,7 +8,6 @@ ghost use Rattle.ht_trace.specs.Continues.{Continues};
 ghost use Rattle.ht_trace.specs.HeldStack.{HasHeldStack};
 ghost use Rattle.ht_trace.specs.LedgerFits.{CanTake, Grows, IsBeside, least_length};
 ghost use Rattle.ht_trace.specs.LineFault.{Tells, end_fault, line_fault_after, pattern_fault};
-ghost use Rattle.ht_trace.specs.PassesEvents.{PassesEvents};
 ghost use Rattle.ht_trace.specs.Pattern.{pattern_at};
 ghost use Rattle.ht_trace.specs.StandsFor.{StandsAfter, StandsFor};
 ghost use Rattle.ht_trace.specs.StateAfter.{with_pattern};
@@ -133,8 +132,7 @@ impl Tables {
         self.take(&item)
     }
 
-    /// Whether a version line was read: `NoVersion` exactly where none was. From then on the line of an allocation or a
-    /// free of a held info has no fault and leaves the tables as they are.
+    /// Whether a version line was read: `NoVersion` exactly where none was.
     pub fn end(&self) -> Result<(), LineError>
         ensures no_version { (result ≡ Err LineError.NoVersion) ↔ IsNone self.now.version }
         ensures only { IfErr result (λ error. error ≡ LineError.NoVersion) }
@@ -144,9 +142,6 @@ impl Tables {
         ensures fault { IfErr result
             (λ error. (given lines : List (List ℕ)) → StandsAfter self.now given lines
             → end_fault lines ≡ Some error) }
-
-        // Lines of events that may be taken without `line`.
-        ensures passes { OnOk result (PassesEvents self.now) }
     {
         if self.version.is_none() {
             return Err(LineError::NoVersion);

@@ -1,4 +1,4 @@
--- How the names are kept: as vectors of bytes.
+-- How the names are kept: as vectors of bytes, for private clauses.
 use Rattle.std.specs.Prelude.{ℕ, ◌^◌, ◌<◌, List, length, map}
 use Rattle.std.specs.Global.{Vec}
 use Rattle.intern_tables.specs.Distinct.{AreDistinct}

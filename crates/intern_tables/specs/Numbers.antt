@@ -1,4 +1,5 @@
--- The numbers of the names in a list.
+-- The numbers of the names in a list. The number of a name is the place of its first appearance
+-- among the distinct ones, from 1.
 use Rattle.std.specs.Prelude.{ℕ, ◌==◌, ◌+◌, ◌-◌, List, Option, None, if◌then◌else◌, slice_get, position}
 use Rattle.std.specs.Option.{option_map}
 use Rattle.std.specs.Str.{bytes_eq}

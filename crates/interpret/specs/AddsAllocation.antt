@@ -1,4 +1,4 @@
--- How an allocation is added, and its lines written.
+-- How an allocation is added, and its lines written, for private clauses.
 use Rattle.std.specs.Prelude.{◌≡◌, ℕ, ◌≤◌, List, [], ◌∷◌, ◌++◌, length, map, Result, OnOk, IfOk, IfErr}
 use Rattle.std.specs.Global.{Vec}
 use Rattle.ht_lines.specs.Content.{allocation_line}

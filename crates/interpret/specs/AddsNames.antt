@@ -1,4 +1,4 @@
--- How names are added, and the lines of the new ones written.
+-- How names are added, and the lines of the new ones written, for private clauses.
 use Rattle.std.specs.Prelude.{◌≡◌, ℕ, List, ◌++◌, ◌≤◌, length, map, Result, OnOk, IfErr}
 use Rattle.std.specs.Global.{Vec}
 use Rattle.std.specs.Str.{bytes_eq}

@@ -1,4 +1,4 @@
--- How nodes are added, and their lines written.
+-- How nodes are added, and their lines written, for private clauses.
 use Rattle.std.specs.Prelude.{◌≡◌, ◌≢◌, ℕ, ◌+◌, ◌≤◌, ◌==◌, false, List, [], ◌∷◌, ◌++◌, length, map, Option, Some, None, Result, OnOk, OnErr, IfErr}
 use Rattle.std.specs.Global.{Vec}
 use Rattle.std.specs.List.{list_any}

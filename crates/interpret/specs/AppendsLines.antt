@@ -1,4 +1,4 @@
--- How lines, and the numbers in them, are appended to an output.
+-- How lines, and the numbers in them, are appended to an output, for private clauses.
 use Rattle.std.specs.Prelude.{◌≡◌, ℕ, List, ◌++◌, map}
 use Rattle.std.specs.Global.{Vec}
 use Rattle.ht_lines.specs.Content.{Content}

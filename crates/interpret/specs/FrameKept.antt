@@ -1,4 +1,4 @@
--- What stands at an address, as the parts of a symbol's texts.
+-- What stands at an address, as the parts of a symbol's texts, for private clauses.
 use Rattle.std.specs.Prelude.{ℕ, List, Option}
 use Rattle.std.specs.Borrow.{Bor}
 use Rattle.std.specs.List.{flat_map}

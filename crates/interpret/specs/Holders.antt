@@ -1,4 +1,5 @@
--- How it is kept which module counts at an address: the addresses from which on another one does, each with its place.
+-- How it is kept which module counts at an address: the addresses from which on another one does,
+-- each with its place, for private clauses.
 use Rattle.std.specs.Prelude.{◌≡◌, ◌⊎◌, ℕ, zero, suc, ◌<◌, ◌≤◌, Bool, if◌then◌else◌, Option, None, Some, unwrap_or}
 use Rattle.std.specs.BTreeMap.{get}
 use Rattle.std.specs.Ordering.{nat_cmp}

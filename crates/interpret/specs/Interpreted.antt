@@ -1,4 +1,7 @@
--- The lines that the interpretation of a raw trace gives for each of its lines.
+-- The lines that the interpretation of a raw trace gives for each of its lines. The lines that a
+-- raw line gives: what is new in the tables first, and then the node, the allocation or the free. A
+-- free gives one exactly where its pointer stands for a block; lines of modules give none, a
+-- version line is written anew, and every other line stays as it is.
 use Rattle.std.specs.Prelude.{ℕ, List, [], ◌∷◌, ◌++◌, drop, length, map, Option, Result, Ok, Err}
 use Rattle.std.specs.List.{flat_map}
 use Rattle.std.specs.Option.{option_to_list}

@@ -1,4 +1,6 @@
--- What the interpreted lines of a raw trace say, and the events that they bring when they are read without limits.
+-- What the interpreted lines of a raw trace say, and the events that they bring when they are read
+-- without limits. What the interpreted lines say, and the events that an interpreted trace has
+-- which says this.
 use Rattle.std.specs.Prelude.{ℕ, List, [], ◌∷◌, ◌++◌, Option}
 use Rattle.ht_lines.specs.Content.{Content, clear_line, module_line, node_line, raw_allocation_line, raw_free_line}
 use Rattle.ht_trace.specs.Gathered.{gathered}

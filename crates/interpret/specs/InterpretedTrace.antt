@@ -1,4 +1,5 @@
--- All lines of the interpretation of a raw trace.
+-- The interpreted trace of raw lines is the lines of each of them, in order; the fault of a free is
+-- that its info has no live block.
 use Rattle.std.specs.Prelude.{◌≡◌, ℕ, ◌^◌, ◌<◌, true, List, [], ◌∷◌, ◌++◌, length, Option, None}
 use Rattle.std.specs.List.{AllByRecursion}
 use Rattle.ht_lines.specs.OneLine.{IsOneLine}

@@ -1,4 +1,5 @@
--- What an interpreter keeps, and the lines that it stands for.
+-- An interpreter stands for lines with some symbols where its tables and pointers are theirs and
+-- none of them has a fault.
 use Rattle.std.specs.Prelude.{◌≡◌, ℕ, ◌==◌, ◌<◌, ◌≤◌, if◌then◌else◌, true, false, List, [], length, Option, Some, None, IfSome, is_some, unwrap_or}
 use Rattle.std.specs.List.{AllByRecursion}
 use Rattle.std.specs.Map.{lookup}

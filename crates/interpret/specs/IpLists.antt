@@ -1,4 +1,5 @@
--- The instruction pointers of a node, from it outwards: in a raw trace, and in an interpreted one.
+-- The instruction pointers of a node are its own, and then those of its parent. A raw node's line
+-- has its own; an interpreted one has the number of an instruction, and 0 stands for the pointer 0.
 use Rattle.std.specs.Prelude.{ℕ, ◌==◌, ◌-◌, List, if◌then◌else◌, map, slice_get, Option, Some, None}
 use Rattle.std.specs.List.{filter_map}
 use Rattle.std.specs.Option.{option_map}

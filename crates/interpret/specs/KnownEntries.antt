@@ -1,4 +1,4 @@
--- How instruction pointers are kept.
+-- How instruction pointers are kept, for private clauses.
 use Rattle.std.specs.Prelude.{ℕ}
 use Rattle.interpret.specs.RawTables.{KnownIp}
 

@@ -1,4 +1,4 @@
--- How modules are kept.
+-- How modules are kept, for private clauses.
 use Rattle.std.specs.Prelude.{◌≡◌, ℕ, List, map, slice_get, Option, None, Some}
 use Rattle.interpret.specs.declared.address_index.AddressIndex.{AddressIndex}
 use Rattle.interpret.specs.declared.modules.ModuleEntry.{ModuleEntry}

@@ -1,4 +1,6 @@
--- The modules that are loaded: each with the addresses that it takes.
+-- The modules that are loaded: each with the addresses that it takes. The modules are those of the
+-- lines since the last that clears them; the module of an address is the last one with a range that
+-- holds it, a range's end being outside.
 use Rattle.std.specs.Prelude.{ℕ, ◌+◌, Bool, ◌&&◌, List, [], ◌∷◌, ◌++◌, fold, find, nat_le, nat_lt, reverse, Option}
 use Rattle.std.specs.List.{list_any}
 use Rattle.ht_lines.specs.Content.{Content, clear_line, module_line}

@@ -1,4 +1,5 @@
--- What an interpreter does with the next line of a raw trace, behind all lines that it stands for.
+-- What an interpreter does with a line behind all that it stands for, and with one at the front of
+-- bytes.
 use Rattle.std.specs.Prelude.{◌≡◌, ◌≢◌, ℕ, List, [], ◌∷◌, ◌++◌, None, Some}
 use Rattle.ht_trace.specs.declared.error.LineError.{LineError}
 use Rattle.ht_trace.specs.declared.error.LineError.TheVariants.{NoMemory, TooMany}

@@ -1,4 +1,5 @@
--- The blocks of a raw trace, and the pointers that stand for them.
+-- The blocks of a raw trace, and the pointers that stand for them. The last line that names a
+-- pointer tells what it stands for: the block of an allocation, and nothing behind a free.
 use Rattle.std.specs.Prelude.{ℕ, ◌==◌, List, [], ◌∷◌, if◌then◌else◌, length, reverse, Option, Some, None}
 use Rattle.std.specs.Option.{option_map}
 use Rattle.ht_lines.specs.Content.{Content, raw_allocation_line, raw_free_line}

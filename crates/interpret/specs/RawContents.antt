@@ -1,4 +1,5 @@
--- What the lines of a raw trace say, each read in the trace's file version.
+-- What the lines of a raw trace say, each read in the file version that the first version line
+-- gives.
 use Rattle.std.specs.Prelude.{ℕ, List, Option}
 use Rattle.ht_lines.specs.Content.{Content, string_line, instruction_line, info_line, allocation_line, free_line}
 use Rattle.ht_lines.specs.declared.item.Form.TheVariants.{Raw}

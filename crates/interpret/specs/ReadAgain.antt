@@ -1,4 +1,4 @@
--- What the interpretation of a raw trace is when it is read as an interpreted trace.
+-- Read as an interpreted trace, these lines say what was meant, have no fault, and keep the ledger.
 use Rattle.std.specs.Prelude.{◌≡◌, ◌^◌, ◌≤◌, ℕ, List, [], length, None}
 use Rattle.std.specs.List.{AllByRecursion}
 use Rattle.ht_lines.specs.OneLine.{IsOneLine}

@@ -1,4 +1,4 @@
--- What the faults of a line of a symbol table are called.
+-- What the fault of a line of a table of symbols is called.
 use Rattle.std.specs.Prelude.{ℕ, List, codes}
 use Rattle.interpret.specs.declared.fault.SymbolFault.{SymbolFault}
 use Rattle.interpret.specs.declared.fault.SymbolFault.TheVariants.{BadSymbolLine, SymbolOverlap, NoMemory}

@@ -1,11 +1,12 @@
 -- How an event keeps the balance between sums and entries.
 use Rattle.std.proofs.Common.{◌≡◌, ℕ, ◌+◌, ◌-◌, ◌*◌, ◌<◌, ◌≤◌, List, [], ◌∷◌, ◌++◌, set, Bool, true, false, cond, refl, ap, ◌∙◌, zero-mul, arith}
 use Rattle.std.proofs.lemmas.List.Sums.{sum_by_push}
-use Rattle.live_ledger.specs.declared.ledger.InfoEntry.{InfoEntry}
+use Rattle.live_ledger.specs.declared.totals_ledger.InfoEntry.{InfoEntry}
 use Rattle.live_ledger.specs.declared.sums.Sums.{Sums}
 use Rattle.live_ledger.specs.Consistent.{Balances, bytes_where, blocks_where, calls_where}
 use Rattle.live_ledger.specs.Sums.{IsPaired, with_alloc, with_free}
-use Rattle.live_ledger.proofs.Entries.{IsEntry, entry-in_sum, one_fewer, one_more, sum-after}
+use Rattle.live_ledger.specs.TotalsState.{one_fewer, one_more}
+use Rattle.live_ledger.proofs.Entries.{IsEntry, entry-in_sum, sum-after}
 
 -- what an entry that is meant, and one that is not, has in the three sums
 pub record HasParts (meant : InfoEntry → Bool) (entry : InfoEntry) (bytes blocks calls : ℕ) : Type 0 where

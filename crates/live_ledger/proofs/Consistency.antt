@@ -8,11 +8,12 @@ use Rattle.std.proofs.lemmas.List.Elements.{All-push, All-weaker}
 use Rattle.std.proofs.lemmas.List.Sums.{sum_by_push}
 use Rattle.std.proofs.Math.Seq.{map-set_same}
 use Rattle.std.proofs.lemmas.List.{map-append}
-use Rattle.live_ledger.specs.declared.ledger.InfoEntry.{InfoEntry}
+use Rattle.live_ledger.specs.declared.totals_ledger.InfoEntry.{InfoEntry}
 use Rattle.live_ledger.specs.declared.sums.Sums.{Sums}
-use Rattle.live_ledger.specs.Consistent.{AreConsistent, AreSumsOf, Balances, any_entry, blocks_of, blocks_where, calls_where, is_of, stack_of, sums_at}
+use Rattle.live_ledger.specs.Consistent.{AreConsistent, AreKept, AreSumsOf, Balances, any_entry, blocks_of, blocks_where, calls_where, is_of, stack_of, sums_at}
 use Rattle.live_ledger.specs.Sums.{no_sums, with_alloc, with_free}
-use Rattle.live_ledger.proofs.Entries.{IsEntry, IsOwn, entry-in_sum, number-at, one_fewer, one_more, own-at, own-in_total, own-others, own-push, own-written, total-after}
+use Rattle.live_ledger.specs.TotalsState.{one_fewer, one_more}
+use Rattle.live_ledger.proofs.Entries.{IsEntry, IsOwn, entry-in_sum, number-at, own-at, own-in_total, own-others, own-push, own-written, total-after}
 use Rattle.live_ledger.proofs.Balances.{balance-alloc, balance-free, balance-live, balance-others, balance-push}
 
 -- the sums of all stacks after those of one are written
@@ -34,17 +35,16 @@ sums-written sums new stacks stack own written old o calls allocated frees freed
   temporary = omega (arith, total-after (λ (s : Sums). s.temporary) stacks stack own written o, old.temporary, temporary);
 }
 
--- the stacks of the infos are held after one stack's sums and one entry are written
+-- the stacks of the infos are held after one entry is written
 held-written :
-    (stacks : List Sums) (infos : List InfoEntry) (i stack size n : ℕ) (entry written : InfoEntry) (sums : Sums)
-    → All (λ held. held < length stacks) (map stack_of infos)
+    (count : ℕ) (infos : List InfoEntry) (i stack size : ℕ) (entry written : InfoEntry)
+    → All (λ held. held < count) (map stack_of infos)
     → IsEntry infos i stack size entry
     → written.stack ≡ entry.stack
-    → All (λ held. held < length (set stacks n sums)) (map stack_of (set infos i written))
-held-written stacks infos i stack size n entry written sums old e same =
+    → All (λ held. held < count) (map stack_of (set infos i written))
+held-written count infos i stack size entry written old e same =
     let stacks_are : map stack_of (set infos i written) ≡ map stack_of infos = map-set_same stack_of infos i written entry (same ∙ ap stack_of e.is) in
-    let held : All (λ held. held < length stacks) (map stack_of (set infos i written)) = subst (λ (xs : List ℕ). All (λ (held : ℕ). held < length stacks) xs) (sym stacks_are) old in
-    subst (λ (count : ℕ). All (λ (held : ℕ). held < count) (map stack_of (set infos i written))) (sym (length-set stacks n sums)) held
+    subst (λ (xs : List ℕ). All (λ (held : ℕ). held < count) xs) (sym stacks_are) old
 
 -- the sums of each stack balance after one stack's sums are written
 each-written :
@@ -81,64 +81,119 @@ is_of-own stack entry is =
       | inr other ↦ absurd (other.1 is)
     ]
 
--- the fields stay consistent over an allocation
-pub consistent-alloc :
-    (stacks : List Sums) (infos : List InfoEntry) (sums : Sums) (i stack size : ℕ) (entry : InfoEntry) (own : Sums)
-    → AreConsistent stacks infos sums
+-- the fields of a ledger of totals are kept over an allocation
+pub kept-alloc :
+    (count : ℕ) (infos : List InfoEntry) (sums : Sums) (i stack size : ℕ) (entry : InfoEntry)
+    → AreKept count infos sums
     → IsEntry infos i stack size entry
-    → IsOwn stacks stack own
     → sums.allocated + size ≤ 2 ^ 62
     → sums.calls + sums.frees < 2 ^ 32
-    → AreConsistent (set stacks stack (with_alloc own size)) (set infos i (one_more entry)) (with_alloc sums size)
-consistent-alloc stacks infos sums i stack size entry own old e o fits count = record {
-  stack_0 = omega (arith, length-set stacks stack (with_alloc own size), old.stack_0);
-  stacks_within = omega (arith, length-set stacks stack (with_alloc own size), old.stacks_within);
+    → AreKept count (set infos i (one_more entry)) (with_alloc sums size)
+kept-alloc count infos sums i stack size entry old e fits few = record {
+  stack_0 = old.stack_0;
+  stacks_within = old.stacks_within;
   infos_within = omega (arith, length-set infos i (one_more entry), old.infos_within);
-  held = held-written stacks infos i stack size stack entry (one_more entry) (with_alloc own size) old.held e refl;
-  sums_of = sums-written sums (with_alloc sums size) stacks stack own (with_alloc own size) old.sums_of o (omega arith) (omega arith) (omega arith) (omega arith) (omega arith);
+  held = held-written count infos i stack size entry (one_more entry) old.held e refl;
   whole = balance-alloc sums any_entry infos i stack size entry old.whole e refl refl;
-  each_stack = each-written stacks infos (set infos i (one_more entry)) stack own (with_alloc own size) o old.each_stack
-      (λ was. balance-alloc own (is_of stack) infos i stack size entry was e (is_of-own stack entry e.stack_is) (is_of-own stack entry e.stack_is))
-      (λ n apart was. balance-others (sums_at stacks n) (is_of n) infos i stack size entry (one_more entry) was e (is_of-other n stack entry e.stack_is apart) (is_of-other n stack entry e.stack_is apart));
   allocated_within = fits;
   events_within = omega arith;
 }
 
--- the fields stay consistent over a free
-pub consistent-free :
-    (stacks : List Sums) (infos : List InfoEntry) (sums : Sums) (i stack size ended : ℕ) (entry : InfoEntry) (own : Sums)
-    → AreConsistent stacks infos sums
+-- and over a free
+pub kept-free :
+    (count : ℕ) (infos : List InfoEntry) (sums : Sums) (i stack size ended : ℕ) (entry : InfoEntry)
+    → AreKept count infos sums
     → IsEntry infos i stack size entry
-    → IsOwn stacks stack own
     → 0 < entry.blocks
     → ended ≤ 1
     → sums.calls + sums.frees < 2 ^ 32
-    → AreConsistent (set stacks stack (with_free own size ended)) (set infos i (one_fewer entry)) (with_free sums size ended)
-consistent-free stacks infos sums i stack size ended entry own old e o live few count = record {
-  stack_0 = omega (arith, length-set stacks stack (with_free own size ended), old.stack_0);
-  stacks_within = omega (arith, length-set stacks stack (with_free own size ended), old.stacks_within);
+    → AreKept count (set infos i (one_fewer entry)) (with_free sums size ended)
+kept-free count infos sums i stack size ended entry old e live few room = record {
+  stack_0 = old.stack_0;
+  stacks_within = old.stacks_within;
   infos_within = omega (arith, length-set infos i (one_fewer entry), old.infos_within);
-  held = held-written stacks infos i stack size stack entry (one_fewer entry) (with_free own size ended) old.held e refl;
-  sums_of = sums-written sums (with_free sums size ended) stacks stack own (with_free own size ended) old.sums_of o (omega arith) (omega arith) (omega arith) (omega arith) (omega arith);
+  held = held-written count infos i stack size entry (one_fewer entry) old.held e refl;
   whole = balance-free sums any_entry infos i stack size ended entry old.whole e live few refl refl;
-  each_stack = each-written stacks infos (set infos i (one_fewer entry)) stack own (with_free own size ended) o old.each_stack
-      (λ was. balance-free own (is_of stack) infos i stack size ended entry was e live few (is_of-own stack entry e.stack_is) (is_of-own stack entry e.stack_is))
-      (λ n apart was. balance-others (sums_at stacks n) (is_of n) infos i stack size entry (one_fewer entry) was e (is_of-other n stack entry e.stack_is apart) (is_of-other n stack entry e.stack_is apart));
   allocated_within = old.allocated_within;
   events_within = omega arith;
 }
 
--- the fields stay consistent with one more stack
-pub consistent-stack :
-    (stacks : List Sums) (infos : List InfoEntry) (sums : Sums)
-    → AreConsistent stacks infos sums
-    → length stacks < 2 ^ 32 - 1
-    → AreConsistent (stacks ++ no_sums ∷ []) infos sums
-consistent-stack stacks infos sums old room = record {
-  stack_0 = omega (arith, length_push stacks no_sums, old.stack_0);
-  stacks_within = omega (arith, length_push stacks no_sums, room);
+-- and with one more stack
+pub kept-stack : (count : ℕ) (infos : List InfoEntry) (sums : Sums) → AreKept count infos sums → count < 2 ^ 32 - 1 → AreKept (count + 1) infos sums
+kept-stack count infos sums old room = record {
+  stack_0 = omega arith;
+  stacks_within = omega (arith, room);
   infos_within = old.infos_within;
-  held = All-weaker (λ held. held < length stacks) (λ held. held < length (stacks ++ no_sums ∷ [])) (λ held within. omega (arith, length_push stacks no_sums, within)) (map stack_of infos) old.held;
+  held = All-weaker (λ held. held < count) (λ held. held < count + 1) (λ held within. omega (arith, within)) (map stack_of infos) old.held;
+  whole = old.whole;
+  allocated_within = old.allocated_within;
+  events_within = old.events_within;
+}
+
+-- and with one more info
+pub kept-info :
+    (count : ℕ) (infos : List InfoEntry) (sums : Sums) (entry : InfoEntry)
+    → AreKept count infos sums
+    → length infos < 2 ^ 32 - 1
+    → entry.stack < count
+    → entry.blocks ≡ 0
+    → entry.calls ≡ 0
+    → AreKept count (infos ++ entry ∷ []) sums
+kept-info count infos sums entry old room held no_blocks no_calls = record {
+  stack_0 = old.stack_0;
+  stacks_within = old.stacks_within;
+  infos_within = omega (arith, length_push infos entry, room);
+  held = subst (λ (xs : List ℕ). All (λ (held : ℕ). held < count) xs) (sym (map-append stack_of infos (entry ∷ []))) (All-push (λ held. held < count) (map stack_of infos) entry.stack old.held held);
+  whole = balance-push sums any_entry infos entry no_blocks no_calls old.whole;
+  allocated_within = old.allocated_within;
+  events_within = old.events_within;
+}
+
+-- those of a ledger with figures of stacks are consistent over an allocation
+pub consistent-alloc :
+    (count : ℕ) (stacks : List Sums) (infos : List InfoEntry) (sums : Sums) (i stack size : ℕ) (entry : InfoEntry) (own : Sums)
+    → AreConsistent count stacks infos sums
+    → AreKept count (set infos i (one_more entry)) (with_alloc sums size)
+    → IsEntry infos i stack size entry
+    → IsOwn stacks stack own
+    → AreConsistent count (set stacks stack (with_alloc own size)) (set infos i (one_more entry)) (with_alloc sums size)
+consistent-alloc count stacks infos sums i stack size entry own old kept e o = record {
+  kept = kept;
+  count_is = old.count_is ∙ sym (length-set stacks stack (with_alloc own size));
+  sums_of = sums-written sums (with_alloc sums size) stacks stack own (with_alloc own size) old.sums_of o (omega arith) (omega arith) (omega arith) (omega arith) (omega arith);
+  each_stack = each-written stacks infos (set infos i (one_more entry)) stack own (with_alloc own size) o old.each_stack
+      (λ was. balance-alloc own (is_of stack) infos i stack size entry was e (is_of-own stack entry e.stack_is) (is_of-own stack entry e.stack_is))
+      (λ n apart was. balance-others (sums_at stacks n) (is_of n) infos i stack size entry (one_more entry) was e (is_of-other n stack entry e.stack_is apart) (is_of-other n stack entry e.stack_is apart));
+}
+
+-- and over a free
+pub consistent-free :
+    (count : ℕ) (stacks : List Sums) (infos : List InfoEntry) (sums : Sums) (i stack size ended : ℕ) (entry : InfoEntry) (own : Sums)
+    → AreConsistent count stacks infos sums
+    → AreKept count (set infos i (one_fewer entry)) (with_free sums size ended)
+    → IsEntry infos i stack size entry
+    → IsOwn stacks stack own
+    → 0 < entry.blocks
+    → ended ≤ 1
+    → AreConsistent count (set stacks stack (with_free own size ended)) (set infos i (one_fewer entry)) (with_free sums size ended)
+consistent-free count stacks infos sums i stack size ended entry own old kept e o live few = record {
+  kept = kept;
+  count_is = old.count_is ∙ sym (length-set stacks stack (with_free own size ended));
+  sums_of = sums-written sums (with_free sums size ended) stacks stack own (with_free own size ended) old.sums_of o (omega arith) (omega arith) (omega arith) (omega arith) (omega arith);
+  each_stack = each-written stacks infos (set infos i (one_fewer entry)) stack own (with_free own size ended) o old.each_stack
+      (λ was. balance-free own (is_of stack) infos i stack size ended entry was e live few (is_of-own stack entry e.stack_is) (is_of-own stack entry e.stack_is))
+      (λ n apart was. balance-others (sums_at stacks n) (is_of n) infos i stack size entry (one_fewer entry) was e (is_of-other n stack entry e.stack_is apart) (is_of-other n stack entry e.stack_is apart));
+}
+
+-- and with one more stack
+pub consistent-stack :
+    (count : ℕ) (stacks : List Sums) (infos : List InfoEntry) (sums : Sums)
+    → AreConsistent count stacks infos sums
+    → AreKept (count + 1) infos sums
+    → AreConsistent (count + 1) (stacks ++ no_sums ∷ []) infos sums
+consistent-stack count stacks infos sums old kept = record {
+  kept = kept;
+  count_is = omega (arith, length_push stacks no_sums, old.count_is);
   sums_of = record {
     calls = omega (arith, sum_by_push (λ (s : Sums). s.calls) stacks no_sums, old.sums_of.calls);
     allocated = omega (arith, sum_by_push (λ (s : Sums). s.allocated) stacks no_sums, old.sums_of.allocated);
@@ -146,42 +201,33 @@ consistent-stack stacks infos sums old room = record {
     freed = omega (arith, sum_by_push (λ (s : Sums). s.freed) stacks no_sums, old.sums_of.freed);
     temporary = omega (arith, sum_by_push (λ (s : Sums). s.temporary) stacks no_sums, old.sums_of.temporary);
   };
-  whole = old.whole;
   each_stack = λ n. subst (λ (s : Sums). Balances s (is_of n) infos) (sym (own-push stacks n)) (old.each_stack n);
-  allocated_within = old.allocated_within;
-  events_within = old.events_within;
 }
 
--- the fields stay consistent with one more info
+-- and with one more info
 pub consistent-info :
-    (stacks : List Sums) (infos : List InfoEntry) (sums : Sums) (entry : InfoEntry)
-    → AreConsistent stacks infos sums
-    → length infos < 2 ^ 32 - 1
-    → entry.stack < length stacks
+    (count : ℕ) (stacks : List Sums) (infos : List InfoEntry) (sums : Sums) (entry : InfoEntry)
+    → AreConsistent count stacks infos sums
+    → AreKept count (infos ++ entry ∷ []) sums
     → entry.blocks ≡ 0
     → entry.calls ≡ 0
-    → AreConsistent stacks (infos ++ entry ∷ []) sums
-consistent-info stacks infos sums entry old room held no_blocks no_calls = record {
-  stack_0 = old.stack_0;
-  stacks_within = old.stacks_within;
-  infos_within = omega (arith, length_push infos entry, room);
-  held = subst (λ (xs : List ℕ). All (λ (held : ℕ). held < length stacks) xs) (sym (map-append stack_of infos (entry ∷ []))) (All-push (λ held. held < length stacks) (map stack_of infos) entry.stack old.held held);
+    → AreConsistent count stacks (infos ++ entry ∷ []) sums
+consistent-info count stacks infos sums entry old kept no_blocks no_calls = record {
+  kept = kept;
+  count_is = old.count_is;
   sums_of = old.sums_of;
-  whole = balance-push sums any_entry infos entry no_blocks no_calls old.whole;
   each_stack = λ n. balance-push (sums_at stacks n) (is_of n) infos entry no_blocks no_calls (old.each_stack n);
-  allocated_within = old.allocated_within;
-  events_within = old.events_within;
 }
 
 -- what an allocation may add without passing any number's range
 pub alloc-fits :
-    (stacks : List Sums) (infos : List InfoEntry) (sums : Sums) (stack size : ℕ) (own : Sums)
-    → AreConsistent stacks infos sums
+    (count : ℕ) (stacks : List Sums) (infos : List InfoEntry) (sums : Sums) (stack size : ℕ) (own : Sums)
+    → AreConsistent count stacks infos sums
     → IsOwn stacks stack own
     → sums.allocated + size ≤ 2 ^ 62
     → sums.calls + sums.frees < 2 ^ 32
     → (own.calls < 2 ^ 32) × (own.allocated + size ≤ 2 ^ 62)
-alloc-fits stacks infos sums stack size own old o fits count = (
+alloc-fits count stacks infos sums stack size own old o fits few = (
   omega (arith, own-in_total (λ (s : Sums). s.calls) stacks stack own o, old.sums_of.calls),
   omega (arith, own-in_total (λ (s : Sums). s.allocated) stacks stack own o, old.sums_of.allocated),
 )
@@ -195,13 +241,13 @@ pub record FreeFits (sums : Sums) (size ended : ℕ) : Type 0 where
   pub blocks : sums.frees + 1 ≤ sums.calls
 
 pub free-fits_whole :
-    (stacks : List Sums) (infos : List InfoEntry) (sums : Sums) (i stack size ended : ℕ) (entry : InfoEntry)
-    → AreConsistent stacks infos sums
+    (count : ℕ) (infos : List InfoEntry) (sums : Sums) (i stack size ended : ℕ) (entry : InfoEntry)
+    → AreKept count infos sums
     → IsEntry infos i stack size entry
     → 0 < entry.blocks
     → ended ≤ 1
     → FreeFits sums size ended
-free-fits_whole stacks infos sums i stack size ended entry old e live few =
+free-fits_whole count infos sums i stack size ended entry old e live few =
     let left = balance-live sums any_entry infos i stack size entry old.whole e refl live in
     record {
       frees = omega (arith, left.1, old.events_within);
@@ -212,34 +258,34 @@ free-fits_whole stacks infos sums i stack size ended entry old e live few =
     }
 
 pub free-fits_own :
-    (stacks : List Sums) (infos : List InfoEntry) (sums : Sums) (i stack size ended : ℕ) (entry : InfoEntry) (own : Sums)
-    → AreConsistent stacks infos sums
+    (count : ℕ) (stacks : List Sums) (infos : List InfoEntry) (sums : Sums) (i stack size ended : ℕ) (entry : InfoEntry) (own : Sums)
+    → AreConsistent count stacks infos sums
     → IsEntry infos i stack size entry
     → IsOwn stacks stack own
     → 0 < entry.blocks
     → ended ≤ 1
     → FreeFits own size ended
-free-fits_own stacks infos sums i stack size ended entry own old e o live few =
+free-fits_own count stacks infos sums i stack size ended entry own old e o live few =
     let balance : Balances own (is_of stack) infos = subst (λ (s : Sums). Balances s (is_of stack) infos) (sym (own-at stacks stack own o)) (old.each_stack stack) in
     let left = balance-live own (is_of stack) infos i stack size entry balance e (is_of-own stack entry e.stack_is) live in
     let calls = own-in_total (λ (s : Sums). s.calls) stacks stack own o in
     let allocated = own-in_total (λ (s : Sums). s.allocated) stacks stack own o in
     record {
-      frees = omega (arith, left.1, calls, old.sums_of.calls, old.events_within);
-      freed = omega (arith, left.0, allocated, old.sums_of.allocated, old.allocated_within);
-      temporary = omega (arith, left.1, calls, old.sums_of.calls, old.events_within, balance.temporary);
+      frees = omega (arith, left.1, calls, old.sums_of.calls, old.kept.events_within);
+      freed = omega (arith, left.0, allocated, old.sums_of.allocated, old.kept.allocated_within);
+      temporary = omega (arith, left.1, calls, old.sums_of.calls, old.kept.events_within, balance.temporary);
       live = left.0;
       blocks = left.1;
     }
 
 -- an info's blocks and allocations have room for one more
 pub entry-fits :
-    (stacks : List Sums) (infos : List InfoEntry) (sums : Sums) (i stack size : ℕ) (entry : InfoEntry)
-    → AreConsistent stacks infos sums
+    (count : ℕ) (infos : List InfoEntry) (sums : Sums) (i stack size : ℕ) (entry : InfoEntry)
+    → AreKept count infos sums
     → IsEntry infos i stack size entry
     → sums.calls + sums.frees < 2 ^ 32
     → (entry.blocks + 1 < 2 ^ 64) × (entry.calls + 1 < 2 ^ 64)
-entry-fits stacks infos sums i stack size entry old e count =
+entry-fits count infos sums i stack size entry old e few =
     let blocks : entry.blocks ≤ sum_by (blocks_where any_entry) infos = entry-in_sum (blocks_where any_entry) infos i stack size entry e in
     let calls : entry.calls ≤ sum_by (calls_where any_entry) infos = entry-in_sum (calls_where any_entry) infos i stack size entry e in
     (omega (arith, blocks, old.whole.blocks), omega (arith, calls, old.whole.calls))

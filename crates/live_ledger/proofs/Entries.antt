@@ -1,15 +1,16 @@
 -- Lemmas on the ledger's fields: its entries and the sums of its stacks, read and written at their places.
-use Rattle.std.proofs.Common.{◌≡◌, ◌≢◌, ℕ, ◌+◌, ◌-◌, ◌<◌, ◌≤◌, zero, suc, List, [], ◌∷◌, ◌++◌, length, get_or, set, map, Bool, true, false, cond, refl, sym, ap, ◌∙◌, arith}
+use Rattle.std.proofs.Common.{◌≡◌, ◌≢◌, ℕ, ◌+◌, ◌<◌, ◌≤◌, zero, suc, List, [], ◌∷◌, ◌++◌, length, get_or, set, map, Bool, true, false, cond, refl, sym, ap, ◌∙◌, arith}
 use Rattle.std.specs.Int.{from_bool}
 use Rattle.std.specs.Prelude.{slice_get, slice_index, sum_by, Some}
 use Rattle.std.proofs.lemmas.List.{length-map, length-set, get_or-map, get_or_default, map-set, get_or-set_same, get_or-set_other}
 use Rattle.std.proofs.lemmas.List.Sums.{sum_by-set, get_or-le-sum_by}
 use Rattle.std.proofs.lemmas.Option.{slice_get_within, get_or_from_slice_get}
-use Rattle.live_ledger.specs.declared.ledger.InfoEntry.{InfoEntry}
+use Rattle.live_ledger.specs.declared.totals_ledger.InfoEntry.{InfoEntry}
 use Rattle.live_ledger.specs.declared.sums.Sums.{Sums}
 use Rattle.live_ledger.specs.LedgerState.{HeldInfo}
 use Rattle.live_ledger.specs.Consistent.{info_of, sums_at}
 use Rattle.live_ledger.specs.Sums.{no_sums}
+use Rattle.live_ledger.specs.TotalsState.{TotalsState, entry_at, no_entry}
 
 -- the entry of info `i`, read at its place, has this stack and blocks of this size
 pub record IsEntry (entries : List InfoEntry) (i stack size : ℕ) (entry : InfoEntry) : Type 0 where
@@ -43,6 +44,15 @@ entry-is_held entries i stack size entry held read =
       stack_is = ap (λ (h : HeldInfo). h.stack) info;
       size_is = ap (λ (h : HeldInfo). h.size) info;
     }
+
+-- the entry of an info, as contracts tell it, is that read at its place
+pub entry-read : (whole : TotalsState) (i : ℕ) (entry : InfoEntry) → i < length whole.infos → entry ≡ get_or whole.infos i entry → entry ≡ entry_at whole i
+entry-read whole i entry within is = is ∙ get_or_default whole.infos i entry no_entry within
+
+-- and that of an info that is held
+pub entry-held : (whole : TotalsState) (i stack size : ℕ) → slice_get (map info_of whole.infos) i ≡ Some (record { stack = stack; size = size }) → IsEntry whole.infos i stack size (entry_at whole i)
+entry-held whole i stack size held =
+    entry-is_held whole.infos i stack size (entry_at whole i) held (get_or_default whole.infos i no_entry (entry_at whole i) (entry-within whole.infos i (record { stack = stack; size = size }) held))
 
 -- an entry's part in a sum over all entries
 pub entry-in_sum : (f : InfoEntry → ℕ) (entries : List InfoEntry) (i stack size : ℕ) (entry : InfoEntry) → IsEntry entries i stack size entry → f entry ≤ sum_by f entries
@@ -78,14 +88,6 @@ number-push f [] entry zero none = none
 number-push f [] entry (suc i) none = refl
 number-push f (x ∷ xs) entry zero none = refl
 number-push f (x ∷ xs) entry (suc i) none = number-push f xs entry i none
-
--- the entry with one more live block
-abbrev pub one_more : InfoEntry → InfoEntry
-one_more entry = record { stack = entry.stack; size = entry.size; blocks = entry.blocks + 1; calls = entry.calls + 1 }
-
--- the entry with one live block fewer
-abbrev pub one_fewer : InfoEntry → InfoEntry
-one_fewer entry = record { stack = entry.stack; size = entry.size; blocks = entry.blocks - 1; calls = entry.calls }
 
 -- the sums of a stack, read at its place
 pub record IsOwn (stacks : List Sums) (stack : ℕ) (own : Sums) : Type 0 where

@@ -120,8 +120,8 @@ frees-by_number weight infos (e ∷ es) all =
 pub weighed-calls : (state : LedgerState) (events : List Event) (weight : HeldInfo → ℕ) → StandsFor state events → weighed weight state.infos state.info_calls ≡ sum_by (alloc_weight weight) events
 weighed-calls state events weight stands =
     by_number-list weight state.infos state.info_calls
-    ∙ by_number-same weight (λ i. slice_index state.info_calls i) (λ i. allocs_of i events) state.infos stands.each_info_calls
-    ∙ allocs-by_number weight state.infos events stands.held
+    ∙ by_number-same weight (λ i. slice_index state.info_calls i) (λ i. allocs_of i events) state.infos stands.whole.each_info_calls
+    ∙ allocs-by_number weight state.infos events stands.whole.held
 
 -- an event without a fault frees no more of an info than was allocated
 free-within :

@@ -5,4 +5,5 @@ mod Views
 mod Lists
 mod PossibleLemmas
 mod Stands
+mod TakenLemmas
 mod Infos

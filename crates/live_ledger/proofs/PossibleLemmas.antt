@@ -6,7 +6,7 @@ use Rattle.live_ledger.specs.declared.event.Event.TheVariants.{Alloc, Free, Tick
 use Rattle.live_ledger.specs.Faults.{fault_of}
 use Rattle.live_ledger.specs.LedgerState.{HeldInfo, IsAmong, LedgerState, IsHeld}
 use Rattle.live_ledger.specs.Possible.{AreAmong, ArePossible, HaveNoFault}
-use Rattle.live_ledger.specs.StandsFor.{StandsFor}
+use Rattle.live_ledger.specs.StandsFor.{HasTotals}
 
 -- what holds of each event and those before it holds with one more event of which it holds
 each-more :
@@ -33,7 +33,7 @@ pub faultless-more : (events : List Event) (last : Event) → HaveNoFault events
 faultless-more events last each here = each-more (λ before event. fault_of before event ≡ None) events last each here
 
 -- a list that a ledger stands for is possible with an event that the ledger takes
-pub possible-more : (state : LedgerState) (events : List Event) (event : Event) → IsHeld state event → StandsFor state events → fault_of events event ≡ None → ArePossible (events ++ event ∷ [])
+pub possible-more : (state : LedgerState) (events : List Event) (event : Event) → IsHeld state event → HasTotals state events → fault_of events event ≡ None → ArePossible (events ++ event ∷ [])
 possible-more state events event held stands none = record {
   among = (state.infos, among-more state.infos events event stands.held held);
   no_fault = faultless-more events event stands.no_fault none;

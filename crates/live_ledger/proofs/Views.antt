@@ -1,11 +1,11 @@
 -- What contracts see of the ledger's fields.
-use Rattle.std.proofs.Common.{◌≡◌, ◌≢◌, ℕ, ◌+◌, ◌-◌, ◌^◌, ◌<◌, ◌≤◌, List, [], ◌∷◌, ◌++◌, length, get_or, set, map, Option, cond, refl, inl, inr, sym, ap, subst, ◌∙◌, arith}
+use Rattle.std.proofs.Common.{◌≡◌, ◌≢◌, ℕ, ◌+◌, ◌-◌, ◌^◌, ◌<◌, ◌≤◌, List, [], ◌∷◌, ◌++◌, length, get_or, set, map, Bool, true, false, Option, cond, refl, inl, inr, sym, ap, subst, ◌∙◌, arith}
 use Rattle.std.specs.Prelude.{nat_eq, nat_lt, ◌==◌, if◌then◌else◌, slice_get, slice_index, sum_by, Some, None}
 use Rattle.std.specs.List.{All}
 use Rattle.std.specs.Option.{option_eq}
 use Rattle.std.proofs.lemmas.Bool.{cases_lt}
 use Rattle.std.proofs.lemmas.Bool.Decides.{nat_tests}
-use Rattle.std.proofs.lemmas.List.{get_or_default, get_or_past, length-map, length-set}
+use Rattle.std.proofs.lemmas.List.{get_or_past, length-map}
 use Rattle.std.proofs.Math.ListN as lists
 use Rattle.std.proofs.lemmas.List.Elements.{All-from_get_or, All-get_or, All-head, All-tail}
 use Rattle.std.proofs.lemmas.List.Sums.{get_or-le-sum_by, sum-map, sum_by-cons}
@@ -14,46 +14,39 @@ use Rattle.live_ledger.specs.declared.event.Event.TheVariants.{Free}
 use Rattle.live_ledger.specs.declared.event.EventFault.{EventFault}
 use Rattle.live_ledger.specs.declared.event.EventFault.TheVariants.{CostTooLarge, FreeOfNothing}
 use Rattle.live_ledger.specs.declared.figures.Figures.{Figures}
-use Rattle.live_ledger.specs.declared.ledger.InfoEntry.{InfoEntry}
+use Rattle.live_ledger.specs.declared.totals_ledger.InfoEntry.{InfoEntry}
 use Rattle.live_ledger.specs.declared.sums.Sums.{Sums}
-use Rattle.live_ledger.specs.LedgerState.{HeldInfo, LedgerState, figures_at, no_figures}
-use Rattle.live_ledger.specs.Changes.{Allocates, Frees, GainsBlock, LosesBlock}
-use Rattle.live_ledger.specs.Consistent.{AreConsistent, AreSumsOf, any_entry, blocks_of, calls_of, info_of, is_of, stack_of, sums_at}
+use Rattle.live_ledger.specs.LedgerState.{HeldInfo, figures_at, no_figures}
+use Rattle.live_ledger.specs.Changes.{AddsBlock, Allocates, Frees, GainsBlock, LosesBlock, TakesBlock, ended_by_free}
+use Rattle.live_ledger.specs.Consistent.{AreConsistent, AreKept, AreSumsOf, any_entry, blocks_of, calls_of, info_of, is_of, stack_of, sums_at}
 use Rattle.live_ledger.specs.Faults.{fault_at}
 use Rattle.live_ledger.specs.Sound.{AreSums, AreWithin, IsSound}
 use Rattle.live_ledger.specs.Sums.{IsPaired, figures_of, no_sums, totals_of, with_alloc, with_free}
 use Rattle.live_ledger.proofs.Balances.{balance-paired}
 use Rattle.live_ledger.proofs.Consistency.{free-fits_own, free-fits_whole}
-use Rattle.live_ledger.proofs.Entries.{IsEntry, IsOwn, entry-info, entry-within, number-at, number-at_others, number-at_set, one_fewer, one_more, own-at, own-others, own-push, own-written}
+use Rattle.live_ledger.specs.TotalsState.{IsKept, TotalsState, entry_at, ledger_of, one_fewer, one_more, state_of, with_block, without_block}
+use Rattle.live_ledger.proofs.Entries.{IsEntry, IsOwn, entry-held, number-at, number-at_others, number-at_set, own-at, own-others, own-push, own-written}
 
--- the state that contracts see
-abbrev pub state_of : List Sums → List InfoEntry → Sums → Option ℕ → LedgerState
-state_of stacks infos sums last = record {
-  stacks = length stacks;
-  infos = map info_of infos;
-  figures = map figures_of stacks;
-  blocks = map blocks_of infos;
-  info_calls = map calls_of infos;
-  totals = totals_of sums;
-  last = last;
-}
+-- the state of a ledger of totals by its parts
+abbrev pub whole_of : ℕ → List InfoEntry → Sums → Option ℕ → TotalsState
+whole_of stacks infos sums last = record { stacks = stacks; infos = infos; sums = sums; last = last }
 
 -- the figures of a stack by its number are those of its sums
-pub figures-at : (stacks : List Sums) (infos : List InfoEntry) (sums : Sums) (last : Option ℕ) (n : ℕ) → figures_at (state_of stacks infos sums last) n ≡ figures_of (sums_at stacks n)
-figures-at stacks infos sums last n = lists.get_or-map figures_of stacks n no_sums
+pub figures-at : (stacks : List Sums) (whole : TotalsState) (n : ℕ) → figures_at (state_of stacks whole) n ≡ figures_of (sums_at stacks n)
+figures-at stacks whole n = lists.get_or-map figures_of stacks n no_sums
 
 -- the figures of a stack that is read at its place
-pub figures-own : (stacks : List Sums) (infos : List InfoEntry) (sums : Sums) (last : Option ℕ) (n : ℕ) (own : Sums) → IsOwn stacks n own → figures_of own ≡ figures_at (state_of stacks infos sums last) n
-figures-own stacks infos sums last n own o = ap figures_of (own-at stacks n own o) ∙ sym (figures-at stacks infos sums last n)
+pub figures-own : (stacks : List Sums) (whole : TotalsState) (n : ℕ) (own : Sums) → IsOwn stacks n own → figures_of own ≡ figures_at (state_of stacks whole) n
+figures-own stacks whole n own o = ap figures_of (own-at stacks n own o) ∙ sym (figures-at stacks whole n)
 
 -- a new stack changes the figures of no number
-pub figures-push : (stacks : List Sums) (infos : List InfoEntry) (sums : Sums) (last : Option ℕ) (n : ℕ) → figures_at (state_of (stacks ++ no_sums ∷ []) infos sums last) n ≡ figures_at (state_of stacks infos sums last) n
-figures-push stacks infos sums last n =
-    figures-at (stacks ++ no_sums ∷ []) infos sums last n ∙ ap figures_of (own-push stacks n) ∙ sym (figures-at stacks infos sums last n)
+pub figures-push : (stacks : List Sums) (before after : TotalsState) (n : ℕ) → figures_at (state_of (stacks ++ no_sums ∷ []) after) n ≡ figures_at (state_of stacks before) n
+figures-push stacks before after n =
+    figures-at (stacks ++ no_sums ∷ []) after n ∙ ap figures_of (own-push stacks n) ∙ sym (figures-at stacks before n)
 
 -- the sums of a stack balance, and so are paired
-pub own-paired : (stacks : List Sums) (infos : List InfoEntry) (sums : Sums) (n : ℕ) → AreConsistent stacks infos sums → IsPaired (sums_at stacks n)
-own-paired stacks infos sums n old = balance-paired (sums_at stacks n) (is_of n) infos (old.each_stack n)
+pub own-paired : (count : ℕ) (stacks : List Sums) (infos : List InfoEntry) (sums : Sums) (n : ℕ) → AreConsistent count stacks infos sums → IsPaired (sums_at stacks n)
+own-paired count stacks infos sums n old = balance-paired (sums_at stacks n) (is_of n) infos (old.each_stack n)
 
 -- what is left of two sums over a list is the sum of what is left of each
 sum-left :
@@ -85,9 +78,9 @@ sum-figures f [] = refl
 sum-figures f (x ∷ xs) = sum_by-cons f (figures_of x) (map figures_of xs) ∙ ap (λ (n : ℕ). f (figures_of x) + n) (sum-figures f xs) ∙ sym (sum_by-cons (λ (s : Sums). f (figures_of s)) x xs)
 
 -- the figures of all stacks are those of the trace
-pub figures-sum : (stacks : List Sums) (infos : List InfoEntry) (sums : Sums) → AreConsistent stacks infos sums → AreSums (totals_of sums) (map figures_of stacks)
-figures-sum stacks infos sums old =
-    let live = sums-live stacks sums (λ n. own-paired stacks infos sums n old) old.sums_of in
+pub figures-sum : (count : ℕ) (stacks : List Sums) (infos : List InfoEntry) (sums : Sums) → AreConsistent count stacks infos sums → AreSums (totals_of sums) (map figures_of stacks)
+figures-sum count stacks infos sums old =
+    let live = sums-live stacks sums (λ n. own-paired count stacks infos sums n old) old.sums_of in
     record {
       live = sum-figures (λ (f : Figures). f.live) stacks ∙ live.0;
       blocks = sum-figures (λ (f : Figures). f.blocks) stacks ∙ live.1;
@@ -105,10 +98,10 @@ part-within f figures n none =
     ]
 
 -- the figures of a stack, held or not, are within the totals
-figures-within : (stacks : List Sums) (infos : List InfoEntry) (sums : Sums) (n : ℕ) → AreConsistent stacks infos sums → AreWithin (get_or (map figures_of stacks) n no_figures) (totals_of sums)
-figures-within stacks infos sums n old =
-    let are = figures-sum stacks infos sums old in
-    let paired = own-paired stacks infos sums n old in
+figures-within : (count : ℕ) (stacks : List Sums) (infos : List InfoEntry) (sums : Sums) (n : ℕ) → AreConsistent count stacks infos sums → AreWithin (get_or (map figures_of stacks) n no_figures) (totals_of sums)
+figures-within count stacks infos sums n old =
+    let are = figures-sum count stacks infos sums old in
+    let paired = own-paired count stacks infos sums n old in
     let own : figures_of (sums_at stacks n) ≡ get_or (map figures_of stacks) n no_figures = sym (lists.get_or-map figures_of stacks n no_sums) in
     let live : (figures_of (sums_at stacks n)).live ≤ (figures_of (sums_at stacks n)).allocated = omega arith in
     let blocks : (figures_of (sums_at stacks n)).temporary + (figures_of (sums_at stacks n)).blocks ≤ (figures_of (sums_at stacks n)).calls = omega (arith, paired.frees_within, paired.temporary_within) in
@@ -124,94 +117,82 @@ figures-within stacks infos sums n old =
 
 -- the stack of an entry, read at its place, is held
 pub stack-of_entry :
-    (stacks : List Sums) (infos : List InfoEntry) (sums : Sums) (i : ℕ) (entry : InfoEntry)
-    → AreConsistent stacks infos sums
+    (count : ℕ) (infos : List InfoEntry) (sums : Sums) (i : ℕ) (entry : InfoEntry)
+    → AreKept count infos sums
     → i < length infos
     → entry ≡ get_or infos i entry
-    → entry.stack < length stacks
-stack-of_entry stacks infos sums i entry old within read =
+    → entry.stack < count
+stack-of_entry count infos sums i entry old within read =
     let here : slice_index (map stack_of infos) i ≡ entry.stack = number-at stack_of infos i entry within read in
     let inside : i < length (map stack_of infos) = omega (arith, length-map infos stack_of, within) in
-    let below : slice_index (map stack_of infos) i < length stacks = All-get_or (λ (stack : ℕ). stack < length stacks) (map stack_of infos) i 0 inside old.held in
+    let below : slice_index (map stack_of infos) i < count = All-get_or (λ (stack : ℕ). stack < count) (map stack_of infos) i 0 inside old.held in
     omega arith
 
 -- the stack of an info is held
 pub stack-held :
-    (stacks : List Sums) (infos : List InfoEntry) (sums : Sums) (i : ℕ) (held : HeldInfo)
-    → AreConsistent stacks infos sums
-    → slice_get (map info_of infos) i ≡ Some held
-    → held.stack < length stacks
-stack-held stacks infos sums i held old is =
-    let none : InfoEntry = record { stack = 0; size = 0; blocks = 0; calls = 0 } in
-    let within = entry-within infos i held is in
-    let read : get_or infos i none ≡ get_or infos i (get_or infos i none) = get_or_default infos i none (get_or infos i none) within in
-    let stack_is : (get_or infos i none).stack ≡ held.stack = ap (λ (h : HeldInfo). h.stack) (entry-info infos i held (get_or infos i none) is read) in
-    omega (arith, stack-of_entry stacks infos sums i (get_or infos i none) old within read, stack_is)
+    (whole : TotalsState) (i : ℕ) (held : HeldInfo)
+    → IsKept whole
+    → slice_get (map info_of whole.infos) i ≡ Some held
+    → held.stack < whole.stacks
+stack-held whole i held old is =
+    let e = entry-held whole i held.stack held.size is in
+    omega (arith, stack-of_entry whole.stacks whole.infos whole.sums i (entry_at whole i) old e.within e.is, e.stack_is)
 
 -- the fields of a ledger are sound
-pub sound :
-    (stacks : List Sums) (infos : List InfoEntry) (sums : Sums) (last : Option ℕ)
-    → AreConsistent stacks infos sums
-    → IsSound (state_of stacks infos sums last)
-sound stacks infos sums last old =
-    let paired = balance-paired sums any_entry infos old.whole in
+pub sound : (stacks : List Sums) (whole : TotalsState) → AreConsistent whole.stacks stacks whole.infos whole.sums → IsSound (state_of stacks whole)
+sound stacks whole old =
+    let paired = balance-paired whole.sums any_entry whole.infos old.kept.whole in
     record {
-      stacks = length-map stacks figures_of;
-      stack_0 = old.stack_0;
-      stacks_within = old.stacks_within;
-      infos_within = omega (arith, length-map infos info_of, old.infos_within);
-      stack_held = λ i held is. stack-held stacks infos sums i held old is;
-      sums = figures-sum stacks infos sums old;
-      blocks_of_infos = sum-map blocks_of infos ∙ (let whole = old.whole.blocks in omega (arith, whole));
-      calls_of_infos = sum-map calls_of infos ∙ old.whole.calls;
-      each_stack = λ n. figures-within stacks infos sums n old;
+      stacks = length-map stacks figures_of ∙ sym old.count_is;
+      stack_0 = old.kept.stack_0;
+      stacks_within = old.kept.stacks_within;
+      infos_within = omega (arith, length-map whole.infos info_of, old.kept.infos_within);
+      stack_held = λ i held is. stack-held whole i held old.kept is;
+      sums = figures-sum whole.stacks stacks whole.infos whole.sums old;
+      blocks_of_infos = sum-map blocks_of whole.infos ∙ (let balance = old.kept.whole.blocks in omega (arith, balance));
+      calls_of_infos = sum-map calls_of whole.infos ∙ old.kept.whole.calls;
+      each_stack = λ n. figures-within whole.stacks stacks whole.infos whole.sums n old;
       live_within = omega arith;
-      allocated_within = old.allocated_within;
+      allocated_within = old.kept.allocated_within;
       blocks_within = omega (arith, paired.frees_within, paired.temporary_within);
       calls_and_frees = omega (arith, paired.frees_within);
-      events_within = old.events_within;
+      events_within = old.kept.events_within;
     }
 
 -- the figures of the other stacks after one stack's sums are written
 figures-others :
-    (stacks : List Sums) (infos infos_now : List InfoEntry) (sums sums_now : Sums) (last last_now : Option ℕ) (stack other : ℕ) (written : Sums)
+    (stacks : List Sums) (before after : TotalsState) (stack other : ℕ) (written : Sums)
     → other ≢ stack
-    → figures_at (state_of (set stacks stack written) infos_now sums_now last_now) other ≡ figures_at (state_of stacks infos sums last) other
-figures-others stacks infos infos_now sums sums_now last last_now stack other written apart =
-    figures-at (set stacks stack written) infos_now sums_now last_now other
+    → figures_at (state_of (set stacks stack written) after) other ≡ figures_at (state_of stacks before) other
+figures-others stacks before after stack other written apart =
+    figures-at (set stacks stack written) after other
     ∙ ap figures_of (own-others stacks stack other written apart)
-    ∙ sym (figures-at stacks infos sums last other)
+    ∙ sym (figures-at stacks before other)
 
--- what contracts see of an allocation
-pub fields-alloc :
-    (stacks : List Sums) (infos : List InfoEntry) (sums : Sums) (last : Option ℕ) (i stack size : ℕ) (entry : InfoEntry) (own : Sums)
-    → AreConsistent stacks infos sums
-    → IsEntry infos i stack size entry
-    → IsOwn stacks stack own
-    → Allocates (state_of stacks infos sums last) (state_of (set stacks stack (with_alloc own size)) (set infos i (one_more entry)) (with_alloc sums size) (Some i)) i stack size
-fields-alloc stacks infos sums last i stack size entry own old e o =
-    let paired = balance-paired sums any_entry infos old.whole in
-    let own_paired : IsPaired own = subst (λ (s : Sums). IsPaired s) (sym (own-at stacks stack own o)) (own-paired stacks infos sums stack old) in
-    let before = figures-own stacks infos sums last stack own o in
-    let after : figures_of (with_alloc own size) ≡ figures_at (state_of (set stacks stack (with_alloc own size)) (set infos i (one_more entry)) (with_alloc sums size) (Some i)) stack =
-    sym (figures-at (set stacks stack (with_alloc own size)) (set infos i (one_more entry)) (with_alloc sums size) (Some i) stack ∙ ap figures_of (own-written stacks stack own (with_alloc own size) o)) in
-    let gains : GainsBlock (figures_of own) (figures_of (with_alloc own size)) size = record {
-      live = omega (arith, own_paired.freed_within);
-      blocks = omega (arith, own_paired.frees_within);
-      calls = refl;
-      temporary = refl;
-      allocated = refl;
-    } in
+-- a free ends one temporary allocation or none
+pub ended-few : (whole : TotalsState) (info : ℕ) → ended_by_free (ledger_of whole) info ≤ 1
+ended-few whole info = one-or-none (option_eq nat_eq whole.last (Some info))
+  where
+    one-or-none : (test : Bool) → cond {A = ℕ} test 1 0 ≤ 1
+    one-or-none true = omega arith
+    one-or-none false = omega arith
+
+-- what an allocation changes but for the figures of stacks
+pub block-added :
+    (whole : TotalsState) (i stack size : ℕ)
+    → IsKept whole
+    → IsEntry whole.infos i stack size (entry_at whole i)
+    → AddsBlock (ledger_of whole) (ledger_of (with_block whole i size)) i size
+block-added whole i stack size old e =
+    let entry : InfoEntry = entry_at whole i in
+    let paired = balance-paired whole.sums any_entry whole.infos old.whole in
     record {
-      stacks = length-set stacks stack (with_alloc own size);
-      infos = map-set_same info_of infos i (one_more entry) entry (ap info_of e.is);
-      figures = subst (λ (f : Figures). GainsBlock f (figures_at (state_of (set stacks stack (with_alloc own size)) (set infos i (one_more entry)) (with_alloc sums size) (Some i)) stack) size) before
-          (subst (λ (f : Figures). GainsBlock (figures_of own) f size) after gains);
-      figures_of_others = λ other apart. figures-others stacks infos (set infos i (one_more entry)) sums (with_alloc sums size) last (Some i) stack other (with_alloc own size) apart;
-      blocks_of_info = number-at_set blocks_of infos i (one_more entry) e.within ∙ ap (λ (n : ℕ). n + 1) (sym (number-at blocks_of infos i entry e.within e.is));
-      blocks_of_others = number-at_others blocks_of infos i (one_more entry);
-      calls_of_info = number-at_set calls_of infos i (one_more entry) e.within ∙ ap (λ (n : ℕ). n + 1) (sym (number-at calls_of infos i entry e.within e.is));
-      calls_of_others = number-at_others calls_of infos i (one_more entry);
+      stacks = refl;
+      infos = map-set_same info_of whole.infos i (one_more entry) entry (ap info_of e.is);
+      blocks_of_info = number-at_set blocks_of whole.infos i (one_more entry) e.within ∙ ap (λ (n : ℕ). n + 1) (sym (number-at blocks_of whole.infos i entry e.within e.is));
+      blocks_of_others = number-at_others blocks_of whole.infos i (one_more entry);
+      calls_of_info = number-at_set calls_of whole.infos i (one_more entry) e.within ∙ ap (λ (n : ℕ). n + 1) (sym (number-at calls_of whole.infos i entry e.within e.is));
+      calls_of_others = number-at_others calls_of whole.infos i (one_more entry);
       events = omega arith;
       calls = refl;
       temporary = refl;
@@ -221,55 +202,93 @@ fields-alloc stacks infos sums last i stack size entry own old e o =
       last = refl;
     }
 
--- what contracts see of a free
-pub fields-free :
-    (stacks : List Sums) (infos : List InfoEntry) (sums : Sums) (last : Option ℕ) (i stack size ended : ℕ) (entry : InfoEntry) (own : Sums)
-    → AreConsistent stacks infos sums
-    → IsEntry infos i stack size entry
-    → IsOwn stacks stack own
-    → 0 < entry.blocks
-    → ended ≤ 1
-    → ended ≡ cond (option_eq nat_eq last (Some i)) 1 0
-    → Frees (state_of stacks infos sums last) (state_of (set stacks stack (with_free own size ended)) (set infos i (one_fewer entry)) (with_free sums size ended) None) i stack size
-fields-free stacks infos sums last i stack size ended entry own old e o live few ended_is =
-    let whole = free-fits_whole stacks infos sums i stack size ended entry old e live few in
-    let part = free-fits_own stacks infos sums i stack size ended entry own old e o live few in
+-- and what a free does
+pub block-taken :
+    (whole : TotalsState) (i stack size : ℕ)
+    → IsKept whole
+    → IsEntry whole.infos i stack size (entry_at whole i)
+    → 0 < (entry_at whole i).blocks
+    → TakesBlock (ledger_of whole) (ledger_of (without_block whole i size)) i size
+block-taken whole i stack size old e live =
+    let entry : InfoEntry = entry_at whole i in
+    let fits = free-fits_whole whole.stacks whole.infos whole.sums i stack size (ended_by_free (ledger_of whole) i) entry old e live (ended-few whole i) in
     let left : (entry.blocks - 1) + 1 ≡ entry.blocks = omega arith in
-    let before = figures-own stacks infos sums last stack own o in
-    let after : figures_of (with_free own size ended) ≡ figures_at (state_of (set stacks stack (with_free own size ended)) (set infos i (one_fewer entry)) (with_free sums size ended) None) stack =
-    sym (figures-at (set stacks stack (with_free own size ended)) (set infos i (one_fewer entry)) (with_free sums size ended) None stack ∙ ap figures_of (own-written stacks stack own (with_free own size ended) o)) in
-    let loses : LosesBlock (figures_of own) (figures_of (with_free own size ended)) size (cond (option_eq nat_eq last (Some i)) 1 0) = record {
-      live = omega (arith, part.live);
-      blocks = omega (arith, part.blocks);
+    record {
+      stacks = refl;
+      infos = map-set_same info_of whole.infos i (one_fewer entry) entry (ap info_of e.is);
+      blocks_of_info = ap (λ (n : ℕ). n + 1) (number-at_set blocks_of whole.infos i (one_fewer entry) e.within) ∙ left ∙ sym (number-at blocks_of whole.infos i entry e.within e.is);
+      blocks_of_others = number-at_others blocks_of whole.infos i (one_fewer entry);
+      info_calls = map-set_same calls_of whole.infos i (one_fewer entry) entry (ap calls_of e.is);
+      events = omega arith;
       calls = refl;
-      temporary = ap (λ (n : ℕ). own.temporary + n) ended_is;
+      temporary = refl;
+      allocated = refl;
+      live = omega (arith, fits.live);
+      blocks = omega (arith, fits.blocks);
+      last = refl;
+    }
+
+-- what contracts see of an allocation
+pub fields-alloc :
+    (stacks : List Sums) (whole : TotalsState) (i stack size : ℕ) (own : Sums)
+    → AreConsistent whole.stacks stacks whole.infos whole.sums
+    → IsEntry whole.infos i stack size (entry_at whole i)
+    → IsOwn stacks stack own
+    → Allocates (state_of stacks whole) (state_of (set stacks stack (with_alloc own size)) (with_block whole i size)) i stack size
+fields-alloc stacks whole i stack size own old e o =
+    let own_paired : IsPaired own = subst (λ (s : Sums). IsPaired s) (sym (own-at stacks stack own o)) (own-paired whole.stacks stacks whole.infos whole.sums stack old) in
+    let before = figures-own stacks whole stack own o in
+    let after : figures_of (with_alloc own size) ≡ figures_at (state_of (set stacks stack (with_alloc own size)) (with_block whole i size)) stack =
+    sym (figures-at (set stacks stack (with_alloc own size)) (with_block whole i size) stack ∙ ap figures_of (own-written stacks stack own (with_alloc own size) o)) in
+    let gains : GainsBlock (figures_of own) (figures_of (with_alloc own size)) size = record {
+      live = omega (arith, own_paired.freed_within);
+      blocks = omega (arith, own_paired.frees_within);
+      calls = refl;
+      temporary = refl;
       allocated = refl;
     } in
     record {
-      stacks = length-set stacks stack (with_free own size ended);
-      infos = map-set_same info_of infos i (one_fewer entry) entry (ap info_of e.is);
-      figures = subst (λ (f : Figures). LosesBlock f (figures_at (state_of (set stacks stack (with_free own size ended)) (set infos i (one_fewer entry)) (with_free sums size ended) None) stack) size (cond (option_eq nat_eq last (Some i)) 1 0)) before
-          (subst (λ (f : Figures). LosesBlock (figures_of own) f size (cond (option_eq nat_eq last (Some i)) 1 0)) after loses);
-      figures_of_others = λ other apart. figures-others stacks infos (set infos i (one_fewer entry)) sums (with_free sums size ended) last None stack other (with_free own size ended) apart;
-      blocks_of_info = ap (λ (n : ℕ). n + 1) (number-at_set blocks_of infos i (one_fewer entry) e.within) ∙ left ∙ sym (number-at blocks_of infos i entry e.within e.is);
-      blocks_of_others = number-at_others blocks_of infos i (one_fewer entry);
-      info_calls = map-set_same calls_of infos i (one_fewer entry) entry (ap calls_of e.is);
-      events = omega arith;
+      whole = block-added whole i stack size old.kept e;
+      figures = subst (λ (f : Figures). GainsBlock f (figures_at (state_of (set stacks stack (with_alloc own size)) (with_block whole i size)) stack) size) before
+          (subst (λ (f : Figures). GainsBlock (figures_of own) f size) after gains);
+      figures_of_others = λ other apart. figures-others stacks whole (with_block whole i size) stack other (with_alloc own size) apart;
+    }
+
+-- what contracts see of a free
+pub fields-free :
+    (stacks : List Sums) (whole : TotalsState) (i stack size : ℕ) (own : Sums)
+    → AreConsistent whole.stacks stacks whole.infos whole.sums
+    → IsEntry whole.infos i stack size (entry_at whole i)
+    → IsOwn stacks stack own
+    → 0 < (entry_at whole i).blocks
+    → Frees (state_of stacks whole) (state_of (set stacks stack (with_free own size (ended_by_free (ledger_of whole) i))) (without_block whole i size)) i stack size
+fields-free stacks whole i stack size own old e o live =
+    let ended : ℕ = ended_by_free (ledger_of whole) i in
+    let part = free-fits_own whole.stacks stacks whole.infos whole.sums i stack size ended (entry_at whole i) own old e o live (ended-few whole i) in
+    let before = figures-own stacks whole stack own o in
+    let after : figures_of (with_free own size ended) ≡ figures_at (state_of (set stacks stack (with_free own size ended)) (without_block whole i size)) stack =
+    sym (figures-at (set stacks stack (with_free own size ended)) (without_block whole i size) stack ∙ ap figures_of (own-written stacks stack own (with_free own size ended) o)) in
+    let loses : LosesBlock (figures_of own) (figures_of (with_free own size ended)) size ended = record {
+      live = omega (arith, part.live);
+      blocks = omega (arith, part.blocks);
       calls = refl;
-      temporary = ap (λ (n : ℕ). sums.temporary + n) ended_is;
+      temporary = refl;
       allocated = refl;
-      live = omega (arith, whole.live);
-      blocks = omega (arith, whole.blocks);
-      last = refl;
+    } in
+    record {
+      whole = block-taken whole i stack size old.kept e live;
+      figures = subst (λ (f : Figures). LosesBlock f (figures_at (state_of (set stacks stack (with_free own size ended)) (without_block whole i size)) stack) size ended) before
+          (subst (λ (f : Figures). LosesBlock (figures_of own) f size ended) after loses);
+      figures_of_others = λ other apart. figures-others stacks whole (without_block whole i size) stack other (with_free own size ended) apart;
     }
 
 -- a free of an info by its entry: a fault exactly where it has no live block
 pub fault-of_entry :
-    (stacks : List Sums) (infos : List InfoEntry) (sums : Sums) (last : Option ℕ) (i stack size : ℕ) (entry : InfoEntry)
-    → i < length infos
-    → entry ≡ get_or infos i entry
-    → fault_at (state_of stacks infos sums last) (Free i stack size) ≡ (if entry.blocks == 0 then Some FreeOfNothing else None)
-fault-of_entry stacks infos sums last i stack size entry within is = rw (number-at blocks_of infos i entry within is)
+    (whole : TotalsState) (i stack size : ℕ) (entry : InfoEntry)
+    → i < length whole.infos
+    → entry ≡ get_or whole.infos i entry
+    → fault_at (ledger_of whole) (Free i stack size) ≡ (if entry.blocks == 0 then Some FreeOfNothing else None)
+fault-of_entry whole i stack size entry within is = rw (number-at blocks_of whole.infos i entry within is)
 
 -- an allocation that fits has no fault
 pub fits-alloc : (allocated size : ℕ) → allocated ≤ 2 ^ 62 → size ≤ 2 ^ 62 - allocated → None ≡ cond {A = Option EventFault} (nat_lt (2 ^ 62) (allocated + size)) (Some CostTooLarge) None

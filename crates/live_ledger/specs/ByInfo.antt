@@ -1,4 +1,5 @@
--- Sums over the events of a list, told by their infos.
+-- Sums over the events of a list, told by their infos. A sum over a trace's allocations, told by
+-- the weight of each info and how often it was allocated from.
 use Rattle.std.specs.Prelude.{ℕ, ◌*◌, ◌≤◌, ◌^◌, List, sum_by}
 use Rattle.std.specs.List.{zip}
 use Rattle.live_ledger.specs.declared.event.Event.{Event}

@@ -1,8 +1,8 @@
--- What a ledger's fields keep: its sums are those of its stacks, and what a stack's sums leave live is what its infos
--- have live.
+-- What a ledger's fields keep: what the sums leave live is what the infos have live, of the whole
+-- trace and of each stack, for private clauses.
 use Rattle.std.specs.Prelude.{◌≡◌, ℕ, ◌+◌, ◌*◌, ◌^◌, ◌<◌, ◌≤◌, Bool, true, ◌==◌, if◌then◌else◌, List, length, map, sum_by, slice_index_or}
 use Rattle.std.specs.List.{All}
-use Rattle.live_ledger.specs.declared.ledger.InfoEntry.{InfoEntry}
+use Rattle.live_ledger.specs.declared.totals_ledger.InfoEntry.{InfoEntry}
 use Rattle.live_ledger.specs.declared.sums.Sums.{Sums}
 use Rattle.live_ledger.specs.LedgerState.{HeldInfo}
 use Rattle.live_ledger.specs.Sums.{no_sums}
@@ -60,14 +60,20 @@ pub record AreSumsOf (sums : Sums) (stacks : List Sums) : Type 0 where
 abbrev pub sums_at : List Sums → ℕ → Sums
 sums_at stacks stack = slice_index_or stacks stack no_sums
 
--- the sums of the stacks and of the trace agree with the entries, and nothing passes its bound
-pub record AreConsistent (stacks : List Sums) (infos : List InfoEntry) (sums : Sums) : Type 0 where
-  pub stack_0 : 0 < length stacks
-  pub stacks_within : length stacks < 2 ^ 32
+-- the infos agree with the sums over all events, and nothing passes its bound
+pub record AreKept (stacks : ℕ) (infos : List InfoEntry) (sums : Sums) : Type 0 where
+  pub stack_0 : 0 < stacks
+  pub stacks_within : stacks < 2 ^ 32
   pub infos_within : length infos < 2 ^ 32
-  pub held : All (λ stack. stack < length stacks) (map stack_of infos)
-  pub sums_of : AreSumsOf sums stacks
+  pub held : All (λ stack. stack < stacks) (map stack_of infos)
   pub whole : Balances sums any_entry infos
-  pub each_stack : (stack : ℕ) → Balances (sums_at stacks stack) (is_of stack) infos
   pub allocated_within : sums.allocated ≤ 2 ^ 62
   pub events_within : sums.calls + sums.frees ≤ 2 ^ 32
+
+-- and the sums of each stack agree with both
+pub record AreConsistent (count : ℕ) (stacks : List Sums) (infos : List InfoEntry) (sums : Sums)
+    : Type 0 where
+  pub kept : AreKept count infos sums
+  pub count_is : count ≡ length stacks
+  pub sums_of : AreSumsOf sums stacks
+  pub each_stack : (stack : ℕ) → Balances (sums_at stacks stack) (is_of stack) infos

@@ -1,4 +1,5 @@
--- Allocations, frees and clock values in a list of events.
+-- Allocations, frees and clock values in a list of events. Which events are allocations, which are
+-- frees, and which of them are of one info.
 use Rattle.std.specs.Prelude.{ℕ, Bool, true, false, List, filter, count_by}
 use Rattle.live_ledger.specs.declared.event.Event.{Event}
 use Rattle.live_ledger.specs.declared.event.Event.TheVariants.{Alloc, Free, Tick}

@@ -1,4 +1,6 @@
--- The fault that an event has after a list of events, and in a ledger.
+-- The fault that an event has after a list of events, and in a ledger. A free is of nothing where
+-- its info has as many frees as allocations before it; an allocation is too large where all
+-- allocated sizes with its own sum to more than 2^62.
 use Rattle.std.specs.Prelude.{◌==◌, ◌+◌, ◌^◌, nat_lt, if◌then◌else◌, List, Option, None, Some, slice_index}
 use Rattle.live_ledger.specs.declared.event.Event.{Event}
 use Rattle.live_ledger.specs.declared.event.Event.TheVariants.{Alloc, Free, Tick}

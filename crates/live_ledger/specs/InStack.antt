@@ -1,4 +1,6 @@
--- The figures of one stack in a list of events.
+-- The figures of one stack in a list of events. The figures of a stack are those sums and counts
+-- over its own allocations and frees; a temporary allocation is of the stack whose block the free
+-- names.
 use Rattle.std.specs.Prelude.{ℕ, ◌-◌, ◌==◌, ◌&&◌, Bool, false, List, count_by, sum_by, if◌then◌else◌}
 use Rattle.live_ledger.specs.declared.event.Event.{Event}
 use Rattle.live_ledger.specs.declared.event.Event.TheVariants.{Alloc, Free, Tick}

@@ -1,5 +1,6 @@
--- What contracts see of a ledger.
-use Rattle.std.specs.Prelude.{◌≡◌, ℕ, List, slice_get, slice_index_or, Option, Some}
+-- What contracts see of a ledger: its stacks and infos, the figures of each, the totals, and the
+-- info that was allocated last.
+use Rattle.std.specs.Prelude.{◌≡◌, ℕ, List, [], slice_get, slice_index_or, Option, Some}
 use Rattle.live_ledger.specs.declared.event.Event.{Event}
 use Rattle.live_ledger.specs.declared.event.Event.TheVariants.{Alloc, Free, Tick}
 use Rattle.live_ledger.specs.declared.figures.Figures.{Figures}
@@ -21,6 +22,10 @@ pub record LedgerState : Type 0 where
   pub info_calls : List ℕ
   pub totals : Totals
   pub last : Option ℕ
+
+-- the same without the figures of stacks
+abbrev pub without_figures : LedgerState → LedgerState
+without_figures state = record state { figures = [] }
 
 -- the figures of a stack before its first event
 abbrev pub no_figures : Figures

@@ -7,10 +7,12 @@ pub mod InStack
 pub mod Faults
 pub mod FaultText
 pub mod LedgerState
+pub mod TotalsState
 pub mod Possible
 pub mod StandsFor
 pub mod Sums
 pub mod Consistent
 pub mod Changes
 pub mod Sound
+pub mod Taken
 pub mod ByInfo

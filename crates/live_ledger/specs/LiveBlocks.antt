@@ -1,4 +1,5 @@
--- The blocks that are live after a list of events.
+-- The blocks that are live after a list of events. The live blocks are the allocations less the
+-- frees.
 use Rattle.std.specs.Prelude.{ℕ, ◌-◌, List, count_by}
 use Rattle.live_ledger.specs.declared.event.Event.{Event}
 use Rattle.live_ledger.specs.Events.{is_alloc, is_free}

@@ -1,4 +1,4 @@
--- The bytes that are live after a list of events.
+-- The live bytes after some events are the sizes of the allocations less those of the frees.
 use Rattle.std.specs.Prelude.{ℕ, ◌-◌, List, sum_by}
 use Rattle.live_ledger.specs.declared.event.Event.{Event}
 use Rattle.live_ledger.specs.declared.event.Event.TheVariants.{Alloc, Free, Tick}

@@ -1,4 +1,5 @@
--- Which lists of events a trace can have.
+-- A trace can have a list of events where some infos give each event its stack and size, and no
+-- event has a fault after those before it.
 use Rattle.std.specs.Prelude.{◌≡◌, ℕ, List, take, None, Some, slice_get}
 use Rattle.live_ledger.specs.declared.event.Event.{Event}
 use Rattle.live_ledger.specs.Faults.{fault_of}

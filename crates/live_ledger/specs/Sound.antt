@@ -1,4 +1,5 @@
--- What holds of every ledger: its bounds, and that its figures are sums.
+-- What holds of every ledger: its bounds, and that its figures are sums. The figures of all stacks
+-- sum to the totals, and no figure passes its bound.
 use Rattle.std.specs.Prelude.{◌≡◌, ℕ, ◌+◌, ◌^◌, ◌<◌, ◌≤◌, List, length, sum, sum_by, Some, slice_get}
 use Rattle.live_ledger.specs.declared.figures.Figures.{Figures}
 use Rattle.live_ledger.specs.declared.totals.Totals.{Totals}

@@ -1,4 +1,4 @@
--- The figures that follow from sums of allocations and frees.
+-- The figures that follow from sums of allocations and frees, for private clauses.
 use Rattle.std.specs.Prelude.{ℕ, ◌+◌, ◌-◌, ◌≤◌}
 use Rattle.live_ledger.specs.declared.figures.Figures.{Figures}
 use Rattle.live_ledger.specs.declared.sums.Sums.{Sums}

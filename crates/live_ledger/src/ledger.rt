@@ -1,5 +1,5 @@
-//! The ledger: the figures of a heap trace and of each of its stacks, kept up event by event.
-//! Where the total was greatest is no part of it.
+//! The ledger: the figures of a heap trace and of each of its stacks, kept up event by event. Those of the whole trace
+//! are the ledger of totals' part, and where the total was greatest is no part of it.
 ghost use Rattle.std.specs.Prelude.{◌≡◌, ℕ, ◌+◌, ◌-◌, ◌^◌, ◌<◌, ◌≤◌, List, [], ◌∷◌, ◌++◌, length, None, Some, slice_get, slice_index, IfNone, IfOk, IfSome, OnOk, OnErr, IsTrue};
 ghost use Rattle.std.specs.Result.{result_err};
 ghost use Rattle.live_ledger.specs.declared.event.Event.{Event};
@@ -7,63 +7,43 @@ ghost use Rattle.live_ledger.specs.Changes.{Allocates, Changes, Frees};
 ghost use Rattle.live_ledger.specs.Events.{IsTick, is_counted};
 ghost use Rattle.live_ledger.specs.Faults.{fault_at, fault_of};
 ghost use Rattle.live_ledger.specs.InfoBlocks.{allocs_of};
-ghost use Rattle.live_ledger.specs.LedgerState.{IsHeld, figures_at, no_figures};
+ghost use Rattle.live_ledger.specs.LedgerState.{IsHeld, figures_at, no_figures, without_figures};
 ghost use Rattle.live_ledger.specs.Possible.{ArePossible};
 ghost use Rattle.live_ledger.specs.Sound.{IsSound};
 ghost use Rattle.live_ledger.specs.StandsFor.{AreFiguresOf, AreTotalsOf, StandsFor};
+ghost use Rattle.live_ledger.specs.Taken.{HasTaken};
+ghost use Rattle.live_ledger.specs.TotalsState.{IsKept, ledger_of};
 
 use crate::event::{Event, EventFault};
 use crate::figures::Figures;
 use crate::sums::Sums;
 use crate::totals::Totals;
+use crate::totals_ledger::TotalsLedger;
 use hp_num::NoMemory;
 use std::alloc::Global;
 use std::marker::Model;
-
-/// The greatest sum of allocated sizes, in bytes.
-const MAX_ALLOCATED: u64 = 0x4000_0000_0000_0000;
-
-/// One info: the stack and the size of its blocks, how many of them are live, and how many were allocated.
-// The counts are apart for the reason that sums are.
-#[derive(Clone, Copy)]
-struct InfoEntry {
-    blocks: u64,
-    size: u64,
-    calls: u64,
-    stack: u32,
-}
 
 /// The live figures of a trace: it stands for the list of events that it was given.
 ///
 /// Stacks and infos may be added at any moment between events.
 #[derive(Drop)]
 pub struct Ledger {
+    whole: TotalsLedger,
     stacks: Vec<Sums>,
-    infos: Vec<InfoEntry>,
-    sums: Sums,
-    last_allocated: Option<u32>,
 }
 
 impl Model for Ledger {
-    ghost use Rattle.std.specs.Prelude.{length, map};
+    ghost use Rattle.live_ledger.specs.Consistent.{AreConsistent};
     ghost use Rattle.live_ledger.specs.LedgerState.{LedgerState};
-    ghost use Rattle.live_ledger.specs.Consistent.{AreConsistent, info_of, blocks_of, calls_of};
-    ghost use Rattle.live_ledger.specs.Sums.{figures_of, totals_of};
+    ghost use Rattle.live_ledger.specs.TotalsState.{state_of};
 
     ghost Value = { LedgerState };
 
-    ghost view = { λ ledger. record {
-      stacks = length ledger.stacks.items;
-      infos = map info_of ledger.infos.items;
-      figures = map figures_of ledger.stacks.items;
-      blocks = map blocks_of ledger.infos.items;
-      info_calls = map calls_of ledger.infos.items;
-      totals = totals_of ledger.sums;
-      last = ledger.last_allocated;
-    } };
+    ghost view = { λ ledger. state_of ledger.stacks.items ledger.whole };
 
     ghost invariant = { λ ledger.
-        AreConsistent ledger.stacks.items ledger.infos.items ledger.sums };
+        AreConsistent ledger.whole.stacks ledger.stacks.items ledger.whole.infos
+        ledger.whole.sums };
 }
 
 impl Ledger {
@@ -76,12 +56,8 @@ impl Ledger {
     {
         let mut stacks = Vec::new(alloc);
         stacks.push(Sums::new())?;
-        Ok(Ledger {
-            stacks,
-            infos: Vec::new(alloc),
-            sums: Sums::new(),
-            last_allocated: None,
-        })
+        let whole = TotalsLedger::new(alloc);
+        Ok(Ledger { whole, stacks })
     }
 
     /// Adds a stack and answers its number: the first that is added is stack 1.
@@ -98,8 +74,9 @@ impl Ledger {
         ensures unchanged { OnErr result (self.new ≡ self.old) }
         ensures sound { IsSound self.new }
     {
-        let number = self.stacks.len() as u32;
+        let number = self.whole.stacks();
         self.stacks.push(Sums::new())?;
+        self.whole.grow_stack();
         Ok(number)
     }
 
@@ -121,13 +98,7 @@ impl Ledger {
         ensures unchanged { OnErr result (self.new ≡ self.old) }
         ensures sound { IsSound self.new }
     {
-        let number = self.infos.len() as u32;
-        self.infos.push(InfoEntry {
-            stack,
-            size,
-            blocks: 0,
-            calls: 0,
-        })?;
+        let number = self.whole.grow_info(stack, size)?;
         Ok(number)
     }
 
@@ -147,21 +118,7 @@ impl Ledger {
             → ArePossible (events ++ event ∷ [])) }
         ensures sound { IsSound self.now }
     {
-        match event {
-            Event::Alloc { size, .. } => {
-                if size > MAX_ALLOCATED - self.sums.allocated {
-                    return Err(EventFault::CostTooLarge);
-                }
-                Ok(())
-            }
-            Event::Free { info, .. } => {
-                if self.infos[info as usize].blocks == 0 {
-                    return Err(EventFault::FreeOfNothing);
-                }
-                Ok(())
-            }
-            Event::Tick { .. } => Ok(()),
-        }
+        self.whole.check(event)
     }
 
     /// Takes the event in constant time, or answers why it can't come now and stays as it was.
@@ -190,15 +147,30 @@ impl Ledger {
         ensures sound { IsSound self.new }
     {
         self.check(event)?;
-        match event {
-            Event::Alloc { info, stack, size } => self.allocate(info, stack, size),
-            Event::Free { info, stack, size } => self.free(info, stack, size),
-            Event::Tick { .. } => {}
-        }
+        self.take(event);
         Ok(())
     }
 
+    /// Takes an event for which `check` has found no fault, as `apply` does. No memory is taken.
+    #[inline(always)]
+    pub fn take(&mut self, event: Event)
+        requires held { IsHeld self.old event }
+        requires count { self.old.totals.events < 2 ^ 32 }
+        requires no_fault { fault_at self.old event ≡ None }
+        ensures { HasTaken self.old self.new event }
+    {
+        match event {
+            Event::Alloc { info, stack, size } => self.allocate(info, stack, size),
+            Event::Free { info, stack, size } => self.free(info, stack, size),
+            Event::Tick { .. } => {
+                // Says what holds of every ledger.
+                let _stacks = self.stacks();
+            }
+        }
+    }
+
     /// Counts a block of the info as allocated.
+    #[inline(always)]
     fn allocate(&mut self, info: u32, stack: u32, size: u64)
         requires fits { self.old.totals.allocated + size ≤ 2 ^ 62 }
         requires held { slice_get self.old.infos info
@@ -207,15 +179,12 @@ impl Ledger {
         ensures allocates { Allocates self.old self.new info stack size }
         ensures sound { IsSound self.new }
     {
-        let entry = &mut self.infos[info as usize];
-        entry.blocks += 1;
-        entry.calls += 1;
+        self.whole.allocate(info, size);
         self.stacks[stack as usize].allocate(size);
-        self.sums.allocate(size);
-        self.last_allocated = Some(info);
     }
 
     /// Counts a live block of the info as freed.
+    #[inline(always)]
     fn free(&mut self, info: u32, stack: u32, size: u64)
         requires live { 0 < slice_index self.old.blocks info }
         requires held { slice_get self.old.infos info
@@ -224,11 +193,8 @@ impl Ledger {
         ensures frees { Frees self.old self.new info stack size }
         ensures sound { IsSound self.new }
     {
-        let ended = u64::from(self.last_allocated == Some(info));
-        self.infos[info as usize].blocks -= 1;
+        let ended = self.whole.free(info, size);
         self.stacks[stack as usize].free(size, ended);
-        self.sums.free(size, ended);
-        self.last_allocated = None;
     }
 
     /// The figures of all stacks together.
@@ -238,7 +204,7 @@ impl Ledger {
             → AreTotalsOf result events }
         ensures sound { IsSound self.now }
     {
-        self.sums.totals()
+        self.whole.totals()
     }
 
     /// The figures of a stack that is held.
@@ -260,7 +226,7 @@ impl Ledger {
             → result ≡ allocs_of info events }
         ensures within { result ≤ self.now.totals.calls }
     {
-        self.infos[info as usize].calls
+        self.whole.info_calls(info)
     }
 
     /// The size in bytes and the stack of an info; `None` exactly where there is no such info.
@@ -270,10 +236,7 @@ impl Ledger {
             (λ info. slice_get self.now.infos n ≡ Some (record { stack = info.1; size = info.0 })) }
         ensures stack_held { IfSome result (λ info. info.1 < self.now.stacks) }
     {
-        match self.infos.get(n as usize) {
-            Some(entry) => Some((entry.size, entry.stack)),
-            None => None,
-        }
+        self.whole.info(n)
     }
 
     /// How many stacks are held, stack 0 among them.
@@ -281,13 +244,21 @@ impl Ledger {
         ensures value { result ≡ self.now.stacks }
         ensures sound { IsSound self.now }
     {
-        self.stacks.len() as u32
+        self.whole.stacks()
     }
 
     /// How many infos are held.
     pub fn infos(&self) -> u32
         ensures { result ≡ length self.now.infos }
     {
-        self.infos.len() as u32
+        self.whole.infos()
+    }
+
+    /// What it keeps of the whole trace, without the figures of stacks.
+    pub fn whole(&self) -> &TotalsLedger
+        ensures ledger { ledger_of result.now ≡ without_figures self.now }
+        ensures sound { IsKept result.now }
+    {
+        &self.whole
     }
 }

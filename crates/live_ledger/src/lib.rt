@@ -14,6 +14,8 @@
 //! - `sound` says what holds of every ledger (`IsSound`): each info's stack is held, the figures of all stacks sum to
 //!   the totals, a stack that isn't held has none, and no figure passes its bound: live bytes are at most the allocated
 //!   ones and those at most 2^62, events at most 2^32.
+//! - `TotalsLedger` is the part of a ledger that has no figures of stacks, and has the same answers without it: what it
+//!   stands for (`HasTotals`) is what a ledger stands for but for each stack's figures. `whole` lends it.
 //! - `possible` of `check` says that the list with the event is one that a trace can have (`ArePossible`).
 //! - Three laws are for the crates above: `sums_by_info` makes a sum over a trace's allocations a sum over the infos,
 //!   by the ledger's counts; `possible_events` says that in a list that a trace can have no stack has more freed than
@@ -23,7 +25,8 @@
 //!
 //! | File | Does |
 //! |---|---|
-//! | `ledger.rt` | the ledger |
+//! | `totals_ledger.rt` | the figures of a whole trace, and the blocks of each info |
+//! | `ledger.rt` | the ledger: these, and the figures of each stack |
 //! | `event.rt` | events, and the faults that an event has after those before it |
 //! | `figures.rt`, `totals.rt` | the figures of a stack, and those of a trace |
 //! | `sums.rt` | sums that only grow, from which the figures follow |
@@ -41,6 +44,7 @@ mod ledger;
 mod steps;
 mod sums;
 mod totals;
+mod totals_ledger;
 
 pub use cells::Cells;
 pub use event::{Event, EventFault};
@@ -49,3 +53,4 @@ pub use laws::{possible_events, possible_weights, sums_by_info};
 pub use ledger::Ledger;
 pub use steps::Steps;
 pub use totals::Totals;
+pub use totals_ledger::TotalsLedger;

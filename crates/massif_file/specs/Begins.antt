@@ -1,4 +1,6 @@
--- How the lines of a file may begin. Lines that say nothing are left out.
+-- How the lines of a file may begin. Lines that say nothing are left out. Lines begin a profile
+-- where they say its header and whole snapshots, and then some values of one more, or some lines of
+-- its tree.
 use Rattle.std.specs.Prelude.{◌≡◌, ℕ, ◌<◌, ◌≤◌, List, [], ◌∷◌, ◌++◌, length, take}
 use Rattle.massif_file.specs.declared.profile.HeapTree.{HeapTree}
 use Rattle.massif_file.specs.declared.profile.HeapTree.TheVariants.{Empty, Detailed, Peak}

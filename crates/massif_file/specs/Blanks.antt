@@ -1,4 +1,5 @@
--- Blanks and other bytes in a line. A blank is the byte 0x20.
+-- Blanks and other bytes in a line. A blank is the byte 0x20. A line that is empty, holds only
+-- blanks or begins with `#` says nothing.
 use Rattle.std.specs.Prelude.{ℕ, zero, suc, Bool, false, ◌==◌, ◌||◌, if◌then◌else◌, List, [], ◌∷◌}
 use Rattle.std.specs.List.{list_all}
 

@@ -1,4 +1,4 @@
--- The description of a profile, from the lines that describe it.
+-- The description of a profile, from the lines that describe it, for private clauses.
 use Rattle.std.specs.Prelude.{◌≡◌, ℕ, List, [], ◌∷◌, ◌++◌, codes, Some}
 use Rattle.massif_file.specs.Fields.{header_value}
 

@@ -1,4 +1,4 @@
--- What single lines say: the value of a key, a number, a unit, a mark.
+-- What single lines say: the value of a key, a number, a unit, a mark, for private clauses.
 use Rattle.std.specs.Prelude.{ℕ, ◌==◌, nat_le, if◌then◌else◌, List, [], ◌∷◌, Option, Some, None, Result, Ok, Err, codes}
 use Rattle.std.specs.Option.{option_map}
 use Rattle.std.specs.Str.{bytes_eq}

@@ -1,4 +1,4 @@
--- Which profile the lines of a file are.
+-- A profile is that of lines where the lines say it; it is the one such profile.
 use Rattle.std.specs.Prelude.{◌≡◌, ℕ, List, [], ◌++◌, not, filter}
 use Rattle.massif_file.specs.declared.profile.Profile.{Profile}
 use Rattle.massif_file.specs.Blanks.{is_skipped}

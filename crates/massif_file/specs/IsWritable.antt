@@ -1,4 +1,5 @@
--- Which profiles are read again as they are written.
+-- Which profiles are read again as they are written. A profile can be read again where its numbers
+-- are at most 2^62, its texts are texts of a line, and its trees are right.
 use Rattle.std.specs.Prelude.{◌≢◌, ℕ, ◌+◌, ◌^◌, ◌<◌, ◌≤◌, List, length, All, Some, slice_get}
 use Rattle.massif_file.specs.TreeLine.{TreeLine}
 use Rattle.massif_file.specs.declared.profile.Snap.{Snap}

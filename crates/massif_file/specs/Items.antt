@@ -1,4 +1,4 @@
--- What a profile says, line by line, and what a line says.
+-- What one line of a profile may say, and what a profile says, line by line.
 use Rattle.std.specs.Prelude.{◌≡◌, ℕ, suc, List, [], ◌∷◌, ◌++◌, Some, Ok, map, codes}
 use Rattle.massif_file.specs.declared.profile.TimeUnit.{TimeUnit}
 use Rattle.massif_file.specs.declared.profile.HeapTree.{HeapTree}

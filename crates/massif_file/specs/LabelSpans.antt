@@ -1,4 +1,5 @@
--- How the labels of a tree are kept: the bytes of all in one list, of which each has a part.
+-- How the labels of a tree are kept: the bytes of all in one list, of which each has a part, for
+-- private clauses.
 use Rattle.std.specs.Prelude.{ℕ, ◌+◌, ◌≤◌, List, All, length, map, take, drop}
 use Rattle.massif_file.specs.declared.labels.Span.{Span}
 

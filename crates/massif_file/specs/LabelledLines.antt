@@ -1,4 +1,4 @@
--- Lines of a tree, and the labels that further lines may have.
+-- A tree with labels is its labels by their numbers, from 0 on, and its lines.
 use Rattle.std.specs.Prelude.{ℕ, List}
 use Rattle.massif_file.specs.TreeLine.{TreeLine}
 

@@ -1,4 +1,4 @@
--- The time of the last of some snapshots.
+-- The time of the last of some snapshots, and 0 where there is none.
 use Rattle.std.specs.Prelude.{ℕ, ◌-◌, List, length, Option, Some, None, slice_get}
 use Rattle.massif_file.specs.declared.profile.Snap.{Snap}
 

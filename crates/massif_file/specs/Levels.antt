@@ -1,5 +1,6 @@
--- The levels of a tree's lines, which follow from the counts of their children.
--- A list says how many lines are still to come at each level, from the innermost level outwards.
+-- The levels of a tree's lines, which follow from the counts of their children. A list says how
+-- many lines are still to come at each level, from the innermost level outwards. In a tree each
+-- line stands before those of its children, and there are as many as it says.
 use Rattle.std.specs.Prelude.{ℕ, zero, suc, ◌-◌, List, [], ◌∷◌}
 
 -- the innermost levels at which no line is to come are ended

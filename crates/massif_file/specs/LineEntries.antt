@@ -1,4 +1,4 @@
--- How the lines of a tree are kept: each with the number of its label.
+-- How the lines of a tree are kept: each with the number of its label, for private clauses.
 use Rattle.std.specs.Prelude.{ℕ, ◌<◌, List, [], All, length, map, slice_index_or}
 use Rattle.massif_file.specs.declared.labelled_tree.LineEntry.{LineEntry}
 use Rattle.massif_file.specs.LabelledLines.{LabelledLines}

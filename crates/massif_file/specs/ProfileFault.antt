@@ -1,4 +1,5 @@
--- Why the lines of a file are no profile.
+-- Why the lines of a file are no profile. The fault of lines is that of the first one that can't
+-- follow those before it, or their end.
 use Rattle.std.specs.Prelude.{◌≡◌, ◌⊎◌, ℕ, ◌+◌, false, List, ◌∷◌, ◌++◌, length}
 use Rattle.massif_file.specs.declared.fault.ProfileFault.{ProfileFault}
 use Rattle.massif_file.specs.declared.fault.ProfileFault.TheVariants.{Truncated}

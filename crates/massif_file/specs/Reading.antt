@@ -1,4 +1,4 @@
--- What the reader's fields say, and what a call of it does.
+-- What the reader's fields say, and what a call of it does, for private clauses.
 use Rattle.std.specs.Prelude.{◌≡◌, None, Result, Ok, Err}
 use Rattle.massif_file.specs.declared.fault.ProfileFault.{ProfileFault}
 use Rattle.massif_file.specs.declared.reading.Stage.{Stage}

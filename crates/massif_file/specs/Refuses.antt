@@ -1,5 +1,5 @@
--- Why a line can't follow the lines before it, and why lines can't end where they do: one case a fault.
--- Lines that say nothing are left out.
+-- A line can't follow such lines where it lacks the awaited key, number, order, mark or tree line:
+-- one case a fault.
 use Rattle.std.specs.Prelude.{◌≡◌, ◌≢◌, ◌⊎◌, ℕ, ◌<◌, ◌≤◌, List, [], ◌∷◌, length, Some, None, slice_get, codes}
 use Rattle.massif_file.specs.declared.fault.ProfileFault.{ProfileFault}
 use Rattle.massif_file.specs.declared.fault.ProfileFault.TheVariants.{BadHeader, BadSnapshot, BadNumber, WrongOrder, BadTree, Truncated, NoMemory}

@@ -1,4 +1,4 @@
--- Which lines a reader was given.
+-- A reader stands for lines where its progress is theirs and none of them was refused.
 use Rattle.std.specs.Prelude.{◌≡◌, ℕ, List, None}
 use Rattle.massif_file.specs.Progress.{Progress, progress_of, fault_in}
 

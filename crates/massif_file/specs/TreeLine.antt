@@ -1,4 +1,4 @@
--- A line of a tree.
+-- A line of a tree is how many children it has, its bytes and its label.
 use Rattle.std.specs.Prelude.{ℕ, List}
 use Rattle.massif_file.specs.declared.profile.TreeFields.{TreeFields}
 

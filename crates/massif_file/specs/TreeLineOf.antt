@@ -1,4 +1,4 @@
--- The line of a tree: any number of blanks, `nC: B LABEL`.
+-- A tree line is blanks, its number of children, its bytes and its label.
 use Rattle.std.specs.Prelude.{ℕ, List, Option, codes}
 use Rattle.std.specs.Option.{option_map, option_and_then}
 use Rattle.massif_file.specs.TreeLine.{TreeLine}

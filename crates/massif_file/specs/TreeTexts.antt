@@ -1,4 +1,5 @@
--- The written lines of trees side by side, each after as many blanks as its level.
+-- The lines of a tree are written from its root on, what is below a node behind its line, and
+-- before each line as many blanks as its level, which is 0 for the root.
 use Rattle.std.specs.Prelude.{ℕ, suc, List, [], ◌∷◌, ◌++◌}
 use Rattle.massif_file.specs.Blanks.{blanks}
 use Rattle.massif_file.specs.MassifText.{node_text}

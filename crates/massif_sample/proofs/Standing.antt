@@ -1,10 +1,9 @@
 -- What a sampler stands for behind one more event, and the event's fault.
 use Rattle.std.proofs.Common.{◌≡◌, ℕ, suc, ◌+◌, ◌-◌, ◌<◌, ◌≤◌, ◌^◌, List, [], ◌∷◌, ◌++◌, length, Bool, true, false, cond, Option, None, Some, Result, Ok, Err, refl, ap, sym, subst, ◌∙◌, arith, append-nil, append_assoc, inl, inr}
-use Rattle.std.specs.Prelude.{nat_lt, ◌||◌, ◌&&◌, not, sum_by, IfErr, IsOk}
+use Rattle.std.specs.Prelude.{nat_lt, ◌||◌, ◌&&◌, not, sum_by, IfErr}
 use Rattle.std.proofs.lemmas.Option.{get_or_from_slice_get}
 use Rattle.std.proofs.lemmas.List.Sums.{sum_by-cons, sum_by_push}
 use Rattle.std.proofs.lemmas.Bool.Decides.{leb_tells}
-use Rattle.std.proofs.lemmas.Bool.{false≢true}
 use Rattle.ht_trace.specs.TableState.{TableState}
 use Rattle.live_ledger.specs.declared.event.Event.{Event}
 use Rattle.live_ledger.specs.declared.event.Event.TheVariants.{Alloc, Free, Tick}
@@ -166,10 +165,6 @@ fault-counted options ignored events event next large none counted figures passe
     ∙ ap (λ (b : Bool). cond {A = Option EventFault} b (Some ledger_fault.CostTooLarge) None) same
 
 -- answers without a fault
-pub tells-ok : (r : Result (Unit {0}) SampleFault) (found : Option EventFault) → IsOk r → found ≡ None → Tells r found
-tells-ok (Ok answer) found ok none = none
-tells-ok (Err error) found ok none = absurd (false≢true ok)
-
 pub tells-none : (r : Result (Unit {0}) SampleFault) (found : Option EventFault) → IfErr r (λ fault. fault ≡ sample.NoMemory) → found ≡ None → Tells r found
 tells-none (Ok answer) found only none = none
 tells-none (Err sample.FreeOfNothing) found only none = absurd (let same : sample.FreeOfNothing ≡ sample.NoMemory = only in cc)

@@ -29,11 +29,6 @@ pub at_err : {T E : Type 0} (r : Result T E) {P : Type 0} → P → OnErr r P
 at_err (Ok answer) p = tt
 at_err (Err error) p = p
 
--- and at an answer
-pub at_ok : {T E : Type 0} (r : Result T E) {P : Type 0} → P → OnOk r P
-at_ok (Ok answer) p = p
-at_ok (Err error) p = tt
-
 -- two facts at an answer
 pub both_ok : {T E : Type 0} (r : Result T E) {P Q R : Type 0} → (P → Q → R) → OnOk r P → OnOk r Q → OnOk r R
 both_ok (Ok answer) f p q = f p q

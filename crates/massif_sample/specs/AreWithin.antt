@@ -1,4 +1,5 @@
--- The ranges of the numbers that snapshots are taken by.
+-- The ranges of the numbers that snapshots are taken by. What snapshots are taken by has each
+-- number in the range of its option, and settles its options and the names of both its lists.
 use Rattle.std.specs.Prelude.{◌≡◌, ◌≢◌, ◌≤◌, true}
 use Rattle.std.specs.Int.{is_power_of_two}
 use Rattle.massif_file.specs.declared.profile.TimeUnit.TheVariants.{Instructions}

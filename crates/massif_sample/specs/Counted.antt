@@ -1,4 +1,5 @@
--- Which events are counted: those of stacks that aren't ignored.
+-- Which events are counted: those of stacks that aren't ignored. An allocation or a free is counted
+-- where its stack isn't ignored.
 use Rattle.std.specs.Prelude.{ℕ, Bool, false, not}
 use Rattle.live_ledger.specs.declared.event.Event.{Event}
 use Rattle.live_ledger.specs.declared.event.Event.TheVariants.{Alloc, Free, Tick}

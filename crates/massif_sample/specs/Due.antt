@@ -1,4 +1,5 @@
--- Where an event calls for a snapshot with a tree.
+-- A snapshot with a tree is due where the peak before a counted free is taken, or where the normal
+-- snapshot behind a counted event is detailed.
 use Rattle.std.specs.Prelude.{◌≡◌, ◌⊎◌, ℕ, ◌+◌, Bool, true, false, List, [], ◌∷◌, ◌++◌, if◌then◌else◌}
 use Rattle.live_ledger.specs.declared.event.Event.{Event}
 use Rattle.live_ledger.specs.Events.{event_count, is_free}

@@ -1,4 +1,4 @@
--- What the faults of a sampler are called.
+-- What a sampler's fault is called: as the ledger's where that has it too.
 use Rattle.std.specs.Prelude.{ℕ, List, codes}
 use Rattle.live_ledger.specs.declared.event.EventFault.TheVariants as ledger_fault
 use Rattle.live_ledger.specs.FaultText as ledger

@@ -1,4 +1,5 @@
--- The names of the functions that are passed over, and of those whose stacks are ignored.
+-- The names of the functions that are passed over, and of those whose stacks are ignored. The two
+-- lists of functions; closures state them where each means the names of its list.
 use Rattle.std.specs.Prelude.{ℕ, Bool, List}
 use Rattle.cost_tree.specs.FrameTexts.{AreTexts}
 use Rattle.ht_trace.specs.TableState.{TableState}

@@ -1,4 +1,5 @@
--- What a block takes of the heap with its administration.
+-- What a block takes of the heap with its administration. The gross size of a block is its size
+-- rounded up to a multiple of the alignment, and the bytes of administration.
 use Rattle.std.specs.Prelude.{ℕ, ◌+◌, ◌-◌, ◌*◌, ◌/◌}
 use Rattle.massif_sample.specs.declared.options.MassifOptions.{MassifOptions}
 

@@ -1,4 +1,6 @@
--- The bytes that the counted events of a list leave live, as they were asked for and with what the heap adds to them.
+-- The bytes that the counted events of a list leave live, as they were asked for and with what the
+-- heap adds to them. The live bytes of a list of events are the sizes of its counted allocations
+-- less those of its counted frees; the gross bytes are the same with the gross sizes.
 use Rattle.std.specs.Prelude.{ℕ, ◌-◌, Bool, List, sum_by, if◌then◌else◌}
 use Rattle.live_ledger.specs.declared.event.Event.{Event}
 use Rattle.live_ledger.specs.ByInfo.{alloc_weight, free_weight}

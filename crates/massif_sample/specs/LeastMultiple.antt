@@ -1,4 +1,5 @@
--- The least multiple of a number that is no less than another.
+-- The least multiple of a number that is no less than another: a size rounded up is that of the
+-- alignment.
 use Rattle.std.specs.Prelude.{◌≡◌, ℕ, ◌*◌, ◌≤◌}
 
 pub record IsLeastMultiple (alignment size multiple : ℕ) : Type 0 where

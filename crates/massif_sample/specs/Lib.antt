@@ -23,5 +23,4 @@ pub mod View
 pub mod LiveCosts
 pub mod Padded
 pub mod Made
-pub mod HasApplied
 pub mod Taking

@@ -1,4 +1,4 @@
--- What the stacks of a ledger cost.
+-- What the stacks of a ledger cost, for private clauses.
 use Rattle.std.specs.Prelude.{ℕ, Bool, false, List, slice_index_or, if◌then◌else◌}
 use Rattle.live_ledger.specs.LedgerState.{LedgerState, figures_at}
 

@@ -1,4 +1,5 @@
--- The snapshots that entries with their loads give.
+-- The snapshots that entries with their loads give. The snapshots that are handed out have the
+-- trees of what the replay says of their places, padded by 0 for stacks that came later.
 use Rattle.std.specs.Prelude.{ℕ, List, [], ◌∷◌, length}
 use Rattle.cost_history.specs.declared.change.Change.{Change}
 use Rattle.cost_tree.specs.Costed.{costed}

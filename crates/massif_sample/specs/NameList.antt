@@ -1,4 +1,4 @@
--- Names in a list with semicolons between them.
+-- The names of a list are its pieces between semicolons, of which empty ones don't count.
 use Rattle.std.specs.Prelude.{ℕ, Bool, ◌==◌, List, length, nat_lt, filter}
 use Rattle.std.specs.List.{slice_split}
 

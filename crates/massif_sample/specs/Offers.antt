@@ -1,4 +1,6 @@
--- The snapshots that are offered, and those that are kept of them.
+-- The snapshots that are offered, and those that are kept of them. The offers are the normal one at
+-- place 0 and, for each counted event, before a free the peak one at the place before it, and the
+-- normal one at the place behind it.
 use Rattle.std.specs.Prelude.{ℕ, ◌+◌, Bool, true, false, List, [], ◌∷◌, ◌++◌, flat_map, slice_get, if◌then◌else◌}
 use Rattle.std.specs.List.{range_with_len}
 use Rattle.std.specs.Option.{option_map_or}

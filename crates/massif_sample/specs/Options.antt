@@ -1,4 +1,4 @@
--- What a sampler is made with.
+-- What a sampler is made with. The options of a sampler, and the ranges of their numbers.
 use Rattle.std.specs.Prelude.{◌≡◌, ◌≢◌, ℕ, ◌^◌, ◌≤◌}
 use Rattle.massif_cull.specs.Kept.{Settings}
 use Rattle.massif_file.specs.declared.profile.TimeUnit.TheVariants.{Instructions}

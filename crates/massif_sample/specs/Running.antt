@@ -1,4 +1,4 @@
--- The figures that are kept up event by event, and what an event makes of them.
+-- What an event makes of the figures that are kept up.
 use Rattle.std.specs.Prelude.{◌≡◌, ℕ, ◌+◌, ◌-◌, ◌^◌, ◌≤◌, max, nat_lt, ◌||◌, Bool, List, sum_by}
 use Rattle.live_ledger.specs.declared.event.Event.{Event}
 use Rattle.live_ledger.specs.declared.event.Event.TheVariants.{Alloc, Free, Tick}

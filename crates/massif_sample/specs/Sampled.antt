@@ -1,4 +1,5 @@
--- The profile of a trace.
+-- The profile of a trace is that of the kept snapshots, with a description of its own and the
+-- command without leading blanks, or `(none)`.
 use Rattle.std.specs.Prelude.{ℕ, List, [], ◌∷◌, map, codes}
 use Rattle.ht_trace.specs.TableState.{TableState}
 use Rattle.live_ledger.specs.declared.event.Event.{Event}

@@ -1,4 +1,6 @@
--- What contracts see of the snapshots of a trace, and what is true of them.
+-- What contracts see of the snapshots of a trace, and what is true of them. What contracts see of a
+-- sampler: its options, its figures, the array, whether memory was wanting, the texts of the
+-- stacks, and the history.
 use Rattle.std.specs.Prelude.{◌≡◌, ℕ, ◌≤◌, Bool, List}
 use Rattle.cost_history.specs.HistoryState.{HistoryState}
 use Rattle.massif_cull.specs.ArrayState.{ArrayState}

@@ -1,4 +1,7 @@
--- Which lists of events a sampler stands for.
+-- A sampler stands for names, tables and events where its figures and snapshots are those of the
+-- events, its history says what each stack cost at each place that has a tree and of each unmarked
+-- stack what it costs now, the texts are those of the first stacks, and it is known of each stack
+-- so far whether it's ignored.
 use Rattle.std.specs.Prelude.{◌≡◌, ℕ, ◌+◌, ◌<◌, ◌≤◌, Bool, false, List, length, Some, slice_get}
 use Rattle.cost_history.specs.declared.change.Change.{Change}
 use Rattle.cost_history.specs.Changes as history

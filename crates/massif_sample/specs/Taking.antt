@@ -1,4 +1,6 @@
--- What an offer and an event do to samples, for all that samples and ledger stand for.
+-- What an offer and an event do to samples is said for all names, events and offers that they stand
+-- for: an offer more is made, an event more is taken, its fault is told, and where memory was
+-- wanting, a snapshot with a tree is due.
 use Rattle.std.specs.Prelude.{ℕ, ◌+◌, Bool, List, [], ◌∷◌, ◌++◌, length, Result}
 use Rattle.cost_history.specs.HistoryState.{AreSaid}
 use Rattle.cost_tree.specs.FrameTexts.{AreTexts}

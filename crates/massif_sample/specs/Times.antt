@@ -1,4 +1,5 @@
--- The time of a list of events, in each unit.
+-- The time of a list of events, in each unit. The time is the gross bytes that counted events
+-- allocate and free, their number, or the greatest clock value.
 use Rattle.std.specs.Prelude.{ℕ, ◌+◌, max, Bool, List, count_by, fold, sum_by}
 use Rattle.live_ledger.specs.declared.event.Event.{Event}
 use Rattle.live_ledger.specs.declared.event.Event.TheVariants.{Alloc, Free, Tick}

@@ -1,4 +1,5 @@
--- How contracts see the fields of samples: for how many stacks there is room to list their marks is no part of it.
+-- How contracts see the fields of samples: for how many stacks there is room to list their marks is
+-- no part of it, for private clauses.
 use Rattle.std.specs.Prelude.{ℕ, Bool, List}
 use Rattle.cost_history.specs.HistoryState.{RoomyHistory}
 use Rattle.massif_cull.specs.declared.snapshot.Offer.{Offer}

@@ -89,11 +89,11 @@ fn take_due<A: Fn(&[u8]) -> bool, F: Fn(u32) -> u64>(
     ensures some { OnOk result (0 < length samples.new.array.kept.entries) }
 {
     if taken == Taken::Normal {
-        samples.take(as_peak);
+        samples.take(as_peak, taken);
         return Ok(());
     }
     samples.add_fronts(tables, alloc_fns)?;
     samples.keep(tables.stacks(), cost)?;
-    samples.take(as_peak);
+    samples.take(as_peak, taken);
     Ok(())
 }

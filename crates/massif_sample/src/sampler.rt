@@ -9,7 +9,7 @@ ghost use Rattle.live_ledger.specs.StandsFor as ledger_spec;
 ghost use Rattle.massif_sample.specs.declared.fault.SampleFault.TheVariants.{NoMemory as OutOfMemory};
 ghost use Rattle.massif_sample.specs.Due.{IsDue};
 ghost use Rattle.massif_sample.specs.FunctionNames.{AreStated, FunctionNames, ignores};
-ghost use Rattle.massif_sample.specs.HasApplied.{HasApplied};
+ghost use Rattle.live_ledger.specs.Taken.{HasTaken};
 ghost use Rattle.massif_sample.specs.Options.{AreInRange};
 ghost use Rattle.massif_sample.specs.SampleFault.{Tells, sample_fault};
 ghost use Rattle.massif_sample.specs.Sampled.{sampled};
@@ -161,9 +161,9 @@ impl<A: Fn(&[u8]) -> bool, I: Fn(&[u8]) -> bool> Sampler<A, I> {
         ensures unchanged { IfErr result
             (λ fault. fault ≢ OutOfMemory
             → (self.new.samples ≡ self.old.samples) × (ledger.new ≡ ledger.old)) }
-        ensures applied { OnOk result (HasApplied ledger.old ledger.new event) }
+        ensures applied { OnOk result (HasTaken ledger.old ledger.new event) }
         ensures applied_or_not { (ledger.new ≡ ledger.old)
-            ⊎ HasApplied ledger.old ledger.new event }
+            ⊎ HasTaken ledger.old ledger.new event }
         ensures options { self.new.samples.options ≡ self.old.samples.options }
         ensures judged { self.new.judged.items ≡ self.old.judged.items }
         ensures alloc_fns { self.new.alloc_fns ≡ self.old.alloc_fns }

@@ -183,6 +183,9 @@ impl Samples {
             IsSampling self.old names tables.now events made
             → IsSampling self.new names tables.now events made) }
     {
+        if self.fronts.len() == tables.stacks() {
+            return Ok(());
+        }
         let options = self.tree_options();
         add_trimmed(self.alloc, tables, alloc_fns, &options, &mut self.fronts)
     }
@@ -240,11 +243,14 @@ impl Samples {
         Ok(())
     }
 
-    /// Takes a snapshot of the present place, as a peak or not. Where it isn't taken as a normal one, what stacks cost here was
-    /// kept.
-    pub(crate) fn take(&mut self, as_peak: bool)
+    /// Takes a snapshot of the present place, as a peak or not, as what it is judged to be. Where that isn't a normal one, what
+    /// stacks cost here was kept.
+    pub(crate) fn take(&mut self, as_peak: bool, taken: Taken)
         requires within { self.old.running.time ≤ 2 ^ 62 }
         requires first { as_peak ≡ true → 0 < length self.old.array.kept.entries }
+        requires judged { taken
+            ≡ taken_as (settings_of self.old.options) self.old.array.kept
+            (offer_of self.old.running as_peak) }
         ensures options { self.new.options ≡ self.old.options }
         ensures running { self.new.running ≡ self.old.running }
         ensures failed { self.new.failed ≡ self.old.failed }
@@ -252,8 +258,7 @@ impl Samples {
         ensures some { 0 < length self.new.array.kept.entries }
         ensures sampling { (names : FunctionNames) (tables : TableState) (events : List Event)
             (made : List Offer) →
-            (taken_as (settings_of self.old.options) self.old.array.kept
-            (offer_of self.old.running as_peak) ≡ Normal)
+            (taken ≡ Normal)
             ⊎ AreCostsAt names tables events (event_count events) self.old.history.changes →
             IsSampling self.old names tables events made
             → IsSampling self.new names tables events
@@ -264,7 +269,7 @@ impl Samples {
             heap: self.running.heap,
             extra: self.running.gross - self.running.heap,
         };
-        self.array.offer(offer, load);
+        self.array.take(offer, taken, load);
     }
 
     /// The figures behind an event that is counted, or `None` where one of them passes 2^62.

@@ -1,6 +1,6 @@
 //! How one event is taken: the peak before a free, the event, and the snapshot behind it.
 //! Which faults an event has, and which stacks are ignored, is known here.
-ghost use Rattle.std.specs.Prelude.{◌≡◌, ◌≢◌, ◌⊎◌, ◌+◌, ◌^◌, ◌<◌, ◌≤◌, List, [], ◌∷◌, ◌++◌, true, false, length, None, Err, IfErr, IsOk, OnOk, OnErr};
+ghost use Rattle.std.specs.Prelude.{◌≡◌, ◌≢◌, ◌⊎◌, ◌+◌, ◌^◌, ◌<◌, ◌≤◌, List, [], ◌∷◌, ◌++◌, true, false, length, None, Err, IfErr, OnOk, OnErr};
 ghost use Rattle.std.specs.Fn.{FnReturnsAt};
 ghost use Rattle.cost_tree.specs.FrameTexts.{AreTexts};
 ghost use Rattle.live_ledger.specs.declared.event.Event.{Event};
@@ -13,7 +13,7 @@ ghost use Rattle.massif_cull.specs.declared.snapshot.Taken.TheVariants.{Detailed
 ghost use Rattle.massif_sample.specs.declared.fault.SampleFault.TheVariants.{NoMemory as OutOfMemory};
 ghost use Rattle.massif_sample.specs.Due.{IsTakenAs};
 ghost use Rattle.massif_sample.specs.FunctionNames.{FunctionNames, ignores};
-ghost use Rattle.massif_sample.specs.HasApplied.{HasApplied};
+ghost use Rattle.live_ledger.specs.Taken.{HasTaken};
 ghost use Rattle.massif_sample.specs.Options.{AreInRange};
 ghost use Rattle.massif_sample.specs.Offers.{peak_before};
 ghost use Rattle.massif_sample.specs.Running.{AreFigures, Follows, past_event};
@@ -142,9 +142,9 @@ fn advance<A: Fn(&[u8]) -> bool>(
         Detailed) }
     ensures options { samples.new.options ≡ samples.old.options }
     ensures some { OnOk result (0 < length samples.new.array.kept.entries) }
-    ensures applied { HasApplied ledger.old ledger.new event }
+    ensures applied { HasTaken ledger.old ledger.new event }
 {
-    ledger.apply(event)?;
+    ledger.take(event);
     samples.move_to(next, stack);
     sample_ledger(samples, stacks, false, ledger)?;
     Ok(())
@@ -152,20 +152,18 @@ fn advance<A: Fn(&[u8]) -> bool>(
 
 /// Applies the event, which has no fault and isn't counted, to the ledger.
 #[inline(always)]
-fn pass(samples: &mut Samples, event: Event, ledger: &mut Ledger) -> Result<(), SampleFault>
+fn pass(samples: &mut Samples, event: Event, ledger: &mut Ledger)
     requires held { IsHeld ledger.old event }
     requires count { ledger.old.totals.events < 2 ^ 32 }
     requires no_fault { fault_at ledger.old event ≡ None }
     requires place { samples.old.running.place < 2 ^ 32 }
-    ensures ok { IsOk result }
     ensures samples { samples.new
         ≡ record samples.old
         { running = past_event samples.old.options samples.old.running event } }
-    ensures applied { HasApplied ledger.old ledger.new event }
+    ensures applied { HasTaken ledger.old ledger.new event }
 {
-    ledger.apply(event)?;
+    ledger.take(event);
     samples.pass(event);
-    Ok(())
 }
 
 /// Takes an event: applies it to the ledger and takes the snapshots that are due.
@@ -195,12 +193,13 @@ pub(crate) fn take_event<A: Fn(&[u8]) -> bool>(
     ensures unchanged { IfErr result
         (λ fault. fault ≢ OutOfMemory → (samples.new ≡ samples.old) × (ledger.new ≡ ledger.old)) }
     ensures options { samples.new.options ≡ samples.old.options }
-    ensures applied { OnOk result (HasApplied ledger.old ledger.new event) }
-    ensures applied_or_not { (ledger.new ≡ ledger.old) ⊎ HasApplied ledger.old ledger.new event }
+    ensures applied { OnOk result (HasTaken ledger.old ledger.new event) }
+    ensures applied_or_not { (ledger.new ≡ ledger.old) ⊎ HasTaken ledger.old ledger.new event }
 {
     ledger.check(event)?;
     let Some(stack) = counted_stack(stacks.judged, event) else {
-        return pass(samples, event, ledger);
+        pass(samples, event, ledger);
+        return Ok(());
     };
     possible_weights();
     let Some(next) = samples.behind(event) else {

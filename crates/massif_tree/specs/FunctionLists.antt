@@ -1,4 +1,9 @@
--- The functions that are left out of a trace's stacks, and those whose stacks aren't counted.
+-- The functions that are left out of a trace's stacks, and those whose stacks aren't counted. A
+-- frame is listed where its function has a name of the list; one without a function never is. A
+-- stack is trimmed to its frames without the longest prefix of frames that are all allocation
+-- functions, and is ignored where the first of what is left is to be ignored. The trimmed list of a
+-- stack is the addressed texts of these frames, from the innermost on; a tree is built of its first
+-- texts, one more than it is deep.
 use Rattle.std.specs.Prelude.{ℕ, ◌+◌, false, Bool, List, drop, length, map, slice_get}
 use Rattle.std.specs.List.{list_any, prefix_len, range_with_len}
 use Rattle.std.specs.Option.{option_map_or}

@@ -1,4 +1,5 @@
--- What a tree must be for its lines.
+-- What a tree must be for its lines. A tree can be shown where it is that of fewer than 2^32 stacks
+-- that cost at most 2^62 together.
 use Rattle.std.specs.Prelude.{ℕ, ◌^◌, ◌<◌, ◌≤◌, List, length, sum_by}
 use Rattle.cost_tree.specs.Costed.{Costed}
 use Rattle.cost_tree.specs.IsTreeOf.{IsTreeOf}

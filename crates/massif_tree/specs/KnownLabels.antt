@@ -1,4 +1,4 @@
--- The labels that are known by numbers before the lines are.
+-- The labels that are known by numbers before the lines are, for private clauses.
 use Rattle.std.specs.Prelude.{◌≡◌, ℕ, ◌+◌, List, [], ◌∷◌, ◌++◌, length}
 use Rattle.massif_tree.specs.Labels.{root_label}
 

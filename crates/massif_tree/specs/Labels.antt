@@ -1,4 +1,5 @@
--- The labels of a tree's lines that name no frame.
+-- The labels of a tree's lines that name no frame. The label of places that are gathered says how
+-- many they are, and the threshold in percent with two decimals.
 use Rattle.std.specs.Prelude.{ℕ, ◌==◌, ◌/◌, ◌%◌, if◌then◌else◌, List, ◌++◌, codes, decimal}
 use Rattle.hp_num.specs.Percent.{two_digits}
 

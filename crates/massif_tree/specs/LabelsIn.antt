@@ -1,4 +1,4 @@
--- What private clauses say of a tree's lines.
+-- What private clauses say of a tree's lines, for private clauses.
 use Rattle.std.specs.Prelude.{ℕ}
 use Rattle.cost_tree.specs.declared.line.CostLine.{CostLine}
 use Rattle.cost_tree.specs.TreeLines.{line_at}

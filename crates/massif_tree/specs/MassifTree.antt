@@ -1,4 +1,6 @@
--- The tree of a snapshot: what some stacks cost below each front of their texts.
+-- The tree of a snapshot: what some stacks cost below each front of their texts. A line of a
+-- snapshot's tree is a line of the stacks' tree with a label: the front's last text, of the root
+-- one of its own, and of gathered places their number.
 use Rattle.std.specs.Prelude.{ℕ, List, [], ◌∷◌, map}
 use Rattle.cost_tree.specs.declared.scale.Scale.{Scale}
 use Rattle.cost_tree.specs.Costed.{Costed}

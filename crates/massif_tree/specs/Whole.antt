@@ -1,4 +1,4 @@
--- Stacks of which nothing is trimmed.
+-- Stacks of which nothing is trimmed, for private clauses.
 use Rattle.std.specs.Prelude.{◌≡◌, ℕ, ◌+◌, true, Bool, List, Some, length, slice_get}
 use Rattle.ht_trace.specs.StackFrames.{stack_frames}
 use Rattle.ht_trace.specs.TableState.{TableState}

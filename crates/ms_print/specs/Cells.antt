@@ -1,4 +1,5 @@
--- The cells of a graph.
+-- The cells of a graph. A cell has the sign of its column's bar up to the bar's height; where the
+-- column has none, that of the nearest bar to the left at that bar's height alone.
 use Rattle.std.specs.Prelude.{ℕ, nat_le, nat_eq, if◌then◌else◌, List, Option, Some, None}
 use Rattle.massif_file.specs.declared.profile.HeapTree.{HeapTree}
 use Rattle.massif_file.specs.declared.profile.HeapTree.TheVariants.{Empty, Detailed, Peak}

@@ -1,4 +1,4 @@
--- The graph of a page.
+-- The graph, the list of detailed snapshots, the table and the page.
 use Rattle.std.specs.Prelude.{ℕ, zero, suc, ◌+◌, ◌-◌, nat_eq, if◌then◌else◌, List, [], ◌++◌, codes, map, replicate}
 use Rattle.std.specs.List.{range_with_len}
 use Rattle.hp_num.specs.Right.{right_aligned}

@@ -1,4 +1,5 @@
--- Where a snapshot stands in a graph, and how high.
+-- Where a snapshot stands in a graph, and how high. A snapshot's column is its share of the end,
+-- from column 1 on, and its height its share of the peak, rounded down.
 use Rattle.std.specs.Prelude.{ℕ, ◌+◌, ◌-◌, ◌*◌, ◌/◌, nat_eq, if◌then◌else◌, List}
 use Rattle.massif_file.specs.declared.profile.Snap.{Snap}
 use Rattle.massif_file.specs.LastTime.{last_time}

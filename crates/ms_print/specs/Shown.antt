@@ -1,4 +1,6 @@
--- The trees that a page shows: places with few bytes are gathered.
+-- The trees that a page shows: places with few bytes are gathered. A page shows of trees those that
+-- aren't small, and then the small ones as one place with their sum, at most 2^64 - 1; and so below
+-- each.
 use Rattle.std.specs.Prelude.{ℕ, ◌+◌, ◌-◌, ◌^◌, min, nat_eq, if◌then◌else◌}
 use Rattle.massif_file.specs.Trees.{Trees, no_tree, a_tree}
 use Rattle.ms_print.specs.declared.entry.Scale.{Scale}

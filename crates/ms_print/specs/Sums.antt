@@ -1,4 +1,5 @@
--- What snapshots have in all.
+-- What snapshots have in all. The sum of a snapshot is its heap, administration and stacks; the
+-- peak of a graph is the greatest sum and its end the last time.
 use Rattle.std.specs.Prelude.{ℕ, ◌+◌, max, List, [], ◌∷◌}
 use Rattle.massif_file.specs.declared.profile.Snap.{Snap}
 

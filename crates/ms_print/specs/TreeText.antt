@@ -1,4 +1,6 @@
--- The tree of a snapshot on a page.
+-- The tree of a snapshot on a page. An entry is its prefix, `->`, its share, its bytes and its
+-- place; a bar leads on below it where others stand beside it, and an entry without children has a
+-- line of its prefix below.
 use Rattle.std.specs.Prelude.{ℕ, List, [], ◌++◌, codes}
 use Rattle.massif_file.specs.TreeLine.{TreeLine}
 use Rattle.massif_file.specs.Trees.{Trees, no_tree, a_tree}

@@ -1,4 +1,5 @@
--- The trees that lines say.
+-- The lines of a tree say trees: each is a root, and of the trees that the lines behind it say the
+-- first are its children.
 use Rattle.std.specs.Prelude.{ℕ, zero, suc, List, [], ◌∷◌}
 use Rattle.massif_file.specs.TreeLine.{TreeLine}
 use Rattle.massif_file.specs.Trees.{Trees, no_tree, a_tree}

@@ -32,16 +32,16 @@ pub record Moved (old new : LedgerState) (stack : ℕ) : Type 0 where
 -- an event of the stack moves it
 pub moved-by : (old new : LedgerState) (event : Event) (stack : ℕ) → Changes old new event → IsIn stack event → Moved old new stack
 moved-by old new (Alloc info s size) stack change own = record {
-  stacks = change.stacks;
+  stacks = change.whole.stacks;
   others = λ other apart. change.figures_of_others other (λ is. apart (is ∙ own));
-  events = change.events;
-  allocated = omega (arith, change.allocated);
+  events = change.whole.events;
+  allocated = omega (arith, change.whole.allocated);
 }
 moved-by old new (Free info s size) stack change own = record {
-  stacks = change.stacks;
+  stacks = change.whole.stacks;
   others = λ other apart. change.figures_of_others other (λ is. apart (is ∙ own));
-  events = change.events;
-  allocated = omega (arith, change.allocated);
+  events = change.whole.events;
+  allocated = omega (arith, change.whole.allocated);
 }
 moved-by old new (Tick ms) stack change own = absurd own
 
@@ -128,7 +128,7 @@ raised-stays mark total events within =
     ]
 
 -- the total is no greater than the mark that it was raised to
-raised-within : (mark : Mark) (total events : ℕ) → total ≤ (raised mark total events).total
+pub raised-within : (mark : Mark) (total events : ℕ) → total ≤ (raised mark total events).total
 raised-within mark total events =
     elim (raised-cases mark total events) [
       | inl stays ↦ subst (λ (m : Mark). total ≤ m.total) (sym stays.0) stays.1
@@ -138,7 +138,7 @@ raised-within mark total events =
 -- a free leaves no more live than there was
 pub freed-within : (old new : LedgerState) (event : Event) (total : ℕ) → Changes old new event → old.totals.live ≤ total → IsTrue (is_free event) → new.totals.live ≤ total
 freed-within old new (Alloc info s size) total change within is = absurd (false≢true is)
-freed-within old new (Free info s size) total change within is = omega (arith, change.live)
+freed-within old new (Free info s size) total change within is = omega (arith, change.whole.live)
 freed-within old new (Tick ms) total change within is = absurd (false≢true is)
 
 -- and when the mark is raised to the ledger's total

@@ -1,4 +1,5 @@
 mod Shares
 mod Keeping
 mod PeakLemmas
+mod TotalsLemmas
 pub mod Laws

@@ -14,11 +14,13 @@ use Rattle.live_ledger.specs.InStack.{alloc_size_in, allocated_in, blocks_in, ca
 use Rattle.live_ledger.specs.LedgerState.{IsHeld, LedgerState, figures_at, no_figures}
 use Rattle.live_ledger.specs.LiveBytes.{alloc_size, allocated_bytes, free_size, freed_bytes, live_bytes}
 use Rattle.live_ledger.specs.Sound as ledger_sound
+use Rattle.live_ledger.specs.declared.totals.Totals.{Totals}
 use Rattle.live_ledger.specs.StandsFor as ledger_spec
+use Rattle.live_ledger.specs.StandsFor.{AreTotalsOf}
 use Rattle.peak_costs.specs.declared.mark.Mark.{Mark}
 use Rattle.peak_costs.specs.Kept.{AreKept, blocks_list, live_list, state_of}
 use Rattle.peak_costs.specs.Mark.{first_mark, raised}
-use Rattle.peak_costs.specs.Peak.{IsIn, IsPeak, StandsFor, first_events, total_after}
+use Rattle.peak_costs.specs.Peak.{HasPeak, IsIn, IsPeak, StandsFor, first_events, total_after}
 use Rattle.peak_costs.specs.PeakState.{PeakState, with_stack}
 use Rattle.peak_costs.specs.Saved.{saved_after, shares_of, stamps_after}
 use Rattle.peak_costs.proofs.Shares.{share-same, shares-same}
@@ -70,13 +72,105 @@ first-before k events event is within =
 pub first-all : (k : ℕ) (events : List Event) → k ≡ event_count events → first_events k events ≡ counted events
 first-all k events is = take_all k (counted events) (let count = length-filter is_counted events in omega arith)
 
+-- and when a clock value comes
+first-tick : (k : ℕ) (events : List Event) (ms : ℕ) → first_events k (events ++ Tick ms ∷ []) ≡ first_events k events
+first-tick k events ms = ap (λ (xs : List Event). take k xs) (filter-append is_counted events (Tick ms ∷ []) ∙ append-nil (counted events))
+
 -- there is one more event
 pub count-more : (events : List Event) (event : Event) → is_counted event ≡ true → event_count (events ++ event ∷ []) ≡ event_count events + 1
 count-more events event is = sum_by_push (λ (e : Event). cond (is_counted e) 1 0) events event ∙ ap (λ (b : Bool). event_count events + cond {A = ℕ} b 1 0) is
 
--- the total after all events is the ledger's
-pub total-now : (state : PeakState) (events : List Event) (k : ℕ) → ledger_spec.StandsFor state.ledger events → k ≡ event_count events → total_after k events ≡ state.ledger.totals.live
-total-now state events k stands is = ap live_bytes (first-all k events is) ∙ live-counted events ∙ sym stands.figures.live_is
+-- the total after all events is what is live
+total-now : (totals : Totals) (events : List Event) (k : ℕ) → AreTotalsOf totals events → k ≡ event_count events → total_after k events ≡ totals.live
+total-now totals events k are is = ap live_bytes (first-all k events is) ∙ live-counted events ∙ sym are.live_is
+
+-- a peak stays where no more is live after one more event
+peak-stays :
+    (total moment : ℕ) (totals : Totals) (events : List Event) (event : Event)
+    → is_counted event ≡ true
+    → HasPeak total moment events
+    → AreTotalsOf totals (events ++ event ∷ [])
+    → totals.live ≤ total
+    → HasPeak total moment (events ++ event ∷ [])
+peak-stays total moment totals events event is has now below =
+    let after : List Event = events ++ event ∷ [] in
+    let count = count-more events event is in
+    let peak_total : total_after moment after ≡ total_after moment events = ap live_bytes (first-before moment events event is has.peak.within) in
+    record {
+      peak = record {
+        within = omega (arith, has.peak.within, count);
+        greatest = λ k within. elim (cases_lt (event_count events) k) [
+          | inl last ↦ (let all = total-now totals after k now (omega arith) in let was = has.total_is in omega arith)
+          | inr before ↦ (let here : total_after k after ≡ total_after k events = ap live_bytes (first-before k events event is before) in let least = has.peak.greatest k before in omega arith)
+        ];
+        least = λ k less. (let here : total_after k after ≡ total_after k events = ap live_bytes (first-before k events event is (let within = has.peak.within in omega arith)) in let fewer = has.peak.least k less in omega arith);
+      };
+      total_is = has.total_is ∙ sym peak_total;
+    }
+
+-- and is now where more is live
+peak-rises :
+    (total moment : ℕ) (totals : Totals) (events : List Event) (event : Event)
+    → is_counted event ≡ true
+    → HasPeak total moment events
+    → AreTotalsOf totals (events ++ event ∷ [])
+    → total < totals.live
+    → HasPeak totals.live totals.events (events ++ event ∷ [])
+peak-rises total moment totals events event is has now above =
+    let after : List Event = events ++ event ∷ [] in
+    let count = count-more events event is in
+    let all : total_after totals.events after ≡ totals.live = total-now totals after totals.events now now.events_is in
+    let before : (k : ℕ) → k ≤ event_count events → total_after k after ≤ total = λ k within.
+    (let here : total_after k after ≡ total_after k events = ap live_bytes (first-before k events event is within) in let most = has.peak.greatest k within in let was = has.total_is in omega arith) in
+    record {
+      peak = record {
+        within = omega (arith, now.events_is);
+        greatest = λ k within. elim (cases_lt (event_count events) k) [
+          | inl last ↦ (let here = total-now totals after k now (omega arith) in omega arith)
+          | inr early ↦ (let most = before k early in omega arith)
+        ];
+        least = λ k less. (let most = before k (let number = now.events_is in omega arith) in omega arith);
+      };
+      total_is = sym all;
+    }
+
+-- a mark has the peak of the events with one more
+pub peak-moved :
+    (mark : Mark) (totals : Totals) (events : List Event) (event : Event)
+    → is_counted event ≡ true
+    → HasPeak mark.total mark.moment events
+    → AreTotalsOf totals (events ++ event ∷ [])
+    → HasPeak (raised mark totals.live totals.events).total (raised mark totals.live totals.events).moment (events ++ event ∷ [])
+peak-moved mark totals events event is has now =
+    elim (raised-cases mark totals.live totals.events) [
+      | inl stays ↦ subst (λ (m : Mark). HasPeak m.total m.moment (events ++ event ∷ [])) (sym stays.0) (peak-stays mark.total mark.moment totals events event is has now stays.1)
+      | inr rises ↦ subst (λ (m : Mark). HasPeak m.total m.moment (events ++ event ∷ [])) (sym rises.0) (peak-rises mark.total mark.moment totals events event is has now rises.1)
+    ]
+
+-- and with a clock value
+pub peak-tick : (total moment : ℕ) (events : List Event) (ms : ℕ) → HasPeak total moment events → HasPeak total moment (events ++ Tick ms ∷ [])
+peak-tick total moment events ms has =
+    let count : event_count (events ++ Tick ms ∷ []) ≡ event_count events = sum_by_push (λ (e : Event). cond (is_counted e) 1 0) events (Tick ms) ∙ add-zero (event_count events) in
+    let after : (k : ℕ) → total_after k (events ++ Tick ms ∷ []) ≡ total_after k events = λ k. ap live_bytes (first-tick k events ms) in
+    record {
+      peak = record {
+        within = omega (arith, has.peak.within);
+        greatest = λ k within. (let here = after k in let there = after moment in let below = has.peak.greatest k (omega arith) in omega arith);
+        least = λ k less. (let here = after k in let there = after moment in let below = has.peak.least k less in omega arith);
+      };
+      total_is = has.total_is ∙ sym (after moment);
+    }
+
+-- of no events it is nothing, after none
+pub peak-none : HasPeak 0 0 []
+peak-none = record {
+  peak = record {
+    within = omega arith;
+    greatest = λ k within. (let all : first_events k [] ≡ [] = take_all k [] (omega arith) in let none : total_after k [] ≡ 0 = ap live_bytes all in omega arith);
+    least = λ k less. absurd (omega arith);
+  };
+  total_is = refl;
+}
 
 -- the peak stays where the total with one more event is no greater
 pub record Stays (old new : PeakState) : Type 0 where
@@ -105,21 +199,13 @@ pub stands-stays :
 stands-stays old new events event is stands now stays =
     let after : List Event = events ++ event ∷ [] in
     let p : ℕ = old.moment in
-    let count = count-more events event is in
     let same : first_events p after ≡ first_events p events = first-before p events event is stands.peak.within in
-    let peak_total : total_after p after ≡ total_after p events = ap live_bytes same in
-    let peak : IsPeak p after = record {
-      within = omega (arith, stands.peak.within, count);
-      greatest = λ k within. elim (cases_lt (event_count events) k) [
-        | inl last ↦ (let all = total-now new after k now (omega arith) in let below = stays.below in let total = stands.total in omega arith)
-        | inr before ↦ (let here : total_after k after ≡ total_after k events = ap live_bytes (first-before k events event is before) in let below = stands.peak.greatest k before in omega arith)
-      ];
-      least = λ k below. (let here : total_after k after ≡ total_after k events = ap live_bytes (first-before k events event is (let within = stands.peak.within in omega arith)) in let less = stands.peak.least k below in omega arith);
-    } in
+    let kept = peak-stays old.total p new.ledger.totals events event is (record { peak = stands.peak; total_is = stands.total }) now.whole.figures stays.below in
+    let has : HasPeak new.total new.moment after = subst (λ (m : ℕ). HasPeak new.total m after) (sym stays.moment) (subst (λ (t : ℕ). HasPeak t p after) (sym stays.total) kept) in
     record {
       ledger = now;
-      peak = subst (λ (m : ℕ). IsPeak m after) (sym stays.moment) peak;
-      total = stays.total ∙ stands.total ∙ sym peak_total ∙ ap (λ (m : ℕ). total_after m after) (sym stays.moment);
+      peak = has.peak;
+      total = has.total_is;
       shares = λ n. ap (λ (xs : List ℕ). slice_index xs n) stays.shares ∙ stands.shares n ∙ ap (λ (es : List Event). live_in n es) (sym same) ∙ ap (λ (m : ℕ). live_in n (first_events m after)) (sym stays.moment);
       block_shares = λ n. ap (λ (xs : List ℕ). slice_index xs n) stays.block_shares ∙ stands.block_shares n ∙ ap (λ (es : List Event). blocks_in n es) (sym same) ∙ ap (λ (m : ℕ). blocks_in n (first_events m after)) (sym stays.moment);
     }
@@ -134,24 +220,13 @@ pub stands-rises :
     → StandsFor new (events ++ event ∷ [])
 stands-rises old new events event is stands now rises =
     let after : List Event = events ++ event ∷ [] in
-    let p : ℕ = new.moment in
-    let count = count-more events event is in
-    let all_events : p ≡ event_count after = rises.moment ∙ now.figures.events_is in
-    let all : first_events p after ≡ counted after = first-all p after all_events in
-    let total : total_after p after ≡ new.ledger.totals.live = total-now new after p now all_events in
-    let before : (k : ℕ) → k ≤ event_count events → total_after k after ≤ old.total = λ k within.
-    (let here : total_after k after ≡ total_after k events = ap live_bytes (first-before k events event is within) in let below = stands.peak.greatest k within in let was = stands.total in omega arith) in
+    let all : first_events new.moment after ≡ counted after = first-all new.moment after (rises.moment ∙ now.whole.figures.events_is) in
+    let risen = peak-rises old.total old.moment new.ledger.totals events event is (record { peak = stands.peak; total_is = stands.total }) now.whole.figures rises.above in
+    let has : HasPeak new.total new.moment after = subst (λ (m : ℕ). HasPeak new.total m after) (sym rises.moment) (subst (λ (t : ℕ). HasPeak t new.ledger.totals.events after) (sym rises.total) risen) in
     record {
       ledger = now;
-      peak = record {
-        within = omega arith;
-        greatest = λ k within. elim (cases_lt (event_count events) k) [
-          | inl last ↦ (let here = total-now new after k now (omega arith) in omega arith)
-          | inr early ↦ (let below = before k early in let above = rises.above in omega arith)
-        ];
-        least = λ k less. (let below = before k (omega arith) in let above = rises.above in omega arith);
-      };
-      total = rises.total ∙ sym total;
+      peak = has.peak;
+      total = has.total_is;
       shares = λ n. ap (λ (xs : List ℕ). slice_index xs n) rises.shares ∙ figure-at (λ (f : Figures). f.live) new.ledger n refl ∙ (now.each_stack n).live_is ∙ sym (live_in-counted n after) ∙ ap (λ (es : List Event). live_in n es) (sym all);
       block_shares = λ n. ap (λ (xs : List ℕ). slice_index xs n) rises.block_shares ∙ figure-at (λ (f : Figures). f.blocks) new.ledger n refl ∙ (now.each_stack n).blocks_is ∙ sym (blocks_in-counted n after) ∙ ap (λ (es : List Event). blocks_in n es) (sym all);
     }
@@ -222,21 +297,14 @@ stands-event old new saved blocks stamps mark stack events event kept sound chan
 -- a clock value changes nothing
 pub stands-tick : (state : PeakState) (events : List Event) (ms : ℕ) → StandsFor state events → ledger_spec.StandsFor state.ledger (events ++ Tick ms ∷ []) → StandsFor state (events ++ Tick ms ∷ [])
 stands-tick state events ms stands now =
-    let same : counted (events ++ Tick ms ∷ []) ≡ counted events = filter-append is_counted events (Tick ms ∷ []) ∙ append-nil (counted events) in
-    let count : event_count (events ++ Tick ms ∷ []) ≡ event_count events = sum_by_push (λ (e : Event). cond (is_counted e) 1 0) events (Tick ms) ∙ add-zero (event_count events) in
-    let first : (k : ℕ) → first_events k (events ++ Tick ms ∷ []) ≡ first_events k events = λ k. ap (λ (xs : List Event). take k xs) same in
-    let total : (k : ℕ) → total_after k (events ++ Tick ms ∷ []) ≡ total_after k events = λ k. ap live_bytes (first k) in
-    let peak = stands.peak in
+    let has = peak-tick state.total state.moment events ms (record { peak = stands.peak; total_is = stands.total }) in
+    let first = first-tick state.moment events ms in
     record {
       ledger = now;
-      peak = record {
-        within = omega (arith, peak.within);
-        greatest = λ k within. (let here = total k in let there = total state.moment in let below = peak.greatest k (omega arith) in omega arith);
-        least = λ k less. (let here = total k in let there = total state.moment in let below = peak.least k less in omega arith);
-      };
-      total = stands.total ∙ sym (total state.moment);
-      shares = λ n. stands.shares n ∙ ap (λ (es : List Event). live_in n es) (sym (first state.moment));
-      block_shares = λ n. stands.block_shares n ∙ ap (λ (es : List Event). blocks_in n es) (sym (first state.moment));
+      peak = has.peak;
+      total = has.total_is;
+      shares = λ n. stands.shares n ∙ ap (λ (es : List Event). live_in n es) (sym first);
+      block_shares = λ n. stands.block_shares n ∙ ap (λ (es : List Event). blocks_in n es) (sym first);
     }
 
 -- what peaks stand for is told by the ledger and by the peak's figures
@@ -272,12 +340,8 @@ pub stands-new :
     → StandsFor (state_of ledger (0 ∷ []) (0 ∷ []) (0 ∷ []) first_mark) []
 stands-new ledger sound stands = record {
   ledger = stands;
-  peak = record {
-    within = omega arith;
-    greatest = λ k within. (let all : first_events k [] ≡ [] = take_all k [] (omega arith) in let none : total_after k [] ≡ 0 = ap live_bytes all in omega arith);
-    least = λ k less. absurd (omega arith);
-  };
-  total = refl;
+  peak = peak-none.peak;
+  total = peak-none.total_is;
   shares = λ n. ap (λ (xs : List ℕ). slice_index xs n) (shares-new (λ (f : Figures). f.live) ledger sound) ∙ figure-at (λ (f : Figures). f.live) ledger n refl ∙ (stands.each_stack n).live_is;
   block_shares = λ n. ap (λ (xs : List ℕ). slice_index xs n) (shares-new (λ (f : Figures). f.blocks) ledger sound) ∙ figure-at (λ (f : Figures). f.blocks) ledger n refl ∙ (stands.each_stack n).blocks_is;
 }

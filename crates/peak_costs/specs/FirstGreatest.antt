@@ -1,4 +1,4 @@
--- The first place of the greatest of a list of numbers.
+-- The peak is the greatest of the totals, at the first place where it stands.
 use Rattle.std.specs.Prelude.{ℕ, ◌==◌, max, List, [], ◌∷◌}
 use Rattle.std.specs.List.{position_or_len}
 

@@ -1,4 +1,4 @@
--- What the fields of peaks keep, and what contracts see of them.
+-- What the fields of peaks keep, and what contracts see of them, for private clauses.
 use Rattle.std.specs.Prelude.{◌≡◌, ℕ, ◌+◌, ◌<◌, ◌≤◌, List, length, map, slice_index, sum}
 use Rattle.live_ledger.specs.declared.figures.Figures.{Figures}
 use Rattle.live_ledger.specs.LedgerState.{LedgerState}

@@ -1,4 +1,4 @@
--- The mark of the peak.
+-- The mark of the peak, for private clauses.
 use Rattle.std.specs.Prelude.{ℕ, ◌+◌, nat_lt, if◌then◌else◌}
 use Rattle.peak_costs.specs.declared.mark.Mark.{Mark}
 

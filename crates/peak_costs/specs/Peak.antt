@@ -1,4 +1,6 @@
--- The peak of a list of events.
+-- The peak of a trace is the least number of its events after which no total is greater; a stack's
+-- share is what it has live then. Peaks stand for a list of events where their ledger does, and the
+-- moment, the total and the shares are the list's.
 use Rattle.std.specs.Prelude.{◌≡◌, ℕ, ◌<◌, ◌≤◌, List, slice_index, take}
 use Rattle.live_ledger.specs.declared.event.Event.{Event}
 use Rattle.live_ledger.specs.declared.event.Event.TheVariants.{Alloc, Free, Tick}
@@ -21,6 +23,11 @@ pub record IsPeak (moment : ℕ) (events : List Event) : Type 0 where
   pub within : moment ≤ event_count events
   pub greatest : (k : ℕ) → k ≤ event_count events → total_after k events ≤ total_after moment events
   pub least : (k : ℕ) → k < moment → total_after k events < total_after moment events
+
+-- the moment is the peak of the events, and the total is what is live then
+pub record HasPeak (total moment : ℕ) (events : List Event) : Type 0 where
+  pub peak : IsPeak moment events
+  pub total_is : total ≡ total_after moment events
 
 -- the ledger stands for the events, the moment is their peak, and each stack's share is what it has live then
 pub record StandsFor (state : PeakState) (events : List Event) : Type 0 where

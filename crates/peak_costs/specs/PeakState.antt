@@ -1,4 +1,5 @@
--- What contracts see of peaks.
+-- What contracts see of peaks: the ledger, each stack's bytes and blocks at the peak, the peak's
+-- total and its moment.
 use Rattle.std.specs.Prelude.{◌≡◌, ℕ, ◌+◌, ◌≤◌, List, [], ◌∷◌, ◌++◌, length, sum}
 use Rattle.live_ledger.specs.LedgerState.{LedgerState, no_figures}
 use Rattle.live_ledger.specs.Sound as ledger_sound

@@ -1,4 +1,6 @@
--- What is saved of the stacks for the present peak, and their shares in it.
+-- What is saved of the stacks for the present peak, and their shares in it. An event saves the
+-- figures of its stack, once for each peak; a share is the saved figure, or the live one where none
+-- was saved.
 use Rattle.std.specs.Prelude.{ℕ, ◌==◌, if◌then◌else◌, List, map, slice_index, slice_set}
 use Rattle.std.specs.List.{range_with_len}
 

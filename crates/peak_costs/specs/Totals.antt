@@ -1,4 +1,5 @@
--- The total after each number of events.
+-- The total after each number of events. The totals of a trace are its live bytes after no event,
+-- after one, and so on to after all.
 use Rattle.std.specs.Prelude.{ℕ, ◌+◌, List, length, map, take}
 use Rattle.std.specs.List.{range_with_len}
 use Rattle.live_ledger.specs.declared.event.Event.{Event}

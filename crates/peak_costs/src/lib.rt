@@ -9,14 +9,19 @@
 //! - An event costs at most six changes of cells, which `Steps` counts, at a new peak as well: nothing is copied.
 //! - `sound` says that the shares of all stacks sum to the total, so each is within it.
 //!
+//! `PeakTotals` keeps the totals with their peak alone, and no figure of a stack: its ledger is a `TotalsLedger`, and its peak is told
+//! as that of `Peaks` is.
+//!
 //! The crates above may cite its `proofs/Laws`: the greatest of some numbers, and the first place at which it stands. The tests of
 //! these calls are in the crate `ht_trace_tests`; one here, in `peaks/fields.rt`, takes the peaks apart, since their fields are
 //! private: what a stack has has no place but the ledger and the three lists of cells.
 #![tactic(auto)]
 
 mod mark;
+mod peak_totals;
 mod peaks;
 mod save;
 
 pub use mark::Mark;
+pub use peak_totals::PeakTotals;
 pub use peaks::Peaks;

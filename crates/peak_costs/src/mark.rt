@@ -40,7 +40,7 @@ impl Mark {
     }
 
     /// Takes the total after so many events: it is a new peak where it is greater than the mark's.
-    fn raise(&mut self, total: u64, events: u64)
+    pub(crate) fn raise(&mut self, total: u64, events: u64)
         requires { self.old.counter < 2 ^ 64 - 1 }
         ensures { self.new ≡ raised self.old total events }
     {

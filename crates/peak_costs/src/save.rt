@@ -1,6 +1,5 @@
 //! Saving what a stack has live, before it changes and at most once for each peak.
-ghost use Rattle.std.specs.Prelude.{◌≡◌, ◌==◌, ◌+◌, ◌<◌, ◌≤◌, length, slice_index};
-ghost use Rattle.peak_costs.specs.Saved.{saved_after, stamps_after};
+ghost use Rattle.std.specs.Prelude.{◌≡◌, ◌==◌, ◌+◌, ◌<◌, ◌≤◌, length, slice_index, slice_set};
 
 use live_ledger::{Cells, Figures, Steps};
 use std::sync::ledger::Ledger;
@@ -13,7 +12,7 @@ pub fn has(stamps: &Cells, counter: u64, stack: u32) -> bool
     stamps.at(stack) == counter
 }
 
-/// Saves the stack's figures and stamps them with the counter, where its stamp isn't the counter.
+/// Saves the stack's figures and stamps them with the counter.
 pub fn save<L: Ledger>(
     saved: &mut Cells,
     blocks: &mut Cells,
@@ -26,14 +25,11 @@ pub fn save<L: Ledger>(
     requires saved { stack < length saved.old }
     requires blocks { stack < length blocks.old }
     requires stamps { stack < length stamps.old }
-    ensures saved { saved.new ≡ saved_after saved.old stamps.old counter stack figures.live }
-    ensures blocks { blocks.new ≡ saved_after blocks.old stamps.old counter stack figures.blocks }
-    ensures stamps { stamps.new ≡ stamps_after stamps.old counter stack }
+    ensures saved { saved.new ≡ slice_set saved.old stack figures.live }
+    ensures blocks { blocks.new ≡ slice_set blocks.old stack figures.blocks }
+    ensures stamps { stamps.new ≡ slice_set stamps.old stack counter }
     ensures steps { steps.new ≤ steps.old + 3 }
 {
-    if has(stamps, counter, stack) {
-        return;
-    }
     saved.set(stack, figures.live, steps);
     blocks.set(stack, figures.blocks, steps);
     stamps.set(stack, counter, steps);

@@ -1,4 +1,6 @@
--- What `convert` makes of a DHAT profile and of the profile of a Massif file.
+-- `convert` writes the folded lines of a DHAT profile or of a snapshot of a Massif file, or the
+-- Massif file of a DHAT profile, or tells what stands against it; the file is read whole or by
+-- lines as its kind says.
 use Rattle.std.specs.Prelude.{ℕ, List, Option, Some, None}
 use Rattle.command_frame.specs.declared.taker.LineRefusal.{LineRefusal}
 use Rattle.command_frame.specs.declared.taker.LineRefusal.TheVariants.{Fault, NoMemory}

@@ -1,4 +1,5 @@
--- What a command makes of the bytes of a DHAT profile.
+-- Of a DHAT profile, what a command makes of the profile that the document says is written, or it
+-- is told why the document says none, or why nothing can be made of the profile.
 use Rattle.std.specs.Prelude.{ℕ, List, Result, Ok, Err}
 use Rattle.command_frame.specs.declared.taker.LineRefusal.{LineRefusal}
 use Rattle.command_frame.specs.declared.taker.LineRefusal.TheVariants.{Fault, NoMemory}

@@ -1,4 +1,5 @@
--- What `ms_print` makes of the profile of a Massif file.
+-- What `ms_print` makes of the profile of a Massif file. `ms_print` writes the page of a profile,
+-- with the words behind the command on it, a blank between each two.
 use Rattle.std.specs.Prelude.{ℕ, List, [], codes, nat_eq, if◌then◌else◌}
 use Rattle.std.specs.List.{join_by}
 use Rattle.massif_file.specs.declared.profile.Profile.{Profile}

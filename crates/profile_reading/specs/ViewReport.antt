@@ -1,4 +1,4 @@
--- What `dhat_view` makes of a DHAT profile.
+-- `dhat_view` writes the view of a profile, or tells why it has none.
 use Rattle.std.specs.Prelude.{ℕ, List, Option, Some, None}
 use Rattle.command_frame.specs.declared.taker.LineRefusal.{LineRefusal}
 use Rattle.command_frame.specs.declared.taker.LineRefusal.TheVariants.{Fault, NoMemory}

@@ -52,13 +52,17 @@ impl<R: MassifFileReport> LineTaker for MassifFileTaker<R> {
     }
 }
 
-impl<R: MassifFileReport> LineReport for MassifFileTaker<R> {
-    fn finish(&mut self, alloc: Global) -> Result<Vec<u8>, LineRefusal<MassifFileFault>> {
+impl<R: MassifFileReport + Drop> LineReport for MassifFileTaker<R> {
+    type Rest = Vec<u8>;
+
+    fn finish(self, alloc: Global) -> Result<Vec<u8>, LineRefusal<MassifFileFault>> {
         match self.reader.profile() {
             Ok(profile) => self.report.report(alloc, profile),
             Err(fault) => Err(LineRefusal::Fault(MassifFileFault::File(fault))),
         }
     }
+
+    fn close(self) {}
 }
 
 /// Reads the named Massif file, and gives what its report makes of it.
@@ -74,9 +78,9 @@ pub fn run_massif_file<R: MassifFileReport + Drop, S: Store, O: Sink>(
         (massif_file_plan name.now (R.verdict report))
         store.old store.new out.old out.new result }
 {
-    let mut taker = MassifFileTaker {
+    let taker = MassifFileTaker {
         reader: ProfileReader::new(desk.alloc),
         report,
     };
-    run_one_file(desk, name, &mut taker, store, out)
+    run_one_file(desk, name, taker, store, out)
 }

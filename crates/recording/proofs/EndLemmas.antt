@@ -1,10 +1,10 @@
 -- From the reading of files to the run of the words, and from there to all that is promised of a run.
 use Rattle.std.proofs.Common.{◌≡◌, ◌≢◌, ◌⊎◌, ℕ, Bool, false, IsErrAnd, List, [], ◌∷◌, option_to_list, Option, Some, None, Ok, Err, refl, ap, sym, subst, ◌∙◌, inl, inr, Vec, Result, arith}
+use Rattle.std.specs.Prelude.{vec_items}
 use Rattle.std.specs.Io.KnownBytes.{append_known}
 use Rattle.std.proofs.lemmas.Bool.Decides.{eqb_tells}
 use Rattle.hp_outside.specs.Faults.{Rose}
 use Rattle.hp_outside.specs.Folder.{Folder}
-use Rattle.hp_outside.specs.Taken.{WhereTold}
 use Rattle.command_frame.specs.declared.desk.Desk.{Desk}
 use Rattle.command_frame.specs.declared.halt.Halt.{Halt}
 use Rattle.command_frame.specs.declared.halt.Message.TheVariants.{OutOfMemory}
@@ -32,7 +32,7 @@ use Rattle.recording.specs.FrontRead.{FrontRead}
 use Rattle.recording.specs.HeaprecRan.{HasDelivered, HeaprecRan}
 use Rattle.recording.specs.Recorded.{IsRecorded}
 use Rattle.recording.specs.RecordWords.{Checks, RecordAsked, Records, Task, record_asked, trace_of}
-use Rattle.recording.specs.Run.{IsDone, IsDoneBy, IsFaulty, IsRecording, IsRefused, WordsRecord}
+use Rattle.recording.specs.Run.{IsDone, IsDoneBy, IsFaulty, IsRefused, WordsRecord}
 use Rattle.recording.specs.Texts.{heaprec_texts}
 use Rattle.recording.proofs.CheckLemmas.{checked_run, refused_run}
 use Rattle.recording.proofs.HaltLemmas.{code_isnt_zero}
@@ -70,10 +70,9 @@ asked_halted may_write desk limit asked before now old new halt texts read = rec
 -- the files were read, and what they say was recorded
 pub asked_done : (may_write : Bool → Job → List ℕ → Type 0) (desk : Desk) (limit : ℕ) (modules : Option (List ℕ)) (scripts : List (List ℕ)) (summary : Bool) (before now : Shown) (old new : Taken) (job : Job) (text : List ℕ) → texts_of desk.texts ≡ heaprec_texts
     → FrontRead desk (files_front modules scripts (no_job limit)) before now old new (Ok job)
-    → IsRecording may_write limit before.files (Some (asks modules scripts (Records summary))) text
-    → WordsRecord may_write (bounds_of desk.limits) limit (Some (asks modules scripts (Records summary))) before now old new (done text)
-asked_done may_write desk limit modules scripts summary before now old new job text texts read recording =
-    let leads = read.goes_on [] [] (task_plan text (Records summary)) in
+    → may_write summary job text → WordsRecord may_write (bounds_of desk.limits) limit (Some (asks modules scripts (Records summary))) before now old new (done text)
+asked_done may_write desk limit modules scripts summary before now old new job text texts read may =
+    let leads = read.goes_on.runs [] [] (task_plan text (Records summary)) in
     record {
       text = text;
       run = record {
@@ -84,7 +83,7 @@ asked_done may_write desk limit modules scripts summary before now old new job t
         unwritten = λ four. absurd (omega (arith, four));
         sound = λ other. read.sound (λ four. absurd (omega (arith, four)));
       };
-      done = λ zero. recording;
+      done = λ zero. record { job = job; may = may; count = omega (arith, read.goes_on.threads); told = read.goes_on.gives };
       faulty = λ trace is one. absurd (cc);
     }
 
@@ -94,7 +93,7 @@ pub asked_wanting : (may_write : Bool → Job → List ℕ → Type 0) (desk : D
     → WordsRecord may_write (bounds_of desk.limits) limit (Some (asks modules scripts (Records summary))) before now old new (rest_of heaprec_texts result)
 asked_wanting may_write desk limit modules scripts summary before now old new job (Ok rest) texts read is = absurd is
 asked_wanting may_write desk limit modules scripts summary before now old new job (Err halt) texts read is =
-    let leads = read.goes_on [] [] (task_plan [] (Records summary)) in
+    let leads = read.goes_on.runs [] [] (task_plan [] (Records summary)) in
     let five : (halt_answer heaprec_texts halt).status ≡ 5 = ap (λ (h : Halt). (halt_answer heaprec_texts h).status) is in
     record {
       text = [];
@@ -113,19 +112,19 @@ asked_wanting may_write desk limit modules scripts summary before now old new jo
 
 -- the files were read, and a trace was run over
 pub asked_checked : {Z : Type 0} (may_write : Bool → Job → List ℕ → Type 0) (desk : Desk) (limit : ℕ) (modules : Option (List ℕ)) (scripts : List (List ℕ)) (trace : List ℕ) (before mid now : Shown) (old between new : Taken) (job : Job)
-    (result : Result (Vec ℕ Z) Halt) → texts_of desk.texts ≡ heaprec_texts → FrontLaws job → WhereTold before.files (λ folder. job ≡ job_in folder modules scripts limit)
+    (result : Result (Vec ℕ Z) Halt) → texts_of desk.texts ≡ heaprec_texts → FrontLaws job
     → FrontRead desk (files_front modules scripts (no_job limit)) before mid old between (Ok job)
     → RunsTo desk (trace ∷ []) (one_file trace (check_report job)) mid now between new result
     → WordsRecord may_write (bounds_of desk.limits) limit (Some (asks modules scripts (Checks trace))) before now old new (rest_of heaprec_texts result)
-asked_checked may_write desk limit modules scripts trace before mid now old between new job result texts laws told read check =
-    let leads = read.goes_on [] (trace ∷ []) (task_plan [] (Checks trace)) in
+asked_checked may_write desk limit modules scripts trace before mid now old between new job result texts laws read check =
+    let leads = read.goes_on.runs [] (trace ∷ []) (task_plan [] (Checks trace)) in
     let run = check.ran leads.0 in
     let ran : Ran (texts_of desk.texts) (bounds_of desk.limits) before.files leads.0 (trace ∷ []) (one_file trace (check_report job)) mid.moment now.moment (after run.0 (rest_of (texts_of desk.texts) result)) =
     subst (λ files. Ran (texts_of desk.texts) (bounds_of desk.limits) files leads.0 (trace ∷ []) (one_file trace (check_report job)) mid.moment now.moment (after run.0 (rest_of (texts_of desk.texts) result))) read.files run.1.1 in
     let said : Ran heaprec_texts (bounds_of desk.limits) before.files leads.0 (trace ∷ []) (one_file trace (check_report job)) mid.moment now.moment (after run.0 (rest_of heaprec_texts result)) =
     subst (λ (t : Texts). Ran t (bounds_of desk.limits) before.files leads.0 (trace ∷ []) (one_file trace (check_report job)) mid.moment now.moment (after run.0 (rest_of t result))) texts ran in
     let same : between.faults ≡ old.faults = read.sound (λ four. absurd (omega (arith, four))) in
-    let status : (rest_of heaprec_texts result).status ≡ status_of result = status_told heaprec_texts result in
+    let status : (rest_of heaprec_texts result).status ≡ status_of result = status_told vec_items heaprec_texts result in
     record {
       text = [];
       run = record {
@@ -137,11 +136,11 @@ asked_checked may_write desk limit modules scripts trace before mid now old betw
         unwritten = λ four. subst (λ n. Rose n new.faults) same (check.unwritten (sym status ∙ four));
         sound = λ other. check.sound (λ four. other (status ∙ four)) ∙ same;
       };
-      done = λ zero. checked_run heaprec_texts (bounds_of desk.limits) limit before.files modules scripts leads.0 trace job mid.moment now.moment (after run.0 (rest_of heaprec_texts result)) laws told said zero;
+      done = λ zero. checked_run heaprec_texts (bounds_of desk.limits) limit before.files modules scripts leads.0 trace job mid.moment now.moment (after run.0 (rest_of heaprec_texts result)) laws read.goes_on.gives said zero;
       faulty = λ other is one. inr (λ folder known.
           let same : trace ≡ other = cc in
           subst (λ (name : List ℕ). IsRefused folder name (job_in folder modules scripts limit) (rest_of heaprec_texts result).message) same
-          (subst (λ (j : Job). IsRefused folder trace j (rest_of heaprec_texts result).message) (told folder known)
+          (subst (λ (j : Job). IsRefused folder trace j (rest_of heaprec_texts result).message) (read.goes_on.gives folder known)
           (refused_run (bounds_of desk.limits) before.files leads.0 trace job mid.moment now.moment (after run.0 (rest_of heaprec_texts result)) laws said one folder known)));
     }
 

@@ -1,5 +1,5 @@
 -- From the reading of one file to that of the first files of a run.
-use Rattle.std.proofs.Common.{◌≡◌, ◌≢◌, ℕ, ◌+◌, ◌<◌, ◌≤◌, suc, Bor, IsErrAnd, List, [], ◌∷◌, ◌++◌, length, map, drop, drop-cons, drop_of_length-le, get_or, take, take_all, unwrap_or, Option, None, Some, Result, Ok, Err, refl, ap, sym, subst, ◌∙◌, arith}
+use Rattle.std.proofs.Common.{◌≡◌, ◌≢◌, ℕ, ◌+◌, ◌<◌, ◌≤◌, suc, Bor, IsErrAnd, List, [], ◌∷◌, ◌++◌, length, length-append, map, drop, drop-cons, drop_of_length-le, get_or, take, take_all, unwrap_or, Option, None, Some, Result, Ok, Err, refl, ap, sym, subst, ◌∙◌, arith}
 use Rattle.std.specs.Io.KnownBytes.{append_known}
 use Rattle.hp_outside.specs.Faults.{Rose}
 use Rattle.hp_outside.specs.Folder.{Folder, file_of}
@@ -10,7 +10,7 @@ use Rattle.command_frame.specs.declared.halt.Halt.{Halt}
 use Rattle.command_frame.specs.declared.halt.Message.TheVariants.{OutOfMemory}
 use Rattle.command_frame.specs.declared.halt.Status.TheVariants.{NoMemory}
 use Rattle.command_frame.specs.Answer.{Answer, after}
-use Rattle.command_frame.specs.FileRead.{Absent, CannotOpen, CannotRead, EndsIn, FileEnd, FileRead, Passed, Refused, Unopened, Unwritten, Wanting, end_answer, end_output}
+use Rattle.command_frame.specs.FileRead.{Absent, Calls, CannotOpen, CannotRead, EndsIn, FileEnd, FileRead, Passed, Refused, Unopened, Unwritten, Wanting, end_answer, end_output}
 use Rattle.command_frame.specs.FirstFault.{Bounds, bounds_of}
 use Rattle.command_frame.specs.Halts.{halt_answer, status_code}
 use Rattle.command_frame.specs.Moment.{Moment}
@@ -25,8 +25,9 @@ use Rattle.record_scripts.specs.Job.{Job}
 use Rattle.recording.specs.declared.reader.FileKind.{FileKind}
 use Rattle.recording.specs.declared.reader.FileKind.TheVariants.{Modules, Script}
 use Rattle.recording.specs.FileLines.{begun, file_report, with_lines}
-use Rattle.recording.specs.FilesPlan.{file_front, file_plan, files_front, lines_in, modules_front, scripts_front, scripts_plan}
+use Rattle.recording.specs.FilesPlan.{file_front, file_plan, files_front, files_named, lines_in, modules_front, scripts_front, scripts_in, scripts_plan}
 use Rattle.recording.specs.FrontRead.{Front, FrontRead, GoesOn, LeadsTo, read_to}
+use Rattle.recording.proofs.LineLemmas.{count-lines}
 
 -- no line gives a byte to standard output
 nothing_from : (kind : FileKind) (job : Job) (earlier lines : List (List ℕ)) → gains_from (file_report kind job) earlier lines ≡ []
@@ -77,34 +78,43 @@ halts_at texts bounds files kind name start before now (Unwritten taken count) a
     (refl, (Unwritten taken count, (now, read, (is ∙ sym (behind_nothing (end_output (file_report kind start) (Unwritten taken count)) (end_answer texts name (Unwritten taken count)) (none_gained kind start (Unwritten taken count))), refl))))
 halts_at texts bounds files kind name start before now (Passed taken) answer read stops is last names next = absurd stops
 
--- behind a file whose lines were all taken
-leads_on : (texts : Texts) (bounds : Bounds) (files : Option Folder) (kind : FileKind) (name : List ℕ) (start job : Job) (before now : Moment) (end : FileEnd) (taken : List (List ℕ))
-    → FileRead bounds files name (file_report kind start) before now end → end ≡ Passed taken → job ≡ with_lines kind start taken
-    → LeadsTo texts bounds files (file_front kind name start) before (read_to job) now
-leads_on texts bounds files kind name start job before now end taken read is said last names next = (
-  name,
-  λ later answer rest. (
-    refl,
-    (
-      Passed taken,
-      (
-        now,
-        subst (λ e. FileRead bounds files name (file_report kind start) before now e) is read,
-        (answer, sym (behind_nothing (written (file_report kind start) taken) answer (nothing_written kind start taken)), subst (λ (j : Job). Ran texts bounds files name names (next j) now later answer) said rest),
-      ),
-    ),
-  ),
-)
-
 -- the lines of a file that was read to its end are those of the folder's file
 told_lines : (bounds : Bounds) (report : Report) (file left : Option (List ℕ)) (taken : List (List ℕ)) → EndsIn bounds report file left (Passed taken) → taken ≡ lines_of (unwrap_or file [])
 told_lines bounds report None left taken ends = absurd ends
 told_lines bounds report (Some bytes) left taken ends = ends.lines_are
 
-pub lines_told : (bounds : Bounds) (report : Report) (files : Option Folder) (name : List ℕ) (before now : Moment) (end : FileEnd) (taken : List (List ℕ))
+lines_told : (bounds : Bounds) (report : Report) (files : Option Folder) (name : List ℕ) (before now : Moment) (end : FileEnd) (taken : List (List ℕ))
     → FileRead bounds files name report before now end → end ≡ Passed taken → WhereTold files (λ folder. taken ≡ lines_in folder name)
 lines_told bounds report files name before now end taken read is folder known =
     told_lines bounds report (file_of folder name) now.left taken (subst (λ (e : FileEnd). EndsIn bounds report (file_of folder name) now.left e) is (read.told folder known))
+
+-- and the store was called once
+opened_once : (files : Option Folder) (before now : Moment) (end : FileEnd) (taken : List (List ℕ)) → Calls files before now end → end ≡ Passed taken → now.opens ≡ before.opens + 1
+opened_once files before now end taken calls is = (subst (λ (e : FileEnd). Calls files before now e) is calls).0.opens
+
+-- behind a file whose lines were all taken
+leads_on : (texts : Texts) (bounds : Bounds) (files : Option Folder) (kind : FileKind) (name : List ℕ) (start job : Job) (before now : Moment) (end : FileEnd) (taken : List (List ℕ))
+    → FileRead bounds files name (file_report kind start) before now end → end ≡ Passed taken → job ≡ with_lines kind start taken
+    → LeadsTo texts bounds files (file_front kind name start) before (read_to job) now
+leads_on texts bounds files kind name start job before now end taken read is said = record {
+  runs = λ last names next. (
+    name,
+    λ later answer rest. (
+      refl,
+      (
+        Passed taken,
+        (
+          now,
+          subst (λ e. FileRead bounds files name (file_report kind start) before now e) is read,
+          (answer, sym (behind_nothing (written (file_report kind start) taken) answer (nothing_written kind start taken)), subst (λ (j : Job). Ran texts bounds files name names (next j) now later answer) said rest),
+        ),
+      ),
+    ),
+  );
+  gives = λ folder known. said ∙ ap (with_lines kind start) (lines_told bounds (file_report kind start) files name before now end taken read is folder known);
+  threads = ap (λ (j : Job). length j.scripts) said ∙ count-lines kind start taken;
+  opens = let one = opened_once files before now end taken read.calls is in omega (arith, one);
+}
 
 -- memory was wanting before a file was opened
 unopened_told : (bounds : Bounds) (report : Report) (file left : Option (List ℕ)) → EndsIn bounds report file left Unopened
@@ -162,26 +172,24 @@ file_stopped desk kind name start before now old new halt read = record {
   sound = read.sound;
 }
 
--- the lines of a file that was read to its end
-pub file_told : (desk : Desk) (kind : FileKind) (name : List ℕ) (start job : Job) {has_taken : List (List ℕ) → Type 0} (before now : Shown) (old new : Taken)
-    → ReadsTo desk name (file_report kind start) has_taken before now old new (Ok tt) → ((taken : List (List ℕ)) → has_taken taken → job ≡ with_lines kind start taken)
-    → (taken : List (List ℕ)) × ((job ≡ with_lines kind start taken) × WhereTold before.files (λ folder. taken ≡ lines_in folder name))
-file_told desk kind name start job before now old new read said =
-    (read.halts.0, (said read.halts.0 read.halts.1.1, lines_told (bounds_of desk.limits) (file_report kind start) before.files name before.moment now.moment read.end read.halts.0 read.read read.halts.1.0))
-
 -- from the first files to some, and from these to others
 leads_by : (texts : Texts) (bounds : Bounds) (files : Option Folder) (front mid left : Front) (before between now : Moment)
     → LeadsTo texts bounds files front before mid between → LeadsTo texts bounds files mid between left now → LeadsTo texts bounds files front before left now
-leads_by texts bounds files front mid left before between now leads goes = λ last names next.
-    let first = leads last names next in
-    let second = goes first.0 names next in (second.0, λ later answer ran. first.1 later answer (second.1 later answer ran))
+leads_by texts bounds files front mid left before between now leads goes = record {
+  runs = λ last names next.
+      let first = leads.runs last names next in
+      let second = goes.runs first.0 names next in (second.0, λ later answer ran. first.1 later answer (second.1 later answer ran));
+  gives = λ folder known. goes.gives folder known ∙ leads.gives folder known;
+  threads = goes.threads ∙ leads.threads;
+  opens = goes.opens ∙ leads.opens;
+}
 
 -- the first files, and those that are left behind them
 goes_behind : (texts : Texts) (bounds : Bounds) (files : Option Folder) (front left : Front) (before mid now : Moment) (result : Result Job Halt)
     → LeadsTo texts bounds files front before left mid → GoesOn texts bounds files left mid now result → GoesOn texts bounds files front before now result
 goes_behind texts bounds files front left before mid now (Ok job) leads goes = leads_by texts bounds files front left (read_to job) before mid now leads goes
 goes_behind texts bounds files front left before mid now (Err halt) leads goes = λ last names next.
-    let first = leads last names next in first.1 now (halt_answer texts halt) (goes first.0 names next)
+    let first = leads.runs last names next in first.1 now (halt_answer texts halt) (goes first.0 names next)
 
 pub front_behind : (desk : Desk) (front left : Front) (before mid now : Shown) (old between new : Taken) (result : Result Job Halt)
     → LeadsTo (texts_of desk.texts) (bounds_of desk.limits) before.files front before.moment left mid.moment → mid.files ≡ before.files → between.written ≡ old.written → between.faults ≡ old.faults
@@ -199,7 +207,12 @@ front_behind desk front left before mid now old between new result leads same si
 script_then : (desk : Desk) (name : List ℕ) (names : List (List ℕ)) (start job : Job) (before now : Shown) (old new : Taken)
     → FrontRead desk (file_front Script name (begun start)) before now old new (Ok job)
     → LeadsTo (texts_of desk.texts) (bounds_of desk.limits) before.files (scripts_front (name ∷ names) start) before.moment (scripts_front names job) now.moment
-script_then desk name names start job before now old new read = λ last more next. read.goes_on last (names ++ more) (λ job. scripts_plan names job next)
+script_then desk name names start job before now old new read = record {
+  runs = λ last more next. read.goes_on.runs last (names ++ more) (λ job. scripts_plan names job next);
+  gives = λ folder known. ap (scripts_in folder names) (read.goes_on.gives folder known);
+  threads = omega (arith, read.goes_on.threads, length-append start.scripts ([] ∷ []));
+  opens = omega (arith, read.goes_on.opens);
+}
 
 pub scripts_further : (desk : Desk) (files : Option Folder) (all left rest : List (List ℕ)) (name : List ℕ) (start job new : Job) (before : Moment) (mid now : Shown) (between after : Taken) → mid.files ≡ files → left ≡ name ∷ rest
     → LeadsTo (texts_of desk.texts) (bounds_of desk.limits) files (scripts_front all start) before (scripts_front left job) mid.moment
@@ -224,8 +237,18 @@ script_ends desk name names start before now old new halt read = record {
 -- the modules file with the scripts behind it
 pub modules_then : (desk : Desk) (modules : Option (List ℕ)) (names : List (List ℕ)) (start job : Job) (before now : Shown) (old new : Taken) → FrontRead desk (modules_front modules start) before now old new (Ok job)
     → LeadsTo (texts_of desk.texts) (bounds_of desk.limits) before.files (files_front modules names start) before.moment (scripts_front names job) now.moment
-modules_then desk None names start job before now old new read = λ last more next. read.goes_on last (names ++ more) (λ job. scripts_plan names job next)
-modules_then desk (Some modules) names start job before now old new read = λ last more next. read.goes_on last (names ++ more) (λ job. scripts_plan names job next)
+modules_then desk None names start job before now old new read = record {
+  runs = λ last more next. read.goes_on.runs last (names ++ more) (λ job. scripts_plan names job next);
+  gives = λ folder known. ap (scripts_in folder names) (read.goes_on.gives folder known);
+  threads = omega (arith, read.goes_on.threads);
+  opens = omega (arith, read.goes_on.opens);
+}
+modules_then desk (Some modules) names start job before now old new read = record {
+  runs = λ last more next. read.goes_on.runs last (names ++ more) (λ job. scripts_plan names job next);
+  gives = λ folder known. ap (scripts_in folder names) (read.goes_on.gives folder known);
+  threads = omega (arith, read.goes_on.threads);
+  opens = omega (arith, read.goes_on.opens);
+}
 
 modules_halt : (texts : Texts) (bounds : Bounds) (files : Option Folder) (modules : Option (List ℕ)) (names : List (List ℕ)) (start : Job) (before now : Moment) (halt : Halt)
     → GoesOn texts bounds files (modules_front modules start) before now (Err halt) → GoesOn texts bounds files (files_front modules names start) before now (Err halt)
@@ -243,8 +266,27 @@ modules_end desk modules names start before now old new halt read = record {
 }
 
 -- no file
+stays : (texts : Texts) (bounds : Bounds) (files : Option Folder) (job : Job) (now : Moment) → LeadsTo texts bounds files (read_to job) now (read_to job) now
+stays texts bounds files job now = record { runs = λ last names next. (last, λ later answer ran. ran); gives = λ folder known. refl; threads = refl; opens = refl }
+
 pub none_read : (desk : Desk) (job : Job) (store : Shown) (out : Taken) → FrontRead desk (read_to job) store store out out (Ok job)
-none_read desk job store out = record { goes_on = λ last names next. (last, λ later answer ran. ran); silent = refl; files = refl; unwritten = λ four. absurd (omega (arith, four)); sound = λ other. refl }
+none_read desk job store out = record {
+  goes_on = stays (texts_of desk.texts) (bounds_of desk.limits) store.files job store.moment;
+  silent = refl;
+  files = refl;
+  unwritten = λ four. absurd (omega (arith, four));
+  sound = λ other. refl;
+}
+
+-- no script is left
+pub no_script : (texts : Texts) (bounds : Bounds) (files : Option Folder) (front : Front) (job : Job) (before now : Moment) → LeadsTo texts bounds files front before (scripts_front [] job) now → LeadsTo texts bounds files front before (read_to job) now
+no_script texts bounds files front job before now leads =
+    record { runs = leads.runs; gives = leads.gives; threads = omega (arith, leads.threads); opens = leads.opens }
+
+-- at most one file more than scripts
+pub few_named : (modules : Option (List ℕ)) (names : List (List ℕ)) → length (files_named modules names) ≤ length names + 1
+few_named None names = omega arith
+few_named (Some modules) names = omega arith
 
 -- the names of scripts that are left
 abbrev pub bytes_of : List (Bor (List ℕ)) → List (List ℕ)

@@ -1,4 +1,6 @@
--- What a run is to write and to answer, for its words, the files of a folder, and the text of the recording.
+-- What a run is to write and to answer, for its words, the files of a folder, and the text of the
+-- recording. The recorder's answer to words and files: that of the plan of its files, behind which
+-- a text is written, or a trace is read; the faults are the same for every text.
 use Rattle.std.specs.Prelude.{◌≡◌, ℕ, List, [], ◌++◌, Bool, false, Option, None, Some, length}
 use Rattle.std.specs.Option.{option_map, option_to_list}
 use Rattle.hp_outside.specs.Folder.{Folder}

@@ -1,4 +1,6 @@
--- What the lines of a trace are that is checked against a job.
+-- A line of a trace that is checked has a fault where the lines up to it are no front of a
+-- recording; the end has one where they are no whole recording, or the last one lacks its line
+-- feed.
 use Rattle.std.specs.Prelude.{ℕ, true, List, [], ◌∷◌, ◌++◌, codes, decimal, if◌then◌else◌, Option, None, Some}
 use Rattle.command_frame.specs.declared.fault.FaultStatus.TheVariants.{Malformed}
 use Rattle.command_frame.specs.Report.{Refuses, Report, Verdict, Writes}

@@ -1,4 +1,4 @@
--- What is told of each fault of a line.
+-- What is told of a line of a script or of a modules file that is refused.
 use Rattle.command_frame.specs.declared.fault.FaultStatus.{FaultStatus}
 use Rattle.command_frame.specs.declared.fault.FaultStatus.TheVariants.{Malformed, PastLimit}
 use Rattle.command_frame.specs.Told.{Told}

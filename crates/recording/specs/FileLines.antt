@@ -1,4 +1,5 @@
--- What the lines of a modules file and of a script say, and which of them is the first with a fault.
+-- The lines of a file say a job behind the job before it; its first line with a fault there is
+-- refused.
 use Rattle.std.specs.Prelude.{ℕ, List, [], ◌∷◌, ◌++◌, Option, None}
 use Rattle.std.specs.Option.{option_map}
 use Rattle.command_frame.specs.Report.{Report, Writes}

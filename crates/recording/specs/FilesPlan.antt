@@ -1,5 +1,7 @@
--- Reading the files of a recording, one after another, and the job that they say.
-use Rattle.std.specs.Prelude.{ℕ, List, [], ◌∷◌, ◌++◌, Option, Some, None, unwrap_or}
+-- Reading the files of a recording, one after another, and the job that they say. The modules file
+-- comes first, and then the scripts, each of them the next thread's; then what is done with the job
+-- goes on. The job that files of a folder say.
+use Rattle.std.specs.Prelude.{ℕ, ◌+◌, List, [], ◌∷◌, ◌++◌, length, Option, Some, None, unwrap_or}
 use Rattle.hp_outside.specs.Folder.{Folder, file_of}
 use Rattle.hp_outside.specs.Lines.{lines_of}
 use Rattle.command_frame.specs.Plan.{Lines, Plan}
@@ -37,21 +39,6 @@ modules_named (Some modules) = modules ∷ []
 abbrev pub files_named : Option (List ℕ) → List (List ℕ) → List (List ℕ)
 files_named modules names = modules_named modules ++ names
 
--- the first files of a run: one, the scripts, the modules file, and the modules file with the scripts behind it
-abbrev pub file_front : FileKind → List ℕ → Job → Front
-file_front kind name job = record { names = name ∷ []; plan = file_plan kind name job }
-
-abbrev pub scripts_front : List (List ℕ) → Job → Front
-scripts_front names job = record { names = names; plan = scripts_plan names job }
-
-abbrev pub modules_front : Option (List ℕ) → Job → Front
-modules_front modules job
-    = record { names = modules_named modules; plan = modules_plan modules job }
-
-abbrev pub files_front : Option (List ℕ) → List (List ℕ) → Job → Front
-files_front modules names job
-    = record { names = files_named modules names; plan = files_plan modules names job }
-
 -- the lines of a named file; none where the folder lacks it
 abbrev pub lines_in : Folder → List ℕ → List (List ℕ)
 lines_in folder name = lines_of (unwrap_or (file_of folder name) [])
@@ -71,3 +58,36 @@ modules_in folder (Some modules) job = with_lines Modules job (lines_in folder m
 abbrev pub job_in : Folder → Option (List ℕ) → List (List ℕ) → ℕ → Job
 job_in folder modules names limit = scripts_in folder names
     (modules_in folder modules (no_job limit))
+
+-- the first files of a run: one, the scripts, the modules file, and the modules file with the scripts behind it
+abbrev pub file_front : FileKind → List ℕ → Job → Front
+file_front kind name job = record {
+  names = name ∷ [];
+  plan = file_plan kind name job;
+  gives = λ folder. with_lines kind job (lines_in folder name);
+  threads = length job.scripts;
+}
+
+abbrev pub scripts_front : List (List ℕ) → Job → Front
+scripts_front names job = record {
+  names = names;
+  plan = scripts_plan names job;
+  gives = λ folder. scripts_in folder names job;
+  threads = length job.scripts + length names;
+}
+
+abbrev pub modules_front : Option (List ℕ) → Job → Front
+modules_front modules job = record {
+  names = modules_named modules;
+  plan = modules_plan modules job;
+  gives = λ folder. modules_in folder modules job;
+  threads = length job.scripts;
+}
+
+abbrev pub files_front : Option (List ℕ) → List (List ℕ) → Job → Front
+files_front modules names job = record {
+  names = files_named modules names;
+  plan = files_plan modules names job;
+  gives = λ folder. scripts_in folder names (modules_in folder modules job);
+  threads = length job.scripts + length names;
+}

@@ -1,9 +1,12 @@
--- What reading the first files of a run comes to.
-use Rattle.std.specs.Prelude.{◌≡◌, ◌≢◌, ℕ, List, [], ◌++◌, Option, Result, Ok, Err}
+-- What reading the first files of a run comes to. Whatever a run from the files that are left comes
+-- to, the whole run may come to, and both give one job, by one call for each file; nothing is
+-- written while files are read.
+use Rattle.std.specs.Prelude.{◌≡◌, ◌≢◌, ℕ, ◌+◌, List, [], ◌++◌, length, Option, Result, Ok, Err}
 use Rattle.hp_outside.specs.declared.store.Store as store
 use Rattle.hp_outside.specs.declared.sink.Sink as sink
 use Rattle.hp_outside.specs.Faults.{Rose}
 use Rattle.hp_outside.specs.Folder.{Folder}
+use Rattle.hp_outside.specs.Taken.{WhereTold}
 use Rattle.command_frame.specs.declared.desk.Desk.{Desk}
 use Rattle.command_frame.specs.declared.halt.Halt.{Halt}
 use Rattle.command_frame.specs.Answer.{Answer}
@@ -16,22 +19,34 @@ use Rattle.command_frame.specs.RunsTo.{Shown, Taken, shown, status_of, taken}
 use Rattle.command_frame.specs.Texts.{Texts, texts_of}
 use Rattle.record_scripts.specs.Job.{Job}
 
--- the first files of a run: their names, and what is done with them and then with the job that they give
+-- the first files of a run: their names, what is done with them and then with the job that they give, the job that those of a
+-- folder give, and how many scripts it has
 pub record Front : Type 0 where
   pub names : List (List ℕ)
   pub plan : (Job → Plan) → Plan
+  pub gives : Folder → Job
+  pub threads : ℕ
 
 -- no files, behind those that have given this job
 abbrev pub read_to : Job → Front
-read_to job = record { names = []; plan = λ next. next job }
+read_to job = record {
+  names = [];
+  plan = λ next. next job;
+  gives = λ folder. job;
+  threads = length job.scripts;
+}
 
--- whatever a run comes to that begins with the second files, a run that begins with the first ones may come to
-abbrev pub LeadsTo : Texts → Bounds → Option Folder → Front → Moment → Front → Moment → Type 0
-LeadsTo texts bounds files front before left now =
-    (last : List ℕ) (names : List (List ℕ)) (next : Job → Plan)
-    → (here : List ℕ) × ((later : Moment) (answer : Answer)
-    → Ran texts bounds files here (left.names ++ names) (left.plan next) now later answer
-    → Ran texts bounds files last (front.names ++ names) (front.plan next) before later answer)
+-- whatever a run comes to that begins with the second files, a run that begins with the first ones may come to; both give the
+-- same job, and the store was called once for each file that only the first ones have
+pub record LeadsTo (texts : Texts) (bounds : Bounds) (files : Option Folder) (front : Front)
+    (before : Moment) (left : Front) (now : Moment) : Type 0 where
+  pub runs : (last : List ℕ) (names : List (List ℕ)) (next : Job → Plan)
+      → (here : List ℕ) × ((later : Moment) (answer : Answer)
+      → Ran texts bounds files here (left.names ++ names) (left.plan next) now later answer
+      → Ran texts bounds files last (front.names ++ names) (front.plan next) before later answer)
+  pub gives : WhereTold files (λ folder. left.gives folder ≡ front.gives folder)
+  pub threads : left.threads ≡ front.threads
+  pub opens : now.opens + length left.names ≡ before.opens + length front.names
 
 -- the files were read, so that the run goes on with their job; or the run has ended
 abbrev pub GoesOn : Texts → Bounds → Option Folder → Front → Moment → Moment → Result Job Halt

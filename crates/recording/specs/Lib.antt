@@ -2,6 +2,7 @@ pub mod RecordWords
 pub mod Requests
 pub mod FaultTold
 pub mod FileLines
+pub mod FileStart
 pub mod FrontTaken
 pub mod FrontRead
 pub mod FilesPlan

@@ -1,4 +1,9 @@
--- What is written of a recording by threads.
+-- What is written of a recording by threads. The text of a recording is the trace of a job in an
+-- order, and behind it the summary of that order where it is asked for. A text is recorded where
+-- the order that it spells is an interleaving of the scripts, and the text is that of this order:
+-- each event stands in it once, those of a thread in the order of its script, and those of a
+-- reallocation side by side; its figures are those of the scripts, and those that are told of the
+-- text once it is interpreted.
 use Rattle.std.specs.Prelude.{◌≡◌, ℕ, List, ◌++◌, Bool, true, false}
 use Rattle.record_scripts.specs.Job.{Job}
 use Rattle.record_book.specs.Orders.{IsInterleaving}

@@ -1,4 +1,8 @@
--- What a run may come to, whatever the store and the threads do.
+-- What a run may come to, whatever the store and the threads do. What a run may come to. At status
+-- 0 the output may be written of a job: one of as many scripts as are named, and where files are
+-- told, what they say. Or it is the line for a trace, which where files are told is a recording of
+-- what they say, of so many events. Or the trace is none, and the message names the line behind
+-- which it breaks off.
 use Rattle.std.specs.Prelude.{◌≡◌, ◌+◌, ◌⊎◌, ℕ, Bool, List, [], ◌++◌, length, Option, None, Some}
 use Rattle.hp_outside.specs.Folder.{Folder, file_of}
 use Rattle.hp_outside.specs.Taken.{WhereTold}

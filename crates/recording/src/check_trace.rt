@@ -25,6 +25,6 @@ pub fn check_trace<S: Store, O: Sink>(
         store.old store.new out.old out.new result }
 {
     let check = OrderCheck::new(desk.alloc, scripts.share()?)?;
-    let mut reader = TraceReader { check };
-    run_one_file(desk, name, &mut reader, store, out)
+    let reader = TraceReader { check };
+    run_one_file(desk, name, reader, store, out)
 }

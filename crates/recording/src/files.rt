@@ -1,10 +1,10 @@
 //! Reading the named files of a recording in their order. What their lines say is the business of the reader.
-ghost use Rattle.std.specs.Prelude.{◌≡◌, ℕ, ◌+◌, ◌-◌, ◌^◌, ◌<◌, ◌≤◌, List, [], ◌∷◌, length, map, IfOk};
+ghost use Rattle.std.specs.Prelude.{◌≡◌, ◌+◌, ◌-◌, ◌^◌, ◌<◌, ◌≤◌, length, map};
 ghost use Rattle.std.specs.Option.{option_copied};
-ghost use Rattle.hp_outside.specs.Taken.{WhereTold};
 ghost use Rattle.recording.specs.declared.reader.FileKind.TheVariants.{Script as ScriptFile};
 ghost use Rattle.recording.specs.FileLines.{begun, no_job};
-ghost use Rattle.recording.specs.FilesPlan.{file_front, files_front, job_in, modules_front, modules_in, scripts_front, scripts_in};
+ghost use Rattle.recording.specs.FilesPlan.{file_front, files_front, modules_front, scripts_front};
+ghost use Rattle.recording.specs.FileStart.{HasLimits};
 ghost use Rattle.recording.specs.FrontRead.{ReadsFront};
 
 use crate::one_file::{NamedFile, read_file};
@@ -38,11 +38,6 @@ pub fn read_files<S: Store, O: Sink>(
         (files_front (option_copied files.now.modules)
         (map (λ name. name.now) files.now.scripts.now) (no_job desk.now.limits.order))
         store.old store.new out.old out.new result }
-    ensures job { IfOk result (λ job. WhereTold (S.files store.old) (λ folder. job
-        ≡ job_in folder (option_copied files.now.modules)
-        (map (λ name. name.now) files.now.scripts.now) desk.now.limits.order)) }
-    ensures count { IfOk result (λ job. length job.scripts ≡ length files.now.scripts.now) }
-    ensures opens { IfOk result (λ job. S.opens store.new ≤ S.opens store.old + 65) }
 {
     let mut lines = LineReader::new(desk.alloc, &desk.limits)?;
     let scripts = Scripts::new(desk.alloc, desk.limits.order);
@@ -63,18 +58,11 @@ fn read_modules<S: Store, O: Sink>(
     out: &mut O,
 ) -> Result<Scripts, Halt>
     requires opens { S.opens store.old < 2 ^ 63 }
-    requires input { lines.old.input ≡ desk.now.limits.input }
-    requires line { lines.old.line_limit ≡ desk.now.limits.line }
+    requires limits { HasLimits lines.old desk.now.limits }
     ensures read { ReadsFront S.Store O.Sink desk.now
         (modules_front (option_copied modules.entry) scripts)
         store.old store.new out.old out.new result }
-    ensures job { IfOk result (λ job.
-        WhereTold (S.files store.old)
-        (λ folder. job ≡ modules_in folder (option_copied modules.entry) scripts)) }
-    ensures count { IfOk result (λ job. length job.scripts ≡ length scripts.scripts) }
-    ensures opens { IfOk result (λ job. S.opens store.new ≤ S.opens store.old + 1) }
-    ensures input { lines.new.input ≡ lines.old.input }
-    ensures line { lines.new.line_limit ≡ lines.old.line_limit }
+    ensures limits { HasLimits lines.new desk.now.limits }
 {
     match modules {
         None => Ok(scripts),
@@ -99,17 +87,10 @@ fn read_scripts<S: Store, O: Sink>(
 ) -> Result<Scripts, Halt>
     requires opens { S.opens store.old < 2 ^ 63 + 1 }
     requires few { length scripts.scripts + length names.now ≤ 64 }
-    requires input { lines.old.input ≡ desk.now.limits.input }
-    requires line { lines.old.line_limit ≡ desk.now.limits.line }
+    requires limits { HasLimits lines.old desk.now.limits }
     ensures read { ReadsFront S.Store O.Sink desk.now
         (scripts_front (map (λ name. name.now) names.now) scripts)
         store.old store.new out.old out.new result }
-    ensures job { IfOk result (λ job.
-        WhereTold (S.files store.old)
-        (λ folder. job ≡ scripts_in folder (map (λ name. name.now) names.now) scripts)) }
-    ensures count { IfOk result
-        (λ job. length job.scripts ≡ length scripts.scripts + length names.now) }
-    ensures opens { IfOk result (λ job. S.opens store.new ≡ S.opens store.old + length names.now) }
 {
     let mut scripts = scripts;
     'each_name: for name in names {
@@ -132,18 +113,11 @@ fn read_script<S: Store, O: Sink>(
 ) -> Result<Scripts, Halt>
     requires opens { S.opens store.old < 2 ^ 64 - 1 }
     requires few { length scripts.scripts < 64 }
-    requires input { lines.old.input ≡ desk.now.limits.input }
-    requires line { lines.old.line_limit ≡ desk.now.limits.line }
+    requires limits { HasLimits lines.old desk.now.limits }
     ensures read { ReadsFront S.Store O.Sink desk.now
         (file_front ScriptFile name.now (begun scripts))
         store.old store.new out.old out.new result }
-    ensures job { IfOk result (λ job. WhereTold (S.files store.old) (λ folder.
-        (names : List (List ℕ))
-        → scripts_in folder names job ≡ scripts_in folder (name.now ∷ names) scripts)) }
-    ensures count { IfOk result (λ job. length job.scripts ≡ length scripts.scripts + 1) }
-    ensures opens { IfOk result (λ job. S.opens store.new ≡ S.opens store.old + 1) }
-    ensures input { lines.new.input ≡ lines.old.input }
-    ensures line { lines.new.line_limit ≡ lines.old.line_limit }
+    ensures limits { HasLimits lines.new desk.now.limits }
 {
     let mut scripts = scripts;
     scripts.begin()?;

@@ -1,9 +1,8 @@
 //! Reading one named file of a recording. Which files there are is no part of it.
-ghost use Rattle.std.specs.Prelude.{◌≡◌, ℕ, ◌+◌, ◌-◌, ◌^◌, ◌<◌, List, length, IfOk};
-ghost use Rattle.hp_outside.specs.Taken.{WhereTold};
+ghost use Rattle.std.specs.Prelude.{◌≡◌, ◌-◌, ◌^◌, ◌<◌, length};
 ghost use Rattle.recording.specs.declared.reader.FileKind.TheVariants.{Script};
-ghost use Rattle.recording.specs.FileLines.{with_lines};
-ghost use Rattle.recording.specs.FilesPlan.{file_front, lines_in};
+ghost use Rattle.recording.specs.FilesPlan.{file_front};
+ghost use Rattle.recording.specs.FileStart.{BeginsWith, HasLimits};
 ghost use Rattle.recording.specs.FrontRead.{ReadsFront};
 
 use crate::reader::{FileKind, FileReader, Start};
@@ -30,17 +29,11 @@ pub fn read_file<S: Store, O: Sink>(
 ) -> Result<Scripts, Halt>
     requires opens { S.opens store.old < 2 ^ 64 - 1 }
     requires open { file.now.kind ≡ Script → 0 < length scripts.scripts }
-    requires input { lines.old.input ≡ desk.now.limits.input }
-    requires line { lines.old.line_limit ≡ desk.now.limits.line }
+    requires limits { HasLimits lines.old desk.now.limits }
     ensures read { ReadsFront S.Store O.Sink desk.now
         (file_front file.now.kind file.now.name.now scripts)
         store.old store.new out.old out.new result }
-    ensures lines { IfOk result (λ job. (taken : List (List ℕ))
-        × ((job ≡ with_lines file.now.kind scripts taken)
-        × WhereTold (S.files store.old) (λ folder. taken ≡ lines_in folder file.now.name.now))) }
-    ensures opens { IfOk result (λ job. S.opens store.new ≡ S.opens store.old + 1) }
-    ensures input { lines.new.input ≡ lines.old.input }
-    ensures line { lines.new.line_limit ≡ lines.old.line_limit }
+    ensures limits { HasLimits lines.new desk.now.limits }
 {
     read_behind::<Brand, S, O>(desk, lines, file, scripts, store, out)
 }
@@ -55,19 +48,11 @@ fn read_behind<B: Start, S: Store, O: Sink>(
     out: &mut O,
 ) -> Result<Scripts, Halt>
     requires opens { S.opens store.old < 2 ^ 64 - 1 }
-    requires open { file.now.kind ≡ Script → 0 < length scripts.scripts }
-    requires input { lines.old.input ≡ desk.now.limits.input }
-    requires line { lines.old.line_limit ≡ desk.now.limits.line }
-    requires kind { file.now.kind ≡ B.kind }
-    requires job { scripts ≡ B.job }
+    requires begins { BeginsWith B.kind B.job file.now.kind scripts }
+    requires limits { HasLimits lines.old desk.now.limits }
     ensures read { ReadsFront S.Store O.Sink desk.now (file_front B.kind file.now.name.now B.job)
         store.old store.new out.old out.new result }
-    ensures lines { IfOk result
-        (λ job. (taken : List (List ℕ)) × ((job ≡ with_lines B.kind B.job taken)
-        × WhereTold (S.files store.old) (λ folder. taken ≡ lines_in folder file.now.name.now))) }
-    ensures opens { IfOk result (λ job. S.opens store.new ≡ S.opens store.old + 1) }
-    ensures input { lines.new.input ≡ lines.old.input }
-    ensures line { lines.new.line_limit ≡ lines.old.line_limit }
+    ensures limits { HasLimits lines.new desk.now.limits }
 {
     let mut reader = FileReader::<B> {
         kind: file.kind,

@@ -2,10 +2,10 @@
 ghost use Rattle.std.specs.Prelude.{◌≡◌, ◌<◌, length};
 ghost use Rattle.record_scripts.specs.Job.{Job};
 
-use crate::ready_lines::take_lines;
+use crate::ready_lines::take_front;
 use crate::refusal::RefusedLine;
 use crate::take_line::take_line;
-use command_frame::{Batch, LineRefusal, LineTaker};
+use command_frame::{LineRefusal, LineTaker};
 use record_scripts::{ScriptFault, Scripts};
 use std::marker::{Brand, PhantomData};
 
@@ -73,10 +73,11 @@ impl<B: Start> LineTaker for FileReader<B> {
         Ok(())
     }
 
-    fn batch(&mut self, ready: &[u8], _output: &mut Vec<u8>) -> Batch {
+    #[inline(always)]
+    fn front(&mut self, ready: &[u8], _output: &mut Vec<u8>) -> Option<usize> {
         match self.kind {
-            FileKind::Modules => Batch { bytes: 0, lines: 0 },
-            FileKind::Script => take_lines(&mut self.scripts, ready),
+            FileKind::Modules => None,
+            FileKind::Script => take_front(&mut self.scripts, ready),
         }
     }
 }

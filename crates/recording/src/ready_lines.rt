@@ -1,37 +1,29 @@
-//! Lines of a script, taken many at a time where their bytes are at hand. Any line may be left to be taken alone.
-ghost use Rattle.std.specs.Prelude.{◌≡◌, ◌<◌, ◌≤◌, length, take, get_or, IfSome};
+//! The line of a script at the front of bytes that are at hand. Any line may be left to be taken alone.
+ghost use Rattle.std.specs.Prelude.{◌≡◌, ◌<◌, length, take, get_or, IfNone, IfSome};
 ghost use Rattle.hp_outside.specs.WholeLines.{IsLineText};
 ghost use Rattle.recording.specs.declared.reader.FileKind.TheVariants.{Script};
 ghost use Rattle.recording.specs.FrontTaken.{TakesFront};
 
-use command_frame::Batch;
 use record_scripts::Scripts;
 
 /// The most bytes of a line that is taken so, with its line feed.
 const LONGEST: usize = 64;
 
-/// Takes lines at the front of the bytes into the script that is open, as long as each has fewer than 64 bytes and no fault.
-/// Where memory is wanting for a line, it is left.
-pub fn take_lines(scripts: &mut Scripts, ready: &[u8]) -> Batch
+/// Takes the line at the front of the bytes into the script that is open, where it has fewer than 64 bytes and no fault, and
+/// answers how many bytes it has with its line feed. Where memory is wanting for it, it is left.
+#[inline(always)]
+pub fn take_front(scripts: &mut Scripts, ready: &[u8]) -> Option<usize>
     requires { 0 < length scripts.old.scripts }
-    ensures taken { TakesFront Script scripts.old scripts.new ready.now result.bytes result.lines }
-    ensures held { result.bytes ≤ length ready.now }
+    ensures taken { IfSome result
+        (λ bytes. TakesFront Script scripts.old scripts.new ready.now bytes) }
+    ensures untaken { IfNone result (scripts.new ≡ scripts.old) }
     ensures count { length scripts.new.scripts ≡ length scripts.old.scripts }
 {
-    let mut bytes = 0;
-    let mut lines = 0;
-    'lines: loop {
-        let (_, rest) = ready.split_at(bytes);
-        let Some(end) = line_end(rest) else {
-            return Batch { bytes, lines };
-        };
-        let (text, _) = rest.split_at(end);
-        match scripts.line(text) {
-            Ok(()) => {}
-            Err(_) => return Batch { bytes, lines },
-        }
-        bytes += end + 1;
-        lines += 1;
+    let end = line_end(ready)?;
+    let (line, _) = ready.split_at(end);
+    match scripts.line(line) {
+        Ok(()) => Some(end + 1),
+        Err(_) => None,
     }
 }
 

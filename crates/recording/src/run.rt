@@ -10,7 +10,7 @@ ghost use Rattle.recording.specs.Texts.{heaprec_texts as the_texts};
 use crate::open_gate::OpenGate;
 use crate::run_words::run_words;
 use crate::texts::heaprec_texts;
-use command_frame::{Desk, Halt, Outcome, deliver};
+use command_frame::{Desk, Halt, deliver};
 use hp_num::NoMemory;
 use hp_outside::{Limits, Sink, Store};
 use recorder::Gate;
@@ -61,8 +61,8 @@ pub fn heaprec_run<R: Threads + Wait + Sync, S: Store, O: Sink, E: Sink, G: Gate
         limits: *limits,
         texts: heaprec_texts(),
     };
-    let outcome = run_words(rt, &desk, words, store, out, gate);
-    deliver(&outcome, &desk.texts, out, err)
+    let ran = run_words(rt, &desk, words, store, out, gate);
+    deliver(ran, &desk.texts, out, err)
 }
 
 /// Runs `heaprec` with the limits of the program and a gate that does nothing, and answers that the program ends with the status
@@ -92,8 +92,8 @@ pub fn heaprec_main<R: Threads + Wait + Sync, S: Store, O: Sink, E: Sink>(
             ExitCode::from(status)
         }
         Err(NoMemory) => {
-            let outcome = Outcome::new(alloc, Err(Halt::no_memory()));
-            let status = deliver(&outcome, &heaprec_texts(), out, err);
+            let ran: Result<Vec<u8>, Halt> = Err(Halt::no_memory());
+            let status = deliver(ran, &heaprec_texts(), out, err);
             ExitCode::from(status)
         }
     }

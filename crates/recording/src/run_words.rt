@@ -1,7 +1,6 @@
 //! From the words and the files to what is to be delivered. How that is written is the business of the frame.
 ghost use Rattle.std.specs.Prelude.{◌≡◌, ◌^◌, ◌<◌, ◌≤◌, [], length, map, string_bytes, Some};
 ghost use Rattle.command_frame.specs.FirstFault.{bounds_of};
-ghost use Rattle.command_frame.specs.OutcomeAnswer.{outcome_answer};
 ghost use Rattle.command_frame.specs.RunsTo.{rest_of, shown, taken};
 ghost use Rattle.command_frame.specs.Texts.{texts_of};
 ghost use Rattle.recording.specs.Recorded.{IsRecorded};
@@ -14,7 +13,7 @@ use crate::check_trace::check_trace;
 use crate::files::{ScriptFiles, read_files};
 use crate::record_text::record_text;
 use crate::request::{RecordRequest, RecordTask};
-use command_frame::{Desk, Halt, Outcome};
+use command_frame::{Desk, Halt};
 use command_words::WordsFault;
 use hp_outside::{Sink, Store};
 use order_check::front_laws;
@@ -32,23 +31,20 @@ pub fn run_words<R: Threads + Wait + Sync, S: Store, O: Sink, G: Gate + Sync>(
     store: &mut S,
     out: &mut O,
     gate: &G,
-) -> Outcome
+) -> Result<Vec<u8>, Halt>
     requires opens { S.opens store.old < 2 ^ 63 }
     requires texts { texts_of desk.now.texts ≡ heaprec_texts }
     ensures run { WordsRecord IsRecorded (bounds_of desk.now.limits) desk.now.limits.order
         (record_asked (map string_bytes words.now)) (shown S.Store store.old)
         (shown S.Store store.new)
-        (taken O.Sink out.old) (taken O.Sink out.new) (outcome_answer heaprec_texts result) }
+        (taken O.Sink out.old) (taken O.Sink out.new) (rest_of heaprec_texts result) }
     ensures none { map string_bytes words.now ≡ []
-        → (outcome_answer heaprec_texts result).status ≡ 2 }
+        → (rest_of heaprec_texts result).status ≡ 2 }
 {
     match RecordRequest::read(desk.alloc, words) {
-        Ok(request) => Outcome::new(
-            desk.alloc,
-            run_request(rt, desk, &request, store, out, gate),
-        ),
-        Err(WordsFault::NotTaken) => Outcome::new(desk.alloc, Err(Halt::usage())),
-        Err(WordsFault::NoMemory) => Outcome::new(desk.alloc, Err(Halt::no_memory())),
+        Ok(request) => run_request(rt, desk, &request, store, out, gate),
+        Err(WordsFault::NotTaken) => Err(Halt::usage()),
+        Err(WordsFault::NoMemory) => Err(Halt::no_memory()),
     }
 }
 

@@ -45,12 +45,16 @@ impl LineTaker for TraceReader {
 }
 
 impl LineReport for TraceReader {
-    fn finish(&mut self, alloc: Global) -> Result<Vec<u8>, LineRefusal<NotRecorded>> {
+    type Rest = Vec<u8>;
+
+    fn finish(self, alloc: Global) -> Result<Vec<u8>, LineRefusal<NotRecorded>> {
         match self.check.end(true) {
             Some(events) => Ok(recording_of(alloc, events)?),
             None => Err(LineRefusal::Fault(NotRecorded)),
         }
     }
+
+    fn close(self) {}
 }
 
 /// The line that says of how many events a trace is a recording.

@@ -1,4 +1,5 @@
--- Traces without a fault.
+-- Traces without a fault. Lines have no fault behind earlier ones where each has none after those
+-- before it, neither in the tables nor in the figures of its event, and their end has none.
 use Rattle.std.specs.Prelude.{◌≡◌, ℕ, List, [], ◌∷◌, ◌++◌, Option, Some, None}
 use Rattle.live_ledger.specs.declared.event.Event.{Event}
 use Rattle.live_ledger.specs.declared.event.EventFault.{EventFault}

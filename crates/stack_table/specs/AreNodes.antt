@@ -1,4 +1,5 @@
--- What holds of the nodes of every table.
+-- What holds of the nodes of every table. Of all nodes holds that parents have lower numbers, and
+-- that each stack has its node's instruction before its parent's stack and at most 4,096 frames.
 use Rattle.std.specs.Prelude.{◌≡◌, ℕ, ◌+◌, ◌≤◌, List, [], ◌∷◌, length, Some}
 use Rattle.stack_table.specs.Node.{Node, node_at}
 use Rattle.stack_table.specs.Stack.{frame_count, most_frames, stack}

@@ -1,4 +1,5 @@
--- When a node may be added.
+-- A node can be added where its parent is held, its stack has at most 4,096 frames, and there is a
+-- number for it.
 use Rattle.std.specs.Prelude.{ℕ, ◌+◌, ◌-◌, ◌^◌, ◌<◌, ◌≤◌, List, length}
 use Rattle.stack_table.specs.Node.{Node}
 use Rattle.stack_table.specs.Stack.{frame_count, most_frames}

@@ -1,4 +1,4 @@
--- That a list of nodes only grows.
+-- That a list of nodes only grows. Nodes continue others where they are those and more at the end.
 use Rattle.std.specs.Prelude.{◌≡◌, ℕ, ◌≤◌, List, ◌++◌, length, Some}
 use Rattle.stack_table.specs.Node.{Node, node_at}
 use Rattle.stack_table.specs.NodeNumber.{node_number}

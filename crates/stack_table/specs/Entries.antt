@@ -1,4 +1,4 @@
--- How the nodes are kept: each entry also has the frames of its whole stack.
+-- How the nodes are kept: each entry also has the frames of its whole stack, for private clauses.
 use Rattle.std.specs.Prelude.{◌≡◌, ℕ, ◌+◌, ◌-◌, ◌^◌, ◌≤◌, List, length, map, slice_get, Some}
 use Rattle.stack_table.specs.declared.node_entry.NodeEntry.{NodeEntry}
 use Rattle.stack_table.specs.Node.{Node}

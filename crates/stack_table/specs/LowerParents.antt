@@ -1,4 +1,4 @@
--- How nodes hang together.
+-- How nodes hang together. Parents have lower numbers than their nodes.
 use Rattle.std.specs.Prelude.{◌≡◌, ℕ, ◌<◌, List, Some}
 use Rattle.stack_table.specs.Node.{Node, node_at}
 

@@ -1,4 +1,5 @@
--- The nodes of a trace, by their numbers.
+-- The nodes of a trace, by their numbers. A node has an instruction, the number of its parent, 0
+-- for none, and so many frames; node n is the n-th of the list, from 1.
 use Rattle.std.specs.Prelude.{ℕ, ◌==◌, ◌-◌, List, Option, None, if◌then◌else◌, slice_get}
 
 -- an instruction pointer, the number of the parent that it was called from, where 0 is none, and how many frames

@@ -1,4 +1,4 @@
--- What the index of the nodes has.
+-- What the index of the nodes has, for private clauses.
 use Rattle.std.specs.Prelude.{◌≡◌, ℕ, ◌≤◌, ◌==◌, ◌&&◌, Bool, false, List, length, Option, Some}
 use Rattle.std.specs.HashMap.{get}
 use Rattle.stack_table.specs.declared.node_index.NodeIndex.{NodeIndex}

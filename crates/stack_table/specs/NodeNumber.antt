@@ -1,4 +1,4 @@
--- The number of a node, by its instruction pointer and parent.
+-- The number of an instruction and a parent is that of the first node that has both.
 use Rattle.std.specs.Prelude.{ℕ, ◌+◌, ◌==◌, ◌&&◌, Bool, List, Option, position}
 use Rattle.std.specs.Option.{option_map}
 use Rattle.stack_table.specs.Node.{Node}

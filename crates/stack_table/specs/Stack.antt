@@ -1,4 +1,5 @@
--- Stacks: the instruction pointers from a node outwards, and the frames that they stand for.
+-- Stacks: the instruction pointers from a node outwards, and the frames that they stand for. The
+-- stack of a node is its instruction, and then the stack of its parent; that of node 0 is empty.
 use Rattle.std.specs.Prelude.{ℕ, ◌==◌, ◌+◌, List, [], ◌∷◌, length, reverse, map, sum_by, if◌then◌else◌}
 use Rattle.stack_table.specs.Node.{Node}
 

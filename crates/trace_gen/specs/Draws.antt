@@ -1,4 +1,4 @@
--- The numbers that a seed gives.
+-- The states that a seed goes through, and the number below a bound that each gives.
 use Rattle.std.specs.Prelude.{ℕ, zero, suc, ◌+◌, ◌*◌, ◌/◌, ◌%◌}
 
 -- the state behind another

@@ -1,4 +1,5 @@
--- The trace of a seed: so many names, instructions, stacks of one frame more or less and infos, and then the events.
+-- The trace of a seed: so many names, instructions, stacks of one frame more or less and infos, and
+-- then the events. The lines of a generated trace, and its text.
 use Rattle.std.specs.Prelude.{ℕ, ◌+◌, List, ◌∷◌, ◌++◌, codes, decimal, map, if◌then◌else◌}
 use Rattle.std.specs.List.{range_with_len}
 use Rattle.hp_num.specs.Hexadecimal.{hexadecimal}

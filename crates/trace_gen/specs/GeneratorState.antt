@@ -1,4 +1,6 @@
--- Where a generator stands in its trace.
+-- Where a generator stands: what it has drawn, which blocks are live, and which lines are yet to be
+-- made. It gives the next line where the lines yet to be made are that line and those that then
+-- are; and next lines likewise, as one text.
 use Rattle.std.specs.Prelude.{◌≡◌, ℕ, ◌+◌, ◌-◌, ◌*◌, ◌<◌, ◌≤◌, ◌==◌, List, [], ◌∷◌, ◌++◌, codes, length, slice_index_or, All, Bool, true, false, if◌then◌else◌}
 use Rattle.hp_outside.specs.WholeLines.{IsLineText, text_of_lines}
 use Rattle.trace_gen.specs.Sizes.{Sizes, sizes_of}

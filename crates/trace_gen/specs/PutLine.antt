@@ -1,4 +1,5 @@
--- Lines as they are written.
+-- Lines as they are written. A line is put behind what stood there where its bytes and its line
+-- feed are, no line feed stands in it, and it is short.
 use Rattle.std.specs.Prelude.{◌≡◌, ℕ, ◌≤◌, List, [], ◌∷◌, ◌++◌, length}
 use Rattle.hp_outside.specs.WholeLines.{IsLineText}
 

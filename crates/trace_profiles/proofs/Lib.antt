@@ -1,4 +1,4 @@
 mod LivesLemmas
 mod NameLemmas
 mod MassifLemmas
-mod SampleLemmas
+mod SamplingLemmas

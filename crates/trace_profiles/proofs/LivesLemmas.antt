@@ -1,5 +1,5 @@
 -- Peaks and lifetimes that take a step together.
-use Rattle.std.proofs.Common.{◌≡◌, ℕ, ◌+◌, ◌^◌, ◌<◌, ◌≤◌, List, [], ◌∷◌, ◌++◌, length, ap, sym, subst, ◌∙◌, append-nil, length-append, arith}
+use Rattle.std.proofs.Common.{◌≡◌, ◌+◌, ◌^◌, ◌<◌, ◌≤◌, List, [], ◌∷◌, ◌++◌, length, ap, sym, subst, ◌∙◌, append-nil, length-append, arith}
 use Rattle.dhat_metrics.specs.Changes.{IsOfHeld}
 use Rattle.dhat_metrics.specs.LifeState as lives
 use Rattle.dhat_metrics.specs.LifeState.{LifeState}
@@ -34,7 +34,7 @@ stack_followed tables old new before after sound grown longer peaks stands =
     }
 
 -- the line of an event has three bytes at least
-line_length : (event : Event) → 3 ≤ least_length_of event
+pub line_length : (event : Event) → 3 ≤ least_length_of event
 line_length (Alloc info stack bytes) = omega arith
 line_length (Free info stack bytes) = omega arith
 line_length (Tick ms) = omega arith
@@ -48,7 +48,7 @@ event_held tables peaks lifetimes (Tick ms) may = tt
 -- they have room for it
 pub event_few : (tables : TableState) (peaks : PeakState) (lifetimes : LifeState) (event : Event) → MayTake tables (lives_view peaks lifetimes) (step.Event event) → lifetimes.events < 2 ^ 32
 event_few tables peaks lifetimes event may =
-    omega (arith, line_length event, may.room, may.stands.lives.events_is, may.stands.peaks.ledger.figures.events_is)
+    omega (arith, line_length event, may.room, may.stands.lives.events_is, may.stands.peaks.ledger.whole.figures.events_is)
 
 -- and it is possible where the peaks took it
 pub event_possible : (tables : TableState) (old new : PeakState) (before : LifeState) (event : Event) → MayTake tables (lives_view old before) (step.Event event)
@@ -60,8 +60,8 @@ event_possible tables old new before event may takes =
       (
         may.stands.lives,
         record {
-          among = (new.ledger.infos, after.ledger.held);
-          no_fault = after.ledger.no_fault;
+          among = (new.ledger.infos, after.ledger.whole.held);
+          no_fault = after.ledger.whole.no_fault;
         },
       ),
     )

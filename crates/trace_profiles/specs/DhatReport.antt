@@ -1,4 +1,5 @@
--- What `dhat` makes of the lines of a trace.
+-- What `dhat` makes of the lines of a trace. `dhat` writes the profile of the lines' tables and
+-- events, in a line.
 use Rattle.std.specs.Prelude.{ℕ, List, [], ◌++◌, codes}
 use Rattle.dhat_json.specs.DhatValue.{dhat_text}
 use Rattle.dhat_trace.specs.DhatOf.{dhat_of}

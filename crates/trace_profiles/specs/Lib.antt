@@ -1,4 +1,4 @@
 pub mod DhatReport
 pub mod LivesView
 pub mod MassifReport
-pub mod Sampling
+pub mod SamplingView

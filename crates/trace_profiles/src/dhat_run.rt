@@ -10,8 +10,7 @@ use hp_num::NoMemory;
 use hp_outside::{Sink, Store};
 use ht_trace::Tables;
 use std::alloc::Global;
-use std::mem;
-use trace_reading::{Trace, TraceWriter, run_followed};
+use trace_reading::{TraceWriter, run_followed};
 
 /// Writes the profile and a line feed.
 #[derive(Clone, Copy)]
@@ -20,12 +19,12 @@ pub struct DhatWriter;
 impl TraceWriter<Lives> for DhatWriter {
     ghost use Rattle.trace_profiles.specs.DhatReport.{dhat_written};
 
+    type Rest = Vec<u8>;
+
     ghost text = { λ _. dhat_written };
 
-    fn write(&self, alloc: Global, trace: &mut Trace<Lives>) -> Result<Vec<u8>, NoMemory> {
-        let none = Lives::new(alloc)?;
-        let Lives { peaks, lifetimes } = mem::replace(&mut trace.follower, none);
-        let tables = mem::replace(&mut trace.tables, Tables::new(alloc));
+    fn write(&self, alloc: Global, tables: Tables, lives: Lives) -> Result<Vec<u8>, NoMemory> {
+        let Lives { peaks, lifetimes } = lives;
         let text = trace_profile_text(alloc, tables, peaks, lifetimes)?;
         let mut output = text.into_bytes();
         output.push(b'\n')?;

@@ -8,7 +8,7 @@ use command_frame::LineRefusal;
 use dhat_metrics::Lifetimes;
 use hp_num::NoMemory;
 use ht_trace::Tables;
-use live_ledger::{Event, EventFault, Ledger};
+use live_ledger::{Event, EventFault, TotalsLedger};
 use peak_costs::Peaks;
 use std::alloc::Global;
 use trace_reading::{Follower, take_event};
@@ -40,16 +40,15 @@ impl Follower for Lives {
 
     ghost faults = { ledger_faults };
 
-    // It makes `dhat` a tenth faster.
-    const APART: bool = true;
-
     #[inline(always)]
-    fn ledger(&self) -> &Ledger {
-        self.peaks.ledger()
+    fn ledger(&self) -> &TotalsLedger {
+        self.peaks.ledger().whole()
     }
 
     #[inline(always)]
     fn goes_on(&self) {}
+
+    fn close(self) {}
 
     fn stack(&mut self, _tables: &Tables) -> Result<(), NoMemory> {
         match self.peaks.grow_stack() {

@@ -3,19 +3,69 @@ ghost use Rattle.std.specs.Prelude.{◌≡◌, ◌^◌, ◌<◌, IfOk, [], ◌�
 ghost use Rattle.std.specs.Str.{bytes_eq};
 ghost use Rattle.intern_tables.specs.WithoutRepeats.{without_repeats};
 ghost use Rattle.command_frame.specs.RunsTo.{Runs};
-ghost use Rattle.trace_profiles.specs.MassifReport.{massif_plan};
 ghost use Rattle.massif_sample.specs.NameList.{names_in};
 ghost use Rattle.massif_sample.specs.SettingsIn.{settings_in};
+ghost use Rattle.trace_profiles.specs.MassifReport.{command_in, massif_plan};
 
-use crate::massif_reader::{MassifReader, Settled};
 use crate::name_list::{is_named, names_of};
-use command_frame::{Desk, Halt, run_one_file};
+use crate::sampling::{Sampling, Settled};
+use command_frame::{Desk, Halt};
 use cost_tree::FrameTest;
 use hp_num::NoMemory;
 use hp_outside::{Sink, Store};
+use ht_trace::Tables;
 use intern_tables::Names;
+use massif_file::put_profile;
 use massif_sample::SampleSettings;
 use std::alloc::Global;
+use std::marker::Brand;
+use trace_reading::{TraceWriter, run_followed};
+
+/// Writes the profile as a Massif file.
+#[derive(Clone, Copy)]
+pub struct MassifWriter;
+
+impl<A: Fn(&[u8]) -> bool, I: Fn(&[u8]) -> bool, T: Settled> TraceWriter<Sampling<A, I, T>>
+    for MassifWriter {
+    ghost use Rattle.trace_profiles.specs.MassifReport.{massif_written};
+
+    type Rest = Vec<u8>;
+
+    ghost text = { λ _. massif_written T.settings };
+
+    fn write(
+        &self,
+        alloc: Global,
+        tables: Tables,
+        sampling: Sampling<A, I, T>,
+    ) -> Result<Vec<u8>, NoMemory> {
+        let Some(sampler) = sampling.into_sampler() else {
+            return Err(NoMemory);
+        };
+        let profile = sampler.finish(command(&tables))?;
+        drop(tables);
+        let mut output = Vec::new(alloc);
+        put_profile(&profile, &mut output)?;
+        Ok(output)
+    }
+}
+
+/// The command of the tables' trace, and the empty text where it has none.
+fn command(tables: &Tables) -> &[u8]
+    ensures { result.now ≡ command_in tables.now }
+{
+    match tables.command() {
+        Some(text) => text,
+        None => b"",
+    }
+}
+
+/// A trace, and the settings of its profile.
+#[derive(Clone, Copy)]
+struct Profiled<'a> {
+    trace: &'a str,
+    settings: &'a SampleSettings<'a>,
+}
 
 /// Reads the named trace, and gives its profile by these settings, as a Massif file.
 pub fn run_massif<S: Store, O: Sink>(
@@ -30,20 +80,32 @@ pub fn run_massif<S: Store, O: Sink>(
         (massif_plan (settings_in settings.now) name.now)
         store.old store.new out.old out.new result }
 {
+    let profiled = Profiled {
+        trace: name,
+        settings,
+    };
+    run_settled::<Brand, S, O>(desk, &profiled, store, out)
+}
+
+/// The same, where `T` says what the settings are.
+fn run_settled<T: Settled, S: Store, O: Sink>(
+    desk: &Desk,
+    profiled: &Profiled,
+    store: &mut S,
+    out: &mut O,
+) -> Result<Vec<u8>, Halt>
+    requires opens { S.opens store.old < 2 ^ 63 }
+    requires settled { settings_in profiled.now.settings.now ≡ T.settings }
+    ensures { Runs S.Store O.Sink desk.now (profiled.now.trace.now ∷ [])
+        (massif_plan T.settings profiled.now.trace.now)
+        store.old store.new out.old out.new result }
+{
+    let settings = profiled.settings;
     let (alloc_fns, ignore_fns) = names_in_settings(desk.alloc, settings)?;
     let alloc_test = FrameTest::new(move |function: &[u8]| is_named(&alloc_fns, function));
     let ignore_test = FrameTest::new(move |function: &[u8]| is_named(&ignore_fns, function));
-    let mut reader = MassifReader::new(
-        desk.alloc,
-        settings.options,
-        alloc_test,
-        ignore_test,
-        *settings,
-    )?;
-    let ran = run_one_file(desk, name, &mut reader, store, out);
-    // By its parts: a proof goes through all parts of what an exit lets go.
-    reader.close();
-    ran
+    let sampling = Sampling::<_, _, T>::new(desk.alloc, settings.options, alloc_test, ignore_test)?;
+    run_followed(desk, profiled.trace, sampling, MassifWriter, store, out)
 }
 
 /// The names of both lists of functions, which the tests of names keep. `NoMemory` where memory is wanting.
@@ -56,8 +118,4 @@ fn names_in_settings(alloc: Global, settings: &SampleSettings) -> Result<(Names,
     let alloc_fns = names_of(alloc, settings.alloc_fns.as_bytes())?;
     let ignore_fns = names_of(alloc, settings.ignore_fns.as_bytes())?;
     Ok((alloc_fns, ignore_fns))
-}
-
-impl Settled for SampleSettings<'_> {
-    ghost settings = { settings_in };
 }

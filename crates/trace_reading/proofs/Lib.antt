@@ -1,4 +1,4 @@
 pub mod Laws
 mod ReadingLemmas
-mod BatchLemmas
+mod EventLemmas
 mod TextLemmas

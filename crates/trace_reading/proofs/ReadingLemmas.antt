@@ -1,11 +1,13 @@
 -- One step of tables and of a follower beside them.
-use Rattle.std.proofs.Common.{◌≡◌, ℕ, ◌+◌, ◌*◌, ◌^◌, ◌<◌, ◌≤◌, List, [], ◌∷◌, ◌++◌, length, take, drop, length-drop, length-append, None, refl, ap, ap₂, sym, subst, ◌∙◌, append-nil, arith}
+use Rattle.std.proofs.Common.{◌≡◌, ℕ, ◌+◌, ◌*◌, ◌^◌, ◌<◌, ◌≤◌, List, [], ◌∷◌, ◌++◌, length, take, length-append, None, Some, refl, ap, ap₂, sym, subst, ◌∙◌, append-nil, arith}
 use Rattle.std.proofs.lemmas.List.{take-append-le, take_all}
 use Rattle.std.specs.Option.{option_map, option_or, option_to_list}
 use Rattle.live_ledger.specs.declared.event.Event.{Event}
 use Rattle.live_ledger.specs.declared.event.Event.TheVariants.{Alloc, Free, Tick}
 use Rattle.peak_costs.specs.Peak as peaks
 use Rattle.peak_costs.specs.PeakState.{PeakState}
+use Rattle.peak_costs.specs.PeakTotals as totals
+use Rattle.peak_costs.specs.PeakTotals.{PeakTotalsState}
 use Rattle.ht_trace.specs.declared.step.Step.{Step}
 use Rattle.ht_trace.specs.declared.step.Step.TheVariants as step
 use Rattle.ht_trace.specs.Continues.{Extends}
@@ -19,12 +21,11 @@ use Rattle.ht_trace.specs.StepOf.{event_of, step_of}
 use Rattle.ht_trace.specs.TableState.{TableState}
 use Rattle.ht_trace.specs.TraceEvents.{events}
 use Rattle.live_ledger.specs.LedgerState.{IsHeld, LedgerState}
-use Rattle.command_frame.proofs.Laws.{nothing_taken}
-use Rattle.trace_reading.proofs.BatchLemmas.{line_more}
-use Rattle.trace_reading.specs.Batch.{PassesFront}
+use Rattle.trace_reading.specs.PassesFront.{PassesFront}
 use Rattle.trace_reading.specs.Following.{Following, HasFollowed, IsAsBefore, IsNew, MayTake, events_in}
 use Rattle.trace_reading.specs.PeaksView.{peaks_view}
-use Rattle.trace_reading.specs.Reading.{HasRead, HasReadEvent, HasReadEvents, IsSound, weight_of}
+use Rattle.trace_reading.specs.Reading.{HasRead, HasReadFirst, IsSound, weight_of}
+use Rattle.trace_reading.specs.TotalsView.{totals_view}
 use Rattle.trace_reading.specs.TraceFault.{told}
 use Rattle.trace_reading.specs.TraceReport.{EventFaults, content_fault, fault_among, patterns_before, tables_behind, trace_report}
 use Rattle.trace_reading.specs.declared.fault.TraceFault.TheVariants.{Line, Event as event_fault}
@@ -32,6 +33,16 @@ use Rattle.trace_reading.specs.declared.fault.TraceFault.TheVariants.{Line, Even
 -- peaks of no events have followed nothing
 pub new_peaks : (made : PeakState) → peaks.StandsFor made [] → made.ledger.stacks ≡ 1 → made.ledger.infos ≡ [] → (now : TableState) → IsNew now (peaks_view made)
 new_peaks made stands stacks infos now = record {
+  sound = tt;
+  stacks = stacks;
+  infos = infos;
+  events = stands.ledger.whole.figures.events_is;
+  stands = stands;
+}
+
+-- and so have totals of no events
+pub new_totals : (made : PeakTotalsState) → totals.StandsFor made [] → made.ledger.stacks ≡ 1 → made.ledger.infos ≡ [] → (now : TableState) → IsNew now (totals_view made)
+new_totals made stands stacks infos now = record {
   sound = tt;
   stacks = stacks;
   infos = infos;
@@ -167,17 +178,16 @@ pub may_take_event : (now : TableState) (follower : Following) (event : Event) (
 may_take_event now follower event size sound held stack least room = may_take now now follower (step.Event event) size sound held stack (same_tables now event) sound.stands least room
 
 -- and it was read where the follower took it
-pub event_read : (faults : EventFaults) (now : TableState) (follower grown : Following) (ready : List ℕ) (bytes : ℕ) (event : Event) → IsSound now follower → PassesFront now ready bytes event → 3 < bytes
+pub first_read : (faults : EventFaults) (now : TableState) (follower grown : Following) (ready : List ℕ) (bytes : ℕ) (event : Event) → IsSound now follower → PassesFront now ready bytes event → 3 < bytes
     → bytes ≤ length ready → weight_of now follower + length ready ≤ 2 ^ 34 → HasFollowed now follower grown (step.Event event) → ((taken : List Event) → follower.stands now taken → faults now taken event ≡ None)
-    → HasReadEvent faults now follower grown ready bytes
-event_read faults now follower grown ready bytes event sound front least held room followed none =
+    → HasReadFirst faults now follower grown ready (Some bytes)
+first_read faults now follower grown ready bytes event sound front least held room followed none =
     let weight : weight_of now grown ≤ weight_of now follower + bytes = omega (arith, followed.events, least) in
     record {
       sound = sound_still now now follower grown (step.Event event) sound (same_tables now event) followed sound.stands (omega (arith, weight, held, room));
-      some = omega (arith, least);
       held = held;
       weight = weight;
-      taken = λ patterns text. record {
+      taken = λ patterns text output. record {
         line = front.line;
         one_line = front.one_line;
         short = front.short;
@@ -188,61 +198,34 @@ event_read faults now follower grown ready bytes event sound front least held ro
             taken_line faults now has.given patterns earlier front.line (step.Event event) has.patterns_are (front.passes.no_fault has.given earlier has.tables_of) (front.passes.stands has.given earlier has.tables_of)
             (sym (front.passes.brings has.given earlier has.tables_of))
             ∙ ap (option_map (λ fault. told (event_fault fault))) (none (events earlier) has.stands);
-        gained = λ earlier has. refl;
+        gained = λ earlier has. sym (append-nil output);
         taken = has_read now now follower grown front.line (step.Event event) followed (λ taken stands. stands) front.passes.stands front.passes.events patterns;
       };
     }
 
--- before any line
-pub none_read : (faults : EventFaults) (now : TableState) (follower : Following) (ready : List ℕ) → IsSound now follower → HasReadEvents faults now follower follower ready 0 0
-none_read faults now follower ready sound = record {
-  sound = sound;
-  held = omega arith;
-  weight = omega arith;
-  taken = λ patterns text. nothing_taken (trace_report faults patterns text) (HasRead now follower patterns) ready;
-}
+-- nothing changed
+pub as_before : (follower : Following) → IsAsBefore follower follower
+as_before follower = record { ledger = refl; sound = λ sound. sound; stands = λ tables taken stands. stands }
 
--- nothing more, where the follower is as before
-pub events_kept : (faults : EventFaults) (now : TableState) (first old new : Following) (ready : List ℕ) (bytes number : ℕ) → HasReadEvents faults now first old ready bytes number → IsAsBefore old new
-    → HasReadEvents faults now first new ready bytes number
-events_kept faults now first old new ready bytes number so_far kept = record {
+-- no line was read, where the follower is as before
+pub first_unread : (faults : EventFaults) (now : TableState) (old new : Following) (ready : List ℕ) → IsSound now old → IsAsBefore old new → HasReadFirst faults now old new ready None
+first_unread faults now old new ready sound kept = record {
   sound = record {
-    beside = subst (IsBeside now) (sym kept.ledger) so_far.sound.beside;
-    follower_sound = kept.sound so_far.sound.follower_sound;
-    taken = so_far.sound.taken;
-    stands = kept.stands now so_far.sound.taken so_far.sound.stands;
-    few = subst (λ (ledger : LedgerState). 4 * ledger.totals.events + length now.nodes ≤ 2 ^ 34 + 1) (sym kept.ledger) so_far.sound.few;
+    beside = subst (IsBeside now) (sym kept.ledger) sound.beside;
+    follower_sound = kept.sound sound.follower_sound;
+    taken = sound.taken;
+    stands = kept.stands now sound.taken sound.stands;
+    few = subst (λ (ledger : LedgerState). 4 * ledger.totals.events + length now.nodes ≤ 2 ^ 34 + 1) (sym kept.ledger) sound.few;
   };
-  held = so_far.held;
-  weight = subst (λ (ledger : LedgerState). 4 * ledger.totals.events + length now.nodes ≤ weight_of now first + bytes) (sym kept.ledger) so_far.weight;
-  taken = λ patterns text.
-      let front = so_far.taken patterns text in
-      record {
-        lines = front.lines;
-        texts = front.texts;
-        short = front.short;
-        text = front.text;
-        count = front.count;
-        good = front.good;
-        gained = front.gained;
-        taken = λ earlier has.
-            let read = front.taken earlier has in
-            record {
-              given = read.given;
-              patterns_are = read.patterns_are;
-              tables_of = read.tables_of;
-              stands = kept.stands now (events (earlier ++ front.lines)) read.stands;
-            };
-      };
-}
-
--- one line more
-pub events_more : (faults : EventFaults) (now : TableState) (first old new : Following) (ready : List ℕ) (bytes number more : ℕ) → bytes ≤ length ready
-    → HasReadEvents faults now first old ready bytes number → HasReadEvent faults now old new (drop bytes ready) more → HasReadEvents faults now first new ready (bytes + more) (number + 1)
-events_more faults now first old new ready bytes number more within so_far one = record {
-  sound = one.sound;
-  held = omega (arith, one.held, length-drop bytes ready, within);
-  weight = omega (arith, one.weight, so_far.weight);
-  taken = λ patterns text.
-      line_more (trace_report faults patterns text) (HasRead now first patterns) (HasRead now old patterns) (HasRead now new patterns) ready bytes number more (so_far.taken patterns text) (one.taken patterns text);
+  held = omega arith;
+  weight = subst (λ (ledger : LedgerState). 4 * ledger.totals.events + length now.nodes ≤ weight_of now old + 0) (sym kept.ledger) (omega arith);
+  taken = λ patterns text output. record {
+    kept = λ lines read. record {
+      given = read.given;
+      patterns_are = read.patterns_are;
+      tables_of = read.tables_of;
+      stands = kept.stands now (events lines) read.stands;
+    };
+    same = refl;
+  };
 }

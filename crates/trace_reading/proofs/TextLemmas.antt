@@ -1,14 +1,16 @@
 -- The lines of a text, and how far they were read.
-use Rattle.std.proofs.Common.{◌≡◌, ℕ, suc, ◌+◌, ◌<◌, ◌≤◌, Bool, true, false, not, cond, ltb, All, List, [], ◌∷◌, ◌++◌, length, take, drop, None, Some, refl, ap, ap₂, sym, subst, ◌∙◌, append-nil, append_assoc, arith}
+use Rattle.std.proofs.Common.{◌≡◌, ℕ, suc, ◌+◌, ◌-◌, ◌<◌, ◌≤◌, Bool, true, false, not, cond, ltb, All, List, [], ◌∷◌, ◌++◌, length, take, drop, length-append, length-drop, None, Some, refl, ap, ap₂, sym, subst, ◌∙◌, append-nil, append_assoc, arith}
 use Rattle.std.proofs.lemmas.Bool.{ltb-true}
 use Rattle.std.proofs.lemmas.List.{take-append-drop}
+use Rattle.std.proofs.lemmas.List.Elements.{All-cons, All-nil}
+use Rattle.std.proofs.Math.Seq.{take-append-add, take-append_seam}
 use Rattle.std.proofs.lemmas.Option.{cond_some}
 use Rattle.std.specs.List.{position, position_or_len}
 use borrow.Author.Tests.{ltb-false}
 use Rattle.hp_outside.specs.Lines.{is_line_feed, lines_of, put_first}
 use Rattle.hp_outside.specs.WholeLines.{IsLineText, text_of_lines}
 use Rattle.hp_outside.proofs.Laws.{lines_of-text}
-use Rattle.command_frame.specs.Batch.{AreGood}
+use Rattle.command_frame.specs.Batch.{AreGood, HasGivenLine}
 use Rattle.command_frame.specs.Report.{Report}
 use Rattle.command_frame.specs.Taker.{Tells}
 use Rattle.command_frame.specs.declared.taker.LineRefusal.{LineRefusal}
@@ -16,10 +18,10 @@ use Rattle.command_frame.specs.declared.taker.LineRefusal.TheVariants.{Fault, No
 use Rattle.trace_reading.specs.declared.fault.TraceFault.{TraceFault}
 use Rattle.ht_trace.specs.TableState.{TableState}
 use Rattle.trace_reading.specs.Following.{Following}
-use Rattle.trace_reading.specs.Reading.{HasRead, HasReadEvents, HasReadLine, HasReadText, HasReadTo, IsSound, weight_of}
+use Rattle.trace_reading.specs.Reading.{HasRead, HasReadFirst, HasReadLine, HasReadOne, HasReadText, HasReadTo, IsSound, weight_of}
 use Rattle.trace_reading.specs.TraceFault.{told}
 use Rattle.trace_reading.specs.TraceReport.{EventFaults, HaveNoFault, content_fault, trace_report}
-use Rattle.trace_reading.proofs.BatchLemmas.{good_append}
+use Rattle.command_frame.proofs.Laws.{good_append}
 
 -- a text is read as the lines that it was made of
 pub lines_of-whole : (text : List ℕ) (lines : List (List ℕ)) → text ≡ text_of_lines lines → All IsLineText lines → lines_of text ≡ lines
@@ -88,21 +90,47 @@ nothing_read faults now follower text sound = record {
   good = λ patterns earlier has. tt;
 }
 
--- a front of a text was read at once
-pub front_read : (faults : EventFaults) (now : TableState) (follower grown : Following) (text left : List ℕ) (bytes number : ℕ) → HasReadEvents faults now follower grown text bytes number → left ≡ drop bytes text
-    → HasReadTo faults now follower now grown text left
-front_read faults now follower grown text left bytes number front left_is =
-    let first = front.taken [] nothing in
-    let same : (patterns : List (List ℕ)) → (front.taken patterns nothing).lines ≡ first.lines = λ patterns.
-    sym (lines_of-whole (take bytes text) (front.taken patterns nothing).lines (front.taken patterns nothing).text (front.taken patterns nothing).texts)
-    ∙ lines_of-whole (take bytes text) first.lines first.text first.texts in
+-- a line at the front of bytes is what stands before its last byte
+line_of : {before after : List ℕ} (report : Report) (old new : List (List ℕ) → Type 0) (ready : List ℕ) (bytes : ℕ) → (one : HasGivenLine report old new ready bytes before after) → one.line ≡ take (bytes - 1) ready
+line_of report old new ready bytes one =
+    let count : bytes - 1 ≡ length one.line = omega (arith, one.size) in
+    sym (ap₂ take count one.split ∙ take-append_seam one.line (10 ∷ one.rest))
+
+-- the first line of a text was read at its front
+pub front_first : (faults : EventFaults) (now : TableState) (old new : Following) (text left : List ℕ) (bytes : ℕ) → HasReadFirst faults now old new text (Some bytes) → left ≡ drop bytes text
+    → HasReadOne faults now old now new text left
+front_first faults now old new text left bytes front left_is =
+    let first = front.taken [] nothing [] in
+    let same : (patterns : List (List ℕ)) → (front.taken patterns nothing []).line ≡ first.line = λ patterns.
+    line_of (trace_report faults patterns nothing) (HasRead now old patterns) (HasRead now new patterns) text bytes (front.taken patterns nothing [])
+    ∙ sym (line_of (trace_report faults [] nothing) (HasRead now old []) (HasRead now new []) text bytes first) in
+    let front_text : take bytes text ≡ first.line ++ (10 ∷ []) =
+    ap (λ n. take n text) first.size ∙ (ap (take (length first.line + 1)) first.split ∙ take-append-add first.line (10 ∷ first.rest) 1) in
+    let size = ap length first.split ∙ length-append first.line (10 ∷ first.rest) in
+    let rest : length left ≡ length text - bytes = ap length left_is ∙ length-drop bytes text in
     record {
-      sound = front.sound;
-      lines = first.lines;
-      split = ap lines_of (sym (take-append-drop bytes text) ∙ ap₂ (λ front back. front ++ back) first.text (sym left_is)) ∙ lines_of-text first.lines left first.texts;
-      read = λ patterns earlier has. subst (λ l. HasRead now grown patterns (earlier ++ l)) (same patterns) ((front.taken patterns nothing).taken earlier has);
-      good = λ patterns earlier has. subst (HaveNoFault faults patterns earlier) (same patterns) ((front.taken patterns nothing).good earlier has);
+      read = record {
+        sound = front.sound;
+        lines = first.line ∷ [];
+        split = ap lines_of (sym (take-append-drop bytes text) ∙ ap₂ (λ front back. front ++ back) front_text (sym left_is))
+            ∙ lines_of-text (first.line ∷ []) left (All-cons IsLineText first.line [] first.one_line (All-nil IsLineText));
+        read = λ patterns earlier has. subst (λ l. HasRead now new patterns (earlier ++ l ∷ [])) (same patterns) ((front.taken patterns nothing []).taken earlier has);
+        good = λ patterns earlier has. (subst (λ l. content_fault faults patterns earlier l ≡ None) (same patterns) ((front.taken patterns nothing []).no_fault earlier has), tt);
+      };
+      fewer = omega (arith, rest, size, first.size);
+      weight = omega (arith, rest, size, first.size, front.weight);
+      more = λ some. omega (arith, rest, size, first.size, front.weight);
     }
+
+-- no line was read at its front
+pub none_first : (faults : EventFaults) (now : TableState) (old new : Following) (text : List ℕ) → HasReadFirst faults now old new text None → HasReadTo faults now old now new text text
+none_first faults now old new text front = record {
+  sound = front.sound;
+  lines = [];
+  split = refl;
+  read = λ patterns earlier has. subst (HasRead now new patterns) (sym (append-nil earlier)) ((front.taken patterns nothing []).kept earlier has);
+  good = λ patterns earlier has. tt;
+}
 
 -- the first line was read, or refused
 module _ (faults : EventFaults) (old : TableState) (follower : Following) (text left line : List ℕ) (first : lines_of text ≡ line ∷ lines_of left) where
@@ -164,3 +192,13 @@ module _ (faults : EventFaults) (old : TableState) (follower : Following) (now :
       behind : (report : Report) (before lines more : List (List ℕ)) → AreGood report before (lines ++ more) → AreGood report (before ++ lines) more
       behind report before [] more good = subst (λ b. AreGood report b more) (sym (append-nil before)) good
       behind report before (line ∷ lines) more good = subst (λ b. AreGood report b more) (append_assoc before (line ∷ []) lines) (behind report (before ++ line ∷ []) lines more good.1)
+
+-- the first line was read by another way, where none was read at the front
+pub one_behind : (faults : EventFaults) (now : TableState) (old mid : Following) (text : List ℕ) → HasReadFirst faults now old mid text None → (new : TableState) (grown : Following) (left : List ℕ)
+    → HasReadOne faults now mid new grown text left → HasReadOne faults now old new grown text left
+one_behind faults now old mid text front new grown left one = record {
+  read = read_on faults now old now mid text text (none_first faults now old mid text front) new grown left one.read;
+  fewer = one.fewer;
+  weight = omega (arith, one.weight, front.weight);
+  more = λ some. let room = one.more some in omega (arith, room, front.weight);
+}

@@ -1,4 +1,6 @@
--- What contracts see of what follows the events of a trace, and what a step changes in it.
+-- What follows the events of a trace has a ledger, and stands for lists of events beside tables; it
+-- took what a line brings where it stands for the events with that of the line, and has the stacks
+-- and infos more.
 use Rattle.std.specs.Prelude.{◌≡◌, ℕ, ◌+◌, ◌*◌, ◌^◌, ◌≤◌, List, [], ◌++◌, length, Option, None, Some, Result, Ok, Err}
 use Rattle.std.specs.Option.{option_to_list}
 use Rattle.live_ledger.specs.declared.event.Event.{Event}

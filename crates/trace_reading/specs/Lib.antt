@@ -2,7 +2,8 @@ pub mod TraceFault
 pub mod TraceReport
 pub mod Following
 pub mod PeaksView
+pub mod TotalsView
 pub mod Reading
 pub mod ReadTrace
 pub mod SuppressionsReport
-pub mod Batch
+pub mod PassesFront

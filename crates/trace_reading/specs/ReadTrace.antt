@@ -1,5 +1,5 @@
 -- What was read of a trace, by its tables and by what contracts see of its follower.
-use Rattle.std.specs.Prelude.{◌≡◌, ℕ, ◌≤◌, List, length}
+use Rattle.std.specs.Prelude.{◌≡◌, ℕ, ◌≤◌, List, Option, length}
 use Rattle.command_frame.specs.Taker.{Tells}
 use Rattle.command_frame.specs.declared.taker.LineRefusal.{LineRefusal}
 use Rattle.command_frame.specs.declared.taker.LineRefusal.TheVariants.{NoMemory}
@@ -27,21 +27,21 @@ abbrev pub HasReadLine : {F : Type 0} → EventFaults → (F → Following) → 
 HasReadLine faults view old new line =
     reading.HasReadLine faults old.tables (view old.follower) new.tables (view new.follower) line
 
-abbrev pub HasReadEvent : {F : Type 0} → EventFaults → (F → Following) → Trace F → Trace F → List ℕ
-    → ℕ → Type 0
-HasReadEvent faults view old new ready bytes =
-    reading.HasReadEvent faults old.tables (view old.follower) (view new.follower) ready bytes
-
-abbrev pub HasReadEvents : {F : Type 0} → EventFaults → (F → Following) → Trace F → Trace F
-    → List ℕ → ℕ → ℕ → Type 0
-HasReadEvents faults view old new ready bytes number =
-    reading.HasReadEvents faults old.tables (view old.follower) (view new.follower) ready bytes
-    number
+abbrev pub HasReadFirst : {F : Type 0} → EventFaults → (F → Following) → Trace F → Trace F → List ℕ
+    → Option ℕ → Type 0
+HasReadFirst faults view old new ready answer =
+    reading.HasReadFirst faults old.tables (view old.follower) (view new.follower) ready answer
 
 abbrev pub HasReadTo : {F : Type 0} → EventFaults → (F → Following) → Trace F → Trace F → List ℕ
     → List ℕ → Type 0
 HasReadTo faults view old new text left =
     reading.HasReadTo faults old.tables (view old.follower) new.tables (view new.follower) text
+    left
+
+abbrev pub HasReadOne : {F : Type 0} → EventFaults → (F → Following) → Trace F → Trace F → List ℕ
+    → List ℕ → Type 0
+HasReadOne faults view old new text left =
+    reading.HasReadOne faults old.tables (view old.follower) new.tables (view new.follower) text
     left
 
 abbrev pub HasReadText : {F : Type 0} → EventFaults → (F → Following) → Trace F → Trace F → List ℕ

@@ -1,5 +1,8 @@
--- What was read of a trace: tables, and a follower beside them.
-use Rattle.std.specs.Prelude.{◌≡◌, ℕ, ◌+◌, ◌*◌, ◌^◌, ◌<◌, ◌≤◌, List, [], ◌∷◌, ◌++◌, length, None}
+-- Lines were read behind patterns where the tables stand for them, after texts of suppressions that
+-- have those patterns, and the follower stands for their events. One line, also that of an event at
+-- the front of bytes, and the lines of a text were read where they have no fault and stand behind
+-- all that was read before.
+use Rattle.std.specs.Prelude.{◌≡◌, ℕ, ◌+◌, ◌*◌, ◌^◌, ◌<◌, ◌≤◌, List, [], ◌∷◌, ◌++◌, length, None, Option, unwrap_or}
 use Rattle.hp_outside.specs.Lines.{lines_of}
 use Rattle.live_ledger.specs.declared.event.Event.{Event}
 use Rattle.ht_trace.specs.LedgerFits.{IsBeside}
@@ -7,8 +10,7 @@ use Rattle.ht_trace.specs.Pattern.{patterns_of}
 use Rattle.ht_trace.specs.StandsFor.{StandsAfter}
 use Rattle.ht_trace.specs.TableState.{TableState}
 use Rattle.ht_trace.specs.TraceEvents.{events}
-use Rattle.command_frame.specs.Batch.{HasTakenFront}
-use Rattle.trace_reading.specs.Batch.{HasTakenLine}
+use Rattle.command_frame.specs.Batch.{TakesFirst}
 use Rattle.trace_reading.specs.Following.{Following}
 use Rattle.trace_reading.specs.TraceReport.{EventFaults, HaveNoFault, content_fault, trace_report}
 
@@ -43,26 +45,16 @@ pub record HasReadLine (faults : EventFaults) (tables : TableState) (follower : 
   pub read : (patterns lines : List (List ℕ)) → HasRead tables follower patterns lines
       → HasRead grown grown_follower patterns (lines ++ line ∷ [])
 
--- the first so many of these bytes are the line of an event, which was read and had no fault
-pub record HasReadEvent (faults : EventFaults) (tables : TableState) (old new : Following)
-    (ready : List ℕ) (bytes : ℕ) : Type 0 where
+-- an answer of so many bytes says that the first line of these bytes is that of an event, and was read without a fault, and
+-- no answer that none was read. Whatever is written of the trace, the line gives nothing
+pub record HasReadFirst (faults : EventFaults) (tables : TableState) (old new : Following)
+    (ready : List ℕ) (answer : Option ℕ) : Type 0 where
   pub sound : IsSound tables new
-  pub some : 0 < bytes
-  pub held : bytes ≤ length ready
-  pub weight : weight_of tables new ≤ weight_of tables old + bytes
-  pub taken : (patterns : List (List ℕ)) (text : List (List ℕ) → List ℕ)
-      → HasTakenLine (trace_report faults patterns text) (HasRead tables old patterns)
-      (HasRead tables new patterns) ready bytes
-
--- the first so many of these bytes are so many lines of events, which were read and had no fault
-pub record HasReadEvents (faults : EventFaults) (tables : TableState) (old new : Following)
-    (ready : List ℕ) (bytes number : ℕ) : Type 0 where
-  pub sound : IsSound tables new
-  pub held : bytes ≤ length ready
-  pub weight : weight_of tables new ≤ weight_of tables old + bytes
-  pub taken : (patterns : List (List ℕ)) (text : List (List ℕ) → List ℕ)
-      → HasTakenFront (trace_report faults patterns text) (HasRead tables old patterns)
-      (HasRead tables new patterns) ready bytes number
+  pub held : unwrap_or answer 0 ≤ length ready
+  pub weight : weight_of tables new ≤ weight_of tables old + unwrap_or answer 0
+  pub taken : (patterns : List (List ℕ)) (text : List (List ℕ) → List ℕ) (output : List ℕ)
+      → TakesFirst (trace_report faults patterns text) (HasRead tables old patterns)
+      (HasRead tables new patterns) ready output output answer
 
 -- all lines of a text but those of what is left of it were read without a fault, behind all lines that were read before
 pub record HasReadTo (faults : EventFaults) (tables : TableState) (follower : Following)
@@ -74,6 +66,16 @@ pub record HasReadTo (faults : EventFaults) (tables : TableState) (follower : Fo
       → HasRead grown grown_follower patterns (earlier ++ lines)
   pub good : (patterns earlier : List (List ℕ)) → HasRead tables follower patterns earlier
       → HaveNoFault faults patterns earlier lines
+
+-- the first line of a text was read, so that less is left of it; and what is left has room with it
+pub record HasReadOne (faults : EventFaults) (tables : TableState) (follower : Following)
+    (grown : TableState) (grown_follower : Following) (text left : List ℕ) : Type 0 where
+  pub read : HasReadTo faults tables follower grown grown_follower text left
+  pub fewer : length left < length text
+  pub weight : weight_of grown grown_follower + length left
+      ≤ weight_of tables follower + length text + 1
+  pub more : 0 < length left → weight_of grown grown_follower + length left
+      ≤ weight_of tables follower + length text
 
 -- all lines of a text were read without a fault, behind all lines that were read before
 pub record HasReadText (faults : EventFaults) (tables : TableState) (follower : Following)

@@ -1,4 +1,6 @@
--- What the lines of a suppressions file mean.
+-- What the lines of a suppressions file mean. Each line of a suppressions file is the text of a
+-- suppression, whose one fault is that its pattern would be too many; its patterns stand before
+-- those of the trace, in the trace's faults and in what is made of it.
 use Rattle.std.specs.Prelude.{ℕ, List, [], ◌∷◌, length, Option, None, Some}
 use Rattle.std.specs.Option.{option_map}
 use Rattle.ht_trace.specs.LineFault.{pattern_fault}

@@ -1,4 +1,7 @@
--- What a command makes of the lines of a trace that writes a text once it has read them all.
+-- What a command makes of the lines of a trace: patterns of suppressions may be given before them,
+-- the tables judge a line, and then, by the tables with it, the ledger or what else follows the
+-- events judges its event; a text of the patterns and the lines is written once all were read.
+-- Lines have no fault where none has one after those before it.
 use Rattle.std.specs.Prelude.{ℕ, List, [], ◌∷◌, ◌++◌, Option, Some, None, take}
 use Rattle.std.specs.Option.{option_map, option_or}
 use Rattle.live_ledger.specs.declared.event.Event.{Event}

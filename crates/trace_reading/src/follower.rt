@@ -3,6 +3,8 @@
 ghost use Rattle.std.specs.Prelude.{◌≡◌, List, Option, OnErr, OnOk};
 ghost use Rattle.live_ledger.specs.declared.event.Event.{Event};
 ghost use Rattle.live_ledger.specs.declared.event.EventFault.{EventFault};
+ghost use Rattle.live_ledger.specs.LedgerState.{without_figures};
+ghost use Rattle.live_ledger.specs.TotalsState.{ledger_of};
 ghost use Rattle.ht_trace.specs.Continues.{Continues};
 ghost use Rattle.ht_trace.specs.TableState.{TableState};
 ghost use Rattle.ht_trace.specs.declared.step.Step.TheVariants as step;
@@ -11,7 +13,7 @@ ghost use Rattle.trace_reading.specs.Following.{AnswersFault, Following, HasFoll
 use command_frame::LineRefusal;
 use hp_num::NoMemory;
 use ht_trace::Tables;
-use live_ledger::{Event, EventFault, Ledger};
+use live_ledger::{Event, EventFault, TotalsLedger};
 
 /// What follows the events of a trace. The tables that it is handed have the line already whose step it takes.
 pub trait Follower {
@@ -21,18 +23,18 @@ pub trait Follower {
     /// The fault of an event after earlier ones, beside tables that have its line.
     ghost faults: { TableState → List Event → Event → Option EventFault };
 
-    /// Whether the loop over lines of events stands in a function of its own, and has all registers there. A line that is no
-    /// event then costs a call more.
-    const APART: bool;
-
-    /// Its ledger.
-    fn ledger(&self) -> &Ledger
-        ensures { result.now ≡ (view self.now).ledger };
+    /// What its ledger keeps of the whole trace.
+    fn ledger(&self) -> &TotalsLedger
+        ensures { ledger_of result.now ≡ without_figures (view self.now).ledger };
 
     /// What it stands for stays so beside tables that have grown. It does nothing.
     fn goes_on(&self)
         ensures { (before after : TableState) (taken : List Event) → Continues before after
             → (view self.now).stands before taken → (view self.now).stands after taken };
+
+    /// Lets it go.
+    // A method, since a value whose type names a closure can't be let go as one of a type parameter.
+    fn close(self);
 
     /// Takes the tables' last stack, which is one more. `NoMemory` where memory is wanting; it is of no use then.
     fn stack(&mut self, tables: &Tables) -> Result<(), NoMemory>

@@ -1,14 +1,15 @@
 //! The line of an event at the front of some bytes.
 ghost use Rattle.std.specs.Prelude.{◌≡◌, ◌<◌, ◌≤◌, length, IfSome};
 ghost use Rattle.live_ledger.specs.LedgerState.{IsHeld};
+ghost use Rattle.live_ledger.specs.TotalsState.{ledger_of};
 ghost use Rattle.ht_trace.specs.HeldStack.{HasHeldEvent};
 ghost use Rattle.ht_trace.specs.LedgerFits.{IsBeside, least_length_of};
-ghost use Rattle.ht_trace.specs.PassesEvents.{PassesEvents, event_of_info};
+ghost use Rattle.ht_trace.specs.PassesLine.{event_of_info};
 ghost use Rattle.ht_trace.specs.TableState.{TableState};
-ghost use Rattle.trace_reading.specs.Batch.{PassesFront};
+ghost use Rattle.trace_reading.specs.PassesFront.{PassesFront};
 
 use ht_lines::{EventKind, event_line};
-use live_ledger::{Event, Ledger};
+use live_ledger::{Event, TotalsLedger};
 
 /// The line of an event that was read.
 #[derive(Clone, Copy)]
@@ -18,17 +19,17 @@ pub struct ReadLine {
     pub event: Event,
 }
 
-/// The line of an event at the front, where it stands there in its usual form and the ledger holds its info. The tables beside
+/// The line of an event at the front, where it stands there in its usual form and the ledger holds its info. Any tables beside
 /// the ledger pass it.
 // Each loop over it has the whole walk in its body.
 #[inline(always)]
-pub fn line_at_front(ledger: &Ledger, ready: &[u8]) -> Option<ReadLine>
+pub fn line_at_front(ledger: &TotalsLedger, ready: &[u8]) -> Option<ReadLine>
     ensures front { IfSome result
-        (λ read. (tables : TableState) → PassesEvents tables → IsBeside tables ledger.now
+        (λ read. (tables : TableState) → IsBeside tables (ledger_of ledger.now)
         → PassesFront tables ready.now read.bytes read.event) }
-    ensures held_event { IfSome result (λ read. IsHeld ledger.now read.event) }
+    ensures held_event { IfSome result (λ read. IsHeld (ledger_of ledger.now) read.event) }
     ensures held_stack { IfSome result
-        (λ read. (tables : TableState) → IsBeside tables ledger.now
+        (λ read. (tables : TableState) → IsBeside tables (ledger_of ledger.now)
         → HasHeldEvent tables read.event) }
     ensures least { IfSome result (λ read. 3 < read.bytes) }
     ensures least_length { IfSome result (λ read. least_length_of read.event ≡ 3) }

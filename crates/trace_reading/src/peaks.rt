@@ -1,16 +1,13 @@
 //! Peaks, as what follows a trace.
-ghost use Rattle.std.specs.Prelude.{◌≡◌, ◌+◌, ◌^◌, ◌<◌, ◌≤◌, List, [], ◌∷◌, ◌++◌, OnErr, OnOk};
-ghost use Rattle.std.specs.Result.{result_err};
-ghost use Rattle.live_ledger.specs.declared.event.Event.{Event};
-ghost use Rattle.live_ledger.specs.Faults.{fault_of};
+ghost use Rattle.std.specs.Prelude.{◌≡◌, ◌^◌, ◌<◌};
 ghost use Rattle.live_ledger.specs.LedgerState.{IsHeld};
-ghost use Rattle.peak_costs.specs.Peak.{StandsFor};
+ghost use Rattle.trace_reading.specs.PeaksView.{Take};
 
 use crate::follower::Follower;
 use command_frame::LineRefusal;
 use hp_num::NoMemory;
 use ht_trace::Tables;
-use live_ledger::{Event, EventFault, Ledger, Steps};
+use live_ledger::{Event, EventFault, Steps, TotalsLedger};
 use peak_costs::Peaks;
 use std::marker::Brand;
 use std::sync::ledger::Blank;
@@ -23,15 +20,15 @@ impl Follower for Peaks {
 
     ghost faults = { ledger_faults };
 
-    const APART: bool = false;
-
     #[inline(always)]
-    fn ledger(&self) -> &Ledger {
-        Peaks::ledger(self)
+    fn ledger(&self) -> &TotalsLedger {
+        Peaks::ledger(self).whole()
     }
 
     #[inline(always)]
     fn goes_on(&self) {}
+
+    fn close(self) {}
 
     fn stack(&mut self, _tables: &Tables) -> Result<(), NoMemory> {
         match self.grow_stack() {
@@ -62,15 +59,7 @@ impl Follower for Peaks {
 pub fn take_event(peaks: &mut Peaks, event: Event) -> Result<(), EventFault>
     requires held { IsHeld peaks.old.ledger event }
     requires count { peaks.old.ledger.totals.events < 2 ^ 32 }
-    ensures fault { (taken : List Event) → StandsFor peaks.old taken
-        → result_err result ≡ fault_of taken event }
-    ensures stands { OnOk result
-        ((taken : List Event) → StandsFor peaks.old taken
-        → StandsFor peaks.new (taken ++ event ∷ [])) }
-    ensures stacks { peaks.new.ledger.stacks ≡ peaks.old.ledger.stacks }
-    ensures infos { peaks.new.ledger.infos ≡ peaks.old.ledger.infos }
-    ensures at_most_one_more { peaks.new.ledger.totals.events ≤ peaks.old.ledger.totals.events + 1 }
-    ensures unchanged { OnErr result (peaks.new ≡ peaks.old) }
+    ensures { Take peaks.old peaks.new event result }
 {
     apply_uncounted::<Brand>(peaks, event, Blank::new(1))
 }
@@ -87,15 +76,7 @@ fn apply_uncounted<L: std::sync::ledger::Ledger>(
     requires some { 0 < blank.parts }
     requires held { IsHeld peaks.old.ledger event }
     requires count { peaks.old.ledger.totals.events < 2 ^ 32 }
-    ensures fault { (taken : List Event) → StandsFor peaks.old taken
-        → result_err result ≡ fault_of taken event }
-    ensures stands { OnOk result
-        ((taken : List Event) → StandsFor peaks.old taken
-        → StandsFor peaks.new (taken ++ event ∷ [])) }
-    ensures stacks { peaks.new.ledger.stacks ≡ peaks.old.ledger.stacks }
-    ensures infos { peaks.new.ledger.infos ≡ peaks.old.ledger.infos }
-    ensures at_most_one_more { peaks.new.ledger.totals.events ≤ peaks.old.ledger.totals.events + 1 }
-    ensures unchanged { OnErr result (peaks.new ≡ peaks.old) }
+    ensures { Take peaks.old peaks.new event result }
 {
     let mut steps = Steps::<L>::new(blank);
     peaks.apply(event, &mut steps)

@@ -1,6 +1,6 @@
 //! A suppressions file and the trace behind it, for any writer of a trace.
 ghost use Rattle.std.specs.Prelude.{◌^◌, ◌<◌, [], ◌∷◌, Some};
-ghost use Rattle.command_frame.specs.RunsTo.{Runs};
+ghost use Rattle.command_frame.specs.RunsTo.{Readies};
 ghost use Rattle.trace_reading.specs.SuppressionsReport.{plan_behind};
 
 use crate::suppressions::SuppressionsTaker;
@@ -48,9 +48,10 @@ pub fn run_suppressed<W: TraceWriter<Peaks> + Copy + Drop, S: Store, O: Sink>(
     writer: W,
     store: &mut S,
     out: &mut O,
-) -> Result<Vec<u8>, Halt>
+) -> Result<W::Rest, Halt>
     requires { S.opens store.old < 2 ^ 63 }
-    ensures { Runs S.Store O.Sink desk.now (names.now.first.now ∷ names.now.second.now ∷ [])
+    ensures { Readies S.Store O.Sink W.Rest.bytes desk.now
+        (names.now.first.now ∷ names.now.second.now ∷ [])
         (plan_behind (Some names.now.first.now) names.now.second.now (W.text writer))
         store.old store.new out.old out.new result }
 {

@@ -1,21 +1,20 @@
 //! The one reader of a trace: its tables, and beside them what follows its events. How lines come from a file, and what is made
 //! of them, is no part of it.
-ghost use Rattle.std.specs.Prelude.{◌≡◌, ℕ, ◌+◌, ◌^◌, ◌<◌, ◌≤◌, List, None, Some, length, IfErr, IfNone, IfSome, OnOk};
+ghost use Rattle.std.specs.Prelude.{◌≡◌, ℕ, ◌+◌, ◌^◌, ◌<◌, ◌≤◌, List, None, Some, length, IfErr, OnOk};
 ghost use Rattle.std.specs.Option.{option_map};
 ghost use Rattle.live_ledger.specs.declared.event.Event.{Event};
 ghost use Rattle.ht_trace.specs.Continues.{Continues};
-ghost use Rattle.ht_trace.specs.PassesEvents.{PassesEvents};
 ghost use Rattle.ht_trace.specs.StepOf.{event_of};
 ghost use Rattle.command_frame.specs.Taker.{Tells};
-ghost use Rattle.trace_reading.specs.Following.{HasFollowed, IsAsBefore, MayTake};
-ghost use Rattle.trace_reading.specs.ReadTrace.{HasRead, HasReadEvent, HasReadEvents, HasReadLine, IsSound, RefusesLine, weight_of};
+ghost use Rattle.trace_reading.specs.Following.{HasFollowed, MayTake};
+ghost use Rattle.trace_reading.specs.ReadTrace.{HasRead, HasReadFirst, HasReadLine, IsSound, RefusesLine, weight_of};
 ghost use Rattle.trace_reading.specs.TraceFault.{told};
 ghost use Rattle.trace_reading.specs.TraceReport.{end_fault, fault_among};
 
 use crate::fault::TraceFault;
 use crate::follower::Follower;
 use crate::front::line_at_front;
-use command_frame::{Batch, LineRefusal};
+use command_frame::LineRefusal;
 use ht_trace::{LineError, Step, Tables};
 
 /// The tables of a trace and what follows its events, which are grown step by step together.
@@ -48,7 +47,7 @@ impl<F: Follower> Trace<F> {
         }
     }
 
-    /// Whether the trace may end here, which from then on says that lines of events may be read many at a time.
+    /// Whether the trace may end here.
     pub fn end(&self) -> Result<(), TraceFault>
         ensures no_fault { OnOk result
             ((patterns lines : List (List ℕ)) → HasRead F.view self.now patterns lines
@@ -56,7 +55,6 @@ impl<F: Follower> Trace<F> {
         ensures fault { IfErr result
             (λ fault. (patterns lines : List (List ℕ)) → HasRead F.view self.now patterns lines
             → end_fault lines ≡ Some (told fault)) }
-        ensures passes { OnOk result (PassesEvents self.now.tables) }
     {
         match self.tables.end() {
             Ok(()) => Ok(()),
@@ -64,76 +62,15 @@ impl<F: Follower> Trace<F> {
         }
     }
 
-    /// Reads lines at the front of the bytes, as `line` would, as long as each is that of an event in its usual form, its
-    /// info is held, and it has no fault; none before a version line.
-    pub fn front(&mut self, ready: &[u8]) -> Batch
-        requires sound { IsSound F.view self.old }
-        requires room { weight_of F.view self.old + length ready.now ≤ 2 ^ 34 }
-        ensures tables { self.new.tables ≡ self.old.tables }
-        ensures read { HasReadEvents F.faults F.view self.old self.new ready.now result.bytes
-            result.lines }
-    {
-        match self.end() {
-            Ok(()) => {
-                if F::APART {
-                    self.events_apart(ready)
-                } else {
-                    self.events(ready)
-                }
-            }
-            Err(_) => Batch { bytes: 0, lines: 0 },
-        }
-    }
-
-    /// Reads lines of events at the front of the bytes, in a function of its own. A version line was read before.
-    #[inline(never)]
-    fn events_apart(&mut self, ready: &[u8]) -> Batch
-        requires sound { IsSound F.view self.old }
-        requires passes { PassesEvents self.old.tables }
-        requires room { weight_of F.view self.old + length ready.now ≤ 2 ^ 34 }
-        ensures tables { self.new.tables ≡ self.old.tables }
-        ensures read { HasReadEvents F.faults F.view self.old self.new ready.now result.bytes
-            result.lines }
-    {
-        self.events(ready)
-    }
-
-    /// The same, in the function that calls it.
+    /// Reads the line at the front of the bytes, as `line` would, and answers how many bytes it has with its line feed, where
+    /// it is that of an event in its usual form, its info is held, and it has no fault. Where it answers `None`, nothing was
+    /// read.
     #[inline(always)]
-    fn events(&mut self, ready: &[u8]) -> Batch
+    pub fn front(&mut self, ready: &[u8]) -> Option<usize>
         requires sound { IsSound F.view self.old }
-        requires passes { PassesEvents self.old.tables }
         requires room { weight_of F.view self.old + length ready.now ≤ 2 ^ 34 }
         ensures tables { self.new.tables ≡ self.old.tables }
-        ensures read { HasReadEvents F.faults F.view self.old self.new ready.now result.bytes
-            result.lines }
-    {
-        let mut rest = ready;
-        let mut lines = 0;
-        'lines: loop {
-            let Some(bytes) = self.event(rest) else {
-                return Batch {
-                    bytes: ready.len() - rest.len(),
-                    lines,
-                };
-            };
-            rest = &rest[bytes..];
-            lines += 1;
-        }
-    }
-
-    /// Reads the line of an event at the front, and answers how many bytes it has with its line feed. Where it answers
-    /// `None`, nothing was read.
-    #[inline(always)]
-    fn event(&mut self, ready: &[u8]) -> Option<usize>
-        requires sound { IsSound F.view self.old }
-        requires passes { PassesEvents self.old.tables }
-        requires room { weight_of F.view self.old + length ready.now ≤ 2 ^ 34 }
-        ensures tables { self.new.tables ≡ self.old.tables }
-        ensures read { IfSome result
-            (λ bytes. HasReadEvent F.faults F.view self.old self.new ready.now bytes) }
-        ensures unread { IfNone result
-            (IsAsBefore (F.view self.old.follower) (F.view self.new.follower)) }
+        ensures read { HasReadFirst F.faults F.view self.old self.new ready.now result }
     {
         let line = line_at_front(self.follower.ledger(), ready)?;
         match self.follower.event(line.event, &self.tables) {

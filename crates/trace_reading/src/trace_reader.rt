@@ -10,7 +10,7 @@ use crate::fault::TraceFault;
 use crate::follower::Follower;
 use crate::trace::Trace;
 use crate::trace_writer::TraceWriter;
-use command_frame::{Batch, LineRefusal, LineReport, LineTaker};
+use command_frame::{LineRefusal, LineReport, LineTaker};
 use ht_trace::Tables;
 use std::alloc::Global;
 
@@ -68,14 +68,26 @@ impl<F: Follower, W: TraceWriter<F>> LineTaker for TraceReader<F, W> {
         self.trace.end()
     }
 
-    fn batch(&mut self, ready: &[u8], _output: &mut Vec<u8>) -> Batch {
+    #[inline(always)]
+    fn front(&mut self, ready: &[u8], _output: &mut Vec<u8>) -> Option<usize> {
         self.trace.front(ready)
     }
 }
 
-impl<F: Follower, W: TraceWriter<F>> LineReport for TraceReader<F, W> {
-    fn finish(&mut self, alloc: Global) -> Result<Vec<u8>, LineRefusal<TraceFault>> {
-        let output = self.writer.write(alloc, &mut self.trace)?;
-        Ok(output)
+impl<F: Follower, W: TraceWriter<F> + Drop> LineReport for TraceReader<F, W> {
+    type Rest = W::Rest;
+
+    fn finish(self, alloc: Global) -> Result<W::Rest, LineRefusal<TraceFault>> {
+        let TraceReader { trace, writer, .. } = self;
+        let Trace { tables, follower } = trace;
+        let rest = writer.write(alloc, tables, follower)?;
+        Ok(rest)
+    }
+
+    fn close(self) {
+        let TraceReader { trace, .. } = self;
+        let Trace { tables, follower } = trace;
+        drop(tables);
+        follower.close();
     }
 }

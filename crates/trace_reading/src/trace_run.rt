@@ -1,8 +1,9 @@
 //! A whole run over one trace, for which no suppressions are given. What is written of it is the part of the command's writer.
 ghost use Rattle.std.specs.Prelude.{◌≡◌, ◌^◌, ◌<◌, [], ◌∷◌};
+ghost use Rattle.ht_trace.specs.StandsFor.{StandsFor};
 ghost use Rattle.ht_trace.specs.TableState.{TableState};
 ghost use Rattle.command_frame.specs.Plan.{one_file};
-ghost use Rattle.command_frame.specs.RunsTo.{Runs};
+ghost use Rattle.command_frame.specs.RunsTo.{Readies};
 ghost use Rattle.trace_reading.specs.Following.{IsNew};
 ghost use Rattle.trace_reading.specs.TraceReport.{trace_plan, trace_report};
 
@@ -21,9 +22,10 @@ pub fn run_trace<W: TraceWriter<Peaks> + Drop, S: Store, O: Sink>(
     writer: W,
     store: &mut S,
     out: &mut O,
-) -> Result<Vec<u8>, Halt>
+) -> Result<W::Rest, Halt>
     requires { S.opens store.old < 2 ^ 63 }
-    ensures { Runs S.Store O.Sink desk.now (name.now ∷ []) (trace_plan name.now (W.text writer []))
+    ensures { Readies S.Store O.Sink W.Rest.bytes desk.now (name.now ∷ [])
+        (trace_plan name.now (W.text writer []))
         store.old store.new out.old out.new result }
 {
     let peaks = Peaks::new(desk.alloc)?;
@@ -31,23 +33,20 @@ pub fn run_trace<W: TraceWriter<Peaks> + Drop, S: Store, O: Sink>(
 }
 
 /// Reads the named trace with a follower that has followed nothing, and gives what is written of it.
-pub fn run_followed<F: Follower + Drop, W: TraceWriter<F> + Drop, S: Store, O: Sink>(
+pub fn run_followed<F: Follower, W: TraceWriter<F> + Drop, S: Store, O: Sink>(
     desk: &Desk,
     name: &str,
     follower: F,
     writer: W,
     store: &mut S,
     out: &mut O,
-) -> Result<Vec<u8>, Halt>
+) -> Result<W::Rest, Halt>
     requires opens { S.opens store.old < 2 ^ 63 }
-    requires new { (tables : TableState) → IsNew tables (F.view follower) }
-    ensures { Runs S.Store O.Sink desk.now (name.now ∷ [])
+    requires new { (tables : TableState) → StandsFor tables [] → IsNew tables (F.view follower) }
+    ensures { Readies S.Store O.Sink W.Rest.bytes desk.now (name.now ∷ [])
         (one_file name.now (trace_report F.faults [] (W.text writer [])))
         store.old store.new out.old out.new result }
 {
-    let mut reader = TraceReader::new(Tables::new(desk.alloc), follower, writer);
-    let ran = run_one_file(desk, name, &mut reader, store, out);
-    // By name: a proof goes through all parts of what an exit lets go.
-    drop(reader);
-    ran
+    let reader = TraceReader::new(Tables::new(desk.alloc), follower, writer);
+    run_one_file(desk, name, reader, store, out)
 }

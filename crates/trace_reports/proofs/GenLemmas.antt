@@ -6,14 +6,14 @@ use Rattle.hp_outside.specs.WholeLines.{text_of_lines}
 use Rattle.live_ledger.specs.declared.event.Event.{Event}
 use Rattle.ht_trace.specs.StepOf.{event_of, step_of}
 use Rattle.ht_trace.specs.TableState.{TableState}
-use Rattle.peak_costs.specs.PeakState.{PeakState}
+use Rattle.peak_costs.specs.PeakTotals.{PeakTotalsState}
 use Rattle.ht_trace.specs.TraceEvents.{events}
 use Rattle.sound_traces.specs.NoFault.{HasNoFault, IsGood, event_fault}
 use Rattle.trace_gen.specs.declared.generator.Generator.{Generator}
 use Rattle.trace_gen.specs.GeneratorState.{MakesLines, lines_yet}
 use Rattle.trace_reading.specs.declared.fault.TraceFault.TheVariants.{Line, Event as in_ledger}
 use Rattle.trace_reading.specs.declared.trace.Trace.{Trace}
-use Rattle.trace_reading.specs.PeaksView.{peaks_view}
+use Rattle.trace_reading.specs.TotalsView.{totals_view}
 use Rattle.trace_reading.specs.ReadTrace.{HasRead, HasReadText}
 use Rattle.trace_reading.specs.TraceFault.{told}
 use Rattle.trace_reading.specs.TraceReport.{HaveNoFault, content_fault, fault_among, ledger_faults, tables_behind}
@@ -47,7 +47,7 @@ back_good : (earlier lines more : List (List ℕ)) → HasNoFault earlier (lines
 back_good earlier [] more good = subst (λ before. HasNoFault before more) (sym (append-nil earlier)) good
 back_good earlier (line ∷ lines) more good = subst (λ before. HasNoFault before more) (append_assoc earlier (line ∷ []) lines) (back_good (earlier ++ line ∷ []) lines more good.1)
 
-module _ (old : Trace PeakState) (before after : Generator) (lines : List (List ℕ)) (text : List ℕ) (taken : HasTaken old before lines) (made : MakesLines before after text) where
+module _ (old : Trace PeakTotalsState) (before after : Generator) (lines : List (List ℕ)) (text : List ℕ) (taken : HasTaken old before lines) (made : MakesLines before after text) where
   made_good : HasNoFault taken.taken (made.lines ++ lines_yet after)
   made_good = subst (HasNoFault taken.taken) made.split taken.no_fault
 
@@ -62,12 +62,12 @@ module _ (old : Trace PeakState) (before after : Generator) (lines : List (List 
   next_good = subst (HaveNoFault ledger_faults [] taken.taken) (sym lines_are) (front_good taken.taken made.lines (lines_yet after) made_good)
 
   -- and they were read, where there are any
-  pub next_taken : (new : Trace PeakState) → 0 < length text → HasReadText ledger_faults peaks_view old new text → HasTaken new after lines
+  pub next_taken : (new : Trace PeakTotalsState) → 0 < length text → HasReadText ledger_faults totals_view old new text → HasTaken new after lines
   next_taken new some read = record {
     at = made.at;
     sound = read.sound;
     taken = taken.taken ++ made.lines;
-    read = subst (λ more. HasRead peaks_view new [] (taken.taken ++ more)) lines_are (read.read [] taken.taken taken.read);
+    read = subst (λ more. HasRead totals_view new [] (taken.taken ++ more)) lines_are (read.read [] taken.taken taken.read);
     split = taken.split ∙ (ap (λ more. taken.taken ++ more) made.split ∙ sym (append_assoc taken.taken made.lines (lines_yet after)));
     no_fault = back_good taken.taken made.lines (lines_yet after) made_good;
     room = omega (arith, read.weight, made.short, fewer, taken.room, some);

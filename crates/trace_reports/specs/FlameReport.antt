@@ -1,4 +1,5 @@
--- What `flame` makes of the lines of a trace.
+-- What `flame` makes of the lines of a trace. `flame` writes the flame stacks of the lines' tables
+-- and events by a cost.
 use Rattle.std.specs.Prelude.{ℕ, List}
 use Rattle.ht_trace.specs.TraceEvents.{events}
 use Rattle.ht_print.specs.declared.flame.FlameCost.{FlameCost}

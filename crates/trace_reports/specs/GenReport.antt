@@ -1,4 +1,4 @@
--- What the numbers say that a trace is generated from.
+-- The summary of a generated trace is that of the lines that are generated.
 use Rattle.std.specs.Prelude.{ℕ, List, []}
 use Rattle.trace_gen.specs.GeneratedTrace.{generated_lines}
 use Rattle.trace_gen.specs.Sizes.{Sizes}

@@ -1,20 +1,21 @@
--- How far the lines of a generated trace were taken.
+-- Lines of a generated trace were taken where some of them were read, and the generator has yet to
+-- make the others, which have no fault behind those.
 use Rattle.std.specs.Prelude.{◌≡◌, ℕ, ◌+◌, ◌*◌, ◌^◌, ◌≤◌, List, [], ◌++◌, length}
 use Rattle.trace_gen.specs.declared.generator.Generator.{Generator}
 use Rattle.trace_gen.specs.GeneratorState.{IsAt, lines_yet}
 use Rattle.sound_traces.specs.NoFault.{HasNoFault}
-use Rattle.peak_costs.specs.PeakState.{PeakState}
+use Rattle.peak_costs.specs.PeakTotals.{PeakTotalsState}
 use Rattle.trace_reading.specs.declared.trace.Trace.{Trace}
-use Rattle.trace_reading.specs.PeaksView.{peaks_view}
+use Rattle.trace_reading.specs.TotalsView.{totals_view}
 use Rattle.trace_reading.specs.ReadTrace.{HasRead, IsSound, weight_of}
 
 -- some of these lines were read, and a generator has yet to make the others, which have no fault behind them
-pub record HasTaken (trace : Trace PeakState) (generator : Generator) (lines : List (List ℕ))
-    : Type 0 where
+pub record HasTaken (trace : Trace PeakTotalsState) (generator : Generator)
+    (lines : List (List ℕ)) : Type 0 where
   pub at : IsAt generator
-  pub sound : IsSound peaks_view trace
+  pub sound : IsSound totals_view trace
   pub taken : List (List ℕ)
-  pub read : HasRead peaks_view trace [] taken
+  pub read : HasRead totals_view trace [] taken
   pub split : lines ≡ taken ++ lines_yet generator
   pub no_fault : HasNoFault taken (lines_yet generator)
-  pub room : weight_of peaks_view trace + 64 * length (lines_yet generator) ≤ 2 ^ 30
+  pub room : weight_of totals_view trace + 64 * length (lines_yet generator) ≤ 2 ^ 30

@@ -1,4 +1,5 @@
--- What `interpret` makes of the lines of a table of symbols and of a raw trace.
+-- The lines of a table of symbols give nothing; with its symbols each line of the raw trace gives
+-- its interpreted lines.
 use Rattle.std.specs.Prelude.{ℕ, List, [], ◌∷◌, Option, Some, None}
 use Rattle.std.specs.Option.{option_map}
 use Rattle.interpret.specs.Interpreted.{interpreted_lines, text_of}

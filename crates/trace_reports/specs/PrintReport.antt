@@ -1,4 +1,5 @@
--- What `print` makes of the lines of a trace.
+-- What `print` makes of a trace is the report on its tables, which have the patterns, and its
+-- events.
 use Rattle.std.specs.Prelude.{ℕ, List}
 use Rattle.ht_trace.specs.TraceEvents.{events}
 use Rattle.ht_print.specs.declared.options.PrintOptions.{PrintOptions}

@@ -1,4 +1,5 @@
--- What `summary` makes of the lines of a trace.
+-- What `summary` makes of the lines of a trace. `summary` writes the summary of the events,
+-- whatever patterns were given.
 use Rattle.std.specs.Prelude.{ℕ, List, []}
 use Rattle.ht_trace.specs.TraceEvents.{events}
 use Rattle.ht_print.specs.SummaryText.{summary_text}

@@ -1,18 +1,41 @@
-//! Flame stacks: a line for each list of frame texts of one trace's stacks, for a flame graph to be drawn of.
+//! Flame stacks: a line for each list of frame texts of one trace's stacks, for a flame graph to be drawn of. They are written
+//! while they are made.
 ghost use Rattle.std.specs.Prelude.{◌^◌, ◌<◌, [], ◌∷◌};
-ghost use Rattle.command_frame.specs.RunsTo.{Runs};
+ghost use Rattle.command_frame.specs.RunsTo.{Readies};
 ghost use Rattle.trace_reading.specs.TraceReport.{trace_plan};
 ghost use Rattle.trace_reports.specs.FlameReport.{flame_written};
 
-use command_frame::{Desk, Halt};
+use command_frame::{Desk, Halt, Paged, PieceMaker, ReadyText};
 use hp_num::NoMemory;
 use hp_outside::{Sink, Store};
-use ht_print::{FlameCost, put_flame_of_lists, stack_costs};
+use ht_print::{FlameCost, FlameLines, stack_costs};
 use ht_trace::{Style, Tables};
 use peak_costs::Peaks;
 use stack_trees::lists_from_root;
 use std::alloc::Global;
-use trace_reading::{Trace, TraceWriter, run_trace};
+use trace_reading::{TraceWriter, run_trace};
+
+/// The lines of flame stacks, one after another.
+#[derive(Drop)]
+pub struct FlameText {
+    lines: FlameLines,
+}
+
+impl PieceMaker for FlameText {
+    ghost rest = { λ text. text.lines.rest };
+
+    ghost pieces = { λ text. text.lines.left };
+
+    ghost longest = { λ text. text.lines.longest };
+
+    fn longest_piece(&self) -> usize {
+        self.lines.longest_line()
+    }
+
+    fn piece(&mut self, output: &mut Vec<u8>) -> Result<bool, NoMemory> {
+        self.lines.put_next(output)
+    }
+}
 
 /// Writes the flame stacks.
 #[derive(Clone, Copy)]
@@ -23,16 +46,23 @@ pub struct FlameWriter {
 impl TraceWriter<Peaks> for FlameWriter {
     ghost use Rattle.trace_reports.specs.FlameReport.{flame_written};
 
+    type Rest = Paged<FlameText>;
+
     ghost text = { λ writer. flame_written writer.cost };
 
-    fn write(&self, alloc: Global, trace: &mut Trace<Peaks>) -> Result<Vec<u8>, NoMemory> {
-        let costs = stack_costs(alloc, self.cost, &trace.follower)?;
-        trace.follower = Peaks::new(alloc)?;
-        let lists = lists_from_root(alloc, &trace.tables, Style::Plain)?;
-        trace.tables = Tables::new(alloc);
-        let mut output = Vec::new(alloc);
-        put_flame_of_lists(alloc, lists, costs, &mut output)?;
-        Ok(output)
+    fn write(
+        &self,
+        alloc: Global,
+        tables: Tables,
+        peaks: Peaks,
+    ) -> Result<Paged<FlameText>, NoMemory> {
+        let costs = stack_costs(alloc, self.cost, &peaks);
+        drop(peaks);
+        let lists = lists_from_root(alloc, &tables, Style::Plain);
+        drop(tables);
+        let lines = FlameLines::of_lists(alloc, lists?, costs?)?;
+        let text = Paged::new(alloc, FlameText { lines })?;
+        Ok(text)
     }
 }
 
@@ -43,9 +73,10 @@ pub fn run_flame<S: Store, O: Sink>(
     cost: FlameCost,
     store: &mut S,
     out: &mut O,
-) -> Result<Vec<u8>, Halt>
+) -> Result<Paged<FlameText>, Halt>
     requires { S.opens store.old < 2 ^ 63 }
-    ensures { Runs S.Store O.Sink desk.now (trace.now ∷ [])
+    ensures { Readies S.Store O.Sink ⟦<Paged<FlameText> as ReadyText>⟧.bytes desk.now
+        (trace.now ∷ [])
         (trace_plan trace.now (flame_written cost []))
         store.old store.new out.old out.new result }
 {

@@ -4,15 +4,15 @@ ghost use Rattle.trace_gen.specs.GeneratorState.{IsAt, lines_yet};
 ghost use Rattle.trace_gen.specs.Sizes.{sizes_of};
 ghost use Rattle.sound_traces.specs.NoFault.{HasNoFault};
 ghost use Rattle.trace_reports.specs.GenReport.{gen_summary};
-ghost use Rattle.trace_reading.specs.PeaksView.{peaks_view};
+ghost use Rattle.trace_reading.specs.TotalsView.{totals_view};
 ghost use Rattle.trace_reading.specs.ReadTrace.{HasRead, IsSound, weight_of};
 ghost use Rattle.trace_reports.specs.SummaryReport.{summary_written};
 
 use command_frame::LineRefusal;
 use hp_num::NoMemory;
-use ht_print::put_summary;
+use ht_print::put_totals_summary;
 use ht_trace::Tables;
-use peak_costs::Peaks;
+use peak_costs::PeakTotals;
 use sound_traces::generated_traces;
 use std::alloc::Global;
 use trace_gen::{Generator, GeneratorOptions};
@@ -24,7 +24,7 @@ pub fn gen_summary(alloc: Global, options: &GeneratorOptions) -> Result<Vec<u8>,
 {
     generated_traces();
     let mut generator = Generator::new(alloc, options)?;
-    let follower = Peaks::new(alloc)?;
+    let follower = PeakTotals::new(alloc);
     let tables = Tables::new(alloc);
     let mut trace = Trace { tables, follower };
     let summary = summarize(alloc, &mut generator, &mut trace);
@@ -38,20 +38,20 @@ pub fn gen_summary(alloc: Global, options: &GeneratorOptions) -> Result<Vec<u8>,
 fn summarize(
     alloc: Global,
     generator: &mut Generator,
-    trace: &mut Trace<Peaks>,
+    trace: &mut Trace<PeakTotals>,
 ) -> Result<Vec<u8>, NoMemory>
     requires at { IsAt generator.old }
     requires few { length (lines_yet generator.old) ≤ 10016003 }
     requires good { HasNoFault [] (lines_yet generator.old) }
-    requires sound { IsSound peaks_view trace.old }
-    requires new_trace { HasRead peaks_view trace.old [] [] }
-    requires no_weight { weight_of peaks_view trace.old ≡ 0 }
+    requires sound { IsSound totals_view trace.old }
+    requires new_trace { HasRead totals_view trace.old [] [] }
+    requires no_weight { weight_of totals_view trace.old ≡ 0 }
     ensures { IfOk result
         (λ summary. summary.items ≡ summary_written [] (lines_yet generator.old)) }
 {
     read_lines(alloc, generator, trace)?;
     let mut summary = Vec::new(alloc);
-    put_summary(&trace.follower, &mut summary)?;
+    put_totals_summary(&trace.follower, &mut summary)?;
     Ok(summary)
 }
 
@@ -59,15 +59,15 @@ fn summarize(
 fn read_lines(
     alloc: Global,
     generator: &mut Generator,
-    trace: &mut Trace<Peaks>,
+    trace: &mut Trace<PeakTotals>,
 ) -> Result<(), NoMemory>
     requires at { IsAt generator.old }
     requires few { length (lines_yet generator.old) ≤ 10016003 }
     requires good { HasNoFault [] (lines_yet generator.old) }
-    requires sound { IsSound peaks_view trace.old }
-    requires new_trace { HasRead peaks_view trace.old [] [] }
-    requires no_weight { weight_of peaks_view trace.old ≡ 0 }
-    ensures { OnOk result (HasRead peaks_view trace.new [] (lines_yet generator.old)) }
+    requires sound { IsSound totals_view trace.old }
+    requires new_trace { HasRead totals_view trace.old [] [] }
+    requires no_weight { weight_of totals_view trace.old ≡ 0 }
+    ensures { OnOk result (HasRead totals_view trace.new [] (lines_yet generator.old)) }
 {
     let mut text = Vec::new(alloc);
     'texts: loop {

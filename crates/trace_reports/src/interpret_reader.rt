@@ -1,12 +1,11 @@
 //! The readers of a table of symbols and of a raw trace, whose interpreted lines are written while it is read.
-ghost use Rattle.std.specs.Prelude.{◌≡◌, ◌≤◌, ℕ, List, [], length};
-ghost use Rattle.command_frame.specs.Batch.{HasGivenFront};
+ghost use Rattle.std.specs.Prelude.{◌≡◌};
 ghost use Rattle.interpret.specs.SymbolList.{symbols_of};
 ghost use Rattle.interpret.specs.InterpreterState.{StandsFor};
 ghost use Rattle.trace_reports.specs.InterpretReport.{interpret_report, symbols_report};
 
 use crate::symbol_file_fault::SymbolFileFault;
-use command_frame::{Batch, FilePair, LineRefusal, LineReport, LineTaker};
+use command_frame::{FilePair, LineRefusal, LineReport, LineTaker};
 use hp_num::NoMemory;
 use ht_trace::LineError;
 use interpret::{Interpreter, SymbolFault, Symbols};
@@ -79,35 +78,20 @@ impl LineTaker for RawReader {
         }
     }
 
-    fn batch(&mut self, ready: &[u8], output: &mut Vec<u8>) -> Batch {
-        take_lines(&mut self.interpreter, ready, output)
-    }
-}
-
-/// Takes lines of a raw trace at the front of the bytes, as long as `take_front` takes them.
-fn take_lines(interpreter: &mut Interpreter, ready: &[u8], output: &mut Vec<u8>) -> Batch
-    ensures taken { HasGivenFront (interpret_report interpreter.old.symbols)
-        (StandsFor interpreter.old interpreter.old.symbols)
-        (StandsFor interpreter.new interpreter.new.symbols) ready.now result.bytes result.lines
-        output.old.items output.new.items }
-    ensures held { result.bytes ≤ length ready.now }
-    ensures symbols { interpreter.new.symbols ≡ interpreter.old.symbols }
-{
-    let mut bytes = 0;
-    let mut lines = 0;
-    'lines: loop {
-        let Some(taken) = interpreter.take_front(&ready[bytes..], output) else {
-            return Batch { bytes, lines };
-        };
-        bytes += taken;
-        lines += 1;
+    #[inline(always)]
+    fn front(&mut self, ready: &[u8], output: &mut Vec<u8>) -> Option<usize> {
+        self.interpreter.take_front(ready, output)
     }
 }
 
 impl LineReport for RawReader {
-    fn finish(&mut self, alloc: Global) -> Result<Vec<u8>, LineRefusal<TraceFault>> {
+    type Rest = Vec<u8>;
+
+    fn finish(self, alloc: Global) -> Result<Vec<u8>, LineRefusal<TraceFault>> {
         Ok(Vec::new(alloc))
     }
+
+    fn close(self) {}
 }
 
 /// A table of symbols and a raw trace.

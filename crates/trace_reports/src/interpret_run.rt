@@ -66,11 +66,8 @@ fn run_alone<S: Store, O: Sink>(
         (one_file trace.now (interpret_report []))
         store.old store.new out.old out.new result }
 {
-    let mut reader = RawReader {
+    let reader = RawReader {
         interpreter: Interpreter::new(desk.alloc, Symbols::new(desk.alloc)),
     };
-    let ran = run_one_file(desk, trace, &mut reader, store, out);
-    // By name: a proof goes through all parts of what an exit lets go.
-    drop(reader);
-    ran
+    run_one_file(desk, trace, reader, store, out)
 }

@@ -3,9 +3,10 @@
 //! that of `trace_reading`, and files and their order are the frame's.
 //!
 //! What it promises: `run_summary`, `run_print`, `run_flame` and `run_interpret` come to the frame's `Runs`, by a plan that says the
-//! whole text by the lines of the files, and the first fault of each. The first three are writers of a trace (`TraceWriter`);
-//! `interpret` has takers of its own, which write each line's interpretation while they read. `run_gen` writes a generated
-//! trace while it is made, and `run_gen_summary` gives the summary of one, whose lines are read as they are made.
+//! whole text by the lines of the files, and the first fault of each. The first three are writers of a trace (`TraceWriter`),
+//! `summary` of one whose totals alone are kept; `interpret` has takers of its own, which write each line's interpretation while
+//! they read. `run_gen` writes a generated trace while it is made, and `run_gen_summary` gives the summary of one, whose lines are
+//! read as they are made.
 //!
 //! `proofs/Laws` has what callers may cite. The tests are runs of the commands, in the crate `commands_tests`.
 //!
@@ -26,7 +27,7 @@ mod print_run;
 mod summary_run;
 mod symbol_file_fault;
 
-pub use flame_run::run_flame;
+pub use flame_run::{FlameText, run_flame};
 pub use gen_run::{run_gen, run_gen_summary};
 pub use interpret_run::run_interpret;
 pub use print_run::run_print;

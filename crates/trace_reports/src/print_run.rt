@@ -8,9 +8,10 @@ use command_frame::{Desk, Halt, PairNames};
 use hp_num::NoMemory;
 use hp_outside::{Sink, Store};
 use ht_print::{PrintOptions, Suppressed, put_report};
+use ht_trace::Tables;
 use peak_costs::Peaks;
 use std::alloc::Global;
-use trace_reading::{Trace, TraceWriter, run_suppressed, run_trace};
+use trace_reading::{TraceWriter, run_suppressed, run_trace};
 
 /// Writes the report.
 #[derive(Clone, Copy)]
@@ -21,16 +22,18 @@ pub struct PrintWriter {
 impl TraceWriter<Peaks> for PrintWriter {
     ghost use Rattle.trace_reports.specs.PrintReport.{report_written};
 
+    type Rest = Vec<u8>;
+
     ghost text = { λ writer. report_written writer.options };
 
-    fn write(&self, alloc: Global, trace: &mut Trace<Peaks>) -> Result<Vec<u8>, NoMemory> {
-        let suppressed = Suppressed::build(alloc, &trace.tables)?;
+    fn write(&self, alloc: Global, tables: Tables, peaks: Peaks) -> Result<Vec<u8>, NoMemory> {
+        let suppressed = Suppressed::build(alloc, &tables)?;
         let mut output = Vec::new(alloc);
         put_report(
             alloc,
             &self.options,
-            &trace.tables,
-            &trace.follower,
+            &tables,
+            &peaks,
             &suppressed,
             &mut output,
         )?;

@@ -1,4 +1,4 @@
-//! The summary of one trace: six figures.
+//! The summary of one trace: six figures. No figure of a stack is kept for it.
 ghost use Rattle.std.specs.Prelude.{◌^◌, ◌<◌, [], ◌∷◌};
 ghost use Rattle.command_frame.specs.RunsTo.{Runs};
 ghost use Rattle.trace_reports.specs.SummaryReport.{summary_plan};
@@ -6,23 +6,32 @@ ghost use Rattle.trace_reports.specs.SummaryReport.{summary_plan};
 use command_frame::{Desk, Halt};
 use hp_num::NoMemory;
 use hp_outside::{Sink, Store};
-use ht_print::put_summary;
-use peak_costs::Peaks;
+use ht_print::put_totals_summary;
+use ht_trace::Tables;
+use peak_costs::PeakTotals;
 use std::alloc::Global;
-use trace_reading::{Trace, TraceWriter, run_trace};
+use trace_reading::{TraceWriter, run_followed};
 
 /// Writes the six lines.
 #[derive(Clone, Copy)]
 pub struct SummaryWriter;
 
-impl TraceWriter<Peaks> for SummaryWriter {
+impl TraceWriter<PeakTotals> for SummaryWriter {
     ghost use Rattle.trace_reports.specs.SummaryReport.{summary_written};
+
+    type Rest = Vec<u8>;
 
     ghost text = { λ _. summary_written };
 
-    fn write(&self, alloc: Global, trace: &mut Trace<Peaks>) -> Result<Vec<u8>, NoMemory> {
+    fn write(
+        &self,
+        alloc: Global,
+        tables: Tables,
+        totals: PeakTotals,
+    ) -> Result<Vec<u8>, NoMemory> {
+        drop(tables);
         let mut output = Vec::new(alloc);
-        put_summary(&trace.follower, &mut output)?;
+        put_totals_summary(&totals, &mut output)?;
         Ok(output)
     }
 }
@@ -38,5 +47,6 @@ pub fn run_summary<S: Store, O: Sink>(
     ensures { Runs S.Store O.Sink desk.now (trace.now ∷ []) (summary_plan trace.now)
         store.old store.new out.old out.new result }
 {
-    run_trace(desk, trace, SummaryWriter, store, out)
+    let totals = PeakTotals::new(desk.alloc);
+    run_followed(desk, trace, totals, SummaryWriter, store, out)
 }

@@ -1,7 +1,7 @@
 use Rattle.std.proofs.Common.{◌∷◌, [], subst}
 use Rattle.command_frame.specs.Plan.{one_file}
 use Rattle.command_frame.specs.Report.{Report}
-use Rattle.command_frame.specs.RunsTo.{RunsTo, shown, taken}
+use Rattle.command_frame.specs.RunsTo.{RunsReady, shown, taken}
 use Rattle.command_frame.proofs.RunsToLemmas.{runs_on, runs_stopped, runs_wanting_by}
 use Rattle.command_frame.proofs.pair.run_pair.Goals as goal
 
@@ -17,6 +17,6 @@ returns-in_err-second g c = runs_on _ _ _ _ _ _ _ _ _ _ _ _ c.in-Ok.ensures.read
 pub returns : goal.returns
 returns g c =
     let second = c.args.names.now.second.now in
-    runs_on _ _ _ _ _ _ _ _ _ _ _ _ c.in-Ok.ensures.read (λ lines has. subst (λ (report : Report). RunsTo c.args.desk.now (second ∷ []) (one_file second report)
+    runs_on _ _ _ _ _ _ _ _ _ _ _ _ c.in-Ok.ensures.read (λ lines has. subst (λ (report : Report). RunsReady g.P.Second.Rest.ReadyText.bytes c.args.desk.now (second ∷ []) (one_file second report)
     (shown g.S.Store c.read_named_file.new.store) (shown g.S.Store c.run_last_file.new.store) (taken g.O.Sink c.read_named_file.new.out) (taken g.O.Sink c.run_last_file.new.out) c.run_last_file.result)
     (c.in_ok-second.ensures.report lines has) c.run_last_file.ensures)

@@ -4,9 +4,9 @@ use Rattle.ht_print.specs.declared.summary.Summary.{Summary}
 use Rattle.ht_print.specs.SummaryText.{count_lines, live_lines, summary_text}
 use Rattle.ht_print.proofs.summary.put_summary.Goals as goal
 
-pub returns-else-is_err-clause-appended : goal.returns-else-is_err-clause-appended
+pub returns-clause-appended : goal.returns-clause-appended
 unfolding summary_text
-returns-else-is_err-clause-appended c =
-    on_ok_weaker c.put-put.result
-    (λ put events stands. put ∙ ap (λ (summary : Summary). c.args.out.now.items ++ (count_lines summary ++ live_lines summary)) (c.of.ensures events stands))
-    c.put-put.ensures.appended
+returns-clause-appended c =
+    on_ok_weaker c.put.result
+    (λ put events stands. put ∙ ap (λ (summary : Summary). c.args.out.now.items ++ (count_lines summary ++ live_lines summary)) (c.of_peaks.ensures events stands))
+    c.put.ensures.appended

@@ -1,4 +1,4 @@
-use Rattle.std.proofs.Common.{◌≡◌, ◌≢◌, ◌∙◌, ◌++◌, ◌∷◌, ◌+◌, [], length, ap, subst, sym, inl, inr, rules}
+use Rattle.std.proofs.Common.{◌≡◌, ◌≢◌, ◌∙◌, ◌++◌, ◌∷◌, ◌+◌, [], length, ap, subst, inl, inr, rules}
 use Rattle.massif_cull.specs.declared.snapshot.Offer.{Offer}
 use Rattle.massif_cull.specs.declared.snapshot.Taken.TheVariants.{Normal}
 use Rattle.massif_cull.specs.KeptOf.{kept_of}
@@ -22,7 +22,7 @@ returns-then-taken-eq1-clause-sampling g c =
     λ names events made texts said was.
     let offer_is = offer-now c.args.samples.now.options (ignores c.args.tables.now names) events c.args.samples.now.running c.args.as_peak was.figures in
     subst (λ (o : Offer). IsSampling c.take.new.self names c.args.tables.now events (made ++ o ∷ [])) offer_is
-    (c.take.ensures.sampling names c.args.tables.now events made (inl (sym c.requires.judged ∙ normal)) was)
+    (c.take.ensures.sampling names c.args.tables.now events made (inl normal) was)
 
 pub returns-in_err-add_fronts-clause-due : goal.returns-in_err-add_fronts-clause-due
 returns-in_err-add_fronts-clause-due g c =

@@ -12,18 +12,17 @@ use Rattle.massif_sample.specs.Offers.{offer_at, offers, peak_before}
 use Rattle.massif_sample.specs.Running.{AreFigures, passes_most, with_event}
 use Rattle.massif_sample.specs.SamplesState.{SamplesState}
 use Rattle.massif_sample.specs.StandsFor.{IsSampling, StandsFor}
-use Rattle.massif_sample.proofs.Standing.{counted-event, counted-is, due-detailed, fault-counted, fault-passed, of-held, stands-counted, stands-passed, tells-none, tells-ok}
-use Rattle.massif_sample.proofs.Trees.{at_ok, both_ok, of_err}
+use Rattle.massif_sample.proofs.Standing.{counted-event, counted-is, due-detailed, fault-counted, fault-passed, of-held, stands-counted, stands-passed, tells-none}
+use Rattle.massif_sample.proofs.Trees.{both_ok, of_err}
 use Rattle.massif_sample.proofs.taking.take_event.Goals as goal
 
 pub returns-in_default-clause-stands : goal.returns-in_default-clause-stands
 returns-in_default-clause-stands g c =
     let of_stack = of-held c.args.ledger.now c.args.stacks.now.tables.now c.args.event c.in_ok-check.ensures.sound c.requires.stacks c.requires.held in
-    at_ok c.pass.result
-    (λ names events texts stands ledger.
+    λ names events texts stands ledger.
     let uncounted = counted-is names c.args.stacks.now.tables.now c.args.stacks.now.judged.now c.args.event c.requires.judged stands.judged of_stack ∙ c.in_default.ensures.none in
     subst (λ (s : SamplesState). StandsFor c.args.stacks.now.judged.now s names c.args.stacks.now.tables.now (events ++ c.args.event ∷ [])) (sym c.pass.ensures.samples)
-    (stands-passed c.args.stacks.now.judged.now c.args.samples.now names c.args.stacks.now.tables.now events c.args.event uncounted of_stack stands))
+    (stands-passed c.args.stacks.now.judged.now c.args.samples.now names c.args.stacks.now.tables.now events c.args.event uncounted of_stack stands)
 
 pub returns-in_default-clause-fault : goal.returns-in_default-clause-fault
 returns-in_default-clause-fault g c =
@@ -31,7 +30,7 @@ returns-in_default-clause-fault g c =
     λ names events stands ledger.
     let uncounted = counted-is names c.args.stacks.now.tables.now c.args.stacks.now.judged.now c.args.event c.requires.judged stands.judged of_stack ∙ c.in_default.ensures.none in
     let no_fault : None ≡ fault_of events c.args.event = c.in_ok-check.ensures.fault events ledger in
-    tells-ok c.pass.result _ c.pass.ensures.ok (fault-passed c.args.samples.now.options (ignores c.args.stacks.now.tables.now names) events c.args.event (sym no_fault) uncounted)
+    fault-passed c.args.samples.now.options (ignores c.args.stacks.now.tables.now names) events c.args.event (sym no_fault) uncounted
 
 pub behind-requires-clause-within : goal.behind-requires-clause-within
 behind-requires-clause-within g c =

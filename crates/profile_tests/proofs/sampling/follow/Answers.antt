@@ -28,7 +28,7 @@ steps-preserved g c =
       callable = held.callable;
       stacks = after.applied.stacks ∙ held.stacks;
       judged = ap length after.judged ∙ held.judged;
-      few = omega (arith, after.applied.count, held.few);
+      few = omega (arith, after.applied.at_most_one_more, held.few);
       stands = (
         before.0,
         before.1 ++ c.in-Some.event ∷ [],

@@ -7,7 +7,7 @@ pub follow-followed-requires-clause-stacks : goal.follow-followed-requires-claus
 follow-followed-requires-clause-stacks g c = rw c.new-tables.ensures.nodes c.in_ok-ledger.ensures.stacks
 
 pub follow-followed-requires-clause-none_yet : goal.follow-followed-requires-clause-none_yet
-follow-followed-requires-clause-none_yet g c = c.in_ok-ledger.ensures.stands.figures.events_is
+follow-followed-requires-clause-none_yet g c = c.in_ok-ledger.ensures.stands.whole.figures.events_is
 
 pub follow-followed-requires-clause-stands : goal.follow-followed-requires-clause-stands
 follow-followed-requires-clause-stands g c =

@@ -1,13 +1,11 @@
-use Rattle.std.proofs.Common.{◌≡◌, ◌+◌, [], ◌∷◌, length, ap, ap₂, subst, ◌∙◌, length-append, arith}
-use Rattle.std.proofs.lemmas.Result.{IfOk-weaker}
+use Rattle.std.proofs.Common.{◌≡◌, ◌+◌, [], ◌∷◌, length, ap, subst, ◌∙◌, length-append, arith}
 use Rattle.command_frame.specs.RunsTo.{shown, taken}
 use Rattle.record_scripts.specs.Job.{Job}
 use Rattle.recording.specs.declared.reader.FileKind.TheVariants.{Script}
-use Rattle.recording.specs.FileLines.{begun, with_lines}
-use Rattle.recording.specs.FilesPlan.{file_front, scripts_in}
+use Rattle.recording.specs.FileLines.{begun}
+use Rattle.recording.specs.FilesPlan.{file_front}
 use Rattle.recording.specs.FrontRead.{FrontRead}
 use Rattle.recording.proofs.FrontLemmas.{wanting_file}
-use Rattle.recording.proofs.LineLemmas.{count-lines}
 use Rattle.recording.proofs.files.read_script.Goals as goal
 
 pub returns-in_err-begin-clause-read : goal.returns-in_err-begin-clause-read
@@ -19,17 +17,9 @@ returns-clause-read g c =
     subst (λ (start : Job). FrontRead c.args.desk.now (file_front Script c.args.name.now start) (shown g.S.Store c.args.store.now) (shown g.S.Store c.read_file.new.store)
     (taken g.O.Sink c.args.out.now) (taken g.O.Sink c.read_file.new.out) c.read_file.result) c.in_ok-begin.ensures.begun c.read_file.ensures.read
 
-pub returns-clause-job : goal.returns-clause-job
-returns-clause-job g c =
-    IfOk-weaker c.read_file.result _ _ (λ job said. λ folder known names. ap (scripts_in folder names) (said.1.0 ∙ ap₂ (with_lines Script) c.in_ok-begin.ensures.begun (said.1.1 folder known))) c.read_file.ensures.lines
-
 -- one script more was begun
 one_more : (old new : Job) → new ≡ begun old → length new.scripts ≡ length old.scripts + 1
 one_more old new is = ap (λ (job : Job). length job.scripts) is ∙ length-append old.scripts ([] ∷ [])
-
-pub returns-clause-count : goal.returns-clause-count
-returns-clause-count g c =
-    IfOk-weaker c.read_file.result _ _ (λ job said. ap (λ (j : Job). length j.scripts) said.1.0 ∙ count-lines Script c.begin.new.self said.0 ∙ one_more c.args.scripts c.begin.new.self c.in_ok-begin.ensures.begun) c.read_file.ensures.lines
 
 pub read_file-requires-clause-open : goal.read_file-requires-clause-open
 read_file-requires-clause-open g c = λ is. let more = one_more c.args.scripts c.begin.new.self c.in_ok-begin.ensures.begun in omega (arith, more)

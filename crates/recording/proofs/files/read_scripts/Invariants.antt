@@ -1,10 +1,10 @@
 -- The scripts so far were read, and the run goes on behind them.
-use Rattle.std.proofs.Common.{◌≡◌, ◌+◌, length, map, drop}
-use Rattle.hp_outside.specs.Taken.{WhereTold}
+use Rattle.std.proofs.Common.{◌≡◌, map, drop}
 use Rattle.command_frame.specs.FirstFault.{bounds_of}
 use Rattle.command_frame.specs.RunsTo.{shown}
 use Rattle.command_frame.specs.Texts.{texts_of}
-use Rattle.recording.specs.FilesPlan.{scripts_front, scripts_in}
+use Rattle.recording.specs.FilesPlan.{scripts_front}
+use Rattle.recording.specs.FileStart.{HasLimits}
 use Rattle.recording.specs.FrontRead.{LeadsTo}
 use Rattle.recording.proofs.files.read_scripts.Given as goal
 
@@ -13,11 +13,7 @@ invariant-each_name g l = record {
   leads : LeadsTo (texts_of l.desk.texts) (bounds_of l.desk.limits) (g.S.Store.files l.initial.store)
       (scripts_front (map (λ name. name.now) l.names) l.initial.scripts) (shown g.S.Store l.initial.store).moment
       (scripts_front (map (λ name. name.now) (drop l.name-index l.names)) l.scripts) (shown g.S.Store l.store).moment;
-  job : WhereTold (g.S.Store.files l.initial.store) (λ folder. scripts_in folder (map (λ name. name.now) (drop l.name-index l.names)) l.scripts ≡ scripts_in folder (map (λ name. name.now) l.names) l.initial.scripts);
-  count : length l.scripts.scripts ≡ length l.initial.scripts.scripts + l.name-index;
-  opens : g.S.Store.opens l.store ≡ g.S.Store.opens l.initial.store + l.name-index;
-  input : l.lines.input ≡ l.desk.limits.input;
-  line_limit : l.lines.line_limit ≡ l.desk.limits.line;
+  limits : HasLimits l.lines l.desk.limits;
   silent : g.O.Sink.written l.out ≡ g.O.Sink.written l.initial.out;
   files : g.S.Store.files l.store ≡ g.S.Store.files l.initial.store;
   write_faults : g.O.Sink.faults l.out ≡ g.O.Sink.faults l.initial.out;

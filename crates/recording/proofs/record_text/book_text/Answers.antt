@@ -15,7 +15,7 @@ returns-then-summary c =
     let is : text ≡ recorded job order ++ rec_summary job.scripts order = c.in_ok-put_bytes.ensures.appended ∙ ap₂ (λ (front back : List ℕ). front ++ back) c.into_bytes-text.ensures.trace lines in
     subst (λ (b : Bool). IsRecorded b job text) (sym c.if-summary.true)
     (recorded_as true job order text is (c.spelled_orders.ensures.summary job order order few (c.quiet_modules.ensures job.modules c.requires.modules) c.requires.all.under) c.requires.all c.requires.figures
-    (c.recorded_summaries.ensures.summary job order c.threads-threads.ensures.playable c.requires.modules c.requires.all.under))
+    (c.recorded_summaries.ensures job order (record { playable = c.threads-threads.ensures.playable; modules = c.requires.modules; under = c.requires.all.under })).summary)
 
 pub returns : goal.returns
 returns c =
@@ -25,4 +25,4 @@ returns c =
     let few : length job.scripts ≤ 64 = omega (arith, c.threads-threads.ensures.count, c.threads-threads.ensures.few) in
     subst (λ (b : Bool). IsRecorded b job text) (sym c.if-summary.false)
     (recorded_as false job order text c.into_bytes.ensures.trace (c.spelled_orders.ensures.trace job order few (c.quiet_modules.ensures job.modules c.requires.modules) c.requires.all.under) c.requires.all c.requires.figures
-    (c.recorded_summaries.ensures.trace job order c.threads-threads.ensures.playable c.requires.modules c.requires.all.under))
+    (c.recorded_summaries.ensures job order (record { playable = c.threads-threads.ensures.playable; modules = c.requires.modules; under = c.requires.all.under })).trace)

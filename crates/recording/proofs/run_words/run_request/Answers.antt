@@ -1,12 +1,11 @@
-use Rattle.std.proofs.Common.{◌≡◌, ◌≤◌, Bor, ℕ, List, Some, Ok, Err, map, length, ap, sym, subst, ◌∙◌, arith}
+use Rattle.std.proofs.Common.{◌≤◌, Bor, ℕ, List, Some, Ok, Err, map, length, ap, sym, subst, arith}
 use Rattle.std.proofs.lemmas.List.{length-map}
 use Rattle.std.specs.Option.{option_copied}
-use Rattle.hp_outside.specs.Taken.{WhereTold}
 use Rattle.command_frame.specs.Answer.{done}
 use Rattle.command_frame.specs.FirstFault.{bounds_of}
 use Rattle.command_frame.specs.RunsTo.{rest_of, shown, taken}
 use Rattle.recording.specs.FileLines.{no_job}
-use Rattle.recording.specs.FilesPlan.{files_front, job_in}
+use Rattle.recording.specs.FilesPlan.{files_front}
 use Rattle.recording.specs.FrontRead.{FrontRead}
 use Rattle.recording.specs.Recorded.{IsRecorded}
 use Rattle.recording.specs.RecordWords.{Task}
@@ -14,6 +13,7 @@ use Rattle.recording.specs.Requests.{asked_by, task_by}
 use Rattle.recording.specs.Run.{WordsRecord}
 use Rattle.recording.specs.Texts.{heaprec_texts}
 use Rattle.recording.proofs.EndLemmas.{asked_checked, asked_done, asked_halted, asked_wanting, asks}
+use Rattle.recording.proofs.FrontLemmas.{few_named}
 use Rattle.recording.proofs.run_words.run_request.Goals as goal
 
 pub returns-in-Err : goal.returns-in-Err
@@ -39,12 +39,7 @@ returns-in_ok-record_text-in-Record g c =
     subst (λ (task : Task). WordsRecord IsRecorded (bounds_of c.args.desk.now.limits) limit (Some (asks modules scripts task)) before now old new (done c.in_ok-record_text-in-Record.field-0.items)) (sym (ap task_by c.in-Record.is))
     (asked_done IsRecorded c.args.desk.now limit modules scripts c.in-Record.summary before now old new c.in-Ok.scripts c.in_ok-record_text-in-Record.field-0.items c.requires.texts
     (subst (λ (names : List (Bor (List ℕ))). FrontRead c.args.desk.now (files_front modules (map (λ name. name.now) names) (no_job limit)) before now old new (Ok c.in-Ok.scripts)) c.deref.ensures.value c.in-Ok.ensures.read)
-    (record {
-      job = c.in-Ok.scripts;
-      may = c.in_ok-record_text-in-Record.ensures;
-      count = c.in-Ok.ensures.count ∙ ap (λ (names : List (Bor (List ℕ))). length names) c.deref.ensures.value ∙ sym (length-map c.args.request.now.scripts.items (λ name. name.now));
-      told = subst (λ (names : List (Bor (List ℕ))). WhereTold before.files (λ folder. c.in-Ok.scripts ≡ job_in folder modules (map (λ name. name.now) names) limit)) c.deref.ensures.value c.in-Ok.ensures.job;
-    }))
+    c.in_ok-record_text-in-Record.ensures)
 
 pub returns-in_err-record_text-in-Record : goal.returns-in_err-record_text-in-Record
 returns-in_err-record_text-in-Record g c =
@@ -72,10 +67,16 @@ returns-in-Check g c =
     let new = taken g.O.Sink c.check_trace.new.out in
     let limit = c.args.desk.now.limits.order in
     let job = c.in-Ok.scripts in
-    let few : length job.scripts ≤ 64 = omega (arith, c.in-Ok.ensures.count ∙ ap (λ (names : List (Bor (List ℕ))). length names) c.deref.ensures.value, c.requires.few) in
+    let few : length job.scripts ≤ 64 =
+    omega (arith, c.in-Ok.ensures.read.goes_on.threads, length-map c.deref.result.now (λ (name : Bor (List ℕ)). name.now), ap (λ (names : List (Bor (List ℕ))). length names) c.deref.ensures.value, c.requires.few) in
     subst (λ (task : Task). WordsRecord IsRecorded (bounds_of c.args.desk.now.limits) limit (Some (asks modules scripts task)) before now old new (rest_of heaprec_texts c.check_trace.result)) (sym (ap task_by c.in-Check.is))
     (asked_checked IsRecorded c.args.desk.now limit modules scripts c.in-Check.trace.now before mid now old between new job c.check_trace.result c.requires.texts
     (c.front_laws.ensures job few (c.quiet_modules.ensures job.modules c.modules-modules.ensures.whole))
-    (subst (λ (names : List (Bor (List ℕ))). WhereTold before.files (λ folder. job ≡ job_in folder modules (map (λ name. name.now) names) limit)) c.deref.ensures.value c.in-Ok.ensures.job)
     (subst (λ (names : List (Bor (List ℕ))). FrontRead c.args.desk.now (files_front modules (map (λ name. name.now) names) (no_job limit)) before mid old between (Ok job)) c.deref.ensures.value c.in-Ok.ensures.read)
     c.check_trace.ensures)
+
+pub check_trace-requires : goal.check_trace-requires
+check_trace-requires g c =
+    let files = c.deref.result.now in
+    let few = few_named (option_copied c.args.request.now.modules) (map (λ name. name.now) files) in
+    omega (arith, c.in-Ok.ensures.read.goes_on.opens, few, length-map files (λ (name : Bor (List ℕ)). name.now), ap (λ (names : List (Bor (List ℕ))). length names) c.deref.ensures.value, c.requires.few, c.requires.opens)

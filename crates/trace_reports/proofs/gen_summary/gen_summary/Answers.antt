@@ -3,8 +3,8 @@ use Rattle.std.proofs.lemmas.Result.{IfOk-weaker}
 use Rattle.trace_gen.specs.GeneratorState.{lines_yet}
 use Rattle.trace_gen.specs.Sizes.{sizes_of}
 use Rattle.sound_traces.specs.NoFault.{HasNoFault}
-use Rattle.trace_reading.specs.PeaksView.{peaks_view}
-use Rattle.trace_reading.proofs.Laws.{new_peaks, new_sound, new_weight}
+use Rattle.trace_reading.specs.TotalsView.{totals_view}
+use Rattle.trace_reading.proofs.Laws.{new_totals, new_sound, new_weight}
 use Rattle.trace_reports.proofs.GenLemmas.{summary_of_lines}
 use Rattle.trace_reports.proofs.gen_summary.gen_summary.Goals as goal
 
@@ -16,22 +16,22 @@ summarize-summary-requires-clause-good c =
 pub summarize-summary-requires-clause-sound : goal.summarize-summary-requires-clause-sound
 summarize-summary-requires-clause-sound c =
     let tables = c.new-tables.result in
-    let peaks = c.in_ok-follower.ensures in
-    new_sound tables (peaks_view c.in_ok-follower.follower) c.new-tables.ensures.nodes c.new-tables.ensures.infos (new_peaks c.in_ok-follower.follower peaks.stands peaks.stacks peaks.infos tables)
+    let peaks = c.new-follower.ensures in
+    new_sound tables (totals_view c.new-follower.result) c.new-tables.ensures.nodes c.new-tables.ensures.infos (new_totals c.new-follower.result peaks.stands peaks.stacks peaks.infos tables)
 
 pub summarize-summary-requires-clause-new_trace : goal.summarize-summary-requires-clause-new_trace
 summarize-summary-requires-clause-new_trace c = record {
   given = [];
   patterns_are = refl;
   tables_of = c.new-tables.ensures.stands;
-  stands = c.in_ok-follower.ensures.stands;
+  stands = c.new-follower.ensures.stands;
 }
 
 pub summarize-summary-requires-clause-no_weight : goal.summarize-summary-requires-clause-no_weight
 summarize-summary-requires-clause-no_weight c =
     let tables = c.new-tables.result in
-    let peaks = c.in_ok-follower.ensures in
-    new_weight tables (peaks_view c.in_ok-follower.follower) c.new-tables.ensures.nodes (new_peaks c.in_ok-follower.follower peaks.stands peaks.stacks peaks.infos tables)
+    let peaks = c.new-follower.ensures in
+    new_weight tables (totals_view c.new-follower.result) c.new-tables.ensures.nodes (new_totals c.new-follower.result peaks.stands peaks.stacks peaks.infos tables)
 
 pub returns : goal.returns
 returns c =

@@ -3,7 +3,7 @@ use Rattle.std.proofs.lemmas.Bool.{eqb-true}
 use Rattle.std.proofs.lemmas.Bool.Decides.{nat_tests}
 use Rattle.command_frame.specs.declared.taker.LineRefusal.TheVariants.{Fault, NoMemory}
 use Rattle.trace_gen.specs.GeneratorState.{MakesLines, lines_yet}
-use Rattle.trace_reading.specs.PeaksView.{peaks_view}
+use Rattle.trace_reading.specs.TotalsView.{totals_view}
 use Rattle.trace_reading.specs.ReadTrace.{HasRead}
 use Rattle.trace_reports.proofs.GenLemmas.{next_good, next_taken, none_left}
 use Rattle.trace_reports.proofs.gen_summary.read_lines.Goals as goal
@@ -13,7 +13,7 @@ returns-then-is_empty c =
     let after = c.next_lines.new.self in
     let text = c.next_lines.new.text in
     let empty : length text.items ≡ 0 = eqb-true (length text.items) 0 (ap (λ n. eqb n 0) (sym text.ok.0) ∙ (sym c.is_empty.ensures ∙ c.if-is_empty.true)) in
-    subst (HasRead peaks_view c.texts.trace [])
+    subst (HasRead totals_view c.texts.trace [])
     (sym (none_left c.texts.trace c.texts.generator after (lines_yet c.args.generator.now) text.items c.texts.invariant c.in-Ok.ensures.made empty (c.in-Ok.ensures.all (omega (arith, empty))))) c.texts.invariant.read
 
 pub texts-preserved : goal.texts-preserved

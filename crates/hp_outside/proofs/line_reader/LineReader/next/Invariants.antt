@@ -4,7 +4,7 @@ use Rattle.std.specs.Io.KnownBytes.{prepend_known}
 use Rattle.hp_outside.specs.Lines.{is_line_feed}
 use Rattle.hp_outside.specs.Taken.{WhereTold}
 use Rattle.hp_outside.specs.NextLine.{IsUndecided}
-use Rattle.hp_outside.proofs.ReaderLemmas.{StandsAt}
+use Rattle.hp_outside.specs.ReaderCalls.{StandsAt}
 use Rattle.hp_outside.proofs.line_reader.LineReader.next.Given as goal
 
 abbrev pub invariant-reads : goal.invariant-reads

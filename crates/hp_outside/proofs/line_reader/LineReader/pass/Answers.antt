@@ -1,17 +1,22 @@
--- Lines have a byte at least each, so their number fits; where they stand is a law on lists.
-use Rattle.std.proofs.Common.{◌≡◌, ◌+◌, ◌∙◌, ap, arith, drop, length, length-drop}
-use Rattle.hp_outside.proofs.WholeLinesLemmas.{few_lines, lines_passed, rest_passed, given_passed, given_within}
+-- Lines have a byte at least each, so their number fits.
+use Rattle.std.proofs.Common.{rules, ◌≡◌, ◌+◌, ◌∙◌, ap, arith, drop, length, length-drop}
+use Rattle.hp_outside.proofs.WholeLinesLemmas.{few_lines, given_passed, given_within}
 use Rattle.hp_outside.proofs.line_reader.LineReader.pass.Goals as goal
 
-pub returns-clause-lines : goal.returns-clause-lines
-returns-clause-lines c = λ lines texts is left.
-    lines_passed c.args.self.now.kept c.pass.new.self.kept c.args.count lines left (c.pass.ensures.kept ∙ ap (λ s. drop c.args.count s.kept) c.self.view_is) texts is
-
-pub returns-clause-rest : goal.returns-clause-rest
-returns-clause-rest c = λ left. rest_passed c.args.self.now.kept c.pass.new.self.kept c.args.count left (c.pass.ensures.kept ∙ ap (λ s. drop c.args.count s.kept) c.self.view_is)
-
-pub returns-clause-given : goal.returns-clause-given
-returns-clause-given c = given_passed c.self.inside.line_ended c.self.inside.passed c.args.count ∙ ap (λ s. s.given + c.args.count) c.self.view_is
+pub returns : goal.returns
+returns c = record {
+  kept = search rules;
+  passed = search rules;
+  number = search rules;
+  given = given_passed c.self.inside.line_ended c.self.inside.passed c.args.count ∙ ap (λ s. s.given + c.args.count) c.self.view_is;
+  input = search rules;
+  limit = search rules;
+  ended = search rules;
+  fault = search rules;
+  line_ended = search rules;
+  line = search rules;
+  span = search rules;
+}
 
 pub overflow_add-self-2 : goal.overflow_add-self-2
 overflow_add-self-2 c =

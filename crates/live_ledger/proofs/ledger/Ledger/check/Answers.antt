@@ -1,57 +1,12 @@
-use Rattle.std.proofs.Common.{◌≡◌, Option, arith, sym, ◌∙◌, ap, Bool, cond, refl}
-use Rattle.std.specs.Prelude.{Some, None}
-use Rattle.std.proofs.lemmas.Bool.{ne_eqb}
-use Rattle.live_ledger.specs.declared.event.EventFault.{EventFault}
-use Rattle.live_ledger.specs.declared.event.EventFault.TheVariants.{FreeOfNothing}
-use Rattle.live_ledger.specs.Faults.{fault_at}
-use Rattle.live_ledger.specs.Sound.{IsSound}
-use Rattle.live_ledger.proofs.Entries.{entry-within}
-use Rattle.live_ledger.proofs.PossibleLemmas.{possible-more}
-use Rattle.live_ledger.proofs.Stands.{fault_at-is}
-use Rattle.live_ledger.proofs.Views.{fault-of_entry, fits-alloc, sound}
+use Rattle.std.proofs.lemmas.Result.{on_ok_weaker}
+use Rattle.live_ledger.proofs.Views.{sound}
 use Rattle.live_ledger.proofs.ledger.Ledger.check.Goals as goal
 
-pub index-requires : goal.index-requires
-index-requires c =
-    let held = rw (← c.self.view_is, c.in-Free.is) at c.requires.held in
-    omega (arith, entry-within c.self.inside.infos.items c.in-Free.info (record { stack = c.in-Free.stack; size = c.in-Free.size }) held)
+pub returns-clause-fault : goal.returns-clause-fault
+returns-clause-fault c = rw (← c.self.view_is) (λ events stands. c.check.ensures.fault events stands.whole)
 
-pub returns-then-size-self-clause-sound : goal.returns-then-size-self-clause-sound
-returns-then-size-self-clause-sound c = rw (← c.self.view_is) (sound _ _ _ c.self.inside.last_allocated c.self.invariant)
+pub returns-clause-possible : goal.returns-clause-possible
+returns-clause-possible c = rw (← c.self.view_is) (on_ok_weaker c.check.result (λ all events stands. all events stands.whole) c.check.ensures.possible)
 
-pub returns-else-size-self-clause-sound : goal.returns-else-size-self-clause-sound
-returns-else-size-self-clause-sound c = rw (← c.self.view_is) (sound _ _ _ c.self.inside.last_allocated c.self.invariant)
-
-pub returns-in-Tick-clause-sound : goal.returns-in-Tick-clause-sound
-returns-in-Tick-clause-sound c = rw (← c.self.view_is) (sound _ _ _ c.self.inside.last_allocated c.self.invariant)
-
-pub returns-else-size-self-clause-possible : goal.returns-else-size-self-clause-possible
-returns-else-size-self-clause-possible c =
-    let figures : None ≡ fault_at c.args.self.now c.args.event = rw (← c.self.view_is, c.in-Alloc.is) (fits-alloc _ _ c.self.invariant.allocated_within (omega (arith, c.if-size-self.false))) in
-    λ events stands. possible-more _ events _ c.requires.held stands (sym (figures ∙ fault_at-is _ events _ stands))
-
-pub returns-in-Tick-clause-possible : goal.returns-in-Tick-clause-possible
-returns-in-Tick-clause-possible c = λ events stands. possible-more _ events _ c.requires.held stands (rw c.in-Tick.is refl)
-
-pub returns-then-index-eq0 : goal.returns-then-index-eq0
-returns-then-index-eq0 c =
-    let held = rw (← c.self.view_is, c.in-Free.is) at c.requires.held in
-    let within = entry-within c.self.inside.infos.items c.in-Free.info _ held in
-    let entry = fault-of_entry c.self.inside.stacks.items c.self.inside.infos.items c.self.inside.sums c.self.inside.last_allocated c.in-Free.info c.in-Free.stack c.in-Free.size c.index.result.now within c.index.ensures in
-    let figures : Some FreeOfNothing ≡ fault_at c.args.self.now c.args.event = rw (← c.self.view_is, c.in-Free.is, entry, c.if-index-eq0.true) refl in
-    let is_sound : IsSound c.args.self.now = rw (← c.self.view_is) (sound _ _ _ c.self.inside.last_allocated c.self.invariant) in
-    record { by_figures = figures; fault = λ events stands. figures ∙ fault_at-is _ events _ stands; possible = tt; sound = is_sound }
-
-pub returns-else-index-eq0 : goal.returns-else-index-eq0
-returns-else-index-eq0 c =
-    let held = rw (← c.self.view_is, c.in-Free.is) at c.requires.held in
-    let within = entry-within c.self.inside.infos.items c.in-Free.info _ held in
-    let entry = fault-of_entry c.self.inside.stacks.items c.self.inside.infos.items c.self.inside.sums c.self.inside.last_allocated c.in-Free.info c.in-Free.stack c.in-Free.size c.index.result.now within c.index.ensures in
-    let figures : None ≡ fault_at c.args.self.now c.args.event = rw (← c.self.view_is, c.in-Free.is, entry) (ap (λ (b : Bool). cond {A = Option EventFault} b (Some FreeOfNothing) None) (sym (ne_eqb _ _ c.if-index-eq0.false))) in
-    let is_sound : IsSound c.args.self.now = rw (← c.self.view_is) (sound _ _ _ c.self.inside.last_allocated c.self.invariant) in
-    record {
-      by_figures = figures;
-      fault = λ events stands. figures ∙ fault_at-is _ events _ stands;
-      possible = λ events stands. possible-more _ events _ c.requires.held stands (sym (figures ∙ fault_at-is _ events _ stands));
-      sound = is_sound;
-    }
+pub returns-clause-sound : goal.returns-clause-sound
+returns-clause-sound c = rw (← c.self.view_is) (sound _ _ c.self.invariant)

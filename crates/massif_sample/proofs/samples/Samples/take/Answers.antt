@@ -1,4 +1,4 @@
-use Rattle.std.proofs.Common.{◌≡◌, ◌∙◌, ◌-◌, ◌++◌, ◌∷◌, [], ap, subst, refl, arith, inl, inr}
+use Rattle.std.proofs.Common.{◌≡◌, ◌∙◌, ◌-◌, ◌++◌, ◌∷◌, [], ap, subst, sym, refl, arith}
 use Rattle.massif_cull.specs.declared.snapshot.Offer.{Offer}
 use Rattle.massif_cull.specs.Kept.{Settings}
 use Rattle.massif_cull.specs.TakenAs.{taken_as}
@@ -7,6 +7,15 @@ use Rattle.massif_sample.specs.StandsFor.{IsSampling}
 use Rattle.massif_sample.specs.View.{offer_of, state_of}
 use Rattle.massif_sample.proofs.Sampling.{sampling-offered}
 use Rattle.massif_sample.proofs.samples.Samples.take.Goals as goal
+
+pub take-requires-clause-judged : goal.take-requires-clause-judged
+take-requires-clause-judged c =
+    let inside = c.self.inside in
+    let offer_is : c.offer-offer.result ≡ offer_of inside.running c.args.as_peak = rw (← c.self.view_is) at c.offer-offer.ensures.exact in
+    let judged = rw (← c.self.view_is) at c.requires.judged in
+    judged
+    ∙ sym (ap (λ (s : Settings). taken_as s inside.array.kept c.offer-offer.result) c.self.invariant.settings
+    ∙ ap (λ (o : Offer). taken_as (settings_of inside.options) inside.array.kept o) offer_is)
 
 pub returns-clause-sampling : goal.returns-clause-sampling
 returns-clause-sampling c =
@@ -17,22 +26,17 @@ returns-clause-sampling c =
     let offer_is : offer ≡ offer_of inside.running c.args.as_peak = rw (← c.self.view_is) at c.offer-offer.ensures.exact in
     rw (← c.self.view_is)
     (λ names tables events made tree was.
-    subst (λ (o : Offer). IsSampling (record old { array = c.offer.new.self }) names tables events (made ++ o ∷ [])) offer_is
-    (sampling-offered old c.offer.new.self names tables events made offer
-    (record { heap = inside.running.heap; extra = inside.running.gross - inside.running.heap }) c.offer.result
+    subst (λ (o : Offer). IsSampling (record old { array = c.take.new.self }) names tables events (made ++ o ∷ [])) offer_is
+    (sampling-offered old c.take.new.self names tables events made offer
+    (record { heap = inside.running.heap; extra = inside.running.gross - inside.running.heap }) c.args.taken
     (record {
       place = ap (λ (o : Offer). o.place) offer_is;
       time = ap (λ (o : Offer). o.time) offer_is;
       total = ap (λ (o : Offer). o.total) offer_is;
       heap = refl;
       extra = omega arith;
-      stands = c.offer.ensures.stands;
-      origins = c.offer.ensures.origins;
+      stands = c.take.ensures.takes.stands;
+      origins = c.take.ensures.takes.origins;
     })
-    (elim tree [
-      | inl normal ↦
-          inl (c.offer.ensures.taken ∙ ap (λ (s : Settings). taken_as s inside.array.kept offer) c.self.invariant.settings
-          ∙ ap (λ (o : Offer). taken_as (settings_of inside.options) inside.array.kept o) offer_is ∙ normal)
-      | inr at ↦ inr at
-    ])
+    tree
     was))

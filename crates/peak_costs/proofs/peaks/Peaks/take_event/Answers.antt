@@ -39,17 +39,21 @@ follow-requires-2-clause-freed g c = freed-within _ _ c.args.event _ c.in_ok-app
 pub invariant_of-self-2 : goal.invariant_of-self-2
 invariant_of-self-2 g c =
     let held = rw (← c.self.view_is) at c.requires.held in
-    rw (c.save.ensures.saved, c.save.ensures.blocks, c.save.ensures.stamps, c.follow-2.ensures, c.stack-before.ensures.value)
-    (marked-moved _ _ _ _ _ _ c.args.event c.args.stack c.self.invariant.kept c.in_ok-apply-2.ensures.sound c.in_ok-apply-2.ensures.changes c.requires.own held)
+    let is = sym c.has.ensures ∙ c.if-has.false in
+    let moved = marked-moved _ _ _ _ _ _ c.args.event c.args.stack c.self.invariant.kept c.in_ok-apply-2.ensures.sound c.in_ok-apply-2.ensures.changes c.requires.own held in
+    rw (c.save.ensures.saved, c.save.ensures.blocks, c.save.ensures.stamps, c.follow-2.ensures, c.stack-before.ensures.value) (rw is at moved)
 
 pub returns-clause-stands : goal.returns-clause-stands
 returns-clause-stands g c =
     let held = rw (← c.self.view_is) at c.requires.held in
+    let is = sym c.has.ensures ∙ c.if-has.false in
     rw (← c.self.view_is, c.save.ensures.saved, c.save.ensures.blocks, c.save.ensures.stamps, c.follow-2.ensures, c.stack-before.ensures.value)
-    (λ events stands. stands-event _ _ _ _ _ _ c.args.stack events c.args.event c.self.invariant.kept c.in_ok-apply-2.ensures.sound c.in_ok-apply-2.ensures.changes c.requires.own held stands (c.in_ok-apply-2.ensures.stands events stands.ledger))
+    (λ events stands.
+    rw is at (stands-event _ _ _ _ _ _ c.args.stack events c.args.event c.self.invariant.kept c.in_ok-apply-2.ensures.sound c.in_ok-apply-2.ensures.changes c.requires.own held stands (c.in_ok-apply-2.ensures.stands events stands.ledger)))
 
 pub returns-clause-sound : goal.returns-clause-sound
 returns-clause-sound g c =
     let held = rw (← c.self.view_is) at c.requires.held in
-    rw (c.save.ensures.saved, c.save.ensures.blocks, c.save.ensures.stamps, c.follow-2.ensures, c.stack-before.ensures.value)
-    (sound-of _ _ _ _ _ (kept-moved _ _ _ _ _ _ c.args.event c.args.stack c.self.invariant.kept c.in_ok-apply-2.ensures.sound c.in_ok-apply-2.ensures.changes c.requires.own held))
+    let is = sym c.has.ensures ∙ c.if-has.false in
+    let moved = sound-of _ _ _ _ _ (kept-moved _ _ _ _ _ _ c.args.event c.args.stack c.self.invariant.kept c.in_ok-apply-2.ensures.sound c.in_ok-apply-2.ensures.changes c.requires.own held) in
+    rw (c.save.ensures.saved, c.save.ensures.blocks, c.save.ensures.stamps, c.follow-2.ensures, c.stack-before.ensures.value) (rw is at moved)

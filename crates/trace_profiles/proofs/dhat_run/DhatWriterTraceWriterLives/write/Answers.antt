@@ -1,17 +1,14 @@
-use Rattle.std.proofs.Common.{◌≡◌, ℕ, List, ◌++◌, codes, ap, sym, subst, ◌∙◌}
+use Rattle.std.proofs.Common.{ℕ, List, ◌++◌, codes, ap, ◌∙◌}
 use Rattle.dhat_json.specs.DhatValue.{dhat_text}
 use Rattle.dhat_trace.specs.DhatOf.{dhat_of}
 use Rattle.ht_trace.specs.TraceEvents.{events}
-use Rattle.trace_profiles.specs.declared.lives.Lives.{Lives}
 use Rattle.trace_profiles.specs.DhatReport.{dhat_written}
-use Rattle.trace_profiles.specs.LivesView.{StandFor}
 use Rattle.trace_profiles.proofs.dhat_run.DhatWriterTraceWriterLives.write.Goals as goal
 
 pub returns : goal.returns
 unfolding dhat_written
 returns c = λ given lines tables stand.
-    let follower = subst (λ (lives : Lives). StandFor lives.peaks lives.lifetimes (events lines)) (sym c.replace-peaks.ensures.value) stand in
     c.in_ok-push.ensures.items
     ∙ ap (λ (text : List ℕ). text ++ codes "\n")
     (ap (λ v. v.items) c.into_bytes-output.ensures.value
-    ∙ (c.in_ok-text.ensures.trace (events lines) follower.peaks follower.lives ∙ ap (λ state. dhat_text (dhat_of state (events lines))) (c.replace-tables.ensures.value ∙ tables.tables_is)))
+    ∙ (c.in_ok-text.ensures.trace (events lines) stand.peaks stand.lives ∙ ap (λ state. dhat_text (dhat_of state (events lines))) tables.tables_is))

@@ -1,4 +1,4 @@
-use Rattle.std.proofs.Common.{◌≡◌, sym, ◌∙◌}
+use Rattle.std.proofs.Common.{sym, ◌∙◌}
 use Rattle.trace_profiles.proofs.lives.Lives.new.Goals as goal
 
 pub returns : goal.returns
@@ -9,6 +9,6 @@ returns c = λ tables.
       sound = lifetimes.stacks ∙ sym peaks.stacks;
       stacks = peaks.stacks;
       infos = peaks.infos;
-      events = peaks.stands.ledger.figures.events_is;
+      events = peaks.stands.ledger.whole.figures.events_is;
       stands = record { peaks = peaks.stands; lives = lifetimes.stands };
     }

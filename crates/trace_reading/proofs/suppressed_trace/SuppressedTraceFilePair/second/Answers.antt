@@ -4,5 +4,9 @@ use Rattle.trace_reading.proofs.suppressed_trace.SuppressedTraceFilePair.second.
 pub new-requires-2-clause-new : goal.new-requires-2-clause-new
 new-requires-2-clause-new g c = new_peaks c.in-Ok.peaks c.in-Ok.ensures.stands c.in-Ok.ensures.stacks c.in-Ok.ensures.infos _
 
-pub returns-clause-new_taker : goal.returns-clause-new_taker
-returns-clause-new_taker g c = c.new-2.ensures.read c.requires.sound.given c.requires.sound.stands
+pub returns-clause-new : goal.returns-clause-new
+returns-clause-new g c = record {
+  sound = c.new-2.ensures.sound;
+  no_lines = c.new-2.ensures.read c.requires.sound.given c.requires.sound.stands;
+  no_weight = c.new-2.ensures.weight;
+}

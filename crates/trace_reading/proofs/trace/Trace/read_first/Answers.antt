@@ -1,25 +1,39 @@
-use Rattle.std.proofs.Common.{◌+◌, [], ◌∷◌, drop, ap, ap₂, sym, ◌∙◌}
-use Rattle.hp_outside.specs.Lines.{lines_of}
-use Rattle.trace_reading.proofs.TextLemmas.{first_line_is, line_read, line_refused, only_line_is}
+use Rattle.std.proofs.Common.{◌+◌, ◌^◌, ◌≤◌, length, subst, sym, arith}
+use Rattle.ht_trace.specs.TableState.{TableState}
+use Rattle.trace_reading.specs.Reading.{HasReadOne, HasReadTo, IsSound, weight_of}
+use Rattle.trace_reading.proofs.TextLemmas.{front_first, none_first, one_behind, rest_refused}
 use Rattle.trace_reading.proofs.trace.Trace.read_first.Goals as goal
+
+pub returns-in-Some-clause-read : goal.returns-in-Some-clause-read
+returns-in-Some-clause-read g c =
+    let faults = g.F.Follower.faults in
+    let old = g.F.Follower.view c.args.self.now.follower in
+    let new = g.F.Follower.view c.front.new.self.follower in
+    subst (λ (tables : TableState). HasReadOne faults c.args.self.now.tables old tables new c.args.text.now c.split_at.result.1.now) (sym c.front.ensures.tables)
+    (front_first faults c.args.self.now.tables old new c.args.text.now c.split_at.result.1.now c.in-Some.bytes c.in-Some.ensures.read c.split_at.ensures.back)
+
+pub read_line-requires-clause-sound : goal.read_line-requires-clause-sound
+read_line-requires-clause-sound g c = subst (λ (tables : TableState). IsSound tables (g.F.Follower.view c.front.new.self.follower)) (sym c.front.ensures.tables) c.in-None.ensures.read.sound
+
+pub read_line-requires-clause-room : goal.read_line-requires-clause-room
+read_line-requires-clause-room g c =
+    subst (λ (tables : TableState). weight_of tables (g.F.Follower.view c.front.new.self.follower) + length c.args.text.now ≤ 2 ^ 34) (sym c.front.ensures.tables)
+    (omega (arith, c.in-None.ensures.read.weight, c.requires.room))
 
 pub returns-in-Ok-clause-read : goal.returns-in-Ok-clause-read
 returns-in-Ok-clause-read g c =
-    line_read g.F.Follower.faults c.args.self.now.tables (g.F.Follower.view c.args.self.now.follower) c.args.text.now _ _
-    (first_line_is c.args.text.now c.in-Some.end (sym c.in-Some.ensures.place) ∙ ap₂ (λ line left. line ∷ lines_of left) (sym c.split_at.ensures.front) (sym c.split_at-in-Ok.ensures.back))
-    c.line.new.self.tables (g.F.Follower.view c.line.new.self.follower) c.in-Ok.ensures.read
+    let faults = g.F.Follower.faults in
+    let old = g.F.Follower.view c.args.self.now.follower in
+    let mid = g.F.Follower.view c.front.new.self.follower in
+    let new = c.read_line.new.self in
+    one_behind faults c.args.self.now.tables old mid c.args.text.now c.in-None.ensures.read new.tables (g.F.Follower.view new.follower) c.in-Ok.rest.now
+    (subst (λ (tables : TableState). HasReadOne faults tables mid new.tables (g.F.Follower.view new.follower) c.args.text.now c.in-Ok.rest.now) c.front.ensures.tables c.in-Ok.ensures.read)
 
 pub returns-in-Err-clause-fault : goal.returns-in-Err-clause-fault
 returns-in-Err-clause-fault g c =
-    line_refused g.F.Follower.faults c.args.self.now.tables (g.F.Follower.view c.args.self.now.follower) c.args.text.now (drop (c.in-Some.end + 1) c.args.text.now) _
-    (first_line_is c.args.text.now c.in-Some.end (sym c.in-Some.ensures.place) ∙ ap (λ line. line ∷ lines_of (drop (c.in-Some.end + 1) c.args.text.now)) (sym c.split_at.ensures.front)) c.in-Err.refusal c.in-Err.ensures.fault
-
-pub returns-in-Ok-line-clause-read : goal.returns-in-Ok-line-clause-read
-returns-in-Ok-line-clause-read g c =
-    line_read g.F.Follower.faults c.args.self.now.tables (g.F.Follower.view c.args.self.now.follower) c.args.text.now [] c.args.text.now (only_line_is c.args.text.now c.requires.some (sym c.in-None.ensures.place))
-    c.line-in-None.new.self.tables (g.F.Follower.view c.line-in-None.new.self.follower) c.in-Ok-line.ensures.read
-
-pub returns-in-Err-line-clause-fault : goal.returns-in-Err-line-clause-fault
-returns-in-Err-line-clause-fault g c =
-    line_refused g.F.Follower.faults c.args.self.now.tables (g.F.Follower.view c.args.self.now.follower) c.args.text.now [] c.args.text.now (only_line_is c.args.text.now c.requires.some (sym c.in-None.ensures.place)) c.in-Err-line.refusal
-    c.in-Err-line.ensures.fault
+    let faults = g.F.Follower.faults in
+    let old = g.F.Follower.view c.args.self.now.follower in
+    let mid = g.F.Follower.view c.front.new.self.follower in
+    let tables = c.args.self.now.tables in
+    rest_refused faults tables old c.front.new.self.tables mid c.args.text.now c.args.text.now
+    (subst (λ (now : TableState). HasReadTo faults tables old now mid c.args.text.now c.args.text.now) (sym c.front.ensures.tables) (none_first faults tables old mid c.args.text.now c.in-None.ensures.read)) c.in-Err.refusal c.in-Err.ensures.fault
