@@ -1,5 +1,24 @@
 -- The facts of a run that came to one status or another.
-use Rattle.std.proofs.Common.{◌≡◌, ◌⊎◌, ℕ, ◌+◌, ◌≤◌, List, [], length, take, take_all, Option, refl, ap, sym, ◌∙◌, inl, inr, arith}
+use Rattle.std.proofs.Common.{
+  ◌≡◌,
+  ◌⊎◌,
+  ℕ,
+  ◌+◌,
+  ◌≤◌,
+  List,
+  [],
+  length,
+  take,
+  take_all,
+  Option,
+  refl,
+  ap,
+  sym,
+  ◌∙◌,
+  inl,
+  inr,
+  arith,
+}
 use Rattle.hp_outside.specs.Faults.{Rose}
 use Rattle.hp_outside.specs.Folder.{Folder}
 use Rattle.hp_outside.specs.Taken.{WhereTold}
@@ -16,11 +35,16 @@ use Rattle.command_frame.specs.Silent.{IsSilent}
 
 -- the front of the output is that of a plan's answer
 abbrev pub HasFront : Texts → Bounds → Option Folder → List ℕ → Plan → Answer → Type 0
-HasFront texts bounds files last plan given = WhereTold files (λ folder. (count : ℕ) × (given.output ≡ take count (plan_answer texts bounds folder last plan).output))
+HasFront texts bounds files last plan given =
+    WhereTold files
+    (λ folder. (count : ℕ) × (given.output ≡ take count (plan_answer texts bounds folder last plan).output))
 
-module _ (texts : Texts) (bounds : Bounds) (files : Option Folder) (last : List ℕ) (names : List (List ℕ)) (plan : Plan) (before now : Moment) (given : Answer) where
+module _ (texts : Texts) (bounds : Bounds) (files : Option Folder) (last : List ℕ) (names : List (List ℕ)) (plan : Plan)
+    (before now : Moment) (given : Answer) where
   -- memory was wanting
-  pub wanting_facts : given.status ≡ 5 → given.message ≡ texts.out_of_memory → HasFront texts bounds files last plan given → (IsSilent plan → given.output ≡ []) → (names ≡ [] → now ≡ before) → before.opens ≤ now.opens → now.opens ≤ before.opens + length names
+  pub wanting_facts : given.status ≡ 5 → given.message ≡ texts.out_of_memory
+      → HasFront texts bounds files last plan given → (IsSilent plan → given.output ≡ []) → (names ≡ [] → now ≡ before)
+      → before.opens ≤ now.opens → now.opens ≤ before.opens + length names
       → RunFacts texts bounds files last names plan before now given
   wanting_facts five message front silent unread least most = record {
     judged = λ folder known three four other. absurd (other five);
@@ -42,7 +66,9 @@ module _ (texts : Texts) (bounds : Bounds) (files : Option Folder) (last : List 
   }
 
   -- a write failed
-  pub unwritten_facts : given.status ≡ 4 → given.message ≡ texts.write_failed → HasFront texts bounds files last plan given → (IsSilent plan → given.output ≡ []) → (names ≡ [] → now ≡ before) → before.opens ≤ now.opens → now.opens ≤ before.opens + length names
+  pub unwritten_facts : given.status ≡ 4 → given.message ≡ texts.write_failed
+      → HasFront texts bounds files last plan given → (IsSilent plan → given.output ≡ []) → (names ≡ [] → now ≡ before)
+      → before.opens ≤ now.opens → now.opens ≤ before.opens + length names
       → RunFacts texts bounds files last names plan before now given
   unwritten_facts four message front silent unread least most = record {
     judged = λ folder known three other five. absurd (other four);
@@ -64,8 +90,10 @@ module _ (texts : Texts) (bounds : Bounds) (files : Option Folder) (last : List 
   }
 
   -- a file is absent, or a call on it failed
-  pub unreadable_facts : given.status ≡ 3 → NotRead texts files names before now given → WhereTold files (λ folder. ¬ Rose before.faults now.faults → given ≡ plan_answer texts bounds folder last plan)
-      → HasFront texts bounds files last plan given → (IsSilent plan → given.output ≡ []) → (names ≡ [] → now ≡ before) → before.opens ≤ now.opens → now.opens ≤ before.opens + length names
+  pub unreadable_facts : given.status ≡ 3 → NotRead texts files names before now given
+      → WhereTold files (λ folder. ¬ Rose before.faults now.faults → given ≡ plan_answer texts bounds folder last plan)
+      → HasFront texts bounds files last plan given → (IsSilent plan → given.output ≡ []) → (names ≡ [] → now ≡ before)
+      → before.opens ≤ now.opens → now.opens ≤ before.opens + length names
       → RunFacts texts bounds files last names plan before now given
   unreadable_facts three not_read quiet front silent unread least most = record {
     judged = λ folder known other four five. absurd (other three);
@@ -87,15 +115,24 @@ module _ (texts : Texts) (bounds : Bounds) (files : Option Folder) (last : List 
   }
 
   -- the input has a fault
-  pub fault_facts : (status : FaultStatus) → given.status ≡ code_of status → WhereTold files (λ folder. given ≡ plan_answer texts bounds folder last plan) → now.faults ≡ before.faults
-      → (IsSilent plan → given.output ≡ []) → (names ≡ [] → now ≡ before) → before.opens ≤ now.opens → now.opens ≤ before.opens + length names
+  pub fault_facts : (status : FaultStatus) → given.status ≡ code_of status
+      → WhereTold files (λ folder. given ≡ plan_answer texts bounds folder last plan) → now.faults ≡ before.faults
+      → (IsSilent plan → given.output ≡ []) → (names ≡ [] → now ≡ before) → before.opens ≤ now.opens
+      → now.opens ≤ before.opens + length names
       → RunFacts texts bounds files last names plan before now given
   fault_facts status is_status is sound silent unread least most =
       let either = either_code status in
       record {
         judged = λ folder known three four five. is folder known;
         quiet = λ folder known quiet four five. is folder known;
-        front = λ folder known. (length given.output, sym (ap (λ (a : Answer). take (length given.output) a.output) (sym (is folder known)) ∙ take_all (length given.output) given.output (omega arith)));
+        front =
+            λ folder
+            known. (
+              length given.output,
+              sym
+                  (ap (λ (a : Answer). take (length given.output) a.output) (sym (is folder known))
+                  ∙ take_all (length given.output) given.output (omega arith)),
+            );
         unread = unread;
         opens_at_least = least;
         opens_at_most = most;

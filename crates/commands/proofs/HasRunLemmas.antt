@@ -5,7 +5,21 @@ use Rattle.hp_outside.specs.Folder.{Folder}
 use Rattle.command_frame.specs.Answer.{Answer}
 use Rattle.command_frame.specs.FirstFault.{Bounds}
 use Rattle.command_frame.specs.Outside.{Gives, Outside, StoreRose}
-use Rattle.command_frame.proofs.Laws.{TaskEnded, append_nothing, defined_by, front_by, gives_as, judged_by, run_ends, silent_by, task_quiet, to_end_by, told_by, unreached_by, wrote}
+use Rattle.command_frame.proofs.Laws.{
+  TaskEnded,
+  append_nothing,
+  defined_by,
+  front_by,
+  gives_as,
+  judged_by,
+  run_ends,
+  silent_by,
+  task_quiet,
+  to_end_by,
+  told_by,
+  unreached_by,
+  wrote,
+}
 use Rattle.commands.specs.Answer.{answer}
 use Rattle.heapsuite_words.specs.Asked.{asked, knows_first}
 use Rattle.commands.specs.Tasks.{task_asked}
@@ -21,22 +35,34 @@ is_other status other (inl one) isnt_one isnt_six = λ is. isnt_one (sym is ∙ 
 is_other status other (inr six) isnt_one isnt_six = λ is. isnt_six (sym is ∙ six)
 
 -- a run of the words, of which an unknown first one takes no memory
-pub has_run : (laws : AreLaws) (bounds : Bounds) (words : List (List ℕ)) (before now : Outside) (status : ℕ) (given : Answer) → bounds.line < 2 ^ 32
-    → (e : TaskEnded heapsuite_texts bounds (task_asked (asked words)) before now status given) → (knows_first words ≡ false → given.status ≢ 5)
+pub has_run : (laws : AreLaws) (bounds : Bounds) (words : List (List ℕ)) (before now : Outside) (status : ℕ)
+    (given : Answer)
+    → bounds.line < 2 ^ 32
+    → (e : TaskEnded heapsuite_texts bounds (task_asked (asked words)) before now status given)
+    → (knows_first words ≡ false → given.status ≢ 5)
     → HasRun bounds words before now status
 has_run laws bounds words before now status given small e unknown =
-    let defined : (folder : Folder) → before.store.files ≡ Some folder → ¬ StoreRose before now → status ≢ 4 → status ≢ 5 → Gives before now (answer words bounds folder) status =
-    λ folder known quiet four five. gives_as before now status (defined_by e folder known quiet four five) (e.delivered.whole four) in
-    let judged : (folder : Folder) → before.store.files ≡ Some folder → status ≢ 3 → status ≢ 4 → status ≢ 5 → Gives before now (answer words bounds folder) status =
-    λ folder known three four five. gives_as before now status (judged_by e folder known three four five) (e.delivered.whole four) in
+    let defined : (folder : Folder) → before.store.files ≡ Some folder → ¬ StoreRose before now → status ≢ 4
+    → status ≢ 5 → Gives before now (answer words bounds folder) status =
+    λ folder known quiet four five. gives_as before now status (defined_by e folder known quiet four five)
+    (e.delivered.whole four) in
+    let judged : (folder : Folder) → before.store.files ≡ Some folder → status ≢ 3 → status ≢ 4 → status ≢ 5
+    → Gives before now (answer words bounds folder) status =
+    λ folder known three four five. gives_as before now status (judged_by e folder known three four five)
+    (e.delivered.whole four) in
     let ends = run_ends e (no_task (asked words)) (nothing_asked (asked words)) in
     record {
-      defined = λ folder known quiet out_quiet err_quiet five. defined folder known quiet (wrote e out_quiet err_quiet) five;
+      defined =
+          λ folder known quiet out_quiet err_quiet five. defined folder known quiet (wrote e out_quiet err_quiet) five;
       complete = λ folder known zero quiet out_quiet err_quiet five.
           let given = defined folder known quiet (wrote e out_quiet err_quiet) five in (
             given.status_is ∙ zero,
             given.output,
-            given.message ∙ (ap (append_known before.err.written) (task_quiet heapsuite_texts bounds folder (task_asked (asked words)) zero) ∙ append_nothing before.err.written),
+            given.message
+                ∙
+                (ap (append_known before.err.written)
+                (task_quiet heapsuite_texts bounds folder (task_asked (asked words)) zero)
+                ∙ append_nothing before.err.written),
           );
       run = (given, record { ran = e.ran; delivered = e.delivered });
       front = front_by e;
@@ -51,7 +77,9 @@ has_run laws bounds words before now status given small e unknown =
           (ends.store_faults three four five, judged folder known three four five);
       read_to_end = to_end_by e;
       keeps_ledger = λ folder known zero.
-          let whole = judged folder known (λ three. omega (arith, zero, three)) (λ four. omega (arith, zero, four)) (λ five. omega (arith, zero, five)) in (
+          let whole =
+          judged folder known (λ three. omega (arith, zero, three)) (λ four. omega (arith, zero, four))
+          (λ five. omega (arith, zero, five)) in (
             (answer words bounds folder).output,
             whole.output,
             run-keeps laws bounds folder (asked words) small (sym whole.status_is ∙ zero),

@@ -8,8 +8,11 @@ use Rattle.commands.specs.Answer.{asked_answer}
 use Rattle.commands.specs.InterpretKeeps.{KeepsLedgerOf}
 use Rattle.commands.specs.Texts.{heapsuite_texts}
 
-pub run-keeps : AreLaws → (bounds : Bounds) (folder : Folder) (asking : Option Asked) → bounds.line < 2 ^ 32 → (asked_answer bounds folder asking).status ≡ 0 → KeepsLedgerOf folder asking (asked_answer bounds folder asking).output
+pub run-keeps : AreLaws → (bounds : Bounds) (folder : Folder) (asking : Option Asked) → bounds.line < 2 ^ 32
+    → (asked_answer bounds folder asking).status ≡ 0
+    → KeepsLedgerOf folder asking (asked_answer bounds folder asking).output
 unfolding KeepsLedgerOf
 run-keeps laws bounds folder None small zero = tt
-run-keeps laws bounds folder (Some (Interpret interpret)) small zero = interpret-keeps laws heapsuite_texts bounds folder interpret.symbols interpret.trace small zero
+run-keeps laws bounds folder (Some (Interpret interpret)) small zero =
+    interpret-keeps laws heapsuite_texts bounds folder interpret.symbols interpret.trace small zero
 run-keeps laws bounds folder (Some request) small zero = tt

@@ -2,9 +2,9 @@
 use Rattle.std.proofs.Common.{ℕ, List, Option, Some, None, true, refl}
 use Rattle.command_frame.specs.Silent.{IsSilent}
 use Rattle.trace_gen.specs.Sizes.{Sizes}
-use Rattle.profile_reading.specs.declared.conversion.Conversion.{Conversion}
-use Rattle.profile_reading.specs.declared.conversion.Conversion.TheVariants.{FoldedDhat, FoldedMassif, MassifOfDhat}
-use Rattle.profile_reading.specs.ConvertReport.{conversion_plan}
+use Rattle.profile_reports.specs.declared.conversion.Conversion.{Conversion}
+use Rattle.profile_reports.specs.declared.conversion.Conversion.TheVariants.{FoldedDhat, FoldedMassif, MassifOfDhat}
+use Rattle.profile_reports.specs.ConvertReport.{conversion_plan}
 use Rattle.heapsuite_words.specs.Asked.{Convert, Dhat, DhatView, Flame, Gen, Help, Massif, Page, Print, Summary}
 use Rattle.heapsuite_words.specs.ConvertWords.{ConvertAsked}
 use Rattle.heapsuite_words.specs.FlameWords.{FlameAsked}
@@ -23,7 +23,8 @@ pub summary_is_silent : (trace : List ℕ) → IsSilentFor (Some (Summary trace)
 summary_is_silent trace = (λ earlier line. refl, λ lines. tt)
 
 -- a trace behind suppressions or none
-behind_is_silent : (suppressions : Option (List ℕ)) (trace : List ℕ) (text : List (List ℕ) → List (List ℕ) → List ℕ) → IsSilent (plan_behind suppressions trace text)
+behind_is_silent : (suppressions : Option (List ℕ)) (trace : List ℕ) (text : List (List ℕ) → List (List ℕ) → List ℕ)
+    → IsSilent (plan_behind suppressions trace text)
 behind_is_silent None trace text = (λ earlier line. refl, λ lines. tt)
 behind_is_silent (Some name) trace text = (λ earlier line. refl, λ texts. (λ earlier line. refl, λ lines. tt))
 

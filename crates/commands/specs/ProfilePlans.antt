@@ -1,11 +1,11 @@
 -- What is done with the file of a command over one profile. The plan of `ms_print`, of `dhat_view`
 -- and of `convert` is to read the one file that was asked for, and to write of it what was asked.
 use Rattle.command_frame.specs.Plan.{Plan}
-use Rattle.profile_reading.specs.ConvertReport.{conversion_plan}
-use Rattle.profile_reading.specs.DhatFileReport.{dhat_file_plan}
-use Rattle.profile_reading.specs.MassifFileReport.{massif_file_plan}
-use Rattle.profile_reading.specs.PageReport.{page_verdict, shown_words}
-use Rattle.profile_reading.specs.ViewReport.{view_verdict}
+use Rattle.profile_reports.specs.ConvertReport.{conversion_plan}
+use Rattle.profile_reports.specs.DhatFileReport.{dhat_file_plan}
+use Rattle.profile_reports.specs.MassifFileReport.{massif_file_plan}
+use Rattle.profile_reports.specs.PageReport.{page_verdict, shown_words}
+use Rattle.profile_reports.specs.ViewReport.{view_verdict}
 use Rattle.heapsuite_words.specs.ConvertWords.{ConvertAsked}
 use Rattle.heapsuite_words.specs.PageWords.{PageAsked}
 use Rattle.heapsuite_words.specs.ViewWords.{ViewAsked}

@@ -9,7 +9,7 @@
 //!
 //! What the words ask for is read by `heapsuite_words`. Files are read by the crates below: what is made of one trace, and
 //! `gen`, which reads no file, are runs of `trace_reports`; `dhat` and `massif`, which keep more while they read, are runs of
-//! `trace_profiles`; what commands over one Massif file or one DHAT profile make of it is a report of `profile_reading`.
+//! `trace_profiles`; what commands over one Massif file or one DHAT profile make of it is a report of `profile_reports`.
 //!
 //! The tests of the public calls are the crate `commands_tests`.
 //!

@@ -17,7 +17,7 @@ use heapsuite_words::{
     MassifRequest, PageRequest, PrintRequest, SummaryRequest,
 };
 use hp_outside::{Sink, Store};
-use profile_reading::{PageReport, ViewReport, run_conversion, run_dhat_file, run_massif_file};
+use profile_reports::{PageReport, ViewReport, run_conversion, run_dhat_file, run_massif_file};
 use trace_profiles::{run_dhat, run_massif};
 use trace_reports::{
     FlameText, run_flame, run_gen, run_gen_summary, run_interpret, run_print, run_summary,

@@ -6,7 +6,7 @@ use dhat_json::DhatFault;
 use hp_num::{NoMemory, put_bytes, put_dec};
 use hp_outside::MemSink;
 use ht_trace::LineError;
-use profile_reading::DocumentFault;
+use profile_reports::DocumentFault;
 use std::alloc::Global;
 use trace_reading::TraceFault;
 

@@ -1,11 +1,40 @@
 -- What folded lines are.
-use Rattle.std.proofs.Common.{◌≡◌, ℕ, zero, suc, ◌<◌, inl, inr, Bool, true, false, List, [], ◌∷◌, map, Some, refl, sym, ap, ◌∙◌, subst, arith}
+use Rattle.std.proofs.Common.{
+  ◌≡◌,
+  ℕ,
+  zero,
+  suc,
+  ◌<◌,
+  inl,
+  inr,
+  Bool,
+  true,
+  false,
+  List,
+  [],
+  ◌∷◌,
+  map,
+  Some,
+  refl,
+  sym,
+  ap,
+  ◌∙◌,
+  subst,
+  arith,
+}
 use Rattle.std.specs.Prelude.{slice_get}
 use Rattle.std.specs.List.{list_any}
 use Rattle.std.specs.Option.{option_map}
 use Rattle.std.proofs.lemmas.Bool.{cases_order}
 use Rattle.std.proofs.lemmas.Map.Views.{Contains-from_any}
-use Rattle.std.proofs.lemmas.Option.{none-some, same_Some, slice_get-get_or, slice_get-map, slice_get_within, get_or_from_slice_get}
+use Rattle.std.proofs.lemmas.Option.{
+  none-some,
+  same_Some,
+  slice_get-get_or,
+  slice_get-map,
+  slice_get_within,
+  get_or_from_slice_get,
+}
 use Rattle.cost_tree.specs.Costed.{Costed}
 use Rattle.cost_tree.specs.Inclusive.{is_front, own}
 use Rattle.convert.specs.AreFolded.{AreFolded}
@@ -17,18 +46,22 @@ abbrev line_of : List Costed → List (List ℕ) → Costed
 line_of items list = record { texts = list; cost = own list items }
 
 -- an element of a list that is mapped is made of one of the list
-from-map : {X Y : Type 0} (f : X → Y) (xs : List X) (n : ℕ) (y : Y) → slice_get (map f xs) n ≡ Some y → (x : X) × (slice_get xs n ≡ Some x) × (f x ≡ y)
+from-map : {X Y : Type 0} (f : X → Y) (xs : List X) (n : ℕ) (y : Y) → slice_get (map f xs) n ≡ Some y
+    → (x : X) × (slice_get xs n ≡ Some x) × (f x ≡ y)
 from-map f [] n y at = absurd (none-some y at)
 from-map f (x ∷ xs) zero y at = (x, refl, same_Some (f x) y at)
 from-map f (x ∷ xs) (suc n) y at = from-map f xs n y at
 
 -- the list of a line is one of the items' lists
-from-line : (items : List Costed) (n : ℕ) (line : Costed) → slice_get (folded_sums items) n ≡ Some line → (slice_get (folded_lists items) n ≡ Some line.texts) × (own line.texts items ≡ line.cost)
+from-line : (items : List Costed) (n : ℕ) (line : Costed) → slice_get (folded_sums items) n ≡ Some line
+    → (slice_get (folded_lists items) n ≡ Some line.texts) × (own line.texts items ≡ line.cost)
 unfolding folded_sums
 from-line items n line at =
     let from = from-map (line_of items) (folded_lists items) n line at in
-    let texts : from.0 ≡ line.texts = ap (λ (l : Costed). l.texts) from.2 in
-    (from.1 ∙ ap (λ (l : List (List ℕ)). Some l) texts, ap (λ (l : List (List ℕ)). own l items) (sym texts) ∙ ap (λ (l : Costed). l.cost) from.2)
+    let texts : from.0 ≡ line.texts = ap (λ (l : Costed). l.texts) from.2 in (
+      from.1 ∙ ap (λ (l : List (List ℕ)). Some l) texts,
+      ap (λ (l : List (List ℕ)). own l items) (sym texts) ∙ ap (λ (l : Costed). l.cost) from.2,
+    )
 
 pub are-folded : (items : List Costed) → AreFolded items (folded_sums items)
 unfolding folded_sums
@@ -58,9 +91,14 @@ are-folded items = record {
       ];
 }
   where
-    all : (list : List (List ℕ)) → 0 < own list items → (b : Bool) → list_any (is_front list) (folded_lists items) ≡ b → (n : ℕ) × (slice_get (folded_sums items) n ≡ Some (line_of items list))
+    all : (list : List (List ℕ)) → 0 < own list items → (b : Bool) → list_any (is_front list) (folded_lists items) ≡ b
+        → (n : ℕ) × (slice_get (folded_sums items) n ≡ Some (line_of items list))
     all list some true held =
         let F = folded_lists items in
-        let place = Contains-from_any {eq = is_front} (λ x y. (is_front-Decides x y).0) list F held in
-        (place.0, slice_get-map (line_of items) F place.0 ∙ ap (option_map (line_of items)) (slice_get-get_or F place.0 list place.1 ∙ ap (λ (l : List (List ℕ)). Some l) place.2))
+        let place = Contains-from_any {eq = is_front} (λ x y. (is_front-Decides x y).0) list F held in (
+          place.0,
+          slice_get-map (line_of items) F place.0
+              ∙ ap (option_map (line_of items))
+              (slice_get-get_or F place.0 list place.1 ∙ ap (λ (l : List (List ℕ)). Some l) place.2),
+        )
     all list some false none = let nothing = own-none list items none in absurd (omega arith)

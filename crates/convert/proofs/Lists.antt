@@ -1,12 +1,41 @@
 -- Lemmas on lists.
-use Rattle.std.proofs.Common.{◌≡◌, ℕ, suc, ◌+◌, ◌<◌, Bool, not, cond, ◌||◌, List, [], ◌∷◌, ◌++◌, length, map, drop, get_or, refl, sym, ap, ◌∙◌, subst, arith, append-nil, append_assoc, length-append, Some}
+use Rattle.std.proofs.Common.{
+  ◌≡◌,
+  ℕ,
+  suc,
+  ◌+◌,
+  ◌<◌,
+  Bool,
+  not,
+  cond,
+  ◌||◌,
+  List,
+  [],
+  ◌∷◌,
+  ◌++◌,
+  length,
+  map,
+  drop,
+  get_or,
+  refl,
+  sym,
+  ap,
+  ◌∙◌,
+  subst,
+  arith,
+  append-nil,
+  append_assoc,
+  length-append,
+  Some,
+}
 use Rattle.std.specs.Prelude.{All, slice_get}
 use Rattle.std.proofs.lemmas.List.{get_or_append_left}
 use Rattle.std.proofs.lemmas.Option.{get_or_from_slice_get, slice_get_within}
 use Rattle.std.specs.List.{list_any, position_or_len}
 
 -- what holds of the empty list, and of a list with one element more wherever it holds of the list, holds of each list
-pub from_end : {X : Type 0} (P : List X → Type 0) → P [] → ((xs : List X) (x : X) → P xs → P (xs ++ x ∷ [])) → (xs : List X) → P xs
+pub from_end : {X : Type 0} (P : List X → Type 0) → P [] → ((xs : List X) (x : X) → P xs → P (xs ++ x ∷ []))
+    → (xs : List X) → P xs
 from_end {X} P none more xs = go [] xs none
   where
     go : (done rest : List X) → P done → P (done ++ rest)
@@ -21,13 +50,18 @@ pub same_tails : {X : Type 0} (x y : X) (xs ys : List X) → x ∷ xs ≡ y ∷ 
 same_tails x y xs ys same = ap (λ zs. drop 1 zs) same
 
 -- tests that answer alike find one place
-pub place-map : {X Y : Type 0} (p : X → Bool) (q : Y → Bool) (f : X → Y) (xs : List X) → ((k : ℕ) (d : X) → k < length xs → p (get_or xs k d) ≡ q (f (get_or xs k d))) → position_or_len p xs ≡ position_or_len q (map f xs)
+pub place-map : {X Y : Type 0} (p : X → Bool) (q : Y → Bool) (f : X → Y) (xs : List X)
+    → ((k : ℕ) (d : X) → k < length xs → p (get_or xs k d) ≡ q (f (get_or xs k d)))
+    → position_or_len p xs ≡ position_or_len q (map f xs)
 place-map p q f [] alike = refl
 place-map {X} p q f (x ∷ xs) alike =
     let rest = place-map p q f xs (λ k d within. alike (suc k) d (omega arith)) in
-    ap (λ (b : Bool). cond (not b) (1 + position_or_len p xs) 0) (alike 0 x (omega arith)) ∙ ap (λ (n : ℕ). cond (not (q (f x))) (1 + n) 0) rest
+    ap (λ (b : Bool). cond (not b) (1 + position_or_len p xs) 0) (alike 0 x (omega arith))
+    ∙ ap (λ (n : ℕ). cond (not (q (f x))) (1 + n) 0) rest
 
-pub any-map : {X Y : Type 0} (p : X → Bool) (q : Y → Bool) (f : X → Y) (xs : List X) → ((k : ℕ) (d : X) → k < length xs → p (get_or xs k d) ≡ q (f (get_or xs k d))) → list_any p xs ≡ list_any q (map f xs)
+pub any-map : {X Y : Type 0} (p : X → Bool) (q : Y → Bool) (f : X → Y) (xs : List X)
+    → ((k : ℕ) (d : X) → k < length xs → p (get_or xs k d) ≡ q (f (get_or xs k d)))
+    → list_any p xs ≡ list_any q (map f xs)
 any-map p q f [] alike = refl
 any-map {X} p q f (x ∷ xs) alike =
     let rest = any-map p q f xs (λ k d within. alike (suc k) d (omega arith)) in

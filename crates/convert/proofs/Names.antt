@@ -10,9 +10,12 @@ use Rattle.cost_tree.specs.Texts.{IsText, texts_of}
 use Rattle.cost_tree.proofs.Laws.{texts-same}
 
 -- so lists of numbers are equal exactly where those of their texts are
-pub same_test : (names : List (List ℕ)) (ms ns : List ℕ) → AreDistinct names → All (IsText names) ms → All (IsText names) ns → bytes_eq ms ns ≡ is_front (texts_of names ms) (texts_of names ns)
+pub same_test : (names : List (List ℕ)) (ms ns : List ℕ) → AreDistinct names → All (IsText names) ms
+    → All (IsText names) ns → bytes_eq ms ns ≡ is_front (texts_of names ms) (texts_of names ns)
 unfolding is_front
 same_test names ms ns distinct held_m held_n =
-    let texts = slice_eq-Decides {E = bytes_eq} bytes_eq-Decides (texts_of names ms) (texts_of names ns) (is_front (texts_of names ms) (texts_of names ns)) refl in
+    let texts =
+    slice_eq-Decides {E = bytes_eq} bytes_eq-Decides (texts_of names ms) (texts_of names ns)
+    (is_front (texts_of names ms) (texts_of names ns)) refl in
     same_from_decides (bytes_eq ms ns) (is_front (texts_of names ms) (texts_of names ns)) (bytes_eq-Decides ms ns)
     ((λ is. texts-same names ms ns distinct held_m held_n (texts.0 is)), (λ same. texts.1 (ap (texts_of names) same)))

@@ -1,5 +1,26 @@
 -- Lemmas on the profile of a DHAT profile, which may be written.
-use Rattle.std.proofs.Common.{◌≡◌, ◌≢◌, ℕ, zero, suc, ◌^◌, ◌<◌, ◌≤◌, List, [], ◌∷◌, length, map, Option, None, Some, refl, subst, arith, min}
+use Rattle.std.proofs.Common.{
+  ◌≡◌,
+  ◌≢◌,
+  ℕ,
+  zero,
+  suc,
+  ◌^◌,
+  ◌<◌,
+  ◌≤◌,
+  List,
+  [],
+  ◌∷◌,
+  length,
+  map,
+  Option,
+  None,
+  Some,
+  refl,
+  subst,
+  arith,
+  min,
+}
 use Rattle.std.specs.Prelude.{All, codes, slice_get, slice_index_or, sum, sum_by}
 use Rattle.std.specs.Option.{option_map_or}
 use Rattle.std.proofs.lemmas.List.Elements.{All-cons, All-head, All-nil, All-tail, All-weaker}
@@ -28,8 +49,10 @@ use Rattle.convert.proofs.PointItems.{costs-count, items-sum, lists-count}
 
 -- what the laws of trees and of shown texts say
 pub record AreLaws : Type 0 where
-  pub right : (options : TreeOptions) (total : ℕ) (stacks : List Costed) → options.depth ≤ 256 → IsTree (massif_tree options total stacks)
-  pub writable : (options : TreeOptions) (total : ℕ) (stacks : List Costed) → length stacks < 2 ^ 32 → sum_by (λ (stack : Costed). stack.cost) stacks ≤ 2 ^ 62
+  pub right : (options : TreeOptions) (total : ℕ) (stacks : List Costed) → options.depth ≤ 256
+      → IsTree (massif_tree options total stacks)
+  pub writable : (options : TreeOptions) (total : ℕ) (stacks : List Costed) → length stacks < 2 ^ 32
+      → sum_by (λ (stack : Costed). stack.cost) stacks ≤ 2 ^ 62
       → All (λ (stack : Costed). All IsText stack.texts) stacks → All IsWritableLine (massif_tree options total stacks)
   pub no_line_feed : (text : List ℕ) → All (λ b. b ≢ 10) (shown text)
   pub begin : (text : List ℕ) → slice_get (shown text) 0 ≢ Some 32
@@ -53,39 +76,52 @@ command-text laws [] = literal laws (codes "(none)") refl
 command-text laws (byte ∷ more) = shown-text laws (byte ∷ more)
 
 -- what holds of each shown text holds of the texts of points, whose frames are in the table
-text-has : (P : List ℕ → Type 0) → ((text : List ℕ) → P (shown text)) → (table : List (List ℕ)) (frame : ℕ) → frame < length table → P (slice_index_or (map shown table) frame [])
+text-has : (P : List ℕ → Type 0) → ((text : List ℕ) → P (shown text)) → (table : List (List ℕ)) (frame : ℕ)
+    → frame < length table → P (slice_index_or (map shown table) frame [])
 text-has P each [] frame within = absurd (omega arith)
 text-has P each (text ∷ table) zero within = each text
 text-has P each (text ∷ table) (suc frame) within = text-has P each table frame (omega arith)
 
-texts-have : (P : List ℕ → Type 0) → ((text : List ℕ) → P (shown text)) → (table : List (List ℕ)) (frames : List ℕ) → All (λ frame. frame < length table) frames → All P (texts_at (map shown table) frames)
+texts-have : (P : List ℕ → Type 0) → ((text : List ℕ) → P (shown text)) → (table : List (List ℕ)) (frames : List ℕ)
+    → All (λ frame. frame < length table) frames → All P (texts_at (map shown table) frames)
 texts-have P each table [] within = All-nil P
 texts-have P each table (frame ∷ frames) within =
     All-cons P (slice_index_or (map shown table) frame []) (texts_at (map shown table) frames)
-    (text-has P each table frame (All-head (λ f. f < length table) frame frames within)) (texts-have P each table frames (All-tail (λ f. f < length table) frame frames within))
+    (text-has P each table frame (All-head (λ f. f < length table) frame frames within))
+    (texts-have P each table frames (All-tail (λ f. f < length table) frame frames within))
 
-lists-have : (P : List ℕ → Type 0) → ((text : List ℕ) → P (shown text)) → (table : List (List ℕ)) (points : List Point) → All (λ (point : Point). All (λ frame. frame < length table) point.fs) points → All (All P) (lists_in (map shown table) points)
+lists-have : (P : List ℕ → Type 0) → ((text : List ℕ) → P (shown text)) → (table : List (List ℕ)) (points : List Point)
+    → All (λ (point : Point). All (λ frame. frame < length table) point.fs) points
+    → All (All P) (lists_in (map shown table) points)
 lists-have P each table [] within = All-nil (All P)
 lists-have P each table (point ∷ points) within =
     let In : Point → Type 0 = λ p. All (λ frame. frame < length table) p.fs in
-    All-cons (All P) (texts_at (map shown table) point.fs) (lists_in (map shown table) points) (texts-have P each table point.fs (All-head In point points within)) (lists-have P each table points (All-tail In point points within))
+    All-cons (All P) (texts_at (map shown table) point.fs) (lists_in (map shown table) points)
+    (texts-have P each table point.fs (All-head In point points within))
+    (lists-have P each table points (All-tail In point points within))
 
-items-have : (P : List ℕ → Type 0) (lists : List (List (List ℕ))) (costs : List ℕ) → All (All P) lists → All (λ (item : Costed). All P item.texts) (costed lists costs)
+items-have : (P : List ℕ → Type 0) (lists : List (List (List ℕ))) (costs : List ℕ) → All (All P) lists
+    → All (λ (item : Costed). All P item.texts) (costed lists costs)
 unfolding costed
 items-have P [] costs all = All-nil (λ (item : Costed). All P item.texts)
 items-have P (list ∷ lists) [] all = All-nil (λ (item : Costed). All P item.texts)
 items-have P (list ∷ lists) (cost ∷ costs) all =
-    All-cons (λ (item : Costed). All P item.texts) (record { texts = list; cost = cost }) (costed lists costs) (All-head (All P) list lists all) (items-have P lists costs (All-tail (All P) list lists all))
+    All-cons (λ (item : Costed). All P item.texts) (record { texts = list; cost = cost }) (costed lists costs)
+    (All-head (All P) list lists all) (items-have P lists costs (All-tail (All P) list lists all))
 
-pub points-have : (P : List ℕ → Type 0) → ((text : List ℕ) → P (shown text)) → (key : FigureKey) (dhat : Dhat) → IsSound dhat → All (λ (item : Costed). All P item.texts) (point_items key dhat)
+pub points-have : (P : List ℕ → Type 0) → ((text : List ℕ) → P (shown text)) → (key : FigureKey) (dhat : Dhat)
+    → IsSound dhat → All (λ (item : Costed). All P item.texts) (point_items key dhat)
 unfolding point_fronts
 points-have P each key dhat sound =
     items-have P (lists_in (map shown dhat.ftbl) dhat.pps) (point_costs key dhat)
     (lists-have P each dhat.ftbl dhat.pps
-    (All-weaker (IsSoundPoint dhat.bklt dhat.bkacc (length dhat.ftbl)) (λ (point : Point). All (λ frame. frame < length dhat.ftbl) point.fs) (λ point is. is.in_table) dhat.pps sound.points))
+    (All-weaker (IsSoundPoint dhat.bklt dhat.bkacc (length dhat.ftbl))
+    (λ (point : Point). All (λ frame. frame < length dhat.ftbl) point.fs) (λ point is. is.in_table) dhat.pps
+    sound.points))
 
 -- a snapshot may be written
-snap-writable : AreLaws → (time : ℕ) (mark : HeapTree) (key : FigureKey) (dhat : Dhat) → IsSound dhat → time ≤ 2 ^ 62 → sum (point_costs key dhat) ≤ 2 ^ 62 → IsWritableSnap (snap_of time mark key dhat)
+snap-writable : AreLaws → (time : ℕ) (mark : HeapTree) (key : FigureKey) (dhat : Dhat) → IsSound dhat → time ≤ 2 ^ 62
+    → sum (point_costs key dhat) ≤ 2 ^ 62 → IsWritableSnap (snap_of time mark key dhat)
 snap-writable laws time mark key dhat sound early within =
     let lists = lists-count dhat in
     let costs = costs-count key dhat in
@@ -97,7 +133,9 @@ snap-writable laws time mark key dhat sound early within =
       heap = within;
       extra = omega arith;
       stacks = omega arith;
-      tree = laws.writable whole_tree (sum (point_costs key dhat)) (point_items key dhat) (omega arith) (omega arith) (points-have IsText (shown-text laws) key dhat sound);
+      tree =
+          laws.writable whole_tree (sum (point_costs key dhat)) (point_items key dhat) (omega arith) (omega arith)
+          (points-have IsText (shown-text laws) key dhat sound);
     }
 
 -- the peak is not after the end
@@ -110,7 +148,8 @@ unfolding converted
 converted-writable laws dhat sound small =
     let early = peak-early dhat.tg dhat.te in
     let time = small.time in
-    let tree : (key : FigureKey) → IsTree (massif_tree whole_tree (sum (point_costs key dhat)) (point_items key dhat)) = λ key. laws.right whole_tree (sum (point_costs key dhat)) (point_items key dhat) (omega arith) in
+    let tree : (key : FigureKey) → IsTree (massif_tree whole_tree (sum (point_costs key dhat)) (point_items key dhat)) =
+    λ key. laws.right whole_tree (sum (point_costs key dhat)) (point_items key dhat) (omega arith) in
     let first : Snap = snap_of (peak_time dhat) Peak Gb dhat in
     let last : Snap = snap_of dhat.te Detailed Eb dhat in
     record {
@@ -118,8 +157,11 @@ converted-writable laws dhat sound small =
       numbers = omega arith;
       desc = literal laws (codes "heapsuite convert") refl;
       cmd = command-text laws dhat.cmd;
-      snaps = All-cons IsWritableSnap first (last ∷ []) (snap-writable laws (peak_time dhat) Peak Gb dhat sound (omega arith) small.at_peak)
-          (All-cons IsWritableSnap last [] (snap-writable laws dhat.te Detailed Eb dhat sound time small.at_end) (All-nil IsWritableSnap));
+      snaps =
+          All-cons IsWritableSnap first (last ∷ [])
+          (snap-writable laws (peak_time dhat) Peak Gb dhat sound (omega arith) small.at_peak)
+          (All-cons IsWritableSnap last [] (snap-writable laws dhat.te Detailed Eb dhat sound time small.at_end)
+          (All-nil IsWritableSnap));
     }
 
 -- its trees have the sums of the points

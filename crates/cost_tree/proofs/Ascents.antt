@@ -1,5 +1,31 @@
 -- Lemmas on a list's way up along a shape.
-use Rattle.std.proofs.Common.{◌≡◌, ◌≢◌, ℕ, zero, suc, ◌+◌, ◌-◌, ◌<◌, ◌≤◌, inl, inr, List, [], ◌∷◌, ◌++◌, length, take, get_or, set, Some, sym, ap, ◌∙◌, subst, arith}
+use Rattle.std.proofs.Common.{
+  ◌≡◌,
+  ◌≢◌,
+  ℕ,
+  zero,
+  suc,
+  ◌+◌,
+  ◌-◌,
+  ◌<◌,
+  ◌≤◌,
+  inl,
+  inr,
+  List,
+  [],
+  ◌∷◌,
+  ◌++◌,
+  length,
+  take,
+  get_or,
+  set,
+  Some,
+  sym,
+  ap,
+  ◌∙◌,
+  subst,
+  arith,
+}
 use Rattle.std.specs.Prelude.{slice_get, slice_index}
 use Rattle.std.proofs.lemmas.List.{length-take-le, length_push, take-append-le, take-take, take_all}
 use Rattle.std.proofs.lemmas.Option.{none-some, same_Some, slice_get_within, slice_get-get_or, get_or_from_slice_get}
@@ -13,23 +39,30 @@ pub above-root : (numbered : List ℕ) (node : ℕ) → slice_index numbered 0 �
 above-root numbered zero root none = absurd (omega arith)
 above-root numbered (suc node) root none = omega arith
 
-pub free-above : (numbered : List ℕ) (node : ℕ) → slice_index numbered 0 ≡ 1 → slice_get numbered node ≡ Some 0 → 0 < node
+pub free-above : (numbered : List ℕ) (node : ℕ) → slice_index numbered 0 ≡ 1 → slice_get numbered node ≡ Some 0
+    → 0 < node
 free-above numbered node root free = above-root numbered node root (get_or_from_slice_get numbered node 0 0 free)
 
 -- the way begins at the list's end
-pub IsWay-start : (edges : List Edge) (numbered path : List ℕ) (end : ℕ) → AreSteps (λ number. number) edges (numbers_of edges) → end ≤ length edges → path ≡ [] → IsWay edges numbered (list_at edges end) path end
+pub IsWay-start : (edges : List Edge) (numbered path : List ℕ) (end : ℕ)
+    → AreSteps (λ number. number) edges (numbers_of edges) → end ≤ length edges → path ≡ []
+    → IsWay edges numbered (list_at edges end) path end
 IsWay-start edges numbered path end are within empty =
     let list : List ℕ = list_at edges end in
     let P : List ℕ → Type 0 = λ way. IsWay edges numbered list way end in
     subst P (sym empty) (record {
       short = omega arith;
-      front = slice_get-get_or (numbers_of edges) end [] (omega (arith, are.count)) ∙ ap (λ (ns : List ℕ). Some ns) (sym (take_all (length list - 0) list (omega arith)));
+      front =
+          slice_get-get_or (numbers_of edges) end [] (omega (arith, are.count))
+          ∙ ap (λ (ns : List ℕ). Some ns) (sym (take_all (length list - 0) list (omega arith)));
       each = λ place node at. absurd (none-some node at);
     })
 
 -- a node's edge on it, and the node above
-pub IsWay-step : (edges : List Edge) (numbered list path : List ℕ) (node : ℕ) (edge : Edge) → AreSteps (λ number. number) edges (numbers_of edges) → IsWay edges numbered list path node
-    → slice_get numbered node ≡ Some 0 → 0 < node → slice_get edges (node - 1) ≡ Some edge → IsWay edges numbered list (path ++ node ∷ []) edge.parent
+pub IsWay-step : (edges : List Edge) (numbered list path : List ℕ) (node : ℕ) (edge : Edge)
+    → AreSteps (λ number. number) edges (numbers_of edges) → IsWay edges numbered list path node
+    → slice_get numbered node ≡ Some 0 → 0 < node → slice_get edges (node - 1) ≡ Some edge
+    → IsWay edges numbered list (path ++ node ∷ []) edge.parent
 IsWay-step edges numbered list path zero edge are way free above at = absurd (omega arith)
 IsWay-step edges numbered list path (suc place) edge are way free above at =
     let lists : List (List ℕ) = numbers_of edges in
@@ -40,7 +73,8 @@ IsWay-step edges numbered list path (suc place) edge are way free above at =
     let F : ℕ → Type 0 = λ k. slice_get lists k ≡ Some (next_front (λ number. number) lists edge) in
     let start : List ℕ = get_or lists edge.parent [] in
     let left : ℕ = length list - length path in
-    let same : start ++ edge.text ∷ [] ≡ take left list = same_Some (start ++ edge.text ∷ []) (take left list) (sym (subst F next step.front) ∙ way.front) in
+    let same : start ++ edge.text ∷ [] ≡ take left list =
+    same_Some (start ++ edge.text ∷ []) (take left list) (sym (subst F next step.front) ∙ way.front) in
     let short = way.short in
     let long = length_push start edge.text in
     let counts = ap (λ (ns : List ℕ). length ns) same in
@@ -67,7 +101,8 @@ IsWay-step edges numbered list path (suc place) edge are way free above at =
     }
 
 -- the parent stands before
-pub parent-before : (edges : List Edge) (lists : List (List ℕ)) (node : ℕ) (edge : Edge) → AreSteps (λ number. number) edges lists → 0 < node → slice_get edges (node - 1) ≡ Some edge → edge.parent < node
+pub parent-before : (edges : List Edge) (lists : List (List ℕ)) (node : ℕ) (edge : Edge)
+    → AreSteps (λ number. number) edges lists → 0 < node → slice_get edges (node - 1) ≡ Some edge → edge.parent < node
 parent-before edges lists node edge are above at = let step = are.step (node - 1) edge at in omega (arith, step.earlier)
 
 -- what is left of a way: its places, the last of which is next
@@ -76,7 +111,8 @@ pub record IsLeft (edges : List Edge) (numbered list path : List ℕ) : Type 0 w
   pub each : (place node : ℕ) → slice_get path place ≡ Some node → IsOnWay edges numbered list place node
 
 -- and it stays where its next node gets a number
-pub IsLeft-set : (edges : List Edge) (numbered list path : List ℕ) (node n : ℕ) → IsLeft edges numbered list (path ++ node ∷ []) → IsOnWay edges numbered list (length path) node
+pub IsLeft-set : (edges : List Edge) (numbered list path : List ℕ) (node n : ℕ)
+    → IsLeft edges numbered list (path ++ node ∷ []) → IsOnWay edges numbered list (length path) node
     → IsLeft edges (set numbered node n) list path
 IsLeft-set edges numbered list path node n left here =
     let more = length_push path node in
@@ -94,7 +130,9 @@ IsLeft-set edges numbered list path node n left here =
   where
     apart : (place other : ℕ) → place < length path → IsOnWay edges numbered list place other → other ≢ node
     apart place other inside old same =
-        let fronts = same_Some (take (length list - place) list) (take (length list - length path) list) (sym old.front ∙ ap (λ (k : ℕ). slice_get (numbers_of edges) k) same ∙ here.front) in
+        let fronts =
+        same_Some (take (length list - place) list) (take (length list - length path) list)
+        (sym old.front ∙ ap (λ (k : ℕ). slice_get (numbers_of edges) k) same ∙ here.front) in
         let counts = ap (λ (ns : List ℕ). length ns) fronts in
         let one = length-take-le (length list - place) list (omega arith) in
         let two = length-take-le (length list - length path) list (omega arith) in
@@ -103,7 +141,8 @@ IsLeft-set edges numbered list path node n left here =
         absurd (omega arith)
 
 -- a way stands at nodes of the shape
-pub node-within : (edges : List Edge) (numbered list path : List ℕ) (node : ℕ) → AreSteps (λ number. number) edges (numbers_of edges) → IsWay edges numbered list path node → node ≤ length edges
+pub node-within : (edges : List Edge) (numbered list path : List ℕ) (node : ℕ)
+    → AreSteps (λ number. number) edges (numbers_of edges) → IsWay edges numbered list path node → node ≤ length edges
 node-within edges numbered list path node are way =
     let inside = slice_get_within (numbers_of edges) node (take (length list - length path) list) way.front in
     omega (arith, are.count)

@@ -10,15 +10,21 @@ use Rattle.cost_tree.specs.TreeState.{TreeState}
 pub record IsForest (tree : TreeState) (stacks : List Costed) (depth : ℕ) : Type 0 where
   pub root : slice_get tree.fronts 0 ≡ Some []
   pub count : length tree.nodes ≡ length tree.fronts
-  pub distinct : (m n : ℕ) (front : List (List ℕ)) → slice_get tree.fronts m ≡ Some front → slice_get tree.fronts n ≡ Some front → m ≡ n
-  pub complete : (front : List (List ℕ)) → length front ≤ depth → 0 < inclusive front stacks → (n : ℕ) × (slice_get tree.fronts n ≡ Some front)
+  pub distinct : (m n : ℕ) (front : List (List ℕ)) → slice_get tree.fronts m ≡ Some front
+      → slice_get tree.fronts n ≡ Some front → m ≡ n
+  pub complete : (front : List (List ℕ)) → length front ≤ depth → 0 < inclusive front stacks
+      → (n : ℕ) × (slice_get tree.fronts n ≡ Some front)
   pub only : (n : ℕ) (front : List (List ℕ)) → 0 < n → slice_get tree.fronts n ≡ Some front → 0 < inclusive front stacks
   pub short : (n : ℕ) (front : List (List ℕ)) → slice_get tree.fronts n ≡ Some front → length front ≤ depth
-  pub firsts : (n : ℕ) (front : List (List ℕ)) (node : CostNode) → slice_get tree.fronts n ≡ Some front → slice_get tree.nodes n ≡ Some node → 0 < inclusive front stacks → node.first ≡ least front stacks
-  pub below : (n : ℕ) (front : List (List ℕ)) (node : CostNode) → 0 < n → slice_get tree.fronts n ≡ Some front → slice_get tree.nodes n ≡ Some node → IsBelow tree n front node
-  pub brothers : (m n : ℕ) (older younger : CostNode) → 0 < m → m < n → slice_get tree.nodes m ≡ Some older → slice_get tree.nodes n ≡ Some younger → older.parent ≡ younger.parent → older.first < younger.first
+  pub firsts : (n : ℕ) (front : List (List ℕ)) (node : CostNode) → slice_get tree.fronts n ≡ Some front
+      → slice_get tree.nodes n ≡ Some node → 0 < inclusive front stacks → node.first ≡ least front stacks
+  pub below : (n : ℕ) (front : List (List ℕ)) (node : CostNode) → 0 < n → slice_get tree.fronts n ≡ Some front
+      → slice_get tree.nodes n ≡ Some node → IsBelow tree n front node
+  pub brothers : (m n : ℕ) (older younger : CostNode) → 0 < m → m < n → slice_get tree.nodes m ≡ Some older
+      → slice_get tree.nodes n ≡ Some younger → older.parent ≡ younger.parent → older.first < younger.first
 
-pub IsForest-tree : (tree : TreeState) (stacks : List Costed) (depth : ℕ) → IsTreeOf tree stacks depth → IsForest tree stacks depth
+pub IsForest-tree : (tree : TreeState) (stacks : List Costed) (depth : ℕ) → IsTreeOf tree stacks depth
+    → IsForest tree stacks depth
 IsForest-tree tree stacks depth is = record {
   root = is.root;
   count = is.count;

@@ -1,5 +1,30 @@
 -- Lists that are long enough for lines where each costs 1 and two of them have one: what is left of each goes on alone.
-use Rattle.std.proofs.Common.{◌≡◌, ◌≢◌, ℕ, zero, suc, ◌+◌, ◌*◌, ◌≤◌, inl, inr, Bool, true, cond, List, [], ◌∷◌, length, replicate, take, Some, refl, ap, ◌∙◌, arith}
+use Rattle.std.proofs.Common.{
+  ◌≡◌,
+  ◌≢◌,
+  ℕ,
+  zero,
+  suc,
+  ◌+◌,
+  ◌*◌,
+  ◌≤◌,
+  inl,
+  inr,
+  Bool,
+  true,
+  cond,
+  List,
+  [],
+  ◌∷◌,
+  length,
+  replicate,
+  take,
+  Some,
+  refl,
+  ap,
+  ◌∙◌,
+  arith,
+}
 use Rattle.std.specs.Prelude.{slice_get}
 use Rattle.std.proofs.lemmas.Bool.{cases_eq, ltb-true}
 use Rattle.std.proofs.lemmas.Option.{none-some, same_Some}
@@ -15,38 +40,49 @@ use Rattle.cost_tree.proofs.Alone.{has-first}
 abbrev ones : List (List (List ℕ)) → List Costed
 ones lists = costed lists (replicate (length lists) 1)
 
-first-adds : (front list : List (List ℕ)) (lists : List (List (List ℕ))) → inclusive front (ones (list ∷ lists)) ≡ cond {A = ℕ} (has_front front list) 1 0 + inclusive front (ones lists)
+first-adds : (front list : List (List ℕ)) (lists : List (List (List ℕ)))
+    → inclusive front (ones (list ∷ lists)) ≡ cond {A = ℕ} (has_front front list) 1 0 + inclusive front (ones lists)
 unfolding costed
 first-adds front list lists = inclusive-cons front (record { texts = list; cost = 1 }) (ones lists)
 
-one-begins : (front texts : List (List ℕ)) (lists : List (List (List ℕ))) (n : ℕ) → slice_get lists n ≡ Some texts → has_front front texts ≡ true → 1 ≤ inclusive front (ones lists)
+one-begins : (front texts : List (List ℕ)) (lists : List (List (List ℕ))) (n : ℕ) → slice_get lists n ≡ Some texts
+    → has_front front texts ≡ true → 1 ≤ inclusive front (ones lists)
 one-begins front texts [] n at has = absurd (none-some texts at)
 one-begins front texts (list ∷ lists) zero at has =
     let adds = first-adds front list lists in
-    let here : cond {A = ℕ} (has_front front list) 1 0 ≡ 1 = ap (λ (xs : List (List ℕ)). cond {A = ℕ} (has_front front xs) 1 0) (same_Some list texts at) ∙ ap (λ (b : Bool). cond {A = ℕ} b 1 0) has in
+    let here : cond {A = ℕ} (has_front front list) 1 0 ≡ 1 =
+    ap (λ (xs : List (List ℕ)). cond {A = ℕ} (has_front front xs) 1 0) (same_Some list texts at)
+    ∙ ap (λ (b : Bool). cond {A = ℕ} b 1 0) has in
     omega arith
 one-begins front texts (list ∷ lists) (suc n) at has =
     let adds = first-adds front list lists in
     let rest = one-begins front texts lists n at has in
     omega arith
 
-two-begin : (front texts other : List (List ℕ)) (lists : List (List (List ℕ))) (n k : ℕ) → slice_get lists n ≡ Some texts → slice_get lists k ≡ Some other → has_front front texts ≡ true → has_front front other ≡ true → k ≢ n
+two-begin : (front texts other : List (List ℕ)) (lists : List (List (List ℕ))) (n k : ℕ)
+    → slice_get lists n ≡ Some texts → slice_get lists k ≡ Some other → has_front front texts ≡ true
+    → has_front front other ≡ true → k ≢ n
     → 2 ≤ inclusive front (ones lists)
 two-begin front texts other [] n k at other_at has other_has apart = absurd (none-some texts at)
 two-begin front texts other (list ∷ lists) zero zero at other_at has other_has apart = absurd (apart refl)
 two-begin front texts other (list ∷ lists) zero (suc k) at other_at has other_has apart =
     let adds = first-adds front list lists in
-    let here : cond {A = ℕ} (has_front front list) 1 0 ≡ 1 = ap (λ (xs : List (List ℕ)). cond {A = ℕ} (has_front front xs) 1 0) (same_Some list texts at) ∙ ap (λ (b : Bool). cond {A = ℕ} b 1 0) has in
+    let here : cond {A = ℕ} (has_front front list) 1 0 ≡ 1 =
+    ap (λ (xs : List (List ℕ)). cond {A = ℕ} (has_front front xs) 1 0) (same_Some list texts at)
+    ∙ ap (λ (b : Bool). cond {A = ℕ} b 1 0) has in
     let rest = one-begins front other lists k other_at other_has in
     omega arith
 two-begin front texts other (list ∷ lists) (suc n) zero at other_at has other_has apart =
     let adds = first-adds front list lists in
-    let here : cond {A = ℕ} (has_front front list) 1 0 ≡ 1 = ap (λ (xs : List (List ℕ)). cond {A = ℕ} (has_front front xs) 1 0) (same_Some list other other_at) ∙ ap (λ (b : Bool). cond {A = ℕ} b 1 0) other_has in
+    let here : cond {A = ℕ} (has_front front list) 1 0 ≡ 1 =
+    ap (λ (xs : List (List ℕ)). cond {A = ℕ} (has_front front xs) 1 0) (same_Some list other other_at)
+    ∙ ap (λ (b : Bool). cond {A = ℕ} b 1 0) other_has in
     let rest = one-begins front texts lists n at has in
     omega arith
 two-begin front texts other (list ∷ lists) (suc n) (suc k) at other_at has other_has apart =
     let adds = first-adds front list lists in
-    let rest = two-begin front texts other lists n k at other_at has other_has (λ same. apart (ap (λ (m : ℕ). suc m) same)) in
+    let rest =
+    two-begin front texts other lists n k at other_at has other_has (λ same. apart (ap (λ (m : ℕ). suc m) same)) in
     omega arith
 
 -- by this a cost of 1 is too small for a line, and one of 2 isn't
@@ -54,7 +90,8 @@ abbrev pub shared : Scale
 shared = record { total = 1; threshold = 20000 }
 
 -- so counts that are enough for lines leave each list alone
-pub alone-from : (lists : List (List (List ℕ))) (counts : List ℕ) → ((depth : ℕ) → AreEnough depth shared (ones lists) lists counts) → AreAlone lists counts
+pub alone-from : (lists : List (List (List ℕ))) (counts : List ℕ)
+    → ((depth : ℕ) → AreEnough depth shared (ones lists) lists counts) → AreAlone lists counts
 alone-from lists counts enough n k count texts other at count_at more other_at has =
     elim (cases_eq k n) [
       | inl same ↦ same

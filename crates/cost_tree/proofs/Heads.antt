@@ -7,7 +7,8 @@ use Rattle.std.proofs.lemmas.List.Sums.{sum_by-cons}
 use Rattle.cost_tree.specs.Costed.{Costed}
 use Rattle.cost_tree.specs.Inclusive.{has_front, inclusive, least}
 
-pub inclusive-cons : (front : List (List ℕ)) (stack : Costed) (stacks : List Costed) → inclusive front (stack ∷ stacks) ≡ cond (has_front front stack.texts) stack.cost 0 + inclusive front stacks
+pub inclusive-cons : (front : List (List ℕ)) (stack : Costed) (stacks : List Costed)
+    → inclusive front (stack ∷ stacks) ≡ cond (has_front front stack.texts) stack.cost 0 + inclusive front stacks
 unfolding inclusive
 inclusive-cons front stack stacks = sum_by-cons (λ (s : Costed). cond (has_front front s.texts) s.cost 0) stack stacks
 
@@ -20,7 +21,9 @@ first_place-is : {X : Type 0} (p : X → Bool) (xs : List X) → first_place p x
 unfolding first_place
 first_place-is p xs = is_position_or_len (first_place p) p refl (λ x ys. refl) xs
 
-pub least-cons : (front : List (List ℕ)) (stack : Costed) (stacks : List Costed) → least front (stack ∷ stacks) ≡ cond (nat_lt 0 stack.cost && has_front front stack.texts) 0 (1 + least front stacks)
+pub least-cons : (front : List (List ℕ)) (stack : Costed) (stacks : List Costed)
+    → least front (stack ∷ stacks)
+    ≡ cond (nat_lt 0 stack.cost && has_front front stack.texts) 0 (1 + least front stacks)
 unfolding least first_place
 least-cons front stack stacks =
     let p : Costed → Bool = λ s. nat_lt 0 s.cost && has_front front s.texts in

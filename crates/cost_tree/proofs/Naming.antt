@@ -1,5 +1,25 @@
 -- Lemmas on texts and their numbers.
-use Rattle.std.proofs.Common.{◌≡◌, ℕ, zero, suc, ◌-◌, inl, inr, ◌==◌, Bool, false, cond, List, [], get_or, None, sym, ap, ◌∙◌, arith}
+use Rattle.std.proofs.Common.{
+  ◌≡◌,
+  ℕ,
+  zero,
+  suc,
+  ◌-◌,
+  inl,
+  inr,
+  ◌==◌,
+  Bool,
+  false,
+  cond,
+  List,
+  [],
+  get_or,
+  None,
+  sym,
+  ap,
+  ◌∙◌,
+  arith,
+}
 use Rattle.std.specs.Prelude.{slice_get, unwrap_or}
 use Rattle.std.proofs.lemmas.Bool.{cases_order, ne_eqb}
 use Rattle.std.proofs.lemmas.Option.{unwrap_or-slice_get}
@@ -17,7 +37,8 @@ text_of-place names place =
     ∙ unwrap_or-slice_get names place []
 
 -- two numbers with the same text are one
-pub same_number : (names : List (List ℕ)) (a b : ℕ) → AreDistinct names → IsText names a → IsText names b → text_of names a ≡ text_of names b → a ≡ b
+pub same_number : (names : List (List ℕ)) (a b : ℕ) → AreDistinct names → IsText names a → IsText names b
+    → text_of names a ≡ text_of names b → a ≡ b
 same_number names zero b distinct is_a is_b same = absurd (omega arith)
 same_number names (suc a) zero distinct is_a is_b same = absurd (omega arith)
 same_number names (suc a) (suc b) distinct is_a is_b same =

@@ -1,5 +1,31 @@
 -- A front costs its own cost and what the fronts one text longer cost.
-use Rattle.std.proofs.Common.{◌≡◌, ◌≢◌, ℕ, zero, suc, ◌+◌, ◌<◌, ◌≤◌, inl, inr, true, false, if◌then◌else◌, List, [], ◌∷◌, ◌++◌, length, take, get_or, refl, sym, ap, ◌∙◌, arith}
+use Rattle.std.proofs.Common.{
+  ◌≡◌,
+  ◌≢◌,
+  ℕ,
+  zero,
+  suc,
+  ◌+◌,
+  ◌<◌,
+  ◌≤◌,
+  inl,
+  inr,
+  true,
+  false,
+  if◌then◌else◌,
+  List,
+  [],
+  ◌∷◌,
+  ◌++◌,
+  length,
+  take,
+  get_or,
+  refl,
+  sym,
+  ap,
+  ◌∙◌,
+  arith,
+}
 use Rattle.std.specs.Prelude.{All, AllPairs, Contains, sum_by}
 use Rattle.std.proofs.lemmas.Bool.{true≢false, cases_Bool, cases_lt, false_from_ne_true, cond-true, cond-false}
 use Rattle.std.proofs.lemmas.List.{length-take, length_push, take-append-le, take-take, take_all, take_more}
@@ -23,7 +49,8 @@ abbrev counted : Costed → List (List ℕ) → ℕ
 counted stack front = if has_front front stack.texts then stack.cost else 0
 
 -- a stack that begins with a longer front begins with the front
-front-of : (front next texts : List (List ℕ)) → IsNext front next → has_front next texts ≡ true → has_front front texts ≡ true
+front-of : (front next texts : List (List ℕ)) → IsNext front next → has_front next texts ≡ true
+    → has_front front texts ≡ true
 front-of front next texts is has =
     let count = is.count in
     (has_front-Decides front texts).1
@@ -32,7 +59,8 @@ front-of front next texts is has =
     ∙ take-take (length front) (length next) texts (omega arith))
 
 -- and with no other longer front
-one-next : (front next other texts : List (List ℕ)) → IsNext front next → IsNext front other → next ≢ other → has_front next texts ≡ true → has_front other texts ≡ false
+one-next : (front next other texts : List (List ℕ)) → IsNext front next → IsNext front other → next ≢ other
+    → has_front next texts ≡ true → has_front other texts ≡ false
 one-next front next other texts is is' apart has =
     false_from_ne_true (has_front other texts) (λ has'.
     apart ((has_front-Decides next texts).0 has
@@ -40,16 +68,20 @@ one-next front next other texts is is' apart has =
     ∙ sym ((has_front-Decides other texts).0 has')))
 
 -- it adds nothing to those that it doesn't begin with
-none-counted : (stack : Costed) (nexts : List (List (List ℕ))) → All (λ next. has_front next stack.texts ≡ false) nexts → sum_by (counted stack) nexts ≡ 0
+none-counted : (stack : Costed) (nexts : List (List (List ℕ))) → All (λ next. has_front next stack.texts ≡ false) nexts
+    → sum_by (counted stack) nexts ≡ 0
 none-counted stack [] all = refl
 none-counted stack (next ∷ rest) all =
-    let first = cond-false (has_front next stack.texts) stack.cost 0 (All-head (λ f. has_front f stack.texts ≡ false) next rest all) in
+    let first =
+    cond-false (has_front next stack.texts) stack.cost 0
+    (All-head (λ f. has_front f stack.texts ≡ false) next rest all) in
     let later = none-counted stack rest (All-tail (λ f. has_front f stack.texts ≡ false) next rest all) in
     let both = sum_by-cons (counted stack) next rest in
     omega arith
 
 -- it adds to one of some different longer fronts at most
-one-counted : (front : List (List ℕ)) (stack : Costed) (nexts : List (List (List ℕ))) → All (IsNext front) nexts → AllPairs (λ earlier later. earlier ≢ later) nexts
+one-counted : (front : List (List ℕ)) (stack : Costed) (nexts : List (List (List ℕ))) → All (IsNext front) nexts
+    → AllPairs (λ earlier later. earlier ≢ later) nexts
     → sum_by (counted stack) nexts ≤ counted stack front
 one-counted front stack [] all apart = omega arith
 one-counted front stack (next ∷ rest) all apart =
@@ -61,17 +93,21 @@ one-counted front stack (next ∷ rest) all apart =
           let here = cond-true (has_front next stack.texts) stack.cost 0 has in
           let whole = cond-true (has_front front stack.texts) stack.cost 0 (front-of front next stack.texts is has) in
           let others : All (λ other. has_front other stack.texts ≡ false) rest =
-          λ k d within. one-next front next (get_or rest k d) stack.texts is (rests k d within) (apart zero (suc k) d (omega arith) (omega arith)) has in
+          λ k d within. one-next front next (get_or rest k d) stack.texts is (rests k d within)
+          (apart zero (suc k) d (omega arith) (omega arith)) has in
           let later = none-counted stack rest others in
           omega arith
       | inr other ↦
           let here = cond-false (has_front next stack.texts) stack.cost 0 other in
-          let later = one-counted front stack rest rests (λ i j d before within. apart (suc i) (suc j) d (omega arith) (omega arith)) in
+          let later =
+          one-counted front stack rest rests
+          (λ i j d before within. apart (suc i) (suc j) d (omega arith) (omega arith)) in
           omega arith
     ]
 
 -- sums of sums
-sum-both : {X : Type 0} (f g h : X → ℕ) (xs : List X) → ((x : X) → h x ≡ f x + g x) → sum_by h xs ≡ sum_by f xs + sum_by g xs
+sum-both : {X : Type 0} (f g h : X → ℕ) (xs : List X) → ((x : X) → h x ≡ f x + g x)
+    → sum_by h xs ≡ sum_by f xs + sum_by g xs
 sum-both f g h [] each = refl
 sum-both f g h (x ∷ xs) each =
     let one = sum_by-cons f x xs in
@@ -94,19 +130,25 @@ owned stack front = if is_front front stack.texts then stack.cost else 0
 
 -- a stack with a cost that goes on behind the front begins with one of the longer fronts
 abbrev Covers : List (List ℕ) → List (List (List ℕ)) → Costed → Type 0
-Covers front nexts stack = 0 < stack.cost → has_front front stack.texts ≡ true → length front < length stack.texts → Contains nexts (take (length front + 1) stack.texts)
+Covers front nexts stack =
+    0 < stack.cost → has_front front stack.texts ≡ true → length front < length stack.texts
+    → Contains nexts (take (length front + 1) stack.texts)
 
 -- the texts of a list behind its front are one more than the front's
-length-next : (front texts : List (List ℕ)) → length front < length texts → length (take (length front + 1) texts) ≡ length front + 1
+length-next : (front texts : List (List ℕ)) → length front < length texts
+    → length (take (length front + 1) texts) ≡ length front + 1
 length-next front texts goes_on = let count = length-take (length front + 1) texts in omega arith
 
-has_next : (front texts : List (List ℕ)) → length front < length texts → has_front (take (length front + 1) texts) texts ≡ true
+has_next : (front texts : List (List ℕ)) → length front < length texts
+    → has_front (take (length front + 1) texts) texts ≡ true
 has_next front texts goes_on =
-    (has_front-Decides (take (length front + 1) texts) texts).1 (sym (ap (λ (k : ℕ). take k texts) (length-next front texts goes_on)))
+    (has_front-Decides (take (length front + 1) texts) texts).1
+    (sym (ap (λ (k : ℕ). take k texts) (length-next front texts goes_on)))
 
 -- a stack that doesn't begin with the front isn't the front, nor is one that goes on behind it
 not-front : (front texts : List (List ℕ)) → has_front front texts ≡ false → is_front front texts ≡ false
-not-front front texts other = false_from_ne_true (is_front front texts) (λ is. true≢false (sym (is_front-has front texts is) ∙ other))
+not-front front texts other =
+    false_from_ne_true (is_front front texts) (λ is. true≢false (sym (is_front-has front texts is) ∙ other))
 
 not-longer : (front texts : List (List ℕ)) → length front < length texts → is_front front texts ≡ false
 not-longer front texts goes_on =
@@ -115,37 +157,47 @@ not-longer front texts goes_on =
     absurd (omega arith))
 
 -- a stack with a cost is counted by the longer front that it begins with
-one-covered : (front : List (List ℕ)) (stack : Costed) (nexts : List (List (List ℕ))) → length front < length stack.texts → Contains nexts (take (length front + 1) stack.texts)
+one-covered : (front : List (List ℕ)) (stack : Costed) (nexts : List (List (List ℕ)))
+    → length front < length stack.texts → Contains nexts (take (length front + 1) stack.texts)
     → stack.cost ≤ sum_by (counted stack) nexts
 one-covered front stack nexts goes_on held =
     let next : List (List ℕ) = take (length front + 1) stack.texts in
-    let least : counted stack (get_or nexts held.0 next) ≤ sum_by (counted stack) nexts = get_or-le-sum_by (counted stack) nexts held.0 next held.1 in
-    let here : counted stack next ≡ stack.cost = cond-true (has_front next stack.texts) stack.cost 0 (has_next front stack.texts goes_on) in
-    let same : counted stack (get_or nexts held.0 next) ≡ counted stack next = ap (λ (f : List (List ℕ)). counted stack f) held.2 in
+    let least : counted stack (get_or nexts held.0 next) ≤ sum_by (counted stack) nexts =
+    get_or-le-sum_by (counted stack) nexts held.0 next held.1 in
+    let here : counted stack next ≡ stack.cost =
+    cond-true (has_front next stack.texts) stack.cost 0 (has_next front stack.texts goes_on) in
+    let same : counted stack (get_or nexts held.0 next) ≡ counted stack next =
+    ap (λ (f : List (List ℕ)). counted stack f) held.2 in
     omega arith
 
 -- what a stack adds to the front it adds to the front's own cost, or to one of the longer fronts
-one-whole : (front : List (List ℕ)) (stack : Costed) (nexts : List (List (List ℕ))) → All (IsNext front) nexts → AllPairs (λ earlier later. earlier ≢ later) nexts → Covers front nexts stack
+one-whole : (front : List (List ℕ)) (stack : Costed) (nexts : List (List (List ℕ))) → All (IsNext front) nexts
+    → AllPairs (λ earlier later. earlier ≢ later) nexts → Covers front nexts stack
     → counted stack front ≡ owned stack front + sum_by (counted stack) nexts
 one-whole front stack nexts all apart covers =
     let most = one-counted front stack nexts all apart in
     elim (cases_Bool (has_front front stack.texts)) [
       | inr other ↦
           let none : counted stack front ≡ 0 = cond-false (has_front front stack.texts) stack.cost 0 other in
-          let not_own : owned stack front ≡ 0 = cond-false (is_front front stack.texts) stack.cost 0 (not-front front stack.texts other) in
+          let not_own : owned stack front ≡ 0 =
+          cond-false (is_front front stack.texts) stack.cost 0 (not-front front stack.texts other) in
           omega arith
       | inl has ↦
           let whole : counted stack front ≡ stack.cost = cond-true (has_front front stack.texts) stack.cost 0 has in
           elim (cases_lt (length front) (length stack.texts)) [
             | inl goes_on ↦
-                let not_own : owned stack front ≡ 0 = cond-false (is_front front stack.texts) stack.cost 0 (not-longer front stack.texts goes_on) in
+                let not_own : owned stack front ≡ 0 =
+                cond-false (is_front front stack.texts) stack.cost 0 (not-longer front stack.texts goes_on) in
                 elim (cases_lt 0 stack.cost) [
-                  | inl above ↦ let most' = one-covered front stack nexts goes_on (covers above has goes_on) in omega arith
+                  | inl above ↦ let most' =
+                      one-covered front stack nexts goes_on (covers above has goes_on) in omega arith
                   | inr nothing ↦ omega arith
                 ]
             | inr ends ↦
-                let same : front ≡ stack.texts = (has_front-Decides front stack.texts).0 has ∙ take_all (length front) stack.texts (omega arith) in
-                let is_own : owned stack front ≡ stack.cost = cond-true (is_front front stack.texts) stack.cost 0 ((is_front-Decides front stack.texts).1 same) in
+                let same : front ≡ stack.texts =
+                (has_front-Decides front stack.texts).0 has ∙ take_all (length front) stack.texts (omega arith) in
+                let is_own : owned stack front ≡ stack.cost =
+                cond-true (is_front front stack.texts) stack.cost 0 ((is_front-Decides front stack.texts).1 same) in
                 let later = none-counted stack nexts (too_long ends) in
                 omega arith
           ]
@@ -160,7 +212,8 @@ one-whole front stack nexts all apart covers =
         absurd (omega arith))
 
 -- the fronts all together
-nexts-whole : (front : List (List ℕ)) (nexts : List (List (List ℕ))) (stacks : List Costed) → All (IsNext front) nexts → AllPairs (λ earlier later. earlier ≢ later) nexts → All (Covers front nexts) stacks
+nexts-whole : (front : List (List ℕ)) (nexts : List (List (List ℕ))) (stacks : List Costed) → All (IsNext front) nexts
+    → AllPairs (λ earlier later. earlier ≢ later) nexts → All (Covers front nexts) stacks
     → inclusive front stacks ≡ own front stacks + sum_by (λ next. inclusive next stacks) nexts
 unfolding inclusive own
 nexts-whole front nexts [] all apart covered =
@@ -175,7 +228,8 @@ nexts-whole front nexts (stack ∷ stacks) all apart covered =
     let owns = sum_by-cons (λ (s : Costed). owned s front) stack stacks in
     omega arith
 
-pub next-whole : (front : List (List ℕ)) (stacks : List Costed) → inclusive front stacks ≡ own front stacks + sum_by (λ next. inclusive next stacks) (next_fronts front stacks)
+pub next-whole : (front : List (List ℕ)) (stacks : List Costed)
+    → inclusive front stacks ≡ own front stacks + sum_by (λ next. inclusive next stacks) (next_fronts front stacks)
 next-whole front stacks = nexts-whole front (next_fronts front stacks) stacks are (next-apart front stacks) covered
   where
     longer : (next : List (List ℕ)) → IsLonger front stacks next → IsNext front next
@@ -189,12 +243,16 @@ next-whole front stacks = nexts-whole front (next_fronts front stacks) stacks ar
         }
 
     are : All (IsNext front) (next_fronts front stacks)
-    are = All-weaker (IsLonger front stacks) (IsNext front) (λ next is. longer next is) (next_fronts front stacks) (next-longer front stacks)
+    are =
+        All-weaker (IsLonger front stacks) (IsNext front) (λ next is. longer next is) (next_fronts front stacks)
+        (next-longer front stacks)
 
     covered : All (Covers front (next_fronts front stacks)) stacks
     covered k d within above has goes_on =
         let texts : List (List ℕ) = (get_or stacks k d).texts in
         let text : List ℕ = get_or texts (length front) [] in
         let next : List (List ℕ) = take (length front + 1) texts in
-        let is : next ≡ front ++ text ∷ [] = take_more texts (length front) [] goes_on ∙ ap (λ (xs : List (List ℕ)). xs ++ text ∷ []) (sym ((has_front-Decides front texts).0 has)) in
+        let is : next ≡ front ++ text ∷ [] =
+        take_more texts (length front) [] goes_on
+        ∙ ap (λ (xs : List (List ℕ)). xs ++ text ∷ []) (sym ((has_front-Decides front texts).0 has)) in
         next-all front next text stacks is (inclusive-some next stacks k d within above (has_next front texts goes_on))

@@ -1,15 +1,52 @@
 -- Lemmas on what stands by descending cost.
-use Rattle.std.proofs.Common.{◌≡◌, ℕ, zero, suc, ◌<◌, ◌≤◌, ◌⊎◌, inl, inr, Bool, true, false, cond, List, [], ◌∷◌, length, map, filter, get_or, refl, sym, ap, ◌∙◌, subst, arith, IsPermutation}
+use Rattle.std.proofs.Common.{
+  ◌≡◌,
+  ℕ,
+  zero,
+  suc,
+  ◌<◌,
+  ◌≤◌,
+  ◌⊎◌,
+  inl,
+  inr,
+  Bool,
+  true,
+  false,
+  cond,
+  List,
+  [],
+  ◌∷◌,
+  length,
+  map,
+  filter,
+  get_or,
+  refl,
+  sym,
+  ap,
+  ◌∙◌,
+  subst,
+  arith,
+  IsPermutation,
+}
 use Rattle.std.specs.Prelude.{All, AllPairs, Contains, nat_lt}
 use Rattle.std.proofs.lemmas.Bool.{cases_Bool, cond_both, ltb-false, ltb-true}
 use Rattle.std.proofs.lemmas.List.Elements.{All-cons, All-head, All-tail, Contains-append_right}
 use Rattle.std.proofs.lemmas.List.Kept.{AllPairs-cons}
-use Rattle.std.proofs.lemmas.List.Sorted.{All-permutation, Contains-permutation, IsPermutation-cons, IsPermutation-middle, IsPermutation-refl, IsPermutation-sym, IsPermutation-trans}
+use Rattle.std.proofs.lemmas.List.Sorted.{
+  All-permutation,
+  Contains-permutation,
+  IsPermutation-cons,
+  IsPermutation-middle,
+  IsPermutation-refl,
+  IsPermutation-sym,
+  IsPermutation-trans,
+}
 use Rattle.cost_tree.specs.declared.children.Child.{Child}
 use Rattle.cost_tree.specs.Order.{before_cheaper, by_cost}
 
 -- the same elements in another order
-before_cheaper-permutation : {X : Type 0} (cost : X → ℕ) (x : X) (ys : List X) → IsPermutation (x ∷ ys) (before_cheaper cost x ys)
+before_cheaper-permutation : {X : Type 0} (cost : X → ℕ) (x : X) (ys : List X)
+    → IsPermutation (x ∷ ys) (before_cheaper cost x ys)
 before_cheaper-permutation cost x [] = IsPermutation-refl (x ∷ [])
 before_cheaper-permutation cost x (y ∷ ys) =
     cond_both (nat_lt (cost x) (cost y)) (y ∷ before_cheaper cost x ys) (x ∷ y ∷ ys) (IsPermutation (x ∷ y ∷ ys))
@@ -58,7 +95,8 @@ pairs-head : {X : Type 0} (R : X → X → Type 0) (x : X) (xs : List X) → All
 pairs-head R x xs pairs = λ k d within. pairs zero (suc k) d (omega arith) (omega arith)
 
 -- a child of a lower node than all others finds its place
-put-before : (x : Child) (ys : List Child) → All (λ y. x.node < y.node) ys → AllPairs IsBefore ys → AllPairs IsBefore (before_cheaper cost_of_child x ys)
+put-before : (x : Child) (ys : List Child) → All (λ y. x.node < y.node) ys → AllPairs IsBefore ys
+    → AllPairs IsBefore (before_cheaper cost_of_child x ys)
 put-before x [] lower pairs = λ i j d before within. absurd (omega arith)
 put-before x (y ∷ ys) lower pairs =
     let below_y = pairs-head IsBefore y ys pairs in
@@ -68,18 +106,21 @@ put-before x (y ∷ ys) lower pairs =
     cond_both (nat_lt x.cost y.cost) (y ∷ before_cheaper cost_of_child x ys) (x ∷ y ∷ ys) (AllPairs IsBefore)
     (λ costlier.
     AllPairs-cons IsBefore y (before_cheaper cost_of_child x ys)
-    (All-permutation (IsBefore y) (x ∷ ys) (before_cheaper cost_of_child x ys) (before_cheaper-permutation cost_of_child x ys)
+    (All-permutation (IsBefore y) (x ∷ ys) (before_cheaper cost_of_child x ys)
+    (before_cheaper-permutation cost_of_child x ys)
     (All-cons (IsBefore y) x ys (inl (ltb-true x.cost y.cost costlier)) below_y))
     (put-before x ys lower_rest rest))
     (λ cheaper.
     let no_less = ltb-false x.cost y.cost cheaper in
     AllPairs-cons IsBefore x (y ∷ ys)
     (All-cons (IsBefore x) y ys (before-from x y (omega arith) lower_y)
-    (λ k d within. let less = cheaper-from y (get_or ys k d) (below_y k d within) in before-from x (get_or ys k d) (omega arith) (lower_rest k d within)))
+    (λ k d within. let less = cheaper-from y (get_or ys k d) (below_y k d within) in before-from x (get_or ys k d)
+    (omega arith) (lower_rest k d within)))
     pairs)
 
 -- children of ascending nodes come one before the other
-pub by_cost-ordered : (xs : List Child) → AllPairs (λ older younger. older.node < younger.node) xs → AllPairs IsBefore (by_cost cost_of_child xs)
+pub by_cost-ordered : (xs : List Child) → AllPairs (λ older younger. older.node < younger.node) xs
+    → AllPairs IsBefore (by_cost cost_of_child xs)
 by_cost-ordered [] up = λ i j d before within. absurd (omega arith)
 by_cost-ordered (x ∷ xs) up =
     let R : Child → Child → Type 0 = λ older younger. older.node < younger.node in
@@ -99,7 +140,8 @@ in_cons x xs y held = at held.0 held.1 held.2
 first-before : (x : Child) (xs : List Child) (y : Child) → AllPairs IsBefore (x ∷ xs) → Contains xs y → IsBefore x y
 first-before x xs y pairs held = subst (IsBefore x) held.2 (pairs-head IsBefore x xs pairs held.0 y held.1)
 
-rest-same : (x : Child) (xs : List Child) (y : Child) (ys : List Child) (z : Child) → x ≡ y → AllPairs IsBefore (x ∷ xs) → Contains xs z → Contains (y ∷ ys) z → Contains ys z
+rest-same : (x : Child) (xs : List Child) (y : Child) (ys : List Child) (z : Child) → x ≡ y → AllPairs IsBefore (x ∷ xs)
+    → Contains xs z → Contains (y ∷ ys) z → Contains ys z
 rest-same x xs y ys z heads pairs here there =
     elim (in_cons y ys z there) [
       | inl is ↦
@@ -110,10 +152,13 @@ rest-same x xs y ys z heads pairs here there =
     ]
 
 -- two lists in this order that have the same elements are equal
-pub ordered-same : (xs ys : List Child) → AllPairs IsBefore xs → AllPairs IsBefore ys → ((z : Child) → Contains xs z → Contains ys z) → ((z : Child) → Contains ys z → Contains xs z) → xs ≡ ys
+pub ordered-same : (xs ys : List Child) → AllPairs IsBefore xs → AllPairs IsBefore ys
+    → ((z : Child) → Contains xs z → Contains ys z) → ((z : Child) → Contains ys z → Contains xs z) → xs ≡ ys
 ordered-same [] [] up up' there back = refl
-ordered-same [] (y ∷ ys) up up' there back = let held = back y (0, omega arith, refl) in let within = held.1 in absurd (omega arith)
-ordered-same (x ∷ xs) [] up up' there back = let held = there x (0, omega arith, refl) in let within = held.1 in absurd (omega arith)
+ordered-same [] (y ∷ ys) up up' there back =
+    let held = back y (0, omega arith, refl) in let within = held.1 in absurd (omega arith)
+ordered-same (x ∷ xs) [] up up' there back =
+    let held = there x (0, omega arith, refl) in let within = held.1 in absurd (omega arith)
 ordered-same (x ∷ xs) (y ∷ ys) up up' there back =
     let heads : x ≡ y = elim (in_cons y ys x (there x (0, omega arith, refl))) [
       | inl is ↦ sym is
@@ -128,26 +173,36 @@ ordered-same (x ∷ xs) (y ∷ ys) up up' there back =
     ap (λ (z : Child). z ∷ xs) heads ∙ ap (λ (zs : List Child). y ∷ zs) rests
 
 -- so a list of the same elements in this order is the defined one
-pub by_cost-is : (xs ys : List Child) → AllPairs (λ older younger. older.node < younger.node) xs → IsPermutation xs ys → AllPairs IsBefore ys → ys ≡ by_cost cost_of_child xs
+pub by_cost-is : (xs ys : List Child) → AllPairs (λ older younger. older.node < younger.node) xs → IsPermutation xs ys
+    → AllPairs IsBefore ys → ys ≡ by_cost cost_of_child xs
 by_cost-is xs ys up same ordered =
     let defined = by_cost-permutation cost_of_child xs in
     ordered-same ys (by_cost cost_of_child xs) ordered (by_cost-ordered xs up)
-    (λ z held. Contains-permutation xs (by_cost cost_of_child xs) z defined (Contains-permutation ys xs z (IsPermutation-sym xs ys same) held))
-    (λ z held. Contains-permutation xs ys z same (Contains-permutation (by_cost cost_of_child xs) xs z (IsPermutation-sym xs (by_cost cost_of_child xs) defined) held))
+    (λ z held. Contains-permutation xs (by_cost cost_of_child xs) z defined
+    (Contains-permutation ys xs z (IsPermutation-sym xs ys same) held))
+    (λ z held. Contains-permutation xs ys z same
+    (Contains-permutation (by_cost cost_of_child xs) xs z (IsPermutation-sym xs (by_cost cost_of_child xs) defined)
+    held))
 
 -- the order of what a function gives is that of its arguments by what they give
-before_cheaper-map : {X Y : Type 0} (cost : Y → ℕ) (f : X → Y) (x : X) (ys : List X) → before_cheaper cost (f x) (map f ys) ≡ map f (before_cheaper (λ y. cost (f y)) x ys)
+before_cheaper-map : {X Y : Type 0} (cost : Y → ℕ) (f : X → Y) (x : X) (ys : List X)
+    → before_cheaper cost (f x) (map f ys) ≡ map f (before_cheaper (λ y. cost (f y)) x ys)
 before_cheaper-map cost f x [] = refl
 before_cheaper-map cost f x (y ∷ ys) =
-    elim (nat_lt (cost (f x)) (cost (f y))) as (λ b. cond b (f y ∷ before_cheaper cost (f x) (map f ys)) (f x ∷ f y ∷ map f ys) ≡ map f (cond b (y ∷ before_cheaper (λ z. cost (f z)) x ys) (x ∷ y ∷ ys)))
+    elim (nat_lt (cost (f x)) (cost (f y))) as
+    (λ b. cond b (f y ∷ before_cheaper cost (f x) (map f ys)) (f x ∷ f y ∷ map f ys)
+    ≡ map f (cond b (y ∷ before_cheaper (λ z. cost (f z)) x ys) (x ∷ y ∷ ys)))
     [ true ↦ ap (λ zs. f y ∷ zs) (before_cheaper-map cost f x ys) | false ↦ refl ]
 
-pub by_cost-map : {X Y : Type 0} (cost : Y → ℕ) (f : X → Y) (xs : List X) → by_cost cost (map f xs) ≡ map f (by_cost (λ x. cost (f x)) xs)
+pub by_cost-map : {X Y : Type 0} (cost : Y → ℕ) (f : X → Y) (xs : List X)
+    → by_cost cost (map f xs) ≡ map f (by_cost (λ x. cost (f x)) xs)
 by_cost-map cost f [] = refl
-by_cost-map cost f (x ∷ xs) = ap (before_cheaper cost (f x)) (by_cost-map cost f xs) ∙ before_cheaper-map cost f x (by_cost (λ y. cost (f y)) xs)
+by_cost-map cost f (x ∷ xs) =
+    ap (before_cheaper cost (f x)) (by_cost-map cost f xs) ∙ before_cheaper-map cost f x (by_cost (λ y. cost (f y)) xs)
 
 -- costs that agree give one order
-before_cheaper-same : {X : Type 0} (c c' : X → ℕ) (x : X) (ys : List X) → c x ≡ c' x → All (λ y. c y ≡ c' y) ys → before_cheaper c x ys ≡ before_cheaper c' x ys
+before_cheaper-same : {X : Type 0} (c c' : X → ℕ) (x : X) (ys : List X) → c x ≡ c' x → All (λ y. c y ≡ c' y) ys
+    → before_cheaper c x ys ≡ before_cheaper c' x ys
 before_cheaper-same c c' x [] here all = refl
 before_cheaper-same {X} c c' x (y ∷ ys) here all =
     let first : c y ≡ c' y = All-head (λ z. c z ≡ c' z) y ys all in
@@ -165,10 +220,13 @@ by_cost-same c c' (x ∷ xs) all =
     (All-permutation (λ z. c z ≡ c' z) xs (by_cost c' xs) (by_cost-permutation c' xs) rest)
 
 -- what passes a test of what a function gives
-pub filter-map : {X Y : Type 0} (p : Y → Bool) (f : X → Y) (xs : List X) → filter p (map f xs) ≡ map f (filter (λ x. p (f x)) xs)
+pub filter-map : {X Y : Type 0} (p : Y → Bool) (f : X → Y) (xs : List X)
+    → filter p (map f xs) ≡ map f (filter (λ x. p (f x)) xs)
 filter-map p f [] = refl
 filter-map p f (x ∷ xs) =
-    elim (p (f x)) as (λ b. cond b (f x ∷ filter p (map f xs)) (filter p (map f xs)) ≡ map f (cond b (x ∷ filter (λ y. p (f y)) xs) (filter (λ y. p (f y)) xs)))
+    elim (p (f x)) as
+    (λ b. cond b (f x ∷ filter p (map f xs)) (filter p (map f xs))
+    ≡ map f (cond b (x ∷ filter (λ y. p (f y)) xs) (filter (λ y. p (f y)) xs)))
     [ true ↦ ap (λ ys. f x ∷ ys) (filter-map p f xs) | false ↦ filter-map p f xs ]
 
 pub filter-same : {X : Type 0} (p q : X → Bool) (xs : List X) → All (λ x. p x ≡ q x) xs → filter p xs ≡ filter q xs

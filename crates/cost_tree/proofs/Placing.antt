@@ -1,5 +1,28 @@
 -- Lemmas on an edge that is sought among the edges, and added where it isn't one of them.
-use Rattle.std.proofs.Common.{◌≡◌, ◌≢◌, ℕ, ◌⊎◌, ◌≤◌, inl, inr, true, false, ◌==◌, List, [], ◌∷◌, ◌++◌, length, Option, Some, sym, ap, subst, ◌∙◌, arith}
+use Rattle.std.proofs.Common.{
+  ◌≡◌,
+  ◌≢◌,
+  ℕ,
+  ◌⊎◌,
+  ◌≤◌,
+  inl,
+  inr,
+  true,
+  false,
+  ◌==◌,
+  List,
+  [],
+  ◌∷◌,
+  ◌++◌,
+  length,
+  Option,
+  Some,
+  sym,
+  ap,
+  subst,
+  ◌∙◌,
+  arith,
+}
 use Rattle.std.specs.Prelude.{slice_get}
 use Rattle.std.proofs.lemmas.Bool.{cases_Bool, and_parts, eqb-true}
 use Rattle.cost_tree.specs.declared.edge.Edge.{Edge}
@@ -14,7 +37,8 @@ edge_eq-is a b same =
 
 -- edges that differ aren't equal
 pub edge_eq-other : (a b : Edge) → a ≢ b → edge_eq a b ≡ false
-edge_eq-other a b other = elim (cases_Bool (edge_eq a b)) [ inl same ↦ absurd (other (edge_eq-is a b same)) | inr differ ↦ differ ]
+edge_eq-other a b other =
+    elim (cases_Bool (edge_eq a b)) [ inl same ↦ absurd (other (edge_eq-is a b same)) | inr differ ↦ differ ]
 
 -- an edge that stands neither at the place of the node where it begins nor where the index has it is new
 pub edge-new :
@@ -39,7 +63,8 @@ pub placed-same :
 placed-same edges before after edge are none same = record {
   each = λ place other at. elim (are.each place other at) [
     | inl next ↦ inl next
-    | inr placed ↦ inr (same other (λ is. none place (subst (λ (e : Edge). slice_get edges place ≡ Some e) (sym is) at)) ∙ placed)
+    | inr placed ↦ inr
+        (same other (λ is. none place (subst (λ (e : Edge). slice_get edges place ≡ Some e) (sym is) at)) ∙ placed)
   ];
   earlier = are.earlier;
 }

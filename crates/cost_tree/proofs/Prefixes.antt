@@ -1,5 +1,26 @@
 -- Lemmas on fronts of lists of texts.
-use Rattle.std.proofs.Common.{◌≡◌, ◌≢◌, ℕ, ◌+◌, ◌<◌, ◌≤◌, ◌⊎◌, inl, inr, true, false, List, length, take, refl, sym, ap, ◌∙◌, subst, arith}
+use Rattle.std.proofs.Common.{
+  ◌≡◌,
+  ◌≢◌,
+  ℕ,
+  ◌+◌,
+  ◌<◌,
+  ◌≤◌,
+  ◌⊎◌,
+  inl,
+  inr,
+  true,
+  false,
+  List,
+  length,
+  take,
+  refl,
+  sym,
+  ap,
+  ◌∙◌,
+  subst,
+  arith,
+}
 use Rattle.std.specs.Bool.{Decides}
 use Rattle.std.specs.Str.{bytes_eq}
 use Rattle.std.proofs.lemmas.Bool.{true≢false, cases_Bool, cases_lt, false_from_ne_true}
@@ -9,9 +30,11 @@ use Rattle.std.proofs.lemmas.Slice.Eq.{slice_eq-Decides, bytes_eq-Decides}
 use Rattle.cost_tree.specs.Inclusive.{has_front, is_front}
 
 -- a list begins with a front where its first texts are the front's
-pub has_front-Decides : (front texts : List (List ℕ)) → Decides (has_front front texts) (front ≡ take (length front) texts)
+pub has_front-Decides : (front texts : List (List ℕ))
+    → Decides (has_front front texts) (front ≡ take (length front) texts)
 unfolding has_front
-has_front-Decides front texts = slice_eq-Decides {E = bytes_eq} bytes_eq-Decides front (take (length front) texts) (has_front front texts) refl
+has_front-Decides front texts =
+    slice_eq-Decides {E = bytes_eq} bytes_eq-Decides front (take (length front) texts) (has_front front texts) refl
 
 pub is_front-Decides : (front texts : List (List ℕ)) → Decides (is_front front texts) (front ≡ texts)
 unfolding is_front
@@ -32,7 +55,8 @@ length-front front texts has =
     omega (arith, same, length-take (length front) texts)
 
 -- a front of no more than n texts is one of the first n texts exactly where it is one of all
-pub has_front-take : (front texts : List (List ℕ)) (n : ℕ) → length front ≤ n → has_front front (take n texts) ≡ has_front front texts
+pub has_front-take : (front texts : List (List ℕ)) (n : ℕ) → length front ≤ n
+    → has_front front (take n texts) ≡ has_front front texts
 has_front-take front texts n within =
     same_from_decides (has_front front (take n texts)) (has_front front texts) (has_front-Decides front (take n texts)) (
       (λ has. (has_front-Decides front texts).0 has ∙ sym (take-take (length front) n texts within)),
@@ -52,7 +76,8 @@ pub has_front-itself : (texts : List (List ℕ)) → has_front texts texts ≡ t
 has_front-itself texts = (has_front-Decides texts texts).1 (sym (take_all (length texts) texts (omega arith)))
 
 -- one text more: the front of all of them is new, and the others are those before
-pub has_front-more : (front texts : List (List ℕ)) (j : ℕ) → j < length texts → front ≢ take (j + 1) texts → has_front front (take (j + 1) texts) ≡ has_front front (take j texts)
+pub has_front-more : (front texts : List (List ℕ)) (j : ℕ) → j < length texts → front ≢ take (j + 1) texts
+    → has_front front (take (j + 1) texts) ≡ has_front front (take j texts)
 has_front-more front texts j within other =
     elim (cases_lt j (length front)) [
       | inl longer ↦ longer_case longer

@@ -1,9 +1,43 @@
 -- Lemmas on lists that are told step by step.
-use Rattle.std.proofs.Common.{◌≡◌, ◌≢◌, ℕ, zero, suc, ◌-◌, ◌<◌, ◌≤◌, inl, inr, eqb, false, List, [], ◌∷◌, ◌++◌, length, take, get_or, refl, sym, ap, ◌∙◌, subst, arith}
+use Rattle.std.proofs.Common.{
+  ◌≡◌,
+  ◌≢◌,
+  ℕ,
+  zero,
+  suc,
+  ◌-◌,
+  ◌<◌,
+  ◌≤◌,
+  inl,
+  inr,
+  eqb,
+  false,
+  List,
+  [],
+  ◌∷◌,
+  ◌++◌,
+  length,
+  take,
+  get_or,
+  refl,
+  sym,
+  ap,
+  ◌∙◌,
+  subst,
+  arith,
+}
 use Rattle.std.specs.Prelude.{All}
 use Rattle.std.proofs.lemmas.Bool.{cond-false}
 use Rattle.std.proofs.lemmas.Bool.Decides.{nat_tests}
-use Rattle.std.proofs.lemmas.List.{get_or-map, length-take, length_push, map-append, same_from_push, take-append-le, take_all}
+use Rattle.std.proofs.lemmas.List.{
+  get_or-map,
+  length-take,
+  length_push,
+  map-append,
+  same_from_push,
+  take-append-le,
+  take_all,
+}
 use Rattle.std.proofs.lemmas.List.Elements.{All-append, All-cons, All-get_or, All-nil}
 use Rattle.std.proofs.lemmas.List.Sums.{fold_push}
 use Rattle.std.proofs.lemmas.Option.{slice_get_within}
@@ -28,16 +62,19 @@ pushed-gains lists number = λ earlier last is.
     let before : List (List ℕ) = take (length lists - 1) lists in
     let list : List ℕ = get_or lists (length lists - 1) [] in
     let parts = same_from_push before earlier list last (sym (split-last lists [] (omega arith)) ∙ is) in
-    ap (λ (ls : List (List ℕ)). ls ++ (list ++ number ∷ []) ∷ []) parts.0 ∙ ap (λ (ns : List ℕ). earlier ++ (ns ++ number ∷ []) ∷ []) parts.1
+    ap (λ (ls : List (List ℕ)). ls ++ (list ++ number ∷ []) ∷ []) parts.0
+    ∙ ap (λ (ns : List ℕ). earlier ++ (ns ++ number ∷ []) ∷ []) parts.1
 
-pub pushed-count : (lists : List (List ℕ)) (number : ℕ) → 0 < length lists → length (after lists (Push number)) ≡ length lists
+pub pushed-count : (lists : List (List ℕ)) (number : ℕ) → 0 < length lists
+    → length (after lists (Push number)) ≡ length lists
 pushed-count lists number some =
     let before = length-take (length lists - 1) lists in
     let pushed = length_push (take (length lists - 1) lists) (get_or lists (length lists - 1) [] ++ number ∷ []) in
     omega arith
 
 -- a caller's list, and the texts of its numbers
-caller-texts : (names lists : List (List ℕ)) (caller : ℕ) → (caller ≢ 0 → caller < length lists) → texts_of names (caller_list lists caller) ≡ caller_list (lists_of names lists) caller
+caller-texts : (names lists : List (List ℕ)) (caller : ℕ) → (caller ≢ 0 → caller < length lists)
+    → texts_of names (caller_list lists caller) ≡ caller_list (lists_of names lists) caller
 caller-texts names lists zero held = refl
 caller-texts names lists (suc k) held =
     let above : eqb (suc k) 0 ≡ false = grind (arith, nat_tests) in
@@ -46,7 +83,8 @@ caller-texts names lists (suc k) held =
     ∙ sym (get_or-map (texts_of names) lists (suc k) [] [] within)
     ∙ sym (cond-false (eqb (suc k) 0) [] (get_or (lists_of names lists) (suc k) []) above)
 
-caller-held : (names lists : List (List ℕ)) (caller : ℕ) → (caller ≢ 0 → caller < length lists) → AreTexts names lists → All (IsText names) (caller_list lists caller)
+caller-held : (names lists : List (List ℕ)) (caller : ℕ) → (caller ≢ 0 → caller < length lists) → AreTexts names lists
+    → All (IsText names) (caller_list lists caller)
 caller-held names lists zero held are = All-nil (IsText names)
 caller-held names lists (suc k) held are =
     let above : eqb (suc k) 0 ≡ false = grind (arith, nat_tests) in
@@ -54,32 +92,43 @@ caller-held names lists (suc k) held are =
     (All-get_or (All (IsText names)) lists (suc k) [] (held (λ none. absurd (omega arith))) are)
 
 -- a list more, in texts
-pub begun-texts : (names lists : List (List ℕ)) (caller : ℕ) → (caller ≢ 0 → caller < length lists) → lists_of names (lists ++ caller_list lists caller ∷ []) ≡ lists_of names lists ++ caller_list (lists_of names lists) caller ∷ []
+pub begun-texts : (names lists : List (List ℕ)) (caller : ℕ) → (caller ≢ 0 → caller < length lists)
+    → lists_of names (lists ++ caller_list lists caller ∷ [])
+    ≡ lists_of names lists ++ caller_list (lists_of names lists) caller ∷ []
 begun-texts names lists caller held =
     map-append (texts_of names) lists (caller_list lists caller ∷ [])
     ∙ ap (λ (ts : List (List ℕ)). lists_of names lists ++ ts ∷ []) (caller-texts names lists caller held)
 
-pub begun-held : (names lists : List (List ℕ)) (caller : ℕ) → (caller ≢ 0 → caller < length lists) → AreTexts names lists → AreTexts names (lists ++ caller_list lists caller ∷ [])
+pub begun-held : (names lists : List (List ℕ)) (caller : ℕ) → (caller ≢ 0 → caller < length lists)
+    → AreTexts names lists → AreTexts names (lists ++ caller_list lists caller ∷ [])
 begun-held names lists caller held are =
     All-append (All (IsText names)) lists (caller_list lists caller ∷ []) are
-    (All-cons (All (IsText names)) (caller_list lists caller) [] (caller-held names lists caller held are) (All-nil (All (IsText names))))
+    (All-cons (All (IsText names)) (caller_list lists caller) [] (caller-held names lists caller held are)
+    (All-nil (All (IsText names))))
 
 -- names more
-pub AreTold-names : (names new : List (List ℕ)) (steps : List ListStep) → length names ≤ length new → AreTold names steps → AreTold new steps
-AreTold-names names new steps more are = record { texts = texts-grown names new (told steps) more are.texts; each = are.each }
+pub AreTold-names : (names new : List (List ℕ)) (steps : List ListStep) → length names ≤ length new
+    → AreTold names steps → AreTold new steps
+AreTold-names names new steps more are =
+    record { texts = texts-grown names new (told steps) more are.texts; each = are.each }
 
 -- a step more, which may follow
-pub AreTold-more : (names : List (List ℕ)) (steps : List ListStep) (step : ListStep) → AreTold names steps → MayFollow (told steps) step → AreTexts names (after (told steps) step) → AreTold names (steps ++ step ∷ [])
+pub AreTold-more : (names : List (List ℕ)) (steps : List ListStep) (step : ListStep) → AreTold names steps
+    → MayFollow (told steps) step → AreTexts names (after (told steps) step) → AreTold names (steps ++ step ∷ [])
 AreTold-more names steps step are may texts = record {
   texts = subst (λ (lists : List (List ℕ)). AreTexts names lists) (sym (told-more steps step)) texts;
   each = λ place other at.
       elim (get-push_cases steps step place other at) [
         | inl old ↦
             let within = slice_get_within steps place other old in
-            subst (λ (ss : List ListStep). MayFollow (told ss) other) (sym (take-append-le place steps (step ∷ []) (omega arith))) (are.each place other old)
+            subst (λ (ss : List ListStep). MayFollow (told ss) other)
+            (sym (take-append-le place steps (step ∷ []) (omega arith))) (are.each place other old)
         | inr new ↦
-            let all : take place (steps ++ step ∷ []) ≡ steps = take-append-le place steps (step ∷ []) (omega (arith, new.0)) ∙ take_all place steps (omega (arith, new.0)) in
-            subst (λ (ss : List ListStep). MayFollow (told ss) other) (sym all) (subst (λ (s : ListStep). MayFollow (told steps) s) (sym new.1) may)
+            let all : take place (steps ++ step ∷ []) ≡ steps =
+            take-append-le place steps (step ∷ []) (omega (arith, new.0))
+            ∙ take_all place steps (omega (arith, new.0)) in
+            subst (λ (ss : List ListStep). MayFollow (told ss) other) (sym all)
+            (subst (λ (s : ListStep). MayFollow (told steps) s) (sym new.1) may)
       ];
 }
 

@@ -1,5 +1,34 @@
 -- Lemmas on nodes whose costs are summed up from the last to the first.
-use Rattle.std.proofs.Common.{◌≡◌, ◌≢◌, ℕ, zero, suc, ◌+◌, ◌-◌, ◌<◌, ◌≤◌, inl, inr, Bool, true, if◌then◌else◌, List, [], ◌∷◌, length, get_or, set, take, Some, refl, sym, ap, ◌∙◌, subst, arith}
+use Rattle.std.proofs.Common.{
+  ◌≡◌,
+  ◌≢◌,
+  ℕ,
+  zero,
+  suc,
+  ◌+◌,
+  ◌-◌,
+  ◌<◌,
+  ◌≤◌,
+  inl,
+  inr,
+  Bool,
+  true,
+  if◌then◌else◌,
+  List,
+  [],
+  ◌∷◌,
+  length,
+  get_or,
+  set,
+  take,
+  Some,
+  refl,
+  sym,
+  ap,
+  ◌∙◌,
+  subst,
+  arith,
+}
 use Rattle.std.proofs.Math.Seq.{take-set-lt}
 use Rattle.std.specs.Prelude.{All, Contains, slice_get, sum_by}
 use Rattle.std.specs.Option.{option_map_or}
@@ -21,21 +50,31 @@ use Rattle.cost_tree.specs.TreeParts.{IsTree}
 use Rattle.cost_tree.specs.TreeState.{TreeState}
 use Rattle.cost_tree.proofs.Brothers.{children-next, children-none}
 use Rattle.cost_tree.proofs.ChildNodes.{sum-mapped, sum-same}
-use Rattle.cost_tree.proofs.Linking.{children_from-end, children_from-step, children_of-only, has_parent-at, no_node, ranged}
+use Rattle.cost_tree.proofs.Linking.{
+  children_from-end,
+  children_from-step,
+  children_of-only,
+  has_parent-at,
+  no_node,
+  ranged,
+}
 use Rattle.cost_tree.proofs.Lists.{get-set_cases, get-set_other}
 use Rattle.cost_tree.proofs.NextSums.{next-whole}
 use Rattle.cost_tree.proofs.Prefixes.{has_front-Decides, is_front-Decides}
 use Rattle.cost_tree.proofs.Trees.{IsForest-grown, below-is}
 
 -- what a held node costs
-in-held : (nodes : List CostNode) (n : ℕ) (node : CostNode) → slice_get nodes n ≡ Some node → cost_in nodes n ≡ node.cost
+in-held : (nodes : List CostNode) (n : ℕ) (node : CostNode) → slice_get nodes n ≡ Some node
+    → cost_in nodes n ≡ node.cost
 in-held nodes n node at = ap (λ found. option_map_or (λ (m : CostNode). m.cost) found 0) at
 
 -- no sums yet
 pub sums-start : (nodes : List CostNode) (m : ℕ) → length nodes ≤ m → AreSumsFrom nodes nodes m
 sums-start nodes m past = record {
   count = refl;
-  same = λ n old new old_at new_at. subst (λ (x : CostNode). x ≡ record old { cost = x.cost }) (same_Some old new (sym old_at ∙ new_at)) refl;
+  same =
+      λ n old new old_at new_at. subst (λ (x : CostNode). x ≡ record old { cost = x.cost })
+      (same_Some old new (sym old_at ∙ new_at)) refl;
   root = λ old new old_at new_at. ap (λ (x : CostNode). x.cost) (same_Some new old (sym new_at ∙ old_at));
   sum = λ n old new above old_at new_at.
       let same = ap (λ (x : CostNode). x.cost) (same_Some new old (sym new_at ∙ old_at)) in
@@ -47,22 +86,29 @@ sums-start nodes m past = record {
 from-on : (nodes : List CostNode) (n m : ℕ) → All (λ k. m ≤ k) (children_from nodes n m)
 unfolding children_from
 from-on nodes n m =
-    All-weaker (λ k. (m ≤ k) × ((k < m + (length nodes - m)) × (has_parent nodes n k ≡ true))) (λ k. m ≤ k) (λ k is. is.0)
+    All-weaker (λ k. (m ≤ k) × ((k < m + (length nodes - m)) × (has_parent nodes n k ≡ true))) (λ k. m ≤ k)
+    (λ k is. is.0)
     (children_from nodes n m) (ranged (has_parent nodes n) m (length nodes - m))
 
 -- the children of a node from another on, as that is its child or not
-from-child : (nodes : List CostNode) (n k : ℕ) (node : CostNode) → slice_get nodes k ≡ Some node → node.parent ≡ n → children_from nodes n k ≡ k ∷ children_from nodes n (k + 1)
+from-child : (nodes : List CostNode) (n k : ℕ) (node : CostNode) → slice_get nodes k ≡ Some node → node.parent ≡ n
+    → children_from nodes n k ≡ k ∷ children_from nodes n (k + 1)
 from-child nodes n k node at is =
     children_from-step nodes n k (slice_get_within nodes k node at)
-    ∙ cond-true (has_parent nodes n k) (k ∷ children_from nodes n (k + 1)) (children_from nodes n (k + 1)) (has_parent-at nodes n k node at ∙ eq-eqb node.parent n is)
+    ∙ cond-true (has_parent nodes n k) (k ∷ children_from nodes n (k + 1)) (children_from nodes n (k + 1))
+    (has_parent-at nodes n k node at ∙ eq-eqb node.parent n is)
 
-from-other : (nodes : List CostNode) (n k : ℕ) (node : CostNode) → slice_get nodes k ≡ Some node → node.parent ≢ n → children_from nodes n k ≡ children_from nodes n (k + 1)
+from-other : (nodes : List CostNode) (n k : ℕ) (node : CostNode) → slice_get nodes k ≡ Some node → node.parent ≢ n
+    → children_from nodes n k ≡ children_from nodes n (k + 1)
 from-other nodes n k node at other =
     children_from-step nodes n k (slice_get_within nodes k node at)
-    ∙ cond-false (has_parent nodes n k) (k ∷ children_from nodes n (k + 1)) (children_from nodes n (k + 1)) (has_parent-at nodes n k node at ∙ ne_eqb node.parent n other)
+    ∙ cond-false (has_parent nodes n k) (k ∷ children_from nodes n (k + 1)) (children_from nodes n (k + 1))
+    (has_parent-at nodes n k node at ∙ ne_eqb node.parent n other)
 
 -- a node stands behind its parent, as before
-pub parent-lower : (before now : List CostNode) (m k : ℕ) (node : CostNode) → AreSumsFrom before now m → ((n : ℕ) (was : CostNode) → 0 < n → slice_get before n ≡ Some was → was.parent < n) → 0 < k → slice_get now k ≡ Some node → node.parent < k
+pub parent-lower : (before now : List CostNode) (m k : ℕ) (node : CostNode) → AreSumsFrom before now m
+    → ((n : ℕ) (was : CostNode) → 0 < n → slice_get before n ≡ Some was → was.parent < n) → 0 < k
+    → slice_get now k ≡ Some node → node.parent < k
 parent-lower before now m k node sums lower above at =
     let inside = slice_get_within now k node at in
     let count = sums.count in
@@ -72,11 +118,14 @@ parent-lower before now m k node sums lower above at =
     let is = lower k was above was_at in
     omega arith
 
-pub sums-lower : (before now : List CostNode) → AreSums before now → ((n : ℕ) (was : CostNode) → 0 < n → slice_get before n ≡ Some was → was.parent < n) → (n : ℕ) (node : CostNode) → 0 < n → slice_get now n ≡ Some node → node.parent < n
+pub sums-lower : (before now : List CostNode) → AreSums before now
+    → ((n : ℕ) (was : CostNode) → 0 < n → slice_get before n ≡ Some was → was.parent < n) → (n : ℕ) (node : CostNode)
+    → 0 < n → slice_get now n ≡ Some node → node.parent < n
 sums-lower before now sums lower n node above at = parent-lower before now 1 n node sums lower above at
 
 -- a child of node 0 adds to no other node
-pub sums-root : (before now : List CostNode) (k : ℕ) (node : CostNode) → AreSumsFrom before now (k + 1) → slice_get now k ≡ Some node → node.parent ≡ 0 → AreSumsFrom before now k
+pub sums-root : (before now : List CostNode) (k : ℕ) (node : CostNode) → AreSumsFrom before now (k + 1)
+    → slice_get now k ≡ Some node → node.parent ≡ 0 → AreSumsFrom before now k
 sums-root before now k node sums at root =
     let inside = slice_get_within now k node at in
     let count = sums.count in
@@ -89,12 +138,15 @@ sums-root before now k node sums at root =
       root = sums.root;
       sum = λ n old new above old_at new_at.
           let is = sums.sum n old new above old_at new_at in
-          let rest = ap (λ (ms : List ℕ). sum_by (cost_in now) ms) (from-other before n k was was_at (λ e. absurd (omega arith))) in
+          let rest =
+          ap (λ (ms : List ℕ). sum_by (cost_in now) ms)
+          (from-other before n k was was_at (λ e. absurd (omega arith))) in
           omega arith;
     }
 
 -- a node adds to its parent
-pub sums-parent : (before now : List CostNode) (k : ℕ) (node parent : CostNode) → AreSumsFrom before now (k + 1) → slice_get now k ≡ Some node → 0 < node.parent → node.parent < k → slice_get now node.parent ≡ Some parent
+pub sums-parent : (before now : List CostNode) (k : ℕ) (node parent : CostNode) → AreSumsFrom before now (k + 1)
+    → slice_get now k ≡ Some node → 0 < node.parent → node.parent < k → slice_get now node.parent ≡ Some parent
     → AreSumsFrom before (set now node.parent (record parent { cost = parent.cost + node.cost })) k
 sums-parent before now k node parent sums at above lower parent_at = record {
   count = length-set now p more ∙ sums.count;
@@ -113,7 +165,8 @@ sums-parent before now k node parent sums at above lower parent_at = record {
     | inl here ↦
         let is = sums.sum n old parent over old_at (ap (λ (i : ℕ). slice_get now i) here.0 ∙ parent_at) in
         let costs = ap (λ (x : CostNode). x.cost) here.1 in
-        let all = ap (λ (ms : List ℕ). sum_by (cost_in after) ms) (from-child before n k was was_at (parent_is ∙ sym here.0)) in
+        let all =
+        ap (λ (ms : List ℕ). sum_by (cost_in after) ms) (from-child before n k was was_at (parent_is ∙ sym here.0)) in
         let split = sum_by-cons (cost_in after) k (children_from before n (k + 1)) in
         let first = kept k (omega arith) in
         let held = in-held now k node at in
@@ -121,7 +174,9 @@ sums-parent before now k node parent sums at above lower parent_at = record {
         omega arith
     | inr other ↦
         let is = sums.sum n old new over old_at other.1 in
-        let all = ap (λ (ms : List ℕ). sum_by (cost_in after) ms) (from-other before n k was was_at (λ e. other.0 (sym e ∙ parent_is))) in
+        let all =
+        ap (λ (ms : List ℕ). sum_by (cost_in after) ms)
+        (from-other before n k was was_at (λ e. other.0 (sym e ∙ parent_is))) in
         let rest = same_sums n in
         omega arith
   ];
@@ -140,88 +195,132 @@ sums-parent before now k node parent sums at above lower parent_at = record {
     was = get_or before k no_node
 
     was_at : slice_get before k ≡ Some (get_or before k no_node)
-    was_at = let inside = slice_get_within now k node at in let count = sums.count in slice_get-get_or before k no_node (omega arith)
+    was_at =
+        let inside =
+        slice_get_within now k node at in let count = sums.count in slice_get-get_or before k no_node (omega arith)
 
     parent_is : (get_or before k no_node).parent ≡ node.parent
     parent_is = sym (ap (λ (x : CostNode). x.parent) (sums.same k (get_or before k no_node) node was_at at))
 
-    kept : (m : ℕ) → k ≤ m → cost_in (set now node.parent (record parent { cost = parent.cost + node.cost })) m ≡ cost_in now m
-    kept m behind = ap (λ found. option_map_or (λ (x : CostNode). x.cost) found 0) (get-set_other now node.parent m (record parent { cost = parent.cost + node.cost }) (λ e. absurd (omega arith)))
+    kept : (m : ℕ) → k ≤ m
+        → cost_in (set now node.parent (record parent { cost = parent.cost + node.cost })) m ≡ cost_in now m
+    kept m behind =
+        ap (λ found. option_map_or (λ (x : CostNode). x.cost) found 0)
+        (get-set_other now node.parent m (record parent { cost = parent.cost + node.cost }) (λ e. absurd (omega arith)))
 
-    same_sums : (n : ℕ) → sum_by (cost_in (set now node.parent (record parent { cost = parent.cost + node.cost }))) (children_from before n (k + 1)) ≡ sum_by (cost_in now) (children_from before n (k + 1))
+    same_sums : (n : ℕ)
+        → sum_by (cost_in (set now node.parent (record parent { cost = parent.cost + node.cost })))
+        (children_from before n (k + 1))
+        ≡ sum_by (cost_in now) (children_from before n (k + 1))
     same_sums n =
-        sum-same (cost_in (set now node.parent (record parent { cost = parent.cost + node.cost }))) (cost_in now) (children_from before n (k + 1))
-        (All-weaker (λ m. k + 1 ≤ m) (λ m. cost_in (set now node.parent (record parent { cost = parent.cost + node.cost })) m ≡ cost_in now m) (λ m behind. kept m (omega arith))
+        sum-same (cost_in (set now node.parent (record parent { cost = parent.cost + node.cost }))) (cost_in now)
+        (children_from before n (k + 1))
+        (All-weaker (λ m. k + 1 ≤ m)
+        (λ m. cost_in (set now node.parent (record parent { cost = parent.cost + node.cost })) m ≡ cost_in now m)
+        (λ m behind. kept m (omega arith))
         (children_from before n (k + 1)) (from-on before n (k + 1)))
 
 -- what the first nodes weigh, as one adds to another before it
-pub two-within : (nodes : List CostNode) (k p : ℕ) (node parent : CostNode) → slice_get nodes k ≡ Some node → slice_get nodes p ≡ Some parent → p < k → weight parent + weight node ≤ sum_by weight (take (k + 1) nodes)
+pub two-within : (nodes : List CostNode) (k p : ℕ) (node parent : CostNode) → slice_get nodes k ≡ Some node
+    → slice_get nodes p ≡ Some parent → p < k → weight parent + weight node ≤ sum_by weight (take (k + 1) nodes)
 two-within nodes k p node parent at parent_at lower =
     let inside = slice_get_within nodes k node at in
     let count = length-take-le k nodes (omega arith) in
-    let all = ap (λ (ns : List CostNode). sum_by weight ns) (take_more nodes k node inside) ∙ sum_by_push weight (take k nodes) (get_or nodes k node) in
+    let all =
+    ap (λ (ns : List CostNode). sum_by weight ns) (take_more nodes k node inside)
+    ∙ sum_by_push weight (take k nodes) (get_or nodes k node) in
     let most = get_or-le-sum_by weight (take k nodes) p parent (omega arith) in
-    let one = ap (λ (x : CostNode). weight x) (get_or-take k nodes p parent lower ∙ get_or_from_slice_get nodes p parent parent parent_at) in
+    let one =
+    ap (λ (x : CostNode). weight x)
+    (get_or-take k nodes p parent lower ∙ get_or_from_slice_get nodes p parent parent parent_at) in
     let two = ap (λ (x : CostNode). weight x) (get_or_from_slice_get nodes k node node at) in
     omega arith
 
-pub left-fewer : (nodes : List CostNode) (k : ℕ) (node : CostNode) → slice_get nodes k ≡ Some node → sum_by weight (take k nodes) ≤ sum_by weight (take (k + 1) nodes)
+pub left-fewer : (nodes : List CostNode) (k : ℕ) (node : CostNode) → slice_get nodes k ≡ Some node
+    → sum_by weight (take k nodes) ≤ sum_by weight (take (k + 1) nodes)
 left-fewer nodes k node at =
     let inside = slice_get_within nodes k node at in
-    let all = ap (λ (ns : List CostNode). sum_by weight ns) (take_more nodes k node inside) ∙ sum_by_push weight (take k nodes) (get_or nodes k node) in
+    let all =
+    ap (λ (ns : List CostNode). sum_by weight ns) (take_more nodes k node inside)
+    ∙ sum_by_push weight (take k nodes) (get_or nodes k node) in
     omega arith
 
-pub left-moved : (nodes : List CostNode) (k p : ℕ) (node parent : CostNode) → slice_get nodes k ≡ Some node → slice_get nodes p ≡ Some parent → p < k
-    → sum_by weight (take k (set nodes p (record parent { cost = parent.cost + node.cost }))) ≤ sum_by weight (take (k + 1) nodes)
+pub left-moved : (nodes : List CostNode) (k p : ℕ) (node parent : CostNode) → slice_get nodes k ≡ Some node
+    → slice_get nodes p ≡ Some parent → p < k
+    → sum_by weight (take k (set nodes p (record parent { cost = parent.cost + node.cost })))
+    ≤ sum_by weight (take (k + 1) nodes)
 left-moved nodes k p node parent at parent_at lower =
     let now : CostNode = record parent { cost = parent.cost + node.cost } in
     let inside = slice_get_within nodes k node at in
     let count = length-take-le k nodes (omega arith) in
-    let all = ap (λ (ns : List CostNode). sum_by weight ns) (take_more nodes k node inside) ∙ sum_by_push weight (take k nodes) (get_or nodes k node) in
+    let all =
+    ap (λ (ns : List CostNode). sum_by weight ns) (take_more nodes k node inside)
+    ∙ sum_by_push weight (take k nodes) (get_or nodes k node) in
     let two = ap (λ (x : CostNode). weight x) (get_or_from_slice_get nodes k node node at) in
     let moved = ap (λ (ns : List CostNode). sum_by weight ns) (take-set-lt k nodes p now lower) in
     let changed = sum_by-set weight (take k nodes) p now parent (omega arith) in
-    let one = ap (λ (x : CostNode). weight x) (get_or-take k nodes p parent lower ∙ get_or_from_slice_get nodes p parent parent parent_at) in
+    let one =
+    ap (λ (x : CostNode). weight x)
+    (get_or-take k nodes p parent lower ∙ get_or_from_slice_get nodes p parent parent parent_at) in
     omega arith
 
 -- what ends at a front that may go on is its own, and what is cut at the deepest ones is all
-ending-same : (depth : ℕ) (front : List (List ℕ)) (test : List (List ℕ) → Bool) (stacks : List Costed) → ((texts : List (List ℕ)) → is_front front (take depth texts) ≡ test texts)
+ending-same : (depth : ℕ) (front : List (List ℕ)) (test : List (List ℕ) → Bool) (stacks : List Costed)
+    → ((texts : List (List ℕ)) → is_front front (take depth texts) ≡ test texts)
     → ending depth front stacks ≡ sum_by (λ stack. if test stack.texts then stack.cost else 0) stacks
 unfolding ending
 ending-same depth front test stacks same =
-    sum-same (λ (stack : Costed). if is_front front (take depth stack.texts) then stack.cost else 0) (λ (stack : Costed). if test stack.texts then stack.cost else 0) stacks
+    sum-same (λ (stack : Costed). if is_front front (take depth stack.texts) then stack.cost else 0)
+    (λ (stack : Costed). if test stack.texts then stack.cost else 0) stacks
     (λ k d within. ap (λ (b : Bool). if b then (get_or stacks k d).cost else 0) (same (get_or stacks k d).texts))
 
-ending-own : (depth : ℕ) (front : List (List ℕ)) (stacks : List Costed) → length front < depth → ending depth front stacks ≡ own front stacks
+ending-own : (depth : ℕ) (front : List (List ℕ)) (stacks : List Costed) → length front < depth
+    → ending depth front stacks ≡ own front stacks
 unfolding own
 ending-own depth front stacks short =
     ending-same depth front (λ texts. is_front front texts) stacks (λ texts.
-    same_from_decides (is_front front (take depth texts)) (is_front front texts) (is_front-Decides front (take depth texts)) (
-      (λ is. (is_front-Decides front texts).0 is ∙ sym (take_all depth texts (let count = ap (λ (xs : List (List ℕ)). length xs) ((is_front-Decides front texts).0 is) in omega arith))),
-      (λ is. (is_front-Decides front texts).1 (is ∙ take_all depth texts (let count = ap (λ (xs : List (List ℕ)). length xs) is ∙ length-take depth texts in omega arith))),
+    same_from_decides (is_front front (take depth texts)) (is_front front texts)
+    (is_front-Decides front (take depth texts)) (
+      (λ is. (is_front-Decides front texts).0 is
+          ∙ sym (take_all depth texts
+          (let count = ap (λ (xs : List (List ℕ)). length xs) ((is_front-Decides front texts).0 is) in omega arith))),
+      (λ is. (is_front-Decides front texts).1
+          (is
+          ∙ take_all depth texts
+          (let count = ap (λ (xs : List (List ℕ)). length xs) is ∙ length-take depth texts in omega arith))),
     ))
 
-ending-deep : (depth : ℕ) (front : List (List ℕ)) (stacks : List Costed) → length front ≡ depth → ending depth front stacks ≡ inclusive front stacks
+ending-deep : (depth : ℕ) (front : List (List ℕ)) (stacks : List Costed) → length front ≡ depth
+    → ending depth front stacks ≡ inclusive front stacks
 unfolding inclusive
 ending-deep depth front stacks deep =
     ending-same depth front (λ texts. has_front front texts) stacks (λ texts.
-    same_from_decides (is_front front (take depth texts)) (has_front front texts) (is_front-Decides front (take depth texts)) (
+    same_from_decides (is_front front (take depth texts)) (has_front front texts)
+    (is_front-Decides front (take depth texts)) (
       (λ has. (has_front-Decides front texts).0 has ∙ ap (λ (k : ℕ). take k texts) deep),
       (λ is. (has_front-Decides front texts).1 (is ∙ ap (λ (k : ℕ). take k texts) (sym deep))),
     ))
 
 -- each node behind a node costs what its front does
 abbrev Behind : List (List (List ℕ)) → List CostNode → List Costed → ℕ → Type 0
-Behind fronts summed stacks n = (m : ℕ) (front : List (List ℕ)) (node : CostNode) → n < m → slice_get fronts m ≡ Some front → slice_get summed m ≡ Some node → node.cost ≡ inclusive front stacks
+Behind fronts summed stacks n =
+    (m : ℕ) (front : List (List ℕ)) (node : CostNode) → n < m → slice_get fronts m ≡ Some front
+    → slice_get summed m ≡ Some node → node.cost ≡ inclusive front stacks
 
 -- so do its children
-children-cost : (names : List (List ℕ)) (edges : List Edge) (nodes summed : List CostNode) (stacks : List Costed) (depth n : ℕ) → HasGrown names edges nodes stacks depth → AreSums nodes summed → Behind (fronts_of names edges) summed stacks n
-    → sum_by (cost_in summed) (children_of nodes n) ≡ sum_by (λ m. inclusive (get_or (fronts_of names edges) m []) stacks) (children_of nodes n)
+children-cost : (names : List (List ℕ)) (edges : List Edge) (nodes summed : List CostNode) (stacks : List Costed)
+    (depth n : ℕ)
+    → HasGrown names edges nodes stacks depth → AreSums nodes summed → Behind (fronts_of names edges) summed stacks n
+    → sum_by (cost_in summed) (children_of nodes n)
+    ≡ sum_by (λ m. inclusive (get_or (fronts_of names edges) m []) stacks) (children_of nodes n)
 children-cost names edges nodes summed stacks depth n has sums behind =
     sum-same (cost_in summed) (λ m. inclusive (get_or (fronts_of names edges) m []) stacks) (children_of nodes n)
-    (All-weaker (Contains (children_of nodes n)) (λ m. cost_in summed m ≡ inclusive (get_or (fronts_of names edges) m []) stacks) child (children_of nodes n) (All-contains_itself (children_of nodes n)))
+    (All-weaker (Contains (children_of nodes n))
+    (λ m. cost_in summed m ≡ inclusive (get_or (fronts_of names edges) m []) stacks) child (children_of nodes n)
+    (All-contains_itself (children_of nodes n)))
   where
-    child : (m : ℕ) → Contains (children_of nodes n) m → cost_in summed m ≡ inclusive (get_or (fronts_of names edges) m []) stacks
+    child : (m : ℕ) → Contains (children_of nodes n) m
+        → cost_in summed m ≡ inclusive (get_or (fronts_of names edges) m []) stacks
     child m held =
         let one = children_of-only nodes n m held in
         let inside = slice_get_within nodes m one.0 one.2 in
@@ -231,14 +330,18 @@ children-cost names edges nodes summed stacks depth n has sums behind =
         let now : CostNode = get_or summed m no_node in
         let now_at = slice_get-get_or summed m no_node (omega arith) in
         let its_front = slice_get-get_or (fronts_of names edges) m [] (omega arith) in
-        let below = below-is names edges nodes m (get_or (fronts_of names edges) m []) one.0 has.branches one.1 its_front one.2 in
+        let below =
+        below-is names edges nodes m (get_or (fronts_of names edges) m []) one.0 has.branches one.1 its_front one.2 in
         let lower = below.lower in
         let parent = one.3 in
         in-held summed m now now_at ∙ behind m (get_or (fronts_of names edges) m []) now (omega arith) its_front now_at
 
 -- and the node
-node-cost : (names : List (List ℕ)) (edges : List Edge) (nodes summed : List CostNode) (stacks : List Costed) (depth n : ℕ) (front : List (List ℕ)) (node : CostNode) → HasGrown names edges nodes stacks depth → AreSums nodes summed
-    → Behind (fronts_of names edges) summed stacks n → 0 < n → slice_get (fronts_of names edges) n ≡ Some front → slice_get summed n ≡ Some node → node.cost ≡ inclusive front stacks
+node-cost : (names : List (List ℕ)) (edges : List Edge) (nodes summed : List CostNode) (stacks : List Costed)
+    (depth n : ℕ) (front : List (List ℕ)) (node : CostNode)
+    → HasGrown names edges nodes stacks depth → AreSums nodes summed
+    → Behind (fronts_of names edges) summed stacks n → 0 < n → slice_get (fronts_of names edges) n ≡ Some front
+    → slice_get summed n ≡ Some node → node.cost ≡ inclusive front stacks
 node-cost names edges nodes summed stacks depth n front node has sums behind above front_at node_at =
     let fronts : List (List (List ℕ)) = fronts_of names edges in
     let tree : TreeState = record { names = names; fronts = fronts; nodes = nodes } in
@@ -261,29 +364,40 @@ node-cost names edges nodes summed stacks depth n front node has sums behind abo
           omega arith
       | inr deep ↦
           let all = ending-deep depth front stacks (omega arith) in
-          let none = ap (λ (ms : List ℕ). sum_by (cost_in summed) ms) (children-none tree stacks depth n front forest front_at (omega arith)) in
+          let none =
+          ap (λ (ms : List ℕ). sum_by (cost_in summed) ms)
+          (children-none tree stacks depth n front forest front_at (omega arith)) in
           omega arith
     ]
 
 -- the costs are those of the fronts
-costs-are : (names : List (List ℕ)) (edges : List Edge) (nodes summed : List CostNode) (stacks : List Costed) (depth fuel n : ℕ) (front : List (List ℕ)) (node : CostNode) → HasGrown names edges nodes stacks depth → AreSums nodes summed
-    → length nodes ≤ n + fuel → 0 < n → slice_get (fronts_of names edges) n ≡ Some front → slice_get summed n ≡ Some node → node.cost ≡ inclusive front stacks
+costs-are : (names : List (List ℕ)) (edges : List Edge) (nodes summed : List CostNode) (stacks : List Costed)
+    (depth fuel n : ℕ) (front : List (List ℕ)) (node : CostNode)
+    → HasGrown names edges nodes stacks depth → AreSums nodes summed
+    → length nodes ≤ n + fuel → 0 < n → slice_get (fronts_of names edges) n ≡ Some front
+    → slice_get summed n ≡ Some node → node.cost ≡ inclusive front stacks
 costs-are names edges nodes summed stacks depth zero n front node has sums past above front_at node_at =
     let inside = slice_get_within summed n node node_at in
     let count = sums.count in
     absurd (omega arith)
 costs-are names edges nodes summed stacks depth (suc fuel) n front node has sums most above front_at node_at =
     node-cost names edges nodes summed stacks depth n front node has sums
-    (λ m f other later f_at other_at. costs-are names edges nodes summed stacks depth fuel m f other has sums (omega arith) (omega arith) f_at other_at)
+    (λ m f other later f_at other_at. costs-are names edges nodes summed stacks depth fuel m f other has sums
+    (omega arith) (omega arith) f_at other_at)
     above front_at node_at
 
 -- a tree of the same edges and nodes
-pub IsTree-same : (names : List (List ℕ)) (edges other : List Edge) (nodes others : List CostNode) (stacks : List Costed) (depth : ℕ) → other ≡ edges → others ≡ nodes → IsTree names edges nodes stacks depth → IsTree names other others stacks depth
+pub IsTree-same : (names : List (List ℕ)) (edges other : List Edge) (nodes others : List CostNode)
+    (stacks : List Costed) (depth : ℕ)
+    → other ≡ edges → others ≡ nodes → IsTree names edges nodes stacks depth → IsTree names other others stacks depth
 IsTree-same names edges other nodes others stacks depth same alike is =
-    subst (λ (es : List Edge). IsTree names es others stacks depth) (sym same) (subst (λ (ns : List CostNode). IsTree names edges ns stacks depth) (sym alike) is)
+    subst (λ (es : List Edge). IsTree names es others stacks depth) (sym same)
+    (subst (λ (ns : List CostNode). IsTree names edges ns stacks depth) (sym alike) is)
 
 -- the tree with its costs
-pub IsTree-summed : (names : List (List ℕ)) (edges : List Edge) (nodes summed : List CostNode) (stacks : List Costed) (depth : ℕ) → HasGrown names edges nodes stacks depth → AreSums nodes summed → IsTree names edges summed stacks depth
+pub IsTree-summed : (names : List (List ℕ)) (edges : List Edge) (nodes summed : List CostNode) (stacks : List Costed)
+    (depth : ℕ)
+    → HasGrown names edges nodes stacks depth → AreSums nodes summed → IsTree names edges summed stacks depth
 IsTree-summed names edges nodes summed stacks depth has sums =
     let forest = IsForest-grown names edges nodes stacks depth has in
     let are = has.branches in
@@ -292,8 +406,13 @@ IsTree-summed names edges nodes summed stacks depth has sums =
       steps = are.steps;
       texts = are.texts;
       nodes_count = sums.count ∙ are.nodes_count;
-      root_parent = λ node at. let old = was 0 node at in ap (λ (x : CostNode). x.parent) (sums.same 0 old.0 node old.1 at) ∙ are.root_parent old.0 old.1;
-      parent = λ place edge node edge_at at. let old = was (place + 1) node at in ap (λ (x : CostNode). x.parent) (sums.same (place + 1) old.0 node old.1 at) ∙ are.parent place edge old.0 edge_at old.1;
+      root_parent =
+          λ node at. let old = was 0 node at in ap (λ (x : CostNode). x.parent) (sums.same 0 old.0 node old.1 at)
+          ∙ are.root_parent old.0 old.1;
+      parent =
+          λ place edge node edge_at at. let old = was (place + 1) node at in ap (λ (x : CostNode). x.parent)
+          (sums.same (place + 1) old.0 node old.1 at)
+          ∙ are.parent place edge old.0 edge_at old.1;
     } in
     record {
       branches = branches;
@@ -323,7 +442,9 @@ IsTree-summed names edges nodes summed stacks depth has sums =
             let same_n = sums.same n old_n.0 younger old_n.1 younger_at in
             let first_m = ap (λ (x : CostNode). x.first) same_m in
             let first_n = ap (λ (x : CostNode). x.first) same_n in
-            let order = forest.brothers m n old_m.0 old_n.0 above later old_m.1 old_n.1 (sym (ap (λ (x : CostNode). x.parent) same_m) ∙ parents ∙ ap (λ (x : CostNode). x.parent) same_n) in
+            let order =
+            forest.brothers m n old_m.0 old_n.0 above later old_m.1 old_n.1
+            (sym (ap (λ (x : CostNode). x.parent) same_m) ∙ parents ∙ ap (λ (x : CostNode). x.parent) same_n) in
             omega arith;
       };
     }
@@ -334,16 +455,27 @@ IsTree-summed names edges nodes summed stacks depth has sums =
         let count = sums.count in
         (get_or nodes n no_node, slice_get-get_or nodes n no_node (omega arith))
 
-    root_cost : (old node : CostNode) → slice_get nodes 0 ≡ Some old → slice_get summed 0 ≡ Some node → node.cost ≡ inclusive [] stacks
+    root_cost : (old node : CostNode) → slice_get nodes 0 ≡ Some old → slice_get summed 0 ≡ Some node
+        → node.cost ≡ inclusive [] stacks
     root_cost old node old_at at = sums.root old node old_at at ∙ has.grown.root old old_at
 
-    cost_of : (n : ℕ) (front : List (List ℕ)) (node old : CostNode) → slice_get (fronts_of names edges) n ≡ Some front → slice_get nodes n ≡ Some old → slice_get summed n ≡ Some node → node.cost ≡ inclusive front stacks
+    cost_of : (n : ℕ) (front : List (List ℕ)) (node old : CostNode) → slice_get (fronts_of names edges) n ≡ Some front
+        → slice_get nodes n ≡ Some old → slice_get summed n ≡ Some node → node.cost ≡ inclusive front stacks
     cost_of zero front node old front_at old_at node_at =
-        root_cost old node old_at node_at ∙ ap (λ (xs : List (List ℕ)). inclusive xs stacks) (same_Some [] front (sym has.branches.steps.root ∙ front_at))
+        root_cost old node old_at node_at
+        ∙ ap (λ (xs : List (List ℕ)). inclusive xs stacks)
+        (same_Some [] front (sym has.branches.steps.root ∙ front_at))
     cost_of (suc n) front node old front_at old_at node_at =
-        costs-are names edges nodes summed stacks depth (length nodes) (suc n) front node has sums (omega arith) (omega arith) front_at node_at
+        costs-are names edges nodes summed stacks depth (length nodes) (suc n) front node has sums (omega arith)
+        (omega arith) front_at node_at
 
-    no_first : (n : ℕ) (front : List (List ℕ)) (old : CostNode) → slice_get (fronts_of names edges) n ≡ Some front → slice_get nodes n ≡ Some old → inclusive front stacks ≡ 0 → old.first ≡ 0
+    no_first : (n : ℕ) (front : List (List ℕ)) (old : CostNode) → slice_get (fronts_of names edges) n ≡ Some front
+        → slice_get nodes n ≡ Some old → inclusive front stacks ≡ 0 → old.first ≡ 0
     no_first zero front old front_at old_at none =
-        has.grown.empty old old_at (has.grown.root old old_at ∙ ap (λ (xs : List (List ℕ)). inclusive xs stacks) (same_Some [] front (sym has.branches.steps.root ∙ front_at)) ∙ none)
-    no_first (suc n) front old front_at old_at none = let some = has.grown.only (suc n) front (omega arith) front_at in absurd (omega arith)
+        has.grown.empty old old_at
+        (has.grown.root old old_at
+        ∙ ap (λ (xs : List (List ℕ)). inclusive xs stacks)
+        (same_Some [] front (sym has.branches.steps.root ∙ front_at))
+        ∙ none)
+    no_first (suc n) front old front_at old_at none =
+        let some = has.grown.only (suc n) front (omega arith) front_at in absurd (omega arith)

@@ -1,5 +1,25 @@
 -- What is kept of a tree while it grows along a shape.
-use Rattle.std.specs.Prelude.{◌≡◌, ℕ, ◌+◌, ◌-◌, ◌<◌, ◌≤◌, All, List, [], ◌∷◌, ◌++◌, length, map, replicate, take, Some, slice_get, slice_index, slice_set}
+use Rattle.std.specs.Prelude.{
+  ◌≡◌,
+  ℕ,
+  ◌+◌,
+  ◌-◌,
+  ◌<◌,
+  ◌≤◌,
+  All,
+  List,
+  [],
+  ◌∷◌,
+  ◌++◌,
+  length,
+  map,
+  replicate,
+  take,
+  Some,
+  slice_get,
+  slice_index,
+  slice_set,
+}
 use Rattle.cost_tree.specs.declared.branches.Branches.{Branches}
 use Rattle.cost_tree.specs.declared.edge.Edge.{Edge}
 use Rattle.cost_tree.specs.declared.node.CostNode.{CostNode}

@@ -1,5 +1,25 @@
 -- The text of a profile whose points come one by one.
-use Rattle.std.proofs.Common.{◌≡◌, ℕ, ◌+◌, ◌<◌, List, [], ◌∷◌, ◌++◌, codes, get_or, length, map, take, sym, ap, ◌∙◌, subst, append_assoc, append-nil}
+use Rattle.std.proofs.Common.{
+  ◌≡◌,
+  ℕ,
+  ◌+◌,
+  ◌<◌,
+  List,
+  [],
+  ◌∷◌,
+  ◌++◌,
+  codes,
+  get_or,
+  length,
+  map,
+  take,
+  sym,
+  ap,
+  ◌∙◌,
+  subst,
+  append_assoc,
+  append-nil,
+}
 use Rattle.std.proofs.lemmas.List.{take_more}
 use Rattle.json.specs.Token.{Token, begin_array, begin_object, end_array, end_object, key}
 use Rattle.json.specs.Tree.{items_tokens, json_tokens, members_tokens}
@@ -27,10 +47,15 @@ begun_none dhat none opened last keyed now empty no_token kept-1 opens added kep
   tokens = λ more.
       let rest = points_member more (time_members dhat no_members) in
       let left : List Token = rest_tokens dhat more in
-      let front : opened.tokens ≡ begin_object ∷ [] = opens ∙ ap (λ (ts : List Token). ts ++ begin_object ∷ []) no_token in
-      let whole : begin_object ∷ members_tokens (members_outline (unit_members dhat (run_members dhat rest))) ≡ before_rest last.tokens rest =
-      ap (λ (ts : List Token). ts ++ members_tokens (members_outline (unit_members dhat (run_members dhat rest)))) (sym front) ∙ added.tokens rest in
-      let here : now.tokens ≡ (last.tokens ++ key (codes "pps") ∷ []) ++ begin_array ∷ [] = begins ∙ ap (λ (ts : List Token). ts ++ begin_array ∷ []) keys in
+      let front : opened.tokens ≡ begin_object ∷ [] =
+      opens ∙ ap (λ (ts : List Token). ts ++ begin_object ∷ []) no_token in
+      let whole : begin_object ∷ members_tokens (members_outline (unit_members dhat (run_members dhat rest)))
+      ≡ before_rest last.tokens rest =
+      ap (λ (ts : List Token). ts ++ members_tokens (members_outline (unit_members dhat (run_members dhat rest))))
+      (sym front)
+      ∙ added.tokens rest in
+      let here : now.tokens ≡ (last.tokens ++ key (codes "pps") ∷ []) ++ begin_array ∷ [] =
+      begins ∙ ap (λ (ts : List Token). ts ++ begin_array ∷ []) keys in
       whole ∙ sym (append_assoc last.tokens (key (codes "pps") ∷ []) (begin_array ∷ left))
       ∙ sym (append_assoc (last.tokens ++ key (codes "pps") ∷ []) (begin_array ∷ []) left)
       ∙ ap (λ (ts : List Token). ts ++ left) (sym here);
@@ -38,28 +63,37 @@ begun_none dhat none opened last keyed now empty no_token kept-1 opens added kep
 }
 
 -- a point more
-pub begun_more : (now next : Written) (dhat : Dhat) (point : Point) → HasBegun now dhat → AddsValue now next (point_value point) → HasBegun next (with_points dhat (dhat.pps ++ point ∷ []))
+pub begun_more : (now next : Written) (dhat : Dhat) (point : Point) → HasBegun now dhat
+    → AddsValue now next (point_value point) → HasBegun next (with_points dhat (dhat.pps ++ point ∷ []))
 begun_more now next dhat point begun added = record {
   before = added.before ∙ begun.before;
   tokens = λ more.
-      ap (λ (points : List Point). json_tokens (outline (dhat_value (with_points dhat points)))) (append_assoc dhat.pps (point ∷ []) more)
+      ap (λ (points : List Point). json_tokens (outline (dhat_value (with_points dhat points))))
+      (append_assoc dhat.pps (point ∷ []) more)
       ∙ begun.tokens (point ∷ more)
-      ∙ ap (λ (ts : List Token). now.tokens ++ ts) (append_assoc (json_tokens (outline (point_value point))) (items_tokens (items_outline (items_of (map point_value more)))) (members_tokens (members_outline (time_members dhat no_members))))
+      ∙ ap (λ (ts : List Token). now.tokens ++ ts)
+      (append_assoc (json_tokens (outline (point_value point)))
+      (items_tokens (items_outline (items_of (map point_value more))))
+      (members_tokens (members_outline (time_members dhat no_members))))
       ∙ sym (append_assoc now.tokens (json_tokens (outline (point_value point))) (rest_tokens dhat more))
       ∙ ap (λ (ts : List Token). ts ++ rest_tokens dhat more) (sym added.tokens);
   fits = λ more items times.
-      subst (λ (points : List Point). Fits (dhat_value (with_points dhat points))) (sym (append_assoc dhat.pps (point ∷ []) more)) (begun.fits (point ∷ more) (added.fits, items) times);
+      subst (λ (points : List Point). Fits (dhat_value (with_points dhat points)))
+      (sym (append_assoc dhat.pps (point ∷ []) more)) (begun.fits (point ∷ more) (added.fits, items) times);
 }
 
 -- so many points of a list, and one more
-pub begun_next : (now next : Written) (dhat : Dhat) (points : List Point) (count : ℕ) (point : Point) → count < length points → get_or points count point ≡ point
+pub begun_next : (now next : Written) (dhat : Dhat) (points : List Point) (count : ℕ) (point : Point)
+    → count < length points → get_or points count point ≡ point
     → HasBegun now (with_points dhat (dhat.pps ++ take count points)) → AddsValue now next (point_value point)
     → HasBegun next (with_points dhat (dhat.pps ++ take (count + 1) points))
 begun_next now next dhat points count point within is begun added =
-    let longer : take (count + 1) points ≡ take count points ++ point ∷ [] = take_more points count point within ∙ ap (λ (p : Point). take count points ++ p ∷ []) is in
+    let longer : take (count + 1) points ≡ take count points ++ point ∷ [] =
+    take_more points count point within ∙ ap (λ (p : Point). take count points ++ p ∷ []) is in
     let all : (dhat.pps ++ take count points) ++ point ∷ [] ≡ dhat.pps ++ take (count + 1) points =
     append_assoc dhat.pps (take count points) (point ∷ []) ∙ ap (λ (ps : List Point). dhat.pps ++ ps) (sym longer) in
-    subst (λ (ps : List Point). HasBegun next (with_points dhat ps)) all (begun_more now next (with_points dhat (dhat.pps ++ take count points)) point begun added)
+    subst (λ (ps : List Point). HasBegun next (with_points dhat ps)) all
+    (begun_more now next (with_points dhat (dhat.pps ++ take count points)) point begun added)
 
 pub begun_ended : (now closed behind last : Written) (dhat head : Dhat) → HasBegun now dhat → HasTimes head dhat
     → closed.before ≡ now.before → closed.tokens ≡ now.tokens ++ end_array ∷ []
@@ -73,12 +107,16 @@ begun_ended now closed behind last dhat head begun times kept-1 closes added kep
       ∙ ap (λ (ts : List Token). ts ++ members_tokens (members_outline (time_members dhat no_members))) closes
       ∙ append_assoc now.tokens (end_array ∷ []) (members_tokens (members_outline (time_members dhat no_members)))
       ∙ sym (begun.tokens [])
-      ∙ ap (λ (points : List Point). json_tokens (outline (dhat_value (with_points dhat points)))) (append-nil dhat.pps);
+      ∙ ap (λ (points : List Point). json_tokens (outline (dhat_value (with_points dhat points))))
+      (append-nil dhat.pps);
   fits = subst (λ (points : List Point). Fits (dhat_value (with_points dhat points))) (append-nil dhat.pps)
       (begun.fits [] tt (subst MembersFit (sym times) (added.fits no_members tt)));
 }
 
 -- all points of a profile behind none
-pub begun_all : (none now : Written) (dhat : Dhat) (points : List Point) → points ≡ dhat.pps → HasBegun none (with_points dhat [])
-    → ((other : Dhat) → HasBegun none other → HasBegun now (with_points other (other.pps ++ points))) → HasBegun now dhat
-begun_all none now dhat points are begun put = subst (λ (ps : List Point). HasBegun now (with_points dhat ps)) are (put (with_points dhat []) begun)
+pub begun_all : (none now : Written) (dhat : Dhat) (points : List Point) → points ≡ dhat.pps
+    → HasBegun none (with_points dhat [])
+    → ((other : Dhat) → HasBegun none other → HasBegun now (with_points other (other.pps ++ points)))
+    → HasBegun now dhat
+begun_all none now dhat points are begun put =
+    subst (λ (ps : List Point). HasBegun now (with_points dhat ps)) are (put (with_points dhat []) begun)

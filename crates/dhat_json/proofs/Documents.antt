@@ -47,10 +47,13 @@ document_read bytes d h = document_is bytes h.value h.read ∙ is_taken h.value 
 
 -- ---- what a call answers of a document
 
-pub says_it : (bytes : List ℕ) (r : Result Dhat DhatFault) → Answers r (document_of bytes) → IfOk r (λ d. IsDocument bytes d)
+pub says_it : (bytes : List ℕ) (r : Result Dhat DhatFault) → Answers r (document_of bytes)
+    → IfOk r (λ d. IsDocument bytes d)
 says_it bytes (Ok d) h = document_says bytes d h
 says_it bytes (Err fault) h = tt
 
-pub writable : (bytes : List ℕ) (r : Result Dhat DhatFault) → Answers r (document_of bytes) → IfOk r HasTexts → IfOk r IsWritable
-writable bytes (Ok d) h texts = let document = document_says bytes d h in record { sound = is_sound document.value d document.says; texts = texts }
+pub writable : (bytes : List ℕ) (r : Result Dhat DhatFault) → Answers r (document_of bytes) → IfOk r HasTexts
+    → IfOk r IsWritable
+writable bytes (Ok d) h texts =
+    let document = document_says bytes d h in record { sound = is_sound document.value d document.says; texts = texts }
 writable bytes (Err fault) h texts = tt

@@ -1,7 +1,15 @@
 -- The first of what checks find.
 use Rattle.std.proofs.Common.{◌≡◌, List, [], ◌∷◌, ◌++◌, Some, None, Result, Ok, Err, refl, subst}
 use Rattle.dhat_json.specs.declared.fault.DhatFault.{DhatFault}
-use Rattle.dhat_json.specs.declared.fault.DhatFault.TheVariants.{NotJson, WrongFileVersion, MissingKey, WrongKind, FrameOutOfTable, TooMany, NoMemory}
+use Rattle.dhat_json.specs.declared.fault.DhatFault.TheVariants.{
+  NotJson,
+  WrongFileVersion,
+  MissingKey,
+  WrongKind,
+  FrameOutOfTable,
+  TooMany,
+  NoMemory,
+}
 use Rattle.dhat_json.specs.DhatFault.{Finding, first_of}
 use Rattle.dhat_json.specs.Reads.{Reads, UnlessNoMemory}
 
@@ -12,7 +20,8 @@ first_later (None ∷ xs) ys none = first_later xs ys none
 first_later (Some fault ∷ xs) ys none = absurd cc
 
 -- and where a fault was found, it stays the first
-pub first_stays : (xs ys : List Finding) (fault : DhatFault) → first_of xs ≡ Some fault → first_of (xs ++ ys) ≡ Some fault
+pub first_stays : (xs ys : List Finding) (fault : DhatFault) → first_of xs ≡ Some fault
+    → first_of (xs ++ ys) ≡ Some fault
 first_stays [] ys fault found = absurd cc
 first_stays (None ∷ xs) ys fault found = first_stays xs ys fault found
 first_stays (Some first ∷ xs) ys fault found = found
@@ -30,12 +39,16 @@ fault_follows P Q TooMany h f = f h
 pub passed_then : (a : Finding) (xs : List Finding) → a ≡ None → first_of (a ∷ xs) ≡ first_of xs
 passed_then a xs none = rw none refl
 
-pub found_first : (a : Finding) (xs : List Finding) (fault : DhatFault) → a ≡ Some fault → first_of (a ∷ xs) ≡ Some fault
+pub found_first : (a : Finding) (xs : List Finding) (fault : DhatFault) → a ≡ Some fault
+    → first_of (a ∷ xs) ≡ Some fault
 found_first a xs fault found = rw found refl
 
 -- what a part that answered so has read or refused
-pub read_as : {A : Type 0} (result : Result A DhatFault) (x : A) (finding : Finding) (there : A) → result ≡ Ok x → Reads result finding there → (finding ≡ None) × (x ≡ there)
+pub read_as : {A : Type 0} (result : Result A DhatFault) (x : A) (finding : Finding) (there : A) → result ≡ Ok x
+    → Reads result finding there → (finding ≡ None) × (x ≡ there)
 read_as {A = A} result x finding there is read = subst (λ (r : Result A DhatFault). Reads r finding there) is read
 
-pub refused_as : {A : Type 0} (result : Result A DhatFault) (fault : DhatFault) (finding : Finding) (there : A) → result ≡ Err fault → Reads result finding there → UnlessNoMemory fault (finding ≡ Some fault)
-refused_as {A = A} result fault finding there is read = subst (λ (r : Result A DhatFault). Reads r finding there) is read
+pub refused_as : {A : Type 0} (result : Result A DhatFault) (fault : DhatFault) (finding : Finding) (there : A)
+    → result ≡ Err fault → Reads result finding there → UnlessNoMemory fault (finding ≡ Some fault)
+refused_as {A = A} result fault finding there is read =
+    subst (λ (r : Result A DhatFault). Reads r finding there) is read

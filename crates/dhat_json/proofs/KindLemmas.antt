@@ -1,16 +1,60 @@
 -- What stands at a key of which nothing was found, and what is found at a key where the right thing stands.
-use Rattle.std.proofs.Common.{◌≡◌, ℕ, ◌<◌, List, [], ◌∷◌, ◌++◌, map, All, Bool, true, false, cond, Option, Some, None, refl, sym, ap, ltb}
+use Rattle.std.proofs.Common.{
+  ◌≡◌,
+  ℕ,
+  ◌<◌,
+  List,
+  [],
+  ◌∷◌,
+  ◌++◌,
+  map,
+  All,
+  Bool,
+  true,
+  false,
+  cond,
+  Option,
+  Some,
+  None,
+  refl,
+  sym,
+  ap,
+  ltb,
+}
 use Rattle.std.specs.Prelude.{IsSome, IfSome, ◌==◌, is_some, unwrap_or}
 use Rattle.std.specs.Option.{option_and_then}
 use Rattle.std.proofs.lemmas.Bool.{eqb-true, ltb-true, lt-ltb}
 use Rattle.std.proofs.lemmas.List.Elements.{All-nil, All-cons, All-head, All-tail}
-use Rattle.serde_json.specs.Data.{Data, null, boolean, number, string, array, object, unsigned, negative, float, Items, no_items, item}
+use Rattle.serde_json.specs.Data.{
+  Data,
+  null,
+  boolean,
+  number,
+  string,
+  array,
+  object,
+  unsigned,
+  negative,
+  float,
+  Items,
+  no_items,
+  item,
+}
 use Rattle.serde_json.specs.Find.{as_str, as_bool, as_object, as_array}
 use Rattle.serde_json.specs.View.{items_of}
 use Rattle.dhat_json.specs.declared.fault.DhatFault.TheVariants.{NotJson, WrongFileVersion, WrongKind, FrameOutOfTable}
 use Rattle.dhat_json.specs.declared.key.Key.{Key}
 use Rattle.dhat_json.specs.declared.key.Key.TheVariants.{DhatFileVersion, Ftbl}
-use Rattle.dhat_json.specs.DhatFault.{Finding, first_of, other_kind, needed_value, optional_value, frame_finding, no_object, version_value}
+use Rattle.dhat_json.specs.DhatFault.{
+  Finding,
+  first_of,
+  other_kind,
+  needed_value,
+  optional_value,
+  frame_finding,
+  no_object,
+  version_value,
+}
 use Rattle.dhat_json.specs.DhatValue.{whole}
 use Rattle.dhat_json.specs.IsDhat.{IsOptional}
 use Rattle.dhat_json.specs.Kinds.{as_whole, as_list, list_of}
@@ -51,7 +95,8 @@ pub items_of_list : (ds : Items) → items_of (list_of ds) ≡ ds
 items_of_list no_items = refl
 items_of_list (item d ds) = ap (item d) (items_of_list ds)
 
-pub text_stands : (point : Option ℕ) (key : Key) (o : Option Data) → needed_value as_str point key o ≡ None → o ≡ Some (string (unwrap_or (option_and_then as_str o) []))
+pub text_stands : (point : Option ℕ) (key : Key) (o : Option Data) → needed_value as_str point key o ≡ None
+    → o ≡ Some (string (unwrap_or (option_and_then as_str o) []))
 text_stands point key None e = absurd cc
 text_stands point key (Some null) e = absurd cc
 text_stands point key (Some (boolean b)) e = absurd cc
@@ -60,7 +105,8 @@ text_stands point key (Some (string s)) e = refl
 text_stands point key (Some (array ds)) e = absurd cc
 text_stands point key (Some (object ms)) e = absurd cc
 
-pub flag_stands : (point : Option ℕ) (key : Key) (o : Option Data) → needed_value as_bool point key o ≡ None → o ≡ Some (boolean (unwrap_or (option_and_then as_bool o) false))
+pub flag_stands : (point : Option ℕ) (key : Key) (o : Option Data) → needed_value as_bool point key o ≡ None
+    → o ≡ Some (boolean (unwrap_or (option_and_then as_bool o) false))
 flag_stands point key None e = absurd cc
 flag_stands point key (Some null) e = absurd cc
 flag_stands point key (Some (boolean b)) e = refl
@@ -69,7 +115,8 @@ flag_stands point key (Some (string s)) e = absurd cc
 flag_stands point key (Some (array ds)) e = absurd cc
 flag_stands point key (Some (object ms)) e = absurd cc
 
-pub whole_stands : (point : Option ℕ) (key : Key) (o : Option Data) → needed_value as_whole point key o ≡ None → o ≡ Some (whole (unwrap_or (option_and_then as_whole o) 0))
+pub whole_stands : (point : Option ℕ) (key : Key) (o : Option Data) → needed_value as_whole point key o ≡ None
+    → o ≡ Some (whole (unwrap_or (option_and_then as_whole o) 0))
 whole_stands point key None e = absurd cc
 whole_stands point key (Some null) e = absurd cc
 whole_stands point key (Some (boolean b)) e = absurd cc
@@ -80,7 +127,8 @@ whole_stands point key (Some (string s)) e = absurd cc
 whole_stands point key (Some (array ds)) e = absurd cc
 whole_stands point key (Some (object ms)) e = absurd cc
 
-pub list_stands : (point : Option ℕ) (key : Key) (o : Option Data) → needed_value as_list point key o ≡ None → o ≡ Some (array (items_of (unwrap_or (option_and_then as_list o) [])))
+pub list_stands : (point : Option ℕ) (key : Key) (o : Option Data) → needed_value as_list point key o ≡ None
+    → o ≡ Some (array (items_of (unwrap_or (option_and_then as_list o) [])))
 list_stands point key None e = absurd cc
 list_stands point key (Some null) e = absurd cc
 list_stands point key (Some (boolean b)) e = absurd cc
@@ -89,7 +137,8 @@ list_stands point key (Some (string s)) e = absurd cc
 list_stands point key (Some (array ds)) e = ap (λ (items : Items). Some (array items)) (sym (items_of_list ds))
 list_stands point key (Some (object ms)) e = absurd cc
 
-pub optional_text_stands : (point : Option ℕ) (key : Key) (o : Option Data) → optional_value as_str point key o ≡ None → IsOptional string o (option_and_then as_str o)
+pub optional_text_stands : (point : Option ℕ) (key : Key) (o : Option Data) → optional_value as_str point key o ≡ None
+    → IsOptional string o (option_and_then as_str o)
 optional_text_stands point key None e = refl
 optional_text_stands point key (Some null) e = absurd cc
 optional_text_stands point key (Some (boolean b)) e = absurd cc
@@ -98,7 +147,8 @@ optional_text_stands point key (Some (string s)) e = refl
 optional_text_stands point key (Some (array ds)) e = absurd cc
 optional_text_stands point key (Some (object ms)) e = absurd cc
 
-pub optional_whole_stands : (point : Option ℕ) (key : Key) (o : Option Data) → optional_value as_whole point key o ≡ None → IsOptional whole o (option_and_then as_whole o)
+pub optional_whole_stands : (point : Option ℕ) (key : Key) (o : Option Data)
+    → optional_value as_whole point key o ≡ None → IsOptional whole o (option_and_then as_whole o)
 optional_whole_stands point key None e = refl
 optional_whole_stands point key (Some null) e = absurd cc
 optional_whole_stands point key (Some (boolean b)) e = absurd cc
@@ -109,7 +159,8 @@ optional_whole_stands point key (Some (string s)) e = absurd cc
 optional_whole_stands point key (Some (array ds)) e = absurd cc
 optional_whole_stands point key (Some (object ms)) e = absurd cc
 
-pub kind_is : {A : Type 0} (kind : Data → Option A) (point : Option ℕ) (key : Key) (d : Data) → other_kind kind point key d ≡ None → is_some (kind d) ≡ true
+pub kind_is : {A : Type 0} (kind : Data → Option A) (point : Option ℕ) (key : Key) (d : Data)
+    → other_kind kind point key d ≡ None → is_some (kind d) ≡ true
 kind_is kind point key d e = at (is_some (kind d)) e
   where
     at : (b : Bool) → cond {A = Finding} b None (Some (WrongKind point key)) ≡ None → b ≡ true
@@ -148,7 +199,8 @@ texts_again (text ∷ texts) = ap (λ (rest : List (List ℕ)). text ∷ rest) (
 abbrev pub FrameIs : ℕ → Data → Type 0
 FrameIs frames d = (whole (whole_in d) ≡ d) × (whole_in d < frames)
 
-frame_below : (point frames n : ℕ) (b : Bool) → ltb n frames ≡ b → cond {A = Finding} b None (Some (FrameOutOfTable point n)) ≡ None → n < frames
+frame_below : (point frames n : ℕ) (b : Bool) → ltb n frames ≡ b
+    → cond {A = Finding} b None (Some (FrameOutOfTable point n)) ≡ None → n < frames
 frame_below point frames n true lt e = ltb-true n frames lt
 frame_below point frames n false lt e = absurd cc
 
@@ -162,17 +214,24 @@ frame_is point frames (string s) e = absurd cc
 frame_is point frames (array ds) e = absurd cc
 frame_is point frames (object ms) e = absurd cc
 
-pub frames_stand : (point frames : ℕ) (ds : List Data) → AllNone (map (frame_finding point frames) ds) → map whole (map whole_in ds) ≡ ds
+pub frames_stand : (point frames : ℕ) (ds : List Data) → AllNone (map (frame_finding point frames) ds)
+    → map whole (map whole_in ds) ≡ ds
 frames_stand point frames [] h = refl
 frames_stand point frames (d ∷ ds) h = both _ _ _ _ (frame_is point frames d h.0).0 (frames_stand point frames ds h.1)
 
-pub frames_below : (point frames : ℕ) (ds : List Data) → AllNone (map (frame_finding point frames) ds) → All (λ frame. frame < frames) (map whole_in ds)
+pub frames_below : (point frames : ℕ) (ds : List Data) → AllNone (map (frame_finding point frames) ds)
+    → All (λ frame. frame < frames) (map whole_in ds)
 frames_below point frames [] h = All-nil (λ frame. frame < frames)
-frames_below point frames (d ∷ ds) h = All-cons (λ frame. frame < frames) _ _ (frame_is point frames d h.0).1 (frames_below point frames ds h.1)
+frames_below point frames (d ∷ ds) h =
+    All-cons (λ frame. frame < frames) _ _ (frame_is point frames d h.0).1 (frames_below point frames ds h.1)
 
-pub frames_found : (point frames : ℕ) (fs : List ℕ) → All (λ frame. frame < frames) fs → AllNone (map (frame_finding point frames) (map whole fs))
+pub frames_found : (point frames : ℕ) (fs : List ℕ) → All (λ frame. frame < frames) fs
+    → AllNone (map (frame_finding point frames) (map whole fs))
 frames_found point frames [] h = tt
-frames_found point frames (n ∷ fs) h = (rw (lt-ltb n frames (All-head (λ frame. frame < frames) n fs h)) refl, frames_found point frames fs (All-tail (λ frame. frame < frames) n fs h))
+frames_found point frames (n ∷ fs) h = (
+  rw (lt-ltb n frames (All-head (λ frame. frame < frames) n fs h)) refl,
+  frames_found point frames fs (All-tail (λ frame. frame < frames) n fs h),
+)
 
 pub frames_again : (fs : List ℕ) → map whole_in (map whole fs) ≡ fs
 frames_again [] = refl
@@ -195,7 +254,8 @@ array_is point key (string s) e = absurd cc
 array_is point key (array ds) e = refl
 array_is point key (object ms) e = absurd cc
 
-pub acc_is : (point : Option ℕ) (key : Key) (o : Option Data) → optional_value as_list point key o ≡ None → IfSome o (λ counts. IsSome (as_array counts))
+pub acc_is : (point : Option ℕ) (key : Key) (o : Option Data) → optional_value as_list point key o ≡ None
+    → IfSome o (λ counts. IsSome (as_array counts))
 acc_is point key None e = tt
 acc_is point key (Some d) e = array_is point key d e
 
@@ -203,7 +263,8 @@ two_is : (n : ℕ) (b : Bool) → (n == 2) ≡ b → cond {A = Finding} b None (
 two_is n true e h = eqb-true n 2 e
 two_is n false e h = absurd cc
 
-pub version_is : (o : Option Data) → version_value o ≡ None → needed_value Some None DhatFileVersion o ≡ None → o ≡ Some (whole 2)
+pub version_is : (o : Option Data) → version_value o ≡ None → needed_value Some None DhatFileVersion o ≡ None
+    → o ≡ Some (whole 2)
 version_is None e h = absurd cc
 version_is (Some null) e h = absurd cc
 version_is (Some (boolean b)) e h = absurd cc

@@ -11,7 +11,8 @@ no_float : (p : Parts) (b : Bool) → option_and_then as_u64 (cond b (Some (floa
 no_float p true = refl
 no_float p false = refl
 
-no_negative : (p : Parts) (b : Bool) → option_and_then as_u64 (cond b (Some (negative (with_sign true (digits_of p)))) (float_of true p)) ≡ None
+no_negative : (p : Parts) (b : Bool)
+    → option_and_then as_u64 (cond b (Some (negative (with_sign true (digits_of p)))) (float_of true p)) ≡ None
 no_negative p true = refl
 no_negative p false = no_float p (float_is_finite (nearest binary64 true p))
 

@@ -1,5 +1,25 @@
 -- What is asked of the outline of a document is what is asked of the document.
-use Rattle.std.proofs.Common.{◌≡◌, ℕ, List, [], ◌∷◌, ◌++◌, Bool, true, false, map, Option, Some, None, refl, sym, ap, ◌∙◌, bytes_eq, true≢false}
+use Rattle.std.proofs.Common.{
+  ◌≡◌,
+  ℕ,
+  List,
+  [],
+  ◌∷◌,
+  ◌++◌,
+  Bool,
+  true,
+  false,
+  map,
+  Option,
+  Some,
+  None,
+  refl,
+  sym,
+  ap,
+  ◌∙◌,
+  bytes_eq,
+  true≢false,
+}
 use Rattle.std.specs.Prelude.{codes, is_some, unwrap_or}
 use Rattle.std.specs.Borrow.{Bor}
 use Rattle.std.specs.declared.alloc.Global.{Global}
@@ -11,10 +31,38 @@ use Rattle.serde_json.specs.Data.{Data, null, boolean, number, string, array, ob
 use Rattle.serde_json.specs.Find.{get, get_member, as_str, as_bool}
 use Rattle.serde_json.proofs.Views.{get_member-put, get_member-put_other}
 use Rattle.dhat_json.specs.declared.key.Key.{Key}
-use Rattle.dhat_json.specs.declared.key.Key.TheVariants.{DhatFileVersion, Mode, Verb, Bklt, Bkacc, Bu, Bsu, Bksu, Tu, Mtu, Tuth, Cmd, Pid, Te, Tg, Ftbl, Pps}
+use Rattle.dhat_json.specs.declared.key.Key.TheVariants.{
+  DhatFileVersion,
+  Mode,
+  Verb,
+  Bklt,
+  Bkacc,
+  Bu,
+  Bsu,
+  Bksu,
+  Tu,
+  Mtu,
+  Tuth,
+  Cmd,
+  Pid,
+  Te,
+  Tg,
+  Ftbl,
+  Pps,
+}
 use Rattle.dhat_json.specs.declared.parts.Front.{Front}
 use Rattle.dhat_json.specs.DataOf.{data_of, members_data}
-use Rattle.dhat_json.specs.DhatFault.{Finding, needed_value, optional_value, version_value, needed, allowed, no_object, other_kind, other_version}
+use Rattle.dhat_json.specs.DhatFault.{
+  Finding,
+  needed_value,
+  optional_value,
+  version_value,
+  needed,
+  allowed,
+  no_object,
+  other_kind,
+  other_version,
+}
 use Rattle.dhat_json.specs.Front.{front_findings, front_in}
 use Rattle.dhat_json.specs.KeyName.{key_name}
 use Rattle.dhat_json.specs.Kinds.{as_whole, as_list}
@@ -74,11 +122,13 @@ asks_list (object ms) = refl
 asks : {A : Type 0} (kind : Data → Option A) → IsShallow kind → AsksShallow kind
 asks kind same d = ap is_some (same d)
 
-needed_hollow : {A : Type 0} (kind : Data → Option A) (point : Option ℕ) (key : Key) (o : Option Data) → AsksShallow kind → needed_value kind point key (option_map hollow o) ≡ needed_value kind point key o
+needed_hollow : {A : Type 0} (kind : Data → Option A) (point : Option ℕ) (key : Key) (o : Option Data)
+    → AsksShallow kind → needed_value kind point key (option_map hollow o) ≡ needed_value kind point key o
 needed_hollow kind point key None same = refl
 needed_hollow kind point key (Some d) same = rw (same d) refl
 
-optional_hollow : {A : Type 0} (kind : Data → Option A) (point : Option ℕ) (key : Key) (o : Option Data) → AsksShallow kind → optional_value kind point key (option_map hollow o) ≡ optional_value kind point key o
+optional_hollow : {A : Type 0} (kind : Data → Option A) (point : Option ℕ) (key : Key) (o : Option Data)
+    → AsksShallow kind → optional_value kind point key (option_map hollow o) ≡ optional_value kind point key o
 optional_hollow kind point key None same = refl
 optional_hollow kind point key (Some d) same = rw (same d) refl
 
@@ -86,40 +136,54 @@ version_hollow : (o : Option Data) → version_value (option_map hollow o) ≡ v
 version_hollow None = refl
 version_hollow (Some d) = rw (shallow_whole d) refl
 
-found_hollow : {A : Type 0} (kind : Data → Option A) (o : Option Data) → IsShallow kind → option_and_then kind (option_map hollow o) ≡ option_and_then kind o
+found_hollow : {A : Type 0} (kind : Data → Option A) (o : Option Data) → IsShallow kind
+    → option_and_then kind (option_map hollow o) ≡ option_and_then kind o
 found_hollow kind None same = refl
 found_hollow kind (Some d) same = same d
 
-abbrev front_of : List ℕ → List ℕ → Bool → Bool → Option (List ℕ) → Option (List ℕ) → Option (List ℕ) → List ℕ → List ℕ → Option ℕ → List ℕ → ℕ → ℕ → Option ℕ → List (List ℕ) → Front
+abbrev front_of : List ℕ → List ℕ → Bool → Bool → Option (List ℕ) → Option (List ℕ) → Option (List ℕ) → List ℕ → List ℕ
+    → Option ℕ → List ℕ → ℕ → ℕ → Option ℕ → List (List ℕ) → Front
 front_of mode verb bklt bkacc bu bsu bksu tu mtu tuth cmd pid te tg ftbl = record {
   head = record { mode = mode; verb = verb; bklt = bklt; bkacc = bkacc };
-  units = record { block = record { bu = bu; bsu = bsu; bksu = bksu }; time = record { tu = tu; mtu = mtu; tuth = tuth } };
+  units =
+      record { block = record { bu = bu; bsu = bsu; bksu = bksu }; time = record { tu = tu; mtu = mtu; tuth = tuth } };
   run = record { cmd = cmd; pid = pid; te = te; tg = tg };
   ftbl = ftbl;
 }
 
-made : {mode mode' verb verb' : List ℕ} {bklt bklt' bkacc bkacc' : Bool} {bu bu' bsu bsu' bksu bksu' : Option (List ℕ)} {tu tu' mtu mtu' : List ℕ} {tuth tuth' : Option ℕ} {cmd cmd' : List ℕ} {pid pid' te te' : ℕ} {tg tg' : Option ℕ} {ftbl ftbl' : List (List ℕ)}
-    → mode ≡ mode' → verb ≡ verb' → bklt ≡ bklt' → bkacc ≡ bkacc' → bu ≡ bu' → bsu ≡ bsu' → bksu ≡ bksu' → tu ≡ tu' → mtu ≡ mtu' → tuth ≡ tuth' → cmd ≡ cmd' → pid ≡ pid' → te ≡ te' → tg ≡ tg' → ftbl ≡ ftbl'
-    → front_of mode verb bklt bkacc bu bsu bksu tu mtu tuth cmd pid te tg ftbl ≡ front_of mode' verb' bklt' bkacc' bu' bsu' bksu' tu' mtu' tuth' cmd' pid' te' tg' ftbl'
+made : {mode mode' verb verb' : List ℕ} {bklt bklt' bkacc bkacc' : Bool} {bu bu' bsu bsu' bksu bksu' : Option
+    (List ℕ)} {tu tu' mtu mtu' : List ℕ} {tuth tuth' : Option ℕ} {cmd cmd' : List ℕ} {pid pid' te te' : ℕ} {tg
+    tg' : Option ℕ} {ftbl ftbl' : List (List ℕ)}
+    → mode ≡ mode' → verb ≡ verb' → bklt ≡ bklt' → bkacc ≡ bkacc' → bu ≡ bu' → bsu ≡ bsu' → bksu ≡ bksu' → tu ≡ tu'
+    → mtu ≡ mtu' → tuth ≡ tuth' → cmd ≡ cmd' → pid ≡ pid' → te ≡ te' → tg ≡ tg' → ftbl ≡ ftbl'
+    → front_of mode verb bklt bkacc bu bsu bksu tu mtu tuth cmd pid te tg ftbl
+    ≡ front_of mode' verb' bklt' bkacc' bu' bsu' bksu' tu' mtu' tuth' cmd' pid' te' tg' ftbl'
 made a b c d e f g h i j k l m n o = rw (a, b, c, d, e, f, g, h, i, j, k, l, m, n, o) refl
 
 -- ---- keys of the outline
 
 module _ (v d : Data) (is : IsOutline v d) where
-  needed_same : {A : Type 0} (kind : Data → Option A) (key : Key) → AsksShallow kind → needed kind None key v ≡ needed kind None key d
+  needed_same : {A : Type 0} (kind : Data → Option A) (key : Key) → AsksShallow kind
+      → needed kind None key v ≡ needed kind None key d
   needed_same kind key same =
-      sym (needed_hollow kind None key (get (key_name key) v) same) ∙ ap (needed_value kind None key) (is.others key) ∙ needed_hollow kind None key (get (key_name key) d) same
+      sym (needed_hollow kind None key (get (key_name key) v) same) ∙ ap (needed_value kind None key) (is.others key)
+      ∙ needed_hollow kind None key (get (key_name key) d) same
 
-  allowed_same : {A : Type 0} (kind : Data → Option A) (key : Key) → AsksShallow kind → allowed kind None key v ≡ allowed kind None key d
+  allowed_same : {A : Type 0} (kind : Data → Option A) (key : Key) → AsksShallow kind
+      → allowed kind None key v ≡ allowed kind None key d
   allowed_same kind key same =
-      sym (optional_hollow kind None key (get (key_name key) v) same) ∙ ap (optional_value kind None key) (is.others key) ∙ optional_hollow kind None key (get (key_name key) d) same
+      sym (optional_hollow kind None key (get (key_name key) v) same)
+      ∙ ap (optional_value kind None key) (is.others key) ∙ optional_hollow kind None key (get (key_name key) d) same
 
   version_same : other_version v ≡ other_version d
-  version_same = sym (version_hollow (get (key_name DhatFileVersion) v)) ∙ ap version_value (is.others DhatFileVersion) ∙ version_hollow (get (key_name DhatFileVersion) d)
+  version_same =
+      sym (version_hollow (get (key_name DhatFileVersion) v)) ∙ ap version_value (is.others DhatFileVersion)
+      ∙ version_hollow (get (key_name DhatFileVersion) d)
 
   found_same : {A : Type 0} (kind : Data → Option A) (key : Key) → IsShallow kind → found kind key v ≡ found kind key d
   found_same kind key same =
-      sym (found_hollow kind (get (key_name key) v) same) ∙ ap (option_and_then kind) (is.others key) ∙ found_hollow kind (get (key_name key) d) same
+      sym (found_hollow kind (get (key_name key) v) same) ∙ ap (option_and_then kind) (is.others key)
+      ∙ found_hollow kind (get (key_name key) d) same
 
   text_same : (key : Key) → text_at key v ≡ text_at key d
   text_same key = ap (λ (o : Option (List ℕ)). unwrap_or o []) (found_same as_str key shallow_text)
@@ -141,48 +205,72 @@ module _ (v d : Data) (is : IsOutline v d) where
 
   pub findings_same : front_findings v ≡ front_findings d
   findings_same =
-      let points : needed as_list None Pps v ∷ [] ≡ needed as_list None Pps d ∷ [] = listed [] [] _ _ (needed_same as_list Pps asks_list) refl in
-      let texts : map (other_kind as_str None Ftbl) (list_at Ftbl v) ≡ map (other_kind as_str None Ftbl) (list_at Ftbl d) = ap (map (other_kind as_str None Ftbl)) table_same in
-      let table = listed _ _ _ _ (needed_same as_list Ftbl asks_list) (ap (λ (os : List Finding). os ++ needed as_list None Pps v ∷ []) texts ∙ ap (λ (os : List Finding). map (other_kind as_str None Ftbl) (list_at Ftbl d) ++ os) points) in
+      let points : needed as_list None Pps v ∷ [] ≡ needed as_list None Pps d ∷ [] =
+      listed [] [] _ _ (needed_same as_list Pps asks_list) refl in
+      let texts : map (other_kind as_str None Ftbl) (list_at Ftbl v)
+      ≡ map (other_kind as_str None Ftbl) (list_at Ftbl d) = ap (map (other_kind as_str None Ftbl)) table_same in
+      let table =
+      listed _ _ _ _ (needed_same as_list Ftbl asks_list)
+      (ap (λ (os : List Finding). os ++ needed as_list None Pps v ∷ []) texts
+      ∙ ap (λ (os : List Finding). map (other_kind as_str None Ftbl) (list_at Ftbl d) ++ os) points) in
       let text = asks as_str shallow_text in
       let flag = asks as_bool shallow_flag in
       let whole = asks as_whole shallow_whole in
-      let run = listed _ _ _ _ (needed_same as_str Cmd text) (listed _ _ _ _ (needed_same as_whole Pid whole) (listed _ _ _ _ (needed_same as_whole Te whole) (listed _ _ _ _ (allowed_same as_whole Tg whole) table))) in
-      let time = listed _ _ _ _ (needed_same as_str Tu text) (listed _ _ _ _ (needed_same as_str Mtu text) (listed _ _ _ _ (allowed_same as_whole Tuth whole) run)) in
-      let units = listed _ _ _ _ (allowed_same as_str Bu text) (listed _ _ _ _ (allowed_same as_str Bsu text) (listed _ _ _ _ (allowed_same as_str Bksu text) time)) in
-      let flags = listed _ _ _ _ (needed_same as_bool Bklt flag) (listed _ _ _ _ (needed_same as_bool Bkacc flag) units) in
-      let texts' = listed _ _ _ _ (needed_same as_str Mode text) (listed _ _ _ _ (needed_same as_str Verb text) flags) in
-      listed _ _ _ _ object_same (listed _ _ _ _ version_same (listed _ _ _ _ (needed_same Some DhatFileVersion (λ e. refl)) texts'))
+      let run =
+      listed _ _ _ _ (needed_same as_str Cmd text)
+      (listed _ _ _ _ (needed_same as_whole Pid whole)
+      (listed _ _ _ _ (needed_same as_whole Te whole) (listed _ _ _ _ (allowed_same as_whole Tg whole) table))) in
+      let time =
+      listed _ _ _ _ (needed_same as_str Tu text)
+      (listed _ _ _ _ (needed_same as_str Mtu text) (listed _ _ _ _ (allowed_same as_whole Tuth whole) run)) in
+      let units =
+      listed _ _ _ _ (allowed_same as_str Bu text)
+      (listed _ _ _ _ (allowed_same as_str Bsu text) (listed _ _ _ _ (allowed_same as_str Bksu text) time)) in
+      let flags =
+      listed _ _ _ _ (needed_same as_bool Bklt flag) (listed _ _ _ _ (needed_same as_bool Bkacc flag) units) in
+      let texts' =
+      listed _ _ _ _ (needed_same as_str Mode text) (listed _ _ _ _ (needed_same as_str Verb text) flags) in
+      listed _ _ _ _ object_same
+      (listed _ _ _ _ version_same (listed _ _ _ _ (needed_same Some DhatFileVersion (λ e. refl)) texts'))
 
   pub front_same : front_in v ≡ front_in d
   front_same = made (text_same Mode) (text_same Verb) (flag_same Bklt) (flag_same Bkacc)
       (found_same as_str Bu shallow_text) (found_same as_str Bsu shallow_text) (found_same as_str Bksu shallow_text)
       (text_same Tu) (text_same Mtu) (found_same as_whole Tuth shallow_whole)
-      (text_same Cmd) (whole_same Pid) (whole_same Te) (found_same as_whole Tg shallow_whole) (ap (map text_in) table_same)
+      (text_same Cmd) (whole_same Pid) (whole_same Te) (found_same as_whole Tg shallow_whole)
+      (ap (map text_in) table_same)
 
 -- ---- a member more
 
 -- what is asked of a key is the same where it was, and where the value that was put is
-pub put_same : {X : Type 0} (ask : Option Data → X) (k name : List ℕ) (e d : Data) (outline found : Members) → (name ≡ k → ask (Some e) ≡ ask (Some d)) → ask (get_member k outline) ≡ ask (get_member k found)
+pub put_same : {X : Type 0} (ask : Option Data → X) (k name : List ℕ) (e d : Data) (outline found : Members)
+    → (name ≡ k → ask (Some e) ≡ ask (Some d)) → ask (get_member k outline) ≡ ask (get_member k found)
     → ask (get_member k (put name e outline)) ≡ ask (get_member k (put name d found))
 put_same {X = X} ask k name e d outline found here before = at (bytes_eq name k) refl
   where
-    at : (b : Bool) → bytes_eq name k ≡ b → ask (get_member k (put name e outline)) ≡ ask (get_member k (put name d found))
+    at : (b : Bool) → bytes_eq name k ≡ b
+        → ask (get_member k (put name e outline)) ≡ ask (get_member k (put name d found))
     at true same = let is : name ≡ k = (bytes_eq-Decides name k).0 same in
         rw (← is) (ap ask (get_member-put name e outline) ∙ here is ∙ sym (ap ask (get_member-put name d found)))
     at false other =
         let apart : k ≡ name → ⊥ = λ is. true≢false (sym ((bytes_eq-Decides name k).1 (sym is)) ∙ other) in
-        ap ask (get_member-put_other k name e outline apart) ∙ before ∙ sym (ap ask (get_member-put_other k name d found apart))
+        ap ask (get_member-put_other k name e outline apart) ∙ before
+        ∙ sym (ap ask (get_member-put_other k name d found apart))
 
-pub outline_put : (name : List ℕ) (e d : Data) (outline found : Members) → hollow e ≡ hollow d → (name ≡ codes "ftbl" → e ≡ d) → IsOutline (object outline) (object found)
+pub outline_put : (name : List ℕ) (e d : Data) (outline found : Members) → hollow e ≡ hollow d
+    → (name ≡ codes "ftbl" → e ≡ d) → IsOutline (object outline) (object found)
     → IsOutline (object (put name e outline)) (object (put name d found))
 outline_put name e d outline found alike same is = record {
   object = refl;
-  table = put_same (λ (o : Option Data). o) (codes "ftbl") name e d outline found (λ here. ap Some (same here)) is.table;
-  others = λ key. put_same (option_map hollow) (key_name key) name e d outline found (λ here. ap Some alike) (is.others key);
+  table =
+      put_same (λ (o : Option Data). o) (codes "ftbl") name e d outline found (λ here. ap Some (same here)) is.table;
+  others =
+      λ key. put_same (option_map hollow) (key_name key) name e d outline found (λ here. ap Some alike) (is.others key);
 }
 
-pub data_push : (xs : List (Bor (List ℕ) × Value Global)) (m : Bor (List ℕ) × Value Global) (found : Members) → members_data (members_view (xs ++ m ∷ [])) found ≡ put m.0.now (data_of m.1) (members_data (members_view xs) found)
+pub data_push : (xs : List (Bor (List ℕ) × Value Global)) (m : Bor (List ℕ) × Value Global) (found : Members)
+    → members_data (members_view (xs ++ m ∷ [])) found
+    ≡ put m.0.now (data_of m.1) (members_data (members_view xs) found)
 data_push [] m found = refl
 data_push (x ∷ xs) m found = data_push xs m (put x.0.now (data_of x.1) found)
 
@@ -191,8 +279,10 @@ data_push (x ∷ xs) m found = data_push xs m (put x.0.now (data_of x.1) found)
 abbrev listed_in : Option Data → List Data
 listed_in o = unwrap_or (option_and_then as_list o) []
 
-pub points_kept : (name : List ℕ) (d : Data) (found : Members) → (name ≡ codes "pps" → ⊥) → list_at Pps (object (put name d found)) ≡ list_at Pps (object found)
+pub points_kept : (name : List ℕ) (d : Data) (found : Members) → (name ≡ codes "pps" → ⊥)
+    → list_at Pps (object (put name d found)) ≡ list_at Pps (object found)
 points_kept name d found other = ap listed_in (get_member-put_other (codes "pps") name d found (λ is. other (sym is)))
 
-pub points_put : (name : List ℕ) (d : Data) (found : Members) → name ≡ codes "pps" → list_at Pps (object (put name d found)) ≡ unwrap_or (as_list d) []
+pub points_put : (name : List ℕ) (d : Data) (found : Members) → name ≡ codes "pps"
+    → list_at Pps (object (put name d found)) ≡ unwrap_or (as_list d) []
 points_put name d found is = rw is (ap listed_in (get_member-put (codes "pps") d found))

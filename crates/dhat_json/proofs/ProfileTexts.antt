@@ -19,14 +19,19 @@ use Rattle.dhat_json.proofs.ReadAgain.{read_again}
 use Rattle.dhat_json.proofs.RoundTrip.{value_says}
 use Rattle.dhat_json.proofs.Taken.{is_taken}
 
-pub text_written : (d : Dhat) (before : List ℕ) (ts : List Token) (text : List ℕ) → before ≡ [] → ts ≡ json_tokens (outline (dhat_value d)) → text ≡ before ++ print ts → tokens (print ts) ≡ ts → IsUtf8 (print ts) → Fits (dhat_value d) → IsTextOf d text
+pub text_written : (d : Dhat) (before : List ℕ) (ts : List Token) (text : List ℕ) → before ≡ []
+    → ts ≡ json_tokens (outline (dhat_value d)) → text ≡ before ++ print ts → tokens (print ts) ≡ ts → IsUtf8 (print ts)
+    → Fits (dhat_value d) → IsTextOf d text
 unfolding dhat_text
 text_written d before ts text none ts-is text-is same utf8 fit =
     let printed : text ≡ print ts = text-is ∙ ap (λ (b : List ℕ). b ++ print ts) none in record {
       same = printed ∙ ap print ts-is ∙ print-outline (dhat_value d);
-      value = value_is text (dhat_value d) (subst IsUtf8 (sym printed) utf8) (read_again (dhat_value d) ts text ts-is (ap tokens printed ∙ same) fit (value_in_order 123 d));
+      value =
+          value_is text (dhat_value d) (subst IsUtf8 (sym printed) utf8)
+          (read_again (dhat_value d) ts text ts-is (ap tokens printed ∙ same) fit (value_in_order 123 d));
     }
 
 -- it is read again, where the profile is sound
 pub text_reads_back : (d : Dhat) (text : List ℕ) → IsTextOf d text → IsSound d → document_of text ≡ Ok d
-text_reads_back d text is sound = document_is text (dhat_value d) is.value ∙ is_taken (dhat_value d) d (value_says d sound)
+text_reads_back d text is sound =
+    document_is text (dhat_value d) is.value ∙ is_taken (dhat_value d) d (value_says d sound)

@@ -1,5 +1,23 @@
 -- The text of a value whose keys are in order reads as that value.
-use Rattle.std.proofs.Common.{◌≡◌, ℕ, zero, suc, ◌≤◌, List, [], Less, Greater, Option, Some, refl, sym, ap, ◌∙◌, arith, append-nil}
+use Rattle.std.proofs.Common.{
+  ◌≡◌,
+  ℕ,
+  zero,
+  suc,
+  ◌≤◌,
+  List,
+  [],
+  Less,
+  Greater,
+  Option,
+  Some,
+  refl,
+  sym,
+  ap,
+  ◌∙◌,
+  arith,
+  append-nil,
+}
 use Rattle.std.specs.Option.{option_map, option_and_then}
 use Rattle.std.specs.Ordering.{nat_cmp, ordering_reverse}
 use Rattle.std.specs.Cmp.Lexicographic.{slice_cmp}
@@ -9,7 +27,26 @@ use Rattle.json.specs.Lex.{tokens}
 use Rattle.json.specs.Json as json
 use Rattle.json.specs.Tree as tree
 use Rattle.json.proofs.Printed.Trees.{value-json_tokens}
-use Rattle.serde_json.specs.Data.{Data, null, boolean, number, string, array, object, unsigned, negative, float, Num, Items, no_items, item, Members, no_members, member, put}
+use Rattle.serde_json.specs.Data.{
+  Data,
+  null,
+  boolean,
+  number,
+  string,
+  array,
+  object,
+  unsigned,
+  negative,
+  float,
+  Num,
+  Items,
+  no_items,
+  item,
+  Members,
+  no_members,
+  member,
+  put,
+}
 use Rattle.serde_json.specs.Read.{read, max_depth, of_json, of_items, of_members}
 use Rattle.serde_json.specs.Written.{outline, items_outline, members_outline}
 use Rattle.serde_json.proofs.Numbers.{number_of-decimal}
@@ -69,7 +106,8 @@ joined_nil : (ms : Members) → joined ms no_members ≡ ms
 joined_nil no_members = refl
 joined_nil (member k d ms) = ap (member k d) (joined_nil ms)
 
-joined_more : (done : Members) (k : List ℕ) (d : Data) (ms : Members) → joined (joined done (member k d no_members)) ms ≡ joined done (member k d ms)
+joined_more : (done : Members) (k : List ℕ) (d : Data) (ms : Members)
+    → joined (joined done (member k d no_members)) ms ≡ joined done (member k d ms)
 joined_more no_members k d ms = refl
 joined_more (member l e done) k d ms = ap (member l e) (joined_more done k d ms)
 
@@ -84,7 +122,8 @@ put_last k d (member l e done) h =
     let above : slice_cmp nat_cmp k l ≡ Greater = nat_list_cmp_total.antisymm k l ∙ ap ordering_reverse h.0 in
     rw above (ap (member l e) (put_last k d done h.1))
 
-below_next : (done : Members) (k l : List ℕ) (d : Data) → Below done k → slice_cmp nat_cmp k l ≡ Less → Below (joined done (member k d no_members)) l
+below_next : (done : Members) (k l : List ℕ) (d : Data) → Below done k → slice_cmp nat_cmp k l ≡ Less
+    → Below (joined done (member k d no_members)) l
 below_next no_members k l d h lt = (lt, tt)
 below_next (member j e done) k l d h lt = (nat_list_cmp_total.trans j k l h.0 lt, below_next done k l d h.1 lt)
 
@@ -92,7 +131,8 @@ abbrev BelowFirst : Members → Members → Type 0
 BelowFirst done no_members = Unit {0}
 BelowFirst done (member k d ms) = Below done k
 
-first_next : (done : Members) (k : List ℕ) (d : Data) (ms : Members) → Below done k → Above k ms → BelowFirst (joined done (member k d no_members)) ms
+first_next : (done : Members) (k : List ℕ) (d : Data) (ms : Members) → Below done k → Above k ms
+    → BelowFirst (joined done (member k d no_members)) ms
 first_next done k d no_members h above = tt
 first_next done k d (member l e ms) h above = below_next done k l d h above
 
@@ -121,9 +161,11 @@ mutual
   items_again : (n : ℕ) (ds : Items) → ItemsFit ds → ItemsInOrder n ds → of_items (items_outline ds) ≡ Some ds
   items_again n no_items fit h = refl
   items_again n (item d ds) fit h =
-      ap (option_and_then (λ (e : Data). option_map (item e) (of_items (items_outline ds)))) (value_again n d fit.0 h.0) ∙ ap (option_map (item d)) (items_again n ds fit.1 h.1)
+      ap (option_and_then (λ (e : Data). option_map (item e) (of_items (items_outline ds)))) (value_again n d fit.0 h.0)
+      ∙ ap (option_map (item d)) (items_again n ds fit.1 h.1)
 
-  members_again : (n : ℕ) (ms done : Members) → MembersFit ms → MembersInOrder n ms → BelowFirst done ms → of_members (members_outline ms) done ≡ Some (joined done ms)
+  members_again : (n : ℕ) (ms done : Members) → MembersFit ms → MembersInOrder n ms → BelowFirst done ms
+      → of_members (members_outline ms) done ≡ Some (joined done ms)
   members_again n no_members done fit h below = ap Some (sym (joined_nil done))
   members_again n (member k d ms) done fit h below =
       ap (option_and_then (λ (e : Data). of_members (members_outline ms) (put k e done))) (value_again n d fit.0 h.0)
@@ -135,6 +177,9 @@ mutual
 abbrev whole : Option (json.Json × List Token) → Option Data
 whole r = option_and_then of_json (option_and_then (λ p. json.if_last p.0 p.1) r)
 
-pub read_again : (d : Data) (ts : List Token) (text : List ℕ) → ts ≡ tree.json_tokens (outline d) → tokens text ≡ ts → Fits d → InOrder max_depth d → read text ≡ Some d
+pub read_again : (d : Data) (ts : List Token) (text : List ℕ) → ts ≡ tree.json_tokens (outline d) → tokens text ≡ ts
+    → Fits d → InOrder max_depth d → read text ≡ Some d
 read_again d ts text ts-is same fit h =
-    ap whole (ap (json.value max_depth) (same ∙ ts-is ∙ sym (append-nil _)) ∙ value-json_tokens (outline d) max_depth [] (shallow max_depth d h)) ∙ value_again max_depth d fit h
+    ap whole (ap (json.value max_depth) (same ∙ ts-is ∙ sym (append-nil _))
+    ∙ value-json_tokens (outline d) max_depth [] (shallow max_depth d h))
+    ∙ value_again max_depth d fit h

@@ -1,5 +1,32 @@
 -- A value of which no check found anything says the profile that is read from it.
-use Rattle.std.proofs.Common.{◌≡◌, ℕ, suc, ◌-◌, ◌^◌, ◌<◌, List, [], ◌∷◌, ◌++◌, length, map, Bool, true, false, cond, Option, Some, None, Ok, refl, sym, ap, ◌∙◌, subst, ltb}
+use Rattle.std.proofs.Common.{
+  ◌≡◌,
+  ℕ,
+  suc,
+  ◌-◌,
+  ◌^◌,
+  ◌<◌,
+  List,
+  [],
+  ◌∷◌,
+  ◌++◌,
+  length,
+  map,
+  Bool,
+  true,
+  false,
+  cond,
+  Option,
+  Some,
+  None,
+  Ok,
+  refl,
+  sym,
+  ap,
+  ◌∙◌,
+  subst,
+  ltb,
+}
 use Rattle.std.specs.List.{AllZip}
 use Rattle.std.proofs.lemmas.Bool.{ltb-true}
 use Rattle.std.proofs.lemmas.List.{length-map}
@@ -8,16 +35,80 @@ use Rattle.serde_json.specs.Find.{as_object}
 use Rattle.serde_json.specs.View.{items_of}
 use Rattle.dhat_json.specs.declared.fault.DhatFault.{DhatFault}
 use Rattle.dhat_json.specs.declared.fault.DhatFault.TheVariants.{TooMany}
-use Rattle.dhat_json.specs.declared.key.Key.TheVariants.{Mode, Verb, Bklt, Bkacc, Bu, Bsu, Bksu, Tu, Mtu, Tuth, Cmd, Pid, Te, Tg, Ftbl, Pps, Tb, Tbk, Tl, Mb, Mbk, Gb, Gbk, Eb, Ebk, Rb, Wb, Acc, Fs}
+use Rattle.dhat_json.specs.declared.key.Key.TheVariants.{
+  Mode,
+  Verb,
+  Bklt,
+  Bkacc,
+  Bu,
+  Bsu,
+  Bksu,
+  Tu,
+  Mtu,
+  Tuth,
+  Cmd,
+  Pid,
+  Te,
+  Tg,
+  Ftbl,
+  Pps,
+  Tb,
+  Tbk,
+  Tl,
+  Mb,
+  Mbk,
+  Gb,
+  Gbk,
+  Eb,
+  Ebk,
+  Rb,
+  Wb,
+  Acc,
+  Fs,
+}
 use Rattle.dhat_json.specs.declared.profile.Dhat.{Dhat}
-use Rattle.dhat_json.specs.DhatFault.{Finding, life_findings, access_findings, pair_findings, frames_findings, point_findings, points_findings, head_findings, unit_findings, run_findings, table_findings, all_points_findings, dhat_findings, dhat_fault}
+use Rattle.dhat_json.specs.DhatFault.{
+  Finding,
+  life_findings,
+  access_findings,
+  pair_findings,
+  frames_findings,
+  point_findings,
+  points_findings,
+  head_findings,
+  unit_findings,
+  run_findings,
+  table_findings,
+  all_points_findings,
+  dhat_findings,
+  dhat_fault,
+}
 use Rattle.dhat_json.specs.Document.{dhat_in, unless_fault}
 use Rattle.dhat_json.specs.IsDhat.{SaysLife, SaysAccess, IsPart, is_point, is_dhat}
 use Rattle.dhat_json.specs.ProfileIn.{text_in, list_at, flag_at, life_in, access_in, part_in, point_in, profile_in}
 use Rattle.dhat_json.proofs.ProfileFindings.{units_on, run_on, table_on}
-use Rattle.dhat_json.proofs.KindLemmas.{AllNone, none_first, none_left, none_right, text_stands, flag_stands, whole_stands, list_stands, optional_text_stands, optional_whole_stands, kind_is, texts_stand, frames_stand, frames_below, acc_is, kind_is_object, version_is}
+use Rattle.dhat_json.proofs.KindLemmas.{
+  AllNone,
+  none_first,
+  none_left,
+  none_right,
+  text_stands,
+  flag_stands,
+  whole_stands,
+  list_stands,
+  optional_text_stands,
+  optional_whole_stands,
+  kind_is,
+  texts_stand,
+  frames_stand,
+  frames_below,
+  acc_is,
+  kind_is_object,
+  version_is,
+}
 
-life_says : (bklt : Bool) (point : ℕ) (d : Data) → AllNone (life_findings bklt point d) → IsPart (SaysLife d) bklt (part_in bklt (life_in d))
+life_says : (bklt : Bool) (point : ℕ) (d : Data) → AllNone (life_findings bklt point d)
+    → IsPart (SaysLife d) bklt (part_in bklt (life_in d))
 life_says false point d h = tt
 life_says true point d h = record {
   tl = whole_stands (Some point) Tl _ h.0;
@@ -29,7 +120,8 @@ life_says true point d h = record {
   ebk = whole_stands (Some point) Ebk _ h.1.1.1.1.1.1.0;
 }
 
-access_says : (bkacc : Bool) (point : ℕ) (d : Data) → AllNone (access_findings bkacc point d) → IsPart (SaysAccess d) bkacc (part_in bkacc (access_in d))
+access_says : (bkacc : Bool) (point : ℕ) (d : Data) → AllNone (access_findings bkacc point d)
+    → IsPart (SaysAccess d) bkacc (part_in bkacc (access_in d))
 access_says false point d h = tt
 access_says true point d h = record {
   rb = whole_stands (Some point) Rb _ h.0;
@@ -37,7 +129,8 @@ access_says true point d h = record {
   acc = acc_is (Some point) Acc _ h.1.1.0;
 }
 
-point_says : (bklt bkacc : Bool) (frames point : ℕ) (d : Data) → AllNone (point_findings bklt bkacc frames point d) → is_point bklt bkacc frames d (point_in bklt bkacc d)
+point_says : (bklt bkacc : Bool) (frames point : ℕ) (d : Data) → AllNone (point_findings bklt bkacc frames point d)
+    → is_point bklt bkacc frames d (point_in bklt bkacc d)
 point_says bklt bkacc frames point d h =
     let access_on = access_findings bkacc point d ++ frames_findings point frames d in
     let life_on = life_findings bklt point d ++ access_on in
@@ -52,15 +145,23 @@ point_says bklt bkacc frames point d h =
       tbk = whole_stands (Some point) Tbk _ counts.1.0;
       life = life_says bklt point d life;
       access = access_says bkacc point d access;
-      fs = list_stands (Some point) Fs _ fs.0 ∙ ap (λ (ds : List Data). Some (array (items_of ds))) (sym (frames_stand point frames (list_at Fs d) fs.1));
+      fs =
+          list_stands (Some point) Fs _ fs.0
+          ∙ ap (λ (ds : List Data). Some (array (items_of ds))) (sym (frames_stand point frames (list_at Fs d) fs.1));
       in_table = frames_below point frames (list_at Fs d) fs.1;
     }
 
-points_say : (bklt bkacc : Bool) (frames point : ℕ) (ds : List Data) → AllNone (points_findings bklt bkacc frames point ds) → AllZip (is_point bklt bkacc frames) ds (map (point_in bklt bkacc) ds)
+points_say : (bklt bkacc : Bool) (frames point : ℕ) (ds : List Data)
+    → AllNone (points_findings bklt bkacc frames point ds)
+    → AllZip (is_point bklt bkacc frames) ds (map (point_in bklt bkacc) ds)
 points_say bklt bkacc frames point [] h = tt
-points_say bklt bkacc frames point (d ∷ ds) h = (point_says bklt bkacc frames point d (none_first (point_findings bklt bkacc frames point d) h.0), points_say bklt bkacc frames (suc point) ds h.1)
+points_say bklt bkacc frames point (d ∷ ds) h = (
+  point_says bklt bkacc frames point d (none_first (point_findings bklt bkacc frames point d) h.0),
+  points_say bklt bkacc frames (suc point) ds h.1,
+)
 
-few_points : (n most : ℕ) (b : Bool) (fault : DhatFault) → ltb n most ≡ b → cond {A = Finding} b None (Some fault) ≡ None → n < most
+few_points : (n most : ℕ) (b : Bool) (fault : DhatFault) → ltb n most ≡ b
+    → cond {A = Finding} b None (Some fault) ≡ None → n < most
 few_points n most true fault lt e = ltb-true n most lt
 few_points n most false fault lt e = absurd cc
 
@@ -95,12 +196,18 @@ profile_says v none =
       pid = whole_stands None Pid _ ran.1.0;
       te = whole_stands None Te _ ran.1.1.0;
       tg = optional_whole_stands None Tg _ ran.1.1.1.0;
-      ftbl = list_stands None Ftbl _ table.0 ∙ ap (λ (ds : List Data). Some (array (items_of ds))) (sym (texts_stand entries table.1));
+      ftbl =
+          list_stands None Ftbl _ table.0
+          ∙ ap (λ (ds : List Data). Some (array (items_of ds))) (sym (texts_stand entries table.1));
       points = list_at Pps v;
       pps = list_stands None Pps _ points.0;
-      same = subst (λ (n : ℕ). AllZip (is_point (flag_at Bklt v) (flag_at Bkacc v) n) (list_at Pps v) (map (point_in (flag_at Bklt v) (flag_at Bkacc v)) (list_at Pps v))) n-is
+      same =
+          subst (λ (n : ℕ). AllZip (is_point (flag_at Bklt v) (flag_at Bkacc v) n) (list_at Pps v)
+          (map (point_in (flag_at Bklt v) (flag_at Bkacc v)) (list_at Pps v))) n-is
           (points_say (flag_at Bklt v) (flag_at Bkacc v) (length entries) 0 (list_at Pps v) points.1.1);
-      few = few_points (length (list_at Pps v)) (2 ^ 32 - 1) (ltb (length (list_at Pps v)) (2 ^ 32 - 1)) TooMany refl points.1.0;
+      few =
+          few_points (length (list_at Pps v)) (2 ^ 32 - 1) (ltb (length (list_at Pps v)) (2 ^ 32 - 1)) TooMany refl
+          points.1.0;
     }
 
 fault_none : (o : Option DhatFault) (p d : Dhat) → unless_fault o p ≡ Ok d → (o ≡ None) × (p ≡ d)

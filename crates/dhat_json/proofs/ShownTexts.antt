@@ -29,7 +29,9 @@ bytes_above (b ∷ bs) = All-cons (λ b. 32 ≤ b) (shown_byte b) (map shown_byt
 
 pub shown_above : (text : List ℕ) → All (λ b. 32 ≤ b) (shown text)
 shown_above [] = All-cons (λ b. 32 ≤ b) 63 [] (omega arith) (All-nil (λ b. 32 ≤ b))
-shown_above (b ∷ bs) = All-cons (λ b. 32 ≤ b) (shown_first b) (map shown_byte bs) (let h = first_above b in omega (arith, h)) (bytes_above bs)
+shown_above (b ∷ bs) =
+    All-cons (λ b. 32 ≤ b) (shown_first b) (map shown_byte bs) (let h = first_above b in omega (arith, h))
+    (bytes_above bs)
 
 pub no_line_feed : (text : List ℕ) → All (λ b. b ≢ 10) (shown text)
 no_line_feed text k d lt is = let h = shown_above text k d lt in omega (arith, h, is)

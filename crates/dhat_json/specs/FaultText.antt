@@ -2,7 +2,15 @@
 -- what is told of it: its point, its key and its frame.
 use Rattle.std.specs.Prelude.{ℕ, List, [], ◌++◌, codes, decimal, Option, Some, None}
 use Rattle.dhat_json.specs.declared.fault.DhatFault.{DhatFault}
-use Rattle.dhat_json.specs.declared.fault.DhatFault.TheVariants.{NotJson, WrongFileVersion, MissingKey, WrongKind, FrameOutOfTable, TooMany, NoMemory}
+use Rattle.dhat_json.specs.declared.fault.DhatFault.TheVariants.{
+  NotJson,
+  WrongFileVersion,
+  MissingKey,
+  WrongKind,
+  FrameOutOfTable,
+  TooMany,
+  NoMemory,
+}
 use Rattle.dhat_json.specs.KeyName.{key_name}
 
 abbrev pub fault_text : DhatFault → List ℕ

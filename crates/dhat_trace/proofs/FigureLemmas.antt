@@ -22,19 +22,23 @@ peak_moment_is moment events is =
     (λ k below. is.greatest k (omega (arith, below, count))) is.least
 
 -- the moment at which a stack has the most bytes
-most_moment_is : (bytes blocks stack : ℕ) (events : List Event) (most : life_spec.HasMost bytes blocks stack events) → most_moment events stack ≡ most.moment
+most_moment_is : (bytes blocks stack : ℕ) (events : List Event) (most : life_spec.HasMost bytes blocks stack events)
+    → most_moment events stack ≡ most.moment
 most_moment_is bytes blocks stack events most =
-    first_greatest_is (λ k. life_spec.live_after stack k events) (event_count events + 1) most.moment (omega (arith, most.within))
+    first_greatest_is (λ k. life_spec.live_after stack k events) (event_count events + 1) most.moment
+    (omega (arith, most.within))
     (λ k below. most.greatest k (omega (arith, below))) most.least
 
 -- lifetimes, told by the live blocks
-lived_is : (tl began ended events held blocks : ℕ) → tl + began ≡ ended + events * held → held ≡ blocks → tl ≡ ended + events * blocks - began
+lived_is : (tl began ended events held blocks : ℕ) → tl + began ≡ ended + events * held → held ≡ blocks
+    → tl ≡ ended + events * blocks - began
 lived_is tl began ended events held blocks sum same =
     let all : tl + began ≡ ended + events * blocks = sum ∙ ap (λ n. ended + events * n) same in
     omega (arith, all)
 
 -- the figures of a stack
-same_figures : (peaks : PeakState) (lifetimes : LifeState) (events : List Event) → peak_spec.StandsFor peaks events → life_spec.StandsFor lifetimes events
+same_figures : (peaks : PeakState) (lifetimes : LifeState) (events : List Event) → peak_spec.StandsFor peaks events
+    → life_spec.StandsFor lifetimes events
     → (stack : ℕ) → figures_of peaks lifetimes stack ≡ figures_in events stack
 same_figures peaks lifetimes events by_peaks by_lives stack =
     let ledger = by_peaks.ledger.each_stack stack in
@@ -53,6 +57,7 @@ same_figures peaks lifetimes events by_peaks by_lives stack =
     cc
 
 -- the figures of all stacks
-pub all_figures : (peaks : PeakState) (lifetimes : LifeState) (events : List Event) → peak_spec.StandsFor peaks events → life_spec.StandsFor lifetimes events
+pub all_figures : (peaks : PeakState) (lifetimes : LifeState) (events : List Event) → peak_spec.StandsFor peaks events
+    → life_spec.StandsFor lifetimes events
     → figures_of peaks lifetimes ≡ figures_in events
 all_figures peaks lifetimes events by_peaks by_lives = fun_ext (same_figures peaks lifetimes events by_peaks by_lives)

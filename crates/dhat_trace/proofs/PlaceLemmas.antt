@@ -1,5 +1,24 @@
 -- The places of texts in a table that grows.
-use Rattle.std.proofs.Common.{◌≡◌, ℕ, ◌+◌, ◌<◌, List, [], ◌∷◌, ◌++◌, length, take, Some, None, ap, ◌∙◌, sym, arith, append_assoc, append-nil}
+use Rattle.std.proofs.Common.{
+  ◌≡◌,
+  ℕ,
+  ◌+◌,
+  ◌<◌,
+  List,
+  [],
+  ◌∷◌,
+  ◌++◌,
+  length,
+  take,
+  Some,
+  None,
+  ap,
+  ◌∙◌,
+  sym,
+  arith,
+  append_assoc,
+  append-nil,
+}
 use Rattle.std.specs.Prelude.{Option, position, slice_get, unwrap_or}
 use Rattle.std.specs.Option.{option_map}
 use Rattle.std.specs.Str.{bytes_eq}
@@ -19,14 +38,17 @@ place_under (Some found) place is =
     let same : found + 1 ≡ place + 1 = cc in
     ap Some (omega (arith, same))
 
-place_found : (table : List (List ℕ)) (text : List ℕ) (place : ℕ) → number_of table text ≡ Some (place + 1) → position (bytes_eq text) table ≡ Some place
+place_found : (table : List (List ℕ)) (text : List ℕ) (place : ℕ) → number_of table text ≡ Some (place + 1)
+    → position (bytes_eq text) table ≡ Some place
 unfolding number_of
 place_found table text place is = place_under (position (bytes_eq text) table) place is
 
-pub place_is : (table : List (List ℕ)) (text : List ℕ) (place : ℕ) → number_of table text ≡ Some (place + 1) → place_in table text ≡ place
+pub place_is : (table : List (List ℕ)) (text : List ℕ) (place : ℕ) → number_of table text ≡ Some (place + 1)
+    → place_in table text ≡ place
 place_is table text place is = ap (λ (found : Option ℕ). unwrap_or found 0) (place_found table text place is)
 
-pub place_within : (table : List (List ℕ)) (text : List ℕ) (place : ℕ) → number_of table text ≡ Some (place + 1) → place < length table
+pub place_within : (table : List (List ℕ)) (text : List ℕ) (place : ℕ) → number_of table text ≡ Some (place + 1)
+    → place < length table
 place_within table text place is = (position-Some (bytes_eq text) table place [] (place_found table text place is)).0
 
 -- tables that keep places, one after another
@@ -40,22 +62,29 @@ adds_none table = record {
   keeps = λ text number is. is;
 }
 
-pub adds_more : (old one new : List (List ℕ)) (texts more : List (List ℕ)) → AddsTexts old texts one → AddsTexts one more new → AddsTexts old (texts ++ more) new
+pub adds_more : (old one new : List (List ℕ)) (texts more : List (List ℕ)) → AddsTexts old texts one
+    → AddsTexts one more new → AddsTexts old (texts ++ more) new
 adds_more old one new texts more first second = record {
-  first_places = λ came is. second.first_places (came ++ texts) (first.first_places came is) ∙ ap (without_repeats bytes_eq) (append_assoc came texts more);
+  first_places =
+      λ came is. second.first_places (came ++ texts) (first.first_places came is)
+      ∙ ap (without_repeats bytes_eq) (append_assoc came texts more);
   keeps = keeps_later old one new first.keeps second.keeps;
 }
 
 -- a text that the table has
-pub adds_again : (table : List (List ℕ)) (text : List ℕ) (place : ℕ) → number_of table text ≡ Some (place + 1) → AddsTexts table (text ∷ []) table
+pub adds_again : (table : List (List ℕ)) (text : List ℕ) (place : ℕ) → number_of table text ≡ Some (place + 1)
+    → AddsTexts table (text ∷ []) table
 adds_again table text place is =
     let there = position-Some (bytes_eq text) table place [] (place_found table text place is) in
     record {
-      first_places = λ came same. repeated table came text (list_any_at (bytes_eq text) table place [] there.0 there.1) same;
+      first_places =
+          λ came same. repeated table came text (list_any_at (bytes_eq text) table place [] there.0 there.1) same;
       keeps = λ other number held. held;
     }
 
 -- one element more
-pub take-next : {X : Type 0} (xs : List X) (k : ℕ) (x : X) → slice_get xs k ≡ Some x → take (k + 1) xs ≡ take k xs ++ x ∷ []
+pub take-next : {X : Type 0} (xs : List X) (k : ℕ) (x : X) → slice_get xs k ≡ Some x
+    → take (k + 1) xs ≡ take k xs ++ x ∷ []
 take-next {X} xs k x held =
-    take_more xs k x (slice_get_within xs k x held) ∙ ap (λ (y : X). take k xs ++ y ∷ []) (get_or_from_slice_get xs k x x held)
+    take_more xs k x (slice_get_within xs k x held)
+    ∙ ap (λ (y : X). take k xs ++ y ∷ []) (get_or_from_slice_get xs k x x held)

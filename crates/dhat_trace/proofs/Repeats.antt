@@ -1,5 +1,26 @@
 -- A text that comes again changes nothing in a list of first appearances.
-use Rattle.std.proofs.Common.{◌≡◌, ℕ, Bool, true, false, not, cond, ◌&&◌, ◌||◌, List, [], ◌∷◌, ◌++◌, filter, refl, ap, ◌∙◌, sym, subst, true≢false}
+use Rattle.std.proofs.Common.{
+  ◌≡◌,
+  ℕ,
+  Bool,
+  true,
+  false,
+  not,
+  cond,
+  ◌&&◌,
+  ◌||◌,
+  List,
+  [],
+  ◌∷◌,
+  ◌++◌,
+  filter,
+  refl,
+  ap,
+  ◌∙◌,
+  sym,
+  subst,
+  true≢false,
+}
 use Rattle.std.specs.List.{list_any}
 use Rattle.std.specs.Str.{bytes_eq}
 use Rattle.std.proofs.lemmas.Bool.{false≢true, false_from_ne_true}
@@ -12,7 +33,8 @@ fused p q [] = refl
 fused {X} p q (x ∷ xs) = by (p x) (fused p q xs)
   where
     by : (b : Bool) → filter q (filter p xs) ≡ filter (λ y. p y && q y) xs
-        → filter q (cond b (x ∷ filter p xs) (filter p xs)) ≡ cond (b && q x) (x ∷ filter (λ y. p y && q y) xs) (filter (λ y. p y && q y) xs)
+        → filter q (cond b (x ∷ filter p xs) (filter p xs))
+        ≡ cond (b && q x) (x ∷ filter (λ y. p y && q y) xs) (filter (λ y. p y && q y) xs)
     by true rest = ap (λ (ys : List X). cond (q x) (x ∷ ys) ys) rest
     by false rest = rest
 
@@ -26,7 +48,8 @@ among : (x text : List ℕ) (xs : List (List ℕ)) (kept : Bool) → bytes_eq x 
     → list_any (bytes_eq text) (cond kept (x ∷ xs) xs) ≡ true → list_any (bytes_eq text) xs ≡ true
 among x text xs true other seen =
     let differs : bytes_eq text x ≡ false =
-    false_from_ne_true (bytes_eq text x) (λ same. true≢false (sym ((bytes_eq-Decides x text).1 (sym ((bytes_eq-Decides text x).0 same))) ∙ other)) in
+    false_from_ne_true (bytes_eq text x)
+    (λ same. true≢false (sym ((bytes_eq-Decides x text).1 (sym ((bytes_eq-Decides text x).0 same))) ∙ other)) in
     sym (ap (λ (b : Bool). b || list_any (bytes_eq text) xs) differs) ∙ seen
 among x text xs false other seen = seen
 
@@ -41,22 +64,30 @@ again q [] text held = by (q text) held
     by false seen = refl
 again q (x ∷ xs) text held =
     let p : List ℕ → Bool = λ y. not (bytes_eq x y) in
-    let rest : filter q (filter p (without_repeats bytes_eq (xs ++ text ∷ []))) ≡ filter q (filter p (without_repeats bytes_eq xs)) =
+    let rest : filter q (filter p (without_repeats bytes_eq (xs ++ text ∷ [])))
+    ≡ filter q (filter p (without_repeats bytes_eq xs)) =
     fused p q (without_repeats bytes_eq (xs ++ text ∷ []))
-    ∙ (again (λ y. p y && q y) xs text (λ passes. subst (λ ys. list_any (bytes_eq text) ys ≡ true) (fused p q (without_repeats bytes_eq xs)) (by (bytes_eq x text) refl passes))
+    ∙ (again (λ y. p y && q y) xs text
+    (λ passes. subst (λ ys. list_any (bytes_eq text) ys ≡ true) (fused p q (without_repeats bytes_eq xs))
+    (by (bytes_eq x text) refl passes))
     ∙ sym (fused p q (without_repeats bytes_eq xs))) in
     ap (λ (ys : List (List ℕ)). cond (q x) (x ∷ ys) ys) rest
   where
     by : (b : Bool) → bytes_eq x text ≡ b → (not b && q text) ≡ true
         → list_any (bytes_eq text) (filter q (filter (λ y. not (bytes_eq x y)) (without_repeats bytes_eq xs))) ≡ true
     by true same passes = absurd (false≢true passes)
-    by false other passes = among x text (filter q (filter (λ y. not (bytes_eq x y)) (without_repeats bytes_eq xs))) (q x) other (held passes)
+    by false other passes =
+        among x text (filter q (filter (λ y. not (bytes_eq x y)) (without_repeats bytes_eq xs))) (q x) other (held passes)
 
 -- a text of the table that comes again
-pub repeated : (table came : List (List ℕ)) (text : List ℕ) → list_any (bytes_eq text) table ≡ true → table ≡ without_repeats bytes_eq came
+pub repeated : (table came : List (List ℕ)) (text : List ℕ) → list_any (bytes_eq text) table ≡ true
+    → table ≡ without_repeats bytes_eq came
     → table ≡ without_repeats bytes_eq (came ++ text ∷ [])
 repeated table came text held is =
-    let whole : filter (λ y. true) (without_repeats bytes_eq came) ≡ without_repeats bytes_eq came = all_stay (without_repeats bytes_eq came) in
+    let whole : filter (λ y. true) (without_repeats bytes_eq came) ≡ without_repeats bytes_eq came =
+    all_stay (without_repeats bytes_eq came) in
     let seen : list_any (bytes_eq text) (filter (λ y. true) (without_repeats bytes_eq came)) ≡ true =
     subst (λ ys. list_any (bytes_eq text) ys ≡ true) (is ∙ sym whole) held in
-    is ∙ (sym whole ∙ (sym (again (λ y. true) came text (λ passes. seen)) ∙ all_stay (without_repeats bytes_eq (came ++ text ∷ []))))
+    is
+    ∙ (sym whole
+    ∙ (sym (again (λ y. true) came text (λ passes. seen)) ∙ all_stay (without_repeats bytes_eq (came ++ text ∷ []))))

@@ -1,5 +1,28 @@
 -- Texts of a profile are UTF-8.
-use Rattle.std.proofs.Common.{◌≡◌, ℕ, ◌<◌, suc, Bool, true, false, cond, List, [], ◌∷◌, codes, get_or, ltb, ◌&&◌, map, Some, None, refl, sym, subst, arith}
+use Rattle.std.proofs.Common.{
+  ◌≡◌,
+  ℕ,
+  ◌<◌,
+  suc,
+  Bool,
+  true,
+  false,
+  cond,
+  List,
+  [],
+  ◌∷◌,
+  codes,
+  get_or,
+  ltb,
+  ◌&&◌,
+  map,
+  Some,
+  None,
+  refl,
+  sym,
+  subst,
+  arith,
+}
 use Rattle.std.specs.Prelude.{All, IsUtf8, Option}
 use Rattle.std.specs.List.{flat_map, list_all}
 use Rattle.std.specs.Str.{bytes_eq, is_utf8}
@@ -35,13 +58,17 @@ is_small : (b : ℕ) → ascii_byte b < 128
 is_small b = grind (arith, nat_tests)
 
 ascii_is_utf8 : (text : List ℕ) → IsUtf8 (map ascii_byte text)
-ascii_is_utf8 text = IsUtf8-from_ascii (map ascii_byte text) (IsAscii-from_all (map ascii_byte text) (All-map (λ b. b < 128) ascii_byte text (λ k d within. is_small (get_or text k d))))
+ascii_is_utf8 text =
+    IsUtf8-from_ascii (map ascii_byte text)
+    (IsAscii-from_all (map ascii_byte text)
+    (All-map (λ b. b < 128) ascii_byte text (λ k d within. is_small (get_or text k d))))
 
 -- a text whose bytes are seen to be ASCII
 ascii_seen : (text : List ℕ) → list_all (λ b. ltb b 128) text ≡ true → All (λ b. b < 128) text
 ascii_seen [] seen = All-nil (λ b. b < 128)
 ascii_seen (b ∷ bs) seen =
-    let by_test : (t : Bool) → ltb b 128 ≡ t → (t && list_all (λ b. ltb b 128) bs) ≡ true → All (λ b. b < 128) (b ∷ bs) =
+    let by_test : (t : Bool) → ltb b 128 ≡ t → (t && list_all (λ b. ltb b 128) bs) ≡ true
+    → All (λ b. b < 128) (b ∷ bs) =
     λ t. elim t as (λ t. ltb b 128 ≡ t → (t && list_all (λ b. ltb b 128) bs) ≡ true → All (λ b. b < 128) (b ∷ bs)) [
       | true ↦ λ small rest. All-cons (λ b. b < 128) b bs (grind (arith, nat_tests)) (ascii_seen bs rest)
       | false ↦ λ small rest. absurd (false≢true rest)
@@ -72,7 +99,8 @@ command_is_utf8 None = literal_is_utf8 (codes "(none)") refl
 command_is_utf8 (Some text) = none_is_utf8 (without_blanks text)
 
 -- what is true of every element is true without repeats
-firsts_all : {X : Type 0} (P : X → Type 0) (same : X → X → Bool) (xs : List X) → All P xs → All P (without_repeats same xs)
+firsts_all : {X : Type 0} (P : X → Type 0) (same : X → X → Bool) (xs : List X) → All P xs
+    → All P (without_repeats same xs)
 firsts_all P same [] all = all
 firsts_all P same (x ∷ xs) all =
     let tail : All P xs = λ k d within. all (suc k) d (omega arith) in
@@ -80,13 +108,16 @@ firsts_all P same (x ∷ xs) all =
 
 frames_utf8 : (tables : TableState) (stack : ℕ) → All IsUtf8 (frame_texts tables stack)
 unfolding frame_texts
-frames_utf8 tables stack = All-map IsUtf8 (profile_frame tables) (stack_frames tables.instructions tables.nodes stack) (λ k d within. made_is_utf8 _)
+frames_utf8 tables stack =
+    All-map IsUtf8 (profile_frame tables) (stack_frames tables.instructions tables.nodes stack)
+    (λ k d within. made_is_utf8 _)
 
 all_frames_utf8 : (tables : TableState) (stacks : List ℕ) → All IsUtf8 (flat_map (frame_texts tables) stacks)
 all_frames_utf8 tables [] = All-nil IsUtf8
 all_frames_utf8 tables (stack ∷ stacks) =
     subst (All IsUtf8) (sym (flat_map-cons (frame_texts tables) stack stacks))
-    (All-append IsUtf8 (frame_texts tables stack) (flat_map (frame_texts tables) stacks) (frames_utf8 tables stack) (all_frames_utf8 tables stacks))
+    (All-append IsUtf8 (frame_texts tables stack) (flat_map (frame_texts tables) stacks) (frames_utf8 tables stack)
+    (all_frames_utf8 tables stacks))
 
 pub table_utf8 : (tables : TableState) (stacks : List ℕ) → All IsUtf8 (table_of tables stacks)
 unfolding table_of

@@ -8,8 +8,12 @@ two-appended {X} o a b p q p_is q_is = q_is ∙ ap (λ (xs : List X). xs ++ q) p
 pub three-appended : (o a b c p q r : List ℕ) → a ≡ o ++ p → b ≡ a ++ q → c ≡ b ++ r → c ≡ o ++ (p ++ (q ++ r))
 three-appended o a b c p q r p_is q_is r_is = two-appended o a c p (q ++ r) p_is (two-appended a b c q r q_is r_is)
 
-pub four-appended : (o a b c d p q r s : List ℕ) → a ≡ o ++ p → b ≡ a ++ q → c ≡ b ++ r → d ≡ c ++ s → d ≡ o ++ (p ++ (q ++ (r ++ s)))
-four-appended o a b c d p q r s p_is q_is r_is s_is = two-appended o a d p (q ++ (r ++ s)) p_is (three-appended a b c d q r s q_is r_is s_is)
+pub four-appended : (o a b c d p q r s : List ℕ) → a ≡ o ++ p → b ≡ a ++ q → c ≡ b ++ r → d ≡ c ++ s
+    → d ≡ o ++ (p ++ (q ++ (r ++ s)))
+four-appended o a b c d p q r s p_is q_is r_is s_is =
+    two-appended o a d p (q ++ (r ++ s)) p_is (three-appended a b c d q r s q_is r_is s_is)
 
-pub five-appended : (o a b c d e p q r s t : List ℕ) → a ≡ o ++ p → b ≡ a ++ q → c ≡ b ++ r → d ≡ c ++ s → e ≡ d ++ t → e ≡ o ++ (p ++ (q ++ (r ++ (s ++ t))))
-five-appended o a b c d e p q r s t p_is q_is r_is s_is t_is = two-appended o a e p (q ++ (r ++ (s ++ t))) p_is (four-appended a b c d e q r s t q_is r_is s_is t_is)
+pub five-appended : (o a b c d e p q r s t : List ℕ) → a ≡ o ++ p → b ≡ a ++ q → c ≡ b ++ r → d ≡ c ++ s → e ≡ d ++ t
+    → e ≡ o ++ (p ++ (q ++ (r ++ (s ++ t))))
+five-appended o a b c d e p q r s t p_is q_is r_is s_is t_is =
+    two-appended o a e p (q ++ (r ++ (s ++ t))) p_is (four-appended a b c d e q r s t q_is r_is s_is t_is)

@@ -11,13 +11,15 @@ use Rattle.dhat_view.specs.PointCosts.{point_cost, point_costs}
 use Rattle.dhat_view.specs.PointFronts.{point_fronts}
 use Rattle.dhat_view.proofs.Lists.{take-next}
 
-get-map : {X Y : Type 0} (f : X → Y) (xs : List X) (k : ℕ) (x : X) → slice_get xs k ≡ Some x → slice_get (map f xs) k ≡ Some (f x)
+get-map : {X Y : Type 0} (f : X → Y) (xs : List X) (k : ℕ) (x : X) → slice_get xs k ≡ Some x
+    → slice_get (map f xs) k ≡ Some (f x)
 get-map f [] k x held = absurd (none-some x held)
 get-map f (y ∷ ys) zero x held = ap (λ z. Some (f z)) (same_Some y x held)
 get-map f (y ∷ ys) (suc k) x held = get-map f ys k x held
 
 -- the cost of the point at a place
-pub cost-held : (key : FigureKey) (dhat : Dhat) (place : ℕ) (point : Point) → slice_get dhat.pps place ≡ Some point → slice_get (point_costs key dhat) place ≡ Some (point_cost key point)
+pub cost-held : (key : FigureKey) (dhat : Dhat) (place : ℕ) (point : Point) → slice_get dhat.pps place ≡ Some point
+    → slice_get (point_costs key dhat) place ≡ Some (point_cost key point)
 unfolding point_costs
 cost-held key dhat place point held = get-map (point_cost key) dhat.pps place point held
 

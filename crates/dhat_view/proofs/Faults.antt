@@ -12,24 +12,37 @@ use Rattle.dhat_view.specs.ViewFault.{view_fault}
 
 pub places-one : (places : ℕ) → places ≡ 1 → places_text places ≡ codes "in 1 place below "
 unfolding places_text
-places-one places one = cond-true (places == 1) (codes "in 1 place below ") (codes "in " ++ (decimal places ++ codes " places below ")) (eq-eqb places 1 one)
+places-one places one =
+    cond-true (places == 1) (codes "in 1 place below ") (codes "in " ++ (decimal places ++ codes " places below "))
+    (eq-eqb places 1 one)
 
-pub places-more : (places : ℕ) → places ≢ 1 → places_text places ≡ codes "in " ++ (decimal places ++ codes " places below ")
+pub places-more : (places : ℕ) → places ≢ 1
+    → places_text places ≡ codes "in " ++ (decimal places ++ codes " places below ")
 unfolding places_text
-places-more places other = cond-false (places == 1) (codes "in 1 place below ") (codes "in " ++ (decimal places ++ codes " places below ")) (ne_eqb places 1 other)
+places-more places other =
+    cond-false (places == 1) (codes "in 1 place below ") (codes "in " ++ (decimal places ++ codes " places below "))
+    (ne_eqb places 1 other)
 
 pub no-figures : (key : FigureKey) (dhat : Dhat) → has_figures key dhat ≡ false → view_fault key dhat ≡ Some NoFigures
 unfolding view_fault
-no-figures key dhat has = cond-false (has_figures key dhat) (if nat_lt (2 ^ 62) (sum (point_costs key dhat)) then Some TooLarge else None) (Some NoFigures) has
+no-figures key dhat has =
+    cond-false (has_figures key dhat) (if nat_lt (2 ^ 62) (sum (point_costs key dhat)) then Some TooLarge else None)
+    (Some NoFigures) has
 
-pub too-large : (key : FigureKey) (dhat : Dhat) → has_figures key dhat ≡ true → 2 ^ 62 < sum (point_costs key dhat) → view_fault key dhat ≡ Some TooLarge
+pub too-large : (key : FigureKey) (dhat : Dhat) → has_figures key dhat ≡ true → 2 ^ 62 < sum (point_costs key dhat)
+    → view_fault key dhat ≡ Some TooLarge
 unfolding view_fault
 too-large key dhat has large =
-    cond-true (has_figures key dhat) (if nat_lt (2 ^ 62) (sum (point_costs key dhat)) then Some TooLarge else None) (Some NoFigures) has
-    ∙ cond-true (nat_lt (2 ^ 62) (sum (point_costs key dhat))) (Some TooLarge) None (lt-ltb (2 ^ 62) (sum (point_costs key dhat)) large)
+    cond-true (has_figures key dhat) (if nat_lt (2 ^ 62) (sum (point_costs key dhat)) then Some TooLarge else None)
+    (Some NoFigures) has
+    ∙ cond-true (nat_lt (2 ^ 62) (sum (point_costs key dhat))) (Some TooLarge) None
+    (lt-ltb (2 ^ 62) (sum (point_costs key dhat)) large)
 
-pub no-fault : (key : FigureKey) (dhat : Dhat) → has_figures key dhat ≡ true → sum (point_costs key dhat) ≤ 2 ^ 62 → view_fault key dhat ≡ None
+pub no-fault : (key : FigureKey) (dhat : Dhat) → has_figures key dhat ≡ true → sum (point_costs key dhat) ≤ 2 ^ 62
+    → view_fault key dhat ≡ None
 unfolding view_fault
 no-fault key dhat has within =
-    cond-true (has_figures key dhat) (if nat_lt (2 ^ 62) (sum (point_costs key dhat)) then Some TooLarge else None) (Some NoFigures) has
-    ∙ cond-false (nat_lt (2 ^ 62) (sum (point_costs key dhat))) (Some TooLarge) None (le-ltb (2 ^ 62) (sum (point_costs key dhat)) within)
+    cond-true (has_figures key dhat) (if nat_lt (2 ^ 62) (sum (point_costs key dhat)) then Some TooLarge else None)
+    (Some NoFigures) has
+    ∙ cond-false (nat_lt (2 ^ 62) (sum (point_costs key dhat))) (Some TooLarge) None
+    (le-ltb (2 ^ 62) (sum (point_costs key dhat)) within)

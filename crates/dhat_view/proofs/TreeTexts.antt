@@ -15,7 +15,8 @@ use Rattle.dhat_view.specs.LinesIn.{IsViewed, IsWritten, text_in}
 use Rattle.dhat_view.specs.TreeText.{tree_text}
 
 pub below-text : (depth : ℕ) (scale : Scale) (tree : TreeState) (stacks : List Costed) (lines below : List CostLine)
-    → map (line_at tree) lines ≡ cost_lines depth scale stacks → drop 1 lines ≡ below → flat_map (text_in scale tree) below ≡ tree_text depth scale stacks
+    → map (line_at tree) lines ≡ cost_lines depth scale stacks → drop 1 lines ≡ below
+    → flat_map (text_in scale tree) below ≡ tree_text depth scale stacks
 unfolding tree_text
 below-text depth scale tree stacks lines below are is =
     ap (λ (ls : List CostLine). flat_map (text_in scale tree) ls) (sym is)
@@ -32,7 +33,8 @@ pub none-below : (lines : List CostLine) → length lines ≡ 0 → drop 1 lines
 none-below [] none = refl
 none-below (line ∷ lines) none = absurd (omega arith)
 
-pub may-write : (scale : Scale) (tree : TreeState) (stacks : List Costed) (depth : ℕ) (lines : List CostLine) → IsViewed scale.total tree stacks depth → All (IsLineOf tree stacks depth) lines → All (IsWritten scale tree) lines
+pub may-write : (scale : Scale) (tree : TreeState) (stacks : List Costed) (depth : ℕ) (lines : List CostLine)
+    → IsViewed scale.total tree stacks depth → All (IsLineOf tree stacks depth) lines → All (IsWritten scale tree) lines
 may-write scale tree stacks depth lines is all =
     All-weaker (IsLineOf tree stacks depth) (IsWritten scale tree)
     (λ line of.

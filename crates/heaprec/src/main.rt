@@ -1,11 +1,11 @@
 //! `heaprec`: replays a script per thread and records one trace.
 //!
-//! The program makes the real store and outputs and ends with the status of `heaprec_main` of `recording`, which goes to
+//! The program makes the real store and outputs and ends with the status of `heaprec_main` of `heaprec_commands`, which goes to
 //! `heaprec_run`, the program's contract.
 #![tactic(auto)]
 
+use heaprec_commands::heaprec_main;
 use hp_outside::{FsStore, StdSink, given_words};
-use recording::heaprec_main;
 use std::env;
 use std::process::ExitCode;
 

@@ -5,7 +5,8 @@ use Rattle.heapsuite_words.specs.declared.command.Command.{Command}
 use Rattle.heapsuite_words.specs.Asked.{asked, knows_first, words_asked}
 use Rattle.heapsuite_words.specs.CommandNames.{command_named}
 
-no_command : (named : Option Command) (words : List (List ℕ)) → is_some named ≡ false → option_and_then (λ command. words_asked command words) named ≡ None
+no_command : (named : Option Command) (words : List (List ℕ)) → is_some named ≡ false
+    → option_and_then (λ command. words_asked command words) named ≡ None
 no_command None words is = refl
 no_command (Some command) words is = absurd (cc)
 

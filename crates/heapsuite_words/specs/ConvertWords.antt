@@ -7,8 +7,8 @@ use Rattle.std.specs.Str.{bytes_eq}
 use Rattle.command_words.specs.TableApp.{Table}
 use Rattle.command_words.specs.WordsTaken.{only_file_in, value_in, words_taken}
 use Rattle.dhat_json.specs.declared.figure.FigureKey.{FigureKey}
-use Rattle.profile_reading.specs.declared.conversion.Conversion.{Conversion}
-use Rattle.profile_reading.specs.declared.conversion.Conversion.TheVariants.{FoldedDhat, FoldedMassif, MassifOfDhat}
+use Rattle.profile_reports.specs.declared.conversion.Conversion.{Conversion}
+use Rattle.profile_reports.specs.declared.conversion.Conversion.TheVariants.{FoldedDhat, FoldedMassif, MassifOfDhat}
 use Rattle.heapsuite_words.specs.declared.convert_request.FileKind.{FileKind}
 use Rattle.heapsuite_words.specs.declared.convert_request.FileKind.TheVariants as from
 use Rattle.heapsuite_words.specs.declared.convert_request.Target.{Target}

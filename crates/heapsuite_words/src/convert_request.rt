@@ -7,7 +7,7 @@ use crate::key_words::key_or;
 use crate::number_words::number_if_given;
 use command_words::{TakenWords, WordTable};
 use dhat_json::FigureKey;
-use profile_reading::Conversion;
+use profile_reports::Conversion;
 
 /// The option that says what kind of file is read.
 const FROM: &str = "from";

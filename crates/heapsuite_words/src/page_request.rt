@@ -4,7 +4,7 @@ ghost use Rattle.heapsuite_words.specs.Requests.{page_asked_by};
 use crate::asks::Asks;
 use crate::number_words::{number_or, percent_or};
 use command_words::{TakenWords, WordTable};
-use profile_reading::PageSize;
+use profile_reports::PageSize;
 
 /// The option that says which share is shown by itself.
 const THRESHOLD: &str = "threshold";

@@ -1,5 +1,49 @@
 -- What the texts that `hexadecimal` writes are, and what `parsed_hex` makes of a text.
-use Rattle.std.proofs.Common.{◌≡◌, ℕ, zero, suc, ◌+◌, ◌-◌, ◌*◌, ◌/◌, ◌%◌, ◌^◌, ◌<◌, ◌≤◌, Bool, true, false, cond, nat_lt, List, [], ◌∷◌, ◌++◌, length, get_or, refl, sym, ap, subst, ◌∙◌, inl, inr, append_assoc, append-nil, arith, lt-ltb, ltb-true, ltb-false, le-ltb, take, length-take, Option, Some, None, All}
+use Rattle.std.proofs.Common.{
+  ◌≡◌,
+  ℕ,
+  zero,
+  suc,
+  ◌+◌,
+  ◌-◌,
+  ◌*◌,
+  ◌/◌,
+  ◌%◌,
+  ◌^◌,
+  ◌<◌,
+  ◌≤◌,
+  Bool,
+  true,
+  false,
+  cond,
+  nat_lt,
+  List,
+  [],
+  ◌∷◌,
+  ◌++◌,
+  length,
+  get_or,
+  refl,
+  sym,
+  ap,
+  subst,
+  ◌∙◌,
+  inl,
+  inr,
+  append_assoc,
+  append-nil,
+  arith,
+  lt-ltb,
+  ltb-true,
+  ltb-false,
+  le-ltb,
+  take,
+  length-take,
+  Option,
+  Some,
+  None,
+  All,
+}
 use Rattle.std.proofs.lemmas.Bool.Decides.{nat_tests}
 use Rattle.std.proofs.lemmas.Fmt.{digits_is_IsNumeral}
 use Rattle.std.proofs.lemmas.List.Elements.{All-push, All-cons, All-nil, All-head, All-tail}
@@ -15,7 +59,13 @@ use Rattle.hp_num.specs.Hexadecimal.{hexadecimal}
 use Rattle.hp_num.specs.Numeral.{is_numeral}
 use Rattle.hp_num.specs.ParsedHex.{parsed_hex}
 use Rattle.hp_num.proofs.Numerals.{Numeral, numeral_test, numeral_is}
-use Rattle.hp_num.proofs.HexSteps.{last_digit, hexadecimal_digit, hexadecimal_step, hexadecimal_by_steps, length-hexadecimal-le}
+use Rattle.hp_num.proofs.HexSteps.{
+  last_digit,
+  hexadecimal_digit,
+  hexadecimal_step,
+  hexadecimal_by_steps,
+  length-hexadecimal-le,
+}
 
 -- a digit below 16 is written by '0' to '9' or 'a' to 'f'
 glyph_lower : (d : ℕ) → d < 16 → IsLowerHexDigit (digit_glyph false d)
@@ -61,26 +111,33 @@ reads_back n small =
 -- what a text that has a number is
 parsed_is : (text : List ℕ) (n : ℕ) → parsed_hex text ≡ Some n → Numeral 16 16 text × (digits_value 16 text ≡ n)
 unfolding parsed_hex
-parsed_is text n h = let p = cond_some (is_numeral 16 16 text) (digits_value 16 text) n h in (numeral_is 16 16 text p.0, p.1)
+parsed_is text n h =
+    let p = cond_some (is_numeral 16 16 text) (digits_value 16 text) n h in (numeral_is 16 16 text p.0, p.1)
 
 -- no text of the number is shorter
 pub shortest : (n : ℕ) → n < 2 ^ 64 → (text : List ℕ) → parsed_hex text ≡ Some n → length (hexadecimal n) ≤ length text
 shortest n small text h =
     let p = parsed_is text n h in
-    length-hexadecimal-le (length text) n p.0.some (subst (λ v. v < 16 ^ length text) p.1 (digits_value-lt 16 text p.0.digits)) small
+    length-hexadecimal-le (length text) n p.0.some
+    (subst (λ v. v < 16 ^ length text) p.1 (digits_value-lt 16 text p.0.digits)) small
 
 -- the bytes whose value is below 16 are the hexadecimal digits
 hex_digit_from_value : (b : ℕ) → digit_value b < 16 → IsHexDigit b
-hex_digit_from_value b = by (nat_lt b 48) (nat_lt b 58) (nat_lt b 65) (nat_lt b 91) (nat_lt b 97) (nat_lt b 123) refl refl refl refl refl refl
+hex_digit_from_value b =
+    by (nat_lt b 48) (nat_lt b 58) (nat_lt b 65) (nat_lt b 91) (nat_lt b 97) (nat_lt b 123) refl refl refl refl refl
+    refl
   where
-    by : (t u v w x y : Bool) → nat_lt b 48 ≡ t → nat_lt b 58 ≡ u → nat_lt b 65 ≡ v → nat_lt b 91 ≡ w → nat_lt b 97 ≡ x → nat_lt b 123 ≡ y
+    by : (t u v w x y : Bool) → nat_lt b 48 ≡ t → nat_lt b 58 ≡ u → nat_lt b 65 ≡ v → nat_lt b 91 ≡ w → nat_lt b 97 ≡ x
+        → nat_lt b 123 ≡ y
         → cond t 36 (cond u (b - 48) (cond v 36 (cond w (b - 55) (cond x 36 (cond y (b - 87) 36))))) < 16 → IsHexDigit b
     by true u v w x y a e f g h i l = absurd (omega arith)
-    by false true v w x y a e f g h i l = let p = ltb-false b 48 a in let q = ltb-true b 58 e in inl (omega arith, omega arith)
+    by false true v w x y a e f g h i l =
+        let p = ltb-false b 48 a in let q = ltb-true b 58 e in inl (omega arith, omega arith)
     by false false true w x y a e f g h i l = absurd (omega arith)
     by false false false true x y a e f g h i l = let p = ltb-false b 65 f in inr (inr (omega arith, omega arith))
     by false false false false true y a e f g h i l = absurd (omega arith)
-    by false false false false false true a e f g h i l = let p = ltb-false b 97 h in inr (inl (omega arith, omega arith))
+    by false false false false false true a e f g h i l =
+        let p = ltb-false b 97 h in inr (inl (omega arith, omega arith))
     by false false false false false false a e f g h i l = absurd (omega arith)
 
 -- and the other way
@@ -92,12 +149,14 @@ hex_digit_value b (inr (inr r)) = grind (arith, nat_tests)
 -- the same of a list of bytes
 hex_digits_from_values : (ds : List ℕ) → AllDigits 16 ds → All IsHexDigit ds
 hex_digits_from_values [] h = All-nil IsHexDigit
-hex_digits_from_values (d ∷ ds) h = All-cons IsHexDigit d ds (hex_digit_from_value d h.0) (hex_digits_from_values ds h.1)
+hex_digits_from_values (d ∷ ds) h =
+    All-cons IsHexDigit d ds (hex_digit_from_value d h.0) (hex_digits_from_values ds h.1)
 
 -- and the other way
 hex_digits_values : (ds : List ℕ) → All IsHexDigit ds → AllDigits 16 ds
 hex_digits_values [] h = tt
-hex_digits_values (d ∷ ds) h = (hex_digit_value d (All-head IsHexDigit d ds h), hex_digits_values ds (All-tail IsHexDigit d ds h))
+hex_digits_values (d ∷ ds) h =
+    (hex_digit_value d (All-head IsHexDigit d ds h), hex_digits_values ds (All-tail IsHexDigit d ds h))
 
 -- a text that has a number is a hexadecimal text
 pub hex_text_parsed : (text : List ℕ) (n : ℕ) → parsed_hex text ≡ Some n → IsHexText text
@@ -124,7 +183,8 @@ le_value_after n [] = omega arith
 le_value_after n (c ∷ cs) = omega (arith, le_value_after (n * 16 + digit_value c) cs)
 
 -- digits in lower case that follow those of a number are the end of the text of the whole
-hexadecimal_value_after : (n : ℕ) (ds : List ℕ) → 0 < n → All IsLowerHexDigit ds → digits_value_after 16 n ds < 2 ^ 64 → hexadecimal (digits_value_after 16 n ds) ≡ hexadecimal n ++ ds
+hexadecimal_value_after : (n : ℕ) (ds : List ℕ) → 0 < n → All IsLowerHexDigit ds → digits_value_after 16 n ds < 2 ^ 64
+    → hexadecimal (digits_value_after 16 n ds) ≡ hexadecimal n ++ ds
 hexadecimal_value_after n [] some d small = sym (append-nil (hexadecimal n))
 hexadecimal_value_after n (c ∷ cs) some d small =
     let m : ℕ = n * 16 + digit_value c in
@@ -133,22 +193,30 @@ hexadecimal_value_after n (c ∷ cs) some d small =
     let low : m % 16 ≡ digit_value c = omega (arith, k.0) in
     let end : last_digit m ≡ c = ap (digit_glyph false) low ∙ k.1 in
     hexadecimal_value_after m cs (omega arith) (All-tail IsLowerHexDigit c cs d) small
-    ∙ ap (λ x. x ++ cs) (hexadecimal_step m (omega arith) (omega (arith, le_value_after m cs)) ∙ (λ i. hexadecimal (front i) ++ (end i ∷ [])))
+    ∙ ap (λ x. x ++ cs)
+    (hexadecimal_step m (omega arith) (omega (arith, le_value_after m cs))
+    ∙ (λ i. hexadecimal (front i) ++ (end i ∷ [])))
     ∙ append_assoc (hexadecimal n) (c ∷ []) cs
 
 -- lower-case digits with no leading zero, or just '0', are what is written of their value
-pub hexadecimal_value : (ds : List ℕ) → 0 < length ds → IsShortestHexText ds → digits_value 16 ds < 2 ^ 64 → hexadecimal (digits_value 16 ds) ≡ ds
+pub hexadecimal_value : (ds : List ℕ) → 0 < length ds → IsShortestHexText ds → digits_value 16 ds < 2 ^ 64
+    → hexadecimal (digits_value 16 ds) ≡ ds
 hexadecimal_value [] some s small = absurd (omega arith)
 hexadecimal_value (c ∷ []) some s small =
     let k = lower_glyph c (All-head IsLowerHexDigit c [] s.lower_case) in
-    hexadecimal_digit (0 * 16 + digit_value c) (omega (arith, k.0)) ∙ ap (λ x. x ∷ []) (ap (digit_glyph false) {x = 0 * 16 + digit_value c} {y = digit_value c} (omega arith) ∙ k.1)
+    hexadecimal_digit (0 * 16 + digit_value c) (omega (arith, k.0))
+    ∙ ap (λ x. x ∷ []) (ap (digit_glyph false) {x = 0 * 16 + digit_value c} {y = digit_value c} (omega arith) ∙ k.1)
 hexadecimal_value (c ∷ e ∷ cs) some s small =
     let k = lower_glyph c (All-head IsLowerHexDigit c (e ∷ cs) s.lower_case) in
     let nonzero : 0 < 0 * 16 + digit_value c = first_nonzero c k (λ z. omega (arith, s.no_leading_zero z)) in
-    hexadecimal_value_after (0 * 16 + digit_value c) (e ∷ cs) nonzero (All-tail IsLowerHexDigit c (e ∷ cs) s.lower_case) small
-    ∙ ap (λ x. x ++ (e ∷ cs)) (hexadecimal_digit (0 * 16 + digit_value c) (omega (arith, k.0)) ∙ ap (λ x. x ∷ []) (ap (digit_glyph false) {x = 0 * 16 + digit_value c} {y = digit_value c} (omega arith) ∙ k.1))
+    hexadecimal_value_after (0 * 16 + digit_value c) (e ∷ cs) nonzero (All-tail IsLowerHexDigit c (e ∷ cs) s.lower_case)
+    small
+    ∙ ap (λ x. x ++ (e ∷ cs))
+    (hexadecimal_digit (0 * 16 + digit_value c) (omega (arith, k.0))
+    ∙ ap (λ x. x ∷ []) (ap (digit_glyph false) {x = 0 * 16 + digit_value c} {y = digit_value c} (omega arith) ∙ k.1))
   where
-    first_nonzero : (c : ℕ) → (digit_value c < 16) × (digit_glyph false (digit_value c) ≡ c) → (c ≡ 48 → ⊥) → 0 < 0 * 16 + digit_value c
+    first_nonzero : (c : ℕ) → (digit_value c < 16) × (digit_glyph false (digit_value c) ≡ c) → (c ≡ 48 → ⊥)
+        → 0 < 0 * 16 + digit_value c
     first_nonzero c k other = by (digit_value c) refl
       where
         by : (v : ℕ) → digit_value c ≡ v → 0 < 0 * 16 + digit_value c
@@ -156,7 +224,8 @@ hexadecimal_value (c ∷ e ∷ cs) some s small =
         by (suc v) z = omega arith
 
 -- a shortest text that has a number is what is written of that number
-pub written : (text : List ℕ) (n : ℕ) → n < 2 ^ 64 → parsed_hex text ≡ Some n → IsShortestHexText text → hexadecimal n ≡ text
+pub written : (text : List ℕ) (n : ℕ) → n < 2 ^ 64 → parsed_hex text ≡ Some n → IsShortestHexText text
+    → hexadecimal n ≡ text
 written text n small h s =
     let p = parsed_is text n h in
     ap hexadecimal (sym p.1) ∙ hexadecimal_value text p.0.some s (omega (arith, p.1))
@@ -170,13 +239,16 @@ not_parsed text none = by (parsed_hex text) refl
     by (Some n) e = absurd (none (hex_text_parsed text n e))
 
 -- a byte that is no digit makes it none
-pub not_hex_text_at : (text : List ℕ) (i : ℕ) → i < length text → (digit_value (get_or text i 0) < 16 → ⊥) → IsHexText text → ⊥
+pub not_hex_text_at : (text : List ℕ) (i : ℕ) → i < length text → (digit_value (get_or text i 0) < 16 → ⊥)
+    → IsHexText text → ⊥
 not_hex_text_at text i h other is = other (hex_digit_value (get_or text i 0) (is.digits i 0 h))
 
 -- one more digit fits 64 bits after at most 15 of them
-pub room_for_digit : (text : List ℕ) (i : ℕ) → i < length text → length text ≤ 16 → AllDigits 16 (take i text) → digits_value 16 (take i text) * 16 + 15 < 2 ^ 64
+pub room_for_digit : (text : List ℕ) (i : ℕ) → i < length text → length text ≤ 16 → AllDigits 16 (take i text)
+    → digits_value 16 (take i text) * 16 + 15 < 2 ^ 64
 room_for_digit text i before short h =
-    let upto : 16 ^ length (take i text) ≤ 16 ^ 15 = pow-le-pow_right {n = 16} (omega arith) {i = length (take i text)} {j = 15} (omega (arith, length-take i text)) in
+    let upto : 16 ^ length (take i text) ≤ 16 ^ 15 =
+    pow-le-pow_right {n = 16} (omega arith) {i = length (take i text)} {j = 15} (omega (arith, length-take i text)) in
     omega (arith, digits_value-lt 16 (take i text) h, upto)
 
 -- what callers learn of the text of a number

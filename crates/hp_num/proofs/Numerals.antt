@@ -1,5 +1,25 @@
 -- What the test of a text's digits says.
-use Rattle.std.proofs.Common.{◌≡◌, ℕ, ◌<◌, ◌≤◌, ◌&&◌, Bool, true, false, nat_lt, nat_le, List, [], ◌∷◌, length, refl, lt-ltb, ltb-true, le-leb, leb-true}
+use Rattle.std.proofs.Common.{
+  ◌≡◌,
+  ℕ,
+  ◌<◌,
+  ◌≤◌,
+  ◌&&◌,
+  Bool,
+  true,
+  false,
+  nat_lt,
+  nat_le,
+  List,
+  [],
+  ◌∷◌,
+  length,
+  refl,
+  lt-ltb,
+  ltb-true,
+  le-leb,
+  leb-true,
+}
 use Rattle.std.specs.Char.{digit_value, is_digit}
 use Rattle.std.specs.List.{list_all}
 use Rattle.std.specs.Str.Parse.{AllDigits}
@@ -31,12 +51,14 @@ pub record Numeral (base most : ℕ) (text : List ℕ) : Type 0 where
 
 -- a numeral meets the test
 pub numeral_test : (base most : ℕ) (text : List ℕ) → Numeral base most text → is_numeral base most text ≡ true
-numeral_test base most text h = rw (lt-ltb 0 (length text) h.some, le-leb (length text) most h.short) (list_all_from_digits base text h.digits)
+numeral_test base most text h =
+    rw (lt-ltb 0 (length text) h.some, le-leb (length text) most h.short) (list_all_from_digits base text h.digits)
 
 -- what meets the test is a numeral
 pub numeral_is : (base most : ℕ) (text : List ℕ) → is_numeral base most text ≡ true → Numeral base most text
 numeral_is base most text h =
-    let front = and-true (nat_lt 0 (length text) && nat_le (length text) most) (list_all (λ b. is_digit b base) text) h in
+    let front =
+    and-true (nat_lt 0 (length text) && nat_le (length text) most) (list_all (λ b. is_digit b base) text) h in
     let bounds = and-true (nat_lt 0 (length text)) (nat_le (length text) most) front.0 in
     record {
       some = ltb-true 0 (length text) bounds.0;

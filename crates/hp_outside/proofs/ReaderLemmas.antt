@@ -1,5 +1,42 @@
 -- What a reader of lines says of itself where it gives a line, and where it gives none.
-use Rattle.std.proofs.Common.{◌≡◌, ◌≢◌, ◌⊎◌, inl, inr, if◌then◌else◌, ◌+◌, ◌<◌, ◌≤◌, ℕ, Bool, true, false, List, [], ◌∷◌, Option, None, Some, Result, Ok, Err, ◌++◌, length, length-append, take, length-take, refl, sym, ap, subst, ◌-◌, ◌∙◌, arith, is_some, is_ok}
+use Rattle.std.proofs.Common.{
+  ◌≡◌,
+  ◌≢◌,
+  ◌⊎◌,
+  inl,
+  inr,
+  if◌then◌else◌,
+  ◌+◌,
+  ◌<◌,
+  ◌≤◌,
+  ℕ,
+  Bool,
+  true,
+  false,
+  List,
+  [],
+  ◌∷◌,
+  Option,
+  None,
+  Some,
+  Result,
+  Ok,
+  Err,
+  ◌++◌,
+  length,
+  length-append,
+  take,
+  length-take,
+  refl,
+  sym,
+  ap,
+  subst,
+  ◌-◌,
+  ◌∙◌,
+  arith,
+  is_some,
+  is_ok,
+}
 use Rattle.std.proofs.lemmas.Bool.{false≢true}
 use Rattle.std.proofs.Math.Seq.{take-length}
 use Rattle.std.specs.Io.KnownBytes.{prepend_known}
@@ -17,10 +54,12 @@ use Rattle.hp_outside.proofs.LineLemmas.{judged_at}
 
 -- what is the same where no line is given
 pub stands_still : (reader : LineReaderState) → StandsAt reader reader
-stands_still reader = record { input = refl; line_limit = refl; passed = refl; number = refl; given = refl; line_ended = refl }
+stands_still reader =
+    record { input = refl; line_limit = refl; passed = refl; number = refl; given = refl; line_ended = refl }
 
 -- and where a fault is kept
-pub stands_refused : (old reader new : LineReaderState) (fault : LineFault) → StandsAt old reader → new ≡ record reader { fault = Some fault } → StandsAt old new
+pub stands_refused : (old reader new : LineReaderState) (fault : LineFault) → StandsAt old reader
+    → new ≡ record reader { fault = Some fault } → StandsAt old new
 stands_refused old reader new fault same after = record {
   input = ap (λ s. s.input) after ∙ same.input;
   line_limit = ap (λ s. s.line_limit) after ∙ same.line_limit;
@@ -42,9 +81,11 @@ stands_on same more = record {
 }
 
 -- a judgement of the bytes that a reader keeps, by what it had at first
-pub judged_in : (old reader : LineReaderState) (line input passed : ℕ) (kept bytes : List ℕ) (judgement : Judgement) → StandsAt old reader
+pub judged_in : (old reader : LineReaderState) (line input passed : ℕ) (kept bytes : List ℕ) (judgement : Judgement)
+    → StandsAt old reader
     → line ≡ reader.line_limit → input ≡ reader.input → passed ≡ reader.passed → kept ≡ reader.kept → bytes ≡ kept
-    → IsJudgement line (input - passed) bytes judgement → IsJudgement old.line_limit (old.input - old.passed) reader.kept judgement
+    → IsJudgement line (input - passed) bytes judgement
+    → IsJudgement old.line_limit (old.input - old.passed) reader.kept judgement
 judged_in old reader line input passed kept bytes judgement same l i p k b judged =
     judged_at _ _ _ _ _ _ judgement (l ∙ same.line_limit) (λ j. (i ∙ same.input) j - (p ∙ same.passed) j) (b ∙ k) judged
 
@@ -52,22 +93,28 @@ judged_in old reader line input passed kept bytes judgement same l i p k b judge
 abbrev pub IsLastEnded : LineReaderState → Type 0
 IsLastEnded reader = reader.line_ended ≡ false → (reader.ended ≡ true) × (reader.kept ≡ [])
 
-pub last_ended : (ended line_ended : Bool) (kept : List ℕ) → (ended ≡ false → line_ended ≡ true) → (0 < length kept → line_ended ≡ true)
+pub last_ended : (ended line_ended : Bool) (kept : List ℕ) → (ended ≡ false → line_ended ≡ true)
+    → (0 < length kept → line_ended ≡ true)
     → line_ended ≡ false → (ended ≡ true) × (kept ≡ [])
 last_ended false line_ended kept unended more last = absurd (false≢true (sym last ∙ unended refl))
 last_ended true line_ended [] unended more last = (refl, refl)
 last_ended true line_ended (byte ∷ kept) unended more last = absurd (false≢true (sym last ∙ more (omega arith)))
 
 -- and so it is where a fault is kept
-pub last_refused : (reader new : LineReaderState) (fault : LineFault) → new ≡ record reader { fault = Some fault } → IsLastEnded reader → IsLastEnded new
+pub last_refused : (reader new : LineReaderState) (fault : LineFault) → new ≡ record reader { fault = Some fault }
+    → IsLastEnded reader → IsLastEnded new
 last_refused reader new fault after last = subst IsLastEnded (sym after) last
 
 -- and where none of this changes
-pub last_still : (reader new : LineReaderState) → new.line_ended ≡ reader.line_ended → new.ended ≡ reader.ended → new.kept ≡ reader.kept → IsLastEnded reader → IsLastEnded new
-last_still reader new line_ended ended kept last now = let was = last (sym line_ended ∙ now) in (ended ∙ was.0, kept ∙ was.1)
+pub last_still : (reader new : LineReaderState) → new.line_ended ≡ reader.line_ended → new.ended ≡ reader.ended
+    → new.kept ≡ reader.kept → IsLastEnded reader → IsLastEnded new
+last_still reader new line_ended ended kept last now =
+    let was = last (sym line_ended ∙ now) in (ended ∙ was.0, kept ∙ was.1)
 
 -- bytes that are open show neither a line nor a fault
-pub undecided_still : (old reader new : LineReaderState) → IsJudgement old.line_limit (old.input - old.passed) reader.kept Open → StandsAt old new → old.passed ≤ old.input → new.kept ≡ reader.kept
+pub undecided_still : (old reader new : LineReaderState)
+    → IsJudgement old.line_limit (old.input - old.passed) reader.kept Open → StandsAt old new → old.passed ≤ old.input
+    → new.kept ≡ reader.kept
     → IsUndecided new.input new.line_limit new.passed new.kept
 undecided_still old reader new judged same within kept =
     subst (λ bytes. IsUndecided new.input new.line_limit new.passed bytes) (sym kept)
@@ -85,16 +132,21 @@ pub none_is_some : (fault : LineFault) → ¬ (None ≡ Some fault)
 none_is_some fault is = false≢true (ap is_some is)
 
 -- bounds of other names of the same numbers
-pub stands_bounded : (old new : LineReaderState) → StandsAt old new → old.given ≤ old.input + 1 → new.given ≤ new.input + 1
+pub stands_bounded : (old new : LineReaderState) → StandsAt old new → old.given ≤ old.input + 1
+    → new.given ≤ new.input + 1
 stands_bounded old new same bound = omega (arith, same.given, same.input)
 
 pub stands_within : (old new : LineReaderState) → StandsAt old new → old.passed ≤ old.input → new.passed ≤ new.input
 stands_within old new same bound = omega (arith, same.passed, same.input)
 
 -- where all that is kept is passed, as much as the file may have is
-pub last_within : (old reader new : LineReaderState) (count : ℕ) → IsJudgement old.line_limit (old.input - old.passed) reader.kept Open → old.passed ≤ old.input → StandsAt old reader
-    → count ≡ length reader.kept → new.passed ≡ reader.passed + count → new.input ≡ reader.input → new.passed ≤ new.input
-last_within old reader new count judged within same all passed input = omega (arith, judged.2, within, same.passed, same.input, all, passed, input)
+pub last_within : (old reader new : LineReaderState) (count : ℕ)
+    → IsJudgement old.line_limit (old.input - old.passed) reader.kept Open → old.passed ≤ old.input
+    → StandsAt old reader
+    → count ≡ length reader.kept → new.passed ≡ reader.passed + count → new.input ≡ reader.input
+    → new.passed ≤ new.input
+last_within old reader new count judged within same all passed input =
+    omega (arith, judged.2, within, same.passed, same.input, all, passed, input)
 
 -- a line that was given is no failed read
 pub given_read : (place : Option Span) → ¬ (◌≡◌ {A = Result (Option Span) LineFault} (Ok place) (Err ReadFailed))
@@ -105,7 +157,8 @@ pub length-taken : (line kept : List ℕ) (count : ℕ) → line ≡ take count 
 length-taken line kept count is within = omega (arith, ap length is, length-take count kept)
 
 -- what is passed with a line, or given with one
-pub passed_on : (old reader new count len skipped : ℕ) → reader ≡ old → new ≡ reader + count + skipped → len ≡ count → new ≡ old + len + skipped
+pub passed_on : (old reader new count len skipped : ℕ) → reader ≡ old → new ≡ reader + count + skipped → len ≡ count
+    → new ≡ old + len + skipped
 passed_on old reader new count len skipped same passed is = omega arith
 
 pub no_longer : (len count limit new : ℕ) → len ≡ count → count ≤ limit → new ≡ limit → len ≤ new
@@ -119,7 +172,8 @@ pub seen_within : (seen len place later : ℕ) → seen ≡ len → place ≡ le
 seen_within seen len place later is none grown = omega arith
 
 -- a read that gave nothing leaves what is kept
-pub kept_whole : (kept more : List ℕ) (count : ℕ) → count ≡ 0 → take (length kept) more ≡ kept → length more ≡ length kept + count → more ≡ kept
+pub kept_whole : (kept more : List ℕ) (count : ℕ) → count ≡ 0 → take (length kept) more ≡ kept
+    → length more ≡ length kept + count → more ≡ kept
 kept_whole kept more count none front long =
     let same : length more ≡ length kept = omega arith in
     sym (take-length more) ∙ ap (λ n. take n more) same ∙ front
@@ -129,7 +183,8 @@ empty [] none = refl
 empty (byte ∷ bytes) none = absurd (omega arith)
 
 -- and nothing is left behind it, where nothing was left before
-pub left_at_end : (old new : Option (List ℕ)) (kept more : List ℕ) (count : ℕ) → count ≡ 0 → prepend_known kept old ≡ prepend_known more new → length more ≡ length kept + count
+pub left_at_end : (old new : Option (List ℕ)) (kept more : List ℕ) (count : ℕ) → count ≡ 0
+    → prepend_known kept old ≡ prepend_known more new → length more ≡ length kept + count
     → WhereTold old (λ bytes. bytes ≡ []) → WhereTold new (λ bytes. bytes ≡ [])
 left_at_end old None kept more count none rest long ended value told = absurd (cc)
 left_at_end None (Some left) kept more count none rest long ended value told = absurd (cc)
@@ -143,10 +198,16 @@ pub longer_by : (old kept new count : ℕ) → kept ≡ old → new ≡ kept + c
 longer_by old kept new count same long some = omega arith
 
 -- a reader moves behind a line and its line feed, or behind the last line of its file
-pub law_moved : (old new : LineReaderState) → new.passed ≡ old.passed + length new.line + (if new.line_ended then 1 else 0) → (new.line_ended ≡ false → (new.ended ≡ true) × (new.kept ≡ []))
-    → (new.passed ≡ old.passed + length new.line + 1) ⊎ ((new.passed ≡ old.passed + length new.line) × (new.ended ≡ true))
+pub law_moved : (old new : LineReaderState)
+    → new.passed ≡ old.passed + length new.line + (if new.line_ended then 1 else 0)
+    → (new.line_ended ≡ false → (new.ended ≡ true) × (new.kept ≡ []))
+    → (new.passed ≡ old.passed + length new.line + 1)
+    ⊎ ((new.passed ≡ old.passed + length new.line) × (new.ended ≡ true))
 law_moved old new step last = by new.line_ended refl
   where
-    by : (b : Bool) → new.line_ended ≡ b → (new.passed ≡ old.passed + length new.line + 1) ⊎ ((new.passed ≡ old.passed + length new.line) × (new.ended ≡ true))
+    by : (b : Bool) → new.line_ended ≡ b
+        → (new.passed ≡ old.passed + length new.line + 1)
+        ⊎ ((new.passed ≡ old.passed + length new.line) × (new.ended ≡ true))
     by true fed = inl (step ∙ ap (λ b. old.passed + length new.line + (if b then 1 else 0)) fed)
-    by false unfed = inr (omega (arith, step ∙ ap (λ b. old.passed + length new.line + (if b then 1 else 0)) unfed), (last unfed).0)
+    by false unfed =
+        inr (omega (arith, step ∙ ap (λ b. old.passed + length new.line + (if b then 1 else 0)) unfed), (last unfed).0)

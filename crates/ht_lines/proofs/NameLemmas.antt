@@ -1,5 +1,37 @@
 -- The names of modules: what the functions give is what the relations say.
-use Rattle.std.proofs.Common.{◌≡◌, ◌≢◌, ℕ, Bool, true, false, cond, eqb, leb, List, [], ◌∷◌, ◌++◌, length, take, drop, Option, Some, None, IsTrue, refl, sym, ap, ◌∙◌, subst, inl, inr, arith, ◌⊎◌, length-append, length-take}
+use Rattle.std.proofs.Common.{
+  ◌≡◌,
+  ◌≢◌,
+  ℕ,
+  Bool,
+  true,
+  false,
+  cond,
+  eqb,
+  leb,
+  List,
+  [],
+  ◌∷◌,
+  ◌++◌,
+  length,
+  take,
+  drop,
+  Option,
+  Some,
+  None,
+  IsTrue,
+  refl,
+  sym,
+  ap,
+  ◌∙◌,
+  subst,
+  inl,
+  inr,
+  arith,
+  ◌⊎◌,
+  length-append,
+  length-take,
+}
 use Rattle.std.specs.Option.{option_or}
 use Rattle.std.proofs.lemmas.Bool.{le-leb, leb-true}
 use Rattle.std.proofs.lemmas.Bool.Decides.{eqb_tells}
@@ -8,17 +40,41 @@ use Rattle.std.proofs.Math.Seq.{take-append_seam, drop-append_seam}
 use borrow.Author.Tests.{eq-eqb, ne_eqb}
 use Rattle.hp_num.specs.ParsedHex.{parsed_hex}
 use Rattle.ht_lines.specs.Fields.{fields, after_blanks, before_blank, first_field, after_field, field_ends}
-use Rattle.ht_lines.specs.ModuleName.{IsSizedName, IsPlainName, IsModuleName, of_size_in, sized_name, plain_name, module_name}
-use Rattle.ht_lines.proofs.FieldLemmas.{from_blank-ends, before_blank-from_blank, fields-some, fields-none, first_field-some}
+use Rattle.ht_lines.specs.ModuleName.{
+  IsSizedName,
+  IsPlainName,
+  IsModuleName,
+  of_size_in,
+  sized_name,
+  plain_name,
+  module_name,
+}
+use Rattle.ht_lines.proofs.FieldLemmas.{
+  from_blank-ends,
+  before_blank-from_blank,
+  fields-some,
+  fields-none,
+  first_field-some,
+}
 use Rattle.ht_lines.proofs.NumberLemmas.{parsed_nothing, number-no_blank, number-not_empty}
-use Rattle.ht_lines.proofs.TextLemmas.{NoBlank, AllBlank, first_field-at, after_field-at, before_blank-no_blank, leading, ends-blank}
+use Rattle.ht_lines.proofs.TextLemmas.{
+  NoBlank,
+  AllBlank,
+  first_field-at,
+  after_field-at,
+  before_blank-no_blank,
+  leading,
+  ends-blank,
+}
 
 abbrev Tells : ℕ → ℕ → Type 0
 Tells a b = ((eqb a b ≡ true) × (a ≡ b)) ⊎ ((eqb a b ≡ false) × (a ≢ b))
 
 -- every text is blanks, its first field and what follows that
-parts : (rest : List ℕ) → (blanks : List ℕ) × AllBlank blanks × (rest ≡ blanks ++ (first_field rest ++ after_field rest))
-parts rest = let w = leading rest in (w.0, w.1, w.2 ∙ ap (λ l. w.0 ++ l) (sym (before_blank-from_blank (after_blanks rest))))
+parts : (rest : List ℕ)
+    → (blanks : List ℕ) × AllBlank blanks × (rest ≡ blanks ++ (first_field rest ++ after_field rest))
+parts rest =
+    let w = leading rest in (w.0, w.1, w.2 ∙ ap (λ l. w.0 ++ l) (sym (before_blank-from_blank (after_blanks rest))))
 
 -- plain names
 
@@ -46,19 +102,24 @@ plain_name-some rest name tail e = by (eqb_tells (length (first_field rest)) 0)
 pub plain_name-is : (rest name tail : List ℕ) → IsPlainName rest name tail → plain_name rest ≡ Some (name, tail)
 unfolding plain_name
 plain_name-is rest name tail p =
-    let front : first_field rest ≡ name = ap first_field p.bytes ∙ first_field-at p.blanks name tail p.all_blank p.not_empty p.no_blank p.ends in
-    let back : after_field rest ≡ tail = ap after_field p.bytes ∙ after_field-at p.blanks name tail p.all_blank p.not_empty p.no_blank p.ends in
-    let some : eqb (length (first_field rest)) 0 ≡ false = ne_eqb (length (first_field rest)) 0 (λ z. omega (arith, p.not_empty, ap length front)) in
+    let front : first_field rest ≡ name =
+    ap first_field p.bytes ∙ first_field-at p.blanks name tail p.all_blank p.not_empty p.no_blank p.ends in
+    let back : after_field rest ≡ tail =
+    ap after_field p.bytes ∙ after_field-at p.blanks name tail p.all_blank p.not_empty p.no_blank p.ends in
+    let some : eqb (length (first_field rest)) 0 ≡ false =
+    ne_eqb (length (first_field rest)) 0 (λ z. omega (arith, p.not_empty, ap length front)) in
     rw some (λ i. Some (front i, back i))
 
 -- sized names
 
-of_size_in-some : (o : Option ℕ) (after name tail : List ℕ) → of_size_in o after ≡ Some (name, tail) → IsTrue (field_ends after) → (o ≡ Some (length name)) × (after ≡ 32 ∷ (name ++ tail)) × IsTrue (field_ends tail)
+of_size_in-some : (o : Option ℕ) (after name tail : List ℕ) → of_size_in o after ≡ Some (name, tail)
+    → IsTrue (field_ends after) → (o ≡ Some (length name)) × (after ≡ 32 ∷ (name ++ tail)) × IsTrue (field_ends tail)
 of_size_in-some None after name tail e ends = absurd (cc)
 of_size_in-some (Some n) [] name tail e ends = absurd (cc)
 of_size_in-some (Some n) (b ∷ bytes) name tail e ends = by (leb n (length bytes)) (field_ends (drop n bytes)) refl refl
   where
-    by : (s t : Bool) → leb n (length bytes) ≡ s → field_ends (drop n bytes) ≡ t → (Some n ≡ Some (length name)) × (b ∷ bytes ≡ 32 ∷ (name ++ tail)) × IsTrue (field_ends tail)
+    by : (s t : Bool) → leb n (length bytes) ≡ s → field_ends (drop n bytes) ≡ t
+        → (Some n ≡ Some (length name)) × (b ∷ bytes ≡ 32 ∷ (name ++ tail)) × IsTrue (field_ends tail)
     by true true d f =
         let g = rw (d, f) at e in
         let pair : ◌≡◌ {A = List ℕ × List ℕ} (take n bytes, drop n bytes) (name, tail) = cc in
@@ -76,7 +137,9 @@ pub sized_name-some : (rest name tail : List ℕ) → sized_name rest ≡ Some (
 unfolding sized_name
 sized_name-some rest name tail e =
     let p = parts rest in
-    let w = of_size_in-some (parsed_hex (first_field rest)) (after_field rest) name tail e (from_blank-ends (after_blanks rest)) in
+    let w =
+    of_size_in-some (parsed_hex (first_field rest)) (after_field rest) name tail e
+    (from_blank-ends (after_blanks rest)) in
     record {
       blanks = p.0;
       digits = first_field rest;
@@ -86,9 +149,11 @@ sized_name-some rest name tail e =
       ends = w.2;
     }
 
-of_size_in-is : (name tail : List ℕ) → IsTrue (field_ends tail) → of_size_in (Some (length name)) (32 ∷ (name ++ tail)) ≡ Some (name, tail)
+of_size_in-is : (name tail : List ℕ) → IsTrue (field_ends tail)
+    → of_size_in (Some (length name)) (32 ∷ (name ++ tail)) ≡ Some (name, tail)
 of_size_in-is name tail ends =
-    let small : leb (length name) (length (name ++ tail)) ≡ true = le-leb (length name) (length (name ++ tail)) (omega (arith, length-append name tail)) in
+    let small : leb (length name) (length (name ++ tail)) ≡ true =
+    le-leb (length name) (length (name ++ tail)) (omega (arith, length-append name tail)) in
     let back : drop (length name) (name ++ tail) ≡ tail = drop-append_seam name tail in
     let over : field_ends (drop (length name) (name ++ tail)) ≡ true = ap field_ends back ∙ ends in
     rw (small, over) (λ i. Some (take-append_seam name tail i, back i))
@@ -98,34 +163,48 @@ unfolding sized_name
 sized_name-is rest name tail p =
     let some = number-not_empty p.digits (length name) p.size in
     let none = number-no_blank p.digits (length name) p.size in
-    let front : first_field rest ≡ p.digits = ap first_field p.bytes ∙ first_field-at p.blanks p.digits (32 ∷ (name ++ tail)) p.all_blank some none refl in
-    let back : after_field rest ≡ 32 ∷ (name ++ tail) = ap after_field p.bytes ∙ after_field-at p.blanks p.digits (32 ∷ (name ++ tail)) p.all_blank some none refl in
-    (λ i. of_size_in (parsed_hex (front i)) (back i)) ∙ ap (λ o. of_size_in o (32 ∷ (name ++ tail))) p.size ∙ of_size_in-is name tail p.ends
+    let front : first_field rest ≡ p.digits =
+    ap first_field p.bytes ∙ first_field-at p.blanks p.digits (32 ∷ (name ++ tail)) p.all_blank some none refl in
+    let back : after_field rest ≡ 32 ∷ (name ++ tail) =
+    ap after_field p.bytes ∙ after_field-at p.blanks p.digits (32 ∷ (name ++ tail)) p.all_blank some none refl in
+    (λ i. of_size_in (parsed_hex (front i)) (back i)) ∙ ap (λ o. of_size_in o (32 ∷ (name ++ tail))) p.size
+    ∙ of_size_in-is name tail p.ends
 
 -- names
 
-module_name_3 : (rest name tail : List ℕ) (o : Option (List ℕ × List ℕ)) → sized_name rest ≡ o → option_or o (plain_name rest) ≡ Some (name, tail) → IsModuleName 3 rest name tail
-module_name_3 rest name tail None e f = inr ((λ z n t w. let g = sized_name-is rest n t w in absurd (cc)), plain_name-some rest name tail f)
+module_name_3 : (rest name tail : List ℕ) (o : Option (List ℕ × List ℕ)) → sized_name rest ≡ o
+    → option_or o (plain_name rest) ≡ Some (name, tail) → IsModuleName 3 rest name tail
+module_name_3 rest name tail None e f =
+    inr ((λ z n t w. let g = sized_name-is rest n t w in absurd (cc)), plain_name-some rest name tail f)
 module_name_3 rest name tail (Some x) e f = inl (refl, sized_name-some rest name tail (e ∙ f))
 
-module_name_by : (version : ℕ) (rest name tail : List ℕ) → Tells version 3 → module_name version rest ≡ Some (name, tail) → IsModuleName version rest name tail
+module_name_by : (version : ℕ) (rest name tail : List ℕ) → Tells version 3
+    → module_name version rest ≡ Some (name, tail) → IsModuleName version rest name tail
 unfolding module_name
-module_name_by version rest name tail (inl v) e = rw v.1 (module_name_3 rest name tail (sized_name rest) refl (rw v.0 at e))
-module_name_by version rest name tail (inr v) e = inr ((λ z. absurd (v.1 z)), plain_name-some rest name tail (rw v.0 at e))
+module_name_by version rest name tail (inl v) e =
+    rw v.1 (module_name_3 rest name tail (sized_name rest) refl (rw v.0 at e))
+module_name_by version rest name tail (inr v) e =
+    inr ((λ z. absurd (v.1 z)), plain_name-some rest name tail (rw v.0 at e))
 
-pub module_name-some : (version : ℕ) (rest name tail : List ℕ) → module_name version rest ≡ Some (name, tail) → IsModuleName version rest name tail
+pub module_name-some : (version : ℕ) (rest name tail : List ℕ) → module_name version rest ≡ Some (name, tail)
+    → IsModuleName version rest name tail
 module_name-some version rest name tail e = module_name_by version rest name tail (eqb_tells version 3) e
 
-not_sized : (rest name tail : List ℕ) (o : Option (List ℕ × List ℕ)) → sized_name rest ≡ o → ((n t : List ℕ) → ¬ IsSizedName rest n t) → IsPlainName rest name tail → option_or o (plain_name rest) ≡ Some (name, tail)
+not_sized : (rest name tail : List ℕ) (o : Option (List ℕ × List ℕ)) → sized_name rest ≡ o
+    → ((n t : List ℕ) → ¬ IsSizedName rest n t) → IsPlainName rest name tail
+    → option_or o (plain_name rest) ≡ Some (name, tail)
 not_sized rest name tail None e never p = plain_name-is rest name tail p
 not_sized rest name tail (Some x) e never p = absurd (never x.0 x.1 (sized_name-some rest x.0 x.1 e))
 
-plain_by : (version : ℕ) (rest name tail : List ℕ) → Tells version 3 → (version ≡ 3 → (n t : List ℕ) → ¬ IsSizedName rest n t) → IsPlainName rest name tail → module_name version rest ≡ Some (name, tail)
+plain_by : (version : ℕ) (rest name tail : List ℕ) → Tells version 3
+    → (version ≡ 3 → (n t : List ℕ) → ¬ IsSizedName rest n t) → IsPlainName rest name tail
+    → module_name version rest ≡ Some (name, tail)
 unfolding module_name
 plain_by version rest name tail (inl v) never p = rw v.0 (not_sized rest name tail (sized_name rest) refl (never v.1) p)
 plain_by version rest name tail (inr v) never p = rw v.0 (plain_name-is rest name tail p)
 
-pub module_name-is : (version : ℕ) (rest name tail : List ℕ) → IsModuleName version rest name tail → module_name version rest ≡ Some (name, tail)
+pub module_name-is : (version : ℕ) (rest name tail : List ℕ) → IsModuleName version rest name tail
+    → module_name version rest ≡ Some (name, tail)
 unfolding module_name
 module_name-is version rest name tail (inl w) = rw (eq-eqb version 3 w.0, sized_name-is rest name tail w.1) refl
 module_name-is version rest name tail (inr w) = plain_by version rest name tail (eqb_tells version 3) w.0 w.1
@@ -176,6 +255,7 @@ module_name-nothing version rest e =
     let none = no_first rest e in
     by (eqb version 3) (rw (none, parsed_nothing) refl) (rw none refl)
   where
-    by : (t : Bool) → sized_name rest ≡ None → plain_name rest ≡ None → cond t (option_or (sized_name rest) (plain_name rest)) (plain_name rest) ≡ None
+    by : (t : Bool) → sized_name rest ≡ None → plain_name rest ≡ None
+        → cond t (option_or (sized_name rest) (plain_name rest)) (plain_name rest) ≡ None
     by true s p = rw s p
     by false s p = p

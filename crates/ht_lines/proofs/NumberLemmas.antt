@@ -1,5 +1,26 @@
 -- What is known of the texts of numbers, and of fields that are numbers.
-use Rattle.std.proofs.Common.{◌≡◌, ◌≢◌, ℕ, ◌<◌, Bool, true, false, cond, List, [], ◌∷◌, length, map, Some, None, refl, sym, ap, ◌∙◌, arith}
+use Rattle.std.proofs.Common.{
+  ◌≡◌,
+  ◌≢◌,
+  ℕ,
+  ◌<◌,
+  Bool,
+  true,
+  false,
+  cond,
+  List,
+  [],
+  ◌∷◌,
+  length,
+  map,
+  Some,
+  None,
+  refl,
+  sym,
+  ap,
+  ◌∙◌,
+  arith,
+}
 use Rattle.std.specs.Prelude.{is_some}
 use Rattle.std.specs.List.{AllByRecursion, list_all}
 use Rattle.std.specs.Char.{is_digit}
@@ -77,7 +98,8 @@ pub AreNumbers-length : (fs : List (List ℕ)) (ns : List ℕ) → AreNumbers fs
 AreNumbers-length [] [] e = refl
 AreNumbers-length [] (n ∷ ns) e = absurd (cc)
 AreNumbers-length (f ∷ fs) [] e = absurd (cc)
-AreNumbers-length (f ∷ fs) (n ∷ ns) e = let tail : map parsed_hex fs ≡ map Some ns = cc in omega (arith, AreNumbers-length fs ns tail)
+AreNumbers-length (f ∷ fs) (n ∷ ns) e =
+    let tail : map parsed_hex fs ≡ map Some ns = cc in omega (arith, AreNumbers-length fs ns tail)
 
 -- fields are one list of numbers at most
 pub AreNumbers-unique : (fs : List (List ℕ)) (ms ns : List ℕ) → AreNumbers fs ms → AreNumbers fs ns → ms ≡ ns

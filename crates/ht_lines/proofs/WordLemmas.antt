@@ -1,5 +1,33 @@
 -- What is parsed as a hexadecimal number fits 64 bits.
-use Rattle.std.proofs.Common.{◌≡◌, ℕ, suc, ◌+◌, ◌*◌, ◌^◌, ◌<◌, ◌≤◌, Bool, true, false, cond, leb, ltb, ◌&&◌, List, [], ◌∷◌, length, map, Some, None, refl, sym, ap, ◌∙◌, arith}
+use Rattle.std.proofs.Common.{
+  ◌≡◌,
+  ℕ,
+  suc,
+  ◌+◌,
+  ◌*◌,
+  ◌^◌,
+  ◌<◌,
+  ◌≤◌,
+  Bool,
+  true,
+  false,
+  cond,
+  leb,
+  ltb,
+  ◌&&◌,
+  List,
+  [],
+  ◌∷◌,
+  length,
+  map,
+  Some,
+  None,
+  refl,
+  sym,
+  ap,
+  ◌∙◌,
+  arith,
+}
 use Rattle.std.specs.List.{list_all}
 use Rattle.std.specs.Char.{is_digit, digit_value}
 use Rattle.std.specs.Str.Parse.{digits_value, digits_value_after}
@@ -14,17 +42,20 @@ use Rattle.hp_num.proofs.Laws.{and-true}
 below_step : (n d k m v : ℕ) → d < 16 → m ≡ k * 16 → v < (n * 16 + d + 1) * k → v < (n + 1) * m
 below_step n d k m v small e h =
     let step : (n * 16 + d + 1) * k ≤ ((n + 1) * 16) * k = mul-le-mul_right k (omega arith) in
-    let same : ((n + 1) * 16) * k ≡ (n + 1) * m = mul_assoc (n + 1) 16 k ∙ ap (λ x. (n + 1) * x) (mul_comm 16 k ∙ sym e) in
+    let same : ((n + 1) * 16) * k ≡ (n + 1) * m =
+    mul_assoc (n + 1) 16 k ∙ ap (λ x. (n + 1) * x) (mul_comm 16 k ∙ sym e) in
     omega arith
 
 -- so many digits are below that power of 16
-value_below : (n : ℕ) (ds : List ℕ) → list_all (λ b. is_digit b 16) ds ≡ true → digits_value_after 16 n ds < (n + 1) * 16 ^ length ds
+value_below : (n : ℕ) (ds : List ℕ) → list_all (λ b. is_digit b 16) ds ≡ true
+    → digits_value_after 16 n ds < (n + 1) * 16 ^ length ds
 value_below n [] e = omega arith
 value_below n (d ∷ ds) e =
     let both = and-true (is_digit d 16) (list_all (λ b. is_digit b 16) ds) e in
     let small = ltb-true (digit_value d) 16 both.0 in
     let rest = value_below (n * 16 + digit_value d) ds both.1 in
-    below_step n (digit_value d) (16 ^ length ds) (16 ^ suc (length ds)) (digits_value_after 16 (n * 16 + digit_value d) ds) small (pow-suc 16 (length ds)) rest
+    below_step n (digit_value d) (16 ^ length ds) (16 ^ suc (length ds))
+    (digits_value_after 16 (n * 16 + digit_value d) ds) small (pow-suc 16 (length ds)) rest
 
 is_numeral-digits : (text : List ℕ) → is_numeral 16 16 text ≡ true → list_all (λ b. is_digit b 16) text ≡ true
 is_numeral-digits text e = (and-true _ (list_all (λ b. is_digit b 16) text) e).1

@@ -19,7 +19,8 @@ use Rattle.ht_print.specs.declared.flame.FlameCost.{FlameCost}
 use Rattle.ht_print.specs.declared.flame.FlameCost.TheVariants.{Allocations, Temporary, Leaked, Peak}
 
 -- there is a cost for each stack
-pub flame_costs-count : (cost : FlameCost) (peaks : PeakState) → IsSound peaks → length (flame_costs cost peaks) ≡ peaks.ledger.stacks
+pub flame_costs-count : (cost : FlameCost) (peaks : PeakState) → IsSound peaks
+    → length (flame_costs cost peaks) ≡ peaks.ledger.stacks
 flame_costs-count Allocations peaks is = length-map peaks.ledger.figures (λ (f : Figures). f.calls) ∙ is.ledger.stacks
 flame_costs-count Temporary peaks is = length-map peaks.ledger.figures (λ (f : Figures). f.temporary) ∙ is.ledger.stacks
 flame_costs-count Leaked peaks is = length-map peaks.ledger.figures (λ (f : Figures). f.live) ∙ is.ledger.stacks
@@ -39,23 +40,37 @@ flame_costs-bound Leaked peaks is =
 flame_costs-bound Peak peaks is = omega (arith, is.shares_sum, is.total_within, is.ledger.allocated_within)
 
 -- the share of a stack that is held
-pub share-held : (peaks : PeakState) (stack share : ℕ) → IsSound peaks → stack < peaks.ledger.stacks → share ≡ slice_index peaks.shares stack → slice_get peaks.shares stack ≡ Some share
+pub share-held : (peaks : PeakState) (stack share : ℕ) → IsSound peaks → stack < peaks.ledger.stacks
+    → share ≡ slice_index peaks.shares stack → slice_get peaks.shares stack ≡ Some share
 share-held peaks stack share is held share_is =
     let count = is.shares_held in
     slice_get-get_or peaks.shares stack 0 (omega arith) ∙ ap (λ (n : ℕ). Some n) (sym share_is)
 
 -- a figure of each stack, as the events have it
-figures-are : (f : Figures → ℕ) (g : ℕ → ℕ) (peaks : PeakState) → IsSound peaks → f no_figures ≡ 0 → ((stack : ℕ) → f (figures_at peaks.ledger stack) ≡ g stack) → map f peaks.ledger.figures ≡ map g (range_with_len 0 peaks.ledger.stacks)
+figures-are : (f : Figures → ℕ) (g : ℕ → ℕ) (peaks : PeakState) → IsSound peaks → f no_figures ≡ 0
+    → ((stack : ℕ) → f (figures_at peaks.ledger stack) ≡ g stack)
+    → map f peaks.ledger.figures ≡ map g (range_with_len 0 peaks.ledger.stacks)
 figures-are f g peaks is none each =
-    fill_by_all g (map f peaks.ledger.figures) peaks.ledger.stacks 0 (length-map peaks.ledger.figures f ∙ is.ledger.stacks)
-    (λ stack within. ap (λ (d : ℕ). slice_index_or (map f peaks.ledger.figures) stack d) (sym none) ∙ lists.get_or-map f peaks.ledger.figures stack no_figures ∙ each stack)
+    fill_by_all g (map f peaks.ledger.figures) peaks.ledger.stacks 0
+    (length-map peaks.ledger.figures f ∙ is.ledger.stacks)
+    (λ stack within. ap (λ (d : ℕ). slice_index_or (map f peaks.ledger.figures) stack d) (sym none)
+    ∙ lists.get_or-map f peaks.ledger.figures stack no_figures ∙ each stack)
 
 -- what stacks cost is what they cost in the events that the peaks stand for
-pub costs-of_trace : (cost : FlameCost) (peaks : PeakState) (events : List Event) → IsSound peaks → StandsFor peaks events → flame_costs cost peaks ≡ trace_costs cost peaks.ledger.stacks events
+pub costs-of_trace : (cost : FlameCost) (peaks : PeakState) (events : List Event) → IsSound peaks
+    → StandsFor peaks events → flame_costs cost peaks ≡ trace_costs cost peaks.ledger.stacks events
 unfolding trace_costs
-costs-of_trace Allocations peaks events is stands = figures-are (λ (f : Figures). f.calls) (cost_in Allocations events) peaks is refl (λ stack. (stands.ledger.each_stack stack).calls_is)
-costs-of_trace Temporary peaks events is stands = figures-are (λ (f : Figures). f.temporary) (cost_in Temporary events) peaks is refl (λ stack. (stands.ledger.each_stack stack).temporary_is)
-costs-of_trace Leaked peaks events is stands = figures-are (λ (f : Figures). f.live) (cost_in Leaked events) peaks is refl (λ stack. (stands.ledger.each_stack stack).live_is)
+costs-of_trace Allocations peaks events is stands =
+    figures-are (λ (f : Figures). f.calls) (cost_in Allocations events) peaks is refl
+    (λ stack. (stands.ledger.each_stack stack).calls_is)
+costs-of_trace Temporary peaks events is stands =
+    figures-are (λ (f : Figures). f.temporary) (cost_in Temporary events) peaks is refl
+    (λ stack. (stands.ledger.each_stack stack).temporary_is)
+costs-of_trace Leaked peaks events is stands =
+    figures-are (λ (f : Figures). f.live) (cost_in Leaked events) peaks is refl
+    (λ stack. (stands.ledger.each_stack stack).live_is)
 costs-of_trace Peak peaks events is stands =
     fill_by_all (cost_in Peak events) peaks.shares peaks.ledger.stacks 0 is.shares_held
-    (λ stack within. stands.shares stack ∙ ap (λ (moment : ℕ). live_in stack (first_events moment events)) (sym (moment_is peaks.moment events stands.peak)))
+    (λ stack within. stands.shares stack
+    ∙ ap (λ (moment : ℕ). live_in stack (first_events moment events))
+    (sym (moment_is peaks.moment events stands.peak)))

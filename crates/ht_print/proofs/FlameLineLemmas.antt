@@ -1,5 +1,28 @@
 -- Lemmas on the lines that are still to be given.
-use Rattle.std.proofs.Common.{◌≡◌, ℕ, zero, suc, ◌+◌, ◌<◌, ◌≤◌, eqb, false, List, [], ◌∷◌, ◌++◌, length, drop, get_or, Some, refl, sym, ap, ◌∙◌, arith}
+use Rattle.std.proofs.Common.{
+  ◌≡◌,
+  ℕ,
+  zero,
+  suc,
+  ◌+◌,
+  ◌<◌,
+  ◌≤◌,
+  eqb,
+  false,
+  List,
+  [],
+  ◌∷◌,
+  ◌++◌,
+  length,
+  drop,
+  get_or,
+  Some,
+  refl,
+  sym,
+  ap,
+  ◌∙◌,
+  arith,
+}
 use Rattle.std.specs.Prelude.{codes, decimal, slice_get}
 use Rattle.std.specs.List.{flat_map}
 use Rattle.std.proofs.lemmas.Bool.Decides.{nat_tests}
@@ -13,13 +36,15 @@ use Rattle.ht_print.proofs.FlameLemmas.{flame_line-some}
 use Rattle.ht_print.proofs.FlameNodes.{own-is}
 
 -- the next line, and those behind it
-pub next-line : (tree : TreeState) (nodes : List ℕ) (given n : ℕ) → given < length nodes → get_or nodes given n ≡ n → flat_map (line_at tree) (drop given nodes) ≡ line_at tree n ++ flat_map (line_at tree) (drop (given + 1) nodes)
+pub next-line : (tree : TreeState) (nodes : List ℕ) (given n : ℕ) → given < length nodes → get_or nodes given n ≡ n
+    → flat_map (line_at tree) (drop given nodes) ≡ line_at tree n ++ flat_map (line_at tree) (drop (given + 1) nodes)
 next-line tree nodes given n within is =
     ap (λ (ns : List ℕ). flat_map (line_at tree) ns) (drop_more nodes given n within)
     ∙ ap (λ (k : ℕ). line_at tree k ++ flat_map (line_at tree) (drop (given + 1) nodes)) is
 
 -- the line of a node that has one
-pub line-is : (tree : TreeState) (n : ℕ) (node : CostNode) (path : List ℕ) → HasLine tree n → slice_get tree.nodes n ≡ Some node → path ≡ flame_path (front_at tree n)
+pub line-is : (tree : TreeState) (n : ℕ) (node : CostNode) (path : List ℕ) → HasLine tree n
+    → slice_get tree.nodes n ≡ Some node → path ≡ flame_path (front_at tree n)
     → path ++ (codes " " ++ (decimal node.own ++ codes "\n")) ≡ line_at tree n
 line-is tree n node path has held is =
     let own = own-is tree n node held in

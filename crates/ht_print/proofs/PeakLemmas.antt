@@ -12,14 +12,17 @@ use Rattle.peak_costs.specs.Totals.{total, totals}
 counted_is : (events : List Event) → length (counted events) ≡ event_count events
 counted_is events = length-filter is_counted events
 
-pub greatest_is : (moment : ℕ) (events : List Event) → IsPeak moment events → greatest (totals (counted events)) ≡ total_after moment events
+pub greatest_is : (moment : ℕ) (events : List Event) → IsPeak moment events
+    → greatest (totals (counted events)) ≡ total_after moment events
 greatest_is moment events is =
     let count = counted_is events in
     laws.greatest_is (total (counted events)) (length (counted events) + 1) moment (omega (arith, is.within, count))
     (λ k below. is.greatest k (omega (arith, below, count)))
 
-pub moment_is : (moment : ℕ) (events : List Event) → IsPeak moment events → first_greatest (totals (counted events)) ≡ moment
+pub moment_is : (moment : ℕ) (events : List Event) → IsPeak moment events
+    → first_greatest (totals (counted events)) ≡ moment
 moment_is moment events is =
     let count = counted_is events in
-    laws.first_greatest_is (total (counted events)) (length (counted events) + 1) moment (omega (arith, is.within, count))
+    laws.first_greatest_is (total (counted events)) (length (counted events) + 1) moment
+    (omega (arith, is.within, count))
     (λ k below. is.greatest k (omega (arith, below, count))) is.least

@@ -1,5 +1,30 @@
 -- Lemmas on the lines of a report's stacks and groups.
-use Rattle.std.proofs.Common.{◌≡◌, ℕ, ◌+◌, ◌-◌, ◌<◌, ◌≤◌, eqb, false, List, [], ◌∷◌, ◌++◌, length, map, take, get_or, Some, refl, sym, ap, ◌∙◌, append_assoc, append-nil, arith}
+use Rattle.std.proofs.Common.{
+  ◌≡◌,
+  ℕ,
+  ◌+◌,
+  ◌-◌,
+  ◌<◌,
+  ◌≤◌,
+  eqb,
+  false,
+  List,
+  [],
+  ◌∷◌,
+  ◌++◌,
+  length,
+  map,
+  take,
+  get_or,
+  Some,
+  refl,
+  sym,
+  ap,
+  ◌∙◌,
+  append_assoc,
+  append-nil,
+  arith,
+}
 use Rattle.std.specs.Prelude.{codes, decimal, slice_get}
 use Rattle.std.specs.List.{flat_map}
 use Rattle.std.proofs.lemmas.Bool.{cond-false}
@@ -22,7 +47,8 @@ unfolding frame_lines
 frame_lines-none blanks = refl
 
 pub frame_lines-more : {X : Type 0} (blanks : List ℕ) (f : X → List ℕ) (xs : List X) (k : ℕ) (d : X) → k < length xs
-    → frame_lines blanks (map f (take (k + 1) xs)) ≡ frame_lines blanks (map f (take k xs)) ++ (blanks ++ (f (get_or xs k d) ++ codes "\n"))
+    → frame_lines blanks (map f (take (k + 1) xs))
+    ≡ frame_lines blanks (map f (take k xs)) ++ (blanks ++ (f (get_or xs k d) ++ codes "\n"))
 unfolding frame_lines
 frame_lines-more {X} blanks f xs k d within =
     let line : List ℕ → List ℕ = λ text. blanks ++ (text ++ codes "\n") in
@@ -36,41 +62,57 @@ three o p q r = simp append_assoc
 
 -- three appends in a row
 pub three-appended : (o a b c p q r : List ℕ) → a ≡ o ++ p → b ≡ a ++ q → c ≡ b ++ r → c ≡ o ++ (p ++ (q ++ r))
-three-appended o a b c p q r p_is q_is r_is = r_is ∙ ap (λ (xs : List ℕ). xs ++ r) (q_is ∙ ap (λ (xs : List ℕ). xs ++ q) p_is) ∙ three o p q r
+three-appended o a b c p q r p_is q_is r_is =
+    r_is ∙ ap (λ (xs : List ℕ). xs ++ r) (q_is ∙ ap (λ (xs : List ℕ). xs ++ q) p_is) ∙ three o p q r
 
 -- the texts of a stack by its frames
-pub texts-by : (tables : TableState) (stack : ℕ) (frames : List FrameAt) (first : FrameAt) (rest : List FrameAt) → frames ≡ stack_frames tables.instructions tables.nodes stack → frames ≡ first ∷ rest
+pub texts-by : (tables : TableState) (stack : ℕ) (frames : List FrameAt) (first : FrameAt) (rest : List FrameAt)
+    → frames ≡ stack_frames tables.instructions tables.nodes stack → frames ≡ first ∷ rest
     → stack_texts Plain tables stack ≡ frame_text Plain tables first ∷ map (frame_text Plain tables) rest
-texts-by tables stack frames first rest are is = ap (λ (fs : List FrameAt). map (frame_text Plain tables) fs) (sym are ∙ is)
+texts-by tables stack frames first rest are is =
+    ap (λ (fs : List FrameAt). map (frame_text Plain tables) fs) (sym are ∙ is)
 
-pub place-first : (tables : TableState) (stack : ℕ) (at : FrameAt) → slice_get (stack_frames tables.instructions tables.nodes stack) 0 ≡ Some at → place_of tables stack ≡ frame_text Plain tables at
+pub place-first : (tables : TableState) (stack : ℕ) (at : FrameAt)
+    → slice_get (stack_frames tables.instructions tables.nodes stack) 0 ≡ Some at
+    → place_of tables stack ≡ frame_text Plain tables at
 unfolding place_of
 place-first tables stack at is = by (stack_frames tables.instructions tables.nodes stack) is
   where
-    by : (frames : List FrameAt) → slice_get frames 0 ≡ Some at → innermost (map (frame_text Plain tables) frames) ≡ frame_text Plain tables at
+    by : (frames : List FrameAt) → slice_get frames 0 ≡ Some at
+        → innermost (map (frame_text Plain tables) frames) ≡ frame_text Plain tables at
     by [] none = absurd (let within = slice_get_within {A = FrameAt} [] 0 at none in omega arith)
     by (first ∷ rest) some = ap (frame_text Plain tables) (same_Some first at some)
 
-pub others-by : (tables : TableState) (stack : ℕ) (frames : List FrameAt) (first : FrameAt) (rest : List FrameAt) → frames ≡ stack_frames tables.instructions tables.nodes stack → frames ≡ first ∷ rest → others (stack_texts Plain tables stack) ≡ map (frame_text Plain tables) rest
+pub others-by : (tables : TableState) (stack : ℕ) (frames : List FrameAt) (first : FrameAt) (rest : List FrameAt)
+    → frames ≡ stack_frames tables.instructions tables.nodes stack → frames ≡ first ∷ rest
+    → others (stack_texts Plain tables stack) ≡ map (frame_text Plain tables) rest
 others-by tables stack frames first rest are is = ap others (texts-by tables stack frames first rest are is)
 
 -- the line of suppressed bytes
-pub suppressed_line-some : (bytes : ℕ) → eqb bytes 0 ≡ false → suppressed_line bytes ≡ codes "suppressed: " ++ (decimal bytes ++ codes " bytes\n")
+pub suppressed_line-some : (bytes : ℕ) → eqb bytes 0 ≡ false
+    → suppressed_line bytes ≡ codes "suppressed: " ++ (decimal bytes ++ codes " bytes\n")
 unfolding suppressed_line
 suppressed_line-some bytes some = cond-false (eqb bytes 0) [] _ some
 
 -- the lines of one more that is shown
-pub shown-more : {X : Type 0} (f : X → List ℕ) (old now new : List ℕ) (xs : List X) (k : ℕ) (d : X) → k < length xs → now ≡ old ++ flat_map f (take k xs) → new ≡ now ++ f (get_or xs k d) → new ≡ old ++ flat_map f (take (k + 1) xs)
+pub shown-more : {X : Type 0} (f : X → List ℕ) (old now new : List ℕ) (xs : List X) (k : ℕ) (d : X) → k < length xs
+    → now ≡ old ++ flat_map f (take k xs) → new ≡ now ++ f (get_or xs k d) → new ≡ old ++ flat_map f (take (k + 1) xs)
 shown-more {X} f old now new xs k d within written added =
-    added ∙ ap (λ (bytes : List ℕ). bytes ++ f (get_or xs k d)) written ∙ append_assoc old (flat_map f (take k xs)) (f (get_or xs k d))
+    added ∙ ap (λ (bytes : List ℕ). bytes ++ f (get_or xs k d)) written
+    ∙ append_assoc old (flat_map f (take k xs)) (f (get_or xs k d))
     ∙ ap (λ (bytes : List ℕ). old ++ bytes)
-    (ap (λ (bytes : List ℕ). flat_map f (take k xs) ++ bytes) (sym (append-nil (f (get_or xs k d)))) ∙ sym (flat_map-append f (take k xs) (get_or xs k d ∷ [])) ∙ ap (λ (ys : List X). flat_map f ys) (sym (take_more xs k d within)))
+    (ap (λ (bytes : List ℕ). flat_map f (take k xs) ++ bytes) (sym (append-nil (f (get_or xs k d))))
+    ∙ sym (flat_map-append f (take k xs) (get_or xs k d ∷ []))
+    ∙ ap (λ (ys : List X). flat_map f ys) (sym (take_more xs k d within)))
 
 -- the lines of all that is shown, and how many are left
-pub shown-all : {X : Type 0} (f : X → List ℕ) (old now new label : List ℕ) (xs shown : List X) (k limit left : ℕ) → now ≡ old ++ flat_map f (take k shown) → length shown ≤ k → shown ≡ take limit xs → left ≡ length xs - limit
-    → new ≡ now ++ left_line label left → new ≡ old ++ (flat_map f (take limit xs) ++ left_line label (length xs - limit))
+pub shown-all : {X : Type 0} (f : X → List ℕ) (old now new label : List ℕ) (xs shown : List X) (k limit left : ℕ)
+    → now ≡ old ++ flat_map f (take k shown) → length shown ≤ k → shown ≡ take limit xs → left ≡ length xs - limit
+    → new ≡ now ++ left_line label left
+    → new ≡ old ++ (flat_map f (take limit xs) ++ left_line label (length xs - limit))
 shown-all {X} f old now new label xs shown k limit left written all are left_is added =
     added
-    ∙ ap (λ (bytes : List ℕ). bytes ++ left_line label left) (written ∙ ap (λ (ys : List X). old ++ flat_map f ys) (take_all k shown all ∙ are))
+    ∙ ap (λ (bytes : List ℕ). bytes ++ left_line label left)
+    (written ∙ ap (λ (ys : List X). old ++ flat_map f ys) (take_all k shown all ∙ are))
     ∙ append_assoc old (flat_map f (take limit xs)) (left_line label left)
     ∙ ap (λ (n : ℕ). old ++ (flat_map f (take limit xs) ++ left_line label n)) left_is

@@ -27,52 +27,70 @@ use Rattle.ht_trace.proofs.FirstLemmas.{first_bring_none}
 use Rattle.ht_trace.proofs.LineLemmas.{events-push, no_fault_in, stands-push}
 
 -- the tables take what such a line says, and stay as they are
-takes-event : (tables : TableState) (kind : EventKind) (info : ℕ) (held : HeldInfo) → slice_get tables.infos info ≡ Some held → Takes tables (event_content kind info) (step.Event (event_of_info kind info held)) tables
+takes-event : (tables : TableState) (kind : EventKind) (info : ℕ) (held : HeldInfo)
+    → slice_get tables.infos info ≡ Some held
+    → Takes tables (event_content kind info) (step.Event (event_of_info kind info held)) tables
 takes-event tables Allocation info held at =
     let within = slice_get_within tables.infos info held at in
     record {
       no_fault = grind (arith, nat_tests, within);
-      step_is = sym (ap (λ (o : Option HeldInfo). event_step (option_map (λ found. Alloc info found.stack found.size) o)) at);
+      step_is =
+          sym (ap (λ (o : Option HeldInfo). event_step (option_map (λ found. Alloc info found.stack found.size) o)) at);
       added = refl;
     }
 takes-event tables FreeKind info held at =
     let within = slice_get_within tables.infos info held at in
     record {
       no_fault = grind (arith, nat_tests, within);
-      step_is = sym (ap (λ (o : Option HeldInfo). event_step (option_map (λ found. Free info found.stack found.size) o)) at);
+      step_is =
+          sym (ap (λ (o : Option HeldInfo). event_step (option_map (λ found. Free info found.stack found.size) o)) at);
       added = refl;
     }
 
 -- so a line that says it is taken, whatever the lines before it
-passes-line : (tables : TableState) (line : List ℕ) (said : Content) (event : Event) → is_some tables.version ≡ true → ((version : ℕ) → reading Interpreted version line ≡ Ok said) → Takes tables said (step.Event event) tables → PassesLine tables line event
+passes-line : (tables : TableState) (line : List ℕ) (said : Content) (event : Event) → is_some tables.version ≡ true
+    → ((version : ℕ) → reading Interpreted version line ≡ Ok said) → Takes tables said (step.Event event) tables
+    → PassesLine tables line event
 passes-line tables line said event versioned says takes =
     let may = ap (λ (b : Bool). b || may_stand_first line) versioned in
     let read = says (unwrap_or tables.version 1) in
     record {
-      no_fault = λ given lines stands. ap (λ (t : TableState). fault_in t line) (sym stands.tables_is) ∙ no_fault_in tables said line may read takes.no_fault;
+      no_fault =
+          λ given lines stands. ap (λ (t : TableState). fault_in t line) (sym stands.tables_is)
+          ∙ no_fault_in tables said line may read takes.no_fault;
       brings = λ given lines stands.
           let same : infos (contents lines) ≡ tables.infos = sym (ap (λ (t : TableState). t.infos) stands.tables_is) in
-          ap (reading_step (infos (contents lines))) (says (file_version lines)) ∙ ap (λ (held : List HeldInfo). step_in held said) same ∙ sym takes.step_is;
-      stands = λ given lines stands. stands-push tables tables said (step.Event event) line may read takes given lines stands;
-      events = λ given lines stands. events-push tables tables said (step.Event event) line may read takes given lines stands;
+          ap (reading_step (infos (contents lines))) (says (file_version lines))
+          ∙ ap (λ (held : List HeldInfo). step_in held said) same ∙ sym takes.step_is;
+      stands =
+          λ given lines stands. stands-push tables tables said (step.Event event) line may read takes given lines stands;
+      events =
+          λ given lines stands. events-push tables tables said (step.Event event) line may read takes given lines stands;
     }
 
 -- before it there is no info
-no_info : (tables : TableState) (given lines : List (List ℕ)) (info : ℕ) (held : HeldInfo) → is_some tables.version ≡ false → slice_get tables.infos info ≡ Some held → StandsAfter tables given lines → ⊥
+no_info : (tables : TableState) (given lines : List (List ℕ)) (info : ℕ) (held : HeldInfo)
+    → is_some tables.version ≡ false → slice_get tables.infos info ≡ Some held → StandsAfter tables given lines → ⊥
 no_info tables given lines info held unversioned at stands =
-    let none : tables.infos ≡ [] = ap (λ (t : TableState). t.infos) stands.tables_is ∙ first_bring_none (file_version lines) lines (stands.first unversioned) in
+    let none : tables.infos ≡ [] =
+    ap (λ (t : TableState). t.infos) stands.tables_is
+    ∙ first_bring_none (file_version lines) lines (stands.first unversioned) in
     let within = slice_get_within tables.infos info held at in
     omega (arith, within, ap length none)
 
 -- so all such lines are taken, of any tables
-pub passes_event : (tables : TableState) (line : List ℕ) (kind : EventKind) (info : ℕ) (held : HeldInfo) → ((version : ℕ) → reading Interpreted version line ≡ Ok (event_content kind info))
+pub passes_event : (tables : TableState) (line : List ℕ) (kind : EventKind) (info : ℕ) (held : HeldInfo)
+    → ((version : ℕ) → reading Interpreted version line ≡ Ok (event_content kind info))
     → slice_get tables.infos info ≡ Some held → PassesLine tables line (event_of_info kind info held)
 passes_event tables line kind info held says at = by (is_some tables.version) refl
   where
     by : (versioned : Bool) → is_some tables.version ≡ versioned → PassesLine tables line (event_of_info kind info held)
-    by true is = passes-line tables line (event_content kind info) (event_of_info kind info held) is says (takes-event tables kind info held at)
+    by true is =
+        passes-line tables line (event_content kind info) (event_of_info kind info held) is says
+        (takes-event tables kind info held at)
     by false is =
-        let never : (given lines : List (List ℕ)) → StandsAfter tables given lines → ⊥ = λ given lines stands. no_info tables given lines info held is at stands in
+        let never : (given lines : List (List ℕ)) → StandsAfter tables given lines → ⊥ =
+        λ given lines stands. no_info tables given lines info held is at stands in
         record {
           no_fault = λ given lines stands. absurd (never given lines stands);
           brings = λ given lines stands. absurd (never given lines stands);

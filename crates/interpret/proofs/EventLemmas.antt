@@ -1,7 +1,23 @@
 -- The events that one line more of a raw trace brings, by what it says.
 use Rattle.std.proofs.Common.{◌≡◌, ℕ, List, [], ◌∷◌, ◌++◌, Some, refl, sym, ap, ◌∙◌, subst, append_assoc, append-nil}
 use Rattle.std.specs.List.{AllByRecursion}
-use Rattle.ht_lines.specs.Content.{Content, version_line, executable_line, command_line, system_line, clear_line, module_line, node_line, raw_allocation_line, raw_free_line, resident_line, attached_line, suppression_line, comment_line, other_line}
+use Rattle.ht_lines.specs.Content.{
+  Content,
+  version_line,
+  executable_line,
+  command_line,
+  system_line,
+  clear_line,
+  module_line,
+  node_line,
+  raw_allocation_line,
+  raw_free_line,
+  resident_line,
+  attached_line,
+  suppression_line,
+  comment_line,
+  other_line,
+}
 use Rattle.live_ledger.specs.declared.event.Event.{Event}
 use Rattle.live_ledger.specs.declared.event.Event.TheVariants.{Alloc, Free}
 use Rattle.interpret.specs.InterpretedSaid.{events_said, interpreted_events, interpreted_said, told_after}
@@ -10,22 +26,40 @@ use Rattle.interpret.specs.RawBlocks.{RawBlock, held}
 use Rattle.interpret.specs.RawContents.{IsRaw}
 use Rattle.interpret.specs.RawTables.{info_number, infos}
 use Rattle.interpret.specs.SymbolLine.{Symbol}
-use Rattle.interpret.proofs.LedgerLemmas.{AreTold, IsQuiet, alloc-event, event_behind, events-append, free-event, interpreted-push, node-quiet, quiet-events, told-none, told-step}
+use Rattle.interpret.proofs.LedgerLemmas.{
+  AreTold,
+  IsQuiet,
+  alloc-event,
+  event_behind,
+  events-append,
+  free-event,
+  interpreted-push,
+  node-quiet,
+  quiet-events,
+  told-none,
+  told-step,
+}
 use Rattle.interpret.proofs.PointerLemmas.{held-push}
 use Rattle.ht_trace.specs.Gathered.{gathered}
 
-told-more : (symbols : List Symbol) (earlier said : List Content) → AreTold symbols earlier → AllByRecursion IsRaw said → AreTold symbols (earlier ++ said)
+told-more : (symbols : List Symbol) (earlier said : List Content) → AreTold symbols earlier → AllByRecursion IsRaw said
+    → AreTold symbols (earlier ++ said)
 told-more symbols earlier [] are raw = subst (AreTold symbols) (sym (append-nil earlier)) are
 told-more symbols earlier (c ∷ said) are raw =
-    subst (AreTold symbols) (append_assoc earlier (c ∷ []) said) (told-more symbols (earlier ++ c ∷ []) said (told-step symbols earlier c raw.0 are) raw.1)
+    subst (AreTold symbols) (append_assoc earlier (c ∷ []) said)
+    (told-more symbols (earlier ++ c ∷ []) said (told-step symbols earlier c raw.0 are) raw.1)
 
 are-told : (symbols : List Symbol) (said : List Content) → AllByRecursion IsRaw said → AreTold symbols said
 are-told symbols said raw = told-more symbols [] said (told-none symbols) raw
 
 events-more : (symbols : List Symbol) (said : List Content) (c : Content)
-    → interpreted_events symbols (said ++ c ∷ []) ≡ interpreted_events symbols said ++ gathered event_behind (interpreted_said symbols said) (told_after symbols said c)
+    → interpreted_events symbols (said ++ c ∷ [])
+    ≡ interpreted_events symbols said
+    ++ gathered event_behind (interpreted_said symbols said) (told_after symbols said c)
 unfolding interpreted_events
-events-more symbols said c = ap events_said (interpreted-push symbols said c) ∙ events-append (interpreted_said symbols said) (told_after symbols said c)
+events-more symbols said c =
+    ap events_said (interpreted-push symbols said c)
+    ∙ events-append (interpreted_said symbols said) (told_after symbols said c)
 
 -- no line, no event
 pub events-none : (symbols : List Symbol) → interpreted_events symbols [] ≡ []
@@ -34,27 +68,36 @@ events-none symbols = refl
 
 -- an allocation brings one of its size at its node
 pub event-allocated : (symbols : List Symbol) (said : List Content) (size trace ptr : ℕ) → AllByRecursion IsRaw said
-    → (info : ℕ) × (interpreted_events symbols (said ++ raw_allocation_line size trace ptr ∷ []) ≡ interpreted_events symbols said ++ Alloc info trace size ∷ [])
+    → (info : ℕ)
+    × (interpreted_events symbols (said ++ raw_allocation_line size trace ptr ∷ [])
+    ≡ interpreted_events symbols said ++ Alloc info trace size ∷ [])
 event-allocated symbols said size trace ptr raw = (
   info_number (infos (said ++ raw_allocation_line size trace ptr ∷ [])) (record { size = size; trace = trace }),
   events-more symbols said (raw_allocation_line size trace ptr)
-      ∙ ap (λ (l : List Event). interpreted_events symbols said ++ l) (alloc-event symbols said size trace ptr (are-told symbols said raw)),
+      ∙ ap (λ (l : List Event). interpreted_events symbols said ++ l)
+      (alloc-event symbols said size trace ptr (are-told symbols said raw)),
 )
 
 -- a free brings one of the block that its pointer stands for
-pub event-freed : (symbols : List Symbol) (said : List Content) (ptr : ℕ) (block : RawBlock) → AllByRecursion IsRaw said → held said ptr ≡ Some block
-    → (info : ℕ) × (interpreted_events symbols (said ++ raw_free_line ptr ∷ []) ≡ interpreted_events symbols said ++ Free info block.info.trace block.info.size ∷ [])
+pub event-freed : (symbols : List Symbol) (said : List Content) (ptr : ℕ) (block : RawBlock) → AllByRecursion IsRaw said
+    → held said ptr ≡ Some block
+    → (info : ℕ)
+    × (interpreted_events symbols (said ++ raw_free_line ptr ∷ [])
+    ≡ interpreted_events symbols said ++ Free info block.info.trace block.info.size ∷ [])
 event-freed symbols said ptr block raw here = (
   info_number (infos said) block.info,
   events-more symbols said (raw_free_line ptr)
-      ∙ ap (λ (l : List Event). interpreted_events symbols said ++ l) (free-event symbols said ptr block here (are-told symbols said raw)),
+      ∙ ap (λ (l : List Event). interpreted_events symbols said ++ l)
+      (free-event symbols said ptr block here (are-told symbols said raw)),
 )
 
 -- another line of a raw trace without a clock value brings none
-pub event-none : (symbols : List Symbol) (said : List Content) (c : Content) → IsEventless c → interpreted_events symbols (said ++ c ∷ []) ≡ interpreted_events symbols said
+pub event-none : (symbols : List Symbol) (said : List Content) (c : Content) → IsEventless c
+    → interpreted_events symbols (said ++ c ∷ []) ≡ interpreted_events symbols said
 event-none symbols said c none =
     events-more symbols said c
-    ∙ ap (λ (l : List Event). interpreted_events symbols said ++ l) (quiet-events (interpreted_said symbols said) (told_after symbols said c) (quiet c none))
+    ∙ ap (λ (l : List Event). interpreted_events symbols said ++ l)
+    (quiet-events (interpreted_said symbols said) (told_after symbols said c) (quiet c none))
     ∙ append-nil (interpreted_events symbols said)
   where
     quiet : (c : Content) → IsEventless c → AllByRecursion IsQuiet (told_after symbols said c)
@@ -73,7 +116,8 @@ event-none symbols said c none =
     quiet _ none = absurd none
 
 -- and leaves every pointer its block
-pub held-none : (said : List Content) (c : Content) (ptr : ℕ) → IsEventless c → held (said ++ c ∷ []) ptr ≡ held said ptr
+pub held-none : (said : List Content) (c : Content) (ptr : ℕ) → IsEventless c
+    → held (said ++ c ∷ []) ptr ≡ held said ptr
 unfolding held
 held-none said (version_line heaptrack file) ptr none = held-push said (version_line heaptrack file) ptr
 held-none said (executable_line bytes) ptr none = held-push said (executable_line bytes) ptr

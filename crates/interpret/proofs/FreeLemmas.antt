@@ -1,5 +1,33 @@
 -- No free of the interpreted lines is of an info without a live block.
-use Rattle.std.proofs.Common.{◌≡◌, ℕ, ◌+◌, ◌^◌, ◌<◌, ◌≤◌, Bool, true, false, cond, List, [], ◌∷◌, ◌++◌, map, Option, Some, None, refl, sym, ap, ◌∙◌, arith, append_assoc, append-nil, subst, true≢false}
+use Rattle.std.proofs.Common.{
+  ◌≡◌,
+  ℕ,
+  ◌+◌,
+  ◌^◌,
+  ◌<◌,
+  ◌≤◌,
+  Bool,
+  true,
+  false,
+  cond,
+  List,
+  [],
+  ◌∷◌,
+  ◌++◌,
+  map,
+  Option,
+  Some,
+  None,
+  refl,
+  sym,
+  ap,
+  ◌∙◌,
+  arith,
+  append_assoc,
+  append-nil,
+  subst,
+  true≢false,
+}
 use Rattle.std.specs.Prelude.{◌==◌, nat_lt, slice_get, sum_by}
 use Rattle.std.specs.List.{AllByRecursion, list_any}
 use Rattle.std.specs.Option.{option_to_list}
@@ -8,7 +36,20 @@ use Rattle.std.proofs.lemmas.Bool.Decides.{nat_tests}
 use Rattle.std.proofs.lemmas.List.Sums.{sum_by-append, sum_by-cons}
 use Rattle.hp_num.specs.Hexadecimal.{hexadecimal}
 use Rattle.hp_num.specs.ParsedHex.{parsed_hex}
-use Rattle.ht_lines.specs.Content.{Content, string_line, instruction_line, info_line, allocation_line, free_line, clear_line, module_line, node_line, clock_line, raw_allocation_line, raw_free_line}
+use Rattle.ht_lines.specs.Content.{
+  Content,
+  string_line,
+  instruction_line,
+  info_line,
+  allocation_line,
+  free_line,
+  clear_line,
+  module_line,
+  node_line,
+  clock_line,
+  raw_allocation_line,
+  raw_free_line,
+}
 use Rattle.ht_trace.specs.Gathered.{gathered}
 use Rattle.ht_trace.specs.TraceEvents.{events}
 use Rattle.live_ledger.specs.declared.event.Event.{Event}
@@ -31,7 +72,20 @@ use Rattle.interpret.proofs.FirstLemmas.{place-within}
 use Rattle.ht_trace.proofs.Laws.{gathered-push}
 use Rattle.interpret.proofs.GrowthLemmas.{infos-push}
 use Rattle.interpret.proofs.KeepLemmas.{Holds, holds-step, none-hold}
-use Rattle.interpret.proofs.LedgerLemmas.{all-append, alloc-event, event_behind, events-append, free-event, info-at, infos-same, interpreted-push, node-quiet, now-held, quiet-events, stays-held}
+use Rattle.interpret.proofs.LedgerLemmas.{
+  all-append,
+  alloc-event,
+  event_behind,
+  events-append,
+  free-event,
+  info-at,
+  infos-same,
+  interpreted-push,
+  node-quiet,
+  now-held,
+  quiet-events,
+  stays-held,
+}
 use Rattle.interpret.proofs.PointerLemmas.{number-stays}
 use Rattle.interpret.proofs.RawLedgerLemmas.{frees-once, some-is}
 use Rattle.interpret.proofs.ReadAgainLemmas.{events-again, whole-stage}
@@ -47,29 +101,45 @@ IsNumbered all (Alloc n stack size) = HasNumber all n stack size
 IsNumbered all (Free n stack size) = HasNumber all n stack size
 IsNumbered all (Tick ms) = Unit {0}
 
-number-grows : (all : List AllocationInfo) (info : AllocationInfo) (n stack size : ℕ) → HasNumber all n stack size → HasNumber (with_new same_info all info) n stack size
+number-grows : (all : List AllocationInfo) (info : AllocationInfo) (n stack size : ℕ) → HasNumber all n stack size
+    → HasNumber (with_new same_info all info) n stack size
 number-grows all info n stack size has = record {
   there = stays-held all info (record { size = size; trace = stack }) has.there;
-  number = has.number ∙ sym (number-stays all info (record { size = size; trace = stack }) (place-within (same_info (record { size = size; trace = stack })) all has.there));
+  number =
+      has.number
+      ∙ sym (number-stays all info (record { size = size; trace = stack })
+      (place-within (same_info (record { size = size; trace = stack })) all has.there));
 }
 
-numbered-grow : (all : List AllocationInfo) (info : AllocationInfo) (es : List Event) → AllByRecursion (IsNumbered all) es → AllByRecursion (IsNumbered (with_new same_info all info)) es
+numbered-grow : (all : List AllocationInfo) (info : AllocationInfo) (es : List Event)
+    → AllByRecursion (IsNumbered all) es → AllByRecursion (IsNumbered (with_new same_info all info)) es
 unfolding IsNumbered
 numbered-grow all info [] each = tt
-numbered-grow all info (Alloc n stack size ∷ es) each = (number-grows all info n stack size each.0, numbered-grow all info es each.1)
-numbered-grow all info (Free n stack size ∷ es) each = (number-grows all info n stack size each.0, numbered-grow all info es each.1)
+numbered-grow all info (Alloc n stack size ∷ es) each =
+    (number-grows all info n stack size each.0, numbered-grow all info es each.1)
+numbered-grow all info (Free n stack size ∷ es) each =
+    (number-grows all info n stack size each.0, numbered-grow all info es each.1)
 numbered-grow all info (Tick ms ∷ es) each = (tt, numbered-grow all info es each.1)
 
 -- so the number of an info counts the events of its stack and size
-same-number : (all : List AllocationInfo) (info : AllocationInfo) (n stack size : ℕ) → list_any (same_info info) all ≡ true → HasNumber all n stack size → (n == info_number all info) ≡ same_info (record { size = size; trace = stack }) info
+same-number : (all : List AllocationInfo) (info : AllocationInfo) (n stack size : ℕ)
+    → list_any (same_info info) all ≡ true → HasNumber all n stack size
+    → (n == info_number all info) ≡ same_info (record { size = size; trace = stack }) info
 same-number all info n stack size held has = by (same_info (record { size = size; trace = stack }) info) refl
   where
     by : (b : Bool) → same_info (record { size = size; trace = stack }) info ≡ b → (n == info_number all info) ≡ b
-    by true is = eq-eqb n (info_number all info) (has.number ∙ ap (λ (i : AllocationInfo). info_number all i) ((infos-decide (record { size = size; trace = stack }) info).0 is))
+    by true is =
+        eq-eqb n (info_number all info)
+        (has.number
+        ∙ ap (λ (i : AllocationInfo). info_number all i)
+        ((infos-decide (record { size = size; trace = stack }) info).0 is))
     by false is = false_from_ne_true (n == info_number all info) (λ same.
         let one = info-at all (record { size = size; trace = stack }) has.there in
         let two = info-at all info held in
-        let equal : record { size = size; trace = stack } ≡ info = some-is (record { size = size; trace = stack }) info (sym one ∙ (ap (λ (k : ℕ). slice_get all k) (sym has.number ∙ eqb-true n (info_number all info) same) ∙ two)) in
+        let equal : record { size = size; trace = stack } ≡ info =
+        some-is (record { size = size; trace = stack }) info
+        (sym one
+        ∙ (ap (λ (k : ℕ). slice_get all k) (sym has.number ∙ eqb-true n (info_number all info) same) ∙ two)) in
         true≢false (sym ((infos-decide (record { size = size; trace = stack }) info).1 equal) ∙ is))
 
 -- what an event counts for by its stack and size alone
@@ -83,40 +153,66 @@ frees-by info (Alloc n stack size) = 0
 frees-by info (Free n stack size) = cond (same_info (record { size = size; trace = stack }) info) 1 0
 frees-by info (Tick ms) = 0
 
-allocs-same : (all : List AllocationInfo) (info : AllocationInfo) (es : List Event) → list_any (same_info info) all ≡ true → AllByRecursion (IsNumbered all) es → allocs_of (info_number all info) es ≡ sum_by (allocs-by info) es
+allocs-same : (all : List AllocationInfo) (info : AllocationInfo) (es : List Event)
+    → list_any (same_info info) all ≡ true → AllByRecursion (IsNumbered all) es
+    → allocs_of (info_number all info) es ≡ sum_by (allocs-by info) es
 unfolding IsNumbered allocs-by
 allocs-same all info [] held each = refl
 allocs-same all info (e ∷ es) held each =
-    sum_by-cons (λ event. cond {A = ℕ} (is_alloc_of (info_number all info) event) 1 0) e es ∙ (by e each.0 (allocs-same all info es held each.1) ∙ sym (sum_by-cons (allocs-by info) e es))
+    sum_by-cons (λ event. cond {A = ℕ} (is_alloc_of (info_number all info) event) 1 0) e es
+    ∙ (by e each.0 (allocs-same all info es held each.1) ∙ sym (sum_by-cons (allocs-by info) e es))
   where
-    by : (e : Event) → IsNumbered all e → allocs_of (info_number all info) es ≡ sum_by (allocs-by info) es → cond {A = ℕ} (is_alloc_of (info_number all info) e) 1 0 + allocs_of (info_number all info) es ≡ allocs-by info e + sum_by (allocs-by info) es
-    by (Alloc n stack size) has rest = ap (λ (b : Bool). cond {A = ℕ} b 1 0 + allocs_of (info_number all info) es) (same-number all info n stack size held has) ∙ ap (λ (k : ℕ). cond {A = ℕ} (same_info (record { size = size; trace = stack }) info) 1 0 + k) rest
+    by : (e : Event) → IsNumbered all e → allocs_of (info_number all info) es ≡ sum_by (allocs-by info) es
+        → cond {A = ℕ} (is_alloc_of (info_number all info) e) 1 0 + allocs_of (info_number all info) es
+        ≡ allocs-by info e + sum_by (allocs-by info) es
+    by (Alloc n stack size) has rest =
+        ap (λ (b : Bool). cond {A = ℕ} b 1 0 + allocs_of (info_number all info) es)
+        (same-number all info n stack size held has)
+        ∙ ap (λ (k : ℕ). cond {A = ℕ} (same_info (record { size = size; trace = stack }) info) 1 0 + k) rest
     by (Free n stack size) has rest = ap (λ (k : ℕ). 0 + k) rest
     by (Tick ms) has rest = ap (λ (k : ℕ). 0 + k) rest
 
-frees-same : (all : List AllocationInfo) (info : AllocationInfo) (es : List Event) → list_any (same_info info) all ≡ true → AllByRecursion (IsNumbered all) es → frees_of (info_number all info) es ≡ sum_by (frees-by info) es
+frees-same : (all : List AllocationInfo) (info : AllocationInfo) (es : List Event)
+    → list_any (same_info info) all ≡ true → AllByRecursion (IsNumbered all) es
+    → frees_of (info_number all info) es ≡ sum_by (frees-by info) es
 unfolding IsNumbered frees-by
 frees-same all info [] held each = refl
 frees-same all info (e ∷ es) held each =
-    sum_by-cons (λ event. cond {A = ℕ} (is_free_of (info_number all info) event) 1 0) e es ∙ (by e each.0 (frees-same all info es held each.1) ∙ sym (sum_by-cons (frees-by info) e es))
+    sum_by-cons (λ event. cond {A = ℕ} (is_free_of (info_number all info) event) 1 0) e es
+    ∙ (by e each.0 (frees-same all info es held each.1) ∙ sym (sum_by-cons (frees-by info) e es))
   where
-    by : (e : Event) → IsNumbered all e → frees_of (info_number all info) es ≡ sum_by (frees-by info) es → cond {A = ℕ} (is_free_of (info_number all info) e) 1 0 + frees_of (info_number all info) es ≡ frees-by info e + sum_by (frees-by info) es
+    by : (e : Event) → IsNumbered all e → frees_of (info_number all info) es ≡ sum_by (frees-by info) es
+        → cond {A = ℕ} (is_free_of (info_number all info) e) 1 0 + frees_of (info_number all info) es
+        ≡ frees-by info e + sum_by (frees-by info) es
     by (Alloc n stack size) has rest = ap (λ (k : ℕ). 0 + k) rest
-    by (Free n stack size) has rest = ap (λ (b : Bool). cond {A = ℕ} b 1 0 + frees_of (info_number all info) es) (same-number all info n stack size held has) ∙ ap (λ (k : ℕ). cond {A = ℕ} (same_info (record { size = size; trace = stack }) info) 1 0 + k) rest
+    by (Free n stack size) has rest =
+        ap (λ (b : Bool). cond {A = ℕ} b 1 0 + frees_of (info_number all info) es)
+        (same-number all info n stack size held has)
+        ∙ ap (λ (k : ℕ). cond {A = ℕ} (same_info (record { size = size; trace = stack }) info) 1 0 + k) rest
     by (Tick ms) has rest = ap (λ (k : ℕ). 0 + k) rest
 
 -- a held block's info has more allocations than frees
-more-allocs : (symbols : List Symbol) (said : List Content) (ptr : ℕ) (block : RawBlock) → held said ptr ≡ Some block → Holds symbols said → AllByRecursion (IsNumbered (infos said)) (interpreted_events symbols said)
-    → frees_of (info_number (infos said) block.info) (interpreted_events symbols said) < allocs_of (info_number (infos said) block.info) (interpreted_events symbols said)
+more-allocs : (symbols : List Symbol) (said : List Content) (ptr : ℕ) (block : RawBlock) → held said ptr ≡ Some block
+    → Holds symbols said → AllByRecursion (IsNumbered (infos said)) (interpreted_events symbols said)
+    → frees_of (info_number (infos said) block.info) (interpreted_events symbols said)
+    < allocs_of (info_number (infos said) block.info) (interpreted_events symbols said)
 unfolding live_blocks allocs-by frees-by
 more-allocs symbols said ptr block here kept each =
     let info = block.info in
     let w = λ (b : RawBlock). cond {A = ℕ} (same_info b.info block.info) 1 0 in
     let there = kept.are_told.block_infos ptr block here in
-    let a = allocs-same (infos said) info (interpreted_events symbols said) there each ∙ kept.are_told.allocs (allocs-by info) w (record { alloc = λ n b. refl; free = λ n stack size. refl; tick = λ ms. refl }) in
-    let b = frees-same (infos said) info (interpreted_events symbols said) there each ∙ kept.are_told.frees (frees-by info) w (record { alloc = λ n stack size. refl; free = λ n b. refl; tick = λ ms. refl }) in
+    let a =
+    allocs-same (infos said) info (interpreted_events symbols said) there each
+    ∙ kept.are_told.allocs (allocs-by info) w
+    (record { alloc = λ n b. refl; free = λ n stack size. refl; tick = λ ms. refl }) in
+    let b =
+    frees-same (infos said) info (interpreted_events symbols said) there each
+    ∙ kept.are_told.frees (frees-by info) w
+    (record { alloc = λ n stack size. refl; free = λ n b. refl; tick = λ ms. refl }) in
     let balance = kept.are_held.balance w in
-    let once = frees-once w (freed said) (blocks said) block (kept.are_held.once ptr block here) (kept.are_held.unfreed ptr block here) in
+    let once =
+    frees-once w (freed said) (blocks said) block (kept.are_held.once ptr block here)
+    (kept.are_held.unfreed ptr block here) in
     let own : w block ≡ 1 = ap (λ (b : Bool). cond {A = ℕ} b 1 0) ((infos-decide block.info block.info).1 refl) in
     omega (arith, a, b, balance, once, own)
 
@@ -125,82 +221,134 @@ record AreFine (symbols : List Symbol) (said : List Content) : Type 0 where
   each : AllByRecursion (IsNumbered (infos said)) (interpreted_events symbols said)
   no_fault : gathered free_fault [] (interpreted_events symbols said) ≡ []
 
-events-after : (symbols : List Symbol) (said : List Content) (c : Content) → interpreted_events symbols (said ++ c ∷ []) ≡ interpreted_events symbols said ++ gathered event_behind (interpreted_said symbols said) (told_after symbols said c)
+events-after : (symbols : List Symbol) (said : List Content) (c : Content)
+    → interpreted_events symbols (said ++ c ∷ [])
+    ≡ interpreted_events symbols said
+    ++ gathered event_behind (interpreted_said symbols said) (told_after symbols said c)
 unfolding interpreted_events
-events-after symbols said c = ap events_said (interpreted-push symbols said c) ∙ events-append (interpreted_said symbols said) (told_after symbols said c)
+events-after symbols said c =
+    ap events_said (interpreted-push symbols said c)
+    ∙ events-append (interpreted_said symbols said) (told_after symbols said c)
 
 -- no event more
-fine-same : (symbols : List Symbol) (said : List Content) (c : Content) → gathered event_behind (interpreted_said symbols said) (told_after symbols said c) ≡ [] → infos (said ++ c ∷ []) ≡ infos said → AreFine symbols said → AreFine symbols (said ++ c ∷ [])
+fine-same : (symbols : List Symbol) (said : List Content) (c : Content)
+    → gathered event_behind (interpreted_said symbols said) (told_after symbols said c) ≡ []
+    → infos (said ++ c ∷ []) ≡ infos said → AreFine symbols said → AreFine symbols (said ++ c ∷ [])
 fine-same symbols said c none same fine =
-    let now : interpreted_events symbols (said ++ c ∷ []) ≡ interpreted_events symbols said = events-after symbols said c ∙ (ap (λ (l : List Event). interpreted_events symbols said ++ l) none ∙ append-nil (interpreted_events symbols said)) in
+    let now : interpreted_events symbols (said ++ c ∷ []) ≡ interpreted_events symbols said =
+    events-after symbols said c
+    ∙ (ap (λ (l : List Event). interpreted_events symbols said ++ l) none
+    ∙ append-nil (interpreted_events symbols said)) in
     record {
-      each = subst (λ (l : List AllocationInfo). AllByRecursion (IsNumbered l) (interpreted_events symbols (said ++ c ∷ []))) (sym same) (subst (λ (l : List Event). AllByRecursion (IsNumbered (infos said)) l) (sym now) fine.each);
+      each =
+          subst (λ (l : List AllocationInfo). AllByRecursion (IsNumbered l) (interpreted_events symbols (said ++ c ∷ [])))
+          (sym same) (subst (λ (l : List Event). AllByRecursion (IsNumbered (infos said)) l) (sym now) fine.each);
       no_fault = ap (λ (l : List Event). gathered free_fault [] l) now ∙ fine.no_fault;
     }
 
 -- one event more
-fine-one : (symbols : List Symbol) (said : List Content) (c : Content) (event : Event) → gathered event_behind (interpreted_said symbols said) (told_after symbols said c) ≡ event ∷ [] → AllByRecursion (IsNumbered (infos (said ++ c ∷ []))) (interpreted_events symbols said)
-    → IsNumbered (infos (said ++ c ∷ [])) event → free_fault (interpreted_events symbols said) event ≡ None → AreFine symbols said → AreFine symbols (said ++ c ∷ [])
+fine-one : (symbols : List Symbol) (said : List Content) (c : Content) (event : Event)
+    → gathered event_behind (interpreted_said symbols said) (told_after symbols said c) ≡ event ∷ []
+    → AllByRecursion (IsNumbered (infos (said ++ c ∷ []))) (interpreted_events symbols said)
+    → IsNumbered (infos (said ++ c ∷ [])) event → free_fault (interpreted_events symbols said) event ≡ None
+    → AreFine symbols said → AreFine symbols (said ++ c ∷ [])
 fine-one symbols said c event one old here good fine =
-    let now : interpreted_events symbols (said ++ c ∷ []) ≡ interpreted_events symbols said ++ event ∷ [] = events-after symbols said c ∙ ap (λ (l : List Event). interpreted_events symbols said ++ l) one in
+    let now : interpreted_events symbols (said ++ c ∷ []) ≡ interpreted_events symbols said ++ event ∷ [] =
+    events-after symbols said c ∙ ap (λ (l : List Event). interpreted_events symbols said ++ l) one in
     record {
-      each = subst (λ (l : List Event). AllByRecursion (IsNumbered (infos (said ++ c ∷ []))) l) (sym now) (all-append (IsNumbered (infos (said ++ c ∷ []))) (interpreted_events symbols said) (event ∷ []) old (here, tt));
+      each =
+          subst (λ (l : List Event). AllByRecursion (IsNumbered (infos (said ++ c ∷ []))) l) (sym now)
+          (all-append (IsNumbered (infos (said ++ c ∷ []))) (interpreted_events symbols said) (event ∷ []) old
+          (here, tt));
       no_fault =
           ap (λ (l : List Event). gathered free_fault [] l) now
-          ∙ (gathered-push free_fault [] (interpreted_events symbols said) event ∙ (ap (λ (o : Option EventFault). gathered free_fault [] (interpreted_events symbols said) ++ option_to_list o) good ∙ (append-nil (gathered free_fault [] (interpreted_events symbols said)) ∙ fine.no_fault)));
+          ∙ (gathered-push free_fault [] (interpreted_events symbols said) event
+          ∙ (ap
+          (λ (o : Option EventFault). gathered free_fault [] (interpreted_events symbols said) ++ option_to_list o) good
+          ∙ (append-nil (gathered free_fault [] (interpreted_events symbols said)) ∙ fine.no_fault)));
     }
 
-fine-free : (symbols : List Symbol) (said : List Content) (ptr : ℕ) (o : Option RawBlock) → held said ptr ≡ o → Holds symbols said → AreFine symbols said → AreFine symbols (said ++ raw_free_line ptr ∷ [])
+fine-free : (symbols : List Symbol) (said : List Content) (ptr : ℕ) (o : Option RawBlock) → held said ptr ≡ o
+    → Holds symbols said → AreFine symbols said → AreFine symbols (said ++ raw_free_line ptr ∷ [])
 unfolding IsNumbered
 fine-free symbols said ptr None here kept fine =
-    let lines = ap (λ (o : Option RawBlock). gathered event_behind (interpreted_said symbols said) (map free_line (option_to_list (freed_info (infos said) o)))) here in
+    let lines =
+    ap (λ (o : Option RawBlock). gathered event_behind (interpreted_said symbols said)
+    (map free_line (option_to_list (freed_info (infos said) o)))) here in
     fine-same symbols said (raw_free_line ptr) lines (infos-same said (raw_free_line ptr) refl) fine
 fine-free symbols said ptr (Some block) here kept fine =
     let same = infos-same said (raw_free_line ptr) refl in
     let more = more-allocs symbols said ptr block here kept fine.each in
-    let other : (allocs_of (info_number (infos said) block.info) (interpreted_events symbols said) == frees_of (info_number (infos said) block.info) (interpreted_events symbols said)) ≡ false = grind (arith, nat_tests, more) in
-    fine-one symbols said (raw_free_line ptr) (Free (info_number (infos said) block.info) block.info.trace block.info.size) (free-event symbols said ptr block here kept.are_told)
-    (subst (λ (l : List AllocationInfo). AllByRecursion (IsNumbered l) (interpreted_events symbols said)) (sym same) fine.each)
-    (subst (λ (l : List AllocationInfo). HasNumber l (info_number (infos said) block.info) block.info.trace block.info.size) (sym same) (record { there = kept.are_told.block_infos ptr block here; number = refl }))
+    let other : (allocs_of (info_number (infos said) block.info) (interpreted_events symbols said) == frees_of
+    (info_number (infos said) block.info) (interpreted_events symbols said))
+    ≡ false = grind (arith, nat_tests, more) in
+    fine-one symbols said (raw_free_line ptr)
+    (Free (info_number (infos said) block.info) block.info.trace block.info.size)
+    (free-event symbols said ptr block here kept.are_told)
+    (subst (λ (l : List AllocationInfo). AllByRecursion (IsNumbered l) (interpreted_events symbols said)) (sym same)
+    fine.each)
+    (subst (λ (l : List AllocationInfo). HasNumber l (info_number (infos said) block.info) block.info.trace
+    block.info.size) (sym
+    same) (record { there = kept.are_told.block_infos ptr block here; number = refl }))
     (ap (λ (b : Bool). cond {A = Option EventFault} b (Some FreeOfNothing) None) other) fine
 
-fine-alloc : (symbols : List Symbol) (said : List Content) (size trace ptr : ℕ) → Holds symbols said → AreFine symbols said → AreFine symbols (said ++ raw_allocation_line size trace ptr ∷ [])
+fine-alloc : (symbols : List Symbol) (said : List Content) (size trace ptr : ℕ) → Holds symbols said
+    → AreFine symbols said → AreFine symbols (said ++ raw_allocation_line size trace ptr ∷ [])
 unfolding IsNumbered
 fine-alloc symbols said size trace ptr kept fine =
     let c = raw_allocation_line size trace ptr in
-    fine-one symbols said c (Alloc (info_number (infos (said ++ c ∷ [])) (record { size = size; trace = trace })) trace size) (alloc-event symbols said size trace ptr kept.are_told)
-    (subst (λ (l : List AllocationInfo). AllByRecursion (IsNumbered l) (interpreted_events symbols said)) (sym (infos-push said c)) (numbered-grow (infos said) (record { size = size; trace = trace }) (interpreted_events symbols said) fine.each))
+    fine-one symbols said c
+    (Alloc (info_number (infos (said ++ c ∷ [])) (record { size = size; trace = trace })) trace size)
+    (alloc-event symbols said size trace ptr kept.are_told)
+    (subst (λ (l : List AllocationInfo). AllByRecursion (IsNumbered l) (interpreted_events symbols said))
+    (sym (infos-push said c))
+    (numbered-grow (infos said) (record { size = size; trace = trace }) (interpreted_events symbols said) fine.each))
     (record { there = now-held said size trace ptr; number = refl }) refl fine
 
-fine-step : (symbols : List Symbol) (said : List Content) (c : Content) → IsRaw c → Holds symbols said → AreFine symbols said → AreFine symbols (said ++ c ∷ [])
+fine-step : (symbols : List Symbol) (said : List Content) (c : Content) → IsRaw c → Holds symbols said
+    → AreFine symbols said → AreFine symbols (said ++ c ∷ [])
 unfolding IsNumbered
 fine-step symbols said (string_line bytes) raw kept fine = absurd raw
 fine-step symbols said (instruction_line ip module_string frames) raw kept fine = absurd raw
 fine-step symbols said (info_line size trace) raw kept fine = absurd raw
 fine-step symbols said (allocation_line info) raw kept fine = absurd raw
 fine-step symbols said (free_line info) raw kept fine = absurd raw
-fine-step symbols said (raw_allocation_line size trace ptr) raw kept fine = fine-alloc symbols said size trace ptr kept fine
+fine-step symbols said (raw_allocation_line size trace ptr) raw kept fine =
+    fine-alloc symbols said size trace ptr kept fine
 fine-step symbols said (raw_free_line ptr) raw kept fine = fine-free symbols said ptr (held said ptr) refl kept fine
 fine-step symbols said (node_line ip parent) raw kept fine =
-    fine-same symbols said (node_line ip parent) (quiet-events (interpreted_said symbols said) (told_after symbols said (node_line ip parent)) (node-quiet symbols said ip parent)) (infos-same said (node_line ip parent) refl) fine
+    fine-same symbols said (node_line ip parent)
+    (quiet-events (interpreted_said symbols said) (told_after symbols said (node_line ip parent))
+    (node-quiet symbols said ip parent))
+    (infos-same said (node_line ip parent) refl) fine
 fine-step symbols said (clock_line ms) raw kept fine =
-    fine-one symbols said (clock_line ms) (Tick ms) refl (subst (λ (l : List AllocationInfo). AllByRecursion (IsNumbered l) (interpreted_events symbols said)) (sym (infos-same said (clock_line ms) refl)) fine.each) tt refl fine
-fine-step symbols said clear_line raw kept fine = fine-same symbols said clear_line refl (infos-same said clear_line refl) fine
-fine-step symbols said (module_line name start ranges) raw kept fine = fine-same symbols said (module_line name start ranges) refl (infos-same said (module_line name start ranges) refl) fine
+    fine-one symbols said (clock_line ms) (Tick ms) refl
+    (subst (λ (l : List AllocationInfo). AllByRecursion (IsNumbered l) (interpreted_events symbols said))
+    (sym (infos-same said (clock_line ms) refl)) fine.each)
+    tt refl fine
+fine-step symbols said clear_line raw kept fine =
+    fine-same symbols said clear_line refl (infos-same said clear_line refl) fine
+fine-step symbols said (module_line name start ranges) raw kept fine =
+    fine-same symbols said (module_line name start ranges) refl (infos-same said (module_line name start ranges) refl)
+    fine
 fine-step symbols said c raw kept fine = fine-same symbols said c refl (infos-same said c refl) fine
 
-fine-steps : (symbols : List Symbol) (earlier said : List Content) → Holds symbols earlier → AreFine symbols earlier → AllByRecursion IsRaw said → AreFine symbols (earlier ++ said)
-fine-steps symbols earlier [] kept fine raw = subst (λ (l : List Content). AreFine symbols l) (sym (append-nil earlier)) fine
+fine-steps : (symbols : List Symbol) (earlier said : List Content) → Holds symbols earlier → AreFine symbols earlier
+    → AllByRecursion IsRaw said → AreFine symbols (earlier ++ said)
+fine-steps symbols earlier [] kept fine raw =
+    subst (λ (l : List Content). AreFine symbols l) (sym (append-nil earlier)) fine
 fine-steps symbols earlier (c ∷ said) kept fine raw =
     subst (λ (l : List Content). AreFine symbols l) (append_assoc earlier (c ∷ []) said)
-    (fine-steps symbols (earlier ++ c ∷ []) said (holds-step symbols earlier c raw.0 kept) (fine-step symbols earlier c raw.0 kept fine) raw.1)
+    (fine-steps symbols (earlier ++ c ∷ []) said (holds-step symbols earlier c raw.0 kept)
+    (fine-step symbols earlier c raw.0 kept fine) raw.1)
 
 fine-none : (symbols : List Symbol) → AreFine symbols []
 unfolding interpreted_events interpreted_said events_said
 fine-none symbols = record { each = tt; no_fault = refl }
 
 -- where the sizes fit, neither has an allocation a fault
-all-fit : (earlier es : List Event) → allocated_bytes earlier + allocated_bytes es ≤ 2 ^ 62 → gathered free_fault earlier es ≡ [] → gathered fault_of earlier es ≡ []
+all-fit : (earlier es : List Event) → allocated_bytes earlier + allocated_bytes es ≤ 2 ^ 62
+    → gathered free_fault earlier es ≡ [] → gathered fault_of earlier es ≡ []
 all-fit earlier [] few none = refl
 all-fit earlier (Alloc n stack size ∷ es) few none =
     let cons = sum_by-cons alloc_size (Alloc n stack size) es in
@@ -213,7 +361,8 @@ all-fit earlier (Tick ms ∷ es) few none =
     let push = sum_by-append alloc_size earlier (Tick ms ∷ []) in
     let last : sum_by alloc_size (Tick ms ∷ []) ≡ 0 = omega arith in
     all-fit (earlier ++ Tick ms ∷ []) es (omega (arith, few, cons, push, last)) none
-all-fit earlier (Free n stack size ∷ es) few none = by (fault_of earlier (Free n stack size)) none (λ rest. all-fit (earlier ++ Free n stack size ∷ []) es next rest)
+all-fit earlier (Free n stack size ∷ es) few none =
+    by (fault_of earlier (Free n stack size)) none (λ rest. all-fit (earlier ++ Free n stack size ∷ []) es next rest)
   where
     next : allocated_bytes (earlier ++ Free n stack size ∷ []) + allocated_bytes es ≤ 2 ^ 62
     next =
@@ -223,15 +372,22 @@ all-fit earlier (Free n stack size ∷ es) few none = by (fault_of earlier (Free
         omega (arith, few, cons, push, last)
 
     by : (o : Option EventFault) → option_to_list o ++ gathered free_fault (earlier ++ Free n stack size ∷ []) es ≡ []
-        → (gathered free_fault (earlier ++ Free n stack size ∷ []) es ≡ [] → gathered fault_of (earlier ++ Free n stack size ∷ []) es ≡ []) → option_to_list o ++ gathered fault_of (earlier ++ Free n stack size ∷ []) es ≡ []
+        → (gathered free_fault (earlier ++ Free n stack size ∷ []) es ≡ []
+        → gathered fault_of (earlier ++ Free n stack size ∷ []) es ≡ [])
+        → option_to_list o ++ gathered fault_of (earlier ++ Free n stack size ∷ []) es ≡ []
     by None none rest = rest none
     by (Some fault) none rest = absurd (cc)
 
 module _ (back : (n : ℕ) → n < 2 ^ 64 → parsed_hex (hexadecimal n) ≡ Some n) where
-  pub free-fault-again : (symbols : List Symbol) (lines : List (List ℕ)) → AreInterpretable symbols lines → gathered free_fault [] (events (interpreted_trace symbols lines)) ≡ []
+  pub free-fault-again : (symbols : List Symbol) (lines : List (List ℕ)) → AreInterpretable symbols lines
+      → gathered free_fault [] (events (interpreted_trace symbols lines)) ≡ []
   free-fault-again symbols lines are =
       ap (λ (l : List Event). gathered free_fault [] l) (events-again back symbols lines are)
-      ∙ (fine-steps symbols [] (contents lines) (none-hold symbols) (fine-none symbols) (whole-stage back symbols lines are).raw).no_fault
+      ∙ (fine-steps symbols [] (contents lines) (none-hold symbols) (fine-none symbols)
+      (whole-stage back symbols lines are).raw).no_fault
 
-  pub event-fault-again : (symbols : List Symbol) (lines : List (List ℕ)) → AreInterpretable symbols lines → allocated_bytes (events (interpreted_trace symbols lines)) ≤ 2 ^ 62 → gathered fault_of [] (events (interpreted_trace symbols lines)) ≡ []
-  event-fault-again symbols lines are few = all-fit [] (events (interpreted_trace symbols lines)) (omega (arith, few)) (free-fault-again symbols lines are)
+  pub event-fault-again : (symbols : List Symbol) (lines : List (List ℕ)) → AreInterpretable symbols lines
+      → allocated_bytes (events (interpreted_trace symbols lines)) ≤ 2 ^ 62
+      → gathered fault_of [] (events (interpreted_trace symbols lines)) ≡ []
+  event-fault-again symbols lines are few =
+      all-fit [] (events (interpreted_trace symbols lines)) (omega (arith, few)) (free-fault-again symbols lines are)

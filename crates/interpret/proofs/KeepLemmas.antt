@@ -20,13 +20,26 @@ pub record Holds (symbols : List Symbol) (said : List Content) : Type 0 where
   pub are_ips : AreIps symbols said
 
 pub none-hold : (symbols : List Symbol) → Holds symbols []
-none-hold symbols = record { are_held = held-none; are_told = told-none symbols; are_tables = tables-none symbols; are_ips = ips-none symbols }
+none-hold symbols =
+    record {
+      are_held = held-none;
+      are_told = told-none symbols;
+      are_tables = tables-none symbols;
+      are_ips = ips-none symbols;
+    }
 
-pub holds-step : (symbols : List Symbol) (said : List Content) (c : Content) → IsRaw c → Holds symbols said → Holds symbols (said ++ c ∷ [])
+pub holds-step : (symbols : List Symbol) (said : List Content) (c : Content) → IsRaw c → Holds symbols said
+    → Holds symbols (said ++ c ∷ [])
 holds-step symbols said c raw all =
-    record { are_held = held-step said c all.are_held; are_told = told-step symbols said c raw all.are_told; are_tables = tables-step symbols said c raw all.are_tables; are_ips = ips-step symbols said c all.are_ips }
+    record {
+      are_held = held-step said c all.are_held;
+      are_told = told-step symbols said c raw all.are_told;
+      are_tables = tables-step symbols said c raw all.are_tables;
+      are_ips = ips-step symbols said c all.are_ips;
+    }
 
-steps : (symbols : List Symbol) (earlier said : List Content) → Holds symbols earlier → AllByRecursion IsRaw said → Holds symbols (earlier ++ said)
+steps : (symbols : List Symbol) (earlier said : List Content) → Holds symbols earlier → AllByRecursion IsRaw said
+    → Holds symbols (earlier ++ said)
 steps symbols earlier [] all raw = subst (λ (l : List Content). Holds symbols l) (sym (append-nil earlier)) all
 steps symbols earlier (c ∷ said) all raw =
     subst (λ (l : List Content). Holds symbols l) (append_assoc earlier (c ∷ []) said)
@@ -41,14 +54,22 @@ keeps-ledger symbols said raw =
     let all = all-hold symbols said raw in
     record {
       bytes = λ node.
-          let a = all.are_told.allocs (alloc_size_in node) (bytes_of node) (record { alloc = λ n block. refl; free = λ n stack size. refl; tick = λ ms. refl }) in
-          let b = all.are_told.frees (free_size_in node) (bytes_of node) (record { alloc = λ n stack size. refl; free = λ n block. refl; tick = λ ms. refl }) in
+          let a =
+          all.are_told.allocs (alloc_size_in node) (bytes_of node)
+          (record { alloc = λ n block. refl; free = λ n stack size. refl; tick = λ ms. refl }) in
+          let b =
+          all.are_told.frees (free_size_in node) (bytes_of node)
+          (record { alloc = λ n stack size. refl; free = λ n block. refl; tick = λ ms. refl }) in
           let c = all.are_held.balance (bytes_of node) in
           omega (arith, a, b, c);
       blocks = λ node.
           let w = λ (block : RawBlock). cond {A = ℕ} (is_of node block) 1 0 in
-          let a = all.are_told.allocs (λ event. cond {A = ℕ} (is_alloc_in node event) 1 0) w (record { alloc = λ n block. refl; free = λ n stack size. refl; tick = λ ms. refl }) in
-          let b = all.are_told.frees (λ event. cond {A = ℕ} (is_free_in node event) 1 0) w (record { alloc = λ n stack size. refl; free = λ n block. refl; tick = λ ms. refl }) in
+          let a =
+          all.are_told.allocs (λ event. cond {A = ℕ} (is_alloc_in node event) 1 0) w
+          (record { alloc = λ n block. refl; free = λ n stack size. refl; tick = λ ms. refl }) in
+          let b =
+          all.are_told.frees (λ event. cond {A = ℕ} (is_free_in node event) 1 0) w
+          (record { alloc = λ n stack size. refl; free = λ n block. refl; tick = λ ms. refl }) in
           let c = all.are_held.balance w in
           omega (arith, a, b, c);
       stacks = same-ips symbols said all.are_tables all.are_ips;

@@ -12,7 +12,8 @@ use Rattle.interpret.specs.Resolved.{Resolved}
 
 -- several more elements are added one by one
 pub repeats-all :
-    {X K : Type 0} (key : X → K) (same : X → X → Bool) → ((a b : X) → Decides (same a b) (key a ≡ key b)) → (xs ys : List X)
+    {X K : Type 0} (key : X → K) (same : X → X → Bool) → ((a b : X) → Decides (same a b) (key a ≡ key b))
+    → (xs ys : List X)
     → without_repeats same (xs ++ ys) ≡ with_all same (without_repeats same xs) ys
 repeats-all key same decides xs [] = ap (without_repeats same) (append-nil xs)
 repeats-all {X} {K} key same decides xs (y ∷ ys) =
@@ -28,6 +29,10 @@ info_of size trace = record { size = size; trace = trace }
 pub infos-decide : (x y : AllocationInfo) → Decides (same_info x y) (x ≡ y)
 unfolding info_of
 infos-decide x y = (
-  (λ same. let parts = and_parts (x.size == y.size) (x.trace == y.trace) same in ap (λ (n : ℕ). info_of n x.trace) (eqb-true x.size y.size parts.0) ∙ ap (λ (n : ℕ). info_of y.size n) (eqb-true x.trace y.trace parts.1)),
-  (λ is. and_from (x.size == y.size) (x.trace == y.trace) (eq-eqb x.size y.size (ap (λ (i : AllocationInfo). i.size) is)) (eq-eqb x.trace y.trace (ap (λ (i : AllocationInfo). i.trace) is))),
+  (λ same. let parts = and_parts (x.size == y.size) (x.trace == y.trace) same in ap (λ (n : ℕ). info_of n x.trace)
+      (eqb-true x.size y.size parts.0)
+      ∙ ap (λ (n : ℕ). info_of y.size n) (eqb-true x.trace y.trace parts.1)),
+  (λ is. and_from (x.size == y.size) (x.trace == y.trace)
+      (eq-eqb x.size y.size (ap (λ (i : AllocationInfo). i.size) is))
+      (eq-eqb x.trace y.trace (ap (λ (i : AllocationInfo). i.trace) is))),
 )

@@ -1,5 +1,27 @@
 -- How an event keeps the balance between sums and entries.
-use Rattle.std.proofs.Common.{◌≡◌, ℕ, ◌+◌, ◌-◌, ◌*◌, ◌<◌, ◌≤◌, List, [], ◌∷◌, ◌++◌, set, Bool, true, false, cond, refl, ap, ◌∙◌, zero-mul, arith}
+use Rattle.std.proofs.Common.{
+  ◌≡◌,
+  ℕ,
+  ◌+◌,
+  ◌-◌,
+  ◌*◌,
+  ◌<◌,
+  ◌≤◌,
+  List,
+  [],
+  ◌∷◌,
+  ◌++◌,
+  set,
+  Bool,
+  true,
+  false,
+  cond,
+  refl,
+  ap,
+  ◌∙◌,
+  zero-mul,
+  arith,
+}
 use Rattle.std.proofs.lemmas.List.Sums.{sum_by_push}
 use Rattle.live_ledger.specs.declared.totals_ledger.InfoEntry.{InfoEntry}
 use Rattle.live_ledger.specs.declared.sums.Sums.{Sums}
@@ -14,7 +36,8 @@ pub record HasParts (meant : InfoEntry → Bool) (entry : InfoEntry) (bytes bloc
   pub blocks_are : blocks_where meant entry ≡ blocks
   pub calls_are : calls_where meant entry ≡ calls
 
-parts-meant : (meant : InfoEntry → Bool) (entry : InfoEntry) → meant entry ≡ true → HasParts meant entry (entry.blocks * entry.size) entry.blocks entry.calls
+parts-meant : (meant : InfoEntry → Bool) (entry : InfoEntry) → meant entry ≡ true
+    → HasParts meant entry (entry.blocks * entry.size) entry.blocks entry.calls
 parts-meant meant entry is = record {
   bytes_are = ap (λ (b : Bool). cond {A = ℕ} b (entry.blocks * entry.size) 0) is;
   blocks_are = ap (λ (b : Bool). cond {A = ℕ} b entry.blocks 0) is;
@@ -41,7 +64,8 @@ balance-written :
     → own.calls + calls_now ≡ new.calls + calls
     → new.temporary ≤ new.frees
     → Balances new meant (set infos i written)
-balance-written own new meant infos i stack size entry written bytes blocks calls bytes_now blocks_now calls_now old e had has bytes_step blocks_step calls_step temporary =
+balance-written own new meant infos i stack size entry written bytes blocks calls bytes_now blocks_now calls_now old e
+    had has bytes_step blocks_step calls_step temporary =
     let bytes_after = sum-after (bytes_where meant) infos i stack size entry written e in
     let blocks_after = sum-after (blocks_where meant) infos i stack size entry written e in
     let calls_after = sum-after (calls_where meant) infos i stack size entry written e in
@@ -61,7 +85,8 @@ pub balance-others :
     → meant written ≡ false
     → Balances own meant (set infos i written)
 balance-others own meant infos i stack size entry written old e before after =
-    balance-written own own meant infos i stack size entry written 0 0 0 0 0 0 old e (parts-left_out meant entry before) (parts-left_out meant written after)
+    balance-written own own meant infos i stack size entry written 0 0 0 0 0 0 old e (parts-left_out meant entry before)
+    (parts-left_out meant written after)
     (omega arith) (omega arith) (omega arith) old.temporary
 
 -- the balance after an allocation
@@ -74,7 +99,8 @@ pub balance-alloc :
     → Balances (with_alloc own size) meant (set infos i (one_more entry))
 balance-alloc own meant infos i stack size entry old e before after =
     let size_is : entry.size ≡ size = e.size_is in
-    balance-written own (with_alloc own size) meant infos i stack size entry (one_more entry) _ _ _ _ _ _ old e (parts-meant meant entry before) (parts-meant meant (one_more entry) after)
+    balance-written own (with_alloc own size) meant infos i stack size entry (one_more entry) _ _ _ _ _ _ old e
+    (parts-meant meant entry before) (parts-meant meant (one_more entry) after)
     (omega arith) (omega arith) (omega arith) old.temporary
 
 -- the balance after a free
@@ -89,10 +115,12 @@ pub balance-free :
     → Balances (with_free own size ended) meant (set infos i (one_fewer entry))
 balance-free own meant infos i stack size ended entry old e live few before after =
     let left : (entry.blocks - 1) + 1 ≡ entry.blocks = omega arith in
-    let bytes_left : ((entry.blocks - 1) + 1) * entry.size ≡ entry.blocks * entry.size = ap (λ (n : ℕ). n * entry.size) left in
+    let bytes_left : ((entry.blocks - 1) + 1) * entry.size ≡ entry.blocks * entry.size =
+    ap (λ (n : ℕ). n * entry.size) left in
     let size_is : entry.size ≡ size = e.size_is in
     let temporary : own.temporary + ended ≤ own.frees + 1 = omega (arith, old.temporary) in
-    balance-written own (with_free own size ended) meant infos i stack size entry (one_fewer entry) _ _ _ _ _ _ old e (parts-meant meant entry before) (parts-meant meant (one_fewer entry) after)
+    balance-written own (with_free own size ended) meant infos i stack size entry (one_fewer entry) _ _ _ _ _ _ old e
+    (parts-meant meant entry before) (parts-meant meant (one_fewer entry) after)
     (omega arith) (omega arith) (omega arith) temporary
 
 -- nothing is nothing, meant or not
@@ -101,19 +129,44 @@ nothing-meant true n none = none
 nothing-meant false n none = refl
 
 -- a new entry without blocks and allocations keeps the balance
-pub balance-push : (own : Sums) (meant : InfoEntry → Bool) (infos : List InfoEntry) (entry : InfoEntry) → entry.blocks ≡ 0 → entry.calls ≡ 0 → Balances own meant infos → Balances own meant (infos ++ entry ∷ [])
+pub balance-push : (own : Sums) (meant : InfoEntry → Bool) (infos : List InfoEntry) (entry : InfoEntry)
+    → entry.blocks ≡ 0 → entry.calls ≡ 0 → Balances own meant infos → Balances own meant (infos ++ entry ∷ [])
 balance-push own meant infos entry no_blocks no_calls old =
     let no_bytes : entry.blocks * entry.size ≡ 0 = ap (λ (n : ℕ). n * entry.size) no_blocks ∙ zero-mul entry.size in
     record {
-      bytes = omega (arith, sum_by_push (bytes_where meant) infos entry, old.bytes, nothing-meant (meant entry) (entry.blocks * entry.size) no_bytes);
-      blocks = omega (arith, sum_by_push (blocks_where meant) infos entry, old.blocks, nothing-meant (meant entry) entry.blocks no_blocks);
-      calls = omega (arith, sum_by_push (calls_where meant) infos entry, old.calls, nothing-meant (meant entry) entry.calls no_calls);
+      bytes =
+          omega (
+            arith,
+            sum_by_push (bytes_where meant) infos entry,
+            old.bytes,
+            nothing-meant (meant entry) (entry.blocks * entry.size) no_bytes,
+          );
+      blocks =
+          omega (
+            arith,
+            sum_by_push (blocks_where meant) infos entry,
+            old.blocks,
+            nothing-meant (meant entry) entry.blocks no_blocks,
+          );
+      calls =
+          omega (
+            arith,
+            sum_by_push (calls_where meant) infos entry,
+            old.calls,
+            nothing-meant (meant entry) entry.calls no_calls,
+          );
       temporary = old.temporary;
     }
 
 -- sums that balance are paired
-pub balance-paired : (own : Sums) (meant : InfoEntry → Bool) (infos : List InfoEntry) → Balances own meant infos → IsPaired own
-balance-paired own meant infos old = record { freed_within = omega (arith, old.bytes); frees_within = omega (arith, old.blocks); temporary_within = old.temporary }
+pub balance-paired : (own : Sums) (meant : InfoEntry → Bool) (infos : List InfoEntry) → Balances own meant infos
+    → IsPaired own
+balance-paired own meant infos old =
+    record {
+      freed_within = omega (arith, old.bytes);
+      frees_within = omega (arith, old.blocks);
+      temporary_within = old.temporary;
+    }
 
 -- a live block of an entry that is meant is in the sums
 pub balance-live :
@@ -126,6 +179,13 @@ pub balance-live :
 balance-live own meant infos i stack size entry old e is live =
     let parts = parts-meant meant entry is in
     let once : 1 * entry.size ≤ entry.blocks * entry.size = grind arith in (
-      omega (arith, entry-in_sum (bytes_where meant) infos i stack size entry e, parts.bytes_are, old.bytes, e.size_is, once),
+      omega (
+        arith,
+        entry-in_sum (bytes_where meant) infos i stack size entry e,
+        parts.bytes_are,
+        old.bytes,
+        e.size_is,
+        once,
+      ),
       omega (arith, entry-in_sum (blocks_where meant) infos i stack size entry e, parts.blocks_are, old.blocks),
     )

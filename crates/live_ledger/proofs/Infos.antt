@@ -1,5 +1,36 @@
 -- Sums over events told by their infos.
-use Rattle.std.proofs.Common.{◌≡◌, ℕ, ◌+◌, ◌*◌, ◌^◌, ◌<◌, ◌≤◌, zero, suc, List, [], ◌∷◌, length, get_or, take, Bool, cond, Option, inl, inr, refl, sym, ap, subst, ◌∙◌, arith, add-one, ◌≢◌, mul-zero, mul-le-mul_left}
+use Rattle.std.proofs.Common.{
+  ◌≡◌,
+  ℕ,
+  ◌+◌,
+  ◌*◌,
+  ◌^◌,
+  ◌<◌,
+  ◌≤◌,
+  zero,
+  suc,
+  List,
+  [],
+  ◌∷◌,
+  length,
+  get_or,
+  take,
+  Bool,
+  cond,
+  Option,
+  inl,
+  inr,
+  refl,
+  sym,
+  ap,
+  subst,
+  ◌∙◌,
+  arith,
+  add-one,
+  ◌≢◌,
+  mul-zero,
+  mul-le-mul_left,
+}
 use Rattle.std.specs.Prelude.{◌==◌, nat_lt, None, Some, slice_get, slice_index, sum_by}
 use Rattle.std.specs.List.{zip}
 use Rattle.std.proofs.Math.Dec.{eqb-suc-suc, eqb-suc-zero, eqb-zero-suc}
@@ -14,7 +45,16 @@ use Rattle.live_ledger.specs.declared.event.EventFault.TheVariants.{CostTooLarge
 use Rattle.live_ledger.specs.ByInfo.{AreBalanced, alloc_weight, free_weight, weighed}
 use Rattle.live_ledger.specs.Faults.{fault_of}
 use Rattle.live_ledger.specs.InfoBlocks.{allocs_of, frees_of, is_alloc_of, is_free_of}
-use Rattle.live_ledger.specs.InStack.{alloc_size_in, allocated_in, calls_in, free_size_in, freed_in, frees_in, is_alloc_in, is_free_in}
+use Rattle.live_ledger.specs.InStack.{
+  alloc_size_in,
+  allocated_in,
+  calls_in,
+  free_size_in,
+  freed_in,
+  frees_in,
+  is_alloc_in,
+  is_free_in,
+}
 use Rattle.live_ledger.specs.LedgerState.{HeldInfo, IsAmong, LedgerState}
 use Rattle.live_ledger.specs.LiveBytes.{alloc_size, allocated_bytes}
 use Rattle.live_ledger.specs.Possible.{AreAmong, ArePossible, HaveNoFault}
@@ -26,15 +66,18 @@ by_number weight times [] = 0
 by_number weight times (x ∷ xs) = weight x * times 0 + by_number weight (λ i. times (suc i)) xs
 
 -- numbers that are equal one by one
-by_number-same : (weight : HeldInfo → ℕ) (f g : ℕ → ℕ) (infos : List HeldInfo) → ((i : ℕ) → f i ≡ g i) → by_number weight f infos ≡ by_number weight g infos
+by_number-same : (weight : HeldInfo → ℕ) (f g : ℕ → ℕ) (infos : List HeldInfo) → ((i : ℕ) → f i ≡ g i)
+    → by_number weight f infos ≡ by_number weight g infos
 unfolding by_number
 by_number-same weight f g [] same = refl
 by_number-same weight f g (x ∷ xs) same =
     ap (λ (n : ℕ). weight x * n + by_number weight (λ i. f (suc i)) xs) (same 0)
-    ∙ ap (λ (n : ℕ). weight x * g 0 + n) (by_number-same weight (λ i. f (suc i)) (λ i. g (suc i)) xs (λ i. same (suc i)))
+    ∙ ap (λ (n : ℕ). weight x * g 0 + n)
+    (by_number-same weight (λ i. f (suc i)) (λ i. g (suc i)) xs (λ i. same (suc i)))
 
 -- numbers that are no greater one by one
-by_number-le : (weight : HeldInfo → ℕ) (f g : ℕ → ℕ) (infos : List HeldInfo) → ((i : ℕ) → f i ≤ g i) → by_number weight f infos ≤ by_number weight g infos
+by_number-le : (weight : HeldInfo → ℕ) (f g : ℕ → ℕ) (infos : List HeldInfo) → ((i : ℕ) → f i ≤ g i)
+    → by_number weight f infos ≤ by_number weight g infos
 unfolding by_number
 by_number-le weight f g [] below = omega arith
 by_number-le weight f g (x ∷ xs) below =
@@ -43,7 +86,8 @@ by_number-le weight f g (x ∷ xs) below =
     omega arith
 
 -- sums of numbers
-by_number-add : (weight : HeldInfo → ℕ) (f g : ℕ → ℕ) (infos : List HeldInfo) → by_number weight (λ i. f i + g i) infos ≡ by_number weight f infos + by_number weight g infos
+by_number-add : (weight : HeldInfo → ℕ) (f g : ℕ → ℕ) (infos : List HeldInfo)
+    → by_number weight (λ i. f i + g i) infos ≡ by_number weight f infos + by_number weight g infos
 unfolding by_number
 by_number-add weight f g [] = refl
 by_number-add weight f g (x ∷ xs) =
@@ -57,70 +101,86 @@ by_number-none weight [] = refl
 by_number-none weight (x ∷ xs) = let rest = by_number-none weight xs in omega (arith, mul-zero (weight x))
 
 -- one at one number
-by_number-one : (weight : HeldInfo → ℕ) (infos : List HeldInfo) (j : ℕ) (held : HeldInfo) → slice_get infos j ≡ Some held → by_number weight (λ i. cond {A = ℕ} (j == i) 1 0) infos ≡ weight held
+by_number-one : (weight : HeldInfo → ℕ) (infos : List HeldInfo) (j : ℕ) (held : HeldInfo)
+    → slice_get infos j ≡ Some held → by_number weight (λ i. cond {A = ℕ} (j == i) 1 0) infos ≡ weight held
 unfolding by_number
 by_number-one weight [] j held is = cc
 by_number-one weight (x ∷ xs) zero held is =
     let same : x ≡ held = cc in
     let none : by_number weight (λ i. cond {A = ℕ} (zero == suc i) 1 0) xs ≡ 0 =
-    by_number-same weight (λ i. cond {A = ℕ} (zero == suc i) 1 0) (λ i. 0) xs (λ i. ap (λ (b : Bool). cond {A = ℕ} b 1 0) (eqb-zero-suc i)) ∙ by_number-none weight xs in
+    by_number-same weight (λ i. cond {A = ℕ} (zero == suc i) 1 0) (λ i. 0) xs
+    (λ i. ap (λ (b : Bool). cond {A = ℕ} b 1 0) (eqb-zero-suc i))
+    ∙ by_number-none weight xs in
     let weights : weight x ≡ weight held = ap weight same in
     omega arith
 by_number-one weight (x ∷ xs) (suc j) held is =
     let rest = by_number-one weight xs j held is in
-    let shifted : by_number weight (λ i. cond {A = ℕ} (suc j == suc i) 1 0) xs ≡ by_number weight (λ i. cond {A = ℕ} (j == i) 1 0) xs =
-    by_number-same weight (λ i. cond {A = ℕ} (suc j == suc i) 1 0) (λ i. cond {A = ℕ} (j == i) 1 0) xs (λ i. ap (λ (b : Bool). cond {A = ℕ} b 1 0) (eqb-suc-suc j i)) in
-    let first : weight x * cond {A = ℕ} (suc j == zero) 1 0 ≡ 0 = ap (λ (b : Bool). weight x * cond {A = ℕ} b 1 0) (eqb-suc-zero j) ∙ mul-zero (weight x) in
+    let shifted : by_number weight (λ i. cond {A = ℕ} (suc j == suc i) 1 0) xs
+    ≡ by_number weight (λ i. cond {A = ℕ} (j == i) 1 0) xs =
+    by_number-same weight (λ i. cond {A = ℕ} (suc j == suc i) 1 0) (λ i. cond {A = ℕ} (j == i) 1 0) xs
+    (λ i. ap (λ (b : Bool). cond {A = ℕ} b 1 0) (eqb-suc-suc j i)) in
+    let first : weight x * cond {A = ℕ} (suc j == zero) 1 0 ≡ 0 =
+    ap (λ (b : Bool). weight x * cond {A = ℕ} b 1 0) (eqb-suc-zero j) ∙ mul-zero (weight x) in
     omega arith
 
 -- the numbers of a list
-by_number-list : (weight : HeldInfo → ℕ) (infos : List HeldInfo) (times : List ℕ) → weighed weight infos times ≡ by_number weight (λ i. slice_index times i) infos
+by_number-list : (weight : HeldInfo → ℕ) (infos : List HeldInfo) (times : List ℕ)
+    → weighed weight infos times ≡ by_number weight (λ i. slice_index times i) infos
 unfolding by_number
 by_number-list weight [] times = refl
 by_number-list weight (x ∷ xs) [] = sym (by_number-none weight (x ∷ xs))
 by_number-list weight (x ∷ xs) (t ∷ ts) =
-    sum_by-cons (λ (pair : HeldInfo × ℕ). weight pair.0 * pair.1) (x, t) (zip xs ts) ∙ ap (λ (n : ℕ). weight x * t + n) (by_number-list weight xs ts)
+    sum_by-cons (λ (pair : HeldInfo × ℕ). weight pair.0 * pair.1) (x, t) (zip xs ts)
+    ∙ ap (λ (n : ℕ). weight x * t + n) (by_number-list weight xs ts)
 
 -- one event's weight, by the infos
-alloc-by_number : (weight : HeldInfo → ℕ) (infos : List HeldInfo) (e : Event) → IsAmong infos e → by_number weight (λ i. cond {A = ℕ} (is_alloc_of i e) 1 0) infos ≡ alloc_weight weight e
+alloc-by_number : (weight : HeldInfo → ℕ) (infos : List HeldInfo) (e : Event) → IsAmong infos e
+    → by_number weight (λ i. cond {A = ℕ} (is_alloc_of i e) 1 0) infos ≡ alloc_weight weight e
 alloc-by_number weight infos (Alloc j s z) held = by_number-one weight infos j (record { stack = s; size = z }) held
 alloc-by_number weight infos (Free j s z) held = by_number-none weight infos
 alloc-by_number weight infos (Tick ms) held = by_number-none weight infos
 
-free-by_number : (weight : HeldInfo → ℕ) (infos : List HeldInfo) (e : Event) → IsAmong infos e → by_number weight (λ i. cond {A = ℕ} (is_free_of i e) 1 0) infos ≡ free_weight weight e
+free-by_number : (weight : HeldInfo → ℕ) (infos : List HeldInfo) (e : Event) → IsAmong infos e
+    → by_number weight (λ i. cond {A = ℕ} (is_free_of i e) 1 0) infos ≡ free_weight weight e
 free-by_number weight infos (Alloc j s z) held = by_number-none weight infos
 free-by_number weight infos (Free j s z) held = by_number-one weight infos j (record { stack = s; size = z }) held
 free-by_number weight infos (Tick ms) held = by_number-none weight infos
 
 -- the weights of a list's allocations, by the infos
-allocs-by_number : (weight : HeldInfo → ℕ) (infos : List HeldInfo) (events : List Event) → AreAmong infos events → by_number weight (λ i. allocs_of i events) infos ≡ sum_by (alloc_weight weight) events
+allocs-by_number : (weight : HeldInfo → ℕ) (infos : List HeldInfo) (events : List Event) → AreAmong infos events
+    → by_number weight (λ i. allocs_of i events) infos ≡ sum_by (alloc_weight weight) events
 allocs-by_number weight infos [] all = by_number-none weight infos
 allocs-by_number weight infos (e ∷ es) all =
     let here = alloc-by_number weight infos e (all 0 e refl) in
     let rest = allocs-by_number weight infos es (λ k event at. all (suc k) event at) in
-    by_number-same weight (λ i. allocs_of i (e ∷ es)) (λ i. cond {A = ℕ} (is_alloc_of i e) 1 0 + allocs_of i es) infos (λ i. sum_by-cons (λ (x : Event). cond {A = ℕ} (is_alloc_of i x) 1 0) e es)
+    by_number-same weight (λ i. allocs_of i (e ∷ es)) (λ i. cond {A = ℕ} (is_alloc_of i e) 1 0 + allocs_of i es) infos
+    (λ i. sum_by-cons (λ (x : Event). cond {A = ℕ} (is_alloc_of i x) 1 0) e es)
     ∙ by_number-add weight (λ i. cond {A = ℕ} (is_alloc_of i e) 1 0) (λ i. allocs_of i es) infos
     ∙ ap (λ (n : ℕ). n + by_number weight (λ i. allocs_of i es) infos) here
     ∙ ap (λ (n : ℕ). alloc_weight weight e + n) rest
     ∙ sym (sum_by-cons (alloc_weight weight) e es)
 
 -- and of its frees
-frees-by_number : (weight : HeldInfo → ℕ) (infos : List HeldInfo) (events : List Event) → AreAmong infos events → by_number weight (λ i. frees_of i events) infos ≡ sum_by (free_weight weight) events
+frees-by_number : (weight : HeldInfo → ℕ) (infos : List HeldInfo) (events : List Event) → AreAmong infos events
+    → by_number weight (λ i. frees_of i events) infos ≡ sum_by (free_weight weight) events
 frees-by_number weight infos [] all = by_number-none weight infos
 frees-by_number weight infos (e ∷ es) all =
     let here = free-by_number weight infos e (all 0 e refl) in
     let rest = frees-by_number weight infos es (λ k event at. all (suc k) event at) in
-    by_number-same weight (λ i. frees_of i (e ∷ es)) (λ i. cond {A = ℕ} (is_free_of i e) 1 0 + frees_of i es) infos (λ i. sum_by-cons (λ (x : Event). cond {A = ℕ} (is_free_of i x) 1 0) e es)
+    by_number-same weight (λ i. frees_of i (e ∷ es)) (λ i. cond {A = ℕ} (is_free_of i e) 1 0 + frees_of i es) infos
+    (λ i. sum_by-cons (λ (x : Event). cond {A = ℕ} (is_free_of i x) 1 0) e es)
     ∙ by_number-add weight (λ i. cond {A = ℕ} (is_free_of i e) 1 0) (λ i. frees_of i es) infos
     ∙ ap (λ (n : ℕ). n + by_number weight (λ i. frees_of i es) infos) here
     ∙ ap (λ (n : ℕ). free_weight weight e + n) rest
     ∙ sym (sum_by-cons (free_weight weight) e es)
 
 -- a ledger's sums by its infos
-pub weighed-calls : (state : LedgerState) (events : List Event) (weight : HeldInfo → ℕ) → StandsFor state events → weighed weight state.infos state.info_calls ≡ sum_by (alloc_weight weight) events
+pub weighed-calls : (state : LedgerState) (events : List Event) (weight : HeldInfo → ℕ) → StandsFor state events
+    → weighed weight state.infos state.info_calls ≡ sum_by (alloc_weight weight) events
 weighed-calls state events weight stands =
     by_number-list weight state.infos state.info_calls
-    ∙ by_number-same weight (λ i. slice_index state.info_calls i) (λ i. allocs_of i events) state.infos stands.whole.each_info_calls
+    ∙ by_number-same weight (λ i. slice_index state.info_calls i) (λ i. allocs_of i events) state.infos
+    stands.whole.each_info_calls
     ∙ allocs-by_number weight state.infos events stands.whole.held
 
 -- an event without a fault frees no more of an info than was allocated
@@ -134,7 +194,10 @@ free-within before i (Free j s z) none within =
     elim (eqb_tells j i) [
       | inl same ↦
           elim (eqb_tells (allocs_of j before) (frees_of j before)) [
-            | inl fault ↦ absurd (let is : cond (allocs_of j before == frees_of j before) (Some FreeOfNothing) None ≡ Some FreeOfNothing = ap (λ (b : Bool). cond {A = Option EventFault} b (Some FreeOfNothing) None) fault.0 in cc)
+            | inl fault ↦ absurd
+                (let is : cond (allocs_of j before == frees_of j before) (Some FreeOfNothing) None
+                ≡ Some FreeOfNothing =
+                ap (λ (b : Bool). cond {A = Option EventFault} b (Some FreeOfNothing) None) fault.0 in cc)
             | inr more ↦
                 let one : cond {A = ℕ} (j == i) 1 0 ≡ 1 = ap (λ (b : Bool). cond {A = ℕ} b 1 0) same.0 in
                 let allocs : allocs_of j before ≡ allocs_of i before = ap (λ (n : ℕ). allocs_of n before) same.1 in
@@ -149,52 +212,74 @@ free-within before i (Free j s z) none within =
 free-within before i (Tick ms) none within = omega arith
 
 -- and keeps the allocated bytes within their bound
-size-within : (before : List Event) (e : Event) → fault_of before e ≡ None → allocated_bytes before ≤ 2 ^ 62 → allocated_bytes before + alloc_size e ≤ 2 ^ 62
+size-within : (before : List Event) (e : Event) → fault_of before e ≡ None → allocated_bytes before ≤ 2 ^ 62
+    → allocated_bytes before + alloc_size e ≤ 2 ^ 62
 size-within before (Alloc j s z) none within =
     elim (leb_tells (suc (2 ^ 62)) (allocated_bytes before + z)) [
-      | inl fault ↦ absurd (let is : cond (nat_lt (2 ^ 62) (allocated_bytes before + z)) (Some CostTooLarge) None ≡ Some CostTooLarge = ap (λ (b : Bool). cond {A = Option EventFault} b (Some CostTooLarge) None) fault.0 in cc)
+      | inl fault ↦ absurd
+          (let is : cond (nat_lt (2 ^ 62) (allocated_bytes before + z)) (Some CostTooLarge) None
+          ≡ Some CostTooLarge =
+          ap (λ (b : Bool). cond {A = Option EventFault} b (Some CostTooLarge) None) fault.0 in cc)
       | inr fits ↦ (let below = fits.1 in omega arith)
     ]
 size-within before (Free j s z) none within = omega arith
 size-within before (Tick ms) none within = omega arith
 
 -- the sum over one event more
-one-more : (f : Event → ℕ) (events : List Event) (k : ℕ) → k < length events → sum_by f (take (suc k) events) ≡ sum_by f (take k events) + f (get_or events k (Tick 0))
-one-more f events k within = ap (λ (n : ℕ). sum_by f (take n events)) (sym (add-one k)) ∙ sum_by_more f events k (Tick 0) within
+one-more : (f : Event → ℕ) (events : List Event) (k : ℕ) → k < length events
+    → sum_by f (take (suc k) events) ≡ sum_by f (take k events) + f (get_or events k (Tick 0))
+one-more f events k within =
+    ap (λ (n : ℕ). sum_by f (take n events)) (sym (add-one k)) ∙ sum_by_more f events k (Tick 0) within
 
 -- in a front of a list without faults
-pub frees-within : (events : List Event) (i : ℕ) → HaveNoFault events → (k : ℕ) → k ≤ length events → frees_of i (take k events) ≤ allocs_of i (take k events)
+pub frees-within : (events : List Event) (i : ℕ) → HaveNoFault events → (k : ℕ) → k ≤ length events
+    → frees_of i (take k events) ≤ allocs_of i (take k events)
 frees-within events i ok zero within = omega arith
 frees-within events i ok (suc k) within =
     let inside : k < length events = omega arith in
     let before = frees-within events i ok k (omega arith) in
     let allocs = one-more (λ (x : Event). cond {A = ℕ} (is_alloc_of i x) 1 0) events k inside in
     let frees = one-more (λ (x : Event). cond {A = ℕ} (is_free_of i x) 1 0) events k inside in
-    let step = free-within (take k events) i (get_or events k (Tick 0)) (ok k (get_or events k (Tick 0)) (slice_get-get_or events k (Tick 0) inside)) before in
+    let step =
+    free-within (take k events) i (get_or events k (Tick 0))
+    (ok k (get_or events k (Tick 0)) (slice_get-get_or events k (Tick 0) inside)) before in
     omega arith
 
-sizes-within : (events : List Event) → HaveNoFault events → (k : ℕ) → k ≤ length events → allocated_bytes (take k events) ≤ 2 ^ 62
+sizes-within : (events : List Event) → HaveNoFault events → (k : ℕ) → k ≤ length events
+    → allocated_bytes (take k events) ≤ 2 ^ 62
 sizes-within events ok zero within = omega arith
 sizes-within events ok (suc k) within =
     let inside : k < length events = omega arith in
     let before = sizes-within events ok k (omega arith) in
     let more = one-more alloc_size events k inside in
-    let step = size-within (take k events) (get_or events k (Tick 0)) (ok k (get_or events k (Tick 0)) (slice_get-get_or events k (Tick 0) inside)) before in
+    let step =
+    size-within (take k events) (get_or events k (Tick 0))
+    (ok k (get_or events k (Tick 0)) (slice_get-get_or events k (Tick 0) inside)) before in
     omega arith
 
 -- sums of equal numbers
 sum-same : (f g : Event → ℕ) (events : List Event) → ((e : Event) → f e ≡ g e) → sum_by f events ≡ sum_by g events
 sum-same f g [] same = refl
-sum-same f g (e ∷ es) same = sum_by-cons f e es ∙ ap (λ (n : ℕ). n + sum_by f es) (same e) ∙ ap (λ (n : ℕ). g e + n) (sum-same f g es same) ∙ sym (sum_by-cons g e es)
+sum-same f g (e ∷ es) same =
+    sum_by-cons f e es ∙ ap (λ (n : ℕ). n + sum_by f es) (same e) ∙ ap (λ (n : ℕ). g e + n) (sum-same f g es same)
+    ∙ sym (sum_by-cons g e es)
 
 -- in a list that a trace can have, frees weigh no more than allocations
-pub possible-weights : (events : List Event) (weight : HeldInfo → ℕ) → ArePossible events → sum_by (free_weight weight) events ≤ sum_by (alloc_weight weight) events
+pub possible-weights : (events : List Event) (weight : HeldInfo → ℕ) → ArePossible events
+    → sum_by (free_weight weight) events ≤ sum_by (alloc_weight weight) events
 possible-weights events weight possible =
     let infos : List HeldInfo = possible.among.0 in
     let all : AreAmong infos events = possible.among.1 in
     let whole : take (length events) events ≡ events = take_all (length events) events (omega arith) in
-    let within : (i : ℕ) → frees_of i events ≤ allocs_of i events = λ i. subst (λ (es : List Event). frees_of i es ≤ allocs_of i es) whole (frees-within events i possible.no_fault (length events) (omega arith)) in
-    omega (arith, by_number-le weight (λ i. frees_of i events) (λ i. allocs_of i events) infos within, frees-by_number weight infos events all, allocs-by_number weight infos events all)
+    let within : (i : ℕ) → frees_of i events ≤ allocs_of i events =
+    λ i. subst (λ (es : List Event). frees_of i es ≤ allocs_of i es) whole
+    (frees-within events i possible.no_fault (length events) (omega arith)) in
+    omega (
+      arith,
+      by_number-le weight (λ i. frees_of i events) (λ i. allocs_of i events) infos within,
+      frees-by_number weight infos events all,
+      allocs-by_number weight infos events all,
+    )
 
 -- the bytes, and the blocks, that a block of an info is of stack `n`
 abbrev bytes_weight : ℕ → HeldInfo → ℕ
@@ -229,13 +314,39 @@ possible-balanced events n possible =
     let infos : List HeldInfo = possible.among.0 in
     let all : AreAmong infos events = possible.among.1 in
     let whole : take (length events) events ≡ events = take_all (length events) events (omega arith) in
-    let within : (i : ℕ) → frees_of i events ≤ allocs_of i events = λ i. subst (λ (es : List Event). frees_of i es ≤ allocs_of i es) whole (frees-within events i possible.no_fault (length events) (omega arith)) in
-    let freed : freed_in n events ≡ by_number (bytes_weight n) (λ i. frees_of i events) infos = sum-same (free_size_in n) (free_weight (bytes_weight n)) events (free_bytes-is n) ∙ sym (frees-by_number (bytes_weight n) infos events all) in
-    let allocated : allocated_in n events ≡ by_number (bytes_weight n) (λ i. allocs_of i events) infos = sum-same (alloc_size_in n) (alloc_weight (bytes_weight n)) events (alloc_bytes-is n) ∙ sym (allocs-by_number (bytes_weight n) infos events all) in
-    let frees : frees_in n events ≡ by_number (blocks_weight n) (λ i. frees_of i events) infos = sum-same (λ (e : Event). cond {A = ℕ} (is_free_in n e) 1 0) (free_weight (blocks_weight n)) events (free_blocks-is n) ∙ sym (frees-by_number (blocks_weight n) infos events all) in
-    let calls : calls_in n events ≡ by_number (blocks_weight n) (λ i. allocs_of i events) infos = sum-same (λ (e : Event). cond {A = ℕ} (is_alloc_in n e) 1 0) (alloc_weight (blocks_weight n)) events (alloc_blocks-is n) ∙ sym (allocs-by_number (blocks_weight n) infos events all) in
+    let within : (i : ℕ) → frees_of i events ≤ allocs_of i events =
+    λ i. subst (λ (es : List Event). frees_of i es ≤ allocs_of i es) whole
+    (frees-within events i possible.no_fault (length events) (omega arith)) in
+    let freed : freed_in n events ≡ by_number (bytes_weight n) (λ i. frees_of i events) infos =
+    sum-same (free_size_in n) (free_weight (bytes_weight n)) events (free_bytes-is n)
+    ∙ sym (frees-by_number (bytes_weight n) infos events all) in
+    let allocated : allocated_in n events ≡ by_number (bytes_weight n) (λ i. allocs_of i events) infos =
+    sum-same (alloc_size_in n) (alloc_weight (bytes_weight n)) events (alloc_bytes-is n)
+    ∙ sym (allocs-by_number (bytes_weight n) infos events all) in
+    let frees : frees_in n events ≡ by_number (blocks_weight n) (λ i. frees_of i events) infos =
+    sum-same (λ (e : Event). cond {A = ℕ} (is_free_in n e) 1 0) (free_weight (blocks_weight n)) events
+    (free_blocks-is n)
+    ∙ sym (frees-by_number (blocks_weight n) infos events all) in
+    let calls : calls_in n events ≡ by_number (blocks_weight n) (λ i. allocs_of i events) infos =
+    sum-same (λ (e : Event). cond {A = ℕ} (is_alloc_in n e) 1 0) (alloc_weight (blocks_weight n)) events
+    (alloc_blocks-is n)
+    ∙ sym (allocs-by_number (blocks_weight n) infos events all) in
     record {
-      bytes = omega (arith, by_number-le (bytes_weight n) (λ i. frees_of i events) (λ i. allocs_of i events) infos within, freed, allocated);
-      blocks = omega (arith, by_number-le (blocks_weight n) (λ i. frees_of i events) (λ i. allocs_of i events) infos within, frees, calls);
-      allocated = subst (λ (es : List Event). allocated_bytes es ≤ 2 ^ 62) whole (sizes-within events possible.no_fault (length events) (omega arith));
+      bytes =
+          omega (
+            arith,
+            by_number-le (bytes_weight n) (λ i. frees_of i events) (λ i. allocs_of i events) infos within,
+            freed,
+            allocated,
+          );
+      blocks =
+          omega (
+            arith,
+            by_number-le (blocks_weight n) (λ i. frees_of i events) (λ i. allocs_of i events) infos within,
+            frees,
+            calls,
+          );
+      allocated =
+          subst (λ (es : List Event). allocated_bytes es ≤ 2 ^ 62) whole
+          (sizes-within events possible.no_fault (length events) (omega arith));
     }

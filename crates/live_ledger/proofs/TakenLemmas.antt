@@ -12,9 +12,12 @@ use Rattle.live_ledger.specs.Taken.{HasTaken}
 use Rattle.live_ledger.proofs.Stands.{fault_at-is, stands-alloc, stands-free, stands-tick}
 
 -- it has taken an event that has no fault where it has changed by it
-pub has_taken : (old new : LedgerState) (event : Event) → IsHeld old event → fault_at old event ≡ None → Changes old new event → IsSound new → HasTaken old new event
+pub has_taken : (old new : LedgerState) (event : Event) → IsHeld old event → fault_at old event ≡ None
+    → Changes old new event → IsSound new → HasTaken old new event
 has_taken old new (Alloc info stack size) held none change sound = record {
-  stands = λ events stands. stands-alloc old new events info stack size held (sym (fault_at-is (without_figures old) events (Alloc info stack size) stands.whole) ∙ none) change stands;
+  stands =
+      λ events stands. stands-alloc old new events info stack size held
+      (sym (fault_at-is (without_figures old) events (Alloc info stack size) stands.whole) ∙ none) change stands;
   changes = change;
   counted = λ counts. change.whole.events;
   at_most_one_more = omega (arith, change.whole.events);
@@ -24,7 +27,9 @@ has_taken old new (Alloc info stack size) held none change sound = record {
   sound = sound;
 }
 has_taken old new (Free info stack size) held none change sound = record {
-  stands = λ events stands. stands-free old new events info stack size held (sym (fault_at-is (without_figures old) events (Free info stack size) stands.whole) ∙ none) change stands;
+  stands =
+      λ events stands. stands-free old new events info stack size held
+      (sym (fault_at-is (without_figures old) events (Free info stack size) stands.whole) ∙ none) change stands;
   changes = change;
   counted = λ counts. change.whole.events;
   at_most_one_more = omega (arith, change.whole.events);
@@ -36,7 +41,9 @@ has_taken old new (Free info stack size) held none change sound = record {
 has_taken old new (Tick ms) held none change sound =
     let events : new.totals.events ≡ old.totals.events = ap (λ (state : LedgerState). state.totals.events) change in
     record {
-      stands = λ events stands. subst (λ (state : LedgerState). StandsFor state (events ++ Tick ms ∷ [])) (sym change) (stands-tick old events ms stands);
+      stands =
+          λ events stands. subst (λ (state : LedgerState). StandsFor state (events ++ Tick ms ∷ [])) (sym change)
+          (stands-tick old events ms stands);
       changes = change;
       counted = λ counts. absurd (false≢true counts);
       at_most_one_more = omega (arith, events);

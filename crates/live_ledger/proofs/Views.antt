@@ -1,5 +1,35 @@
 -- What contracts see of the ledger's fields.
-use Rattle.std.proofs.Common.{◌≡◌, ◌≢◌, ℕ, ◌+◌, ◌-◌, ◌^◌, ◌<◌, ◌≤◌, List, [], ◌∷◌, ◌++◌, length, get_or, set, map, Bool, true, false, Option, cond, refl, inl, inr, sym, ap, subst, ◌∙◌, arith}
+use Rattle.std.proofs.Common.{
+  ◌≡◌,
+  ◌≢◌,
+  ℕ,
+  ◌+◌,
+  ◌-◌,
+  ◌^◌,
+  ◌<◌,
+  ◌≤◌,
+  List,
+  [],
+  ◌∷◌,
+  ◌++◌,
+  length,
+  get_or,
+  set,
+  map,
+  Bool,
+  true,
+  false,
+  Option,
+  cond,
+  refl,
+  inl,
+  inr,
+  sym,
+  ap,
+  subst,
+  ◌∙◌,
+  arith,
+}
 use Rattle.std.specs.Prelude.{nat_eq, nat_lt, ◌==◌, if◌then◌else◌, slice_get, slice_index, sum_by, Some, None}
 use Rattle.std.specs.List.{All}
 use Rattle.std.specs.Option.{option_eq}
@@ -18,34 +48,70 @@ use Rattle.live_ledger.specs.declared.totals_ledger.InfoEntry.{InfoEntry}
 use Rattle.live_ledger.specs.declared.sums.Sums.{Sums}
 use Rattle.live_ledger.specs.LedgerState.{HeldInfo, figures_at, no_figures}
 use Rattle.live_ledger.specs.Changes.{AddsBlock, Allocates, Frees, GainsBlock, LosesBlock, TakesBlock, ended_by_free}
-use Rattle.live_ledger.specs.Consistent.{AreConsistent, AreKept, AreSumsOf, any_entry, blocks_of, calls_of, info_of, is_of, stack_of, sums_at}
+use Rattle.live_ledger.specs.Consistent.{
+  AreConsistent,
+  AreKept,
+  AreSumsOf,
+  any_entry,
+  blocks_of,
+  calls_of,
+  info_of,
+  is_of,
+  stack_of,
+  sums_at,
+}
 use Rattle.live_ledger.specs.Faults.{fault_at}
 use Rattle.live_ledger.specs.Sound.{AreSums, AreWithin, IsSound}
 use Rattle.live_ledger.specs.Sums.{IsPaired, figures_of, no_sums, totals_of, with_alloc, with_free}
 use Rattle.live_ledger.proofs.Balances.{balance-paired}
 use Rattle.live_ledger.proofs.Consistency.{free-fits_own, free-fits_whole}
-use Rattle.live_ledger.specs.TotalsState.{IsKept, TotalsState, entry_at, ledger_of, one_fewer, one_more, state_of, with_block, without_block}
-use Rattle.live_ledger.proofs.Entries.{IsEntry, IsOwn, entry-held, number-at, number-at_others, number-at_set, own-at, own-others, own-push, own-written}
+use Rattle.live_ledger.specs.TotalsState.{
+  IsKept,
+  TotalsState,
+  entry_at,
+  ledger_of,
+  one_fewer,
+  one_more,
+  state_of,
+  with_block,
+  without_block,
+}
+use Rattle.live_ledger.proofs.Entries.{
+  IsEntry,
+  IsOwn,
+  entry-held,
+  number-at,
+  number-at_others,
+  number-at_set,
+  own-at,
+  own-others,
+  own-push,
+  own-written,
+}
 
 -- the state of a ledger of totals by its parts
 abbrev pub whole_of : ℕ → List InfoEntry → Sums → Option ℕ → TotalsState
 whole_of stacks infos sums last = record { stacks = stacks; infos = infos; sums = sums; last = last }
 
 -- the figures of a stack by its number are those of its sums
-pub figures-at : (stacks : List Sums) (whole : TotalsState) (n : ℕ) → figures_at (state_of stacks whole) n ≡ figures_of (sums_at stacks n)
+pub figures-at : (stacks : List Sums) (whole : TotalsState) (n : ℕ)
+    → figures_at (state_of stacks whole) n ≡ figures_of (sums_at stacks n)
 figures-at stacks whole n = lists.get_or-map figures_of stacks n no_sums
 
 -- the figures of a stack that is read at its place
-pub figures-own : (stacks : List Sums) (whole : TotalsState) (n : ℕ) (own : Sums) → IsOwn stacks n own → figures_of own ≡ figures_at (state_of stacks whole) n
+pub figures-own : (stacks : List Sums) (whole : TotalsState) (n : ℕ) (own : Sums) → IsOwn stacks n own
+    → figures_of own ≡ figures_at (state_of stacks whole) n
 figures-own stacks whole n own o = ap figures_of (own-at stacks n own o) ∙ sym (figures-at stacks whole n)
 
 -- a new stack changes the figures of no number
-pub figures-push : (stacks : List Sums) (before after : TotalsState) (n : ℕ) → figures_at (state_of (stacks ++ no_sums ∷ []) after) n ≡ figures_at (state_of stacks before) n
+pub figures-push : (stacks : List Sums) (before after : TotalsState) (n : ℕ)
+    → figures_at (state_of (stacks ++ no_sums ∷ []) after) n ≡ figures_at (state_of stacks before) n
 figures-push stacks before after n =
     figures-at (stacks ++ no_sums ∷ []) after n ∙ ap figures_of (own-push stacks n) ∙ sym (figures-at stacks before n)
 
 -- the sums of a stack balance, and so are paired
-pub own-paired : (count : ℕ) (stacks : List Sums) (infos : List InfoEntry) (sums : Sums) (n : ℕ) → AreConsistent count stacks infos sums → IsPaired (sums_at stacks n)
+pub own-paired : (count : ℕ) (stacks : List Sums) (infos : List InfoEntry) (sums : Sums) (n : ℕ)
+    → AreConsistent count stacks infos sums → IsPaired (sums_at stacks n)
 own-paired count stacks infos sums n old = balance-paired (sums_at stacks n) (is_of n) infos (old.each_stack n)
 
 -- what is left of two sums over a list is the sum of what is left of each
@@ -64,21 +130,29 @@ sums-live :
     (stacks : List Sums) (sums : Sums)
     → ((n : ℕ) → IsPaired (sums_at stacks n))
     → AreSumsOf sums stacks
-    → (sum_by (λ (s : Sums). s.allocated - s.freed) stacks ≡ sums.allocated - sums.freed) × (sum_by (λ (s : Sums). s.calls - s.frees) stacks ≡ sums.calls - sums.frees)
+    → (sum_by (λ (s : Sums). s.allocated - s.freed) stacks ≡ sums.allocated - sums.freed)
+    × (sum_by (λ (s : Sums). s.calls - s.frees) stacks ≡ sums.calls - sums.frees)
 sums-live stacks sums paired are =
-    let bytes = sum-left (λ (s : Sums). s.allocated) (λ (s : Sums). s.freed) (λ (s : Sums). s.allocated - s.freed) stacks
-    (All-from_get_or (λ (s : Sums). (s.allocated - s.freed) + s.freed ≡ s.allocated) stacks no_sums (λ i within. let p = (paired i).freed_within in omega (arith, p))) in
+    let bytes =
+    sum-left (λ (s : Sums). s.allocated) (λ (s : Sums). s.freed) (λ (s : Sums). s.allocated - s.freed) stacks
+    (All-from_get_or (λ (s : Sums). (s.allocated - s.freed) + s.freed ≡ s.allocated) stacks no_sums
+    (λ i within. let p = (paired i).freed_within in omega (arith, p))) in
     let blocks = sum-left (λ (s : Sums). s.calls) (λ (s : Sums). s.frees) (λ (s : Sums). s.calls - s.frees) stacks
-    (All-from_get_or (λ (s : Sums). (s.calls - s.frees) + s.frees ≡ s.calls) stacks no_sums (λ i within. let p = (paired i).frees_within in omega (arith, p))) in
+    (All-from_get_or (λ (s : Sums). (s.calls - s.frees) + s.frees ≡ s.calls) stacks no_sums
+    (λ i within. let p = (paired i).frees_within in omega (arith, p))) in
     (omega (arith, bytes, are.allocated, are.freed), omega (arith, blocks, are.calls, are.frees))
 
 -- a sum over figures is one over sums
-sum-figures : (f : Figures → ℕ) (stacks : List Sums) → sum_by f (map figures_of stacks) ≡ sum_by (λ (s : Sums). f (figures_of s)) stacks
+sum-figures : (f : Figures → ℕ) (stacks : List Sums)
+    → sum_by f (map figures_of stacks) ≡ sum_by (λ (s : Sums). f (figures_of s)) stacks
 sum-figures f [] = refl
-sum-figures f (x ∷ xs) = sum_by-cons f (figures_of x) (map figures_of xs) ∙ ap (λ (n : ℕ). f (figures_of x) + n) (sum-figures f xs) ∙ sym (sum_by-cons (λ (s : Sums). f (figures_of s)) x xs)
+sum-figures f (x ∷ xs) =
+    sum_by-cons f (figures_of x) (map figures_of xs) ∙ ap (λ (n : ℕ). f (figures_of x) + n) (sum-figures f xs)
+    ∙ sym (sum_by-cons (λ (s : Sums). f (figures_of s)) x xs)
 
 -- the figures of all stacks are those of the trace
-pub figures-sum : (count : ℕ) (stacks : List Sums) (infos : List InfoEntry) (sums : Sums) → AreConsistent count stacks infos sums → AreSums (totals_of sums) (map figures_of stacks)
+pub figures-sum : (count : ℕ) (stacks : List Sums) (infos : List InfoEntry) (sums : Sums)
+    → AreConsistent count stacks infos sums → AreSums (totals_of sums) (map figures_of stacks)
 figures-sum count stacks infos sums old =
     let live = sums-live stacks sums (λ n. own-paired count stacks infos sums n old) old.sums_of in
     record {
@@ -90,29 +164,37 @@ figures-sum count stacks infos sums old =
     }
 
 -- a figure of a stack is within the sum over all, held or not
-part-within : (f : Figures → ℕ) (figures : List Figures) (n : ℕ) → f no_figures ≡ 0 → f (get_or figures n no_figures) ≤ sum_by f figures
+part-within : (f : Figures → ℕ) (figures : List Figures) (n : ℕ) → f no_figures ≡ 0
+    → f (get_or figures n no_figures) ≤ sum_by f figures
 part-within f figures n none =
     elim (cases_lt n (length figures)) [
       | inl within ↦ get_or-le-sum_by f figures n no_figures within
-      | inr past ↦ (let is : f (get_or figures n no_figures) ≡ 0 = ap f (get_or_past figures n no_figures past) ∙ none in omega (arith, is))
+      | inr past ↦
+          (let is : f (get_or figures n no_figures)
+          ≡ 0 = ap f (get_or_past figures n no_figures past) ∙ none in omega (arith, is))
     ]
 
 -- the figures of a stack, held or not, are within the totals
-figures-within : (count : ℕ) (stacks : List Sums) (infos : List InfoEntry) (sums : Sums) (n : ℕ) → AreConsistent count stacks infos sums → AreWithin (get_or (map figures_of stacks) n no_figures) (totals_of sums)
+figures-within : (count : ℕ) (stacks : List Sums) (infos : List InfoEntry) (sums : Sums) (n : ℕ)
+    → AreConsistent count stacks infos sums → AreWithin (get_or (map figures_of stacks) n no_figures) (totals_of sums)
 figures-within count stacks infos sums n old =
     let are = figures-sum count stacks infos sums old in
     let paired = own-paired count stacks infos sums n old in
-    let own : figures_of (sums_at stacks n) ≡ get_or (map figures_of stacks) n no_figures = sym (lists.get_or-map figures_of stacks n no_sums) in
+    let own : figures_of (sums_at stacks n) ≡ get_or (map figures_of stacks) n no_figures =
+    sym (lists.get_or-map figures_of stacks n no_sums) in
     let live : (figures_of (sums_at stacks n)).live ≤ (figures_of (sums_at stacks n)).allocated = omega arith in
-    let blocks : (figures_of (sums_at stacks n)).temporary + (figures_of (sums_at stacks n)).blocks ≤ (figures_of (sums_at stacks n)).calls = omega (arith, paired.frees_within, paired.temporary_within) in
+    let blocks : (figures_of (sums_at stacks n)).temporary + (figures_of (sums_at stacks n)).blocks
+    ≤ (figures_of (sums_at stacks n)).calls = omega (arith, paired.frees_within, paired.temporary_within) in
     record {
       live = subst (λ (f : Figures). f.live ≤ f.allocated) own live;
       blocks = subst (λ (f : Figures). f.temporary + f.blocks ≤ f.calls) own blocks;
       live_within = omega (arith, part-within (λ (f : Figures). f.live) (map figures_of stacks) n refl, are.live);
       blocks_within = omega (arith, part-within (λ (f : Figures). f.blocks) (map figures_of stacks) n refl, are.blocks);
       calls_within = omega (arith, part-within (λ (f : Figures). f.calls) (map figures_of stacks) n refl, are.calls);
-      temporary_within = omega (arith, part-within (λ (f : Figures). f.temporary) (map figures_of stacks) n refl, are.temporary);
-      allocated_within = omega (arith, part-within (λ (f : Figures). f.allocated) (map figures_of stacks) n refl, are.allocated);
+      temporary_within =
+          omega (arith, part-within (λ (f : Figures). f.temporary) (map figures_of stacks) n refl, are.temporary);
+      allocated_within =
+          omega (arith, part-within (λ (f : Figures). f.allocated) (map figures_of stacks) n refl, are.allocated);
     }
 
 -- the stack of an entry, read at its place, is held
@@ -125,7 +207,8 @@ pub stack-of_entry :
 stack-of_entry count infos sums i entry old within read =
     let here : slice_index (map stack_of infos) i ≡ entry.stack = number-at stack_of infos i entry within read in
     let inside : i < length (map stack_of infos) = omega (arith, length-map infos stack_of, within) in
-    let below : slice_index (map stack_of infos) i < count = All-get_or (λ (stack : ℕ). stack < count) (map stack_of infos) i 0 inside old.held in
+    let below : slice_index (map stack_of infos) i < count =
+    All-get_or (λ (stack : ℕ). stack < count) (map stack_of infos) i 0 inside old.held in
     omega arith
 
 -- the stack of an info is held
@@ -139,7 +222,8 @@ stack-held whole i held old is =
     omega (arith, stack-of_entry whole.stacks whole.infos whole.sums i (entry_at whole i) old e.within e.is, e.stack_is)
 
 -- the fields of a ledger are sound
-pub sound : (stacks : List Sums) (whole : TotalsState) → AreConsistent whole.stacks stacks whole.infos whole.sums → IsSound (state_of stacks whole)
+pub sound : (stacks : List Sums) (whole : TotalsState) → AreConsistent whole.stacks stacks whole.infos whole.sums
+    → IsSound (state_of stacks whole)
 sound stacks whole old =
     let paired = balance-paired whole.sums any_entry whole.infos old.kept.whole in
     record {
@@ -189,9 +273,13 @@ block-added whole i stack size old e =
     record {
       stacks = refl;
       infos = map-set_same info_of whole.infos i (one_more entry) entry (ap info_of e.is);
-      blocks_of_info = number-at_set blocks_of whole.infos i (one_more entry) e.within ∙ ap (λ (n : ℕ). n + 1) (sym (number-at blocks_of whole.infos i entry e.within e.is));
+      blocks_of_info =
+          number-at_set blocks_of whole.infos i (one_more entry) e.within
+          ∙ ap (λ (n : ℕ). n + 1) (sym (number-at blocks_of whole.infos i entry e.within e.is));
       blocks_of_others = number-at_others blocks_of whole.infos i (one_more entry);
-      calls_of_info = number-at_set calls_of whole.infos i (one_more entry) e.within ∙ ap (λ (n : ℕ). n + 1) (sym (number-at calls_of whole.infos i entry e.within e.is));
+      calls_of_info =
+          number-at_set calls_of whole.infos i (one_more entry) e.within
+          ∙ ap (λ (n : ℕ). n + 1) (sym (number-at calls_of whole.infos i entry e.within e.is));
       calls_of_others = number-at_others calls_of whole.infos i (one_more entry);
       events = omega arith;
       calls = refl;
@@ -211,12 +299,16 @@ pub block-taken :
     → TakesBlock (ledger_of whole) (ledger_of (without_block whole i size)) i size
 block-taken whole i stack size old e live =
     let entry : InfoEntry = entry_at whole i in
-    let fits = free-fits_whole whole.stacks whole.infos whole.sums i stack size (ended_by_free (ledger_of whole) i) entry old e live (ended-few whole i) in
+    let fits =
+    free-fits_whole whole.stacks whole.infos whole.sums i stack size (ended_by_free (ledger_of whole) i) entry old e
+    live (ended-few whole i) in
     let left : (entry.blocks - 1) + 1 ≡ entry.blocks = omega arith in
     record {
       stacks = refl;
       infos = map-set_same info_of whole.infos i (one_fewer entry) entry (ap info_of e.is);
-      blocks_of_info = ap (λ (n : ℕ). n + 1) (number-at_set blocks_of whole.infos i (one_fewer entry) e.within) ∙ left ∙ sym (number-at blocks_of whole.infos i entry e.within e.is);
+      blocks_of_info =
+          ap (λ (n : ℕ). n + 1) (number-at_set blocks_of whole.infos i (one_fewer entry) e.within) ∙ left
+          ∙ sym (number-at blocks_of whole.infos i entry e.within e.is);
       blocks_of_others = number-at_others blocks_of whole.infos i (one_fewer entry);
       info_calls = map-set_same calls_of whole.infos i (one_fewer entry) entry (ap calls_of e.is);
       events = omega arith;
@@ -234,12 +326,17 @@ pub fields-alloc :
     → AreConsistent whole.stacks stacks whole.infos whole.sums
     → IsEntry whole.infos i stack size (entry_at whole i)
     → IsOwn stacks stack own
-    → Allocates (state_of stacks whole) (state_of (set stacks stack (with_alloc own size)) (with_block whole i size)) i stack size
+    → Allocates (state_of stacks whole) (state_of (set stacks stack (with_alloc own size)) (with_block whole i size)) i
+    stack size
 fields-alloc stacks whole i stack size own old e o =
-    let own_paired : IsPaired own = subst (λ (s : Sums). IsPaired s) (sym (own-at stacks stack own o)) (own-paired whole.stacks stacks whole.infos whole.sums stack old) in
+    let own_paired : IsPaired own =
+    subst (λ (s : Sums). IsPaired s) (sym (own-at stacks stack own o))
+    (own-paired whole.stacks stacks whole.infos whole.sums stack old) in
     let before = figures-own stacks whole stack own o in
-    let after : figures_of (with_alloc own size) ≡ figures_at (state_of (set stacks stack (with_alloc own size)) (with_block whole i size)) stack =
-    sym (figures-at (set stacks stack (with_alloc own size)) (with_block whole i size) stack ∙ ap figures_of (own-written stacks stack own (with_alloc own size) o)) in
+    let after : figures_of (with_alloc own size)
+    ≡ figures_at (state_of (set stacks stack (with_alloc own size)) (with_block whole i size)) stack =
+    sym (figures-at (set stacks stack (with_alloc own size)) (with_block whole i size) stack
+    ∙ ap figures_of (own-written stacks stack own (with_alloc own size) o)) in
     let gains : GainsBlock (figures_of own) (figures_of (with_alloc own size)) size = record {
       live = omega (arith, own_paired.freed_within);
       blocks = omega (arith, own_paired.frees_within);
@@ -249,9 +346,12 @@ fields-alloc stacks whole i stack size own old e o =
     } in
     record {
       whole = block-added whole i stack size old.kept e;
-      figures = subst (λ (f : Figures). GainsBlock f (figures_at (state_of (set stacks stack (with_alloc own size)) (with_block whole i size)) stack) size) before
+      figures =
+          subst (λ (f : Figures). GainsBlock f
+          (figures_at (state_of (set stacks stack (with_alloc own size)) (with_block whole i size)) stack) size) before
           (subst (λ (f : Figures). GainsBlock (figures_of own) f size) after gains);
-      figures_of_others = λ other apart. figures-others stacks whole (with_block whole i size) stack other (with_alloc own size) apart;
+      figures_of_others =
+          λ other apart. figures-others stacks whole (with_block whole i size) stack other (with_alloc own size) apart;
     }
 
 -- what contracts see of a free
@@ -261,13 +361,19 @@ pub fields-free :
     → IsEntry whole.infos i stack size (entry_at whole i)
     → IsOwn stacks stack own
     → 0 < (entry_at whole i).blocks
-    → Frees (state_of stacks whole) (state_of (set stacks stack (with_free own size (ended_by_free (ledger_of whole) i))) (without_block whole i size)) i stack size
+    → Frees (state_of stacks whole)
+    (state_of (set stacks stack (with_free own size (ended_by_free (ledger_of whole) i))) (without_block whole i size))
+    i stack size
 fields-free stacks whole i stack size own old e o live =
     let ended : ℕ = ended_by_free (ledger_of whole) i in
-    let part = free-fits_own whole.stacks stacks whole.infos whole.sums i stack size ended (entry_at whole i) own old e o live (ended-few whole i) in
+    let part =
+    free-fits_own whole.stacks stacks whole.infos whole.sums i stack size ended (entry_at whole i) own old e o live
+    (ended-few whole i) in
     let before = figures-own stacks whole stack own o in
-    let after : figures_of (with_free own size ended) ≡ figures_at (state_of (set stacks stack (with_free own size ended)) (without_block whole i size)) stack =
-    sym (figures-at (set stacks stack (with_free own size ended)) (without_block whole i size) stack ∙ ap figures_of (own-written stacks stack own (with_free own size ended) o)) in
+    let after : figures_of (with_free own size ended)
+    ≡ figures_at (state_of (set stacks stack (with_free own size ended)) (without_block whole i size)) stack =
+    sym (figures-at (set stacks stack (with_free own size ended)) (without_block whole i size) stack
+    ∙ ap figures_of (own-written stacks stack own (with_free own size ended) o)) in
     let loses : LosesBlock (figures_of own) (figures_of (with_free own size ended)) size ended = record {
       live = omega (arith, part.live);
       blocks = omega (arith, part.blocks);
@@ -277,9 +383,14 @@ fields-free stacks whole i stack size own old e o live =
     } in
     record {
       whole = block-taken whole i stack size old.kept e live;
-      figures = subst (λ (f : Figures). LosesBlock f (figures_at (state_of (set stacks stack (with_free own size ended)) (without_block whole i size)) stack) size ended) before
+      figures =
+          subst (λ (f : Figures). LosesBlock f
+          (figures_at (state_of (set stacks stack (with_free own size ended)) (without_block whole i size)) stack) size
+          ended) before
           (subst (λ (f : Figures). LosesBlock (figures_of own) f size ended) after loses);
-      figures_of_others = λ other apart. figures-others stacks whole (without_block whole i size) stack other (with_free own size ended) apart;
+      figures_of_others =
+          λ other apart. figures-others stacks whole (without_block whole i size) stack other (with_free own size ended)
+          apart;
     }
 
 -- a free of an info by its entry: a fault exactly where it has no live block
@@ -291,7 +402,8 @@ pub fault-of_entry :
 fault-of_entry whole i stack size entry within is = rw (number-at blocks_of whole.infos i entry within is)
 
 -- an allocation that fits has no fault
-pub fits-alloc : (allocated size : ℕ) → allocated ≤ 2 ^ 62 → size ≤ 2 ^ 62 - allocated → None ≡ cond {A = Option EventFault} (nat_lt (2 ^ 62) (allocated + size)) (Some CostTooLarge) None
+pub fits-alloc : (allocated size : ℕ) → allocated ≤ 2 ^ 62 → size ≤ 2 ^ 62 - allocated
+    → None ≡ cond {A = Option EventFault} (nat_lt (2 ^ 62) (allocated + size)) (Some CostTooLarge) None
 fits-alloc allocated size within fits =
     let fits_all : allocated + size ≤ 2 ^ 62 = omega arith in
     grind (arith, nat_tests)

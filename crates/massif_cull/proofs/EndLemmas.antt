@@ -1,5 +1,33 @@
 -- An end of a list that goes whole: each removal of a cull takes one of it, and in whatever order they go, the same is left.
-use Rattle.std.proofs.Common.{◌≡◌, ◌⊎◌, ℕ, ◌+◌, ◌-◌, ◌^◌, ◌<◌, ◌≤◌, zero, suc, Bool, true, false, cond, List, [], ◌∷◌, length, map, inl, inr, refl, sym, ap, subst, ◌∙◌, arith}
+use Rattle.std.proofs.Common.{
+  ◌≡◌,
+  ◌⊎◌,
+  ℕ,
+  ◌+◌,
+  ◌-◌,
+  ◌^◌,
+  ◌<◌,
+  ◌≤◌,
+  zero,
+  suc,
+  Bool,
+  true,
+  false,
+  cond,
+  List,
+  [],
+  ◌∷◌,
+  length,
+  map,
+  inl,
+  inr,
+  refl,
+  sym,
+  ap,
+  subst,
+  ◌∙◌,
+  arith,
+}
 use Rattle.std.specs.Prelude.{if◌then◌else◌, remove, slice_index, Some}
 use Rattle.std.specs.List.{slice_index_or}
 use Rattle.std.proofs.lemmas.Bool.{both_ways, cases_Bool, cases_eq, cases_lt}
@@ -34,7 +62,8 @@ keep_from (suc n) (x ∷ xs) [] = x ∷ xs
 keep_from (suc n) (x ∷ xs) (b ∷ bs) = x ∷ keep_from n xs bs
 
 -- an element without a flag, which isn't the last, may have gone before
-flagged-removed : {X : Type 0} (xs : List X) (flags : List Bool) (k : ℕ) → k + 1 < length flags → slice_index_or flags k false ≡ false → keep_flagged (remove xs k) (remove flags k) ≡ keep_flagged xs flags
+flagged-removed : {X : Type 0} (xs : List X) (flags : List Bool) (k : ℕ) → k + 1 < length flags
+    → slice_index_or flags k false ≡ false → keep_flagged (remove xs k) (remove flags k) ≡ keep_flagged xs flags
 unfolding keep_flagged
 flagged-removed [] flags zero inside none = refl
 flagged-removed [] flags (suc k) inside none = refl
@@ -48,7 +77,8 @@ flagged-removed {X} (x ∷ xs) (b ∷ c ∷ d ∷ bs) (suc zero) inside none =
 flagged-removed {X} (x ∷ xs) (b ∷ c ∷ d ∷ bs) (suc (suc k)) inside none =
     ap (λ (ys : List X). cond b (x ∷ ys) ys) (flagged-removed xs (c ∷ d ∷ bs) (suc k) (omega arith) none)
 
-from-removed : {X : Type 0} (n : ℕ) (xs : List X) (flags : List Bool) (k : ℕ) → n ≤ k → k + 1 < length flags → slice_index_or flags k false ≡ false → keep_from n (remove xs k) (remove flags k) ≡ keep_from n xs flags
+from-removed : {X : Type 0} (n : ℕ) (xs : List X) (flags : List Bool) (k : ℕ) → n ≤ k → k + 1 < length flags
+    → slice_index_or flags k false ≡ false → keep_from n (remove xs k) (remove flags k) ≡ keep_from n xs flags
 unfolding keep_from keep_flagged
 from-removed zero xs flags k low inside none = flagged-removed xs flags k inside none
 from-removed (suc n) [] flags zero low inside none = absurd (omega arith)
@@ -59,7 +89,8 @@ from-removed {X} (suc n) (x ∷ xs) (b ∷ bs) (suc k) low inside none =
     ap (λ (ys : List X). x ∷ ys) (from-removed n xs bs k (omega arith) (omega arith) none)
 
 -- where all have flags, all stay
-flagged-all : {X : Type 0} (xs : List X) (flags : List Bool) → ((k : ℕ) → k + 1 < length flags → slice_index_or flags k false ≡ true) → keep_flagged xs flags ≡ xs
+flagged-all : {X : Type 0} (xs : List X) (flags : List Bool)
+    → ((k : ℕ) → k + 1 < length flags → slice_index_or flags k false ≡ true) → keep_flagged xs flags ≡ xs
 unfolding keep_flagged
 flagged-all [] flags all = refl
 flagged-all (x ∷ xs) [] all = refl
@@ -68,7 +99,8 @@ flagged-all {X} (x ∷ xs) (b ∷ c ∷ bs) all =
     ap (λ (f : Bool). cond f (x ∷ keep_flagged xs (c ∷ bs)) (keep_flagged xs (c ∷ bs))) (all 0 (omega arith))
     ∙ ap (λ (ys : List X). x ∷ ys) (flagged-all xs (c ∷ bs) (λ k inside. all (suc k) (omega arith)))
 
-from-all : {X : Type 0} (n : ℕ) (xs : List X) (flags : List Bool) → ((k : ℕ) → n ≤ k → k + 1 < length flags → slice_index_or flags k false ≡ true) → keep_from n xs flags ≡ xs
+from-all : {X : Type 0} (n : ℕ) (xs : List X) (flags : List Bool)
+    → ((k : ℕ) → n ≤ k → k + 1 < length flags → slice_index_or flags k false ≡ true) → keep_from n xs flags ≡ xs
 unfolding keep_from keep_flagged
 from-all zero xs flags all = flagged-all xs flags (λ k inside. all k (omega arith) inside)
 from-all (suc n) [] flags all = refl
@@ -100,20 +132,26 @@ kept-all entries xs place all =
 -- ---- how many may go
 
 -- one more place
-pub goers-stays : (entries : List SnapEntry) (place next : ℕ) → place + 1 ≡ next → next < length entries → may_go entries place ≡ false → goers entries place (length entries - 1 - place) ≡ goers entries next (length entries - 1 - next)
+pub goers-stays : (entries : List SnapEntry) (place next : ℕ) → place + 1 ≡ next → next < length entries
+    → may_go entries place ≡ false
+    → goers entries place (length entries - 1 - place) ≡ goers entries next (length entries - 1 - next)
 goers-stays entries place next follows inside stays =
     let more : length entries - 1 - place ≡ suc (length entries - 1 - next) = omega arith in
-    let first : goers entries place (length entries - 1 - place) ≡ 0 + goers entries (place + 1) (length entries - 1 - next) =
+    let first : goers entries place (length entries - 1 - place)
+    ≡ 0 + goers entries (place + 1) (length entries - 1 - next) =
     ap (goers entries place) more
     ∙ ap (λ (b : Bool). (if b then 1 else 0) + goers entries (place + 1) (length entries - 1 - next)) stays
     in
     let rest = ap (λ (k : ℕ). goers entries k (length entries - 1 - next)) follows in
     omega (arith, first, rest)
 
-pub goers-goes : (entries : List SnapEntry) (place next : ℕ) → place + 1 ≡ next → next < length entries → may_go entries place ≡ true → goers entries place (length entries - 1 - place) ≡ goers entries next (length entries - 1 - next) + 1
+pub goers-goes : (entries : List SnapEntry) (place next : ℕ) → place + 1 ≡ next → next < length entries
+    → may_go entries place ≡ true
+    → goers entries place (length entries - 1 - place) ≡ goers entries next (length entries - 1 - next) + 1
 goers-goes entries place next follows inside goes =
     let more : length entries - 1 - place ≡ suc (length entries - 1 - next) = omega arith in
-    let first : goers entries place (length entries - 1 - place) ≡ 1 + goers entries (place + 1) (length entries - 1 - next) =
+    let first : goers entries place (length entries - 1 - place)
+    ≡ 1 + goers entries (place + 1) (length entries - 1 - next) =
     ap (goers entries place) more
     ∙ ap (λ (b : Bool). (if b then 1 else 0) + goers entries (place + 1) (length entries - 1 - next)) goes
     in
@@ -121,43 +159,52 @@ goers-goes entries place next follows inside goes =
     omega (arith, first, rest)
 
 -- of some there is one
-one-goes : (entries : List SnapEntry) (place n : ℕ) → 0 < goers entries place n → (k : ℕ) × (place ≤ k) × (may_go entries k ≡ true)
+one-goes : (entries : List SnapEntry) (place n : ℕ) → 0 < goers entries place n
+    → (k : ℕ) × (place ≤ k) × (may_go entries k ≡ true)
 one-goes entries place zero some = absurd (omega arith)
 one-goes entries place (suc n) some =
     elim (cases_Bool (may_go entries place)) [
       | inl goes ↦ (place, omega arith, goes)
       | inr stays ↦
-          let counted : 0 < 0 + goers entries (place + 1) n = subst (λ (b : Bool). 0 < (if b then 1 else 0) + goers entries (place + 1) n) stays some in
+          let counted : 0 < 0 + goers entries (place + 1) n =
+          subst (λ (b : Bool). 0 < (if b then 1 else 0) + goers entries (place + 1) n) stays some in
           let behind : 0 < goers entries (place + 1) n = omega (arith, counted) in
           let rest = one-goes entries (place + 1) n behind in
           (rest.0, (let low = rest.1 in omega arith), rest.2)
     ]
 
 -- of none there is none
-none-goes : (entries : List SnapEntry) (place n k : ℕ) → goers entries place n ≡ 0 → place ≤ k → k < place + n → may_go entries k ≡ false
+none-goes : (entries : List SnapEntry) (place n k : ℕ) → goers entries place n ≡ 0 → place ≤ k → k < place + n
+    → may_go entries k ≡ false
 none-goes entries place zero k none low high = absurd (omega arith)
 none-goes entries place (suc n) k none low high =
     elim (cases_Bool (may_go entries place)) [
       | inl goes ↦
-          let counted : 1 + goers entries (place + 1) n ≡ 0 = subst (λ (b : Bool). (if b then 1 else 0) + goers entries (place + 1) n ≡ 0) goes none in
+          let counted : 1 + goers entries (place + 1) n ≡ 0 =
+          subst (λ (b : Bool). (if b then 1 else 0) + goers entries (place + 1) n ≡ 0) goes none in
           absurd (omega (arith, counted))
       | inr stays ↦ elim (cases_eq place k) [
         | inl here ↦ ap (may_go entries) (sym here) ∙ stays
         | inr behind ↦
-            let counted : 0 + goers entries (place + 1) n ≡ 0 = subst (λ (b : Bool). (if b then 1 else 0) + goers entries (place + 1) n ≡ 0) stays none in
+            let counted : 0 + goers entries (place + 1) n ≡ 0 =
+            subst (λ (b : Bool). (if b then 1 else 0) + goers entries (place + 1) n ≡ 0) stays none in
             none-goes entries (place + 1) n k (omega (arith, counted)) (omega arith) (omega arith)
       ]
     ]
 
 -- behind one that is removed
-goers-behind : (entries : List SnapEntry) (p place n : ℕ) → 0 < p → p + 1 < length entries → p ≤ place → goers (remove entries p) place n ≡ goers entries (place + 1) n
+goers-behind : (entries : List SnapEntry) (p place n : ℕ) → 0 < p → p + 1 < length entries → p ≤ place
+    → goers (remove entries p) place n ≡ goers entries (place + 1) n
 goers-behind entries p place zero some inside behind = refl
 goers-behind entries p place (suc n) some inside behind =
-    ap (λ (b : Bool). (if b then 1 else 0) + goers (remove entries p) (place + 1) n) (may-above entries p place some inside behind)
-    ∙ ap (λ (m : ℕ). (if may_go entries (place + 1) then 1 else 0) + m) (goers-behind entries p (place + 1) n some inside (omega arith))
+    ap (λ (b : Bool). (if b then 1 else 0) + goers (remove entries p) (place + 1) n)
+    (may-above entries p place some inside behind)
+    ∙ ap (λ (m : ℕ). (if may_go entries (place + 1) then 1 else 0) + m)
+    (goers-behind entries p (place + 1) n some inside (omega arith))
 
 -- where the first of them goes
-goers-first : (entries : List SnapEntry) (p place n : ℕ) → may_go entries p ≡ true → 0 < p → p + 1 < length entries → place ≡ p → goers (remove entries p) place n + 1 ≡ goers entries place (suc n)
+goers-first : (entries : List SnapEntry) (p place n : ℕ) → may_go entries p ≡ true → 0 < p → p + 1 < length entries
+    → place ≡ p → goers (remove entries p) place n + 1 ≡ goers entries place (suc n)
 goers-first entries p place n goes some inside here =
     let behind = goers-behind entries p place n some inside (omega arith) in
     let counted : goers entries place (suc n) ≡ 1 + goers entries (place + 1) n =
@@ -166,24 +213,30 @@ goers-first entries p place n goes some inside here =
     omega (arith, behind, counted)
 
 -- where one of them goes, one fewer may go
-goers-removed : (entries : List SnapEntry) (p place n : ℕ) → may_go entries p ≡ true → 0 < p → p + 1 < length entries → place ≤ p → p ≤ place + n → goers (remove entries p) place n + 1 ≡ goers entries place (suc n)
-goers-removed entries p place zero goes some inside low high = goers-first entries p place zero goes some inside (omega arith)
+goers-removed : (entries : List SnapEntry) (p place n : ℕ) → may_go entries p ≡ true → 0 < p → p + 1 < length entries
+    → place ≤ p → p ≤ place + n → goers (remove entries p) place n + 1 ≡ goers entries place (suc n)
+goers-removed entries p place zero goes some inside low high =
+    goers-first entries p place zero goes some inside (omega arith)
 goers-removed entries p place (suc n) goes some inside low high =
     elim (cases_eq place p) [
       | inl here ↦ goers-first entries p place (suc n) goes some inside here
       | inr apart ↦
           let rest = goers-removed entries p (place + 1) n goes some inside (omega arith) (omega arith) in
-          let first : goers (remove entries p) place (suc n) ≡ (if may_go entries place then 1 else 0) + goers (remove entries p) (place + 1) n =
-          ap (λ (b : Bool). (if b then 1 else 0) + goers (remove entries p) (place + 1) n) (may-below entries p place inside (omega arith))
+          let first : goers (remove entries p) place (suc n)
+          ≡ (if may_go entries place then 1 else 0) + goers (remove entries p) (place + 1) n =
+          ap (λ (b : Bool). (if b then 1 else 0) + goers (remove entries p) (place + 1) n)
+          (may-below entries p place inside (omega arith))
           in
-          let whole : goers entries place (suc (suc n)) ≡ (if may_go entries place then 1 else 0) + goers entries (place + 1) (suc n) = refl in
+          let whole : goers entries place (suc (suc n))
+          ≡ (if may_go entries place then 1 else 0) + goers entries (place + 1) (suc n) = refl in
           omega (arith, rest, first, whole)
     ]
 
 -- ---- which one goes
 
 -- of the places below a number, none may go, or one is the first with the least gap
-find-least : (entries : List SnapEntry) (n : ℕ) → ((k : ℕ) → k < n → may_go entries k ≡ false) ⊎ ((p : ℕ) × IsFirstLeast entries p n)
+find-least : (entries : List SnapEntry) (n : ℕ)
+    → ((k : ℕ) → k < n → may_go entries k ≡ false) ⊎ ((p : ℕ) × IsFirstLeast entries p n)
 find-least entries zero = inl (λ k below. absurd (omega arith))
 find-least entries (suc n) =
     elim (cases_Bool (may_go entries n)) [
@@ -252,7 +305,8 @@ find-least entries (suc n) =
     ]
 
 -- no time falls
-pub times-rise : (entries : List SnapEntry) (i j : ℕ) → AreSound entries → i ≤ j → j < length entries → slice_index (times entries) i ≤ slice_index (times entries) j
+pub times-rise : (entries : List SnapEntry) (i j : ℕ) → AreSound entries → i ≤ j → j < length entries
+    → slice_index (times entries) i ≤ slice_index (times entries) j
 times-rise entries i j sound most inside =
     elim (cases_eq i j) [
       | inl same ↦ (let e = ap (slice_index (times entries)) same in omega arith)
@@ -264,7 +318,8 @@ times-rise entries i j sound most inside =
     ]
 
 -- no gap of the end is above the time that it takes
-gap-within : (entries : List SnapEntry) (place k : ℕ) → AreSound entries → 0 < place → place ≤ k → k + 1 < length entries → gap_at entries k ≤ span entries place
+gap-within : (entries : List SnapEntry) (place k : ℕ) → AreSound entries → 0 < place → place ≤ k
+    → k + 1 < length entries → gap_at entries k ≤ span entries place
 unfolding gap_at
 gap-within entries place k sound some low inside =
     let before = times-rise entries (place - 1) (k - 1) sound (omega arith) (omega arith) in
@@ -313,7 +368,8 @@ next-of entries place k sound some above low goes =
 
 -- ---- what stays so once it is gone
 
-span-removed : (entries : List SnapEntry) (place p : ℕ) → 0 < place → place ≤ p → p + 1 < length entries → span (remove entries p) place ≡ span entries place
+span-removed : (entries : List SnapEntry) (place p : ℕ) → 0 < place → place ≤ p → p + 1 < length entries
+    → span (remove entries p) place ≡ span entries place
 span-removed entries place p some low inside =
     ap (λ (t : ℕ). t - slice_index (times (remove entries p)) (place - 1)) (last-remove entries p inside)
     ∙ ap (λ (t : ℕ). last_time entries - t) (time-below entries p (place - 1) (omega arith) (omega arith))
@@ -355,22 +411,28 @@ above-removed entries place p sound some low inside above j first before =
 
 -- of so many removals to come all are of the end, and all of it goes
 pub end-goes :
-    {T : Type 0} (n : ℕ) (earlier : List SnapEntry) (earlier_loads : List T) (entries : List SnapEntry) (loads : List T) (place : ℕ)
+    {T : Type 0} (n : ℕ) (earlier : List SnapEntry) (earlier_loads : List T) (entries : List SnapEntry) (loads : List T)
+    (place : ℕ)
     → AreLeft n earlier earlier_loads entries loads
     → 0 < place
     → place < length entries
     → ((j : ℕ) → 0 < j → j < place → span entries place < gap_to_go entries j)
     → goers entries place (length entries - 1 - place) ≡ n
-    → AreLeft 0 earlier earlier_loads (keep_from place entries (map is_peak entries)) (keep_from place loads (map is_peak entries))
+    → AreLeft 0 earlier earlier_loads (keep_from place entries (map is_peak entries))
+    (keep_from place loads (map is_peak entries))
 end-goes {T} zero earlier earlier_loads entries loads place left some inside above count =
     let peaks : (k : ℕ) → place ≤ k → k + 1 < length entries → is_peak_at entries k ≡ true =
     λ k low high. elim (cases_Bool (is_peak_at entries k)) [
       | inl peak ↦ peak
-      | inr normal ↦ absurd (both_ways _ (none-goes entries place _ k count low (omega arith)) (may_go-inside entries k (omega arith) high normal))
+      | inr normal ↦ absurd
+          (both_ways _ (none-goes entries place _ k count low (omega arith))
+          (may_go-inside entries k (omega arith) high normal))
     ]
     in
-    subst (λ (ls : List T). AreLeft 0 earlier earlier_loads (keep_from place entries (map is_peak entries)) ls) (sym (kept-all entries loads place peaks))
-    (subst (λ (es : List SnapEntry). AreLeft 0 earlier earlier_loads es loads) (sym (kept-all entries entries place peaks)) left)
+    subst (λ (ls : List T). AreLeft 0 earlier earlier_loads (keep_from place entries (map is_peak entries)) ls)
+    (sym (kept-all entries loads place peaks))
+    (subst (λ (es : List SnapEntry). AreLeft 0 earlier earlier_loads es loads)
+    (sym (kept-all entries entries place peaks)) left)
 end-goes {T} (suc n) earlier earlier_loads entries loads place left some inside above count =
     let one = one-goes entries place (length entries - 1 - place) (omega (arith, count)) in
     let next = next-of entries place one.0 left.sound some above one.1 one.2 in
@@ -379,25 +441,31 @@ end-goes {T} (suc n) earlier earlier_loads entries loads place left some inside 
     let within : next.index + 1 < length entries = next.inside in
     let shorter = length-remove entries next.index (omega arith) in
     let more : length entries - 1 - place ≡ suc (length (remove entries next.index) - 1 - place) = omega arith in
-    let fewer = goers-removed entries next.index place (length (remove entries next.index) - 1 - place) next.may (omega arith) within low (omega arith) in
+    let fewer =
+    goers-removed entries next.index place (length (remove entries next.index) - 1 - place) next.may (omega arith)
+    within low (omega arith) in
     let counted = ap (goers entries place) more in
     let normal = no-peak entries next.index next.may in
     let rest = end-goes n earlier earlier_loads (remove entries next.index) (remove loads next.index) place
     (left-more n earlier earlier_loads entries loads next.index next.goes within left) some (omega arith)
     (above-removed entries place next.index left.sound some low within above)
     (omega (arith, fewer, counted, count)) in
-    subst (λ (ls : List T). AreLeft 0 earlier earlier_loads (keep_from place entries (map is_peak entries)) ls) (kept-removed entries loads place next.index low within normal)
-    (subst (λ (es : List SnapEntry). AreLeft 0 earlier earlier_loads es (keep_from place (remove loads next.index) (map is_peak (remove entries next.index))))
+    subst (λ (ls : List T). AreLeft 0 earlier earlier_loads (keep_from place entries (map is_peak entries)) ls)
+    (kept-removed entries loads place next.index low within normal)
+    (subst (λ (es : List SnapEntry). AreLeft 0 earlier earlier_loads es
+    (keep_from place (remove loads next.index) (map is_peak (remove entries next.index))))
     (kept-removed entries entries place next.index low within normal) rest)
 
 -- where nothing of the end is left but peaks and the last entry, all that goes is gone
 pub end-gone :
     {T : Type 0} (entries now : List SnapEntry) (loads loads_now : List T) (place : ℕ)
-    → AreLeft 0 entries loads (keep_from place entries (map is_peak entries)) (keep_from place loads (map is_peak entries))
+    → AreLeft 0 entries loads (keep_from place entries (map is_peak entries))
+    (keep_from place loads (map is_peak entries))
     → keep_from place now (map is_peak now) ≡ keep_from place entries (map is_peak entries)
     → keep_from place loads_now (map is_peak now) ≡ keep_from place loads (map is_peak entries)
     → ((k : ℕ) → place ≤ k → k + 1 < length now → is_peak_at now k ≡ true)
     → AreLeft 0 entries loads now loads_now
 end-gone {T} entries now loads loads_now place left same same_loads peaks =
     subst (λ (ls : List T). AreLeft 0 entries loads now ls) (sym same_loads ∙ kept-all now loads_now place peaks)
-    (subst (λ (es : List SnapEntry). AreLeft 0 entries loads es (keep_from place loads (map is_peak entries))) (sym same ∙ kept-all now now place peaks) left)
+    (subst (λ (es : List SnapEntry). AreLeft 0 entries loads es (keep_from place loads (map is_peak entries)))
+    (sym same ∙ kept-all now now place peaks) left)

@@ -1,5 +1,25 @@
 -- Entries whose neighbours have one time: they go first, in their order.
-use Rattle.std.proofs.Common.{◌≡◌, ℕ, ◌+◌, ◌-◌, ◌<◌, ◌≤◌, Bool, true, false, List, length, map, inl, inr, sym, ap, subst, ◌∙◌, arith}
+use Rattle.std.proofs.Common.{
+  ◌≡◌,
+  ℕ,
+  ◌+◌,
+  ◌-◌,
+  ◌<◌,
+  ◌≤◌,
+  Bool,
+  true,
+  false,
+  List,
+  length,
+  map,
+  inl,
+  inr,
+  sym,
+  ap,
+  subst,
+  ◌∙◌,
+  arith,
+}
 use Rattle.std.specs.Prelude.{remove, slice_index, Some}
 use Rattle.std.specs.List.{slice_index_or}
 use Rattle.std.proofs.lemmas.Bool.{both_ways, cases_Bool, cases_eq, cases_lt}
@@ -24,7 +44,8 @@ passed-first entries place second = record {
 }
 
 -- one more
-pub passed-more : (entries : List SnapEntry) (place next : ℕ) → next ≡ place + 1 → ArePassed entries place → (may_go entries place ≡ true → 0 < gap_at entries place) → ArePassed entries next
+pub passed-more : (entries : List SnapEntry) (place next : ℕ) → next ≡ place + 1 → ArePassed entries place
+    → (may_go entries place ≡ true → 0 < gap_at entries place) → ArePassed entries next
 passed-more entries place next is passed here = record {
   each = λ j below goes. elim (cases_eq j place) [
     | inl last ↦
@@ -44,26 +65,30 @@ no-peak entries j goes =
     ]
 
 -- before the removed place all stay what they are
-pub peak-below : (entries : List SnapEntry) (p j : ℕ) → p < length entries → j < p → is_peak_at (remove entries p) j ≡ is_peak_at entries j
+pub peak-below : (entries : List SnapEntry) (p j : ℕ) → p < length entries → j < p
+    → is_peak_at (remove entries p) j ≡ is_peak_at entries j
 peak-below entries p j inside below =
     let long = length-map entries is_peak in
     ap (λ (flags : List Bool). slice_index_or flags j false) (map-remove is_peak entries p)
     ∙ get_or-remove_below (map is_peak entries) p false j below (omega arith)
 
-pub time-below : (entries : List SnapEntry) (p j : ℕ) → p < length entries → j < p → slice_index (times (remove entries p)) j ≡ slice_index (times entries) j
+pub time-below : (entries : List SnapEntry) (p j : ℕ) → p < length entries → j < p
+    → slice_index (times (remove entries p)) j ≡ slice_index (times entries) j
 time-below entries p j inside below =
     let long = length-map entries (λ (entry : SnapEntry). entry.time) in
     ap (λ (ts : List ℕ). slice_index ts j) (map-remove (λ (entry : SnapEntry). entry.time) entries p)
     ∙ get_or-remove_below (times entries) p 0 j below (omega arith)
 
-pub time-above : (entries : List SnapEntry) (p j : ℕ) → p < length entries → p ≤ j → slice_index (times (remove entries p)) j ≡ slice_index (times entries) (j + 1)
+pub time-above : (entries : List SnapEntry) (p j : ℕ) → p < length entries → p ≤ j
+    → slice_index (times (remove entries p)) j ≡ slice_index (times entries) (j + 1)
 time-above entries p j inside above =
     let long = length-map entries (λ (entry : SnapEntry). entry.time) in
     ap (λ (ts : List ℕ). slice_index ts j) (map-remove (λ (entry : SnapEntry). entry.time) entries p)
     ∙ get_or-remove_above (times entries) p 0 j above (omega arith)
 
 -- no time falls
-pub later : (entries : List SnapEntry) (k : ℕ) → AreSound entries → k + 1 < length entries → slice_index (times entries) k ≤ slice_index (times entries) (k + 1)
+pub later : (entries : List SnapEntry) (k : ℕ) → AreSound entries → k + 1 < length entries
+    → slice_index (times entries) k ≤ slice_index (times entries) (k + 1)
 later entries k sound inside =
     let first = time-at entries k no_entry (omega arith) in
     let second = time-at entries (k + 1) no_entry inside in
@@ -71,7 +96,8 @@ later entries k sound inside =
     omega arith
 
 -- where an entry goes, the differences of those before it don't fall
-pub gap-grows : (entries : List SnapEntry) (p j : ℕ) → AreSound entries → p + 1 < length entries → 0 < j → j < p → gap_at entries j ≤ gap_at (remove entries p) j
+pub gap-grows : (entries : List SnapEntry) (p j : ℕ) → AreSound entries → p + 1 < length entries → 0 < j → j < p
+    → gap_at entries j ≤ gap_at (remove entries p) j
 unfolding gap_at
 gap-grows entries p j sound inside some below =
     let before = time-below entries p (j - 1) (omega arith) (omega arith) in
@@ -99,14 +125,16 @@ passed-removed entries after place next is same sound inside passed =
       each = λ j below goes.
           (let shorter = length-remove entries place (omega arith) in
           let between = may_go-between (remove entries place) j goes in
-          let normal = sym (peak-below entries place j (omega arith) (omega arith)) ∙ no-peak (remove entries place) j goes in
+          let normal =
+          sym (peak-below entries place j (omega arith) (omega arith)) ∙ no-peak (remove entries place) j goes in
           let at = passed.each j (omega arith) (may_go-inside entries j between.0 (omega arith) normal) in
           let more = gap-grows entries place j sound inside between.0 (omega arith) in
           omega arith);
     })
 
 -- the next one that may go, where its neighbours have one time, is the one that goes
-pub goes-next : (entries : List SnapEntry) (place : ℕ) → ArePassed entries place → may_go entries place ≡ true → gap_at entries place ≡ 0 → removed_place entries ≡ Some place
+pub goes-next : (entries : List SnapEntry) (place : ℕ) → ArePassed entries place → may_go entries place ≡ true
+    → gap_at entries place ≡ 0 → removed_place entries ≡ Some place
 goes-next entries place passed goes none =
     let between = may_go-between entries place goes in
     removed-is entries place
@@ -118,5 +146,9 @@ goes-next entries place passed goes none =
     })
 
 -- as many removals are to come by another name
-pub left-same : {T : Type 0} (rest other : ℕ) (earlier : List SnapEntry) (earlier_loads : List T) (entries : List SnapEntry) (loads : List T) → rest ≡ other → AreLeft rest earlier earlier_loads entries loads → AreLeft other earlier earlier_loads entries loads
-left-same rest other earlier earlier_loads entries loads same left = subst (λ (n : ℕ). AreLeft n earlier earlier_loads entries loads) same left
+pub left-same : {T : Type 0} (rest other : ℕ) (earlier : List SnapEntry) (earlier_loads : List T)
+    (entries : List SnapEntry) (loads : List T)
+    → rest ≡ other → AreLeft rest earlier earlier_loads entries loads
+    → AreLeft other earlier earlier_loads entries loads
+left-same rest other earlier earlier_loads entries loads same left =
+    subst (λ (n : ℕ). AreLeft n earlier earlier_loads entries loads) same left

@@ -1,5 +1,31 @@
 -- What the fields of links say of their places, before and after a call.
-use Rattle.std.proofs.Common.{◌≡◌, ◌≢◌, ℕ, ◌+◌, ◌-◌, ◌<◌, ◌≤◌, Bool, cond, eqb, List, [], ◌∷◌, ◌++◌, length, set, get_or, inl, inr, sym, ap, subst, ◌∙◌, add-one, arith}
+use Rattle.std.proofs.Common.{
+  ◌≡◌,
+  ◌≢◌,
+  ℕ,
+  ◌+◌,
+  ◌-◌,
+  ◌<◌,
+  ◌≤◌,
+  Bool,
+  cond,
+  eqb,
+  List,
+  [],
+  ◌∷◌,
+  ◌++◌,
+  length,
+  set,
+  get_or,
+  inl,
+  inr,
+  sym,
+  ap,
+  subst,
+  ◌∙◌,
+  add-one,
+  arith,
+}
 use Rattle.std.specs.Prelude.{slice_get, slice_index, remove, Contains, Option, Some, None, IfSome, vec_capacity}
 use Rattle.std.specs.Option.{option_to_list}
 use Rattle.std.proofs.lemmas.Bool.{cases_Bool}
@@ -9,7 +35,30 @@ use Rattle.std.proofs.lemmas.List.Edits.{length-remove}
 use Rattle.std.proofs.lemmas.Option.{slice_get_within}
 use Rattle.massif_cull.specs.declared.links.Links.TheInside.{Inside}
 use Rattle.massif_cull.specs.Linked.{walk, unless_end, IsOutside, AreBelow, AreDifferent, AreLinked, links_of, IsLinked}
-use Rattle.massif_cull.proofs.Linking.{each-left, each-right, each-at, each-weaker, each-given, each-returned, contained-at, different-left, different-pop, different-given, different-returned, length-walk, walk-is, next-at, prev-at, prev-front, last-at, prev-holds, next-holds, last-holds, linked-remove, linked-push}
+use Rattle.massif_cull.proofs.Linking.{
+  each-left,
+  each-right,
+  each-at,
+  each-weaker,
+  each-given,
+  each-returned,
+  contained-at,
+  different-left,
+  different-pop,
+  different-given,
+  different-returned,
+  length-walk,
+  walk-is,
+  next-at,
+  prev-at,
+  prev-front,
+  last-at,
+  prev-holds,
+  next-holds,
+  last-holds,
+  linked-remove,
+  linked-push,
+}
 
 -- the places in their order
 abbrev pub places_of : Inside → List ℕ
@@ -21,18 +70,22 @@ places-below links is = each-left (λ p. p < links.max) (places_of links) links.
 
 -- and none is that number
 pub end-outside : (links : Inside) → IsLinked links → IsOutside links.max (places_of links)
-end-outside links is = each-weaker (λ p. p < links.max) (λ p. links.max ≢ p) (places_of links) (λ p less e. omega arith) (places-below links is)
+end-outside links is =
+    each-weaker (λ p. p < links.max) (λ p. links.max ≢ p) (places_of links) (λ p less e. omega arith)
+    (places-below links is)
 
 pub places-different : (links : Inside) → IsLinked links → AreDifferent (places_of links)
 places-different links is = different-left (places_of links) links.free.items is.different
 
 pub places-count : (links : Inside) → IsLinked links → length (places_of links) + length links.free.items ≡ links.max
 places-count links is =
-    let count = length-walk links.next.items (links.max - length links.free.items) (slice_index links.next.items links.max) in
+    let count =
+    length-walk links.next.items (links.max - length links.free.items) (slice_index links.next.items links.max) in
     omega (arith, is.free_most)
 
 -- a place of the list is below the number
-pub contained-below : (links : Inside) (place : ℕ) → IsLinked links → Contains (places_of links) place → place < links.max
+pub contained-below : (links : Inside) (place : ℕ) → IsLinked links → Contains (places_of links) place
+    → place < links.max
 contained-below links place is held =
     let at = contained-at (places_of links) place held in
     each-at (λ p. p < links.max) (places_of links) at.0 place at.1 (places-below links is)
@@ -55,38 +108,53 @@ unless_end-below end p o is most =
 -- ---- what is read
 
 -- the neighbours that are linked are places, or the end
-pub before-most : (links : Inside) (place before : ℕ) → IsLinked links → Contains (places_of links) place → before ≡ get_or links.prev.items place before → before ≤ links.max
+pub before-most : (links : Inside) (place before : ℕ) → IsLinked links → Contains (places_of links) place
+    → before ≡ get_or links.prev.items place before → before ≤ links.max
 before-most links place before is held read =
     let at = contained-at (places_of links) place held in
     let inside = contained-below links place is held in
     let same = read-link links.prev.items place before (omega (arith, is.prev_length)) read in
-    let most = prev-holds (λ p. p ≤ links.max) links.next.items links.prev.items links.max (places_of links) links.max at.0 place at.1 is.linked (omega arith)
-    (each-weaker (λ p. p < links.max) (λ p. p ≤ links.max) (places_of links) (λ p less. omega arith) (places-below links is)) in
+    let most =
+    prev-holds (λ p. p ≤ links.max) links.next.items links.prev.items links.max (places_of links) links.max at.0 place
+    at.1 is.linked (omega arith)
+    (each-weaker (λ p. p < links.max) (λ p. p ≤ links.max) (places_of links) (λ p less. omega arith)
+    (places-below links is)) in
     omega arith
 
-pub after-most : (links : Inside) (place after : ℕ) → IsLinked links → Contains (places_of links) place → after ≡ get_or links.next.items place after → after ≤ links.max
+pub after-most : (links : Inside) (place after : ℕ) → IsLinked links → Contains (places_of links) place
+    → after ≡ get_or links.next.items place after → after ≤ links.max
 after-most links place after is held read =
     let at = contained-at (places_of links) place held in
     let inside = contained-below links place is held in
     let same = read-link links.next.items place after (omega (arith, is.next_length)) read in
-    let most = next-holds (λ p. p ≤ links.max) links.next.items links.prev.items links.max (places_of links) links.max at.0 place at.1 is.linked
-    (each-weaker (λ p. p < links.max) (λ p. p ≤ links.max) (places_of links) (λ p less. omega arith) (places-below links is)) (omega arith) in
+    let most =
+    next-holds (λ p. p ≤ links.max) links.next.items links.prev.items links.max (places_of links) links.max at.0 place
+    at.1 is.linked
+    (each-weaker (λ p. p < links.max) (λ p. p ≤ links.max) (places_of links) (λ p less. omega arith)
+    (places-below links is))
+    (omega arith) in
     omega arith
 
-pub last-most : (links : Inside) (before : ℕ) → IsLinked links → before ≡ get_or links.prev.items links.max before → before ≤ links.max
+pub last-most : (links : Inside) (before : ℕ) → IsLinked links → before ≡ get_or links.prev.items links.max before
+    → before ≤ links.max
 last-most links before is read =
     let same = read-link links.prev.items links.max before (omega (arith, is.prev_length)) read in
-    let most = last-holds (λ p. p ≤ links.max) links.next.items links.prev.items links.max (places_of links) links.max is.linked (omega arith)
-    (each-weaker (λ p. p < links.max) (λ p. p ≤ links.max) (places_of links) (λ p less. omega arith) (places-below links is)) in
+    let most =
+    last-holds (λ p. p ≤ links.max) links.next.items links.prev.items links.max (places_of links) links.max is.linked
+    (omega arith)
+    (each-weaker (λ p. p < links.max) (λ p. p ≤ links.max) (places_of links) (λ p less. omega arith)
+    (places-below links is)) in
     omega arith
 
-pub last-is : (links : Inside) (x : ℕ) (o : Option ℕ) → IsLinked links → x ≡ get_or links.prev.items links.max x → o ≡ unless_end links.max x → o ≡ slice_get (places_of links) (length (places_of links) - 1)
+pub last-is : (links : Inside) (x : ℕ) (o : Option ℕ) → IsLinked links → x ≡ get_or links.prev.items links.max x
+    → o ≡ unless_end links.max x → o ≡ slice_get (places_of links) (length (places_of links) - 1)
 last-is links x o is read e =
     e
     ∙ ap (unless_end links.max) (read-link links.prev.items links.max x (omega (arith, is.prev_length)) read)
     ∙ last-at links.next.items links.prev.items (places_of links) links.max is.linked (places-below links is)
 
-pub last-below : (links : Inside) (x : ℕ) (o : Option ℕ) → IsLinked links → x ≡ get_or links.prev.items links.max x → o ≡ unless_end links.max x → IfSome o (λ q. q < links.max)
+pub last-below : (links : Inside) (x : ℕ) (o : Option ℕ) → IsLinked links → x ≡ get_or links.prev.items links.max x
+    → o ≡ unless_end links.max x → IfSome o (λ q. q < links.max)
 last-below links x o is read e = unless_end-below links.max x o e (last-most links x is read)
 
 pub next-is :
@@ -100,10 +168,12 @@ next-is links place x o is held read e k at =
     let inside = contained-below links place is held in
     e
     ∙ ap (unless_end links.max) (read-link links.next.items place x (omega (arith, is.next_length)) read)
-    ∙ next-at links.next.items links.prev.items links.max (places_of links) links.max k place at is.linked (places-below links is)
+    ∙ next-at links.next.items links.prev.items links.max (places_of links) links.max k place at is.linked
+    (places-below links is)
     ∙ ap (slice_get (places_of links)) (sym (add-one k))
 
-pub next-below : (links : Inside) (place x : ℕ) (o : Option ℕ) → IsLinked links → Contains (places_of links) place → x ≡ get_or links.next.items place x → o ≡ unless_end links.max x → IfSome o (λ q. q < links.max)
+pub next-below : (links : Inside) (place x : ℕ) (o : Option ℕ) → IsLinked links → Contains (places_of links) place
+    → x ≡ get_or links.next.items place x → o ≡ unless_end links.max x → IfSome o (λ q. q < links.max)
 next-below links place x o is held read e = unless_end-below links.max x o e (after-most links place x is held read)
 
 pub prev-is :
@@ -117,7 +187,8 @@ prev-is links place x o is held read e k at =
     let inside = contained-below links place is held in
     e
     ∙ ap (unless_end links.max) (read-link links.prev.items place x (omega (arith, is.prev_length)) read)
-    ∙ prev-at links.next.items links.prev.items links.max (places_of links) links.max k place (ap (slice_get (places_of links)) (sym (add-one k)) ∙ at) is.linked (places-below links is)
+    ∙ prev-at links.next.items links.prev.items links.max (places_of links) links.max k place
+    (ap (slice_get (places_of links)) (sym (add-one k)) ∙ at) is.linked (places-below links is)
 
 pub prev-is_front :
     (links : Inside) (place x : ℕ) (o : Option ℕ)
@@ -133,7 +204,8 @@ prev-is_front links place x o is held read e at =
     ∙ ap (unless_end links.max) (read-link links.prev.items place x (omega (arith, is.prev_length)) read)
     ∙ prev-front links.next.items links.prev.items (places_of links) links.max place at is.linked
 
-pub prev-below : (links : Inside) (place x : ℕ) (o : Option ℕ) → IsLinked links → Contains (places_of links) place → x ≡ get_or links.prev.items place x → o ≡ unless_end links.max x → IfSome o (λ q. q < links.max)
+pub prev-below : (links : Inside) (place x : ℕ) (o : Option ℕ) → IsLinked links → Contains (places_of links) place
+    → x ≡ get_or links.prev.items place x → o ≡ unless_end links.max x → IfSome o (λ q. q < links.max)
 prev-below links place x o is held read e = unless_end-below links.max x o e (before-most links place x is held read)
 
 -- ---- after a call
@@ -148,48 +220,62 @@ pub record IsPushed (links new : Inside) (place before : ℕ) : Type 0 where
   pub prev : new.prev.items ≡ set (set links.prev.items place before) links.max place
 
 -- the one that is popped was the last free one
-pub popped : (old rest : List ℕ) (o : Option ℕ) (place : ℕ) → old ≡ rest ++ option_to_list o → o ≡ Some place → old ≡ rest ++ place ∷ []
+pub popped : (old rest : List ℕ) (o : Option ℕ) (place : ℕ) → old ≡ rest ++ option_to_list o → o ≡ Some place
+    → old ≡ rest ++ place ∷ []
 popped old rest o place e is = e ∙ ap (λ (p : Option ℕ). rest ++ option_to_list p) is
 
 -- a free place is no place of the list, and is below the number
-pub free-below : (links : Inside) (rest : List ℕ) (place : ℕ) → IsLinked links → links.free.items ≡ rest ++ place ∷ [] → place < links.max
+pub free-below : (links : Inside) (rest : List ℕ) (place : ℕ) → IsLinked links → links.free.items ≡ rest ++ place ∷ []
+    → place < links.max
 free-below links rest place is free =
     let P : ℕ → Type 0 = λ p. p < links.max in
     let low = subst (λ (f : List ℕ). AreBelow links.max (places_of links ++ f)) free is.below in
     (each-right P rest (place ∷ []) (each-right P (places_of links) (rest ++ place ∷ []) low)).0
 
-free-outside : (links : Inside) (rest : List ℕ) (place : ℕ) → IsLinked links → links.free.items ≡ rest ++ place ∷ [] → IsOutside place (places_of links)
+free-outside : (links : Inside) (rest : List ℕ) (place : ℕ) → IsLinked links → links.free.items ≡ rest ++ place ∷ []
+    → IsOutside place (places_of links)
 free-outside links rest place is free =
     let both = subst (λ (f : List ℕ). AreDifferent (places_of links ++ f)) free is.different in
-    (different-pop (places_of links) place (different-left (places_of links ++ place ∷ []) rest (different-given (places_of links) rest place both))).0
+    (different-pop (places_of links) place
+    (different-left (places_of links ++ place ∷ []) rest (different-given (places_of links) rest place both))).0
 
-pushed-linked : (links new : Inside) (place before : ℕ) → IsLinked links → IsPushed links new place before → AreLinked new.next.items new.prev.items links.max (places_of links ++ place ∷ []) links.max
+pushed-linked : (links new : Inside) (place before : ℕ) → IsLinked links → IsPushed links new place before
+    → AreLinked new.next.items new.prev.items links.max (places_of links ++ place ∷ []) links.max
 pushed-linked links new place before is done =
     let places = places_of links in
     let out = free-outside links new.free.items place is done.was_free in
     let below = free-below links new.free.items place is done.was_free in
-    let inside = each-weaker (λ p. p < links.max) (λ p. p < length links.next.items) places (λ p less. omega (arith, is.next_length)) (places-below links is) in
+    let inside =
+    each-weaker (λ p. p < links.max) (λ p. p < length links.next.items) places
+    (λ p less. omega (arith, is.next_length)) (places-below links is) in
     subst (λ (n : List ℕ). AreLinked n new.prev.items links.max (places ++ place ∷ []) links.max) (sym done.next)
-    (subst (λ (p : List ℕ). AreLinked (set (set links.next.items before place) place links.max) p links.max (places ++ place ∷ []) links.max) (sym done.prev)
+    (subst (λ (p : List ℕ). AreLinked (set (set links.next.items before place) place links.max) p links.max
+    (places ++ place ∷ []) links.max) (sym
+    done.prev)
     (linked-push links.next.items links.prev.items links.max places links.max place before
     (read-link links.prev.items links.max before (omega (arith, is.prev_length)) done.last)
     ((λ e. omega (arith, below)), out)
     (λ e. omega (arith, below))
     (end-outside links is) (end-outside links is) (places-different links is)
-    (omega (arith, is.next_length)) inside (omega (arith, is.next_length, below)) (omega (arith, is.prev_length)) (omega (arith, is.prev_length, below)) is.linked))
+    (omega (arith, is.next_length)) inside (omega (arith, is.next_length, below)) (omega (arith, is.prev_length))
+    (omega (arith, is.prev_length, below)) is.linked))
 
 -- the places are those that are linked
-linked-are : (new : Inside) (max : ℕ) (places : List ℕ) → new.max ≡ max → AreLinked new.next.items new.prev.items max places max → length places + length new.free.items ≡ max → places_of new ≡ places
+linked-are : (new : Inside) (max : ℕ) (places : List ℕ) → new.max ≡ max
+    → AreLinked new.next.items new.prev.items max places max → length places + length new.free.items ≡ max
+    → places_of new ≡ places
 linked-are new max places same linked count =
     ap (λ (m : ℕ). walk new.next.items (m - length new.free.items) (slice_index new.next.items m)) same
     ∙ walk-is new.next.items new.prev.items max places max (max - length new.free.items) linked (omega arith)
 
-pub pushed-places : (links new : Inside) (place before : ℕ) → IsLinked links → IsPushed links new place before → places_of new ≡ places_of links ++ place ∷ []
+pub pushed-places : (links new : Inside) (place before : ℕ) → IsLinked links → IsPushed links new place before
+    → places_of new ≡ places_of links ++ place ∷ []
 pushed-places links new place before is done =
     let count = places-count links is in
     let free = ap length done.was_free ∙ length_push new.free.items place in
     let more = length_push (places_of links) place in
-    linked-are new links.max (places_of links ++ place ∷ []) done.same_max (pushed-linked links new place before is done) (omega arith)
+    linked-are new links.max (places_of links ++ place ∷ []) done.same_max
+    (pushed-linked links new place before is done) (omega arith)
 
 -- what is true stays true
 stays :
@@ -212,10 +298,13 @@ stays new max places same are linked different below next_length prev_length mos
   linked = subst (λ (ps : List ℕ). AreLinked new.next.items new.prev.items new.max ps new.max) (sym are)
       (subst (λ (m : ℕ). AreLinked new.next.items new.prev.items m places m) (sym same) linked);
   different = subst (λ (ps : List ℕ). AreDifferent (ps ++ new.free.items)) (sym are) different;
-  below = subst (λ (ps : List ℕ). AreBelow new.max (ps ++ new.free.items)) (sym are) (subst (λ (m : ℕ). AreBelow m (places ++ new.free.items)) (sym same) below);
+  below =
+      subst (λ (ps : List ℕ). AreBelow new.max (ps ++ new.free.items)) (sym are)
+      (subst (λ (m : ℕ). AreBelow m (places ++ new.free.items)) (sym same) below);
 }
 
-pub pushed-stays : (links new : Inside) (place before : ℕ) → IsLinked links → IsPushed links new place before → IsLinked new
+pub pushed-stays : (links new : Inside) (place before : ℕ) → IsLinked links → IsPushed links new place before
+    → IsLinked new
 pushed-stays links new place before is done =
     let free = ap length done.was_free ∙ length_push new.free.items place in
     let low = subst (λ (free : List ℕ). AreBelow links.max (places_of links ++ free)) done.was_free is.below in
@@ -240,28 +329,39 @@ pub record IsUnlinked (links new : Inside) (place before after : ℕ) : Type 0 w
   pub next : new.next.items ≡ set links.next.items before after
   pub prev : new.prev.items ≡ set links.prev.items after before
 
-unlinked-linked : (links new : Inside) (place before after k : ℕ) → IsLinked links → IsUnlinked links new place before after → slice_get (places_of links) k ≡ Some place → AreLinked new.next.items new.prev.items links.max (remove (places_of links) k) links.max
+unlinked-linked : (links new : Inside) (place before after k : ℕ) → IsLinked links
+    → IsUnlinked links new place before after → slice_get (places_of links) k ≡ Some place
+    → AreLinked new.next.items new.prev.items links.max (remove (places_of links) k) links.max
 unlinked-linked links new place before after k is done at =
     let places = places_of links in
     let place_below : place < links.max = each-at (λ p. p < links.max) places k place at (places-below links is) in
-    let in_next = each-weaker (λ p. p < links.max) (λ p. p < length links.next.items) places (λ p less. omega (arith, is.next_length)) (places-below links is) in
-    let in_prev = each-weaker (λ p. p < links.max) (λ p. p < length links.prev.items) places (λ p less. omega (arith, is.prev_length)) (places-below links is) in
+    let in_next =
+    each-weaker (λ p. p < links.max) (λ p. p < length links.next.items) places
+    (λ p less. omega (arith, is.next_length)) (places-below links is) in
+    let in_prev =
+    each-weaker (λ p. p < links.max) (λ p. p < length links.prev.items) places
+    (λ p less. omega (arith, is.prev_length)) (places-below links is) in
     subst (λ (n : List ℕ). AreLinked n new.prev.items links.max (remove places k) links.max) (sym done.next)
-    (subst (λ (p : List ℕ). AreLinked (set links.next.items before after) p links.max (remove places k) links.max) (sym done.prev)
+    (subst (λ (p : List ℕ). AreLinked (set links.next.items before after) p links.max (remove places k) links.max)
+    (sym done.prev)
     (linked-remove links.next.items links.prev.items links.max places links.max k place before after at
     (read-link links.prev.items place before (omega (arith, is.prev_length)) done.earlier)
     (read-link links.next.items place after (omega (arith, is.next_length)) done.later)
     (end-outside links is) (end-outside links is) (places-different links is)
     (omega (arith, is.next_length)) in_next (omega (arith, is.prev_length)) in_prev is.linked))
 
-pub unlinked-places : (links new : Inside) (place before after k : ℕ) → IsLinked links → IsUnlinked links new place before after → slice_get (places_of links) k ≡ Some place → places_of new ≡ remove (places_of links) k
+pub unlinked-places : (links new : Inside) (place before after k : ℕ) → IsLinked links
+    → IsUnlinked links new place before after → slice_get (places_of links) k ≡ Some place
+    → places_of new ≡ remove (places_of links) k
 unlinked-places links new place before after k is done at =
     let count = places-count links is in
     let free = ap length done.is_free ∙ length_push links.free.items place in
     let fewer = length-remove (places_of links) k (slice_get_within (places_of links) k place at) in
-    linked-are new links.max (remove (places_of links) k) done.same_max (unlinked-linked links new place before after k is done at) (omega arith)
+    linked-are new links.max (remove (places_of links) k) done.same_max
+    (unlinked-linked links new place before after k is done at) (omega arith)
 
-pub unlinked-stays : (links new : Inside) (place before after : ℕ) → IsLinked links → IsUnlinked links new place before after → Contains (places_of links) place → IsLinked new
+pub unlinked-stays : (links new : Inside) (place before after : ℕ) → IsLinked links
+    → IsUnlinked links new place before after → Contains (places_of links) place → IsLinked new
 unlinked-stays links new place before after is done held =
     let found = contained-at (places_of links) place held in
     let k = found.0 in
@@ -272,8 +372,10 @@ unlinked-stays links new place before after is done held =
     stays new links.max (remove (places_of links) k) done.same_max
     (unlinked-places links new place before after k is done at)
     (unlinked-linked links new place before after k is done at)
-    (subst (λ (f : List ℕ). AreDifferent (remove (places_of links) k ++ f)) (sym done.is_free) (different-returned (places_of links) links.free.items k place at is.different))
-    (subst (λ (f : List ℕ). AreBelow links.max (remove (places_of links) k ++ f)) (sym done.is_free) (each-returned (λ p. p < links.max) (places_of links) links.free.items k place at is.below))
+    (subst (λ (f : List ℕ). AreDifferent (remove (places_of links) k ++ f)) (sym done.is_free)
+    (different-returned (places_of links) links.free.items k place at is.different))
+    (subst (λ (f : List ℕ). AreBelow links.max (remove (places_of links) k ++ f)) (sym done.is_free)
+    (each-returned (λ p. p < links.max) (places_of links) links.free.items k place at is.below))
     (ap length done.next ∙ length-set links.next.items before after ∙ is.next_length)
     (ap length done.prev ∙ length-set links.prev.items after before ∙ is.prev_length)
     (omega arith)

@@ -1,7 +1,43 @@
 -- The first of keys: what one choice of two says, that the top of a pyramid is the first of all, and how one is kept.
-use Rattle.std.proofs.Common.{◌≡◌, ◌⊎◌, ℕ, ◌+◌, ◌-◌, ◌/◌, ◌<◌, ◌≤◌, zero, suc, true, List, [], ◌∷◌, length, drop, map, set, get_or, inl, inr, refl, sym, ap, subst, ◌∙◌, arith}
+use Rattle.std.proofs.Common.{
+  ◌≡◌,
+  ◌⊎◌,
+  ℕ,
+  ◌+◌,
+  ◌-◌,
+  ◌/◌,
+  ◌<◌,
+  ◌≤◌,
+  zero,
+  suc,
+  true,
+  List,
+  [],
+  ◌∷◌,
+  length,
+  drop,
+  map,
+  set,
+  get_or,
+  inl,
+  inr,
+  refl,
+  sym,
+  ap,
+  subst,
+  ◌∙◌,
+  arith,
+}
 use Rattle.std.proofs.lemmas.Bool.{cases_eq, cases_lt, lt-ltb, le-ltb}
-use Rattle.std.proofs.lemmas.List.{drop-set-add, get_or_default, get_or-set_same, get_or-set_other, get_or-drop, length-set, length-drop}
+use Rattle.std.proofs.lemmas.List.{
+  drop-set-add,
+  get_or_default,
+  get_or-set_same,
+  get_or-set_other,
+  get_or-drop,
+  length-set,
+  length-drop,
+}
 use Rattle.massif_cull.specs.declared.gaps.Key.{Key}
 use Rattle.massif_cull.specs.declared.gaps.Gaps.TheInside.{Inside}
 use Rattle.massif_cull.specs.Keys.{no_key, key_at, with_gap, first_of, IsNoLater, IsFirst, AreFirsts}
@@ -18,22 +54,33 @@ later-trans a b c one two =
     let gap_two = two.gap in
     record {
       gap = omega arith;
-      number = λ e. (let number_one = one.number (omega arith) in let number_two = two.number (omega arith) in omega arith);
+      number =
+          λ e. (let number_one = one.number (omega arith) in let number_two = two.number (omega arith) in omega arith);
     }
 
 -- which of two is chosen
 first-cases : (a b : Key) → ((first_of a b ≡ a) × IsNoLater a b) ⊎ ((first_of a b ≡ b) × IsNoLater b a)
 first-cases a b =
     elim (cases_lt b.gap a.gap) [
-      | inl second ↦ inr (rw (lt-ltb b.gap a.gap second) refl, record { gap = omega arith; number = λ e. absurd (omega arith) })
+      | inl second ↦ inr
+          (rw (lt-ltb b.gap a.gap second) refl, record { gap = omega arith; number = λ e. absurd (omega arith) })
       | inr most ↦ elim (cases_lt a.gap b.gap) [
         | inl first ↦
-            inl (rw (le-ltb b.gap a.gap most, lt-ltb a.gap b.gap first) refl, record { gap = omega arith; number = λ e. absurd (omega arith) })
+            inl (
+              rw (le-ltb b.gap a.gap most, lt-ltb a.gap b.gap first) refl,
+              record { gap = omega arith; number = λ e. absurd (omega arith) },
+            )
         | inr least ↦ elim (cases_lt b.number a.number) [
           | inl second ↦
-              inr (rw (le-ltb b.gap a.gap most, le-ltb a.gap b.gap least, lt-ltb b.number a.number second) refl, record { gap = omega arith; number = λ e. omega arith })
+              inr (
+                rw (le-ltb b.gap a.gap most, le-ltb a.gap b.gap least, lt-ltb b.number a.number second) refl,
+                record { gap = omega arith; number = λ e. omega arith },
+              )
           | inr first ↦
-              inl (rw (le-ltb b.gap a.gap most, le-ltb a.gap b.gap least, le-ltb b.number a.number first) refl, record { gap = omega arith; number = λ e. omega arith })
+              inl (
+                rw (le-ltb b.gap a.gap most, le-ltb a.gap b.gap least, le-ltb b.number a.number first) refl,
+                record { gap = omega arith; number = λ e. omega arith },
+              )
         ]
       ]
     ]
@@ -69,15 +116,18 @@ node-below nodes max h n size firsts side some inside =
       | inl left ↦
           let is = firsts.each h some (omega arith) (λ e. omega arith) in
           subst (λ (m : ℕ). IsNoLater (key_at nodes h) (key_at nodes m)) (sym left)
-          (subst (λ (k : Key). IsNoLater k (key_at nodes (h + h))) (sym is) (first-left (key_at nodes (h + h)) (key_at nodes (h + h + 1))))
+          (subst (λ (k : Key). IsNoLater k (key_at nodes (h + h))) (sym is)
+          (first-left (key_at nodes (h + h)) (key_at nodes (h + h + 1))))
       | inr right ↦
           let is = firsts.each h some (omega arith) (λ e. omega arith) in
           subst (λ (m : ℕ). IsNoLater (key_at nodes h) (key_at nodes m)) (sym right)
-          (subst (λ (k : Key). IsNoLater k (key_at nodes (h + h + 1))) (sym is) (first-right (key_at nodes (h + h)) (key_at nodes (h + h + 1))))
+          (subst (λ (k : Key). IsNoLater k (key_at nodes (h + h + 1))) (sym is)
+          (first-right (key_at nodes (h + h)) (key_at nodes (h + h + 1))))
     ]
 
 -- the top comes no later than any node
-top-least : (nodes : List Key) (max : ℕ) → length nodes ≡ max + max → AreFirsts nodes 0 → (f n : ℕ) → n ≤ f → 0 < n → n < length nodes → IsNoLater (key_at nodes 1) (key_at nodes n)
+top-least : (nodes : List Key) (max : ℕ) → length nodes ≡ max + max → AreFirsts nodes 0 → (f n : ℕ) → n ≤ f → 0 < n
+    → n < length nodes → IsNoLater (key_at nodes 1) (key_at nodes n)
 top-least nodes max size firsts zero n few some inside = absurd (omega arith)
 top-least nodes max size firsts (suc f) n few some inside =
     elim (cases_eq n 1) [
@@ -94,7 +144,9 @@ top-least nodes max size firsts (suc f) n few some inside =
     ]
 
 -- each node has the key of a place
-top-some : (nodes : List Key) (max : ℕ) → length nodes ≡ max + max → AreFirsts nodes 0 → (f n : ℕ) → length nodes ≤ n + f → 0 < n → n < length nodes → (m : ℕ) × (max ≤ m) × (m < length nodes) × (key_at nodes m ≡ key_at nodes n)
+top-some : (nodes : List Key) (max : ℕ) → length nodes ≡ max + max → AreFirsts nodes 0 → (f n : ℕ)
+    → length nodes ≤ n + f → 0 < n → n < length nodes
+    → (m : ℕ) × (max ≤ m) × (m < length nodes) × (key_at nodes m ≡ key_at nodes n)
 top-some nodes max size firsts zero n few some inside = absurd (omega arith)
 top-some nodes max size firsts (suc f) n few some inside =
     elim (cases_lt (n + n + 1) (length nodes)) [
@@ -115,15 +167,18 @@ top-some nodes max size firsts (suc f) n few some inside =
 pub some-nodes : (gaps : Inside) → IsPyramid gaps → 0 < length (gaps_of gaps).keys → 1 < length gaps.nodes.items
 some-nodes gaps is some =
     let size = is.size in
-    let long : length (drop gaps.max gaps.nodes.items) ≡ length gaps.nodes.items - gaps.max = length-drop gaps.max gaps.nodes.items in
+    let long : length (drop gaps.max gaps.nodes.items) ≡ length gaps.nodes.items - gaps.max =
+    length-drop gaps.max gaps.nodes.items in
     omega arith
 
 -- the top is the first of the keys
-pub top-first : (gaps : Inside) → IsPyramid gaps → gaps.ready ≡ true → 0 < length (gaps_of gaps).keys → IsFirst (gaps_of gaps).keys (key_at gaps.nodes.items 1)
+pub top-first : (gaps : Inside) → IsPyramid gaps → gaps.ready ≡ true → 0 < length (gaps_of gaps).keys
+    → IsFirst (gaps_of gaps).keys (key_at gaps.nodes.items 1)
 top-first gaps is ready some =
     let nodes = gaps.nodes.items in
     let size = is.size in
-    let long : length (drop gaps.max gaps.nodes.items) ≡ length gaps.nodes.items - gaps.max = length-drop gaps.max gaps.nodes.items in
+    let long : length (drop gaps.max gaps.nodes.items) ≡ length gaps.nodes.items - gaps.max =
+    length-drop gaps.max gaps.nodes.items in
     let firsts = is.firsts ready in
     let found = top-some nodes gaps.max size firsts (length nodes) 1 (omega arith) (omega arith) (omega arith) in
     let high = found.1 in
@@ -135,13 +190,15 @@ top-first gaps is ready some =
       there = get_or-drop gaps.max nodes (found.0 - gaps.max) no_key ∙ ap (key_at nodes) back ∙ found.3;
       each = λ other inside.
           subst (λ (k : Key). IsNoLater (key_at nodes 1) k) (sym (get_or-drop gaps.max nodes other no_key))
-          (top-least nodes gaps.max size firsts (gaps.max + other) (gaps.max + other) (omega arith) (omega arith) (omega arith));
+          (top-least nodes gaps.max size firsts (gaps.max + other) (gaps.max + other) (omega arith) (omega arith)
+          (omega arith));
     }
 
 -- ---- one key changes
 
 -- a key that has no node below it: the one above it is open
-pub climb-start : (nodes : List Key) (n : ℕ) (key : Key) → length nodes ≤ n + n → AreFirsts nodes 0 → AreFirsts (set nodes n key) (n / 2)
+pub climb-start : (nodes : List Key) (n : ℕ) (key : Key) → length nodes ≤ n + n → AreFirsts nodes 0
+    → AreFirsts (set nodes n key) (n / 2)
 climb-start nodes n key low firsts = record {
   each = λ m some inside apart.
       let long = length-set nodes n key in
@@ -166,7 +223,10 @@ climb-more nodes n key above within is firsts = record {
       let long = length-set nodes n key in
       elim (cases_eq m n) [
         | inl same ↦
-            subst (λ (k : ℕ). key_at (set nodes n key) k ≡ first_of (key_at (set nodes n key) (k + k)) (key_at (set nodes n key) (k + k + 1))) (sym same)
+            subst
+            (λ (k : ℕ). key_at (set nodes n key) k
+            ≡ first_of (key_at (set nodes n key) (k + k)) (key_at (set nodes n key) (k + k + 1)))
+            (sym same)
             (rw (
               get_or-set_same nodes n key no_key (omega arith),
               get_or-set_other nodes n (n + n) key no_key (λ e. omega arith),
@@ -184,40 +244,51 @@ climb-more nodes n key above within is firsts = record {
 }
 
 -- a node that has it already: none is open
-pub climb-same : (nodes : List Key) (n : ℕ) → key_at nodes n ≡ first_of (key_at nodes (n + n)) (key_at nodes (n + n + 1)) → AreFirsts nodes n → AreFirsts nodes 0
+pub climb-same : (nodes : List Key) (n : ℕ)
+    → key_at nodes n ≡ first_of (key_at nodes (n + n)) (key_at nodes (n + n + 1)) → AreFirsts nodes n
+    → AreFirsts nodes 0
 climb-same nodes n is firsts = record {
   each = λ m some inside apart. elim (cases_eq m n) [
-    | inl same ↦ subst (λ (k : ℕ). key_at nodes k ≡ first_of (key_at nodes (k + k)) (key_at nodes (k + k + 1))) (sym same) is
+    | inl same ↦ subst (λ (k : ℕ). key_at nodes k ≡ first_of (key_at nodes (k + k)) (key_at nodes (k + k + 1)))
+        (sym same) is
     | inr other ↦ firsts.each m some inside other
   ];
 }
 
 -- what is read of a node
-pub node-read : (nodes : List Key) (n : ℕ) (key : Key) → n < length nodes → key ≡ get_or nodes n key → key ≡ key_at nodes n
+pub node-read : (nodes : List Key) (n : ℕ) (key : Key) → n < length nodes → key ≡ get_or nodes n key
+    → key ≡ key_at nodes n
 node-read nodes n key inside is = is ∙ get_or_default nodes n key no_key inside
 
 -- a key that gets another gap
-pub gap-made : (nodes : List Key) (max place gap : ℕ) (key : Key) → max + place < length nodes → key ≡ get_or nodes (max + place) key → drop max (set nodes (max + place) (record key { gap = gap })) ≡ with_gap (drop max nodes) place gap
+pub gap-made : (nodes : List Key) (max place gap : ℕ) (key : Key) → max + place < length nodes
+    → key ≡ get_or nodes (max + place) key
+    → drop max (set nodes (max + place) (record key { gap = gap })) ≡ with_gap (drop max nodes) place gap
 gap-made nodes max place gap key inside is =
     drop-set-add max nodes place (record key { gap = gap })
-    ∙ ap (λ (k : Key). set (drop max nodes) place (record k { gap = gap })) (node-read nodes (max + place) key inside is ∙ sym (get_or-drop max nodes place no_key))
+    ∙ ap (λ (k : Key). set (drop max nodes) place (record k { gap = gap }))
+    (node-read nodes (max + place) key inside is ∙ sym (get_or-drop max nodes place no_key))
 
 -- a place of a key has a node
-pub node-inside : (gaps : Inside) (place : ℕ) → IsPyramid gaps → place < length (gaps_of gaps).keys → gaps.max + place < length gaps.nodes.items
+pub node-inside : (gaps : Inside) (place : ℕ) → IsPyramid gaps → place < length (gaps_of gaps).keys
+    → gaps.max + place < length gaps.nodes.items
 node-inside gaps place is inside =
     let size = is.size in
-    let long : length (drop gaps.max gaps.nodes.items) ≡ length gaps.nodes.items - gaps.max = length-drop gaps.max gaps.nodes.items in
+    let long : length (drop gaps.max gaps.nodes.items) ≡ length gaps.nodes.items - gaps.max =
+    length-drop gaps.max gaps.nodes.items in
     omega arith
 
 -- as many keys as before
-pub keys-same : (nodes old : List Key) (max : ℕ) → length nodes ≡ length old → length (drop max nodes) ≡ length (drop max old)
+pub keys-same : (nodes old : List Key) (max : ℕ) → length nodes ≡ length old
+    → length (drop max nodes) ≡ length (drop max old)
 keys-same nodes old max same = length-drop max nodes ∙ ap (λ (n : ℕ). n - max) same ∙ sym (length-drop max old)
 
 -- ---- all are found
 
 -- each node from this one on that has two below it has the first of them
 pub record AreFound (nodes : List Key) (from : ℕ) : Type 0 where
-  pub each : (n : ℕ) → from ≤ n → n + n + 1 < length nodes → key_at nodes n ≡ first_of (key_at nodes (n + n)) (key_at nodes (n + n + 1))
+  pub each : (n : ℕ) → from ≤ n → n + n + 1 < length nodes
+      → key_at nodes n ≡ first_of (key_at nodes (n + n)) (key_at nodes (n + n + 1))
 
 pub found-none : (nodes : List Key) (max : ℕ) → length nodes ≡ max + max → AreFound nodes max
 found-none nodes max size = record { each = λ n high inside. absurd (omega arith) }
@@ -234,7 +305,10 @@ found-more nodes n key above within is found = record {
       let long = length-set nodes n key in
       elim (cases_eq m n) [
         | inl same ↦
-            subst (λ (k : ℕ). key_at (set nodes n key) k ≡ first_of (key_at (set nodes n key) (k + k)) (key_at (set nodes n key) (k + k + 1))) (sym same)
+            subst
+            (λ (k : ℕ). key_at (set nodes n key) k
+            ≡ first_of (key_at (set nodes n key) (k + k)) (key_at (set nodes n key) (k + k + 1)))
+            (sym same)
             (rw (
               get_or-set_same nodes n key no_key (omega arith),
               get_or-set_other nodes n (n + n) key no_key (λ e. omega arith),
@@ -261,6 +335,8 @@ key-cleared [] n = refl
 key-cleared (key ∷ nodes) zero = refl
 key-cleared (key ∷ nodes) (suc n) = key-cleared nodes n
 
-pub keys-cleared : (nodes old : List Key) (max place : ℕ) → nodes ≡ map (λ (key : Key). no_key) old → key_at (drop max nodes) place ≡ no_key
+pub keys-cleared : (nodes old : List Key) (max place : ℕ) → nodes ≡ map (λ (key : Key). no_key) old
+    → key_at (drop max nodes) place ≡ no_key
 keys-cleared nodes old max place is =
-    get_or-drop max nodes place no_key ∙ ap (λ (ks : List Key). key_at ks (max + place)) is ∙ key-cleared old (max + place)
+    get_or-drop max nodes place no_key ∙ ap (λ (ks : List Key). key_at ks (max + place)) is
+    ∙ key-cleared old (max + place)

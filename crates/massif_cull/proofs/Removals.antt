@@ -1,5 +1,32 @@
 -- What is left while entries are removed with their loads.
-use Rattle.std.proofs.Common.{◌≡◌, ℕ, ◌+◌, ◌-◌, ◌/◌, ◌^◌, ◌<◌, ◌≤◌, zero, suc, false, ◌&&◌, List, [], ◌∷◌, length, map, Option, inl, inr, refl, sym, ap, subst, ◌∙◌, arith}
+use Rattle.std.proofs.Common.{
+  ◌≡◌,
+  ℕ,
+  ◌+◌,
+  ◌-◌,
+  ◌/◌,
+  ◌^◌,
+  ◌<◌,
+  ◌≤◌,
+  zero,
+  suc,
+  false,
+  ◌&&◌,
+  List,
+  [],
+  ◌∷◌,
+  length,
+  map,
+  Option,
+  inl,
+  inr,
+  refl,
+  sym,
+  ap,
+  subst,
+  ◌∙◌,
+  arith,
+}
 use Rattle.std.specs.Prelude.{remove, slice_get, slice_index, Some, All}
 use Rattle.std.specs.Option.{option_map_or}
 use Rattle.std.proofs.lemmas.Bool.{cases_lt}
@@ -47,7 +74,8 @@ All-remove P xs p inside all k d within =
     ]
 
 -- the facts of a list of entries stay
-pub sound-remove : (entries : List SnapEntry) (p : ℕ) → p < length entries → AreSound entries → AreSound (remove entries p)
+pub sound-remove : (entries : List SnapEntry) (p : ℕ) → p < length entries → AreSound entries
+    → AreSound (remove entries p)
 sound-remove entries p inside sound = record {
   in_order = all_pairs_remove (λ (a b : SnapEntry). a.time ≤ b.time) entries p inside sound.in_order;
   one_peak = all_pairs_remove (λ (a b : SnapEntry). (is_peak a && is_peak b) ≡ false) entries p inside sound.one_peak;
@@ -70,26 +98,35 @@ among-remove earlier earlier_loads entries loads p inside among = record {
       let long = length-remove entries p inside in
       elim (cases_lt k p) [
         | inl below ↦
-            let from = among.each k (omega arith) in
-            (from.0, from.1, (get-remove_below entries p k below ∙ from.2.0, get-remove_below loads p k below ∙ from.2.1))
+            let from = among.each k (omega arith) in (
+              from.0,
+              from.1,
+              (get-remove_below entries p k below ∙ from.2.0, get-remove_below loads p k below ∙ from.2.1),
+            )
         | inr above ↦
-            let from = among.each (suc k) (omega arith) in
-            (from.0, from.1, (get-remove_above entries p k above ∙ from.2.0, get-remove_above loads p k above ∙ from.2.1))
+            let from = among.each (suc k) (omega arith) in (
+              from.0,
+              from.1,
+              (get-remove_above entries p k above ∙ from.2.0, get-remove_above loads p k above ∙ from.2.1),
+            )
       ];
 }
 
 -- where an entry before the last goes, the last stays
-pub last-remove : (entries : List SnapEntry) (p : ℕ) → p + 1 < length entries → last_time (remove entries p) ≡ last_time entries
+pub last-remove : (entries : List SnapEntry) (p : ℕ) → p + 1 < length entries
+    → last_time (remove entries p) ≡ last_time entries
 last-remove entries p inside =
     let long : length (times entries) ≡ length entries = length-map entries (λ (entry : SnapEntry). entry.time) in
     let shorter = length-remove entries p (omega arith) in
     let end : length (remove entries p) - 1 + 1 ≡ length entries - 1 = omega arith in
-    ap (λ (ts : List ℕ). slice_index ts (length (remove entries p) - 1)) (map-remove (λ (entry : SnapEntry). entry.time) entries p)
+    ap (λ (ts : List ℕ). slice_index ts (length (remove entries p) - 1))
+    (map-remove (λ (entry : SnapEntry). entry.time) entries p)
     ∙ get_or-remove_above (times entries) p 0 (length (remove entries p) - 1) (omega arith) (omega arith)
     ∙ ap (slice_index (times entries)) end
 
 -- before the first removal
-pub left-start : {T : Type 0} (entries : List SnapEntry) (loads : List T) → AreSound entries → length loads ≡ length entries → AreLeft (length entries / 2) entries loads entries loads
+pub left-start : {T : Type 0} (entries : List SnapEntry) (loads : List T) → AreSound entries
+    → length loads ≡ length entries → AreLeft (length entries / 2) entries loads entries loads
 unfolding cull loads_cull
 left-start entries loads sound beside = record {
   entries_left = refl;
@@ -106,7 +143,8 @@ pub cull1-at : (entries : List SnapEntry) (p : ℕ) → removed_place entries �
 unfolding cull1
 cull1-at entries p goes = ap (λ (o : Option ℕ). option_map_or (remove entries) o entries) goes
 
-pub loads_cull1-at : {T : Type 0} (entries : List SnapEntry) (loads : List T) (p : ℕ) → removed_place entries ≡ Some p → loads_cull1 entries loads ≡ remove loads p
+pub loads_cull1-at : {T : Type 0} (entries : List SnapEntry) (loads : List T) (p : ℕ) → removed_place entries ≡ Some p
+    → loads_cull1 entries loads ≡ remove loads p
 unfolding loads_cull1
 loads_cull1-at entries loads p goes = ap (λ (o : Option ℕ). option_map_or (remove loads) o loads) goes
 
@@ -115,13 +153,15 @@ pub cull_times-suc : (n : ℕ) (entries : List SnapEntry) → cull_times (suc n)
 unfolding cull_times
 cull_times-suc n entries = refl
 
-pub loads_cull_times-suc : {T : Type 0} (n : ℕ) (entries : List SnapEntry) (loads : List T) → loads_cull_times (suc n) entries loads ≡ loads_cull_times n (cull1 entries) (loads_cull1 entries loads)
+pub loads_cull_times-suc : {T : Type 0} (n : ℕ) (entries : List SnapEntry) (loads : List T)
+    → loads_cull_times (suc n) entries loads ≡ loads_cull_times n (cull1 entries) (loads_cull1 entries loads)
 unfolding loads_cull_times
 loads_cull_times-suc n entries loads = refl
 
 -- after one more removal
 pub left-more :
-    {T : Type 0} (rest : ℕ) (earlier : List SnapEntry) (earlier_loads : List T) (entries : List SnapEntry) (loads : List T) (p : ℕ)
+    {T : Type 0} (rest : ℕ) (earlier : List SnapEntry) (earlier_loads : List T) (entries : List SnapEntry)
+    (loads : List T) (p : ℕ)
     → removed_place entries ≡ Some p
     → p + 1 < length entries
     → AreLeft (suc rest) earlier earlier_loads entries loads
@@ -132,8 +172,11 @@ left-more rest earlier earlier_loads entries loads p goes inside left =
     let beside = left.beside in
     let loads_shorter = length-remove loads p (omega arith) in
     record {
-      entries_left = ap (cull_times rest) (sym (cull1-at entries p goes)) ∙ sym (cull_times-suc rest entries) ∙ left.entries_left;
-      loads_left = rw (← cull1-at entries p goes, ← loads_cull1-at entries loads p goes) (sym (loads_cull_times-suc rest entries loads) ∙ left.loads_left);
+      entries_left =
+          ap (cull_times rest) (sym (cull1-at entries p goes)) ∙ sym (cull_times-suc rest entries) ∙ left.entries_left;
+      loads_left =
+          rw (← cull1-at entries p goes, ← loads_cull1-at entries loads p goes)
+          (sym (loads_cull_times-suc rest entries loads) ∙ left.loads_left);
       count = omega (arith, left.count);
       beside = omega arith;
       sound = sound-remove entries p within left.sound;
@@ -142,11 +185,15 @@ left-more rest earlier earlier_loads entries loads p goes inside left =
     }
 
 -- after the last removal
-pub left-entries : {T : Type 0} (earlier : List SnapEntry) (earlier_loads : List T) (entries : List SnapEntry) (loads : List T) → AreLeft 0 earlier earlier_loads entries loads → entries ≡ cull earlier
+pub left-entries : {T : Type 0} (earlier : List SnapEntry) (earlier_loads : List T) (entries : List SnapEntry)
+    (loads : List T)
+    → AreLeft 0 earlier earlier_loads entries loads → entries ≡ cull earlier
 unfolding cull_times
 left-entries earlier earlier_loads entries loads left = left.entries_left
 
-pub left-loads : {T : Type 0} (earlier : List SnapEntry) (earlier_loads : List T) (entries : List SnapEntry) (loads : List T) → AreLeft 0 earlier earlier_loads entries loads → loads ≡ loads_cull earlier earlier_loads
+pub left-loads : {T : Type 0} (earlier : List SnapEntry) (earlier_loads : List T) (entries : List SnapEntry)
+    (loads : List T)
+    → AreLeft 0 earlier earlier_loads entries loads → loads ≡ loads_cull earlier earlier_loads
 unfolding loads_cull_times
 left-loads earlier earlier_loads entries loads left = left.loads_left
 
@@ -157,10 +204,12 @@ pub left-at_start :
     → AreSound entries
     → length loads ≡ length entries
     → AreLeft rest entries loads entries loads
-left-at_start rest entries loads all sound beside = subst (λ (n : ℕ). AreLeft n entries loads entries loads) (sym all) (left-start entries loads sound beside)
+left-at_start rest entries loads all sound beside =
+    subst (λ (n : ℕ). AreLeft n entries loads entries loads) (sym all) (left-start entries loads sound beside)
 
 pub left-at_more :
-    {T : Type 0} (rest fewer : ℕ) (earlier : List SnapEntry) (earlier_loads : List T) (entries : List SnapEntry) (loads : List T) (p : ℕ)
+    {T : Type 0} (rest fewer : ℕ) (earlier : List SnapEntry) (earlier_loads : List T) (entries : List SnapEntry)
+    (loads : List T) (p : ℕ)
     (after : List SnapEntry) (loads_after : List T)
     → rest ≡ suc fewer
     → removed_place entries ≡ Some p
@@ -169,25 +218,33 @@ pub left-at_more :
     → loads_after ≡ remove loads p
     → AreLeft rest earlier earlier_loads entries loads
     → AreLeft fewer earlier earlier_loads after loads_after
-left-at_more {T} rest fewer earlier earlier_loads entries loads p after loads_after one goes inside is_after is_loads left =
-    let left_suc : AreLeft (suc fewer) earlier earlier_loads entries loads = subst (λ (n : ℕ). AreLeft n earlier earlier_loads entries loads) one left in
+left-at_more {T} rest fewer earlier earlier_loads entries loads p after loads_after one goes inside is_after is_loads
+    left =
+    let left_suc : AreLeft (suc fewer) earlier earlier_loads entries loads =
+    subst (λ (n : ℕ). AreLeft n earlier earlier_loads entries loads) one left in
     subst (λ (ls : List T). AreLeft fewer earlier earlier_loads after ls) (sym is_loads)
     (subst (λ (es : List SnapEntry). AreLeft fewer earlier earlier_loads es (remove loads p)) (sym is_after)
     (left-more fewer earlier earlier_loads entries loads p goes inside left_suc))
 
 pub left-at_end :
-    {T : Type 0} (rest : ℕ) (earlier : List SnapEntry) (earlier_loads : List T) (entries : List SnapEntry) (loads : List T)
+    {T : Type 0} (rest : ℕ) (earlier : List SnapEntry) (earlier_loads : List T) (entries : List SnapEntry)
+    (loads : List T)
     → rest ≡ 0
     → AreLeft rest earlier earlier_loads entries loads
     → AreLeft 0 earlier earlier_loads entries loads
-left-at_end rest earlier earlier_loads entries loads none left = subst (λ (n : ℕ). AreLeft n earlier earlier_loads entries loads) none left
+left-at_end rest earlier earlier_loads entries loads none left =
+    subst (λ (n : ℕ). AreLeft n earlier earlier_loads entries loads) none left
 
 -- while removals are to come, four entries are left
-pub left-long : {T : Type 0} (rest : ℕ) (earlier : List SnapEntry) (earlier_loads : List T) (entries : List SnapEntry) (loads : List T) → 6 ≤ length earlier → 1 ≤ rest → AreLeft rest earlier earlier_loads entries loads → 4 ≤ length entries
+pub left-long : {T : Type 0} (rest : ℕ) (earlier : List SnapEntry) (earlier_loads : List T) (entries : List SnapEntry)
+    (loads : List T)
+    → 6 ≤ length earlier → 1 ≤ rest → AreLeft rest earlier earlier_loads entries loads → 4 ≤ length entries
 left-long rest earlier earlier_loads entries loads long some left = omega (arith, left.count)
 
 -- equal lists are among each other
-pub among_same : {T : Type 0} (earlier : List SnapEntry) (earlier_loads : List T) (entries : List SnapEntry) (loads : List T) → entries ≡ earlier → loads ≡ earlier_loads → AreAmong earlier earlier_loads entries loads
+pub among_same : {T : Type 0} (earlier : List SnapEntry) (earlier_loads : List T) (entries : List SnapEntry)
+    (loads : List T)
+    → entries ≡ earlier → loads ≡ earlier_loads → AreAmong earlier earlier_loads entries loads
 among_same {T} earlier earlier_loads entries loads same same_loads =
     subst (λ (es : List SnapEntry). AreAmong es earlier_loads entries loads) same
     (subst (λ (ls : List T). AreAmong entries ls entries loads) same_loads (among-itself entries loads))

@@ -1,5 +1,31 @@
 -- The facts of a list of entries after one more entry, and after a later peak.
-use Rattle.std.proofs.Common.{◌≡◌, ℕ, ◌-◌, ◌^◌, ◌<◌, ◌≤◌, Bool, true, false, ◌&&◌, List, [], ◌∷◌, ◌++◌, length, map, get_or, inl, inr, refl, sym, ap, subst, ◌∙◌, arith}
+use Rattle.std.proofs.Common.{
+  ◌≡◌,
+  ℕ,
+  ◌-◌,
+  ◌^◌,
+  ◌<◌,
+  ◌≤◌,
+  Bool,
+  true,
+  false,
+  ◌&&◌,
+  List,
+  [],
+  ◌∷◌,
+  ◌++◌,
+  length,
+  map,
+  get_or,
+  inl,
+  inr,
+  refl,
+  sym,
+  ap,
+  subst,
+  ◌∙◌,
+  arith,
+}
 use Rattle.std.specs.Prelude.{All, slice_index}
 use Rattle.std.proofs.lemmas.Bool.{cases_lt}
 use Rattle.std.proofs.lemmas.List.{get_or-map, length-map, length_push, get_or_append_left, get_or_push}
@@ -12,19 +38,23 @@ use Rattle.massif_cull.specs.Entries.{end_peak, kind_after_peak, is_peak, is_pea
 use Rattle.massif_cull.proofs.Places.{time-at}
 
 -- no time is above the last
-pub time-last : (entries : List SnapEntry) → AreSound entries → (k : ℕ) (d : SnapEntry) → k < length entries → (get_or entries k d).time ≤ last_time entries
+pub time-last : (entries : List SnapEntry) → AreSound entries → (k : ℕ) (d : SnapEntry) → k < length entries
+    → (get_or entries k d).time ≤ last_time entries
 time-last entries sound k d inside =
-    let last : last_time entries ≡ (get_or entries (length entries - 1) d).time = time-at entries (length entries - 1) d (omega arith) in
+    let last : last_time entries ≡ (get_or entries (length entries - 1) d).time =
+    time-at entries (length entries - 1) d (omega arith) in
     elim (cases_lt k (length entries - 1)) [
       | inl before ↦ let order = sound.in_order k (length entries - 1) d before (omega arith) in omega arith
       | inr after ↦
           let same : k ≡ length entries - 1 = omega arith in
-          let e : (get_or entries k d).time ≡ (get_or entries (length entries - 1) d).time = ap (λ (j : ℕ). (get_or entries j d).time) same in
+          let e : (get_or entries k d).time ≡ (get_or entries (length entries - 1) d).time =
+          ap (λ (j : ℕ). (get_or entries j d).time) same in
           omega arith
     ]
 
 -- what is true of each entry and of one more is true of all
-pub All-push : (P : SnapEntry → Type 0) (entries : List SnapEntry) (entry : SnapEntry) → All P entries → P entry → All P (entries ++ entry ∷ [])
+pub All-push : (P : SnapEntry → Type 0) (entries : List SnapEntry) (entry : SnapEntry) → All P entries → P entry
+    → All P (entries ++ entry ∷ [])
 All-push P entries entry all here k d inside =
     let long = length_push entries entry in
     elim (cases_lt k (length entries)) [
@@ -58,9 +88,12 @@ sound-push entries entry sound order time total peaks = record {
 }
 
 -- one more entry that is no peak
-pub sound-push_normal : (entries : List SnapEntry) (entry : SnapEntry) → AreSound entries → last_time entries ≤ entry.time → entry.time ≤ 2 ^ 62 → entry.total ≤ 2 ^ 62 → is_peak entry ≡ false → AreSound (entries ++ entry ∷ [])
+pub sound-push_normal : (entries : List SnapEntry) (entry : SnapEntry) → AreSound entries
+    → last_time entries ≤ entry.time → entry.time ≤ 2 ^ 62 → entry.total ≤ 2 ^ 62 → is_peak entry ≡ false
+    → AreSound (entries ++ entry ∷ [])
 sound-push_normal entries entry sound order time total normal =
-    sound-push entries entry sound order time total (λ k d inside. not_both (is_peak (get_or entries k d)) (is_peak entry) normal)
+    sound-push entries entry sound order time total
+    (λ k d inside. not_both (is_peak (get_or entries k d)) (is_peak entry) normal)
 
 -- no entry is a peak once a later one is taken
 pub end_peak-is_peak : (kind : Kind) → is_peak_kind (kind_after_peak kind) ≡ false
@@ -79,15 +112,19 @@ last_time-end_peak entries =
     ∙ ap (λ (n : ℕ). slice_index (times entries) (n - 1)) (length-map entries end_peak)
 
 -- an entry after a later peak
-pub end_peak-at : (entries : List SnapEntry) (k : ℕ) (d : SnapEntry) → k < length (map end_peak entries) → get_or (map end_peak entries) k d ≡ end_peak (get_or entries k d)
-end_peak-at entries k d inside = let long = length-map entries end_peak in get_or-map end_peak entries k d d (omega arith)
+pub end_peak-at : (entries : List SnapEntry) (k : ℕ) (d : SnapEntry) → k < length (map end_peak entries)
+    → get_or (map end_peak entries) k d ≡ end_peak (get_or entries k d)
+end_peak-at entries k d inside =
+    let long = length-map entries end_peak in get_or-map end_peak entries k d d (omega arith)
 
 -- the facts stay
 pub sound-end_peak : (entries : List SnapEntry) → AreSound entries → AreSound (map end_peak entries)
 sound-end_peak entries sound =
     let long : length (map end_peak entries) ≡ length entries = length-map entries end_peak in
     record {
-      in_order = λ i j d less inside. rw (end_peak-at entries i d (omega arith), end_peak-at entries j d inside) (sound.in_order i j d less (omega arith));
+      in_order =
+          λ i j d less inside. rw (end_peak-at entries i d (omega arith), end_peak-at entries j d inside)
+          (sound.in_order i j d less (omega arith));
       one_peak = λ i j d less inside.
           rw (end_peak-at entries i d (omega arith), end_peak-at entries j d inside)
           (not_both_first _ (is_peak (end_peak (get_or entries j d))) (end_peak-is_peak (get_or entries i d).kind));
@@ -108,4 +145,5 @@ sound-push_peak entries after entry ended sound order time total =
     let same = last_time-end_peak entries in
     subst (λ (es : List SnapEntry). AreSound (es ++ entry ∷ [])) (sym ended)
     (sound-push (map end_peak entries) entry (sound-end_peak entries sound) (omega arith) time total
-    (λ k d inside. rw (end_peak-at entries k d inside) (not_both_first _ (is_peak entry) (end_peak-is_peak (get_or entries k d).kind))))
+    (λ k d inside. rw (end_peak-at entries k d inside)
+    (not_both_first _ (is_peak entry) (end_peak-is_peak (get_or entries k d).kind))))

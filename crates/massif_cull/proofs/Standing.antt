@@ -43,7 +43,8 @@ turn-ends n f below =
     ]
 
 -- the remainder says whether the next normal offer taken is detailed
-pub taken-held : (settings : Settings) (kept : Kept) (offer : Offer) → taken_as settings (held_of settings kept) offer ≡ taken_as settings kept offer
+pub taken-held : (settings : Settings) (kept : Kept) (offer : Offer)
+    → taken_as settings (held_of settings kept) offer ≡ taken_as settings kept offer
 taken-held settings kept offer =
     ap
     (λ (n : ℕ).
@@ -55,25 +56,34 @@ taken-held settings kept offer =
     (mod-more kept.normals settings.detailed_freq)
 
 -- what is taken, counted by its remainder
-pub with-held : (settings : Settings) (kept : Kept) (offer : Offer) (taken : Taken) → held_of settings (bounded settings (with_offer (held_of settings kept) offer taken)) ≡ held_of settings (bounded settings (with_offer kept offer taken))
+pub with-held : (settings : Settings) (kept : Kept) (offer : Offer) (taken : Taken)
+    → held_of settings (bounded settings (with_offer (held_of settings kept) offer taken))
+    ≡ held_of settings (bounded settings (with_offer kept offer taken))
 with-held settings kept offer No =
-    ap (λ (n : ℕ). let k : Kept = record (bounded settings kept) { normals = n } in k) (mod-again kept.normals settings.detailed_freq)
+    ap (λ (n : ℕ). let k : Kept = record (bounded settings kept) { normals = n } in k)
+    (mod-again kept.normals settings.detailed_freq)
 with-held settings kept offer Normal =
-    ap (λ (n : ℕ). let k : Kept = record (bounded settings (with_offer kept offer Normal)) { normals = n } in k) (mod-more kept.normals settings.detailed_freq)
+    ap (λ (n : ℕ). let k : Kept = record (bounded settings (with_offer kept offer Normal)) { normals = n } in k)
+    (mod-more kept.normals settings.detailed_freq)
 with-held settings kept offer Detailed =
-    ap (λ (n : ℕ). let k : Kept = record (bounded settings (with_offer kept offer Detailed)) { normals = n } in k) (mod-more kept.normals settings.detailed_freq)
+    ap (λ (n : ℕ). let k : Kept = record (bounded settings (with_offer kept offer Detailed)) { normals = n } in k)
+    (mod-more kept.normals settings.detailed_freq)
 with-held settings kept offer Peak =
-    ap (λ (n : ℕ). let k : Kept = record (bounded settings (with_offer kept offer Peak)) { normals = n } in k) (mod-again kept.normals settings.detailed_freq)
+    ap (λ (n : ℕ). let k : Kept = record (bounded settings (with_offer kept offer Peak)) { normals = n } in k)
+    (mod-again kept.normals settings.detailed_freq)
 
 -- a step, counted by its remainder
-pub step-held : (settings : Settings) (kept : Kept) (offer : Offer) → held_of settings (step settings (held_of settings kept) offer) ≡ held_of settings (step settings kept offer)
+pub step-held : (settings : Settings) (kept : Kept) (offer : Offer)
+    → held_of settings (step settings (held_of settings kept) offer) ≡ held_of settings (step settings kept offer)
 unfolding step
 step-held settings kept offer =
-    ap (λ (taken : Taken). held_of settings (bounded settings (with_offer (held_of settings kept) offer taken))) (taken-held settings kept offer)
+    ap (λ (taken : Taken). held_of settings (bounded settings (with_offer (held_of settings kept) offer taken)))
+    (taken-held settings kept offer)
     ∙ with-held settings kept offer (taken_as settings kept offer)
 
 -- one more offer is one more step
-pub kept_of-push : (settings : Settings) (offers : List Offer) (offer : Offer) → kept_of settings (offers ++ offer ∷ []) ≡ step settings (kept_of settings offers) offer
+pub kept_of-push : (settings : Settings) (offers : List Offer) (offer : Offer)
+    → kept_of settings (offers ++ offer ∷ []) ≡ step settings (kept_of settings offers) offer
 unfolding kept_of
 kept_of-push settings offers offer = fold-append (step settings) nothing_kept offers (offer ∷ [])
 
@@ -81,11 +91,15 @@ kept_of-push settings offers offer = fold-append (step settings) nothing_kept of
 pub stands-none : {T : Type 0} (state : ArrayState T) → state.kept ≡ nothing_kept → StandsFor state []
 unfolding kept_of
 stands-none state nothing = record {
-  kept_is = nothing ∙ ap (λ (n : ℕ). let k : Kept = record nothing_kept { normals = n } in k) (sym (zero-mod state.settings.detailed_freq));
+  kept_is =
+      nothing
+      ∙ ap (λ (n : ℕ). let k : Kept = record nothing_kept { normals = n } in k)
+      (sym (zero-mod state.settings.detailed_freq));
 }
 
 -- what an offer is taken as, by the list
-pub stands-taken : {T : Type 0} (state : ArrayState T) (offers : List Offer) (offer : Offer) → StandsFor state offers → taken_as state.settings state.kept offer ≡ taken_as state.settings (kept_of state.settings offers) offer
+pub stands-taken : {T : Type 0} (state : ArrayState T) (offers : List Offer) (offer : Offer) → StandsFor state offers
+    → taken_as state.settings state.kept offer ≡ taken_as state.settings (kept_of state.settings offers) offer
 stands-taken state offers offer stands =
     ap (λ (kept : Kept). taken_as state.settings kept offer) stands.kept_is
     ∙ taken-held state.settings (kept_of state.settings offers) offer

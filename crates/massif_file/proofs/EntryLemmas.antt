@@ -20,16 +20,21 @@ module _ (labels more : List (List ℕ)) where
   line-same entry has = ap (labelled entry) (get_or-append labels more [] entry.label has)
 
   -- so are lines
-  pub lines-same : (entries : List LineEntry) → HaveLabels labels entries → lines_in (labels ++ more) entries ≡ lines_in labels entries
+  pub lines-same : (entries : List LineEntry) → HaveLabels labels entries
+      → lines_in (labels ++ more) entries ≡ lines_in labels entries
   lines-same [] all = refl
   lines-same (entry ∷ entries) all =
-      ap (λ (line : TreeLine). line ∷ lines_in (labels ++ more) entries) (line-same entry (All-head (HasLabel labels) entry entries all))
-      ∙ ap (λ (lines : List TreeLine). line_kept labels entry ∷ lines) (lines-same entries (All-tail (HasLabel labels) entry entries all))
+      ap (λ (line : TreeLine). line ∷ lines_in (labels ++ more) entries)
+      (line-same entry (All-head (HasLabel labels) entry entries all))
+      ∙ ap (λ (lines : List TreeLine). line_kept labels entry ∷ lines)
+      (lines-same entries (All-tail (HasLabel labels) entry entries all))
 
 -- the line at a place, whose label is known
-pub line-at : (labels : List (List ℕ)) (entries : List LineEntry) (i : ℕ) (entry : LineEntry) (label : List ℕ) → i < length (lines_in labels entries) → entry ≡ get_or entries i entry
+pub line-at : (labels : List (List ℕ)) (entries : List LineEntry) (i : ℕ) (entry : LineEntry) (label : List ℕ)
+    → i < length (lines_in labels entries) → entry ≡ get_or entries i entry
     → slice_get labels entry.label ≡ Some label → slice_get (lines_in labels entries) i ≡ Some (labelled entry label)
 line-at labels entries i entry label held is has =
     slice_get-map (line_kept labels) entries i
-    ∙ ap (option_map (line_kept labels)) (slice_get_read entries (length (lines_in labels entries)) i entry (length-map entries (line_kept labels)) held is)
+    ∙ ap (option_map (line_kept labels))
+    (slice_get_read entries (length (lines_in labels entries)) i entry (length-map entries (line_kept labels)) held is)
     ∙ ap (λ (l : List ℕ). Some (labelled entry l)) (get_or_from_slice_get labels entry.label label [] has)

@@ -1,5 +1,35 @@
 -- What is read may be written: its numbers are at most 2 ^ 62, and its texts are of one line and begin with no blank.
-use Rattle.std.proofs.Common.{◌≡◌, ◌≢◌, ℕ, suc, ◌+◌, ◌<◌, ◌≤◌, ◌^◌, Bool, true, false, cond, eqb, leb, List, [], ◌∷◌, ◌++◌, length, map, Option, Some, None, Ok, refl, subst, arith, All, leb-true}
+use Rattle.std.proofs.Common.{
+  ◌≡◌,
+  ◌≢◌,
+  ℕ,
+  suc,
+  ◌+◌,
+  ◌<◌,
+  ◌≤◌,
+  ◌^◌,
+  Bool,
+  true,
+  false,
+  cond,
+  eqb,
+  leb,
+  List,
+  [],
+  ◌∷◌,
+  ◌++◌,
+  length,
+  map,
+  Option,
+  Some,
+  None,
+  Ok,
+  refl,
+  subst,
+  arith,
+  All,
+  leb-true,
+}
 use Rattle.std.specs.Prelude.{codes, not, slice_get}
 use Rattle.std.specs.Option.{option_map, option_and_then}
 use Rattle.std.proofs.lemmas.Bool.{eqb-false}
@@ -11,7 +41,16 @@ use Rattle.massif_file.specs.TreeLine.{TreeLine}
 use Rattle.massif_file.specs.declared.profile.Snap.{Snap}
 use Rattle.massif_file.specs.declared.profile.Profile.{Profile}
 use Rattle.massif_file.specs.Blanks.{without_blanks, before_byte, from_byte, is_skipped}
-use Rattle.massif_file.specs.Fields.{value_after, header_value, at_most, number_of, max_number, or_fault, number_in, key_number}
+use Rattle.massif_file.specs.Fields.{
+  value_after,
+  header_value,
+  at_most,
+  number_of,
+  max_number,
+  or_fault,
+  number_in,
+  key_number,
+}
 use Rattle.massif_file.specs.IsProfile.{is_profile}
 use Rattle.massif_file.specs.Items.{node_item, Say, snap_items, snaps_items, items_of}
 use Rattle.massif_file.specs.TreeLineOf.{sized_line, counted_line, tree_line_of}
@@ -22,12 +61,14 @@ use Rattle.massif_file.proofs.Complete.{Say-split}
 -- ---- parts of options and lists
 
 -- a chain that answers
-bind_some : {A B : Type 0} (o : Option A) (f : A → Option B) (y : B) → option_and_then f o ≡ Some y → (x : A) × (o ≡ Some x) × (f x ≡ Some y)
+bind_some : {A B : Type 0} (o : Option A) (f : A → Option B) (y : B) → option_and_then f o ≡ Some y
+    → (x : A) × (o ≡ Some x) × (f x ≡ Some y)
 bind_some (Some x) f y e = (x, refl, e)
 bind_some None f y e = absurd cc
 
 -- a value that was changed
-map_some : {A B : Type 0} (o : Option A) (f : A → B) (y : B) → option_map f o ≡ Some y → (x : A) × (o ≡ Some x) × (f x ≡ y)
+map_some : {A B : Type 0} (o : Option A) (f : A → B) (y : B) → option_map f o ≡ Some y
+    → (x : A) × (o ≡ Some x) × (f x ≡ y)
 map_some (Some x) f y e = (x, refl, cc)
 map_some None f y e = absurd cc
 
@@ -53,7 +94,8 @@ value_line [] line value h e = let same : line ≡ value = cc in subst IsLine sa
 value_line (k ∷ key) [] value h e = absurd cc
 value_line (k ∷ key) (b ∷ bs) value h e = by (eqb b k) e (value_line key bs value (All-tail NoFeed b bs h))
   where
-    by : (t : Bool) → cond t (value_after key bs) None ≡ Some value → (value_after key bs ≡ Some value → IsLine value) → IsLine value
+    by : (t : Bool) → cond t (value_after key bs) None ≡ Some value → (value_after key bs ≡ Some value → IsLine value)
+        → IsLine value
     by true q rest = rest q
     by false q rest = absurd cc
 
@@ -71,7 +113,8 @@ without_begin : (text : List ℕ) → slice_get (without_blanks text) 0 ≡ Some
 without_begin [] e = absurd cc
 without_begin (b ∷ bs) e = by (eqb b 32) refl e (without_begin bs)
   where
-    by : (t : Bool) → eqb b 32 ≡ t → slice_get (cond t (without_blanks bs) (b ∷ bs)) 0 ≡ Some 32 → (slice_get (without_blanks bs) 0 ≡ Some 32 → ⊥) → ⊥
+    by : (t : Bool) → eqb b 32 ≡ t → slice_get (cond t (without_blanks bs) (b ∷ bs)) 0 ≡ Some 32
+        → (slice_get (without_blanks bs) 0 ≡ Some 32 → ⊥) → ⊥
     by true q h rest = rest h
     by false q h rest = eqb-false b 32 q (let same : b ≡ 32 = cc in same)
 
@@ -115,18 +158,28 @@ key_most key line n e = by (value_after key line) e
 -- ---- a line of a tree
 
 -- `B LABEL` may be written
-sized_writable : (children : ℕ) (text : List ℕ) (node : TreeLine) → children < 2 ^ 32 → IsLine text → sized_line children text ≡ Some node → IsWritableLine node
+sized_writable : (children : ℕ) (text : List ℕ) (node : TreeLine) → children < 2 ^ 32 → IsLine text
+    → sized_line children text ≡ Some node → IsWritableLine node
 sized_writable children text node few h e =
-    let make : ℕ → TreeLine = λ (n : ℕ). record { children = children; bytes = n; label = without_blanks (from_byte 32 text) } in
+    let make : ℕ → TreeLine =
+    λ (n : ℕ). record { children = children; bytes = n; label = without_blanks (from_byte 32 text) } in
     let r = map_some (number_of max_number (before_byte 32 text)) make node e in
-    subst IsWritableLine r.2 (record { children = few; bytes = omega (arith, number_most max_number (before_byte 32 text) r.0 r.1); label = without_text (from_byte 32 text) (from_line 32 text h) })
+    subst IsWritableLine r.2
+    (record {
+      children = few;
+      bytes = omega (arith, number_most max_number (before_byte 32 text) r.0 r.1);
+      label = without_text (from_byte 32 text) (from_line 32 text h);
+    })
 
 -- `C: B LABEL` may be written
 counted_writable : (text : List ℕ) (node : TreeLine) → IsLine text → counted_line text ≡ Some node → IsWritableLine node
 counted_writable text node h e =
-    let a = bind_some (number_of 4294967295 (before_byte 58 text)) (λ children. option_and_then (sized_line children) (value_after (codes ": ") (from_byte 58 text))) node e in
+    let a =
+    bind_some (number_of 4294967295 (before_byte 58 text))
+    (λ children. option_and_then (sized_line children) (value_after (codes ": ") (from_byte 58 text))) node e in
     let b = bind_some (value_after (codes ": ") (from_byte 58 text)) (sized_line a.0) node a.2 in
-    sized_writable a.0 b.0 node (omega (arith, number_most 4294967295 (before_byte 58 text) a.0 a.1)) (value_line (codes ": ") (from_byte 58 text) b.0 (from_line 58 text h) b.1) b.2
+    sized_writable a.0 b.0 node (omega (arith, number_most 4294967295 (before_byte 58 text) a.0 a.1))
+    (value_line (codes ": ") (from_byte 58 text) b.0 (from_line 58 text h) b.1) b.2
 
 -- so may a line of a tree
 node_writable : (line : List ℕ) (node : TreeLine) → IsLine line → tree_line_of line ≡ Some node → IsWritableLine node
@@ -136,16 +189,19 @@ node_writable line node h e =
     counted_writable a.0 node (value_line (codes "n") (without_blanks line) a.0 (without_line line h) a.1) a.2
 
 -- and all lines of a tree
-nodes_writable : (lines : List (List ℕ)) (nodes : List TreeLine) → All IsLine lines → Say lines (map node_item nodes) → All IsWritableLine nodes
+nodes_writable : (lines : List (List ℕ)) (nodes : List TreeLine) → All IsLine lines → Say lines (map node_item nodes)
+    → All IsWritableLine nodes
 nodes_writable lines [] h s = All-nil IsWritableLine
 nodes_writable [] (node ∷ nodes) h s = absurd s
 nodes_writable (line ∷ lines) (node ∷ nodes) h s =
-    All-cons IsWritableLine node nodes (node_writable line node (All-head IsLine line lines h) s.0) (nodes_writable lines nodes (All-tail IsLine line lines h) s.1)
+    All-cons IsWritableLine node nodes (node_writable line node (All-head IsLine line lines h) s.0)
+    (nodes_writable lines nodes (All-tail IsLine line lines h) s.1)
 
 -- ---- the snapshots
 
 -- and a snapshot
-snap_writable : (n : ℕ) (snap : Snap) (lines : List (List ℕ)) → All IsLine lines → Say lines (snap_items n snap) → IsWritableSnap snap
+snap_writable : (n : ℕ) (snap : Snap) (lines : List (List ℕ)) → All IsLine lines → Say lines (snap_items n snap)
+    → IsWritableSnap snap
 snap_writable n snap [] h s = absurd s
 snap_writable n snap (a ∷ []) h s = absurd s.1
 snap_writable n snap (a ∷ b ∷ []) h s = absurd s.1.1
@@ -162,7 +218,8 @@ snap_writable n snap (a ∷ b ∷ c ∷ d ∷ e ∷ f ∷ lines) h s =
     }
 
 -- and all snapshots
-snaps_writable : (n : ℕ) (snaps : List Snap) (lines : List (List ℕ)) → All IsLine lines → Say lines (snaps_items n snaps) → All IsWritableSnap snaps
+snaps_writable : (n : ℕ) (snaps : List Snap) (lines : List (List ℕ)) → All IsLine lines
+    → Say lines (snaps_items n snaps) → All IsWritableSnap snaps
 snaps_writable n [] lines h s = All-nil IsWritableSnap
 snaps_writable n (snap ∷ snaps) lines h s =
     let parts = Say-split lines (snap_items n snap) (snaps_items (suc n) snaps) s in
@@ -177,7 +234,8 @@ first_number n snap [] s = absurd s
 first_number n snap (a ∷ lines) s = key_most (codes "snapshot=") a n s.0
 
 -- the last snapshot's number is at most 2 ^ 62
-snaps_count : (n : ℕ) (snaps : List Snap) (lines : List (List ℕ)) → 0 < length snaps → Say lines (snaps_items n snaps) → n + length snaps ≤ 2 ^ 62 + 1
+snaps_count : (n : ℕ) (snaps : List Snap) (lines : List (List ℕ)) → 0 < length snaps → Say lines (snaps_items n snaps)
+    → n + length snaps ≤ 2 ^ 62 + 1
 snaps_count n [] lines some s = absurd (omega arith)
 snaps_count n (snap ∷ []) lines some s =
     let parts = Say-split lines (snap_items n snap) [] s in
@@ -208,7 +266,8 @@ header_text key line value h e =
     subst IsText r.2 (without_text r.0 (value_line key line r.0 h r.1))
 
 -- so is the description
-described_text : (before : List ℕ) (lines : List (List ℕ)) (desc : List ℕ) → IsText before → All IsLine lines → Describe before lines desc → IsText desc
+described_text : (before : List ℕ) (lines : List (List ℕ)) (desc : List ℕ) → IsText before → All IsLine lines
+    → Describe before lines desc → IsText desc
 described_text before [] desc t h d = subst IsText d t
 described_text before (line ∷ lines) desc t h d =
     described_text (joined before d.0) lines desc
@@ -222,7 +281,8 @@ no_text = without_text [] (All-nil NoFeed)
 -- ---- all
 
 -- a profile that is read may be written
-pub is_writable : (lines : List (List ℕ)) (profile : Profile) → All IsLine lines → is_profile lines profile → IsWritable profile
+pub is_writable : (lines : List (List ℕ)) (profile : Profile) → All IsLine lines → is_profile lines profile
+    → IsWritable profile
 is_writable lines profile h is =
     let both = subst (All IsLine) is.parts (All-filter (λ line. not (is_skipped line)) IsLine lines h) in
     by is.others (all_back IsLine is.descriptions is.others both) is.said
@@ -235,7 +295,9 @@ is_writable lines profile h is =
         record {
           right = is.right;
           numbers = omega (arith, snaps_count 0 profile.snaps rest is.right.some s.1.1);
-          desc = described_text [] is.descriptions profile.desc no_text (all_front IsLine is.descriptions is.others both) is.described;
+          desc =
+              described_text [] is.descriptions profile.desc no_text (all_front IsLine is.descriptions is.others both)
+              is.described;
           cmd = header_text (codes "cmd:") a profile.cmd (All-head IsLine a (b ∷ rest) all) s.0;
           snaps = snaps_writable 0 profile.snaps rest (all_back IsLine (a ∷ b ∷ []) rest all) s.1.1;
         }

@@ -1,5 +1,33 @@
 -- What stacks cost.
-use Rattle.std.proofs.Common.{◌≡◌, ◌≢◌, ℕ, zero, suc, ◌+◌, ◌<◌, ◌≤◌, List, [], ◌∷◌, ◌++◌, length, map, eqb, Bool, true, false, cond, refl, ap, sym, subst, ◌∙◌, arith, inl, inr}
+use Rattle.std.proofs.Common.{
+  ◌≡◌,
+  ◌≢◌,
+  ℕ,
+  zero,
+  suc,
+  ◌+◌,
+  ◌<◌,
+  ◌≤◌,
+  List,
+  [],
+  ◌∷◌,
+  ◌++◌,
+  length,
+  map,
+  eqb,
+  Bool,
+  true,
+  false,
+  cond,
+  refl,
+  ap,
+  sym,
+  subst,
+  ◌∙◌,
+  arith,
+  inl,
+  inr,
+}
 use Rattle.std.specs.Prelude.{not, max}
 use Rattle.std.specs.List.{range_with_len}
 use Rattle.std.proofs.lemmas.List.Sums.{sum_by_push}
@@ -23,7 +51,8 @@ use Rattle.massif_sample.specs.Counted.{counts}
 use Rattle.massif_sample.proofs.UpTo.{sum-now}
 
 -- functions that agree over a range
-pub map-same : {X : Type 0} (f g : ℕ → X) (a n : ℕ) → ((k : ℕ) → a ≤ k → k < a + n → f k ≡ g k) → map f (range_with_len a n) ≡ map g (range_with_len a n)
+pub map-same : {X : Type 0} (f g : ℕ → X) (a n : ℕ) → ((k : ℕ) → a ≤ k → k < a + n → f k ≡ g k)
+    → map f (range_with_len a n) ≡ map g (range_with_len a n)
 map-same f g a zero same = refl
 map-same {X} f g a (suc n) same =
     ap (λ (x : X). x ∷ map f (range_with_len (a + 1) n)) (same a (omega arith) (omega arith))
@@ -38,14 +67,17 @@ live-now stack events =
 
 -- what a ledger says that a stack costs is what the events cost at the last place
 pub live_cost-is :
-    (judged : List Bool) (ledger : LedgerState) (names : FunctionNames) (tables : TableState) (events : List Event) (stack : ℕ)
+    (judged : List Bool) (ledger : LedgerState) (names : FunctionNames) (tables : TableState) (events : List Event)
+    (stack : ℕ)
     → AreJudged names tables judged
     → stack < length judged
     → ledger_spec.StandsFor ledger events
     → live_cost judged ledger stack ≡ cost_at (ignores tables names) events (event_count events) stack
 live_cost-is judged ledger names tables events stack are held stands =
-    ap (λ (b : Bool). cond {A = ℕ} b 0 (figures_at ledger stack).live) (get_or_from_slice_get judged stack (ignores tables names stack) false (are stack held))
-    ∙ ap (λ (n : ℕ). cond {A = ℕ} (ignores tables names stack) 0 n) ((stands.each_stack stack).live_is ∙ sym (live-now stack events))
+    ap (λ (b : Bool). cond {A = ℕ} b 0 (figures_at ledger stack).live)
+    (get_or_from_slice_get judged stack (ignores tables names stack) false (are stack held))
+    ∙ ap (λ (n : ℕ). cond {A = ℕ} (ignores tables names stack) 0 n)
+    ((stands.each_stack stack).live_is ∙ sym (live-now stack events))
 
 -- before any event no stack costs anything
 pub cost-first : (ignored : ℕ → Bool) (stack : ℕ) → cost_at ignored [] (event_count []) stack ≡ 0
@@ -56,11 +88,13 @@ cost-first ignored stack = by_flag (ignored stack) where
   by_flag false = refl
 
 -- what a stack costs now
-cost-now : (ignored : ℕ → Bool) (events : List Event) (stack : ℕ) → cost_at ignored events (event_count events) stack ≡ cond {A = ℕ} (ignored stack) 0 (live_in stack events)
+cost-now : (ignored : ℕ → Bool) (events : List Event) (stack : ℕ)
+    → cost_at ignored events (event_count events) stack ≡ cond {A = ℕ} (ignored stack) 0 (live_in stack events)
 cost-now ignored events stack = ap (λ (n : ℕ). cond {A = ℕ} (ignored stack) 0 n) (live-now stack events)
 
 -- an event without a block of the stack leaves what it has live
-live-other : (events : List Event) (event : Event) (stack : ℕ) → alloc_size_in stack event ≡ 0 → free_size_in stack event ≡ 0 → live_in stack (events ++ event ∷ []) ≡ live_in stack events
+live-other : (events : List Event) (event : Event) (stack : ℕ) → alloc_size_in stack event ≡ 0
+    → free_size_in stack event ≡ 0 → live_in stack (events ++ event ∷ []) ≡ live_in stack events
 live-other events event stack no_alloc no_free =
     let allocated = sum_by_push (alloc_size_in stack) events event in
     let freed = sum_by_push (free_size_in stack) events event in
@@ -81,10 +115,12 @@ free-other n stack (Tick ms) is other = refl
 
 -- behind an event of a stack the others cost what they did
 pub cost-other : (ignored : ℕ → Bool) (events : List Event) (event : Event) (n stack : ℕ) → IsIn n event → stack ≢ n
-    → cost_at ignored (events ++ event ∷ []) (event_count (events ++ event ∷ [])) stack ≡ cost_at ignored events (event_count events) stack
+    → cost_at ignored (events ++ event ∷ []) (event_count (events ++ event ∷ [])) stack
+    ≡ cost_at ignored events (event_count events) stack
 cost-other ignored events event n stack is other =
     cost-now ignored (events ++ event ∷ []) stack
-    ∙ ap (λ (m : ℕ). cond {A = ℕ} (ignored stack) 0 m) (live-other events event stack (alloc-other n stack event is other) (free-other n stack event is other))
+    ∙ ap (λ (m : ℕ). cond {A = ℕ} (ignored stack) 0 m)
+    (live-other events event stack (alloc-other n stack event is other) (free-other n stack event is other))
     ∙ sym (cost-now ignored events stack)
 
 -- what isn't false is true
@@ -93,20 +129,25 @@ was-true true is = refl
 was-true false is = absurd (cc)
 
 -- behind an event of an ignored stack all do
-of-ignored : (ignored : ℕ → Bool) (events : List Event) (event : Event) (n stack : ℕ) → IsIn n event → not (ignored n) ≡ false
-    → cost_at ignored (events ++ event ∷ []) (event_count (events ++ event ∷ [])) stack ≡ cost_at ignored events (event_count events) stack
+of-ignored : (ignored : ℕ → Bool) (events : List Event) (event : Event) (n stack : ℕ) → IsIn n event
+    → not (ignored n) ≡ false
+    → cost_at ignored (events ++ event ∷ []) (event_count (events ++ event ∷ [])) stack
+    ≡ cost_at ignored events (event_count events) stack
 of-ignored ignored events event n stack is none =
     elim (cases_eq stack n) [
       | inr other ↦ cost-other ignored events event n stack is other
       | inl own ↦
           (let flag : ignored stack ≡ true = ap ignored own ∙ was-true (ignored n) none in
-          ap (λ (b : Bool). cond {A = ℕ} b 0 (live_in stack (up_to (event_count (events ++ event ∷ [])) (events ++ event ∷ [])))) flag
+          ap (λ (b : Bool). cond {A = ℕ} b 0
+          (live_in stack (up_to (event_count (events ++ event ∷ [])) (events ++ event ∷ [])))) flag
           ∙ sym (ap (λ (b : Bool). cond {A = ℕ} b 0 (live_in stack (up_to (event_count events) events))) flag))
     ]
 
 -- behind an event that isn't counted all do
-pub cost-passed : (ignored : ℕ → Bool) (events : List Event) (event : Event) → counts ignored event ≡ false → (stack : ℕ)
-    → cost_at ignored (events ++ event ∷ []) (event_count (events ++ event ∷ [])) stack ≡ cost_at ignored events (event_count events) stack
+pub cost-passed : (ignored : ℕ → Bool) (events : List Event) (event : Event) → counts ignored event ≡ false
+    → (stack : ℕ)
+    → cost_at ignored (events ++ event ∷ []) (event_count (events ++ event ∷ [])) stack
+    ≡ cost_at ignored events (event_count events) stack
 cost-passed ignored events (Tick ms) none stack =
     cost-now ignored (events ++ Tick ms ∷ []) stack
     ∙ ap (λ (m : ℕ). cond {A = ℕ} (ignored stack) 0 m) (live-other events (Tick ms) stack refl refl)
@@ -116,8 +157,10 @@ cost-passed ignored events (Free i s z) none stack = of-ignored ignored events (
 
 -- the greater of two numbers is at most a third that is the one and no less than the other
 pub no-more : (a b greater most : ℕ) → a ≤ most → b ≡ most → greater ≡ max a b → greater ≤ most
-no-more a b greater most first second is = subst (λ (n : ℕ). n ≤ most) (sym is) (max-le first (let least : b ≤ most = omega arith in least))
+no-more a b greater most first second is =
+    subst (λ (n : ℕ). n ≤ most) (sym is) (max-le first (let least : b ≤ most = omega arith in least))
 
 -- a closure's answers, where the number of stacks goes by another name
-pub said-as : {answers : ℕ → ℕ → Type 0} (n m : ℕ) (costs : ℕ → ℕ) → n ≡ m → AreSaid answers m costs → AreSaid answers n costs
+pub said-as : {answers : ℕ → ℕ → Type 0} (n m : ℕ) (costs : ℕ → ℕ) → n ≡ m → AreSaid answers m costs
+    → AreSaid answers n costs
 said-as {answers} n m costs same said = subst (λ (k : ℕ). AreSaid answers k costs) (sym same) said

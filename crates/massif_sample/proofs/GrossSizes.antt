@@ -31,7 +31,9 @@ multiple n k =
 
 -- a size that is rounded up by bits
 pub gross-by_bits : (options : MassifOptions) (size : ℕ) → AreInRange options
-    → (size + (options.alignment - 1)) - bit_and (size + (options.alignment - 1)) (options.alignment - 1) + options.admin ≡ gross options size
+    → (size + (options.alignment - 1)) - bit_and (size + (options.alignment - 1)) (options.alignment - 1)
+    + options.admin
+    ≡ gross options size
 gross-by_bits options size range =
     let rounded : ℕ → ℕ = λ a. (size + (a - 1)) - bit_and (size + (a - 1)) (a - 1) in
     let multiples : ℕ → ℕ = λ a. (size + (a - 1)) / a * a in

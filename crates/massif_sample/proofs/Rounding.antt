@@ -17,7 +17,8 @@ rounded-least alignment size some = record {
     times : ℕ
     times = (size + (alignment - 1)) / alignment
 
-    whole : alignment * ((size + (alignment - 1)) / alignment) + (size + (alignment - 1)) % alignment ≡ size + (alignment - 1)
+    whole : alignment * ((size + (alignment - 1)) / alignment) + (size + (alignment - 1)) % alignment
+        ≡ size + (alignment - 1)
     whole = div-add-mod (size + (alignment - 1)) alignment
 
     rest : (size + (alignment - 1)) % alignment < alignment
@@ -26,10 +27,12 @@ rounded-least alignment size some = record {
     turned : alignment * ((size + (alignment - 1)) / alignment) ≡ (size + (alignment - 1)) / alignment * alignment
     turned = mul_comm alignment ((size + (alignment - 1)) / alignment)
 
-    by : (other : ℕ) → size ≤ other * alignment → (other < (size + (alignment - 1)) / alignment) ⊎ ((size + (alignment - 1)) / alignment ≤ other)
+    by : (other : ℕ) → size ≤ other * alignment
+        → (other < (size + (alignment - 1)) / alignment) ⊎ ((size + (alignment - 1)) / alignment ≤ other)
         → (size + (alignment - 1)) / alignment * alignment ≤ other * alignment
     by other enough (inl less) =
-        let more : (other + 1) * alignment ≤ (size + (alignment - 1)) / alignment * alignment = mul-le-mul_right alignment (omega (arith, less)) in
+        let more : (other + 1) * alignment ≤ (size + (alignment - 1)) / alignment * alignment =
+        mul-le-mul_right alignment (omega (arith, less)) in
         let one : (other + 1) * alignment ≡ other * alignment + alignment = omega arith in
         absurd (omega (arith, more, one, whole, turned, enough, some))
     by other enough (inr few) = mul-le-mul_right alignment few

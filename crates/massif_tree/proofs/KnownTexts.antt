@@ -1,5 +1,31 @@
 -- Labels that are known by numbers: which number a front's label has.
-use Rattle.std.proofs.Common.{◌≡◌, ℕ, zero, suc, ◌+◌, ◌-◌, ◌<◌, ◌≤◌, ◌==◌, Bool, false, cond, List, [], ◌∷◌, ◌++◌, None, Some, length, take, get_or, sym, ap, ◌∙◌, arith}
+use Rattle.std.proofs.Common.{
+  ◌≡◌,
+  ℕ,
+  zero,
+  suc,
+  ◌+◌,
+  ◌-◌,
+  ◌<◌,
+  ◌≤◌,
+  ◌==◌,
+  Bool,
+  false,
+  cond,
+  List,
+  [],
+  ◌∷◌,
+  ◌++◌,
+  None,
+  Some,
+  length,
+  take,
+  get_or,
+  sym,
+  ap,
+  ◌∙◌,
+  arith,
+}
 use Rattle.std.specs.Prelude.{slice_get, unwrap_or}
 use Rattle.std.proofs.lemmas.Bool.{ne_eqb}
 use Rattle.std.proofs.lemmas.Option.{slice_get_past, unwrap_or-slice_get}
@@ -25,7 +51,8 @@ unfolding text_of
 text-place names place = ap (λ o. unwrap_or o []) (name-place names place) ∙ unwrap_or-slice_get names place []
 
 -- one name more
-pub name-next : (names : List (List ℕ)) (place : ℕ) (name : List ℕ) → name_at names (place + 1) ≡ Some name → take (place + 1) names ≡ take place names ++ name ∷ []
+pub name-next : (names : List (List ℕ)) (place : ℕ) (name : List ℕ) → name_at names (place + 1) ≡ Some name
+    → take (place + 1) names ≡ take place names ++ name ∷ []
 name-next names place name is = take-next names place name (sym (name-place names place) ∙ is)
 
 module _ (texts : List (List ℕ)) (root : ℕ) (labels : List (List ℕ)) (hold : HoldTexts texts root labels) where
@@ -57,8 +84,10 @@ module _ (texts : List (List ℕ)) (root : ℕ) (labels : List (List ℕ)) (hold
   of-last [] text some is = absurd (omega arith)
   of-last (first ∷ more) text some is = is
 
-  pub text-known : (front : List (List ℕ)) (number : ℕ) → 0 < length front → number < root → text_of texts number ≡ last_of front → get_or labels number [] ≡ label_of front
+  pub text-known : (front : List (List ℕ)) (number : ℕ) → 0 < length front → number < root
+      → text_of texts number ≡ last_of front → get_or labels number [] ≡ label_of front
   text-known front number some below is = at-text number below ∙ of-last front (text_of texts number) some is
 
-  pub none-known : (front : List (List ℕ)) (number : ℕ) → 0 < length front → root ≤ number → text_of texts number ≡ last_of front → get_or labels 0 [] ≡ label_of front
+  pub none-known : (front : List (List ℕ)) (number : ℕ) → 0 < length front → root ≤ number
+      → text_of texts number ≡ last_of front → get_or labels 0 [] ≡ label_of front
   none-known front number some above is = at-none number above ∙ of-last front (text_of texts number) some is

@@ -13,15 +13,19 @@ use Rattle.massif_tree.specs.MassifTree.{label_of}
 pub places-one : (places : ℕ) → places ≡ 1 → places_label places ≡ codes "in 1 place, below massif's threshold ("
 unfolding places_label
 places-one places one =
-    cond-true (places == 1) (codes "in 1 place, below massif's threshold (") (codes "in " ++ (decimal places ++ codes " places, all below massif's threshold (")) (eq-eqb places 1 one)
+    cond-true (places == 1) (codes "in 1 place, below massif's threshold (")
+    (codes "in " ++ (decimal places ++ codes " places, all below massif's threshold (")) (eq-eqb places 1 one)
 
-pub places-more : (places : ℕ) → places ≢ 1 → places_label places ≡ codes "in " ++ (decimal places ++ codes " places, all below massif's threshold (")
+pub places-more : (places : ℕ) → places ≢ 1
+    → places_label places ≡ codes "in " ++ (decimal places ++ codes " places, all below massif's threshold (")
 unfolding places_label
 places-more places other =
-    cond-false (places == 1) (codes "in 1 place, below massif's threshold (") (codes "in " ++ (decimal places ++ codes " places, all below massif's threshold (")) (ne_eqb places 1 other)
+    cond-false (places == 1) (codes "in 1 place, below massif's threshold (")
+    (codes "in " ++ (decimal places ++ codes " places, all below massif's threshold (")) (ne_eqb places 1 other)
 
 -- the label of a node whose front ends with a text
-pub label-text : (tree : TreeState) (n : ℕ) (front : List (List ℕ)) (text : List ℕ) → slice_get tree.fronts n ≡ Some (front ++ text ∷ []) → label_of (front_at tree n) ≡ text
+pub label-text : (tree : TreeState) (n : ℕ) (front : List (List ℕ)) (text : List ℕ)
+    → slice_get tree.fronts n ≡ Some (front ++ text ∷ []) → label_of (front_at tree n) ≡ text
 label-text tree n front text held =
     let is = get_or_from_slice_get tree.fronts n (front ++ text ∷ []) [] held in
     ap label_of is ∙ same front ∙ ap last_of (sym is) ∙ last-text tree n front text held

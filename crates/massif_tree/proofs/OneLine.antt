@@ -1,5 +1,30 @@
 -- Texts of one line, as labels are.
-use Rattle.std.proofs.Common.{◌≡◌, ◌≢◌, ℕ, zero, suc, ◌+◌, ◌-◌, ◌/◌, ◌%◌, ◌==◌, eqb, Bool, true, false, cond, List, [], ◌∷◌, ◌++◌, Option, None, Some, refl, arith}
+use Rattle.std.proofs.Common.{
+  ◌≡◌,
+  ◌≢◌,
+  ℕ,
+  zero,
+  suc,
+  ◌+◌,
+  ◌-◌,
+  ◌/◌,
+  ◌%◌,
+  ◌==◌,
+  eqb,
+  Bool,
+  true,
+  false,
+  cond,
+  List,
+  [],
+  ◌∷◌,
+  ◌++◌,
+  Option,
+  None,
+  Some,
+  refl,
+  arith,
+}
 use Rattle.std.specs.Prelude.{All, codes, decimal, nat_lt, slice_get, unwrap_or}
 use Rattle.std.specs.Fmt.{digit_glyph, digits, digits_onto}
 use Rattle.std.proofs.lemmas.Bool.{cond_both, eqb-false, false≢true}
@@ -25,7 +50,8 @@ unfolding is_line
 line-tested [] passes = All-nil (λ b. b ≢ 10)
 line-tested (b ∷ bs) passes = by (eqb b 10) refl passes (line-tested bs)
   where
-    by : (t : Bool) → eqb b 10 ≡ t → cond t false (is_line bs) ≡ true → (is_line bs ≡ true → IsLine bs) → IsLine (b ∷ bs)
+    by : (t : Bool) → eqb b 10 ≡ t → cond t false (is_line bs) ≡ true → (is_line bs ≡ true → IsLine bs)
+        → IsLine (b ∷ bs)
     by true is passes more = absurd (false≢true passes)
     by false is passes more = All-cons (λ x. x ≢ 10) b bs (eqb-false b 10 is) (more passes)
 
@@ -42,7 +68,8 @@ digits-line zero base n rest line = line
 digits-line (suc k) base n rest line =
     let more : List ℕ = digit_glyph false (n % base) ∷ rest in
     let one : IsLine more = All-cons (λ x. x ≢ 10) (digit_glyph false (n % base)) rest (glyph-apart (n % base)) line in
-    cond_both (n / base == 0) more (digits_onto k base false (n / base) more) IsLine (λ last. one) (λ goes_on. digits-line k base (n / base) more one)
+    cond_both (n / base == 0) more (digits_onto k base false (n / base) more) IsLine (λ last. one)
+    (λ goes_on. digits-line k base (n / base) more one)
 
 decimal-line : (n : ℕ) → IsLine (decimal n)
 unfolding digits
@@ -67,13 +94,17 @@ root-text = begins 40 _ (λ is. omega arith) (line-tested (codes "(heap allocati
 
 -- the label of places that are gathered
 two_digits-line : (n : ℕ) → IsLine (two_digits n)
-two_digits-line n = cond_both (nat_lt n 10) (48 ∷ decimal n) (decimal n) IsLine (λ small. All-cons (λ x. x ≢ 10) 48 (decimal n) (λ is. omega arith) (decimal-line n)) (λ large. decimal-line n)
+two_digits-line n =
+    cond_both (nat_lt n 10) (48 ∷ decimal n) (decimal n) IsLine
+    (λ small. All-cons (λ x. x ≢ 10) 48 (decimal n) (λ is. omega arith) (decimal-line n)) (λ large. decimal-line n)
 
 threshold-line : (threshold : ℕ) → IsLine (threshold_text threshold)
 unfolding threshold_text is_line
 threshold-line threshold =
     both-lines (decimal (threshold / 100)) _ (decimal-line (threshold / 100))
-    (both-lines (codes ".") _ (line-tested (codes ".") refl) (both-lines (two_digits (threshold % 100)) (codes "%") (two_digits-line (threshold % 100)) (line-tested (codes "%") refl)))
+    (both-lines (codes ".") _ (line-tested (codes ".") refl)
+    (both-lines (two_digits (threshold % 100)) (codes "%") (two_digits-line (threshold % 100))
+    (line-tested (codes "%") refl)))
 
 pub gathered-text : (threshold places : ℕ) → IsText (gathered_label threshold places)
 unfolding gathered_label places_label is_line
@@ -83,49 +114,70 @@ gathered-text threshold places = by (places == 1)
     rest = threshold_text threshold ++ codes ")"
 
     rest-line : IsLine (threshold_text threshold ++ codes ")")
-    rest-line = both-lines (threshold_text threshold) (codes ")") (threshold-line threshold) (line-tested (codes ")") refl)
+    rest-line =
+        both-lines (threshold_text threshold) (codes ")") (threshold-line threshold) (line-tested (codes ")") refl)
 
     one : IsLine (codes "in 1 place, below massif's threshold (" ++ (threshold_text threshold ++ codes ")"))
-    one = both-lines (codes "in 1 place, below massif's threshold (") _ (line-tested (codes "in 1 place, below massif's threshold (") refl) rest-line
+    one =
+        both-lines (codes "in 1 place, below massif's threshold (") _
+        (line-tested (codes "in 1 place, below massif's threshold (") refl) rest-line
 
-    more : IsLine ((codes "in " ++ (decimal places ++ codes " places, all below massif's threshold (")) ++ (threshold_text threshold ++ codes ")"))
+    more : IsLine
+        ((codes "in " ++ (decimal places ++ codes " places, all below massif's threshold ("))
+        ++ (threshold_text threshold ++ codes ")"))
     more =
         both-lines (codes "in " ++ (decimal places ++ codes " places, all below massif's threshold (")) _
         (both-lines (codes "in ") _ (line-tested (codes "in ") refl)
-        (both-lines (decimal places) _ (decimal-line places) (line-tested (codes " places, all below massif's threshold (") refl)))
+        (both-lines (decimal places) _ (decimal-line places)
+        (line-tested (codes " places, all below massif's threshold (") refl)))
         rest-line
 
-    by : (t : Bool) → IsText (cond t (codes "in 1 place, below massif's threshold (") (codes "in " ++ (decimal places ++ codes " places, all below massif's threshold (")) ++ (threshold_text threshold ++ codes ")"))
+    by : (t : Bool)
+        → IsText
+        (cond t (codes "in 1 place, below massif's threshold (")
+        (codes "in " ++ (decimal places ++ codes " places, all below massif's threshold ("))
+        ++ (threshold_text threshold ++ codes ")"))
     by true = begins 105 _ (λ is. omega arith) one
     by false = begins 105 _ (λ is. omega arith) more
 
 -- a string that has no line feed, or none at all
 string-line : (strings : List (List ℕ)) (n : ℕ) → All IsLine strings → IsLine (text_at strings n)
-string-line strings n lines = cond_both (n == 0) None (slice_get strings (n - 1)) (λ found. IsLine (unwrap_or found [])) (λ none. All-nil (λ b. b ≢ 10)) (λ some. held strings (n - 1) lines)
+string-line strings n lines =
+    cond_both (n == 0) None (slice_get strings (n - 1)) (λ found. IsLine (unwrap_or found []))
+    (λ none. All-nil (λ b. b ≢ 10)) (λ some. held strings (n - 1) lines)
   where
     held : (xs : List (List ℕ)) (k : ℕ) → All IsLine xs → IsLine (unwrap_or (slice_get xs k) [])
     held [] k all = All-nil (λ b. b ≢ 10)
     held (x ∷ xs) zero all = All-head IsLine x xs all
     held (x ∷ xs) (suc k) all = held xs k (All-tail IsLine x xs all)
 
-name-line : (strings : List (List ℕ)) (found : FrameFound) → All IsLine strings → IsLine (name_text Addressed strings found)
+name-line : (strings : List (List ℕ)) (found : FrameFound) → All IsLine strings
+    → IsLine (name_text Addressed strings found)
 unfolding is_line
 name-line strings found lines =
-    cond_both (found.frame.function == 0) (no_name Addressed found.ip) (text_at strings found.frame.function) IsLine (λ none. line-tested (codes "???") refl) (λ some. string-line strings found.frame.function lines)
+    cond_both (found.frame.function == 0) (no_name Addressed found.ip) (text_at strings found.frame.function) IsLine
+    (λ none. line-tested (codes "???") refl) (λ some. string-line strings found.frame.function lines)
 
-place-line : (strings : List (List ℕ)) (found : FrameFound) → All IsLine strings → IsLine (place_text Addressed strings found)
+place-line : (strings : List (List ℕ)) (found : FrameFound) → All IsLine strings
+    → IsLine (place_text Addressed strings found)
 unfolding is_line
 place-line strings found lines =
     cond_both (found.frame.file == 0) _ _ IsLine
-    (λ no_file. cond_both (found.module_string == 0) [] (in_module Addressed (text_at strings found.module_string)) IsLine (λ none. All-nil (λ b. b ≢ 10))
-    (λ some. both-lines (codes " (in ") _ (line-tested (codes " (in ") refl) (both-lines (text_at strings found.module_string) (codes ")") (string-line strings found.module_string lines) (line-tested (codes ")") refl))))
+    (λ no_file. cond_both (found.module_string == 0) [] (in_module Addressed (text_at strings found.module_string))
+    IsLine (λ none. All-nil (λ b. b ≢ 10))
+    (λ some. both-lines (codes " (in ") _ (line-tested (codes " (in ") refl)
+    (both-lines (text_at strings found.module_string) (codes ")") (string-line strings found.module_string lines)
+    (line-tested (codes ")") refl))))
     (λ file.
     both-lines (codes " (") _ (line-tested (codes " (") refl)
     (both-lines (text_at strings found.frame.file) _ (string-line strings found.frame.file lines)
-    (both-lines (codes ":") _ (line-tested (codes ":") refl) (both-lines (decimal found.frame.line) (codes ")") (decimal-line found.frame.line) (line-tested (codes ")") refl)))))
+    (both-lines (codes ":") _ (line-tested (codes ":") refl)
+    (both-lines (decimal found.frame.line) (codes ")") (decimal-line found.frame.line)
+    (line-tested (codes ")") refl)))))
 
 -- the addressed text of a frame
-pub frame-text : (tables : TableState) (at : FrameAt) → All IsLine tables.strings → IsText (frame_text Addressed tables at)
+pub frame-text : (tables : TableState) (at : FrameAt) → All IsLine tables.strings
+    → IsText (frame_text Addressed tables at)
 unfolding frame_text is_line
 frame-text tables at lines = by (frame_at tables.instructions at)
   where
@@ -137,5 +189,7 @@ frame-text tables at lines = by (frame_at tables.instructions at)
     by (Some found) =
         begins 48 _ (λ is. omega arith)
         (both-lines (codes "0x" ++ (hexadecimal found.ip ++ codes ": ")) _
-        (both-lines (codes "0x") _ (line-tested (codes "0x") refl) (both-lines (hexadecimal found.ip) (codes ": ") (hexadecimal-line found.ip) (line-tested (codes ": ") refl)))
-        (both-lines (name_text Addressed tables.strings found) (place_text Addressed tables.strings found) (name-line tables.strings found lines) (place-line tables.strings found lines)))
+        (both-lines (codes "0x") _ (line-tested (codes "0x") refl)
+        (both-lines (hexadecimal found.ip) (codes ": ") (hexadecimal-line found.ip) (line-tested (codes ": ") refl)))
+        (both-lines (name_text Addressed tables.strings found) (place_text Addressed tables.strings found)
+        (name-line tables.strings found lines) (place-line tables.strings found lines)))

@@ -1,16 +1,38 @@
 -- What the crates above may cite: the greatest of some numbers, and the first place at which it stands.
-use Rattle.std.proofs.Common.{◌≡◌, ◌≢◌, ℕ, ◌+◌, ◌<◌, ◌≤◌, ◌==◌, zero, suc, true, false, map, refl, ap, ◌∙◌, sym, subst, arith, eq-eqb}
+use Rattle.std.proofs.Common.{
+  ◌≡◌,
+  ◌≢◌,
+  ℕ,
+  ◌+◌,
+  ◌<◌,
+  ◌≤◌,
+  ◌==◌,
+  zero,
+  suc,
+  true,
+  false,
+  map,
+  refl,
+  ap,
+  ◌∙◌,
+  sym,
+  subst,
+  arith,
+  eq-eqb,
+}
 use Rattle.std.proofs.lemmas.Bool.{ne_eqb}
 use Rattle.std.specs.List.{position_or_len, range_with_len}
 use Rattle.peak_costs.specs.FirstGreatest.{first_greatest, greatest}
 
 -- values of which none is above a bound
-greatest_at_most : (f : ℕ → ℕ) (n from most : ℕ) → ((k : ℕ) → k < n → f (from + k) ≤ most) → greatest (map f (range_with_len from n)) ≤ most
+greatest_at_most : (f : ℕ → ℕ) (n from most : ℕ) → ((k : ℕ) → k < n → f (from + k) ≤ most)
+    → greatest (map f (range_with_len from n)) ≤ most
 greatest_at_most f zero from most within = omega arith
 greatest_at_most f (suc n) from most within =
     let first : f from ≤ most = subst (λ i. f i ≤ most) (omega arith) (within 0 (omega arith)) in
     let rest : greatest (map f (range_with_len (from + 1) n)) ≤ most =
-    greatest_at_most f n (from + 1) most (λ k below. subst (λ i. f i ≤ most) (omega arith) (within (suc k) (omega arith))) in
+    greatest_at_most f n (from + 1) most
+    (λ k below. subst (λ i. f i ≤ most) (omega arith) (within (suc k) (omega arith))) in
     omega (arith, first, rest)
 
 -- a value that stands among them
@@ -21,11 +43,13 @@ greatest_at_least f (suc n) from zero below =
     omega (arith, first)
 greatest_at_least f (suc n) from (suc k) below =
     let same : f (from + suc k) ≡ f ((from + 1) + k) = ap f (omega arith) in
-    let rest : f ((from + 1) + k) ≤ greatest (map f (range_with_len (from + 1) n)) = greatest_at_least f n (from + 1) k (omega arith) in
+    let rest : f ((from + 1) + k) ≤ greatest (map f (range_with_len (from + 1) n)) =
+    greatest_at_least f n (from + 1) k (omega arith) in
     omega (arith, same, rest)
 
 -- the first place of a value
-place_of : (f : ℕ → ℕ) (value n from place : ℕ) → place < n → f (from + place) ≡ value → ((k : ℕ) → k < place → f (from + k) ≢ value)
+place_of : (f : ℕ → ℕ) (value n from place : ℕ) → place < n → f (from + place) ≡ value
+    → ((k : ℕ) → k < place → f (from + k) ≢ value)
     → position_or_len (λ other. other == value) (map f (range_with_len from n)) ≡ place
 place_of f value zero from place below is before = absurd (omega arith)
 place_of f value (suc n) from zero below is before =
@@ -41,7 +65,8 @@ place_of f value (suc n) from (suc place) below is before =
     rw other (omega (arith, rest))
 
 -- the greatest of the values of a function, where one stands that none is above
-pub greatest_is : (f : ℕ → ℕ) (n place : ℕ) → place < n → ((k : ℕ) → k < n → f k ≤ f place) → greatest (map f (range_with_len 0 n)) ≡ f place
+pub greatest_is : (f : ℕ → ℕ) (n place : ℕ) → place < n → ((k : ℕ) → k < n → f k ≤ f place)
+    → greatest (map f (range_with_len 0 n)) ≡ f place
 greatest_is f n place within at_most =
     let at : (k : ℕ) → f (0 + k) ≡ f k = λ k. ap f (omega arith) in
     let most : greatest (map f (range_with_len 0 n)) ≤ f place =
@@ -50,7 +75,8 @@ greatest_is f n place within at_most =
     omega (arith, most, held, at place)
 
 -- and the least number that it stands at is its first place
-pub first_greatest_is : (f : ℕ → ℕ) (n place : ℕ) → place < n → ((k : ℕ) → k < n → f k ≤ f place) → ((k : ℕ) → k < place → f k < f place)
+pub first_greatest_is : (f : ℕ → ℕ) (n place : ℕ) → place < n → ((k : ℕ) → k < n → f k ≤ f place)
+    → ((k : ℕ) → k < place → f k < f place)
     → first_greatest (map f (range_with_len 0 n)) ≡ place
 first_greatest_is f n place within at_most least =
     let at : (k : ℕ) → f (0 + k) ≡ f k = λ k. ap f (omega arith) in

@@ -13,7 +13,8 @@ pub class-changed : (f g : ℕ → Option FreeAddresses) (class address : ℕ) (
 class-changed f g class address to after puts is c a =
     ap (λ (found : Option FreeAddresses). is_among found a) (puts c) ∙ by (class == c) refl
   where
-    by : (b : Bool) → (class == c) ≡ b → is_among (cond b (Some after) (f c)) a ≡ cond (b && address == a) to (is_among (f c) a)
+    by : (b : Bool) → (class == c) ≡ b
+        → is_among (cond b (Some after) (f c)) a ≡ cond (b && address == a) to (is_among (f c) a)
     by true p =
         let same : class ≡ c = grind (arith, nat_tests, p) in
         is a ∙ ap (λ (k : ℕ). cond (address == a) to (is_among (f k) a)) same

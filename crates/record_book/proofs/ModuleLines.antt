@@ -1,8 +1,46 @@
 -- The lines of modules, which spell nothing.
-use Rattle.std.proofs.Common.{◌≡◌, ℕ, true, List, [], ◌∷◌, ◌++◌, refl, sym, ap, subst, ◌∙◌, arith, true≢false, append_assoc}
+use Rattle.std.proofs.Common.{
+  ◌≡◌,
+  ℕ,
+  true,
+  List,
+  [],
+  ◌∷◌,
+  ◌++◌,
+  refl,
+  sym,
+  ap,
+  subst,
+  ◌∙◌,
+  arith,
+  true≢false,
+  append_assoc,
+}
 use Rattle.std.specs.Prelude.{codes}
 use Rattle.std.specs.List.{AllByRecursion}
-use Rattle.ht_lines.specs.Content.{Content, version_line, executable_line, command_line, system_line, string_line, clear_line, module_line, instruction_line, node_line, info_line, allocation_line, free_line, raw_allocation_line, raw_free_line, clock_line, resident_line, attached_line, suppression_line, comment_line, other_line}
+use Rattle.ht_lines.specs.Content.{
+  Content,
+  version_line,
+  executable_line,
+  command_line,
+  system_line,
+  string_line,
+  clear_line,
+  module_line,
+  instruction_line,
+  node_line,
+  info_line,
+  allocation_line,
+  free_line,
+  raw_allocation_line,
+  raw_free_line,
+  clock_line,
+  resident_line,
+  attached_line,
+  suppression_line,
+  comment_line,
+  other_line,
+}
 use Rattle.ht_lines.specs.OneLine.{HasOneLineTexts}
 use Rattle.ht_lines.specs.Written.{spelled, written}
 use Rattle.record_scripts.specs.ModuleLine.{is_module}
@@ -14,11 +52,13 @@ use Rattle.record_book.proofs.SpelledLemmas.{unnamed}
 quiet-written : (said : Content) → is_module said ≡ true → HasOneLineTexts said → IsQuiet (written 2 said)
 quiet-written (module_line name start ranges) is texts = record {
   text = byte-text 109 (32 ∷ (name ++ spelled (start ∷ ranges))) (λ e. omega (arith, e))
-      (byte-text 32 (name ++ spelled (start ∷ ranges)) (λ e. omega (arith, e)) (both-text name (spelled (start ∷ ranges)) texts (numbers-text (start ∷ ranges))));
+      (byte-text 32 (name ++ spelled (start ∷ ranges)) (λ e. omega (arith, e))
+      (both-text name (spelled (start ∷ ranges)) texts (numbers-text (start ∷ ranges))));
   no_event = refl;
   no_thread = unnamed 109 (32 ∷ (name ++ spelled (start ∷ ranges))) refl;
 }
-quiet-written clear_line is texts = record { text = literal-text (codes "m -") refl; no_event = refl; no_thread = unnamed 109 (codes " -") refl }
+quiet-written clear_line is texts =
+    record { text = literal-text (codes "m -") refl; no_event = refl; no_thread = unnamed 109 (codes " -") refl }
 quiet-written (version_line heaptrack file) is texts = absurd (true≢false (sym is))
 quiet-written (executable_line bytes) is texts = absurd (true≢false (sym is))
 quiet-written (command_line bytes) is texts = absurd (true≢false (sym is))
@@ -40,12 +80,17 @@ quiet-written (other_line bytes) is texts = absurd (true≢false (sym is))
 
 -- one quiet line in front of quiet bytes
 quiet-front : (line : List ℕ) (rest : List ℕ) → IsQuiet line → AreQuiet rest → AreQuiet ((line ++ 10 ∷ []) ++ rest)
-quiet-front line rest quiet are =
-    (line ∷ are.0, (quiet, are.1), append_assoc line (10 ∷ []) rest ∙ ap (λ (behind : List ℕ). line ++ (10 ∷ behind)) are.2)
+quiet-front line rest quiet are = (
+  line ∷ are.0,
+  (quiet, are.1),
+  append_assoc line (10 ∷ []) rest ∙ ap (λ (behind : List ℕ). line ++ (10 ∷ behind)) are.2,
+)
 
 quiet-said : (said : List Content) → AllByRecursion IsModuleSaid said → AreQuiet (module_lines said)
 quiet-said [] all = ([], tt, refl)
-quiet-said (first ∷ more) all = quiet-front (written 2 first) (module_lines more) (quiet-written first all.0.about all.0.texts) (quiet-said more all.1)
+quiet-said (first ∷ more) all =
+    quiet-front (written 2 first) (module_lines more) (quiet-written first all.0.about all.0.texts)
+    (quiet-said more all.1)
 
 pub quiet-modules : (modules : List ℕ) → AreModuleLines modules → AreQuiet modules
 quiet-modules modules are = subst AreQuiet (sym are.2) (quiet-said are.0 are.1)

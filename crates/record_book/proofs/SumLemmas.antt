@@ -24,7 +24,8 @@ one-past : (place x n : ℕ) → n ≤ place → sum_below (λ k. cond (place ==
 one-past place x zero past = refl
 one-past place x (suc n) past = by (one-past place x n (omega (arith, past))) (place == n) refl
   where
-    by : sum_below (λ k. cond (place == k) x 0) n ≡ 0 → (b : Bool) → (place == n) ≡ b → sum_below (λ k. cond (place == k) x 0) n + cond b x 0 ≡ 0
+    by : sum_below (λ k. cond (place == k) x 0) n ≡ 0 → (b : Bool) → (place == n) ≡ b
+        → sum_below (λ k. cond (place == k) x 0) n + cond b x 0 ≡ 0
     by rest true p = absurd (grind (arith, nat_tests, p, past))
     by rest false p = omega (arith, rest)
 
@@ -32,7 +33,8 @@ pub sum-one : (place x n : ℕ) → place < n → sum_below (λ k. cond (place =
 sum-one place x zero within = absurd (omega (arith, within))
 sum-one place x (suc n) within = by (λ less. sum-one place x n less) (place == n) refl
   where
-    by : (place < n → sum_below (λ k. cond (place == k) x 0) n ≡ x) → (b : Bool) → (place == n) ≡ b → sum_below (λ k. cond (place == k) x 0) n + cond b x 0 ≡ x
+    by : (place < n → sum_below (λ k. cond (place == k) x 0) n ≡ x) → (b : Bool) → (place == n) ≡ b
+        → sum_below (λ k. cond (place == k) x 0) n + cond b x 0 ≡ x
     by rest true p =
         let same : place ≡ n = grind (arith, nat_tests, p) in
         omega (arith, one-past place x n (omega (arith, same)))

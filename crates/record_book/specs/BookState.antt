@@ -1,5 +1,25 @@
 -- What a book stands for; the order with the next turn of a thread, and with several.
-use Rattle.std.specs.Prelude.{◌≡◌, ℕ, zero, suc, ◌<◌, ◌≤◌, Bool, true, false, List, [], ◌∷◌, ◌++◌, length, nat_lt, slice_get, Option, None, Some}
+use Rattle.std.specs.Prelude.{
+  ◌≡◌,
+  ℕ,
+  zero,
+  suc,
+  ◌<◌,
+  ◌≤◌,
+  Bool,
+  true,
+  false,
+  List,
+  [],
+  ◌∷◌,
+  ◌++◌,
+  length,
+  nat_lt,
+  slice_get,
+  Option,
+  None,
+  Some,
+}
 use Rattle.record_scripts.specs.Events.{Event, allocation, free}
 use Rattle.record_scripts.specs.Job.{Job}
 use Rattle.record_scripts.specs.Turns.{Turn, allocates, frees, reallocates}

@@ -1,5 +1,31 @@
 -- Stacks that are interned stay so while nodes grow, and a text that is known stays known.
-use Rattle.std.proofs.Common.{◌≡◌, ℕ, ◌+◌, ◌≤◌, Bool, true, false, cond, List, [], ◌∷◌, ◌++◌, length, None, Some, Option, refl, sym, ap, ◌∙◌, arith, subst, append-nil, length-append, eqb}
+use Rattle.std.proofs.Common.{
+  ◌≡◌,
+  ℕ,
+  ◌+◌,
+  ◌≤◌,
+  Bool,
+  true,
+  false,
+  cond,
+  List,
+  [],
+  ◌∷◌,
+  ◌++◌,
+  length,
+  None,
+  Some,
+  Option,
+  refl,
+  sym,
+  ap,
+  ◌∙◌,
+  arith,
+  subst,
+  append-nil,
+  length-append,
+  eqb,
+}
 use Rattle.std.specs.Prelude.{map, nat_lt, not, position, reverse, Ok}
 use Rattle.std.specs.List.{position_or_len}
 use Rattle.std.specs.Option.{option_map}
@@ -52,7 +78,8 @@ number-push nodes node none =
         let count = length-append nodes (node ∷ []) in
         let within : nat_lt (position_or_len test (nodes ++ node ∷ [])) (length (nodes ++ node ∷ [])) ≡ true =
         grind (arith, nat_tests, later past, count) in
-        ap (λ b. option_map (λ place. place + 1) (cond b (Some (position_or_len test (nodes ++ node ∷ []))) None)) within
+        ap (λ b. option_map (λ place. place + 1) (cond b (Some (position_or_len test (nodes ++ node ∷ []))) None))
+        within
         ∙ ap (λ n. Some (n + 1)) (later past)
 
 -- the nodes that stacks leave are the old ones and more

@@ -1,5 +1,24 @@
 -- One line about modules more.
-use Rattle.std.proofs.Common.{◌≡◌, ◌≢◌, ◌||◌, eqb, ℕ, Bool, true, false, List, [], ◌∷◌, ◌++◌, refl, ap, sym, ◌∙◌, append_assoc, append-nil}
+use Rattle.std.proofs.Common.{
+  ◌≡◌,
+  ◌≢◌,
+  ◌||◌,
+  eqb,
+  ℕ,
+  Bool,
+  true,
+  false,
+  List,
+  [],
+  ◌∷◌,
+  ◌++◌,
+  refl,
+  ap,
+  sym,
+  ◌∙◌,
+  append_assoc,
+  append-nil,
+}
 use Rattle.std.specs.List.{list_any}
 use Rattle.std.proofs.lemmas.Bool.{eqb-false}
 use Rattle.std.proofs.lemmas.List.Elements.{All-cons, All-nil}
@@ -10,17 +29,23 @@ use Rattle.record_scripts.specs.ModuleLine.{has_line_feed}
 use Rattle.record_scripts.specs.ModuleLines.{AreModuleLines, IsModuleSaid, module_lines}
 use Rattle.record_scripts.proofs.KeptLemmas.{all-push}
 
-text-push : (all : List Content) (said : Content) → module_lines all ++ (written 2 said ++ 10 ∷ []) ≡ module_lines (all ++ said ∷ [])
+text-push : (all : List Content) (said : Content)
+    → module_lines all ++ (written 2 said ++ 10 ∷ []) ≡ module_lines (all ++ said ∷ [])
 text-push [] said = sym (append-nil (written 2 said ++ 10 ∷ []))
 text-push (first ∷ all) said =
-    append_assoc (written 2 first ++ 10 ∷ []) (module_lines all) (written 2 said ++ 10 ∷ []) ∙ ap (λ (rest : List ℕ). (written 2 first ++ 10 ∷ []) ++ rest) (text-push all said)
+    append_assoc (written 2 first ++ 10 ∷ []) (module_lines all) (written 2 said ++ 10 ∷ [])
+    ∙ ap (λ (rest : List ℕ). (written 2 first ++ 10 ∷ []) ++ rest) (text-push all said)
 
 pub none-said : AreModuleLines []
 none-said = ([], tt, refl)
 
-pub lines-more : (modules : List ℕ) (said : Content) → AreModuleLines modules → IsModuleSaid said → AreModuleLines (modules ++ (written 2 said ++ 10 ∷ []))
-lines-more modules said are is =
-    (are.0 ++ said ∷ [], all-push IsModuleSaid are.0 said are.1 is, ap (λ (front : List ℕ). front ++ (written 2 said ++ 10 ∷ [])) are.2 ∙ text-push are.0 said)
+pub lines-more : (modules : List ℕ) (said : Content) → AreModuleLines modules → IsModuleSaid said
+    → AreModuleLines (modules ++ (written 2 said ++ 10 ∷ []))
+lines-more modules said are is = (
+  are.0 ++ said ∷ [],
+  all-push IsModuleSaid are.0 said are.1 is,
+  ap (λ (front : List ℕ). front ++ (written 2 said ++ 10 ∷ [])) are.2 ∙ text-push are.0 said,
+)
 
 or-false : (a b : Bool) → (a || b) ≡ false → (a ≡ false) × (b ≡ false)
 or-false true b h = absurd (cc)

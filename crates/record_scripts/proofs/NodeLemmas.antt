@@ -1,5 +1,40 @@
 -- Nodes of one frame each: a short stack is interned without a fault where there is room.
-use Rattle.std.proofs.Common.{◌≡◌, ℕ, zero, suc, ◌+◌, ◌-◌, ◌^◌, ◌<◌, ◌≤◌, ◌==◌, ◌&&◌, Bool, true, false, List, [], ◌∷◌, ◌++◌, length, get_or, None, Some, Option, refl, sym, ap, ap₂, ◌∙◌, arith, subst, ◌⊎◌, inl, inr, length-append}
+use Rattle.std.proofs.Common.{
+  ◌≡◌,
+  ℕ,
+  zero,
+  suc,
+  ◌+◌,
+  ◌-◌,
+  ◌^◌,
+  ◌<◌,
+  ◌≤◌,
+  ◌==◌,
+  ◌&&◌,
+  Bool,
+  true,
+  false,
+  List,
+  [],
+  ◌∷◌,
+  ◌++◌,
+  length,
+  get_or,
+  None,
+  Some,
+  Option,
+  refl,
+  sym,
+  ap,
+  ap₂,
+  ◌∙◌,
+  arith,
+  subst,
+  ◌⊎◌,
+  inl,
+  inr,
+  length-append,
+}
 use Rattle.std.specs.Prelude.{not, position, reverse, sum_by, slice_get, nat_lt}
 use Rattle.std.specs.Option.{option_eq, option_map}
 use Rattle.std.proofs.lemmas.List.{length-reverse, reverse-append, reverse-reverse}
@@ -27,10 +62,12 @@ depth-older node before n held =
     let older : outwards (node ∷ before) n ≡ outwards before n = grind (arith, nat_tests) in
     ap (λ (nodes : List Node). sum_by (λ node. node.frames) nodes) older
 
-depth-newest : (node : Node) (before : List Node) (n : ℕ) → n ≡ length before + 1 → depth (node ∷ before) n ≡ node.frames + depth before node.parent
+depth-newest : (node : Node) (before : List Node) (n : ℕ) → n ≡ length before + 1
+    → depth (node ∷ before) n ≡ node.frames + depth before node.parent
 depth-newest node before n is =
     let newest : outwards (node ∷ before) n ≡ node ∷ outwards before node.parent = grind (arith, nat_tests) in
-    ap (λ (nodes : List Node). sum_by (λ node. node.frames) nodes) newest ∙ sum_by-cons (λ node. node.frames) node (outwards before node.parent)
+    ap (λ (nodes : List Node). sum_by (λ node. node.frames) nodes) newest
+    ∙ sum_by-cons (λ node. node.frames) node (outwards before node.parent)
 
 get-front : {A : Type 0} → (xs ys : List A) (k : ℕ) → k < length xs → slice_get (xs ++ ys) k ≡ slice_get xs k
 get-front [] ys k within = absurd (omega (arith, within))
@@ -43,27 +80,38 @@ get-last [] x (suc k) is = absurd (omega (arith, is))
 get-last (y ∷ ys) x zero is = absurd (omega (arith, is))
 get-last (y ∷ ys) x (suc k) is = get-last ys x k (omega (arith, is))
 
-depth-step : (newest : Node) (before : List Node) (k : ℕ) (node : Node) → AreSingle (newest ∷ before) → slice_get (reverse before ++ newest ∷ []) k ≡ Some node
-    → (slice_get (reverse before) k ≡ Some node → (node.parent ≤ k) × (depth before (k + 1) ≡ depth before node.parent + 1))
-    → (k < length before) ⊎ (length before ≤ k) → (node.parent ≤ k) × (depth (newest ∷ before) (k + 1) ≡ depth (newest ∷ before) node.parent + 1)
+depth-step : (newest : Node) (before : List Node) (k : ℕ) (node : Node) → AreSingle (newest ∷ before)
+    → slice_get (reverse before ++ newest ∷ []) k ≡ Some node
+    → (slice_get (reverse before) k ≡ Some node
+    → (node.parent ≤ k) × (depth before (k + 1) ≡ depth before node.parent + 1))
+    → (k < length before) ⊎ (length before ≤ k)
+    → (node.parent ≤ k) × (depth (newest ∷ before) (k + 1) ≡ depth (newest ∷ before) node.parent + 1)
 depth-step newest before k node single at earlier (inl older) =
     let within : k < length (reverse before) = rw length-reverse older in
-    let found = earlier (sym (get-front (reverse before) (newest ∷ []) k within) ∙ at) in
-    (found.0, depth-older newest before (k + 1) (omega (arith, older)) ∙ found.1 ∙ ap (λ (n : ℕ). n + 1) (sym (depth-older newest before node.parent (omega (arith, older, found.0)))))
+    let found = earlier (sym (get-front (reverse before) (newest ∷ []) k within) ∙ at) in (
+      found.0,
+      depth-older newest before (k + 1) (omega (arith, older)) ∙ found.1
+          ∙ ap (λ (n : ℕ). n + 1) (sym (depth-older newest before node.parent (omega (arith, older, found.0)))),
+    )
 depth-step newest before k node single at earlier (inr last) =
     let within = slice_get_within (reverse before ++ newest ∷ []) k node at in
-    let place : k ≡ length (reverse before) = omega (arith, within, last, length-append (reverse before) (newest ∷ []), length-reverse before) in
+    let place : k ≡ length (reverse before) =
+    omega (arith, within, last, length-append (reverse before) (newest ∷ []), length-reverse before) in
     let same : newest ≡ node = same_Some newest node (sym (get-last (reverse before) newest k place) ∙ at) in
     let deep = depth-newest newest before (k + 1) (omega (arith, place, length-reverse before)) in
     let parent = depth-older newest before newest.parent single.1 in
-    let here : (newest.parent ≤ k) × (depth (newest ∷ before) (k + 1) ≡ depth (newest ∷ before) newest.parent + 1) = (omega (arith, single.1, last), omega (arith, deep, parent, single.0)) in
-    subst (λ (x : Node). (x.parent ≤ k) × (depth (newest ∷ before) (k + 1) ≡ depth (newest ∷ before) x.parent + 1)) same here
+    let here : (newest.parent ≤ k) × (depth (newest ∷ before) (k + 1) ≡ depth (newest ∷ before) newest.parent + 1) =
+    (omega (arith, single.1, last), omega (arith, deep, parent, single.0)) in
+    subst (λ (x : Node). (x.parent ≤ k) × (depth (newest ∷ before) (k + 1) ≡ depth (newest ∷ before) x.parent + 1)) same
+    here
 
 -- a node adds one frame to the stack of its parent, which stands before it
-depth-at : (back : List Node) (k : ℕ) (node : Node) → AreSingle back → slice_get (reverse back) k ≡ Some node → (node.parent ≤ k) × (depth back (k + 1) ≡ depth back node.parent + 1)
+depth-at : (back : List Node) (k : ℕ) (node : Node) → AreSingle back → slice_get (reverse back) k ≡ Some node
+    → (node.parent ≤ k) × (depth back (k + 1) ≡ depth back node.parent + 1)
 depth-at [] k node single at = absurd (grind (arith, at))
 depth-at (newest ∷ before) k node single at =
-    depth-step newest before k node single (subst (λ (nodes : List Node). slice_get nodes k ≡ Some node) (reverse-append (newest ∷ []) before) at)
+    depth-step newest before k node single
+    (subst (λ (nodes : List Node). slice_get nodes k ≡ Some node) (reverse-append (newest ∷ []) before) at)
     (λ found. depth-at before k node single.2 found) (cases_lt k (length before))
 
 -- where a node's number is known, it stands at the place before it
@@ -78,14 +126,16 @@ pub record HasNumber (nodes : List Node) (parent number : ℕ) : Type 0 where
 parent-of : (ip parent : ℕ) (node : Node) → is_call ip parent node ≡ true → node.parent ≡ parent
 parent-of ip parent node call = grind (arith, nat_tests)
 
-number-at : (nodes : List Node) (ip parent number : ℕ) → node_number nodes ip parent ≡ Some number → HasNumber nodes parent number
+number-at : (nodes : List Node) (ip parent number : ℕ) → node_number nodes ip parent ≡ Some number
+    → HasNumber nodes parent number
 unfolding node_number
 number-at nodes ip parent number is = by (position (is_call ip parent) nodes) refl is
   where
     none : Node
     none = record { ip = 0; parent = 0; frames = 0 }
 
-    by : (found : Option ℕ) → position (is_call ip parent) nodes ≡ found → option_map (λ place. place + 1) found ≡ Some number → HasNumber nodes parent number
+    by : (found : Option ℕ) → position (is_call ip parent) nodes ≡ found
+        → option_map (λ place. place + 1) found ≡ Some number → HasNumber nodes parent number
     by None at is = absurd (grind (arith, is))
     by (Some place) at is =
         let first = position-Some (is_call ip parent) nodes place none at in
@@ -105,7 +155,8 @@ pub record IsNext (nodes : List Node) (parent : ℕ) (after : Interned) : Type 0
   pub within : after.number ≤ length after.nodes
   pub few : length after.nodes ≤ length nodes + 1
 
-next : (nodes : List Node) (ip parent : ℕ) → AreSingle (reverse nodes) → parent ≤ length nodes → (number : Option ℕ) → node_number nodes ip parent ≡ number
+next : (nodes : List Node) (ip parent : ℕ) → AreSingle (reverse nodes) → parent ≤ length nodes → (number : Option ℕ)
+    → node_number nodes ip parent ≡ number
     → IsNext nodes parent (of_number nodes (record { ip = ip; parent = parent; frames = 1 }) number)
 unfolding frame_count stack_nodes
 next nodes ip parent single known (Some number) is =
@@ -113,7 +164,9 @@ next nodes ip parent single known (Some number) is =
     let deep = depth-at (reverse nodes) found.place found.node single (rw reverse-reverse found.at) in
     record {
       single = single;
-      deeper = ap (λ (n : ℕ). depth (reverse nodes) n) found.number_is ∙ deep.1 ∙ ap (λ (n : ℕ). depth (reverse nodes) n + 1) found.parent_is;
+      deeper =
+          ap (λ (n : ℕ). depth (reverse nodes) n) found.number_is ∙ deep.1
+          ∙ ap (λ (n : ℕ). depth (reverse nodes) n + 1) found.parent_is;
       within = omega (arith, found.number_is, found.within);
       few = omega arith;
     }
@@ -146,21 +199,30 @@ interned nodes (ip ∷ outer) single =
     let before = interned nodes outer single in
     let mid = stack_interned nodes outer in
     let after = next mid.nodes ip mid.number before.single before.within (node_number mid.nodes ip mid.number) refl in
-    record { single = after.single; deep = after.deeper ∙ ap (λ (n : ℕ). n + 1) before.deep ∙ omega arith; within = after.within; few = omega (arith, after.few, before.few) }
+    record {
+      single = after.single;
+      deep = after.deeper ∙ ap (λ (n : ℕ). n + 1) before.deep ∙ omega arith;
+      within = after.within;
+      few = omega (arith, after.few, before.few);
+    }
 
-node_fits : (nodes : List Node) (node : Node) → frame_count nodes node.parent + node.frames ≤ 4096 → length nodes < 2 ^ 32 - 2 → (number : Option ℕ) → fault_of_number nodes node number ≡ None
+node_fits : (nodes : List Node) (node : Node) → frame_count nodes node.parent + node.frames ≤ 4096
+    → length nodes < 2 ^ 32 - 2 → (number : Option ℕ) → fault_of_number nodes node number ≡ None
 node_fits nodes node shallow room (Some number) = refl
 node_fits nodes node shallow room None = grind (arith, nat_tests)
 
 -- a short stack has no fault where there is room
-pub no_fault : (nodes : List Node) (ips : List ℕ) → AreSingle (reverse nodes) → length nodes + length ips ≤ 2 ^ 32 - 2 → length ips ≤ 4096 → stack_fault nodes ips ≡ None
+pub no_fault : (nodes : List Node) (ips : List ℕ) → AreSingle (reverse nodes) → length nodes + length ips ≤ 2 ^ 32 - 2
+    → length ips ≤ 4096 → stack_fault nodes ips ≡ None
 no_fault nodes [] single room short = refl
 no_fault nodes (ip ∷ outer) single room short =
     let before = interned nodes outer single in
     let mid = stack_interned nodes outer in
     let earlier = no_fault nodes outer single (omega arith) (omega arith) in
     let known : nat_lt (length mid.nodes) mid.number ≡ false = grind (arith, nat_tests, before.within) in
-    rw (earlier, known) (node_fits mid.nodes (record { ip = ip; parent = mid.number; frames = 1 }) (omega (arith, before.deep)) (omega (arith, before.few)) (node_number mid.nodes ip mid.number))
+    rw (earlier, known)
+    (node_fits mid.nodes (record { ip = ip; parent = mid.number; frames = 1 }) (omega (arith, before.deep))
+    (omega (arith, before.few)) (node_number mid.nodes ip mid.number))
 
 -- each node is one frame
 single-at : (back : List Node) (k : ℕ) (node : Node) → AreSingle back

@@ -1,5 +1,45 @@
 -- A blank, digits, and then a blank or the end are the first field of a text, and its number.
-use Rattle.std.proofs.Common.{◌≡◌, ℕ, suc, ◌+◌, ◌-◌, ◌*◌, ◌^◌, ◌<◌, ◌≤◌, false, List, [], ◌∷◌, ◌++◌, length, take, drop, get_or, map, All, Some, IsTrue, refl, sym, ap, subst, ◌∙◌, inl, inr, ◌⊎◌, ◌≢◌, true, eqb, append-nil, length-append, length-take, take_all, arith, lt-ltb}
+use Rattle.std.proofs.Common.{
+  ◌≡◌,
+  ℕ,
+  suc,
+  ◌+◌,
+  ◌-◌,
+  ◌*◌,
+  ◌^◌,
+  ◌<◌,
+  ◌≤◌,
+  false,
+  List,
+  [],
+  ◌∷◌,
+  ◌++◌,
+  length,
+  take,
+  drop,
+  get_or,
+  map,
+  All,
+  Some,
+  IsTrue,
+  refl,
+  sym,
+  ap,
+  subst,
+  ◌∙◌,
+  inl,
+  inr,
+  ◌⊎◌,
+  ◌≢◌,
+  true,
+  eqb,
+  append-nil,
+  length-append,
+  length-take,
+  take_all,
+  arith,
+  lt-ltb,
+}
 use Rattle.std.specs.Prelude.{unwrap_or}
 use Rattle.std.proofs.lemmas.Bool.{eqb-true, false≢true}
 use Rattle.std.proofs.lemmas.Bool.Decides.{eqb_tells}
@@ -16,15 +56,18 @@ use Rattle.ht_lines.specs.Fields.{field_ends, fields, is_blank, number, numbers}
 use Rattle.record_scripts.specs.NumberAtFront.{BeginsWithDigits, BeginsWithNumber}
 
 -- one more digit fits 64 bits after at most 15 of them
-pub room-for-digit : (text : List ℕ) (i : ℕ) → i < 16 → AllDigits 16 (take i text) → digits_value 16 (take i text) * 16 + 15 < 2 ^ 64
+pub room-for-digit : (text : List ℕ) (i : ℕ) → i < 16 → AllDigits 16 (take i text)
+    → digits_value 16 (take i text) * 16 + 15 < 2 ^ 64
 room-for-digit text i few all =
-    let upto : 16 ^ length (take i text) ≤ 16 ^ 15 = pow-le-pow_right {n = 16} (omega arith) {i = length (take i text)} {j = 15} (omega (arith, length-take i text)) in
+    let upto : 16 ^ length (take i text) ≤ 16 ^ 15 =
+    pow-le-pow_right {n = 16} (omega arith) {i = length (take i text)} {j = 15} (omega (arith, length-take i text)) in
     omega (arith, digits_value-lt 16 (take i text) all, upto)
 
 -- digits end before a blank, and where the text ends
 pub ends-at : (text : List ℕ) (i : ℕ) → i < length text → get_or text i 0 ≡ 32 → IsTrue (field_ends (drop i text))
 ends-at text i within blank =
-    subst (λ (l : List ℕ). IsTrue (field_ends l)) (sym (drop-cons text i 0 within ∙ ap (λ b. b ∷ drop (suc i) text) blank)) refl
+    subst (λ (l : List ℕ). IsTrue (field_ends l))
+    (sym (drop-cons text i 0 within ∙ ap (λ b. b ∷ drop (suc i) text) blank)) refl
 
 pub ends-all : (text : List ℕ) (i : ℕ) → length text ≤ i → IsTrue (field_ends (drop i text))
 ends-all text i past = subst (λ (l : List ℕ). IsTrue (field_ends l)) (sym (drop_all i text past)) refl
@@ -41,7 +84,8 @@ digit-no_blank d is = by (eqb_tells d 32)
 
 digits-no_blank : (ds : List ℕ) → AllDigits 16 ds → All (λ b. is_blank b ≡ false) ds
 digits-no_blank [] all = All-nil (λ b. is_blank b ≡ false)
-digits-no_blank (d ∷ ds) all = All-cons (λ b. is_blank b ≡ false) d ds (digit-no_blank d all.0) (digits-no_blank ds all.1)
+digits-no_blank (d ∷ ds) all =
+    All-cons (λ b. is_blank b ≡ false) d ds (digit-no_blank d all.0) (digits-no_blank ds all.1)
 
 fields-nil : fields [] ≡ []
 unfolding fields
@@ -52,14 +96,18 @@ no-fields [] none = fields-nil
 no-fields (b ∷ bs) none = absurd (omega (arith, eqb-true (length (b ∷ bs)) 0 none))
 
 -- a piece between blanks is a field
-fields-at : (digits after : List ℕ) → 0 < length digits → All (λ b. is_blank b ≡ false) digits → IsTrue (field_ends after) → fields (32 ∷ (digits ++ after)) ≡ digits ∷ fields after
+fields-at : (digits after : List ℕ) → 0 < length digits → All (λ b. is_blank b ≡ false) digits
+    → IsTrue (field_ends after) → fields (32 ∷ (digits ++ after)) ≡ digits ∷ fields after
 unfolding fields
-fields-at digits [] some none ends = rw (append-nil digits, slice_split_none is_blank digits none, lt-ltb 0 (length digits) some) refl
-fields-at digits (b ∷ rest) some none ends = rw (slice_split_at is_blank digits b rest none ends, lt-ltb 0 (length digits) some, ends) refl
+fields-at digits [] some none ends =
+    rw (append-nil digits, slice_split_none is_blank digits none, lt-ltb 0 (length digits) some) refl
+fields-at digits (b ∷ rest) some none ends =
+    rw (slice_split_at is_blank digits b rest none ends, lt-ltb 0 (length digits) some, ends) refl
 
 module _ (text : List ℕ) (n : ℕ) (after : List ℕ) (found : BeginsWithNumber text n after) where
   first-field : fields text ≡ found.digits ∷ fields after
-  first-field = ap fields found.split ∙ fields-at found.digits after found.some (digits-no_blank found.digits found.all) found.ends
+  first-field =
+      ap fields found.split ∙ fields-at found.digits after found.some (digits-no_blank found.digits found.all) found.ends
 
   pub first-number : numbers text ≡ n ∷ numbers after
   first-number = ap (map number) first-field ∙ ap (λ o. unwrap_or o 0 ∷ numbers after) found.parsed
@@ -72,7 +120,8 @@ module _ (text : List ℕ) (n : ℕ) (after : List ℕ) (found : BeginsWithNumbe
 
 -- what the walk over the digits finds
 pub number-found : (text after : List ℕ) (count n : ℕ) → 1 ≤ length text → get_or text 0 0 ≡ 32
-    → BeginsWithDigits (take (length text - 1) (drop 1 text)) n count → after ≡ drop count (take (length text - 1) (drop 1 text)) → BeginsWithNumber text n after
+    → BeginsWithDigits (take (length text - 1) (drop 1 text)) n count
+    → after ≡ drop count (take (length text - 1) (drop 1 text)) → BeginsWithNumber text n after
 number-found [] after count n some blank found left = absurd (omega (arith, some))
 number-found (b ∷ bs) after count n some blank found left =
     let rest : List ℕ = take (length (b ∷ bs) - 1) bs in
@@ -80,9 +129,14 @@ number-found (b ∷ bs) after count n some blank found left =
     let size : length (take count rest) ≡ count = length-take-le count rest found.within in
     record {
       digits = take count rest;
-      split = ap (λ k. k ∷ bs) blank ∙ ap (λ l. 32 ∷ l) (sym whole ∙ (sym (take-append-drop count rest) ∙ ap (λ l. take count rest ++ l) (sym left)));
+      split =
+          ap (λ k. k ∷ bs) blank
+          ∙ ap (λ l. 32 ∷ l)
+          (sym whole ∙ (sym (take-append-drop count rest) ∙ ap (λ l. take count rest ++ l) (sym left)));
       some = omega (arith, size, found.some);
       all = found.digits;
-      parsed = parsed_digits (take count rest) (omega (arith, size, found.some)) (omega (arith, size, found.most)) found.digits ∙ ap Some (sym found.value);
+      parsed =
+          parsed_digits (take count rest) (omega (arith, size, found.some)) (omega (arith, size, found.most)) found.digits
+          ∙ ap Some (sym found.value);
       ends = subst (λ (l : List ℕ). IsTrue (field_ends l)) (sym left) found.ends;
     }

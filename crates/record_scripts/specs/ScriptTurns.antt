@@ -1,13 +1,42 @@
 -- How scripts are kept: each turn with the node of its stack, its ID and its size in two parts
 -- each. Turns are numbered where that number stands in the place of the stack.
-use Rattle.std.specs.Prelude.{◌≡◌, ℕ, ◌+◌, ◌*◌, ◌^◌, ◌<◌, ◌≤◌, Bool, if◌then◌else◌, Option, None, Some, List, [], ◌∷◌, length, map, reverse, vec_capacity, vec_len, Result, IfOk, OnOk, OnErr}
+use Rattle.std.specs.Prelude.{
+  ◌≡◌,
+  ℕ,
+  ◌+◌,
+  ◌*◌,
+  ◌^◌,
+  ◌<◌,
+  ◌≤◌,
+  Bool,
+  if◌then◌else◌,
+  Option,
+  None,
+  Some,
+  List,
+  [],
+  ◌∷◌,
+  length,
+  map,
+  reverse,
+  vec_capacity,
+  vec_len,
+  Result,
+  IfOk,
+  OnOk,
+  OnErr,
+}
 use Rattle.std.specs.List.{AllByRecursion}
 use Rattle.stack_table.specs.Node.{Node}
 use Rattle.stack_table.specs.Continues.{Continues}
 use Rattle.stack_table.specs.Interned.{stack_interned}
 use Rattle.stack_table.specs.Stack.{stack}
 use Rattle.record_scripts.specs.declared.script_line.ScriptLine.{ScriptLine}
-use Rattle.record_scripts.specs.declared.script_line.ScriptLine.TheVariants.{Allocation as AllocationLine, Free as FreeLine, Reallocation as ReallocationLine}
+use Rattle.record_scripts.specs.declared.script_line.ScriptLine.TheVariants.{
+  Allocation as AllocationLine,
+  Free as FreeLine,
+  Reallocation as ReallocationLine,
+}
 use Rattle.record_scripts.specs.declared.turn_entry.TurnEntry.{TurnEntry}
 use Rattle.record_scripts.specs.declared.script.Script.{Script}
 use Rattle.record_scripts.specs.Turns.{AreBounded, Turn, allocates, frees, reallocates, is_live}

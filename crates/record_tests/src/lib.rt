@@ -1,4 +1,4 @@
-//! Tests of the public calls of `record_scripts`, `record_book`, `recorder`, `order_check` and `recording`, and of both programs
+//! Tests of the public calls of `record_scripts`, `record_book`, `recorder`, `order_check` and `heaprec_commands`, and of both programs
 //! together, in a crate of their own: a crate that has tests is proved twice.
 //!
 //! | File | What it has |

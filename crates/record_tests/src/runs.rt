@@ -3,9 +3,9 @@ ghost use Rattle.std.specs.Prelude.{◌≡◌, ℕ, List, OnOk, None};
 ghost use Rattle.hp_outside.specs.Folder.{file_of};
 
 use crate::gates::Watch;
+use heaprec_commands::heaprec_run;
 use hp_num::{NoMemory, put_bytes, put_dec};
 use hp_outside::{Limits, MemSink, MemStore};
-use recording::heaprec_run;
 use std::alloc::Global;
 use std::process::Abort;
 use std::sync::Wait;

@@ -1,5 +1,32 @@
 -- The figures of the events that a recorded trace brings are those of its actions.
-use Rattle.std.proofs.Common.{◌≡◌, ℕ, zero, suc, ◌+◌, ◌<◌, Bool, true, false, List, [], ◌∷◌, ◌++◌, length, map, Option, None, Some, refl, sym, ap, ap₂, ◌∙◌, arith, length-append, true≢false}
+use Rattle.std.proofs.Common.{
+  ◌≡◌,
+  ℕ,
+  zero,
+  suc,
+  ◌+◌,
+  ◌<◌,
+  Bool,
+  true,
+  false,
+  List,
+  [],
+  ◌∷◌,
+  ◌++◌,
+  length,
+  map,
+  Option,
+  None,
+  Some,
+  refl,
+  sym,
+  ap,
+  ap₂,
+  ◌∙◌,
+  arith,
+  length-append,
+  true≢false,
+}
 use Rattle.std.specs.Prelude.{max, is_some, sum_by, unwrap_or, if◌then◌else◌}
 use Rattle.std.specs.List.{range_with_len}
 use Rattle.std.proofs.lemmas.List.{take-append-le, take_all}
@@ -35,58 +62,85 @@ greatest-push : (xs : List ℕ) (y : ℕ) → greatest (xs ++ y ∷ []) ≡ max 
 greatest-push [] y = refl
 greatest-push (x ∷ xs) y = omega (arith, greatest-push xs y)
 
-maps-same : (f g : ℕ → ℕ) (n : ℕ) → ((k : ℕ) → k < n → f k ≡ g k) → map f (range_with_len 0 n) ≡ map g (range_with_len 0 n)
+maps-same : (f g : ℕ → ℕ) (n : ℕ) → ((k : ℕ) → k < n → f k ≡ g k)
+    → map f (range_with_len 0 n) ≡ map g (range_with_len 0 n)
 maps-same f g zero same = refl
 maps-same f g (suc n) same =
     let up : suc n ≡ n + 1 = omega arith in
     ap (λ (m : ℕ). map f (range_with_len 0 m)) up ∙ map-range_with_len_more f 0 n n (omega arith)
-    ∙ ap₂ (λ (front : List ℕ) (x : ℕ). front ++ x ∷ []) (maps-same f g n (λ k less. same k (omega (arith, less)))) (same n (omega arith))
+    ∙ ap₂ (λ (front : List ℕ) (x : ℕ). front ++ x ∷ []) (maps-same f g n (λ k less. same k (omega (arith, less))))
+    (same n (omega arith))
     ∙ sym (ap (λ (m : ℕ). map g (range_with_len 0 m)) up ∙ map-range_with_len_more g 0 n n (omega arith))
 
 -- the total after one event more stands behind the others
-totals-push : (events : List Event) (e : Event) → totals (events ++ e ∷ []) ≡ totals events ++ live_bytes (events ++ e ∷ []) ∷ []
+totals-push : (events : List Event) (e : Event)
+    → totals (events ++ e ∷ []) ≡ totals events ++ live_bytes (events ++ e ∷ []) ∷ []
 totals-push events e =
     let n : ℕ = length events in
     let all : List Event = events ++ e ∷ [] in
     let count : length all ≡ n + 1 = length-append events (e ∷ []) in
-    ap (λ (m : ℕ). map (total all) (range_with_len 0 (m + 1))) count ∙ map-range_with_len_more (total all) 0 (n + 1) (n + 1) (omega arith)
+    ap (λ (m : ℕ). map (total all) (range_with_len 0 (m + 1))) count
+    ∙ map-range_with_len_more (total all) 0 (n + 1) (n + 1) (omega arith)
     ∙ ap₂ (λ (front : List ℕ) (x : ℕ). front ++ x ∷ [])
-    (maps-same (total all) (total events) (n + 1) (λ k less. ap live_bytes (take-append-le k events (e ∷ []) (omega (arith, less)))))
+    (maps-same (total all) (total events) (n + 1)
+    (λ k less. ap live_bytes (take-append-le k events (e ∷ []) (omega (arith, less)))))
     (ap live_bytes (take_all (n + 1) all (omega (arith, count))))
 
-peak-push : (events : List Event) (e : Event) (acts : List Action) (action : Action) → greatest (totals events) ≡ own.peak acts → live_bytes (events ++ e ∷ []) ≡ own.live_bytes every (action ∷ acts)
+peak-push : (events : List Event) (e : Event) (acts : List Action) (action : Action)
+    → greatest (totals events) ≡ own.peak acts → live_bytes (events ++ e ∷ []) ≡ own.live_bytes every (action ∷ acts)
     → greatest (totals (events ++ e ∷ [])) ≡ own.peak (action ∷ acts)
 peak-push events e acts action peak now =
-    ap greatest (totals-push events e) ∙ greatest-push (totals events) (live_bytes (events ++ e ∷ [])) ∙ ap₂ (λ (x y : ℕ). max x y) now peak
+    ap greatest (totals-push events e) ∙ greatest-push (totals events) (live_bytes (events ++ e ∷ []))
+    ∙ ap₂ (λ (x y : ℕ). max x y) now peak
 
 -- sums with an event more
 one-more : (f : Event → ℕ) (events : List Event) (e : Event) → sum_by f (events ++ e ∷ []) ≡ sum_by f events + f e
 one-more f events e = let h = sum_by-append f events (e ∷ []) in omega (arith, h)
 
-counted-push : (events : List Event) (e : Event) → is_counted e ≡ true → counted events ≡ events → counted (events ++ e ∷ []) ≡ events ++ e ∷ []
+counted-push : (events : List Event) (e : Event) → is_counted e ≡ true → counted events ≡ events
+    → counted (events ++ e ∷ []) ≡ events ++ e ∷ []
 counted-push events e is are =
-    filter-append is_counted events (e ∷ []) ∙ ap₂ (λ (front back : List Event). front ++ back) are (by (is_counted e) is)
+    filter-append is_counted events (e ∷ [])
+    ∙ ap₂ (λ (front back : List Event). front ++ back) are (by (is_counted e) is)
   where
     by : (b : Bool) → b ≡ true → (if b then (e ∷ []) else []) ≡ e ∷ []
     by true p = refl
     by false p = absurd (true≢false (sym p))
 
 pub events-none : AreEventsOf [] []
-events-none = record { counted_are = refl; count = refl; calls_are = refl; allocated_are = refl; bytes = refl; blocks = refl; peak_is = refl }
+events-none =
+    record {
+      counted_are = refl;
+      count = refl;
+      calls_are = refl;
+      allocated_are = refl;
+      bytes = refl;
+      blocks = refl;
+      peak_is = refl;
+    }
 
 -- an allocation more
-pub events-allocated : (events : List Event) (acts : List Action) (info node thread id size : ℕ) (ips : List ℕ) → AreEventsOf events acts → size_in (held_after acts) thread id ≡ None
-    → AreEventsOf (events ++ Alloc info node size ∷ []) (record { thread = thread; event = allocation id size ips } ∷ acts)
+pub events-allocated : (events : List Event) (acts : List Action) (info node thread id size : ℕ) (ips : List ℕ)
+    → AreEventsOf events acts → size_in (held_after acts) thread id ≡ None
+    → AreEventsOf (events ++ Alloc info node size ∷ [])
+    (record { thread = thread; event = allocation id size ips } ∷ acts)
 events-allocated events acts info node thread id size ips are none =
     let e : Event = Alloc info node size in
-    let live = bytes-split thread id acts ∙ ap (λ (o : Option ℕ). weigh (bytes_held every) (without thread id (held_after acts)) + unwrap_or o 0) none in
-    let few = count-split thread id acts ∙ ap (λ (o : Option ℕ). weigh (one_held every) (without thread id (held_after acts)) + (if is_some o then 1 else 0)) none in
+    let live =
+    bytes-split thread id acts
+    ∙ ap (λ (o : Option ℕ). weigh (bytes_held every) (without thread id (held_after acts)) + unwrap_or o 0) none in
+    let few =
+    count-split thread id acts
+    ∙ ap (λ (o : Option ℕ). weigh (one_held every) (without thread id (held_after acts))
+    + (if is_some o then 1 else 0)) none in
     let count = sum_by-append (λ (e : Event). if is_counted e then 1 else 0) events (e ∷ []) in
     let called = sum_by-append (λ (e : Event). if is_alloc e then 1 else 0) events (e ∷ []) in
     let freed = sum_by-append (λ (e : Event). if is_free e then 1 else 0) events (e ∷ []) in
     let sizes = one-more alloc_size events e in
     let gone = one-more free_size events e in
-    let now : live_bytes (events ++ e ∷ []) ≡ own.live_bytes every (record { thread = thread; event = allocation id size ips } ∷ acts) = omega (arith, sizes, gone, live, are.bytes) in
+    let now : live_bytes (events ++ e ∷ [])
+    ≡ own.live_bytes every (record { thread = thread; event = allocation id size ips } ∷ acts) =
+    omega (arith, sizes, gone, live, are.bytes) in
     record {
       counted_are = counted-push events e refl are.counted_are;
       count = omega (arith, count, are.count);
@@ -98,18 +152,26 @@ events-allocated events acts info node thread id size ips are none =
     }
 
 -- a free of a live block more
-pub events-freed : (events : List Event) (acts : List Action) (info node thread id size : ℕ) (rejoined : Bool) → AreEventsOf events acts → size_in (held_after acts) thread id ≡ Some size
+pub events-freed : (events : List Event) (acts : List Action) (info node thread id size : ℕ) (rejoined : Bool)
+    → AreEventsOf events acts → size_in (held_after acts) thread id ≡ Some size
     → AreEventsOf (events ++ Free info node size ∷ []) (record { thread = thread; event = free id rejoined } ∷ acts)
 events-freed events acts info node thread id size rejoined are some =
     let e : Event = Free info node size in
-    let live = bytes-split thread id acts ∙ ap (λ (o : Option ℕ). weigh (bytes_held every) (without thread id (held_after acts)) + unwrap_or o 0) some in
-    let few = count-split thread id acts ∙ ap (λ (o : Option ℕ). weigh (one_held every) (without thread id (held_after acts)) + (if is_some o then 1 else 0)) some in
+    let live =
+    bytes-split thread id acts
+    ∙ ap (λ (o : Option ℕ). weigh (bytes_held every) (without thread id (held_after acts)) + unwrap_or o 0) some in
+    let few =
+    count-split thread id acts
+    ∙ ap (λ (o : Option ℕ). weigh (one_held every) (without thread id (held_after acts))
+    + (if is_some o then 1 else 0)) some in
     let count = sum_by-append (λ (e : Event). if is_counted e then 1 else 0) events (e ∷ []) in
     let called = sum_by-append (λ (e : Event). if is_alloc e then 1 else 0) events (e ∷ []) in
     let freed = sum_by-append (λ (e : Event). if is_free e then 1 else 0) events (e ∷ []) in
     let sizes = one-more alloc_size events e in
     let gone = one-more free_size events e in
-    let now : live_bytes (events ++ e ∷ []) ≡ own.live_bytes every (record { thread = thread; event = free id rejoined } ∷ acts) = omega (arith, sizes, gone, live, are.bytes) in
+    let now : live_bytes (events ++ e ∷ [])
+    ≡ own.live_bytes every (record { thread = thread; event = free id rejoined } ∷ acts) =
+    omega (arith, sizes, gone, live, are.bytes) in
     record {
       counted_are = counted-push events e refl are.counted_are;
       count = omega (arith, count, are.count);

@@ -1,5 +1,24 @@
 -- Lemmas on lists of nodes that grow.
-use Rattle.std.proofs.Common.{◌≡◌, ℕ, List, [], ◌∷◌, ◌++◌, length, take, drop, refl, sym, ap, ◌∙◌, arith, subst, append_assoc, append-nil, length-append}
+use Rattle.std.proofs.Common.{
+  ◌≡◌,
+  ℕ,
+  List,
+  [],
+  ◌∷◌,
+  ◌++◌,
+  length,
+  take,
+  drop,
+  refl,
+  sym,
+  ap,
+  ◌∙◌,
+  arith,
+  subst,
+  append_assoc,
+  append-nil,
+  length-append,
+}
 use Rattle.std.proofs.lemmas.List.{take-append-drop}
 use Rattle.std.proofs.Math.Seq.{take-append_seam}
 use Rattle.stack_table.specs.Continues.{Continues}
@@ -19,9 +38,14 @@ Continues-refl nodes = record {
 }
 
 -- what continues a list that continues another continues that one
-pub Continues-trans : (first second third : List Node) → Continues first second → Continues second third → Continues first third
+pub Continues-trans : (first second third : List Node) → Continues first second → Continues second third
+    → Continues first third
 Continues-trans first second third one two = record {
-  grown = (one.grown.0 ++ two.grown.0, two.grown.1 ∙ ap (λ (nodes : List Node). nodes ++ two.grown.0) one.grown.1 ∙ append_assoc first one.grown.0 two.grown.0);
+  grown = (
+    one.grown.0 ++ two.grown.0,
+    two.grown.1 ∙ ap (λ (nodes : List Node). nodes ++ two.grown.0) one.grown.1
+        ∙ append_assoc first one.grown.0 two.grown.0,
+  );
   held = omega (arith, one.held, two.held);
   nodes = λ n held. two.nodes n (omega (arith, one.held)) ∙ one.nodes n held;
   stacks = λ n held. two.stacks n (omega (arith, one.held)) ∙ one.stacks n held;
@@ -41,19 +65,24 @@ Continues-push nodes node =
       frame_counts = λ n held. frame_count-older nodes node n held;
       numbers = λ ip parent n is.
           let number = number-is nodes ip parent n is in
-          number-shared nodes (nodes ++ node ∷ []) (length nodes) ip parent n (λ m held. node_at-older nodes node m held) number.within is;
+          number-shared nodes (nodes ++ node ∷ []) (length nodes) ip parent n
+          (λ m held. node_at-older nodes node m held) number.within is;
     }
 
 -- a list with more nodes
 pub Continues-append : (nodes more : List Node) → Continues nodes (nodes ++ more)
-Continues-append nodes [] = subst (λ (new : List Node). Continues nodes new) (sym (append-nil nodes)) (Continues-refl nodes)
+Continues-append nodes [] =
+    subst (λ (new : List Node). Continues nodes new) (sym (append-nil nodes)) (Continues-refl nodes)
 Continues-append nodes (node ∷ more) =
     subst (λ (new : List Node). Continues nodes new) (append_assoc nodes (node ∷ []) more)
-    (Continues-trans nodes (nodes ++ node ∷ []) ((nodes ++ node ∷ []) ++ more) (Continues-push nodes node) (Continues-append (nodes ++ node ∷ []) more))
+    (Continues-trans nodes (nodes ++ node ∷ []) ((nodes ++ node ∷ []) ++ more) (Continues-push nodes node)
+    (Continues-append (nodes ++ node ∷ []) more))
 
 -- a list is continued by the one that it was taken from
 pub Continues-take : (len : ℕ) (nodes : List Node) → Continues (take len nodes) nodes
-Continues-take len nodes = subst (λ (new : List Node). Continues (take len nodes) new) (take-append-drop len nodes) (Continues-append (take len nodes) (drop len nodes))
+Continues-take len nodes =
+    subst (λ (new : List Node). Continues (take len nodes) new) (take-append-drop len nodes)
+    (Continues-append (take len nodes) (drop len nodes))
 
 -- the list that is continued stands at the front
 pub take-continued : (old new : List Node) (len : ℕ) → Continues old new → len ≡ length old → take len new ≡ old

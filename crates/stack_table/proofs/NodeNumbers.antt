@@ -1,5 +1,33 @@
 -- Lemmas on the least number of a node with an instruction pointer and a parent.
-use Rattle.std.proofs.Common.{◌≡◌, ℕ, ◌+◌, ◌-◌, ◌<◌, ◌≤◌, true, false, List, [], ◌∷◌, ◌++◌, length, get_or, None, Some, Option, refl, sym, ap, ◌∙◌, arith, subst, ◌⊎◌, inl, inr, true≢false}
+use Rattle.std.proofs.Common.{
+  ◌≡◌,
+  ℕ,
+  ◌+◌,
+  ◌-◌,
+  ◌<◌,
+  ◌≤◌,
+  true,
+  false,
+  List,
+  [],
+  ◌∷◌,
+  ◌++◌,
+  length,
+  get_or,
+  None,
+  Some,
+  Option,
+  refl,
+  sym,
+  ap,
+  ◌∙◌,
+  arith,
+  subst,
+  ◌⊎◌,
+  inl,
+  inr,
+  true≢false,
+}
 use Rattle.std.specs.Prelude.{position}
 use Rattle.std.specs.List.{position_or_len}
 use Rattle.std.proofs.lemmas.Bool.{cases_lt, cases_Bool}
@@ -14,7 +42,8 @@ use Rattle.stack_table.specs.LowerParents.{HasLowerParents}
 use Rattle.stack_table.proofs.Stacks.{node_at-within, node_at-older, node_at-newest}
 
 -- the node after a place
-pub node_at-get_or : (nodes : List Node) (k : ℕ) (d : Node) → k < length nodes → node_at nodes (k + 1) ≡ Some (get_or nodes k d)
+pub node_at-get_or : (nodes : List Node) (k : ℕ) (d : Node) → k < length nodes
+    → node_at nodes (k + 1) ≡ Some (get_or nodes k d)
 node_at-get_or nodes k d within =
     let found = slice_get-get_or nodes k d within in
     let back : k + 1 - 1 ≡ k = omega arith in
@@ -25,7 +54,8 @@ node-here : (nodes : List Node) (n : ℕ) (node d : Node) → node_at nodes n �
 node-here nodes n node d is =
     let within = node_at-within nodes n node is in
     let number : n - 1 + 1 ≡ n = omega arith in
-    same_Some node (get_or nodes (n - 1) d) (sym is ∙ ap (λ (m : ℕ). node_at nodes m) (sym number) ∙ node_at-get_or nodes (n - 1) d (omega arith))
+    same_Some node (get_or nodes (n - 1) d)
+    (sym is ∙ ap (λ (m : ℕ). node_at nodes m) (sym number) ∙ node_at-get_or nodes (n - 1) d (omega arith))
 
 -- what the test says
 pub call-is : (ip parent : ℕ) (node : Node) → is_call ip parent node ≡ true → (node.ip ≡ ip) × (node.parent ≡ parent)
@@ -41,10 +71,13 @@ passed-zero nodes ip parent = record {
 }
 
 -- one more node is passed
-pub passed-next : (nodes : List Node) (ip parent k : ℕ) (node : Node) → IsPassed nodes ip parent k → node_at nodes (k + 1) ≡ Some node → is_call ip parent node ≡ false → IsPassed nodes ip parent (k + 1)
-passed-next nodes ip parent k node passed is other = record { none = λ n found few at. each n found few at (cases_lt k n) }
+pub passed-next : (nodes : List Node) (ip parent k : ℕ) (node : Node) → IsPassed nodes ip parent k
+    → node_at nodes (k + 1) ≡ Some node → is_call ip parent node ≡ false → IsPassed nodes ip parent (k + 1)
+passed-next nodes ip parent k node passed is other =
+    record { none = λ n found few at. each n found few at (cases_lt k n) }
   where
-    each : (n : ℕ) (found : Node) → n ≤ k + 1 → node_at nodes n ≡ Some found → (k < n) ⊎ (n ≤ k) → is_call ip parent found ≡ false
+    each : (n : ℕ) (found : Node) → n ≤ k + 1 → node_at nodes n ≡ Some found → (k < n) ⊎ (n ≤ k)
+        → is_call ip parent found ≡ false
     each n found few at (inl past) =
         let last : k + 1 ≡ n = omega arith in
         let same : node ≡ found = same_Some node found (sym is ∙ ap (λ (m : ℕ). node_at nodes m) last ∙ at) in
@@ -52,7 +85,8 @@ passed-next nodes ip parent k node passed is other = record { none = λ n found 
     each n found few at (inr before) = passed.none n found before at
 
 -- the first node that passes has its number
-pub number-found : (nodes : List Node) (ip parent n : ℕ) (node : Node) → IsPassed nodes ip parent (n - 1) → node_at nodes n ≡ Some node → is_call ip parent node ≡ true → node_number nodes ip parent ≡ Some n
+pub number-found : (nodes : List Node) (ip parent n : ℕ) (node : Node) → IsPassed nodes ip parent (n - 1)
+    → node_at nodes n ≡ Some node → is_call ip parent node ≡ true → node_number nodes ip parent ≡ Some n
 unfolding node_number
 number-found nodes ip parent n node passed is call =
     let within = node_at-within nodes n node is in
@@ -65,7 +99,8 @@ number-found nodes ip parent n node passed is call =
     grind (arith, nat_tests, place, number)
 
 -- where none passes, there is no number
-pub number-none : (nodes : List Node) (ip parent count : ℕ) → IsPassed nodes ip parent count → length nodes ≤ count → node_number nodes ip parent ≡ None
+pub number-none : (nodes : List Node) (ip parent count : ℕ) → IsPassed nodes ip parent count → length nodes ≤ count
+    → node_number nodes ip parent ≡ None
 unfolding node_number
 number-none nodes ip parent count passed all =
     let outside : Node = record { ip = 0; parent = 0; frames = 0 } in
@@ -90,23 +125,30 @@ pub record HasNumber (nodes : List Node) (ip parent n : ℕ) : Type 0 where
   pub few : number ≤ n
   pub is : node_number nodes ip parent ≡ Some number
 
-pub number-exists : (nodes : List Node) (ip parent n : ℕ) (node : Node) → node_at nodes n ≡ Some node → is_call ip parent node ≡ true → HasNumber nodes ip parent n
+pub number-exists : (nodes : List Node) (ip parent n : ℕ) (node : Node) → node_at nodes n ≡ Some node
+    → is_call ip parent node ≡ true → HasNumber nodes ip parent n
 unfolding node_number
 number-exists nodes ip parent n node is call = by (cases_lt (n - 1) (position_or_len (is_call ip parent) nodes))
   where
     within : (0 < n) × (n ≤ length nodes)
     within = node_at-within nodes n node is
 
-    by : (n - 1 < position_or_len (is_call ip parent) nodes) ⊎ (position_or_len (is_call ip parent) nodes ≤ n - 1) → HasNumber nodes ip parent n
+    by : (n - 1 < position_or_len (is_call ip parent) nodes) ⊎ (position_or_len (is_call ip parent) nodes ≤ n - 1)
+        → HasNumber nodes ip parent n
     by (inl past) =
         let bounds = within in
         let fails = fails_before_first (is_call ip parent) nodes (n - 1) node past in
         absurd (true≢false (sym call ∙ ap (λ (x : Node). is_call ip parent x) (node-here nodes n node node is) ∙ fails))
     by (inr first) =
         let bounds = within in
-        record { number = position_or_len (is_call ip parent) nodes + 1; few = omega arith; is = grind (arith, nat_tests) }
+        record {
+          number = position_or_len (is_call ip parent) nodes + 1;
+          few = omega arith;
+          is = grind (arith, nat_tests);
+        }
 
-pub number-is : (nodes : List Node) (ip parent n : ℕ) → node_number nodes ip parent ≡ Some n → IsNumber nodes ip parent n
+pub number-is : (nodes : List Node) (ip parent n : ℕ) → node_number nodes ip parent ≡ Some n
+    → IsNumber nodes ip parent n
 unfolding node_number
 number-is nodes ip parent n is =
     let outside : Node = record { ip = 0; parent = 0; frames = 0 } in
@@ -128,7 +170,9 @@ number-is nodes ip parent n is =
     }
 
 -- lists that share their first nodes share the numbers of these
-pub number-shared : (nodes others : List Node) (shared ip parent n : ℕ) → ((m : ℕ) → m ≤ shared → node_at others m ≡ node_at nodes m) → n ≤ shared → node_number nodes ip parent ≡ Some n → node_number others ip parent ≡ Some n
+pub number-shared : (nodes others : List Node) (shared ip parent n : ℕ)
+    → ((m : ℕ) → m ≤ shared → node_at others m ≡ node_at nodes m) → n ≤ shared → node_number nodes ip parent ≡ Some n
+    → node_number others ip parent ≡ Some n
 number-shared nodes others shared ip parent n same within is =
     let found = number-is nodes ip parent n is in
     number-found others ip parent n found.node
@@ -136,10 +180,13 @@ number-shared nodes others shared ip parent n same within is =
     (same n within ∙ found.at) found.call
 
 -- where there is no number, none of the nodes passes
-pub passed-none : (nodes : List Node) (ip parent count : ℕ) → node_number nodes ip parent ≡ None → IsPassed nodes ip parent count
-passed-none nodes ip parent count none = record { none = λ n node few is. each n node is (cases_Bool (is_call ip parent node)) }
+pub passed-none : (nodes : List Node) (ip parent count : ℕ) → node_number nodes ip parent ≡ None
+    → IsPassed nodes ip parent count
+passed-none nodes ip parent count none =
+    record { none = λ n node few is. each n node is (cases_Bool (is_call ip parent node)) }
   where
-    each : (n : ℕ) (node : Node) → node_at nodes n ≡ Some node → (is_call ip parent node ≡ true) ⊎ (is_call ip parent node ≡ false) → is_call ip parent node ≡ false
+    each : (n : ℕ) (node : Node) → node_at nodes n ≡ Some node
+        → (is_call ip parent node ≡ true) ⊎ (is_call ip parent node ≡ false) → is_call ip parent node ≡ false
     each n node is (inl call) =
         let number = number-exists nodes ip parent n node is call in
         let both = sym none ∙ number.is in
@@ -147,16 +194,21 @@ passed-none nodes ip parent count none = record { none = λ n node few is. each 
     each n node is (inr fails) = fails
 
 -- a node that is new has the number that is the new count
-pub number-push : (nodes : List Node) (node : Node) → node_number nodes node.ip node.parent ≡ None → node_number (nodes ++ node ∷ []) node.ip node.parent ≡ Some (length nodes + 1)
+pub number-push : (nodes : List Node) (node : Node) → node_number nodes node.ip node.parent ≡ None
+    → node_number (nodes ++ node ∷ []) node.ip node.parent ≡ Some (length nodes + 1)
 number-push nodes node none =
     let back : length nodes + 1 - 1 ≡ length nodes = omega arith in
     let before = passed-none nodes node.ip node.parent (length nodes) none in
     number-found (nodes ++ node ∷ []) node.ip node.parent (length nodes + 1) node
-    (record { none = λ n found few is. before.none n found (omega arith) (sym (node_at-older nodes node n (omega arith)) ∙ is) })
+    (record {
+      none = λ n found few is. before.none n found (omega arith)
+          (sym (node_at-older nodes node n (omega arith)) ∙ is);
+    })
     (node_at-newest nodes node (length nodes + 1) refl) (call-own node)
 
 -- a node that is called from none of the nodes has no number
-pub number-unknown : (nodes : List Node) (ip parent : ℕ) → HasLowerParents nodes → length nodes < parent → node_number nodes ip parent ≡ None
+pub number-unknown : (nodes : List Node) (ip parent : ℕ) → HasLowerParents nodes → length nodes < parent
+    → node_number nodes ip parent ≡ None
 number-unknown nodes ip parent law above = by (node_number nodes ip parent) refl
   where
     by : (found : Option ℕ) → node_number nodes ip parent ≡ found → found ≡ None

@@ -1,5 +1,30 @@
 -- Lemmas on stacks that a tree can't tell apart.
-use Rattle.std.proofs.Common.{◌≡◌, ℕ, zero, suc, ◌+◌, ◌<◌, ◌≤◌, ◌&&◌, Bool, true, false, cond, List, [], ◌∷◌, length, map, take, Some, refl, sym, ap, ◌∙◌, arith}
+use Rattle.std.proofs.Common.{
+  ◌≡◌,
+  ℕ,
+  zero,
+  suc,
+  ◌+◌,
+  ◌<◌,
+  ◌≤◌,
+  ◌&&◌,
+  Bool,
+  true,
+  false,
+  cond,
+  List,
+  [],
+  ◌∷◌,
+  length,
+  map,
+  take,
+  Some,
+  refl,
+  sym,
+  ap,
+  ◌∙◌,
+  arith,
+}
 use Rattle.std.specs.Prelude.{nat_lt, slice_get}
 use Rattle.std.proofs.lemmas.Bool.Decides.{same_from_decides}
 use Rattle.std.proofs.lemmas.List.{length-take, take_all}
@@ -30,15 +55,18 @@ counts zero false false same = refl
 counts (suc n) passes passes' same = ap (λ (b : Bool). cond b (suc n) 0) (same (omega arith))
 
 -- whether it costs something and passes
-chosen : (cost : ℕ) (passes passes' : Bool) → (0 < cost → passes ≡ passes') → (nat_lt 0 cost && passes) ≡ (nat_lt 0 cost && passes')
+chosen : (cost : ℕ) (passes passes' : Bool) → (0 < cost → passes ≡ passes')
+    → (nat_lt 0 cost && passes) ≡ (nat_lt 0 cost && passes')
 chosen zero passes passes' same = refl
 chosen (suc n) passes passes' same = ap (λ (b : Bool). nat_lt 0 (suc n) && b) (same (omega arith))
 
-own-cons : (front : List (List ℕ)) (stack : Costed) (stacks : List Costed) → own front (stack ∷ stacks) ≡ cond (is_front front stack.texts) stack.cost 0 + own front stacks
+own-cons : (front : List (List ℕ)) (stack : Costed) (stacks : List Costed)
+    → own front (stack ∷ stacks) ≡ cond (is_front front stack.texts) stack.cost 0 + own front stacks
 unfolding own
 own-cons front stack stacks = sum_by-cons (λ (s : Costed). cond (is_front front s.texts) s.cost 0) stack stacks
 
-IsSameTo-cons : (depth cost : ℕ) (texts other : List (List ℕ)) (stacks others : List Costed) → AreAlike depth cost texts other → IsSameTo depth stacks others
+IsSameTo-cons : (depth cost : ℕ) (texts other : List (List ℕ)) (stacks others : List Costed)
+    → AreAlike depth cost texts other → IsSameTo depth stacks others
     → IsSameTo depth (record { texts = texts; cost = cost } ∷ stacks) (record { texts = other; cost = cost } ∷ others)
 IsSameTo-cons depth cost texts other stacks others alike same = record {
   inclusive = λ front short.
@@ -55,7 +83,8 @@ IsSameTo-cons depth cost texts other stacks others alike same = record {
       omega arith;
   least = λ front short.
       least-cons front (record { texts = texts; cost = cost }) stacks
-      ∙ ap (λ (b : Bool). cond b 0 (1 + least front stacks)) (chosen cost (has_front front texts) (has_front front other) (alike.begins front short))
+      ∙ ap (λ (b : Bool). cond b 0 (1 + least front stacks))
+      (chosen cost (has_front front texts) (has_front front other) (alike.begins front short))
       ∙ ap (λ (n : ℕ). cond (nat_lt 0 cost && has_front front other) 0 (1 + n)) (same.least front short)
       ∙ sym (least-cons front (record { texts = other; cost = cost }) others);
 }
@@ -65,20 +94,26 @@ pub IsSameTo-map : (depth : ℕ) (f g : ℕ → List (List ℕ)) (ns costs : Lis
     → ((k n cost : ℕ) → slice_get ns k ≡ Some n → slice_get costs k ≡ Some cost → AreAlike depth cost (f n) (g n))
     → IsSameTo depth (costed (map f ns) costs) (costed (map g ns) costs)
 unfolding costed
-IsSameTo-map depth f g [] costs alike = record { inclusive = λ front short. refl; own = λ front short. refl; least = λ front short. refl }
-IsSameTo-map depth f g (n ∷ ns) [] alike = record { inclusive = λ front short. refl; own = λ front short. refl; least = λ front short. refl }
+IsSameTo-map depth f g [] costs alike =
+    record { inclusive = λ front short. refl; own = λ front short. refl; least = λ front short. refl }
+IsSameTo-map depth f g (n ∷ ns) [] alike =
+    record { inclusive = λ front short. refl; own = λ front short. refl; least = λ front short. refl }
 IsSameTo-map depth f g (n ∷ ns) (cost ∷ costs) alike =
-    IsSameTo-cons depth cost (f n) (g n) (costed (map f ns) costs) (costed (map g ns) costs) (alike zero n cost refl refl)
+    IsSameTo-cons depth cost (f n) (g n) (costed (map f ns) costs) (costed (map g ns) costs)
+    (alike zero n cost refl refl)
     (IsSameTo-map depth f g ns costs (λ k m c at held. alike (suc k) m c at held))
 
 -- a tree of one is a tree of the other
-pub IsTreeOf-same : (tree : TreeState) (stacks other : List Costed) (depth : ℕ) → IsSameTo depth stacks other → IsTreeOf tree stacks depth → IsTreeOf tree other depth
+pub IsTreeOf-same : (tree : TreeState) (stacks other : List Costed) (depth : ℕ) → IsSameTo depth stacks other
+    → IsTreeOf tree stacks depth → IsTreeOf tree other depth
 IsTreeOf-same tree stacks other depth same is = record {
   root = is.root;
   count = is.count;
   distinct = is.distinct;
   complete = λ front short some. let sums = same.inclusive front short in is.complete front short (omega arith);
-  only = λ n front above at. let sums = same.inclusive front (is.short n front at) in let some = is.only n front above at in omega arith;
+  only =
+      λ n front above at. let sums = same.inclusive front (is.short n front at) in let some = is.only n front above
+      at in omega arith;
   short = is.short;
   figures = λ n front node front_at node_at.
       let short = is.short n front front_at in
@@ -96,10 +131,12 @@ IsTreeOf-same tree stacks other depth same is = record {
 }
 
 -- whether a list is a front is told by its first texts, one more than the front may have
-is_front-take : (front texts : List (List ℕ)) (n : ℕ) → length front ≤ n → is_front front (take (n + 1) texts) ≡ is_front front texts
+is_front-take : (front texts : List (List ℕ)) (n : ℕ) → length front ≤ n
+    → is_front front (take (n + 1) texts) ≡ is_front front texts
 is_front-take front texts n within =
     let cut = length-take (n + 1) texts in
-    same_from_decides (is_front front (take (n + 1) texts)) (is_front front texts) (is_front-Decides front (take (n + 1) texts)) (
+    same_from_decides (is_front front (take (n + 1) texts)) (is_front front texts)
+    (is_front-Decides front (take (n + 1) texts)) (
       (λ has.
           let same = (is_front-Decides front texts).0 has in
           let count = ap (λ (xs : List (List ℕ)). length xs) same in

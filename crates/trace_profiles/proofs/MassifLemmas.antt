@@ -14,7 +14,8 @@ unfolding count_ones
 one-bit = refl
 
 -- of a number with one bit set nothing is left without its highest one
-nothing-left : (n power : ℕ) → count_ones n ≡ 1 → power ≤ n → count_ones n ≡ count_ones 1 + count_ones (n - power) → n ≡ power
+nothing-left : (n power : ℕ) → count_ones n ≡ 1 → power ≤ n → count_ones n ≡ count_ones 1 + count_ones (n - power)
+    → n ≡ power
 nothing-left n power one most split =
     let rest : n - power ≡ 0 = zero_from_ones (n - power) (omega (arith, split, one, one-bit)) in
     omega (arith, rest, most)

@@ -17,7 +17,9 @@ lines-init g c =
       sound = c.requires.sound;
       weight = omega arith;
       report = refl;
-      front = subst (λ (bytes : ℕ). HasGivenFront report has has c.args.ready.now bytes 0 output output) none (nothing_taken report has c.args.ready.now);
+      front =
+          subst (λ (bytes : ℕ). HasGivenFront report has has c.args.ready.now bytes 0 output output) none
+          (nothing_taken report has c.args.ready.now);
     }
 
 pub lines-preserved : goal.lines-preserved
@@ -32,7 +34,8 @@ lines-preserved g c =
     let more = c.in-Some.bytes in
     let one : HasGivenLine report old new (drop bytes c.args.ready.now) more before after =
     subst (λ (part : List ℕ). HasGivenLine report old new part more before after) held.left.is
-    (subst (λ (r : Report). HasGivenLine r old new c.lines.rest.now more before after) held.report c.in-Some.ensures.taken) in
+    (subst (λ (r : Report). HasGivenLine r old new c.lines.rest.now more before after) held.report
+    c.in-Some.ensures.taken) in
     let within = line_within _ _ _ c.lines.rest.now more c.in-Some.ensures.taken in
     let some = line_some _ _ _ c.lines.rest.now more c.in-Some.ensures.taken in
     let next = passes_more c.args.ready.now c.lines.rest.now more held.left within in
@@ -42,15 +45,21 @@ lines-preserved g c =
       sound = c.front.ensures.sound;
       weight = omega (arith, c.in-Some.ensures.weight, held.weight, next.size);
       report = c.front.ensures.report ∙ held.report;
-      front = subst (λ (n : ℕ). HasGivenFront report (g.T.LineTaker.has_taken c.args.taker.now) new c.args.ready.now n (c.lines.lines + 1) c.args.output.now.items after) (sym next.size)
-          (line_more report (g.T.LineTaker.has_taken c.args.taker.now) old new c.args.ready.now bytes c.lines.lines more held.front one);
+      front =
+          subst (λ (n : ℕ). HasGivenFront report (g.T.LineTaker.has_taken c.args.taker.now) new c.args.ready.now n
+          (c.lines.lines + 1) c.args.output.now.items after) (sym
+          next.size)
+          (line_more report (g.T.LineTaker.has_taken c.args.taker.now) old new c.args.ready.now bytes c.lines.lines more
+          held.front one);
     }
 
 pub returns-in_default : goal.returns-in_default
 returns-in_default g c =
     let held = c.lines.invariant in
     record {
-      front = front_kept (g.T.LineTaker.report c.args.taker.now) (g.T.LineTaker.has_taken c.args.taker.now) (g.T.LineTaker.has_taken c.lines.taker) (g.T.LineTaker.has_taken c.front.new.self) c.args.ready.now
+      front =
+          front_kept (g.T.LineTaker.report c.args.taker.now) (g.T.LineTaker.has_taken c.args.taker.now)
+          (g.T.LineTaker.has_taken c.lines.taker) (g.T.LineTaker.has_taken c.front.new.self) c.args.ready.now
           (length c.args.ready.now - length c.lines.rest.now) c.lines.lines held.front c.in_default.ensures.taken;
       held = omega arith;
       few = held.few;

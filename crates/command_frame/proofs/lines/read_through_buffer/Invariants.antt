@@ -15,7 +15,8 @@ invariant-lines g l = record {
   sound : g.T.LineTaker.is_sound l.taker;
   weight : g.T.LineTaker.weight l.taker ≤ l.lines.given;
   report : g.T.LineTaker.report l.taker ≡ g.T.LineTaker.report l.initial.taker;
-  reading : Reading (bounds_at l.initial.lines) (g.T.LineTaker.report l.initial.taker) (g.T.LineTaker.has_taken l.taker) l.lines (g.S.Store.left l.initial.store) (g.S.Store.left l.store)
+  reading : Reading (bounds_at l.initial.lines) (g.T.LineTaker.report l.initial.taker) (g.T.LineTaker.has_taken l.taker)
+      l.lines (g.S.Store.left l.initial.store) (g.S.Store.left l.store)
       (g.O.Sink.written l.initial.out) (g.O.Sink.written l.out) l.buffer.items;
   files : g.S.Store.files l.store ≡ g.S.Store.files l.initial.store;
   current : g.S.Store.current l.store ≡ g.S.Store.current l.initial.store;

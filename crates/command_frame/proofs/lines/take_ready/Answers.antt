@@ -5,7 +5,9 @@ use Rattle.command_frame.proofs.lines.take_ready.Goals as goal
 -- the reader lends nothing
 pub returns-then-is_empty : goal.returns-then-is_empty
 returns-then-is_empty g c = record {
-  taken = nothing_kept (g.T.LineTaker.report c.args.taker.now) (g.T.LineTaker.has_taken c.args.taker.now) c.args.lines.now (omega (arith, c.ready_lines-ready.ensures.within));
+  taken =
+      nothing_kept (g.T.LineTaker.report c.args.taker.now) (g.T.LineTaker.has_taken c.args.taker.now) c.args.lines.now
+      (omega (arith, c.ready_lines-ready.ensures.within));
   sound = c.requires.sound;
   weight = c.requires.weight;
   report = refl;
@@ -20,7 +22,9 @@ returns-then-is_empty g c = record {
 -- a line may have fewer bytes than one that is taken at once
 pub returns-then-line_limit-lt-LONGEST_AT_ONCE : goal.returns-then-line_limit-lt-LONGEST_AT_ONCE
 returns-then-line_limit-lt-LONGEST_AT_ONCE g c = record {
-  taken = nothing_kept (g.T.LineTaker.report c.args.taker.now) (g.T.LineTaker.has_taken c.args.taker.now) c.args.lines.now (omega (arith, c.ready_lines-ready.ensures.within));
+  taken =
+      nothing_kept (g.T.LineTaker.report c.args.taker.now) (g.T.LineTaker.has_taken c.args.taker.now) c.args.lines.now
+      (omega (arith, c.ready_lines-ready.ensures.within));
   sound = c.requires.sound;
   weight = c.requires.weight;
   report = refl;

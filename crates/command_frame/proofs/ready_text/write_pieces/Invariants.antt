@@ -7,7 +7,8 @@ use Rattle.command_frame.proofs.ready_text.write_pieces.Given as goal
 
 abbrev pub invariant-pieces : goal.invariant-pieces
 invariant-pieces g l = record {
-  making : Making (g.O.Sink.written l.initial.out) (g.O.Sink.written l.out) l.page.items (g.M.PieceMaker.rest l.maker) (g.M.PieceMaker.rest l.initial.maker);
+  making : Making (g.O.Sink.written l.initial.out) (g.O.Sink.written l.out) l.page.items (g.M.PieceMaker.rest l.maker)
+      (g.M.PieceMaker.rest l.initial.maker);
   write_faults : g.O.Sink.faults l.out ≡ g.O.Sink.faults l.initial.out;
   short : vec_len l.page < page_bytes;
   room : page_bytes + g.M.PieceMaker.longest l.maker ≤ vec_capacity l.page;

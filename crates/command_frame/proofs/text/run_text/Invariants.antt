@@ -6,7 +6,8 @@ use Rattle.command_frame.proofs.text.run_text.Given as goal
 abbrev pub invariant-pieces : goal.invariant-pieces
 invariant-pieces g l = record {
   sound : g.M.TextMaker.is_sound l.maker;
-  making : Making (g.O.Sink.written l.initial.out) (g.O.Sink.written l.out) l.buffer.items (g.M.TextMaker.rest l.maker) (g.M.TextMaker.rest l.initial.maker);
+  making : Making (g.O.Sink.written l.initial.out) (g.O.Sink.written l.out) l.buffer.items (g.M.TextMaker.rest l.maker)
+      (g.M.TextMaker.rest l.initial.maker);
   write_faults : g.O.Sink.faults l.out ≡ g.O.Sink.faults l.initial.out;
 }
 

@@ -21,4 +21,5 @@ returns-in-Err-clause-refused c = λ refused.
     let words = map string_bytes c.args.words.now in
     let not_taken : c.fault_in.result ≡ NotTaken = cc in
     refused_none table words (app_of c.in_ok-command.command) c.in-Err.error c.in_ok-command.ensures
-    (c.in-Err.ensures.kinds (ap is_simple_and_free c.in_ok-command.ensures ∙ every_table table)) (c.fault_in.ensures not_taken)
+    (c.in-Err.ensures.kinds (ap is_simple_and_free c.in_ok-command.ensures ∙ every_table table))
+    (c.fault_in.ensures not_taken)

@@ -31,12 +31,17 @@ returns g c =
       one_line = λ symbols lines are. (c.interpreted_traces.ensures symbols lines are).one_line;
     } in
     let delivery : DeliversTo heapsuite_texts.write_failed answer c.deliver.result mid out old err =
-    subst (λ (texts : Texts). DeliversTo texts.write_failed (answer_of bytes_of texts c.run_words-ran.result) c.deliver.result mid out old err) c.heapsuite_texts.ensures c.deliver.ensures in
+    subst (λ (texts : Texts). DeliversTo texts.write_failed (answer_of bytes_of texts c.run_words-ran.result)
+    c.deliver.result mid out old err) c.heapsuite_texts.ensures c.deliver.ensures in
     has_run laws bounds words (outside g.S.Store g.O.Sink g.E.Sink c.args.store.now c.args.out.now c.args.err.now)
-    (outside g.S.Store g.O.Sink g.E.Sink c.run_words-ran.new.store c.deliver.new.out c.deliver.new.err) c.deliver.result (after ran.early answer) (omega (arith, c.args.limits.now.line_in_range))
+    (outside g.S.Store g.O.Sink g.E.Sink c.run_words-ran.new.store c.deliver.new.out c.deliver.new.err) c.deliver.result
+    (after ran.early answer) (omega (arith, c.args.limits.now.line_in_range))
     (record {
       ran = ran.ran;
-      delivered = is_delivered heapsuite_texts bounds (task_asked (asked words)) (shown g.S.Store c.args.store.now) (shown g.S.Store c.run_words-ran.new.store) (taken g.O.Sink c.args.out.now) mid out old err c.deliver.result answer ran delivery;
+      delivered =
+          is_delivered heapsuite_texts bounds (task_asked (asked words)) (shown g.S.Store c.args.store.now)
+          (shown g.S.Store c.run_words-ran.new.store) (taken g.O.Sink c.args.out.now) mid out old err c.deliver.result
+          answer ran delivery;
       files = ran.files;
     })
     c.run_words-ran.ensures.no_memory

@@ -11,6 +11,7 @@ pub returns-then-ends_as_at_peak : goal.returns-then-ends_as_at_peak
 returns-then-ends_as_at_peak c = record {
   tree = IfOk-weaker c.copy.result _ _
       (λ copy is. is ∙ c.requires.peak
-      ∙ ap (λ (costs : List ℕ). massif_tree whole_tree (sum costs) (costed (point_fronts c.args.dhat.now) costs)) (sym (c.ends_as_at_peak.ensures c.if-ends_as_at_peak.true)))
+      ∙ ap (λ (costs : List ℕ). massif_tree whole_tree (sum costs) (costed (point_fronts c.args.dhat.now) costs))
+      (sym (c.ends_as_at_peak.ensures c.if-ends_as_at_peak.true)))
       c.copy.ensures.lines;
 }

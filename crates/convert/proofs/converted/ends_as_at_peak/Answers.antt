@@ -22,4 +22,5 @@ returns c = λ yes.
     let peaks = point_costs Gb c.args.dhat.now in
     let at_end = costs-count Eb c.args.dhat.now in
     let at_peak = costs-count Gb c.args.dhat.now in
-    sym (take_all c.each_point.place ends (omega arith)) ∙ c.each_point.invariant ∙ take_all c.each_point.place peaks (omega arith)
+    sym (take_all c.each_point.place ends (omega arith)) ∙ c.each_point.invariant
+    ∙ take_all c.each_point.place peaks (omega arith)

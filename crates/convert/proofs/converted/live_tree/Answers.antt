@@ -14,7 +14,9 @@ new-costing-requires c =
     let count = costs-count c.args.key c.args.dhat.now in
     let total = c.requires.total in
     let most = c.requires.within in
-    let points : c.len.result ≡ length c.args.dhat.now.pps = c.len.ensures.count ∙ ap (λ (fronts : List (List (List ℕ))). length fronts) c.requires.fronts ∙ lists-count c.args.dhat.now in
+    let points : c.len.result ≡ length c.args.dhat.now.pps =
+    c.len.ensures.count ∙ ap (λ (fronts : List (List (List ℕ))). length fronts) c.requires.fronts
+    ∙ lists-count c.args.dhat.now in
     record {
       stated = (
         costs,
@@ -33,7 +35,9 @@ forked_lines-requires-clause-stated c =
     let count = costs-count c.args.key c.args.dhat.now in
     let total = c.requires.total in
     let most = c.requires.within in
-    let points : c.len.result ≡ length c.args.dhat.now.pps = c.len.ensures.count ∙ ap (λ (fronts : List (List (List ℕ))). length fronts) c.requires.fronts ∙ lists-count c.args.dhat.now in (
+    let points : c.len.result ≡ length c.args.dhat.now.pps =
+    c.len.ensures.count ∙ ap (λ (fronts : List (List (List ℕ))). length fronts) c.requires.fronts
+    ∙ lists-count c.args.dhat.now in (
       costs,
       c.new-costing.ensures.stated costs (record {
         count = omega arith;
@@ -49,7 +53,9 @@ returns c =
     let count = costs-count c.args.key c.args.dhat.now in
     let total = c.requires.total in
     let most = c.requires.within in
-    let points : c.len.result ≡ length c.args.dhat.now.pps = c.len.ensures.count ∙ ap (λ (fronts : List (List (List ℕ))). length fronts) c.requires.fronts ∙ lists-count c.args.dhat.now in
+    let points : c.len.result ≡ length c.args.dhat.now.pps =
+    c.len.ensures.count ∙ ap (λ (fronts : List (List (List ℕ))). length fronts) c.requires.fronts
+    ∙ lists-count c.args.dhat.now in
     record {
       tree = IfOk-weaker c.forked_lines.result _ _
           (λ lines is. is costs (c.new-costing.ensures.stated costs (record {
@@ -58,7 +64,8 @@ returns c =
             callable = λ stack below. let inside : stack < length c.args.dhat.now.pps = omega arith in search rules;
             cost = λ stack cost below says. search rules;
           }))
-          ∙ ap (λ (fronts : List (List (List ℕ))). massif_tree whole_tree c.args.total (costed fronts costs)) c.requires.fronts
+          ∙ ap (λ (fronts : List (List (List ℕ))). massif_tree whole_tree c.args.total (costed fronts costs))
+          c.requires.fronts
           ∙ ap (λ (n : ℕ). massif_tree whole_tree n (point_items c.args.key c.args.dhat.now)) total)
           c.forked_lines.ensures.lines;
     }

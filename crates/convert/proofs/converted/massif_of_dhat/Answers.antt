@@ -12,28 +12,35 @@ pub returns-then-not-dhat-clause-fault : goal.returns-then-not-dhat-clause-fault
 returns-then-not-dhat-clause-fault c = λ other. no-lives c.args.dhat.now c.if-not-dhat.true
 
 pub returns-then-not-dhat-clause-refused : goal.returns-then-not-dhat-clause-refused
-returns-then-not-dhat-clause-refused c = λ fault is. ap Err (same_Some NoFigures fault (sym (no-lives c.args.dhat.now c.if-not-dhat.true) ∙ is))
+returns-then-not-dhat-clause-refused c =
+    λ fault is. ap Err (same_Some NoFigures fault (sym (no-lives c.args.dhat.now c.if-not-dhat.true) ∙ is))
 
 pub returns-then-dhat-gt-MOST-clause-fault : goal.returns-then-dhat-gt-MOST-clause-fault
-returns-then-dhat-gt-MOST-clause-fault c = λ other. late-end c.args.dhat.now c.if-not-dhat.false (let above = c.if-dhat-gt-MOST.true in omega arith)
+returns-then-dhat-gt-MOST-clause-fault c =
+    λ other. late-end c.args.dhat.now c.if-not-dhat.false (let above = c.if-dhat-gt-MOST.true in omega arith)
 
 pub returns-then-dhat-gt-MOST-clause-refused : goal.returns-then-dhat-gt-MOST-clause-refused
 returns-then-dhat-gt-MOST-clause-refused c = λ fault is.
-    ap Err (same_Some TooLarge fault (sym (late-end c.args.dhat.now c.if-not-dhat.false (let above = c.if-dhat-gt-MOST.true in omega arith)) ∙ is))
+    ap Err (same_Some TooLarge fault
+    (sym (late-end c.args.dhat.now c.if-not-dhat.false (let above = c.if-dhat-gt-MOST.true in omega arith)) ∙ is))
 
 pub returns-in_default-clause-fault : goal.returns-in_default-clause-fault
-returns-in_default-clause-fault c = λ other. large-peak c.args.dhat.now c.if-not-dhat.false c.in_default.ensures.too_large
+returns-in_default-clause-fault c =
+    λ other. large-peak c.args.dhat.now c.if-not-dhat.false c.in_default.ensures.too_large
 
 pub returns-in_default-clause-refused : goal.returns-in_default-clause-refused
 returns-in_default-clause-refused c = λ fault is.
-    ap Err (same_Some TooLarge fault (sym (large-peak c.args.dhat.now c.if-not-dhat.false c.in_default.ensures.too_large) ∙ is))
+    ap Err (same_Some TooLarge fault
+    (sym (large-peak c.args.dhat.now c.if-not-dhat.false c.in_default.ensures.too_large) ∙ is))
 
 pub returns-in_default-figures_sum-clause-fault : goal.returns-in_default-figures_sum-clause-fault
-returns-in_default-figures_sum-clause-fault c = λ other. large-end c.args.dhat.now c.if-not-dhat.false c.in_default-figures_sum.ensures.too_large
+returns-in_default-figures_sum-clause-fault c =
+    λ other. large-end c.args.dhat.now c.if-not-dhat.false c.in_default-figures_sum.ensures.too_large
 
 pub returns-in_default-figures_sum-clause-refused : goal.returns-in_default-figures_sum-clause-refused
 returns-in_default-figures_sum-clause-refused c = λ fault is.
-    ap Err (same_Some TooLarge fault (sym (large-end c.args.dhat.now c.if-not-dhat.false c.in_default-figures_sum.ensures.too_large) ∙ is))
+    ap Err (same_Some TooLarge fault
+    (sym (large-end c.args.dhat.now c.if-not-dhat.false c.in_default-figures_sum.ensures.too_large) ∙ is))
 
 pub returns-in-Ok-clause-writable : goal.returns-in-Ok-clause-writable
 returns-in-Ok-clause-writable c =
@@ -50,7 +57,9 @@ returns-in-Ok-clause-writable c =
     (record {
       time = (let within = c.if-dhat-gt-MOST.false in omega arith);
       at_peak = (let total = c.in-Some.ensures.sum in let within = c.in-Some.ensures.within in omega arith);
-      at_end = (let total = c.in-Some-figures_sum.ensures.sum in let within = c.in-Some-figures_sum.ensures.within in omega arith);
+      at_end =
+          (let total = c.in-Some-figures_sum.ensures.sum in let within = c.in-Some-figures_sum.ensures.within in omega
+          arith);
     }))
 
 pub returns-in-Ok-clause-sums : goal.returns-in-Ok-clause-sums
@@ -78,11 +87,13 @@ returns-in-Ok-clause-refused c = λ fault is.
     absurd (none-some fault (sym (all-small c.args.dhat.now c.if-not-dhat.false
     (let within = c.if-dhat-gt-MOST.false in omega arith)
     (let total = c.in-Some.ensures.sum in let within = c.in-Some.ensures.within in omega arith)
-    (let total = c.in-Some-figures_sum.ensures.sum in let within = c.in-Some-figures_sum.ensures.within in omega arith)) ∙ is))
+    (let total = c.in-Some-figures_sum.ensures.sum in let within = c.in-Some-figures_sum.ensures.within in omega arith))
+    ∙ is))
 
 pub returns-in-Err-clause-refused : goal.returns-in-Err-clause-refused
 returns-in-Err-clause-refused c = λ fault is.
     absurd (none-some fault (sym (all-small c.args.dhat.now c.if-not-dhat.false
     (let within = c.if-dhat-gt-MOST.false in omega arith)
     (let total = c.in-Some.ensures.sum in let within = c.in-Some.ensures.within in omega arith)
-    (let total = c.in-Some-figures_sum.ensures.sum in let within = c.in-Some-figures_sum.ensures.within in omega arith)) ∙ is))
+    (let total = c.in-Some-figures_sum.ensures.sum in let within = c.in-Some-figures_sum.ensures.within in omega arith))
+    ∙ is))

@@ -10,6 +10,9 @@ each_child-preserved c =
     let k = c.each_child.counter in
     record {
       left = roots-next roots c.args.line.bytes c.each_child.left c.take_root-left.result k c.each_child.invariant.left
-          (c.take_root-left.ensures.left ∙ ap (λ (rs : List ℕ). c.each_child.left - sum (take 1 rs)) c.each_child.invariant.roots);
-      roots = c.take_root-left.ensures.roots ∙ ap (λ (rs : List ℕ). drop 1 rs) c.each_child.invariant.roots ∙ drop-drop 1 k roots;
+          (c.take_root-left.ensures.left
+          ∙ ap (λ (rs : List ℕ). c.each_child.left - sum (take 1 rs)) c.each_child.invariant.roots);
+      roots =
+          c.take_root-left.ensures.roots ∙ ap (λ (rs : List ℕ). drop 1 rs) c.each_child.invariant.roots
+          ∙ drop-drop 1 k roots;
     }

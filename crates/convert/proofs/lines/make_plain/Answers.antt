@@ -11,4 +11,5 @@ each_byte-preserved c =
     let within : at < length text = omega arith in
     let inside : at < length c.args.text.now = omega arith in
     ap (set text at) c.plain_byte.ensures
-    ∙ map_over_more folded_byte c.args.text.now text at (get_or text at 0) inside c.each_byte.invariant (get_or_default text at 0 (get_or text at 0) within)
+    ∙ map_over_more folded_byte c.args.text.now text at (get_or text at 0) inside c.each_byte.invariant
+    (get_or_default text at 0 (get_or text at 0) within)

@@ -19,14 +19,18 @@ each_text-preserved c =
     let before = c.args.before.now in
     let place = c.each_text.place in
     let name : List ℕ = folded_name (text_of names (get_or before (place - 1) 0)) in
-    let written = appended-more c.args.out.now.items c.each_text.out.items c.put_name.new.out.items (later_texts names (drop place before)) (codes ";" ++ name) _
+    let written =
+    appended-more c.args.out.now.items c.each_text.out.items c.put_name.new.out.items
+    (later_texts names (drop place before)) (codes ";" ++ name) _
     c.each_text.invariant.written
-    (c.in_ok-put_name.ensures.appended ∙ ap (λ (bytes : List ℕ). bytes ++ name) c.in_ok-put_bytes.ensures.appended ∙ append_assoc c.each_text.out.items (codes ";") name)
+    (c.in_ok-put_name.ensures.appended ∙ ap (λ (bytes : List ℕ). bytes ++ name) c.in_ok-put_bytes.ensures.appended
+    ∙ append_assoc c.each_text.out.items (codes ";") name)
     (later-more names before place (omega arith) (omega arith)) in
     record { written = written; kept = extends_more c.args.out.now.items c.put_name.new.out.items _ written }
 
 pub returns-in_err-put_name-clause-kept : goal.returns-in_err-put_name-clause-kept
 returns-in_err-put_name-clause-kept c =
     extends_trans c.args.out.now.items c.put_bytes.new.out.items c.put_name.new.out.items
-    (extends_trans c.args.out.now.items c.each_text.out.items c.put_bytes.new.out.items c.each_text.invariant.kept (extends_more c.each_text.out.items c.put_bytes.new.out.items (codes ";") c.in_ok-put_bytes.ensures.appended))
+    (extends_trans c.args.out.now.items c.each_text.out.items c.put_bytes.new.out.items c.each_text.invariant.kept
+    (extends_more c.each_text.out.items c.put_bytes.new.out.items (codes ";") c.in_ok-put_bytes.ensures.appended))
     c.put_name.ensures.kept

@@ -10,7 +10,8 @@ pub returns-clause-appended : goal.returns-clause-appended
 unfolding folded_line
 returns-clause-appended c =
     on_ok_weaker c.put_bytes-2.result
-    (λ added. four-appended c.args.out.now.items c.put_path.new.out.items c.put_bytes.new.out.items c.put_dec.new.out.items c.put_bytes-2.new.out.items
+    (λ added. four-appended c.args.out.now.items c.put_path.new.out.items c.put_bytes.new.out.items
+    c.put_dec.new.out.items c.put_bytes-2.new.out.items
     (folded_path (texts_of c.args.names.now c.args.list.now)) (codes " ") (decimal c.args.sum) (codes "\n")
     c.in_ok-put_path.ensures.appended c.in_ok-put_bytes.ensures.appended c.in_ok-put_dec.ensures.appended added)
     c.put_bytes-2.ensures.appended
@@ -21,8 +22,14 @@ returns-in_err-put_bytes-clause-kept c =
 
 pub returns-in_err-put_dec-clause-kept : goal.returns-in_err-put_dec-clause-kept
 returns-in_err-put_dec-clause-kept c =
-    extends_trans _ _ _ (extends_trans _ _ _ c.put_path.ensures.kept (extends_more _ _ _ c.in_ok-put_bytes.ensures.appended)) (extends_same _ _ c.in_err-put_dec.ensures.unchanged)
+    extends_trans _ _ _
+    (extends_trans _ _ _ c.put_path.ensures.kept (extends_more _ _ _ c.in_ok-put_bytes.ensures.appended))
+    (extends_same _ _ c.in_err-put_dec.ensures.unchanged)
 
 pub returns-clause-kept : goal.returns-clause-kept
 returns-clause-kept c =
-    extends_trans _ _ _ (extends_trans _ _ _ (extends_trans _ _ _ c.put_path.ensures.kept (extends_more _ _ _ c.in_ok-put_bytes.ensures.appended)) (extends_more _ _ _ c.in_ok-put_dec.ensures.appended)) (extends_put c.put_bytes-2.result _ _ _ c.put_bytes-2.ensures.appended c.put_bytes-2.ensures.unchanged)
+    extends_trans _ _ _
+    (extends_trans _ _ _
+    (extends_trans _ _ _ c.put_path.ensures.kept (extends_more _ _ _ c.in_ok-put_bytes.ensures.appended))
+    (extends_more _ _ _ c.in_ok-put_dec.ensures.appended))
+    (extends_put c.put_bytes-2.result _ _ _ c.put_bytes-2.ensures.appended c.put_bytes-2.ensures.unchanged)

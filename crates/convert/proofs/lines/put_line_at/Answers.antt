@@ -20,7 +20,8 @@ put_line-requires c =
     let sums = c.args.sums.now in
     record {
       held = subst (All (IsText sums.names)) (sym c.deref.ensures.value)
-          (held-by (λ (key : Vec ℕ). All (IsText sums.names) key.items) sums.lists.keys c.args.place c.in-Some.list.now (sym c.in-Some.ensures.key) c.requires.held);
+          (held-by (λ (key : Vec ℕ). All (IsText sums.names) key.items) sums.lists.keys c.args.place c.in-Some.list.now
+          (sym c.in-Some.ensures.key) c.requires.held);
     }
 
 pub returns-clause-appended : goal.returns-clause-appended
@@ -29,8 +30,13 @@ returns-clause-appended c =
     on_ok_weaker c.put_line.result (λ added. λ line at.
     let parts = line-parts sums.names sums.lists.keys sums.sums.items c.args.place line at in
     let key : c.in-Some.list.now ≡ parts.0 = same_Some c.in-Some.list.now parts.0 (c.in-Some.ensures.key ∙ parts.1) in
-    let texts = ap (λ (ns : List ℕ). texts_of sums.names ns) (c.deref.ensures.value ∙ ap (λ (k : Vec ℕ). k.items) key) ∙ parts.3 in
-    let sum : c.index.result.now ≡ line.cost = c.index.ensures ∙ get_or_from_slice_get sums.sums.items c.args.place line.cost c.index.result.now parts.2 in
-    added ∙ ap (λ (ts : List (List ℕ)). c.args.out.now.items ++ folded_line (record { texts = ts; cost = c.index.result.now })) texts
+    let texts =
+    ap (λ (ns : List ℕ). texts_of sums.names ns) (c.deref.ensures.value ∙ ap (λ (k : Vec ℕ). k.items) key)
+    ∙ parts.3 in
+    let sum : c.index.result.now ≡ line.cost =
+    c.index.ensures ∙ get_or_from_slice_get sums.sums.items c.args.place line.cost c.index.result.now parts.2 in
+    added
+    ∙ ap (λ (ts : List (List ℕ)). c.args.out.now.items
+    ++ folded_line (record { texts = ts; cost = c.index.result.now })) texts
     ∙ ap (λ (n : ℕ). c.args.out.now.items ++ folded_line (record { texts = line.texts; cost = n })) sum)
     c.put_line.ensures.appended

@@ -6,6 +6,7 @@ use Rattle.convert.proofs.lines.put_lines.Given as goal
 
 abbrev pub invariant-each_list : goal.invariant-each_list
 invariant-each_list l = record {
-  written : l.out.items ≡ l.initial.out.items ++ lines_text (take l.place (lines_at l.sums.names l.sums.lists.keys l.sums.sums.items));
+  written : l.out.items
+      ≡ l.initial.out.items ++ lines_text (take l.place (lines_at l.sums.names l.sums.lists.keys l.sums.sums.items));
   kept : Extends l.initial.out.items l.out.items;
 }

@@ -9,4 +9,6 @@ pub returns-clause-appended : goal.returns-clause-appended
 unfolding text_of
 returns-clause-appended c =
     let text = ap (λ (found : Option (List ℕ)). unwrap_or found []) c.in-Some.ensures.name in
-    on_ok_weaker c.put_text.result (λ added. added ∙ ap (λ (t : List ℕ). c.args.out.now.items ++ folded_name t) (sym text)) c.put_text.ensures.appended
+    on_ok_weaker c.put_text.result
+    (λ added. added ∙ ap (λ (t : List ℕ). c.args.out.now.items ++ folded_name t) (sym text))
+    c.put_text.ensures.appended

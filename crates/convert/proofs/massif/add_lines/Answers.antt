@@ -14,24 +14,38 @@ use Rattle.convert.proofs.Walks.{IsAt, at-begin, items-count, next-line, next-wi
 use Rattle.convert.proofs.massif.add_lines.Goals as goal
 
 pub each_line-init : goal.each_line-init
-each_line-init c = record { numbers = c.requires.numbers; walk = at-begin c.args.sums.now.names c.args.tree.now c.args.walk.now.levels.items c.requires.begun; sums = c.requires.sums }
+each_line-init c =
+    record {
+      numbers = c.requires.numbers;
+      walk = at-begin c.args.sums.now.names c.args.tree.now c.args.walk.now.levels.items c.requires.begun;
+      sums = c.requires.sums;
+    }
 
 pub add-requires-clause-sums : goal.add-requires-clause-sums
 add-requires-clause-sums c =
-    let next = next-line c.each_line.sums.names c.args.tree.now c.args.numbers.now c.args.left.now c.each_line.walk.levels.items c.enter.new.levels.items c.each_line.place (line_of c.at.result)
-    c.each_line.invariant.walk c.at.ensures.item c.in_ok-enter.ensures.entered c.each_line.invariant.numbers c.requires.left (let all = c.len-place-end.ensures.length in let count = c.requires.count in omega arith)
+    let next =
+    next-line c.each_line.sums.names c.args.tree.now c.args.numbers.now c.args.left.now c.each_line.walk.levels.items
+    c.enter.new.levels.items c.each_line.place (line_of c.at.result)
+    c.each_line.invariant.walk c.at.ensures.item c.in_ok-enter.ensures.entered c.each_line.invariant.numbers
+    c.requires.left (let all = c.len-place-end.ensures.length in let count = c.requires.count in omega arith)
     (let all = c.len-place-end.ensures.length in let count = c.requires.left_count in omega arith) in (
       take c.each_line.place (tree_items c.args.tree.now),
       c.each_line.invariant.sums,
-      next-within c.each_line.sums.names c.args.tree.now c.args.left.now c.enter.new.levels.items c.each_line.place (get_or c.args.left.now c.each_line.place 0) (2 ^ 62) next c.requires.left c.requires.within,
+      next-within c.each_line.sums.names c.args.tree.now c.args.left.now c.enter.new.levels.items c.each_line.place
+          (get_or c.args.left.now c.each_line.place 0) (2 ^ 62) next c.requires.left c.requires.within,
     )
 
 pub add-requires-clause-held : goal.add-requires-clause-held
 add-requires-clause-held c =
-    let next = next-line c.each_line.sums.names c.args.tree.now c.args.numbers.now c.args.left.now c.each_line.walk.levels.items c.enter.new.levels.items c.each_line.place (line_of c.at.result)
-    c.each_line.invariant.walk c.at.ensures.item c.in_ok-enter.ensures.entered c.each_line.invariant.numbers c.requires.left (let all = c.len-place-end.ensures.length in let count = c.requires.count in omega arith)
+    let next =
+    next-line c.each_line.sums.names c.args.tree.now c.args.numbers.now c.args.left.now c.each_line.walk.levels.items
+    c.enter.new.levels.items c.each_line.place (line_of c.at.result)
+    c.each_line.invariant.walk c.at.ensures.item c.in_ok-enter.ensures.entered c.each_line.invariant.numbers
+    c.requires.left (let all = c.len-place-end.ensures.length in let count = c.requires.count in omega arith)
     (let all = c.len-place-end.ensures.length in let count = c.requires.left_count in omega arith) in
-    let list = c.deref-in-each_line.ensures.value ∙ c.in_ok-labels_into.ensures.labels ∙ ap (λ (ls : List Level). drop 1 (map (λ (level : Level). level.label) ls)) c.deref.ensures.value in
+    let list =
+    c.deref-in-each_line.ensures.value ∙ c.in_ok-labels_into.ensures.labels
+    ∙ ap (λ (ls : List Level). drop 1 (map (λ (level : Level). level.label) ls)) c.deref.ensures.value in
     subst (All (IsText c.each_line.sums.names)) (sym list) next.held
 
 pub each_line-preserved : goal.each_line-preserved
@@ -42,17 +56,27 @@ each_line-preserved c =
     let levels = c.enter.new.levels.items in
     let new = c.add.new.self in
     let number : ℕ = get_or c.args.left.now place 0 in
-    let next = next-line c.each_line.sums.names c.args.tree.now c.args.numbers.now c.args.left.now c.each_line.walk.levels.items c.enter.new.levels.items c.each_line.place (line_of c.at.result)
-    c.each_line.invariant.walk c.at.ensures.item c.in_ok-enter.ensures.entered c.each_line.invariant.numbers c.requires.left (let all = c.len-place-end.ensures.length in let count = c.requires.count in omega arith)
+    let next =
+    next-line c.each_line.sums.names c.args.tree.now c.args.numbers.now c.args.left.now c.each_line.walk.levels.items
+    c.enter.new.levels.items c.each_line.place (line_of c.at.result)
+    c.each_line.invariant.walk c.at.ensures.item c.in_ok-enter.ensures.entered c.each_line.invariant.numbers
+    c.requires.left (let all = c.len-place-end.ensures.length in let count = c.requires.count in omega arith)
     (let all = c.len-place-end.ensures.length in let count = c.requires.left_count in omega arith) in
-    let list = c.deref-in-each_line.ensures.value ∙ c.in_ok-labels_into.ensures.labels ∙ ap (λ (ls : List Level). drop 1 (map (λ (level : Level). level.label) ls)) c.deref.ensures.value in
+    let list =
+    c.deref-in-each_line.ensures.value ∙ c.in_ok-labels_into.ensures.labels
+    ∙ ap (λ (ls : List Level). drop 1 (map (λ (level : Level). level.label) ls)) c.deref.ensures.value in
     let items : List Costed = tree_items tree in
-    let item : Costed = record { texts = texts_of names (drop 1 (map (λ (level : Level). level.label) levels)); cost = number } in
+    let item : Costed =
+    record { texts = texts_of names (drop 1 (map (λ (level : Level). level.label) levels)); cost = number } in
     record {
-      numbers = subst (λ (ns : List (List ℕ)). AreNumbers ns c.args.numbers.now (map (λ (line : TreeLine). shown line.label) tree)) (sym c.in_ok-add.ensures.names) c.each_line.invariant.numbers;
+      numbers =
+          subst (λ (ns : List (List ℕ)). AreNumbers ns c.args.numbers.now
+          (map (λ (line : TreeLine). shown line.label) tree)) (sym
+          c.in_ok-add.ensures.names) c.each_line.invariant.numbers;
       walk = subst (λ (ns : List (List ℕ)). IsAt ns tree levels (place + 1)) (sym c.in_ok-add.ensures.names) next.at;
       sums = subst (AreSums new.names new.lists.keys new.sums.items)
-          (ap (λ (ns : List ℕ). take place items ++ record { texts = texts_of names ns; cost = number } ∷ []) list ∙ sym (take-next items place item next.item))
+          (ap (λ (ns : List ℕ). take place items ++ record { texts = texts_of names ns; cost = number } ∷ []) list
+          ∙ sym (take-next items place item next.item))
           (c.in_ok-add.ensures.added (take place items) c.each_line.invariant.sums);
     }
 
@@ -61,4 +85,7 @@ returns c =
     let sums = c.each_line.sums in
     let count = items-count c.args.tree.now in
     let all = c.len-place-end.ensures.length in
-    record { sums = subst (AreSums sums.names sums.lists.keys sums.sums.items) (take_all c.each_line.place (tree_items c.args.tree.now) (omega arith)) c.each_line.invariant.sums }
+    record {
+      sums = subst (AreSums sums.names sums.lists.keys sums.sums.items)
+          (take_all c.each_line.place (tree_items c.args.tree.now) (omega arith)) c.each_line.invariant.sums;
+    }

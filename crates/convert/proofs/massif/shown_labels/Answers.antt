@@ -12,6 +12,8 @@ each_line-preserved c =
     let before : List (List ℕ) = map label (take c.each_line.place c.args.tree.now) in
     let texts = sym (map-next label c.args.tree.now c.each_line.place (line_of c.at.result) c.at.ensures.item) in
     record {
-      numbers = subst (AreNumbers new.names new.numbers.items) texts (c.in_ok-push.ensures.numbers before c.each_line.invariant.numbers);
+      numbers =
+          subst (AreNumbers new.names new.numbers.items) texts
+          (c.in_ok-push.ensures.numbers before c.each_line.invariant.numbers);
       distinct = c.in_ok-push.ensures.distinct;
     }

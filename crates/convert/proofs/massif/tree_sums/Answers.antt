@@ -12,4 +12,7 @@ add_lines-requires-clause-left_count c = ap length c.requires.left ∙ left-coun
 pub add_lines-requires-clause-count : goal.add_lines-requires-clause-count
 add_lines-requires-clause-count c =
     let label : TreeLine → List ℕ = λ line. shown line.label in
-    ap length c.deref.ensures.value ∙ numbers-count c.in_ok-texts.texts.names c.in_ok-texts.texts.numbers.items (map label c.args.tree.now) c.in_ok-texts.ensures.numbers ∙ length-map c.args.tree.now label
+    ap length c.deref.ensures.value
+    ∙ numbers-count c.in_ok-texts.texts.names c.in_ok-texts.texts.numbers.items (map label c.args.tree.now)
+    c.in_ok-texts.ensures.numbers
+    ∙ length-map c.args.tree.now label

@@ -9,7 +9,9 @@ use Rattle.convert.proofs.point_lists.point_numbers.Goals as goal
 
 pub number_frames-requires : goal.number_frames-requires
 number_frames-requires c = record {
-  in_table = held-by (λ (point : Point). All (λ frame. frame < length c.args.table.now) point.fs) c.args.points.now c.each_point.place c.at.result.now c.at.ensures.item c.requires.in_table;
+  in_table =
+      held-by (λ (point : Point). All (λ frame. frame < length c.args.table.now) point.fs) c.args.points.now
+      c.each_point.place c.at.result.now c.at.ensures.item c.requires.in_table;
 }
 
 pub push_list-requires : goal.push_list-requires
@@ -23,11 +25,16 @@ pub each_point-preserved : goal.each_point-preserved
 each_point-preserved c =
     let table = c.args.table.now in
     c.in_ok-push_list.ensures.appended
-    ∙ ap (λ (numbers : List ℕ). c.each_point.lists ++ numbers ∷ []) (c.deref.ensures.value ∙ c.in_ok-number_frames.ensures.numbered)
+    ∙ ap (λ (numbers : List ℕ). c.each_point.lists ++ numbers ∷ [])
+    (c.deref.ensures.value ∙ c.in_ok-number_frames.ensures.numbered)
     ∙ ap (λ (lists : List (List ℕ)). lists ++ numbers_at table c.at.result.now.fs ∷ []) c.each_point.invariant
-    ∙ sym (map-next (λ (point : Point). numbers_at table point.fs) c.args.points.now c.each_point.place c.at.result.now c.at.ensures.item)
+    ∙ sym (map-next (λ (point : Point). numbers_at table point.fs) c.args.points.now c.each_point.place c.at.result.now
+    c.at.ensures.item)
 
 pub returns : goal.returns
 returns c = record {
-  numbers = c.each_point.invariant ∙ ap (λ (points : List Point). numbers_in c.args.table.now points) (take_all c.each_point.place c.args.points.now (omega arith));
+  numbers =
+      c.each_point.invariant
+      ∙ ap (λ (points : List Point). numbers_in c.args.table.now points)
+      (take_all c.each_point.place c.args.points.now (omega arith));
 }

@@ -9,7 +9,10 @@ abbrev pub invariant-loop-i : goal.invariant-loop-i
 invariant-loop-i g l = record {
   most : length l.changes.items ≤ length l.fn.changes.items + l.i;
   room : vec_len l.changes + (l.count - l.i) ≤ vec_capacity l.changes;
-  pushed : (costs : ℕ → ℕ) → ((stack says : ℕ) → stack < l.stacks → goal.F-post g l.cost stack says → says ≡ costs stack) →
-      l.changes.items ≡ l.fn.changes.items ++ changes_to l.stacks l.place costs (take l.i (candidates l.marks.marks l.stacks));
-  between : (all last : ℕ) → l.stacks ≤ all → last ≤ l.place → IsBetween all 0 l.fn.changes.items last → IsBetween all 0 l.changes.items l.place;
+  pushed : (costs : ℕ → ℕ)
+      → ((stack says : ℕ) → stack < l.stacks → goal.F-post g l.cost stack says → says ≡ costs stack) →
+      l.changes.items
+      ≡ l.fn.changes.items ++ changes_to l.stacks l.place costs (take l.i (candidates l.marks.marks l.stacks));
+  between : (all last : ℕ) → l.stacks ≤ all → last ≤ l.place → IsBetween all 0 l.fn.changes.items last
+      → IsBetween all 0 l.changes.items l.place;
 }

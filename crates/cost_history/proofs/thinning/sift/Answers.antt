@@ -7,50 +7,71 @@ use Rattle.cost_history.proofs.thinning.sift.Goals as goal
 pub kept_from-next-requires-clause-ahead : goal.kept_from-next-requires-clause-ahead
 kept_from-next-requires-clause-ahead c =
     let some = c.changes-test.true in
-    λ within. (ahead-next _ _ _ _ _ _ (c.changes.i - 1) c.changes.i c.changes.next c.index-change.result.now c.changes.invariant.sifting (omega arith) c.index-change.ensures (c.changes.invariant.ahead within)).1
+    λ within. (ahead-next _ _ _ _ _ _ (c.changes.i - 1) c.changes.i c.changes.next c.index-change.result.now
+    c.changes.invariant.sifting (omega arith) c.index-change.ensures (c.changes.invariant.ahead within)).1
 
 pub index-requires : goal.index-requires
 index-requires c =
     let some = c.changes-test.true in
-    let held = sifting-held _ _ _ _ _ _ (c.changes.i - 1) c.changes.i c.index-change.result.now c.changes.invariant.sifting (omega arith) c.index-change.ensures in
+    let held =
+    sifting-held _ _ _ _ _ _ (c.changes.i - 1) c.changes.i c.index-change.result.now c.changes.invariant.sifting
+    (omega arith) c.index-change.ensures in
     omega arith
 
 pub index_mut-requires-then-index-until : goal.index_mut-requires-then-index-until
 index_mut-requires-then-index-until c =
     let some = c.changes-test.true in
-    let held = sifting-held _ _ _ _ _ _ (c.changes.i - 1) c.changes.i c.index-change.result.now c.changes.invariant.sifting (omega arith) c.index-change.ensures in
+    let held =
+    sifting-held _ _ _ _ _ _ (c.changes.i - 1) c.changes.i c.index-change.result.now c.changes.invariant.sifting
+    (omega arith) c.index-change.ensures in
     omega arith
 
 pub changes-preserved-then-index-until : goal.changes-preserved-then-index-until
 changes-preserved-then-index-until c =
     let some = c.changes-test.true in
     let read = c.index-change.ensures in
-    let held = sifting-held _ _ _ _ _ _ (c.changes.i - 1) c.changes.i c.index-change.result.now c.changes.invariant.sifting (omega arith) read in
+    let held =
+    sifting-held _ _ _ _ _ _ (c.changes.i - 1) c.changes.i c.index-change.result.now c.changes.invariant.sifting
+    (omega arith) read in
     let cell = c.index.ensures in
-    let same = get_or_default_zero c.changes.seen.items c.index-change.result.now.stack c.index.result.now (omega arith) in
+    let same =
+    get_or_default_zero c.changes.seen.items c.index-change.result.now.stack c.index.result.now (omega arith) in
     let above = c.if-index-until.true in
     record {
-      sifting = sifting-kept _ _ _ _ _ _ (c.changes.i - 1) c.changes.i c.index-change.result.now c.until-until.result c.changes.invariant.sifting (omega arith) read c.until-until.ensures.kept (omega arith);
-      seen_long = (let long = length-set c.changes.seen.items c.index-change.result.now.stack c.index-change.result.now.place in let was = c.changes.invariant.seen_long in omega arith);
-      next_within = (let fewer = c.kept_from-next.ensures.most in let was = c.changes.invariant.next_within in omega arith);
+      sifting =
+          sifting-kept _ _ _ _ _ _ (c.changes.i - 1) c.changes.i c.index-change.result.now c.until-until.result
+          c.changes.invariant.sifting (omega arith) read c.until-until.ensures.kept (omega arith);
+      seen_long =
+          (let long = length-set c.changes.seen.items c.index-change.result.now.stack
+          c.index-change.result.now.place in let was = c.changes.invariant.seen_long in omega arith);
+      next_within =
+          (let fewer = c.kept_from-next.ensures.most in let was = c.changes.invariant.next_within in omega arith);
       ahead = λ within.
-          ahead-kept _ _ _ _ _ _ (c.changes.i - 1) c.changes.i c.kept_from-next.result c.index-change.result.now c.changes.invariant.sifting (omega arith) read (c.kept_from-next.ensures.ahead within);
+          ahead-kept _ _ _ _ _ _ (c.changes.i - 1) c.changes.i c.kept_from-next.result c.index-change.result.now
+          c.changes.invariant.sifting (omega arith) read (c.kept_from-next.ensures.ahead within);
     }
 
 pub changes-preserved : goal.changes-preserved
 changes-preserved c =
     let some = c.changes-test.true in
     let read = c.index-change.ensures in
-    let held = sifting-held _ _ _ _ _ _ (c.changes.i - 1) c.changes.i c.index-change.result.now c.changes.invariant.sifting (omega arith) read in
+    let held =
+    sifting-held _ _ _ _ _ _ (c.changes.i - 1) c.changes.i c.index-change.result.now c.changes.invariant.sifting
+    (omega arith) read in
     let cell = c.index.ensures in
-    let same = get_or_default_zero c.changes.seen.items c.index-change.result.now.stack c.index.result.now (omega arith) in
+    let same =
+    get_or_default_zero c.changes.seen.items c.index-change.result.now.stack c.index.result.now (omega arith) in
     let below = c.if-index-until.false in
     let most = c.until-until.ensures.most in
     let last_most = c.requires.last in
     record {
-      sifting = sifting-out _ _ _ _ _ _ (c.changes.i - 1) c.changes.i c.index-change.result.now c.until-until.result c.changes.invariant.sifting (omega arith) read c.until-until.ensures.asked (omega arith) (omega arith);
+      sifting =
+          sifting-out _ _ _ _ _ _ (c.changes.i - 1) c.changes.i c.index-change.result.now c.until-until.result
+          c.changes.invariant.sifting (omega arith) read c.until-until.ensures.asked (omega arith) (omega arith);
       seen_long = c.changes.invariant.seen_long;
-      next_within = (let fewer = c.kept_from-next.ensures.most in let was = c.changes.invariant.next_within in omega arith);
+      next_within =
+          (let fewer = c.kept_from-next.ensures.most in let was = c.changes.invariant.next_within in omega arith);
       ahead = λ within.
-          ahead-out _ _ _ _ _ _ (c.changes.i - 1) c.changes.i c.kept_from-next.result c.index-change.result.now c.changes.invariant.sifting (omega arith) read (c.kept_from-next.ensures.ahead within);
+          ahead-out _ _ _ _ _ _ (c.changes.i - 1) c.changes.i c.kept_from-next.result c.index-change.result.now
+          c.changes.invariant.sifting (omega arith) read (c.kept_from-next.ensures.ahead within);
     }

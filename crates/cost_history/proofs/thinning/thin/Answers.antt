@@ -9,17 +9,22 @@ use Rattle.cost_history.proofs.thinning.thin.Goals as goal
 pub sift-left-requires-clause-ascending : goal.sift-left-requires-clause-ascending
 sift-left-requires-clause-ascending c =
     subst (λ (xs : List ℕ). AreAscending xs) (sym c.deref.ensures.value)
-    (λ i j up within. IsNonDecreasingBy-from_sort (λ (n : ℕ). n) c.sort_unstable.new.self.items c.sort_unstable.ensures.sorted i j 0 up within)
+    (λ i j up within. IsNonDecreasingBy-from_sort (λ (n : ℕ). n) c.sort_unstable.new.self.items
+    c.sort_unstable.ensures.sorted i j 0 up within)
 
 pub returns-clause-costs : goal.returns-clause-costs
 returns-clause-costs c = λ place asked stack.
     ap (λ (xs : List Change). cost_at xs place stack) c.move_down.ensures
     ∙ c.sift-left.ensures.costs place
-    (subst (λ (xs : List ℕ). IsAsked xs c.args.last place) (sym c.deref.ensures.value) (asked-moved c.args.kept.now.items c.sort_unstable.new.self.items c.args.last place c.sort_unstable.ensures.permutation asked))
+    (subst (λ (xs : List ℕ). IsAsked xs c.args.last place) (sym c.deref.ensures.value)
+    (asked-moved c.args.kept.now.items c.sort_unstable.new.self.items c.args.last place
+    c.sort_unstable.ensures.permutation asked))
     stack
 
 pub returns-clause-parted : goal.returns-clause-parted
 returns-clause-parted c =
     subst (λ (xs : List Change). AreParted c.args.kept.now.items xs) (sym c.move_down.ensures)
-    (parted-moved c.args.kept.now.items c.sort_unstable.new.self.items (drop c.sift-left.result c.sift-left.new.changes.items) c.sort_unstable.ensures.permutation
-    (subst (λ (xs : List ℕ). AreParted xs (drop c.sift-left.result c.sift-left.new.changes.items)) c.deref.ensures.value c.sift-left.ensures.parted))
+    (parted-moved c.args.kept.now.items c.sort_unstable.new.self.items
+    (drop c.sift-left.result c.sift-left.new.changes.items) c.sort_unstable.ensures.permutation
+    (subst (λ (xs : List ℕ). AreParted xs (drop c.sift-left.result c.sift-left.new.changes.items)) c.deref.ensures.value
+    c.sift-left.ensures.parted))

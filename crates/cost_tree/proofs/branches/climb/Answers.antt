@@ -10,7 +10,8 @@ pub each_node-smaller : goal.each_node-smaller
 each_node-smaller c =
     let numbered = c.args.numbered.now in
     let above = above-root numbered c.each_node.place c.requires.root c.each_node-test.true in
-    parent-before c.args.edges.now (numbers_of c.args.edges.now) c.each_node.place c.edge_of-place.result c.requires.steps above c.edge_of-place.ensures.edge
+    parent-before c.args.edges.now (numbers_of c.args.edges.now) c.each_node.place c.edge_of-place.result
+    c.requires.steps above c.edge_of-place.ensures.edge
 
 pub each_node-preserved : goal.each_node-preserved
 each_node-preserved c =
@@ -18,23 +19,30 @@ each_node-preserved c =
     let numbered = c.args.numbered.now in
     let list : List ℕ = list_at edges c.args.end in
     let above = above-root numbered c.each_node.place c.requires.root c.each_node-test.true in
-    let within = node-within edges numbered list c.each_node.path.items c.each_node.place c.requires.steps c.each_node.invariant in
-    let free = slice_get-get_or numbered c.each_node.place 0 (omega (arith, c.requires.count)) ∙ ap (λ (k : ℕ). Some k) c.each_node-test.true in
-    subst (λ (path : List ℕ). IsWay edges numbered list path c.edge_of-place.result.parent) (sym c.in_ok-push.ensures.items)
-    (IsWay-step edges numbered list c.each_node.path.items c.each_node.place c.edge_of-place.result c.requires.steps c.each_node.invariant free above c.edge_of-place.ensures.edge)
+    let within =
+    node-within edges numbered list c.each_node.path.items c.each_node.place c.requires.steps c.each_node.invariant in
+    let free =
+    slice_get-get_or numbered c.each_node.place 0 (omega (arith, c.requires.count))
+    ∙ ap (λ (k : ℕ). Some k) c.each_node-test.true in
+    subst (λ (path : List ℕ). IsWay edges numbered list path c.edge_of-place.result.parent)
+    (sym c.in_ok-push.ensures.items)
+    (IsWay-step edges numbered list c.each_node.path.items c.each_node.place c.edge_of-place.result c.requires.steps
+    c.each_node.invariant free above c.edge_of-place.ensures.edge)
 
 pub returns : goal.returns
 returns c =
     let edges = c.args.edges.now in
     let numbered = c.args.numbered.now in
     let list : List ℕ = list_at edges c.args.end in
-    let within = node-within edges numbered list c.each_node.path.items c.each_node.place c.requires.steps c.each_node.invariant in
+    let within =
+    node-within edges numbered list c.each_node.path.items c.each_node.place c.requires.steps c.each_node.invariant in
     let some = c.each_node-test.false in
     let back : slice_index numbered c.each_node.place ≡ slice_index numbered c.each_node.place - 1 + 1 = omega arith in
     record {
       way = record {
         node = c.each_node.place;
         way = c.each_node.invariant;
-        number = slice_get-get_or numbered c.each_node.place 0 (omega (arith, c.requires.count)) ∙ ap (λ (k : ℕ). Some k) back;
+        number =
+            slice_get-get_or numbered c.each_node.place 0 (omega (arith, c.requires.count)) ∙ ap (λ (k : ℕ). Some k) back;
       };
     }

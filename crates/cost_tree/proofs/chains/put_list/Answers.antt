@@ -10,27 +10,41 @@ nowhere = record { start = 0; end = 0; next = None; count = 0 }
 
 pub own_of-requires-clause-ordered : goal.own_of-requires-clause-ordered
 own_of-requires-clause-ordered c =
-    let read = chain-read c.args.own.now c.args.chains.now c.each_chain.next c.in-Some.place nowhere c.requires.chains c.in-Some.is c.each_chain.invariant.held in
+    let read =
+    chain-read c.args.own.now c.args.chains.now c.each_chain.next c.in-Some.place nowhere c.requires.chains
+    c.in-Some.is c.each_chain.invariant.held in
     read.is.ordered
 
 pub own_of-requires-clause-within : goal.own_of-requires-clause-within
 own_of-requires-clause-within c =
-    let read = chain-read c.args.own.now c.args.chains.now c.each_chain.next c.in-Some.place nowhere c.requires.chains c.in-Some.is c.each_chain.invariant.held in
+    let read =
+    chain-read c.args.own.now c.args.chains.now c.each_chain.next c.in-Some.place nowhere c.requires.chains
+    c.in-Some.is c.each_chain.invariant.held in
     read.is.within
 
 pub each_chain-smaller : goal.each_chain-smaller
 each_chain-smaller c =
-    let read = chain-read c.args.own.now c.args.chains.now c.each_chain.next c.in-Some.place nowhere c.requires.chains c.in-Some.is c.each_chain.invariant.held in
-    subst (λ (next : Option ℕ). option_map_or (λ (k : ℕ). k + 1) (get_or c.args.chains.now c.in-Some.place nowhere).next 0 < option_map_or (λ (k : ℕ). k + 1) next 0) (sym c.in-Some.is)
+    let read =
+    chain-read c.args.own.now c.args.chains.now c.each_chain.next c.in-Some.place nowhere c.requires.chains
+    c.in-Some.is c.each_chain.invariant.held in
+    subst (λ (next : Option ℕ). option_map_or (λ (k : ℕ). k + 1) (get_or c.args.chains.now c.in-Some.place nowhere).next
+    0
+    < option_map_or (λ (k : ℕ). k + 1) next 0) (sym
+    c.in-Some.is)
     (sooner (get_or c.args.chains.now c.in-Some.place nowhere).next c.in-Some.place read.is.earlier)
 
 pub each_chain-preserved : goal.each_chain-preserved
 each_chain-preserved c =
     let chains = c.args.chains.now in
     let chain : Chain = get_or chains c.in-Some.place nowhere in
-    let read = chain-read c.args.own.now chains c.each_chain.next c.in-Some.place nowhere c.requires.chains c.in-Some.is c.each_chain.invariant.held in
+    let read =
+    chain-read c.args.own.now chains c.each_chain.next c.in-Some.place nowhere c.requires.chains c.in-Some.is
+    c.each_chain.invariant.held in
     record {
       held = earlier-still chain.next c.in-Some.place (length chains) (omega (arith, read.within)) read.is.earlier;
-      numbers = left-more c.args.own.now chains c.in-Some.place c.each_chain.left c.min.result c.in_ok-left.left chain c.each_chain.next c.own_of.result.now c.each_chain.numbers.items c.put_first.new.numbers.items _
-          c.requires.chains read.at c.in-Some.is c.own_of.ensures c.min.ensures c.in_ok-left.ensures.left c.in_ok-left.ensures.appended c.each_chain.invariant.numbers;
+      numbers =
+          left-more c.args.own.now chains c.in-Some.place c.each_chain.left c.min.result c.in_ok-left.left chain
+          c.each_chain.next c.own_of.result.now c.each_chain.numbers.items c.put_first.new.numbers.items _
+          c.requires.chains read.at c.in-Some.is c.own_of.ensures c.min.ensures c.in_ok-left.ensures.left
+          c.in_ok-left.ensures.appended c.each_chain.invariant.numbers;
     }

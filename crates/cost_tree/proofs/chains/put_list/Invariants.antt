@@ -9,7 +9,8 @@ use Rattle.cost_tree.proofs.chains.put_list.Given as goal
 abbrev pub invariant-each_chain : goal.invariant-each_chain
 invariant-each_chain l = record {
   held : IfSome l.next (λ list. list < length l.chains);
-  numbers : l.numbers.items ++ take l.left (following (chain_lists l.own l.chains) l.next) ≡ l.initial.numbers.items ++ take l.most (get_or (chain_lists l.own l.chains) l.list []);
+  numbers : l.numbers.items ++ take l.left (following (chain_lists l.own l.chains) l.next)
+      ≡ l.initial.numbers.items ++ take l.most (get_or (chain_lists l.own l.chains) l.list []);
 }
 
 abbrev pub decreases-each_chain : goal.decreases-each_chain

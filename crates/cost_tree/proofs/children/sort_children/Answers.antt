@@ -12,5 +12,6 @@ returns c =
     record {
       sorted = by_cost-is c.args.children.now.items c.sort_unstable_by_key.new.self.items up moved
           (before-sorted c.args.children.now.items c.sort_unstable_by_key.new.self.items up moved
-          (c.sort_unstable_by_key.ensures.sorted (λ (child : Child). (record { 0 = child.cost }, child.node)) (answers_always _ _ _ (λ f a r g h. search rules))));
+          (c.sort_unstable_by_key.ensures.sorted (λ (child : Child). (record { 0 = child.cost }, child.node))
+          (answers_always _ _ _ (λ f a r g h. search rules))));
     }

@@ -25,7 +25,8 @@ each_list-preserved c =
     c.deref.ensures.value ∙ c.in_ok-list_into.ensures.numbers in
     c.in_ok-push_numbers.ensures.gained c.each_list.shape [] c.in_ok-begin.ensures.appended
     ∙ ap (λ (ns : List ℕ). c.each_list.shape ++ ns ∷ []) numbers
-    ∙ cut-more c.args.counts.now c.args.whole.now i c.each_list.shape c.requires.as_many (omega (arith, c.len-list-end.ensures.count)) c.each_list.invariant
+    ∙ cut-more c.args.counts.now c.args.whole.now i c.each_list.shape c.requires.as_many
+    (omega (arith, c.len-list-end.ensures.count)) c.each_list.invariant
 
 pub returns : goal.returns
 returns c =
@@ -33,6 +34,8 @@ returns c =
     let as_many = c.requires.as_many in
     record {
       lists = c.each_list.invariant
-          ∙ ap (λ (ks : List ℕ). cut_lists ks (take i c.args.whole.now)) (take_all i c.args.counts.now (omega (arith, c.len-list-end.ensures.count)))
-          ∙ ap (λ (ls : List (List ℕ)). cut_lists c.args.counts.now ls) (take_all i c.args.whole.now (omega (arith, c.len-list-end.ensures.count)));
+          ∙ ap (λ (ks : List ℕ). cut_lists ks (take i c.args.whole.now))
+          (take_all i c.args.counts.now (omega (arith, c.len-list-end.ensures.count)))
+          ∙ ap (λ (ls : List (List ℕ)). cut_lists c.args.counts.now ls)
+          (take_all i c.args.whole.now (omega (arith, c.len-list-end.ensures.count)));
     }

@@ -13,6 +13,9 @@ each_number-preserved c =
     record {
       begun = let begun = c.each_number.invariant.begun in omega arith;
       count = let same = c.each_number.invariant.count in omega arith;
-      gained = subst (λ (ns : List ℕ). LastGains c.args.shape.now ns c.push.new.self) (sym (take_more numbers place 0 (omega arith)))
-          (gains-more c.args.shape.now c.each_number.shape c.push.new.self (take place numbers) (number ∷ []) c.each_number.invariant.gained c.in_ok-push.ensures.appended);
+      gained =
+          subst (λ (ns : List ℕ). LastGains c.args.shape.now ns c.push.new.self)
+          (sym (take_more numbers place 0 (omega arith)))
+          (gains-more c.args.shape.now c.each_number.shape c.push.new.self (take place numbers) (number ∷ [])
+          c.each_number.invariant.gained c.in_ok-push.ensures.appended);
     }

@@ -11,7 +11,8 @@ pub each_list-preserved : goal.each_list-preserved
 each_list-preserved c =
     c.in_ok-push.ensures.items
     ∙ ap (λ (n : ℕ). c.each_list.more.items ++ n ∷ []) c.raised.ensures
-    ∙ raised-more c.args.scale c.args.counts.now c.args.lengths.now c.args.shared.now c.each_list.list c.each_list.more.items c.requires.lengths c.requires.shared c.each_list-test.true c.each_list.invariant
+    ∙ raised-more c.args.scale c.args.counts.now c.args.lengths.now c.args.shared.now c.each_list.list
+    c.each_list.more.items c.requires.lengths c.requires.shared c.each_list-test.true c.each_list.invariant
 
 pub returns : goal.returns
 returns c =
@@ -20,7 +21,10 @@ returns c =
     let as_many = c.requires.shared in
     record {
       raised = c.each_list.invariant
-          ∙ ap (λ (ks : List ℕ). raised_counts c.args.scale ks (take i c.args.lengths.now) (take i c.args.shared.now)) (take_all i c.args.counts.now (omega arith))
-          ∙ ap (λ (ls : List ℕ). raised_counts c.args.scale c.args.counts.now ls (take i c.args.shared.now)) (take_all i c.args.lengths.now (omega arith))
-          ∙ ap (λ (cs : List ℕ). raised_counts c.args.scale c.args.counts.now c.args.lengths.now cs) (take_all i c.args.shared.now (omega arith));
+          ∙ ap (λ (ks : List ℕ). raised_counts c.args.scale ks (take i c.args.lengths.now) (take i c.args.shared.now))
+          (take_all i c.args.counts.now (omega arith))
+          ∙ ap (λ (ls : List ℕ). raised_counts c.args.scale c.args.counts.now ls (take i c.args.shared.now))
+          (take_all i c.args.lengths.now (omega arith))
+          ∙ ap (λ (cs : List ℕ). raised_counts c.args.scale c.args.counts.now c.args.lengths.now cs)
+          (take_all i c.args.shared.now (omega arith));
     }

@@ -20,9 +20,11 @@ overflow_add-index_mut c =
     let costs = c.args.costs.now in
     let sums = c.each_list.sums.items in
     let end : ℕ = get_or ends i 0 in
-    let held : end < c.args.nodes = All-get_or (λ (e : ℕ). e < c.args.nodes) ends i 0 c.each_list-test.true c.requires.held in
+    let held : end < c.args.nodes =
+    All-get_or (λ (e : ℕ). e < c.args.nodes) ends i 0 c.each_list-test.true c.requires.held in
     let count = c.each_list.invariant.count in
-    let value : c.index_mut.result.now ≡ get_or sums end 0 = c.index_mut.ensures.value ∙ get_or_default_zero sums end c.index_mut.result.now (omega arith) in
+    let value : c.index_mut.result.now ≡ get_or sums end 0 =
+    c.index_mut.ensures.value ∙ get_or_default_zero sums end c.index_mut.result.now (omega arith) in
     let is = c.each_list.invariant.sums end held in
     let room = ended-room ends costs i c.requires.as_many c.each_list-test.true in
     let bound = c.requires.bound in
@@ -35,11 +37,15 @@ each_list-preserved c =
     let costs = c.args.costs.now in
     let sums = c.each_list.sums.items in
     let end : ℕ = get_or ends i 0 in
-    let held : end < c.args.nodes = All-get_or (λ (e : ℕ). e < c.args.nodes) ends i 0 c.each_list-test.true c.requires.held in
+    let held : end < c.args.nodes =
+    All-get_or (λ (e : ℕ). e < c.args.nodes) ends i 0 c.each_list-test.true c.requires.held in
     let count = c.each_list.invariant.count in
-    let value : c.index_mut.result.now ≡ get_or sums end 0 = c.index_mut.ensures.value ∙ get_or_default_zero sums end c.index_mut.result.now (omega arith) in
+    let value : c.index_mut.result.now ≡ get_or sums end 0 =
+    c.index_mut.ensures.value ∙ get_or_default_zero sums end c.index_mut.result.now (omega arith) in
     record {
       count = length-set sums end (c.index_mut.result.now + get_or costs i 0) ∙ count;
-      sums = λ node within. ended-set sums ends costs i c.index_mut.result.now c.requires.as_many c.each_list-test.true (omega arith) value
+      sums =
+          λ node within. ended-set sums ends costs i c.index_mut.result.now c.requires.as_many c.each_list-test.true
+          (omega arith) value
           (λ n inside. c.each_list.invariant.sums n (omega arith)) node (omega arith);
     }

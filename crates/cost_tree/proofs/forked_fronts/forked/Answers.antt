@@ -14,7 +14,8 @@ returns c =
     let counts = c.lengthen.new.self.counts.items in
     let count : c.len.result ≡ length lists = c.len.ensures.count ∙ sym (length-map whole (texts_of names)) in
     let ones : c.deref.result.now ≡ replicate (length lists) 1 =
-    c.deref.ensures.value ∙ c.in_ok-costs.ensures.items_if_clones_equal (λ y same. same) ∙ ap (λ (n : ℕ). replicate n 1) count in
+    c.deref.ensures.value ∙ c.in_ok-costs.ensures.items_if_clones_equal (λ y same. same)
+    ∙ ap (λ (n : ℕ). replicate n 1) count in
     record {
       cut = record {
         texts = c.requires.texts;

@@ -18,7 +18,8 @@ use Rattle.cost_tree.proofs.front_lines.take_costed.Goals as goal
 pub of_shape-requires-clause-texts : goal.of_shape-requires-clause-texts
 of_shape-requires-clause-texts g c =
     let inside = c.fronts.inside in
-    subst (AreTexts inside.names) (sym c.fronts.invariant.cut_of.lists) (cut-named inside.names inside.cut.counts.items inside.whole c.fronts.invariant.texts)
+    subst (AreTexts inside.names) (sym c.fronts.invariant.cut_of.lists)
+    (cut-named inside.names inside.cut.counts.items inside.whole c.fronts.invariant.texts)
 
 pub of_shape-requires-clause-as_many : goal.of_shape-requires-clause-as_many
 of_shape-requires-clause-as_many g c =
@@ -49,12 +50,15 @@ returns g c =
       alone = c.fronts.invariant.alone;
     } in
     let has : HasLines tree cuts depth =
-    subst (λ (ls : List (List (List ℕ))). HasLines tree (costed ls costs) depth) (ap (λ (ls : List (List ℕ)). lists_of names ls) is.lists ∙ cut-texts names counts inside.whole) c.in_ok-tree.ensures.lines in
+    subst (λ (ls : List (List (List ℕ))). HasLines tree (costed ls costs) depth)
+    (ap (λ (ls : List (List ℕ)). lists_of names ls) is.lists ∙ cut-texts names counts inside.whole)
+    c.in_ok-tree.ensures.lines in
     record {
       taken = IfOk-weaker c.take_tailed-taken.result _ _
           (λ after taken. (
             names,
-            (let levelled = subst (λ (ls : List FrontLine). All IsLevelled ls) (sym (taken.1.all cuts depth has)) (lines-levelled depth scale cuts) in
+            (let levelled = subst (λ (ls : List FrontLine). All IsLevelled ls) (sym (taken.1.all cuts depth has))
+                (lines-levelled depth scale cuts) in
                 subst (λ (ls : List FrontLine). g.T.FrontLineTaker.takes names c.args.taker ls after)
                 (ap (λ (ks : List ℕ). flat_map (tailed_at depth lists ks tree) taken.0) c.deref.ensures.value
                 ∙ tree-tailed tree depth scale lists counts costs taken.0 forked has taken.1

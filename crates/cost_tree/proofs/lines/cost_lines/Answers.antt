@@ -9,4 +9,5 @@ pub returns-clause-each : goal.returns-clause-each
 returns-clause-each c = λ stacks depth has.
     let taken = c.in_ok-take_lines.ensures.taken in
     let kept = taken.2 ∙ ap (λ (ls : List CostLine). ls ++ taken.0) c.new-lines.ensures.items in
-    subst (λ (ls : List CostLine). All (IsLineOf c.args.tree.now stacks depth) ls) (sym kept) (taken.1.each stacks depth has)
+    subst (λ (ls : List CostLine). All (IsLineOf c.args.tree.now stacks depth) ls) (sym kept)
+    (taken.1.each stacks depth has)

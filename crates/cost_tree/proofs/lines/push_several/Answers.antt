@@ -8,12 +8,14 @@ use Rattle.cost_tree.proofs.lines.push_several.Goals as goal
 pub overflow_cast-result : goal.overflow_cast-result
 overflow_cast-result c =
     let all = ap (λ (ps : List Pending). length ps) c.in_ok-push_shown.ensures.appended in
-    let parts = length-append c.args.pending.now.items (pending_children c.args.scale c.args.tree.now c.args.level c.args.node) in
+    let parts =
+    length-append c.args.pending.now.items (pending_children c.args.scale c.args.tree.now c.args.level c.args.node) in
     let fewer = children-fewer c.args.scale c.args.tree.now c.args.level c.args.node in
     omega arith
 
 pub returns-clause-count : goal.returns-clause-count
 returns-clause-count c =
     let all = ap (λ (ps : List Pending). length ps) c.in_ok-push_shown.ensures.appended in
-    let parts = length-append c.args.pending.now.items (pending_children c.args.scale c.args.tree.now c.args.level c.args.node) in
+    let parts =
+    length-append c.args.pending.now.items (pending_children c.args.scale c.args.tree.now c.args.level c.args.node) in
     omega arith

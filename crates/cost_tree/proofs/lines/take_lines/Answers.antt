@@ -12,34 +12,47 @@ use Rattle.cost_tree.proofs.lines.take_lines.Goals as goal
 pub each_pending-init : goal.each_pending-init
 each_pending-init g c =
     let tree = c.args.tree.now in
-    let pushed : c.push.new.self.items ≡ Below 0 0 ∷ [] = c.in_ok-push.ensures.items ∙ ap (λ (ps : List Pending). ps ++ Below 0 0 ∷ []) c.new-pending.ensures.items in (
+    let pushed : c.push.new.self.items ≡ Below 0 0 ∷ [] =
+    c.in_ok-push.ensures.items ∙ ap (λ (ps : List Pending). ps ++ Below 0 0 ∷ []) c.new-pending.ensures.items in (
       [],
-      subst (λ (ps : List Pending). IsWalking c.args.scale tree [] ps) (sym pushed) (walking-root c.args.scale tree c.requires.tree.0 c.requires.tree.1 c.requires.tree.2),
+      subst (λ (ps : List Pending). IsWalking c.args.scale tree [] ps) (sym pushed)
+          (walking-root c.args.scale tree c.requires.tree.0 c.requires.tree.1 c.requires.tree.2),
       c.requires.none_yet,
     )
 
 pub take_pending-requires-clause-within : goal.take_pending-requires-clause-within
 take_pending-requires-clause-within g c =
-    let held = All-pop (IsPending c.args.tree.now) c.each_pending.pending.items c.pop.new.self.items (Some c.in-Some.next) c.in-Some.ensures.items c.each_pending.invariant.1.held in
-    (step-is c.args.scale c.args.tree.now c.requires.tree.0 c.requires.tree.1 c.in-Some.next c.requires.tree.2 held.1).within
+    let held =
+    All-pop (IsPending c.args.tree.now) c.each_pending.pending.items c.pop.new.self.items (Some c.in-Some.next)
+    c.in-Some.ensures.items c.each_pending.invariant.1.held in
+    (step-is c.args.scale c.args.tree.now c.requires.tree.0 c.requires.tree.1 c.in-Some.next c.requires.tree.2
+    held.1).within
 
 pub take_pending-requires-clause-few : goal.take_pending-requires-clause-few
 take_pending-requires-clause-few g c =
-    let held = All-pop (IsPending c.args.tree.now) c.each_pending.pending.items c.pop.new.self.items (Some c.in-Some.next) c.in-Some.ensures.items c.each_pending.invariant.1.held in
-    (step-is c.args.scale c.args.tree.now c.requires.tree.0 c.requires.tree.1 c.in-Some.next c.requires.tree.2 held.1).few
+    let held =
+    All-pop (IsPending c.args.tree.now) c.each_pending.pending.items c.pop.new.self.items (Some c.in-Some.next)
+    c.in-Some.ensures.items c.each_pending.invariant.1.held in
+    (step-is c.args.scale c.args.tree.now c.requires.tree.0 c.requires.tree.1 c.in-Some.next c.requires.tree.2
+    held.1).few
 
 pub take_line-requires-clause-place : goal.take_line-requires-clause-place
 take_line-requires-clause-place g c =
-    let line = walking-line c.args.scale c.args.tree.now c.each_pending.invariant.0 c.each_pending.pending.items c.pop.new.self.items c.in-Some.next c.each_pending.invariant.1 c.in-Some.ensures.items
+    let line =
+    walking-line c.args.scale c.args.tree.now c.each_pending.invariant.0 c.each_pending.pending.items
+    c.pop.new.self.items c.in-Some.next c.each_pending.invariant.1 c.in-Some.ensures.items
     c.requires.tree.0 c.requires.tree.1 c.requires.tree.2 in
     subst (λ (it : CostLine). IsPlace c.args.tree.now it.place) (sym c.in_ok-line.ensures.line) line.place
 
 pub each_pending-smaller : goal.each_pending-smaller
 each_pending-smaller g c =
     let tree = c.args.tree.now in
-    let held = All-pop (IsPending tree) c.each_pending.pending.items c.pop.new.self.items (Some c.in-Some.next) c.in-Some.ensures.items c.each_pending.invariant.1.held in
+    let held =
+    All-pop (IsPending tree) c.each_pending.pending.items c.pop.new.self.items (Some c.in-Some.next)
+    c.in-Some.ensures.items c.each_pending.invariant.1.held in
     let step = step-is c.args.scale tree c.requires.tree.0 c.requires.tree.1 c.in-Some.next c.requires.tree.2 held.1 in
-    left-smaller (weight tree) c.each_pending.pending.items c.pop.new.self.items c.take_pending.new.pending.items (pending_below c.args.scale tree c.in-Some.next) c.in-Some.next
+    left-smaller (weight tree) c.each_pending.pending.items c.pop.new.self.items c.take_pending.new.pending.items
+    (pending_below c.args.scale tree c.in-Some.next) c.in-Some.next
     c.in-Some.ensures.items c.in_ok-line.ensures.below step.lighter
 
 pub each_pending-preserved : goal.each_pending-preserved
@@ -49,8 +62,11 @@ each_pending-preserved g c =
     let lines : List CostLine = c.each_pending.invariant.0 in
     let made = pending_line c.args.scale tree next in (
       lines ++ made ∷ [],
-      walking-next c.args.scale tree lines c.each_pending.pending.items c.pop.new.self.items c.take_pending.new.pending.items next c.each_pending.invariant.1 c.in-Some.ensures.items c.in_ok-line.ensures.below
+      walking-next c.args.scale tree lines c.each_pending.pending.items c.pop.new.self.items
+          c.take_pending.new.pending.items next c.each_pending.invariant.1 c.in-Some.ensures.items
+          c.in_ok-line.ensures.below
           c.requires.tree.0 c.requires.tree.1 c.requires.tree.2,
-      subst (λ (it : CostLine). g.T.CostLineTaker.takes tree c.args.taker.now (lines ++ it ∷ []) c.take_line.new.self) c.in_ok-line.ensures.line
+      subst (λ (it : CostLine). g.T.CostLineTaker.takes tree c.args.taker.now (lines ++ it ∷ []) c.take_line.new.self)
+          c.in_ok-line.ensures.line
           (c.in_ok-take_line.ensures.taken c.args.taker.now lines c.each_pending.invariant.2),
     )

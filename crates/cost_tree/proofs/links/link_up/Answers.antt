@@ -29,7 +29,8 @@ index-requires c =
     let inside = c.each_node-test.true in
     let count = (c.each_node.invariant.children (n + 1) (omega arith)).firsts_count in
     let firsts = length-map links (λ (l : Link). l.first_child) in
-    let below = c.requires.lower n (get_or nodes n no_node) (omega arith) (slice_get-get_or nodes n no_node (omega arith)) in
+    let below =
+    c.requires.lower n (get_or nodes n no_node) (omega arith) (slice_get-get_or nodes n no_node (omega arith)) in
     omega arith
 
 pub index_mut-requires-in-each_node : goal.index_mut-requires-in-each_node
@@ -40,7 +41,8 @@ index_mut-requires-in-each_node c =
     let inside = c.each_node-test.true in
     let count = (c.each_node.invariant.children (n + 1) (omega arith)).firsts_count in
     let firsts = length-map links (λ (l : Link). l.first_child) in
-    let below = c.requires.lower n (get_or nodes n no_node) (omega arith) (slice_get-get_or nodes n no_node (omega arith)) in
+    let below =
+    c.requires.lower n (get_or nodes n no_node) (omega arith) (slice_get-get_or nodes n no_node (omega arith)) in
     omega arith
 
 pub each_node-preserved : goal.each_node-preserved
@@ -55,15 +57,22 @@ each_node-preserved c =
     let from = now.children (n + 1) (omega arith) in
     let count = from.firsts_count in
     let firsts = length-map links (λ (l : Link). l.first_child) in
-    let below : parent < n = c.requires.lower n (get_or nodes n no_node) (omega arith) (slice_get-get_or nodes n no_node (omega arith)) in
-    let is = linked-is links n parent child c.index_mut.result.now c.index_mut-in-each_node.result.now c.index_mut.ensures.value c.index_mut-in-each_node.ensures.value in
+    let below : parent < n =
+    c.requires.lower n (get_or nodes n no_node) (omega arith) (slice_get-get_or nodes n no_node (omega arith)) in
+    let is =
+    linked-is links n parent child c.index_mut.result.now c.index_mut-in-each_node.result.now
+    c.index_mut.ensures.value c.index_mut-in-each_node.ensures.value in
     let read = first-read links parent c.index.result.now (omega arith) c.index.ensures in
     record {
       costs = is.costs ∙ now.costs;
       texts = is.texts ∙ now.texts;
       children = λ m m_is.
-          let next = AreLinksFrom-read nodes (firsts_in links) (nexts_in links) m n child no_node (omega arith) (now.children (m + 1) (omega arith)) (omega arith) (omega arith) c.requires.lower read in
-          let P : List ℕ → Type 0 = λ fs. AreLinksFrom nodes fs (nexts_in (linked links n parent child c.index_mut.result.now c.index_mut-in-each_node.result.now)) m in
+          let next =
+          AreLinksFrom-read nodes (firsts_in links) (nexts_in links) m n child no_node (omega arith)
+          (now.children (m + 1) (omega arith)) (omega arith) (omega arith) c.requires.lower read in
+          let P : List ℕ → Type 0 =
+          λ fs. AreLinksFrom nodes fs
+          (nexts_in (linked links n parent child c.index_mut.result.now c.index_mut-in-each_node.result.now)) m in
           let Q : List ℕ → Type 0 = λ ns. AreLinksFrom nodes (set (firsts_in links) parent n) ns m in
           subst P (sym is.firsts) (subst Q (sym is.nexts) next);
     }

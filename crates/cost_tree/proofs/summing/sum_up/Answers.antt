@@ -7,7 +7,15 @@ use Rattle.std.proofs.lemmas.Option.{slice_get_read}
 use Rattle.cost_tree.specs.declared.node.CostNode.{CostNode}
 use Rattle.cost_tree.specs.Growth.{weight}
 use Rattle.cost_tree.specs.Summed.{AreSumsFrom}
-use Rattle.cost_tree.proofs.Totals.{left-fewer, left-moved, parent-lower, sums-parent, sums-root, sums-start, two-within}
+use Rattle.cost_tree.proofs.Totals.{
+  left-fewer,
+  left-moved,
+  parent-lower,
+  sums-parent,
+  sums-root,
+  sums-start,
+  two-within,
+}
 use Rattle.cost_tree.proofs.summing.sum_up.Goals as goal
 use Rattle.cost_tree.proofs.summing.sum_up.Goals.{then-node-gt0, else-node-gt0}
 
@@ -25,8 +33,11 @@ index_mut-requires c =
     let nodes = c.each_node.nodes.items in
     let n : ℕ = c.len.result - c.each_node.done in
     let node : CostNode = c.index-node.result.now in
-    let at : slice_get nodes n ≡ Some node = slice_get_read nodes (length nodes) n node refl (omega (arith, now.count)) c.index-node.ensures in
-    let lower = parent-lower c.args.nodes.now.items nodes (n + 1) n node (now.sums (n + 1) (omega (arith, now.count))) c.requires.lower (omega arith) at in
+    let at : slice_get nodes n ≡ Some node =
+    slice_get_read nodes (length nodes) n node refl (omega (arith, now.count)) c.index-node.ensures in
+    let lower =
+    parent-lower c.args.nodes.now.items nodes (n + 1) n node (now.sums (n + 1) (omega (arith, now.count)))
+    c.requires.lower (omega arith) at in
     omega (arith, now.count)
 
 pub overflow_add-index_mut : goal.overflow_add-index_mut
@@ -36,9 +47,14 @@ overflow_add-index_mut c =
     let n : ℕ = c.len.result - c.each_node.done in
     let node : CostNode = c.index-node.result.now in
     let parent : CostNode = c.index_mut.result.now in
-    let at : slice_get nodes n ≡ Some node = slice_get_read nodes (length nodes) n node refl (omega (arith, now.count)) c.index-node.ensures in
-    let lower = parent-lower c.args.nodes.now.items nodes (n + 1) n node (now.sums (n + 1) (omega (arith, now.count))) c.requires.lower (omega arith) at in
-    let parent_at : slice_get nodes node.parent ≡ Some parent = slice_get_read nodes (length nodes) node.parent parent refl (omega (arith, now.count)) c.index_mut.ensures.value in
+    let at : slice_get nodes n ≡ Some node =
+    slice_get_read nodes (length nodes) n node refl (omega (arith, now.count)) c.index-node.ensures in
+    let lower =
+    parent-lower c.args.nodes.now.items nodes (n + 1) n node (now.sums (n + 1) (omega (arith, now.count)))
+    c.requires.lower (omega arith) at in
+    let parent_at : slice_get nodes node.parent ≡ Some parent =
+    slice_get_read nodes (length nodes) node.parent parent refl (omega (arith, now.count))
+    c.index_mut.ensures.value in
     let both = two-within nodes n node.parent node parent at parent_at lower in
     let left = now.left (n + 1) (omega (arith, now.count)) in
     omega arith
@@ -50,14 +66,17 @@ each_node-preserved c =
     let nodes = c.each_node.nodes.items in
     let n : ℕ = c.len.result - c.each_node.done in
     let node : CostNode = c.index-node.result.now in
-    let at : slice_get nodes n ≡ Some node = slice_get_read nodes (length nodes) n node refl (omega (arith, now.count)) c.index-node.ensures in
+    let at : slice_get nodes n ≡ Some node =
+    slice_get_read nodes (length nodes) n node refl (omega (arith, now.count)) c.index-node.ensures in
     let sums = now.sums (n + 1) (omega (arith, now.count)) in
     let left = now.left (n + 1) (omega (arith, now.count)) in
     let lower = parent-lower before nodes (n + 1) n node sums c.requires.lower (omega arith) at in
     elim c.if-node-gt0.branch [
       | then-node-gt0 w ↦
           let parent : CostNode = w.index_mut.result.now in
-          let parent_at : slice_get nodes node.parent ≡ Some parent = slice_get_read nodes (length nodes) node.parent parent refl (omega (arith, now.count)) w.index_mut.ensures.value in
+          let parent_at : slice_get nodes node.parent ≡ Some parent =
+          slice_get_read nodes (length nodes) node.parent parent refl (omega (arith, now.count))
+          w.index_mut.ensures.value in
           let after = sums-parent before nodes n node parent sums at w.if-node-gt0.true lower parent_at in
           let fewer = left-moved nodes n node.parent node parent at parent_at lower in
           let same = length-set nodes node.parent (record parent { cost = parent.cost + node.cost }) in
@@ -65,8 +84,17 @@ each_node-preserved c =
           record {
             count = ap (λ (ns : List CostNode). length ns) is ∙ same ∙ now.count;
             most = omega (arith, now.count);
-            sums = λ m m_is. let place : n ≡ m = omega (arith, now.count) in subst (λ (k : ℕ). AreSumsFrom before c.if-node-gt0.nodes.items k) place (subst (λ (ns : List CostNode). AreSumsFrom before ns n) (sym is) after);
-            left = λ m m_is. let place : n ≡ m = omega (arith, now.count) in subst (λ (k : ℕ). sum_by weight (take k c.if-node-gt0.nodes.items) < 2 ^ 64) place (subst (λ (ns : List CostNode). sum_by weight (take n ns) < 2 ^ 64) (sym is) (omega arith));
+            sums =
+                λ m m_is. let place : n
+                ≡ m =
+                omega (arith, now.count) in subst (λ (k : ℕ). AreSumsFrom before c.if-node-gt0.nodes.items k) place
+                (subst (λ (ns : List CostNode). AreSumsFrom before ns n) (sym is) after);
+            left =
+                λ m m_is. let place : n
+                ≡ m =
+                omega (arith, now.count) in subst
+                (λ (k : ℕ). sum_by weight (take k c.if-node-gt0.nodes.items) < 2 ^ 64) place
+                (subst (λ (ns : List CostNode). sum_by weight (take n ns) < 2 ^ 64) (sym is) (omega arith));
           }
       | else-node-gt0 w ↦
           let after = sums-root before nodes n node sums at (omega (arith, w.if-node-gt0.false)) in
@@ -75,10 +103,23 @@ each_node-preserved c =
           record {
             count = ap (λ (ns : List CostNode). length ns) is ∙ now.count;
             most = omega (arith, now.count);
-            sums = λ m m_is. let place : n ≡ m = omega (arith, now.count) in subst (λ (k : ℕ). AreSumsFrom before c.if-node-gt0.nodes.items k) place (subst (λ (ns : List CostNode). AreSumsFrom before ns n) (sym is) after);
-            left = λ m m_is. let place : n ≡ m = omega (arith, now.count) in subst (λ (k : ℕ). sum_by weight (take k c.if-node-gt0.nodes.items) < 2 ^ 64) place (subst (λ (ns : List CostNode). sum_by weight (take n ns) < 2 ^ 64) (sym is) (omega arith));
+            sums =
+                λ m m_is. let place : n
+                ≡ m =
+                omega (arith, now.count) in subst (λ (k : ℕ). AreSumsFrom before c.if-node-gt0.nodes.items k) place
+                (subst (λ (ns : List CostNode). AreSumsFrom before ns n) (sym is) after);
+            left =
+                λ m m_is. let place : n
+                ≡ m =
+                omega (arith, now.count) in subst
+                (λ (k : ℕ). sum_by weight (take k c.if-node-gt0.nodes.items) < 2 ^ 64) place
+                (subst (λ (ns : List CostNode). sum_by weight (take n ns) < 2 ^ 64) (sym is) (omega arith));
           }
     ]
 
 pub returns : goal.returns
-returns c = record { sums = c.each_node.invariant.sums 1 (omega (arith, c.each_node.invariant.count, c.each_node.invariant.most)) }
+returns c =
+    record {
+      sums = c.each_node.invariant.sums 1
+          (omega (arith, c.each_node.invariant.count, c.each_node.invariant.most));
+    }

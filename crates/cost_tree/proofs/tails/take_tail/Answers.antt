@@ -1,4 +1,22 @@
-use Rattle.std.proofs.Common.{◌≡◌, ℕ, ◌+◌, ◌-◌, List, [], ◌∷◌, ◌++◌, length, map, sym, ap, ◌∙◌, subst, append-nil, append_assoc, arith}
+use Rattle.std.proofs.Common.{
+  ◌≡◌,
+  ℕ,
+  ◌+◌,
+  ◌-◌,
+  List,
+  [],
+  ◌∷◌,
+  ◌++◌,
+  length,
+  map,
+  sym,
+  ap,
+  ◌∙◌,
+  subst,
+  append-nil,
+  append_assoc,
+  arith,
+}
 use Rattle.std.specs.List.{range_with_len}
 use Rattle.std.proofs.lemmas.List.FromFn.{map-range_with_len_more}
 use Rattle.std.proofs.lemmas.List.{length-map}
@@ -16,7 +34,8 @@ each_text-init g c =
       within = omega arith;
       taken = λ first lines before.
           subst (λ (ls : List FrontLine). g.T.FrontLineTaker.takes c.args.names.now first ls c.args.taker.now)
-          (sym (append-nil lines) ∙ ap (λ (n : ℕ). lines ++ map f (range_with_len (c.args.count + 1) n)) (sym none)) before;
+          (sym (append-nil lines) ∙ ap (λ (n : ℕ). lines ++ map f (range_with_len (c.args.count + 1) n)) (sym none))
+          before;
     }
 
 pub each_text-preserved : goal.each_text-preserved
@@ -34,8 +53,10 @@ each_text-preserved g c =
       taken = λ first lines before.
           subst (λ (ls : List FrontLine). g.T.FrontLineTaker.takes c.args.names.now first ls c.take_line.new.self)
           (append_assoc lines done (f (place + 1) ∷ [])
-          ∙ ap (λ (ls : List FrontLine). lines ++ ls) (sym more ∙ ap (λ (n : ℕ). map f (range_with_len (count + 1) n)) (sym next)))
-          (c.in_ok-take_line.ensures.taken c.args.names.now (f (place + 1)) first (lines ++ done) c.tail_line.ensures (c.each_text.invariant.taken first lines before));
+          ∙ ap (λ (ls : List FrontLine). lines ++ ls)
+          (sym more ∙ ap (λ (n : ℕ). map f (range_with_len (count + 1) n)) (sym next)))
+          (c.in_ok-take_line.ensures.taken c.args.names.now (f (place + 1)) first (lines ++ done) c.tail_line.ensures
+          (c.each_text.invariant.taken first lines before));
     }
 
 pub returns : goal.returns
@@ -50,6 +71,9 @@ returns g c =
     let all : c.each_text.place - count ≡ length texts - count = omega arith in
     record {
       taken = λ first lines before.
-          subst (λ (n : ℕ). g.T.FrontLineTaker.takes names first (lines ++ map f (range_with_len (count + 1) n)) c.each_text.taker) all
+          subst
+          (λ (n : ℕ). g.T.FrontLineTaker.takes names first (lines ++ map f (range_with_len (count + 1) n))
+          c.each_text.taker)
+          all
           (c.each_text.invariant.taken first lines before);
     }

@@ -10,6 +10,9 @@ abbrev pub invariant-each_text : goal.invariant-each_text
 invariant-each_text g l = record {
   begun : l.count ≤ l.place;
   within : l.place - l.count ≤ length l.numbers - l.count;
-  taken : (first : g.row.T.Denot) (lines : List FrontLine) → g.T.FrontLineTaker.takes l.names first lines l.initial.taker
-      → g.T.FrontLineTaker.takes l.names first (lines ++ map (tail_line (texts_of l.names l.numbers) l.cost) (range_with_len (l.count + 1) (l.place - l.count))) l.taker;
+  taken : (first : g.row.T.Denot) (lines : List FrontLine)
+      → g.T.FrontLineTaker.takes l.names first lines l.initial.taker
+      → g.T.FrontLineTaker.takes l.names first
+      (lines ++ map (tail_line (texts_of l.names l.numbers) l.cost) (range_with_len (l.count + 1) (l.place - l.count)))
+      l.taker;
 }

@@ -33,4 +33,8 @@ each_step-preserved c =
     ∙ ap (λ (ss : List ListStep). told ss) (sym (take_more steps place (Begin 0) (omega arith)))
 
 pub returns : goal.returns
-returns c = record { lists = c.each_step.invariant ∙ ap (λ (ss : List ListStep). told ss) (take_all c.each_step.step-index c.args.steps.now (omega arith)) }
+returns c =
+    record {
+      lists = c.each_step.invariant
+          ∙ ap (λ (ss : List ListStep). told ss) (take_all c.each_step.step-index c.args.steps.now (omega arith));
+    }

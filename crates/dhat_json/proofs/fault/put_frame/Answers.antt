@@ -12,4 +12,5 @@ returns c =
     on_ok_weaker c.put_bytes-2.result (λ last. last
     ∙ (ap (λ (o : List ℕ). o ++ codes " ") (c.in_ok-put_dec.ensures.appended
     ∙ ap (λ (o : List ℕ). o ++ decimal c.args.frame) c.in_ok-put_bytes.ensures.appended)
-    ∙ four_texts c.args.out.now.items (codes "frame ") (decimal c.args.frame) (codes " "))) c.put_bytes-2.ensures.appended
+    ∙ four_texts c.args.out.now.items (codes "frame ") (decimal c.args.frame) (codes " ")))
+    c.put_bytes-2.ensures.appended

@@ -5,9 +5,26 @@ use Rattle.json.specs.Reads.{token_of}
 use Rattle.json.proofs.Grammar.{left_none, left_some, left-parse_map, read_key-shorter, value_is}
 use Rattle.serde_json.specs.Data.{no_members, item, put}
 use Rattle.serde_json.specs.Read.{of_json, converted}
-use Rattle.dhat_json.proofs.AheadTurns.{item_read, item_refused, items_over, member_read, member_refused, key_refused, members_over}
+use Rattle.dhat_json.proofs.AheadTurns.{
+  item_read,
+  item_refused,
+  items_over,
+  member_read,
+  member_refused,
+  key_refused,
+  members_over,
+}
 use Rattle.dhat_json.specs.Ahead.{behind, value_ahead}
-use Rattle.dhat_json.proofs.AheadLemmas.{behind_array, behind_object, boolean_ahead, nothing_ahead, null_ahead, number_in, number_out, string_ahead}
+use Rattle.dhat_json.proofs.AheadLemmas.{
+  behind_array,
+  behind_object,
+  boolean_ahead,
+  nothing_ahead,
+  null_ahead,
+  number_in,
+  number_out,
+  string_ahead,
+}
 use Rattle.dhat_json.proofs.pass.+pass.Goals as goal
 
 pub pass_items-items-init : goal.pass_items-items-init
@@ -20,11 +37,13 @@ pass_items-items-preserved t c =
     let n = l.invariant.0 in
     let going : (after_end_array l.reader ≡ None) × (c.take_end_array.new.self ≡ l.reader) = grind arith in
     let less : length c.pass_value.new.reader < length l.reader = rw (← going.1) c.in_ok-pass_value.ensures.shorter in
-    let passed : behind (value_ahead c.args.depth l.reader) ≡ Some c.pass_value.new.reader = rw (← going.1) c.in_ok-pass_value.ensures.passed in
+    let passed : behind (value_ahead c.args.depth l.reader) ≡ Some c.pass_value.new.reader =
+    rw (← going.1) c.in_ok-pass_value.ensures.passed in
     let d = left_some (value_ahead c.args.depth l.reader) c.pass_value.new.reader passed in (
       n - 1,
       omega (arith, l.invariant.1),
-      l.invariant.2 ∙ ap behind (item_read p n l.reader _ d.0 (omega (arith, l.invariant.1)) going.0 d.1) ∙ left-parse_map (item d.0) _,
+      l.invariant.2 ∙ ap behind (item_read p n l.reader _ d.0 (omega (arith, l.invariant.1)) going.0 d.1)
+          ∙ left-parse_map (item d.0) _,
       omega (arith, l.invariant.3),
     )
 
@@ -34,7 +53,10 @@ pass_items-returns-in_err-pass_value-clause-passed t c =
     let l = c.items in
     let n = l.invariant.0 in
     let going : (after_end_array l.reader ≡ None) × (c.take_end_array.new.self ≡ l.reader) = grind arith in
-    let none = l.invariant.2 ∙ ap behind (item_refused p n l.reader going.0 (left_none _ (rw (← going.1) c.in_err-pass_value.ensures.passed))) in
+    let none =
+    l.invariant.2
+    ∙ ap behind
+    (item_refused p n l.reader going.0 (left_none _ (rw (← going.1) c.in_err-pass_value.ensures.passed))) in
     grind (arith, none)
 
 pub pass_items-returns-clause-passed : goal.pass_items-returns-clause-passed
@@ -69,7 +91,8 @@ pass_members-members-preserved t c =
       n - 1,
       omega (arith, l.invariant.1),
       put k d.0 l.invariant.2,
-      l.invariant.3 ∙ ap behind (member_read p l.invariant.2 n k l.reader s _ d.0 (omega (arith, l.invariant.1)) named d.1),
+      l.invariant.3
+          ∙ ap behind (member_read p l.invariant.2 n k l.reader s _ d.0 (omega (arith, l.invariant.1)) named d.1),
       omega (arith, l.invariant.4),
     )
 
@@ -81,7 +104,10 @@ pass_members-returns-in_err-pass_value-clause-passed t c =
     let k = c.in-Some.field-0.now in
     let s = c.next_key.new.self in
     let named : read_key l.reader ≡ Some (Some k, s) = grind arith in
-    let none = l.invariant.3 ∙ ap behind (member_refused p l.invariant.2 n k l.reader s named (left_none _ c.in_err-pass_value.ensures.passed)) in
+    let none =
+    l.invariant.3
+    ∙ ap behind
+    (member_refused p l.invariant.2 n k l.reader s named (left_none _ c.in_err-pass_value.ensures.passed)) in
     grind (arith, none)
 
 pub pass_members-returns-clause-passed : goal.pass_members-returns-clause-passed
@@ -100,22 +126,26 @@ pass_value-returns-in_err-token-clause-passed t c =
 pub pass_value-returns-in-String-clause-passed : goal.pass_value-returns-in-String-clause-passed
 pass_value-returns-in-String-clause-passed t c =
     let first : c.args.reader.now ≡ token_of c.in_ok-token.token ∷ c.next.new.self = grind arith in
-    ap behind (ap (value_ahead c.args.depth) (first ∙ ap (λ k. token_of k ∷ c.next.new.self) c.in-String.is) ∙ string_ahead c.args.depth _ _)
+    ap behind (ap (value_ahead c.args.depth) (first ∙ ap (λ k. token_of k ∷ c.next.new.self) c.in-String.is)
+    ∙ string_ahead c.args.depth _ _)
 
 pub pass_value-returns-in-Bool-clause-passed : goal.pass_value-returns-in-Bool-clause-passed
 pass_value-returns-in-Bool-clause-passed t c =
     let first : c.args.reader.now ≡ token_of c.in_ok-token.token ∷ c.next.new.self = grind arith in
-    ap behind (ap (value_ahead c.args.depth) (first ∙ ap (λ k. token_of k ∷ c.next.new.self) c.in-Bool.is) ∙ boolean_ahead c.args.depth _ _)
+    ap behind (ap (value_ahead c.args.depth) (first ∙ ap (λ k. token_of k ∷ c.next.new.self) c.in-Bool.is)
+    ∙ boolean_ahead c.args.depth _ _)
 
 pub pass_value-returns-in-Null-clause-passed : goal.pass_value-returns-in-Null-clause-passed
 pass_value-returns-in-Null-clause-passed t c =
     let first : c.args.reader.now ≡ token_of c.in_ok-token.token ∷ c.next.new.self = grind arith in
-    ap behind (ap (value_ahead c.args.depth) (first ∙ ap (λ k. token_of k ∷ c.next.new.self) c.in-Null.is) ∙ null_ahead c.args.depth _)
+    ap behind (ap (value_ahead c.args.depth) (first ∙ ap (λ k. token_of k ∷ c.next.new.self) c.in-Null.is)
+    ∙ null_ahead c.args.depth _)
 
 pub pass_value-returns-in-EndObject-clause-passed : goal.pass_value-returns-in-EndObject-clause-passed
 pass_value-returns-in-EndObject-clause-passed t c =
     let first : c.args.reader.now ≡ token_of c.in_ok-token.token ∷ c.next.new.self = grind arith in
-    let none : value c.args.depth c.args.reader.now ≡ None = rw (value_is c.args.depth c.args.reader.now, first) (grind arith) in
+    let none : value c.args.depth c.args.reader.now ≡ None =
+    rw (value_is c.args.depth c.args.reader.now, first) (grind arith) in
     ap behind (ap (converted of_json) none)
 
 pub pass_value-returns-then-depth-eq0-clause-passed : goal.pass_value-returns-then-depth-eq0-clause-passed
@@ -128,8 +158,11 @@ pass_value-returns-then-depth-eq0-clause-passed t c =
 pub pass_value-returns-else-depth-eq0-clause-passed : goal.pass_value-returns-else-depth-eq0-clause-passed
 pass_value-returns-else-depth-eq0-clause-passed t c =
     let first : c.args.reader.now ≡ token_of c.in_ok-token.token ∷ c.next.new.self = grind arith in
-    let opened : c.args.reader.now ≡ Token.begin_array ∷ c.next.new.self = first ∙ ap (λ k. token_of k ∷ c.next.new.self) c.in-BeginArray.is in
-    let same = ap (λ ts. behind (value_ahead c.args.depth ts)) opened ∙ behind_array c.args.depth c.next.new.self (omega arith) in
+    let opened : c.args.reader.now ≡ Token.begin_array ∷ c.next.new.self =
+    first ∙ ap (λ k. token_of k ∷ c.next.new.self) c.in-BeginArray.is in
+    let same =
+    ap (λ ts. behind (value_ahead c.args.depth ts)) opened
+    ∙ behind_array c.args.depth c.next.new.self (omega arith) in
     rw same c.pass_items.ensures.passed
 
 pub pass_value-returns-then-depth-eq0-2-clause-passed : goal.pass_value-returns-then-depth-eq0-2-clause-passed
@@ -142,16 +175,21 @@ pass_value-returns-then-depth-eq0-2-clause-passed t c =
 pub pass_value-returns-else-depth-eq0-2-clause-passed : goal.pass_value-returns-else-depth-eq0-2-clause-passed
 pass_value-returns-else-depth-eq0-2-clause-passed t c =
     let first : c.args.reader.now ≡ token_of c.in_ok-token.token ∷ c.next.new.self = grind arith in
-    let opened : c.args.reader.now ≡ Token.begin_object ∷ c.next.new.self = first ∙ ap (λ k. token_of k ∷ c.next.new.self) c.in-BeginObject.is in
-    let same = ap (λ ts. behind (value_ahead c.args.depth ts)) opened ∙ behind_object c.args.depth c.next.new.self (omega arith) in
+    let opened : c.args.reader.now ≡ Token.begin_object ∷ c.next.new.self =
+    first ∙ ap (λ k. token_of k ∷ c.next.new.self) c.in-BeginObject.is in
+    let same =
+    ap (λ ts. behind (value_ahead c.args.depth ts)) opened
+    ∙ behind_object c.args.depth c.next.new.self (omega arith) in
     rw same c.pass_members.ensures.passed
 
 pub pass_value-returns-then-is_in_range-clause-passed : goal.pass_value-returns-then-is_in_range-clause-passed
 pass_value-returns-then-is_in_range-clause-passed t c =
     let first : c.args.reader.now ≡ token_of c.in_ok-token.token ∷ c.next.new.self = grind arith in
-    ap behind (ap (value_ahead c.args.depth) (first ∙ ap (λ k. token_of k ∷ c.next.new.self) c.in-Number.is) ∙ number_in c.args.depth _ _ (sym c.is_in_range.ensures ∙ c.if-is_in_range.true))
+    ap behind (ap (value_ahead c.args.depth) (first ∙ ap (λ k. token_of k ∷ c.next.new.self) c.in-Number.is)
+    ∙ number_in c.args.depth _ _ (sym c.is_in_range.ensures ∙ c.if-is_in_range.true))
 
 pub pass_value-returns-else-is_in_range-clause-passed : goal.pass_value-returns-else-is_in_range-clause-passed
 pass_value-returns-else-is_in_range-clause-passed t c =
     let first : c.args.reader.now ≡ token_of c.in_ok-token.token ∷ c.next.new.self = grind arith in
-    ap behind (ap (value_ahead c.args.depth) (first ∙ ap (λ k. token_of k ∷ c.next.new.self) c.in-Number.is) ∙ number_out c.args.depth _ _ (sym c.is_in_range.ensures ∙ c.if-is_in_range.false))
+    ap behind (ap (value_ahead c.args.depth) (first ∙ ap (λ k. token_of k ∷ c.next.new.self) c.in-Number.is)
+    ∙ number_out c.args.depth _ _ (sym c.is_in_range.ensures ∙ c.if-is_in_range.false))

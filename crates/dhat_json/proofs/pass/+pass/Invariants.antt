@@ -16,7 +16,9 @@ decreases-pass_members l = 2 * l.depth + 1
 
 abbrev pub invariant-pass_items-items : goal.invariant-pass_items-items
 invariant-pass_items-items l =
-    (n : ℕ) × (length l.reader ≤ n) × (behind (items_ahead l.depth l.initial.reader) ≡ behind (converted of_items (items (value l.depth) n l.reader))) × (length l.reader ≤ length l.initial.reader)
+    (n : ℕ) × (length l.reader ≤ n)
+    × (behind (items_ahead l.depth l.initial.reader) ≡ behind (converted of_items (items (value l.depth) n l.reader)))
+    × (length l.reader ≤ length l.initial.reader)
 
 abbrev pub decreases-pass_items-items : goal.decreases-pass_items-items
 decreases-pass_items-items l = length l.reader
@@ -24,7 +26,8 @@ decreases-pass_items-items l = length l.reader
 abbrev pub invariant-pass_members-members : goal.invariant-pass_members-members
 invariant-pass_members-members l =
     (n : ℕ) × (length l.reader ≤ n) × (found : Members)
-    × (behind (members_ahead l.depth l.initial.reader) ≡ behind (converted (λ ms. of_members ms found) (members (value l.depth) n l.reader)))
+    × (behind (members_ahead l.depth l.initial.reader)
+    ≡ behind (converted (λ ms. of_members ms found) (members (value l.depth) n l.reader)))
     × (length l.reader ≤ length l.initial.reader)
 
 abbrev pub decreases-pass_members-members : goal.decreases-pass_members-members

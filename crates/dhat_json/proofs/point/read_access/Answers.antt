@@ -9,7 +9,8 @@ use Rattle.dhat_json.specs.ProfileIn.{access_in, whole_at}
 use Rattle.dhat_json.proofs.Findings.{fault_follows, passed_then, found_first, first_later, first_stays}
 use Rattle.dhat_json.proofs.point.read_access.Goals as goal
 
-access_is : (d : Data) (both : ℕ × ℕ) → both ≡ (whole_at Rb d, whole_at Wb d) → record { rb = both.0; wb = both.1 } ≡ access_in d
+access_is : (d : Data) (both : ℕ × ℕ) → both ≡ (whole_at Rb d, whole_at Wb d)
+    → record { rb = both.0; wb = both.1 } ≡ access_in d
 access_is d both both-are = rw both-are refl
 
 pub returns-in_err-rb : goal.returns-in_err-rb
@@ -18,14 +19,17 @@ returns-in_err-rb c =
     let n = c.args.number in
     let p = err_from_is_err_and c.from_residual.result c.from_residual.ensures.1 in
     let fault = c.in_err-rb.field-0.0 in
-    rw (c.if-not-told.false, p.1, p.2) (fault_follows _ _ fault c.in_err-rb.ensures (λ found. first_stays (pair_findings n Rb Wb d) (allowed as_list (Some n) Acc d ∷ []) fault found))
+    rw (c.if-not-told.false, p.1, p.2)
+    (fault_follows _ _ fault c.in_err-rb.ensures
+    (λ found. first_stays (pair_findings n Rb Wb d) (allowed as_list (Some n) Acc d ∷ []) fault found))
 
 pub returns-in_err-check_counts : goal.returns-in_err-check_counts
 returns-in_err-check_counts c =
     let d = data_of c.args.value.now in
     let n = c.args.number in
     let counts = allowed as_list (Some n) Acc d in
-    let p = err_from_is_err_and c.from_residual-in_err-check_counts.result c.from_residual-in_err-check_counts.ensures.1 in
+    let p =
+    err_from_is_err_and c.from_residual-in_err-check_counts.result c.from_residual-in_err-check_counts.ensures.1 in
     let fault = c.in_err-check_counts.field-0.0 in
     rw (c.if-not-told.false, p.1, p.2) (fault_follows _ _ fault c.in_err-check_counts.ensures (λ found.
     first_later (pair_findings n Rb Wb d) (counts ∷ []) c.in_ok-rb.ensures.0 ∙ found_first counts [] fault found))
@@ -36,5 +40,8 @@ returns c =
     let n = c.args.number in
     let counts = allowed as_list (Some n) Acc d in
     let both = c.in_ok-rb in
-    rw c.if-not-told.false
-    (first_later (pair_findings n Rb Wb d) (counts ∷ []) both.ensures.0 ∙ passed_then counts [] c.in_ok-check_counts.ensures.0, ap Some (access_is d (both.rb, both.wb) both.ensures.1))
+    rw c.if-not-told.false (
+      first_later (pair_findings n Rb Wb d) (counts ∷ []) both.ensures.0
+          ∙ passed_then counts [] c.in_ok-check_counts.ensures.0,
+      ap Some (access_is d (both.rb, both.wb) both.ensures.1),
+    )

@@ -15,12 +15,17 @@ loop-frame-preserved c =
     let values = c.in_ok-values.values.now in
     let x = c.frame-item.result in
     let read = c.in_ok-read_frame.ensures in
-    let P : List ℕ → Type 0 = λ frames. Passed (frame_finding c.args.number c.args.frames) whole_in values (l.frame-index + 1) frames in
-    let more = passed_more (frame_finding c.args.number c.args.frames) whole_in values l.frame-index l.list x (omega arith) c.frame-item.is l.invariant read.0 in
+    let P : List ℕ → Type 0 =
+    λ frames. Passed (frame_finding c.args.number c.args.frames) whole_in values (l.frame-index + 1) frames in
+    let more =
+    passed_more (frame_finding c.args.number c.args.frames) whole_in values l.frame-index l.list x (omega arith)
+    c.frame-item.is l.invariant read.0 in
     subst P (sym (c.in_ok-push.ensures.appended ∙ ap (λ (frame : ℕ). l.list ++ frame ∷ []) read.1)) more
 
 pub loop-frame-init : goal.loop-frame-init
-loop-frame-init c = rw c.new-list.ensures.empty (passed_none (frame_finding c.args.number c.args.frames) whole_in c.in_ok-values.values.now)
+loop-frame-init c =
+    rw c.new-list.ensures.empty
+    (passed_none (frame_finding c.args.number c.args.frames) whole_in c.in_ok-values.values.now)
 
 pub returns-in_err-read_frame : goal.returns-in_err-read_frame
 returns-in_err-read_frame c =
@@ -32,7 +37,9 @@ returns-in_err-read_frame c =
     let fault = c.in_err-read_frame.field-0.0 in
     let list = c.in_ok-values.ensures.ok in
     rw (p.1, p.2) (fault_follows _ _ fault c.in_err-read_frame.ensures (λ found.
-    list_refused (needed as_list (Some number) Fs d) (frame_finding number frames) whole_in c.in_ok-values.values.now (list_at Fs d) l.frame-index l.list c.frame-item.result fault list.0 list.1 (omega arith) c.frame-item.is l.invariant found))
+    list_refused (needed as_list (Some number) Fs d) (frame_finding number frames) whole_in c.in_ok-values.values.now
+    (list_at Fs d) l.frame-index l.list c.frame-item.result fault list.0 list.1 (omega arith) c.frame-item.is
+    l.invariant found))
 
 pub returns-in_err-push : goal.returns-in_err-push
 returns-in_err-push c =
@@ -46,4 +53,5 @@ returns c =
     let number = c.args.number in
     let frames = c.args.frames in
     let list = c.in_ok-values.ensures.ok in
-    list_read (needed as_list (Some number) Fs d) (frame_finding number frames) whole_in c.in_ok-values.values.now (list_at Fs d) l.frame-index l.list list.0 list.1 (omega arith) l.invariant
+    list_read (needed as_list (Some number) Fs d) (frame_finding number frames) whole_in c.in_ok-values.values.now
+    (list_at Fs d) l.frame-index l.list list.0 list.1 (omega arith) l.invariant

@@ -16,7 +16,8 @@ gb_on number d = pair_findings number Gb Gbk d ++ pair_findings number Eb Ebk d
 abbrev mb_on : ℕ → Data → List Finding
 mb_on number d = pair_findings number Mb Mbk d ++ gb_on number d
 
-life_is : (d : Data) (tl : ℕ) (mb gb eb : ℕ × ℕ) → tl ≡ whole_at Tl d → mb ≡ (whole_at Mb d, whole_at Mbk d) → gb ≡ (whole_at Gb d, whole_at Gbk d) → eb ≡ (whole_at Eb d, whole_at Ebk d)
+life_is : (d : Data) (tl : ℕ) (mb gb eb : ℕ × ℕ) → tl ≡ whole_at Tl d → mb ≡ (whole_at Mb d, whole_at Mbk d)
+    → gb ≡ (whole_at Gb d, whole_at Gbk d) → eb ≡ (whole_at Eb d, whole_at Ebk d)
     → record { tl = tl; mb = mb.0; mbk = mb.1; gb = gb.0; gbk = gb.1; eb = eb.0; ebk = eb.1 } ≡ life_in d
 life_is d tl mb gb eb tl-is mb-is gb-is eb-is = rw (tl-is, mb-is, gb-is, eb-is) refl
 
@@ -26,7 +27,9 @@ returns-in_err-tl c =
     let n = c.args.number in
     let p = err_from_is_err_and c.from_residual.result c.from_residual.ensures.1 in
     let fault = c.in_err-tl.field-0.0 in
-    rw (c.if-not-told.false, p.1, p.2) (fault_follows _ _ fault c.in_err-tl.ensures (λ found. found_first (needed as_whole (Some n) Tl d) (mb_on n d) fault found))
+    rw (c.if-not-told.false, p.1, p.2)
+    (fault_follows _ _ fault c.in_err-tl.ensures
+    (λ found. found_first (needed as_whole (Some n) Tl d) (mb_on n d) fault found))
 
 pub returns-in_err-mb : goal.returns-in_err-mb
 returns-in_err-mb c =
@@ -35,7 +38,8 @@ returns-in_err-mb c =
     let p = err_from_is_err_and c.from_residual-in_err-mb.result c.from_residual-in_err-mb.ensures.1 in
     let fault = c.in_err-mb.field-0.0 in
     rw (c.if-not-told.false, p.1, p.2) (fault_follows _ _ fault c.in_err-mb.ensures (λ found.
-    passed_then (needed as_whole (Some n) Tl d) (mb_on n d) c.in_ok-tl.ensures.0 ∙ first_stays (pair_findings n Mb Mbk d) (gb_on n d) fault found))
+    passed_then (needed as_whole (Some n) Tl d) (mb_on n d) c.in_ok-tl.ensures.0
+    ∙ first_stays (pair_findings n Mb Mbk d) (gb_on n d) fault found))
 
 pub returns-in_err-gb : goal.returns-in_err-gb
 returns-in_err-gb c =
@@ -44,7 +48,9 @@ returns-in_err-gb c =
     let p = err_from_is_err_and c.from_residual-in_err-gb.result c.from_residual-in_err-gb.ensures.1 in
     let fault = c.in_err-gb.field-0.0 in
     rw (c.if-not-told.false, p.1, p.2) (fault_follows _ _ fault c.in_err-gb.ensures (λ found.
-    passed_then (needed as_whole (Some n) Tl d) (mb_on n d) c.in_ok-tl.ensures.0 ∙ first_later (pair_findings n Mb Mbk d) (gb_on n d) c.in_ok-mb.ensures.0 ∙ first_stays (pair_findings n Gb Gbk d) (pair_findings n Eb Ebk d) fault found))
+    passed_then (needed as_whole (Some n) Tl d) (mb_on n d) c.in_ok-tl.ensures.0
+    ∙ first_later (pair_findings n Mb Mbk d) (gb_on n d) c.in_ok-mb.ensures.0
+    ∙ first_stays (pair_findings n Gb Gbk d) (pair_findings n Eb Ebk d) fault found))
 
 pub returns-in_err-eb : goal.returns-in_err-eb
 returns-in_err-eb c =
@@ -53,7 +59,9 @@ returns-in_err-eb c =
     let p = err_from_is_err_and c.from_residual-in_err-eb.result c.from_residual-in_err-eb.ensures.1 in
     let fault = c.in_err-eb.field-0.0 in
     rw (c.if-not-told.false, p.1, p.2) (fault_follows _ _ fault c.in_err-eb.ensures (λ found.
-    passed_then (needed as_whole (Some n) Tl d) (mb_on n d) c.in_ok-tl.ensures.0 ∙ first_later (pair_findings n Mb Mbk d) (gb_on n d) c.in_ok-mb.ensures.0 ∙ first_later (pair_findings n Gb Gbk d) (pair_findings n Eb Ebk d) c.in_ok-gb.ensures.0 ∙ found))
+    passed_then (needed as_whole (Some n) Tl d) (mb_on n d) c.in_ok-tl.ensures.0
+    ∙ first_later (pair_findings n Mb Mbk d) (gb_on n d) c.in_ok-mb.ensures.0
+    ∙ first_later (pair_findings n Gb Gbk d) (pair_findings n Eb Ebk d) c.in_ok-gb.ensures.0 ∙ found))
 
 pub returns : goal.returns
 returns c =
@@ -64,6 +72,9 @@ returns c =
     let gb = c.in_ok-gb in
     let eb = c.in_ok-eb in
     rw c.if-not-told.false (
-      passed_then (needed as_whole (Some n) Tl d) (mb_on n d) tl.ensures.0 ∙ first_later (pair_findings n Mb Mbk d) (gb_on n d) mb.ensures.0 ∙ first_later (pair_findings n Gb Gbk d) (pair_findings n Eb Ebk d) gb.ensures.0 ∙ eb.ensures.0,
-      ap Some (life_is d tl.tl (mb.mb, mb.mbk) (gb.gb, gb.gbk) (eb.eb, eb.ebk) tl.ensures.1 mb.ensures.1 gb.ensures.1 eb.ensures.1),
+      passed_then (needed as_whole (Some n) Tl d) (mb_on n d) tl.ensures.0
+          ∙ first_later (pair_findings n Mb Mbk d) (gb_on n d) mb.ensures.0
+          ∙ first_later (pair_findings n Gb Gbk d) (pair_findings n Eb Ebk d) gb.ensures.0 ∙ eb.ensures.0,
+      ap Some (life_is d tl.tl (mb.mb, mb.mbk) (gb.gb, gb.gbk) (eb.eb, eb.ebk) tl.ensures.1 mb.ensures.1 gb.ensures.1
+          eb.ensures.1),
     )

@@ -13,9 +13,13 @@ returns-in_err-tb c =
     let s = c.args.shape in
     let object : other_kind as_object (Some c.args.number) Pps d ≡ None = search rules in
     let counts = pair_findings c.args.number Tb Tbk d in
-    let later = life_findings s.bklt c.args.number d ++ (access_findings s.bkacc c.args.number d ++ frames_findings c.args.number s.frames d) in
+    let later =
+    life_findings s.bklt c.args.number d
+    ++ (access_findings s.bkacc c.args.number d ++ frames_findings c.args.number s.frames d) in
     let p = err_from_is_err_and c.from_residual.result c.from_residual.ensures.1 in
-    rw (p.1, p.2) (fault_follows _ _ c.in_err-tb.field-0.0 c.in_err-tb.ensures (λ found. passed_then _ (counts ++ later) object ∙ first_stays counts later _ found))
+    rw (p.1, p.2)
+    (fault_follows _ _ c.in_err-tb.field-0.0 c.in_err-tb.ensures
+    (λ found. passed_then _ (counts ++ later) object ∙ first_stays counts later _ found))
 
 pub returns-in_err-life : goal.returns-in_err-life
 returns-in_err-life c =
@@ -27,7 +31,8 @@ returns-in_err-life c =
     let later = access_findings s.bkacc c.args.number d ++ frames_findings c.args.number s.frames d in
     let p = err_from_is_err_and c.from_residual-in_err-life.result c.from_residual-in_err-life.ensures.1 in
     rw (p.1, p.2) (fault_follows _ _ c.in_err-life.field-0.0 c.in_err-life.ensures (λ found.
-    passed_then _ (counts ++ (life ++ later)) object ∙ first_later counts (life ++ later) c.in_ok-tb.ensures.0 ∙ first_stays life later _ found))
+    passed_then _ (counts ++ (life ++ later)) object ∙ first_later counts (life ++ later) c.in_ok-tb.ensures.0
+    ∙ first_stays life later _ found))
 
 pub returns-in_err-access : goal.returns-in_err-access
 returns-in_err-access c =
@@ -40,7 +45,9 @@ returns-in_err-access c =
     let frames = frames_findings c.args.number s.frames d in
     let p = err_from_is_err_and c.from_residual-in_err-access.result c.from_residual-in_err-access.ensures.1 in
     rw (p.1, p.2) (fault_follows _ _ c.in_err-access.field-0.0 c.in_err-access.ensures (λ found.
-    passed_then _ (counts ++ (life ++ (access ++ frames))) object ∙ first_later counts (life ++ (access ++ frames)) c.in_ok-tb.ensures.0 ∙ first_later life (access ++ frames) c.in_ok-life.ensures.0 ∙ first_stays access frames _ found))
+    passed_then _ (counts ++ (life ++ (access ++ frames))) object
+    ∙ first_later counts (life ++ (access ++ frames)) c.in_ok-tb.ensures.0
+    ∙ first_later life (access ++ frames) c.in_ok-life.ensures.0 ∙ first_stays access frames _ found))
 
 pub returns-in_err-fs : goal.returns-in_err-fs
 returns-in_err-fs c =
@@ -53,4 +60,7 @@ returns-in_err-fs c =
     let frames = frames_findings c.args.number s.frames d in
     let p = err_from_is_err_and c.from_residual-in_err-fs.result c.from_residual-in_err-fs.ensures.1 in
     rw (p.1, p.2) (fault_follows _ _ c.in_err-fs.field-0.0 c.in_err-fs.ensures (λ found.
-    passed_then _ (counts ++ (life ++ (access ++ frames))) object ∙ first_later counts (life ++ (access ++ frames)) c.in_ok-tb.ensures.0 ∙ first_later life (access ++ frames) c.in_ok-life.ensures.0 ∙ first_later access frames c.in_ok-access.ensures.0 ∙ found))
+    passed_then _ (counts ++ (life ++ (access ++ frames))) object
+    ∙ first_later counts (life ++ (access ++ frames)) c.in_ok-tb.ensures.0
+    ∙ first_later life (access ++ frames) c.in_ok-life.ensures.0 ∙ first_later access frames c.in_ok-access.ensures.0
+    ∙ found))

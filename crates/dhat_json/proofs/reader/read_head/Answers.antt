@@ -8,7 +8,15 @@ use Rattle.dhat_json.specs.declared.key.Key.TheVariants.{Mode, Verb, Bklt, Bkacc
 use Rattle.dhat_json.specs.DhatFault.{Finding, first_of, needed, no_object, version_findings, head_findings}
 use Rattle.dhat_json.specs.Parts.{head_in}
 use Rattle.dhat_json.specs.ProfileIn.{text_at, flag_at}
-use Rattle.dhat_json.proofs.Findings.{passed_then, found_first, first_later, first_stays, fault_follows, read_as, refused_as}
+use Rattle.dhat_json.proofs.Findings.{
+  passed_then,
+  found_first,
+  first_later,
+  first_stays,
+  fault_follows,
+  read_as,
+  refused_as,
+}
 use Rattle.dhat_json.proofs.reader.read_head.Goals as goal
 
 -- what is found from the second flag, the first flag, the second text and the first one on
@@ -24,20 +32,28 @@ verb_on v = needed as_str None Verb v ∷ bklt_on v
 abbrev mode_on : Data → List Finding
 mode_on v = needed as_str None Mode v ∷ verb_on v
 
-up_to_mode : (v : Data) → no_object v ≡ None → first_of (version_findings v) ≡ None → first_of (head_findings v) ≡ first_of (mode_on v)
+up_to_mode : (v : Data) → no_object v ≡ None → first_of (version_findings v) ≡ None
+    → first_of (head_findings v) ≡ first_of (mode_on v)
 up_to_mode v object version = passed_then (no_object v) _ object ∙ first_later (version_findings v) (mode_on v) version
 
-up_to_verb : (v : Data) → no_object v ≡ None → first_of (version_findings v) ≡ None → needed as_str None Mode v ≡ None → first_of (head_findings v) ≡ first_of (verb_on v)
-up_to_verb v object version mode = up_to_mode v object version ∙ passed_then (needed as_str None Mode v) (verb_on v) mode
+up_to_verb : (v : Data) → no_object v ≡ None → first_of (version_findings v) ≡ None → needed as_str None Mode v ≡ None
+    → first_of (head_findings v) ≡ first_of (verb_on v)
+up_to_verb v object version mode =
+    up_to_mode v object version ∙ passed_then (needed as_str None Mode v) (verb_on v) mode
 
-up_to_bklt : (v : Data) → no_object v ≡ None → first_of (version_findings v) ≡ None → needed as_str None Mode v ≡ None → needed as_str None Verb v ≡ None → first_of (head_findings v) ≡ first_of (bklt_on v)
-up_to_bklt v object version mode verb = up_to_verb v object version mode ∙ passed_then (needed as_str None Verb v) (bklt_on v) verb
+up_to_bklt : (v : Data) → no_object v ≡ None → first_of (version_findings v) ≡ None → needed as_str None Mode v ≡ None
+    → needed as_str None Verb v ≡ None → first_of (head_findings v) ≡ first_of (bklt_on v)
+up_to_bklt v object version mode verb =
+    up_to_verb v object version mode ∙ passed_then (needed as_str None Verb v) (bklt_on v) verb
 
-up_to_bkacc : (v : Data) → no_object v ≡ None → first_of (version_findings v) ≡ None → needed as_str None Mode v ≡ None → needed as_str None Verb v ≡ None → needed as_bool None Bklt v ≡ None
+up_to_bkacc : (v : Data) → no_object v ≡ None → first_of (version_findings v) ≡ None → needed as_str None Mode v ≡ None
+    → needed as_str None Verb v ≡ None → needed as_bool None Bklt v ≡ None
     → first_of (head_findings v) ≡ first_of (bkacc_on v)
-up_to_bkacc v object version mode verb bklt = up_to_bklt v object version mode verb ∙ passed_then (needed as_bool None Bklt v) (bkacc_on v) bklt
+up_to_bkacc v object version mode verb bklt =
+    up_to_bklt v object version mode verb ∙ passed_then (needed as_bool None Bklt v) (bkacc_on v) bklt
 
-head_is : (v : Data) (mode verb : List ℕ) (bklt bkacc : Bool) → mode ≡ text_at Mode v → verb ≡ text_at Verb v → bklt ≡ flag_at Bklt v → bkacc ≡ flag_at Bkacc v
+head_is : (v : Data) (mode verb : List ℕ) (bklt bkacc : Bool) → mode ≡ text_at Mode v → verb ≡ text_at Verb v
+    → bklt ≡ flag_at Bklt v → bkacc ≡ flag_at Bkacc v
     → record { mode = mode; verb = verb; bklt = bklt; bkacc = bkacc } ≡ head_in v
 head_is v mode verb bklt bkacc mode-is verb-is bklt-is bkacc-is = rw (mode-is, verb-is, bklt-is, bkacc-is) refl
 
@@ -47,7 +63,9 @@ returns-in_err-check_version-clause-read c =
     let object : no_object v ≡ None = search rules in
     let p = err_from_is_err_and c.from_residual.result c.from_residual.ensures.1 in
     let fault = c.in_err-check_version.field-0.0 in
-    rw (p.1, p.2) (fault_follows _ _ fault c.in_err-check_version.ensures (λ found. passed_then (no_object v) _ object ∙ first_stays (version_findings v) (mode_on v) fault found))
+    rw (p.1, p.2)
+    (fault_follows _ _ fault c.in_err-check_version.ensures
+    (λ found. passed_then (no_object v) _ object ∙ first_stays (version_findings v) (mode_on v) fault found))
 
 pub returns-in_err-mode-clause-read : goal.returns-in_err-mode-clause-read
 returns-in_err-mode-clause-read c =
@@ -55,7 +73,10 @@ returns-in_err-mode-clause-read c =
     let object : no_object v ≡ None = search rules in
     let p = err_from_is_err_and c.from_residual-in_err-mode.result c.from_residual-in_err-mode.ensures.1 in
     let fault = c.in_err-mode.field-0.0 in
-    rw (p.1, p.2) (fault_follows _ _ fault c.in_err-mode.ensures.read (λ found. up_to_mode v object c.in_ok-check_version.ensures.0 ∙ found_first (needed as_str None Mode v) (verb_on v) fault found))
+    rw (p.1, p.2)
+    (fault_follows _ _ fault c.in_err-mode.ensures.read
+    (λ found. up_to_mode v object c.in_ok-check_version.ensures.0
+    ∙ found_first (needed as_str None Mode v) (verb_on v) fault found))
 
 pub returns-in_err-texts-clause-read : goal.returns-in_err-texts-clause-read
 returns-in_err-texts-clause-read c =
@@ -64,7 +85,10 @@ returns-in_err-texts-clause-read c =
     let p = err_from_is_err_and c.from_residual-in_err-texts.result c.from_residual-in_err-texts.ensures.1 in
     let fault = c.in_err-texts.field-0.0 in
     let refused = refused_as c.read_text-2.result fault _ _ c.in_err-texts.ensures.err c.read_text-2.ensures.read in
-    rw (p.1, p.2) (fault_follows _ _ fault refused (λ found. up_to_verb v object c.in_ok-check_version.ensures.0 c.in_ok-mode.ensures.read.0 ∙ found_first (needed as_str None Verb v) (bklt_on v) fault found))
+    rw (p.1, p.2)
+    (fault_follows _ _ fault refused
+    (λ found. up_to_verb v object c.in_ok-check_version.ensures.0 c.in_ok-mode.ensures.read.0
+    ∙ found_first (needed as_str None Verb v) (bklt_on v) fault found))
 
 pub returns-in_err-texts-2-clause-read : goal.returns-in_err-texts-2-clause-read
 returns-in_err-texts-2-clause-read c =
@@ -72,9 +96,13 @@ returns-in_err-texts-2-clause-read c =
     let object : no_object v ≡ None = search rules in
     let p = err_from_is_err_and c.from_residual-in_err-texts-2.result c.from_residual-in_err-texts-2.ensures.1 in
     let fault = c.in_err-texts-2.field-0.0 in
-    let verb = read_as c.read_text-2.result c.in_ok-texts.texts.1 _ _ c.in_ok-texts.ensures.ok.0 c.read_text-2.ensures.read in
+    let verb =
+    read_as c.read_text-2.result c.in_ok-texts.texts.1 _ _ c.in_ok-texts.ensures.ok.0 c.read_text-2.ensures.read in
     let refused = refused_as c.read_flag.result fault _ _ c.in_err-texts-2.ensures.err c.read_flag.ensures in
-    rw (p.1, p.2) (fault_follows _ _ fault refused (λ found. up_to_bklt v object c.in_ok-check_version.ensures.0 c.in_ok-mode.ensures.read.0 verb.0 ∙ found_first (needed as_bool None Bklt v) (bkacc_on v) fault found))
+    rw (p.1, p.2)
+    (fault_follows _ _ fault refused
+    (λ found. up_to_bklt v object c.in_ok-check_version.ensures.0 c.in_ok-mode.ensures.read.0 verb.0
+    ∙ found_first (needed as_bool None Bklt v) (bkacc_on v) fault found))
 
 pub returns-in_err-mode-2-clause-read : goal.returns-in_err-mode-2-clause-read
 returns-in_err-mode-2-clause-read c =
@@ -82,28 +110,37 @@ returns-in_err-mode-2-clause-read c =
     let object : no_object v ≡ None = search rules in
     let p = err_from_is_err_and c.from_residual-in_err-mode-2.result c.from_residual-in_err-mode-2.ensures.1 in
     let fault = c.in_err-mode-2.field-0.0 in
-    let verb = read_as c.read_text-2.result c.in_ok-texts.texts.1 _ _ c.in_ok-texts.ensures.ok.0 c.read_text-2.ensures.read in
+    let verb =
+    read_as c.read_text-2.result c.in_ok-texts.texts.1 _ _ c.in_ok-texts.ensures.ok.0 c.read_text-2.ensures.read in
     let bklt = read_as c.read_flag.result c.in_ok-texts-2.bklt _ _ c.in_ok-texts-2.ensures.ok.0 c.read_flag.ensures in
     let refused = refused_as c.read_flag-2.result fault _ _ c.in_err-mode-2.ensures.err c.read_flag-2.ensures in
-    rw (p.1, p.2) (fault_follows _ _ fault refused (λ found. up_to_bkacc v object c.in_ok-check_version.ensures.0 c.in_ok-mode.ensures.read.0 verb.0 bklt.0 ∙ found_first (needed as_bool None Bkacc v) [] fault found))
+    rw (p.1, p.2)
+    (fault_follows _ _ fault refused
+    (λ found. up_to_bkacc v object c.in_ok-check_version.ensures.0 c.in_ok-mode.ensures.read.0 verb.0 bklt.0
+    ∙ found_first (needed as_bool None Bkacc v) [] fault found))
 
 pub returns-clause-read : goal.returns-clause-read
 returns-clause-read c =
     let v = data_of c.args.value.now in
     let object : no_object v ≡ None = search rules in
-    let verb = read_as c.read_text-2.result c.in_ok-texts.texts.1 _ _ c.in_ok-texts.ensures.ok.0 c.read_text-2.ensures.read in
+    let verb =
+    read_as c.read_text-2.result c.in_ok-texts.texts.1 _ _ c.in_ok-texts.ensures.ok.0 c.read_text-2.ensures.read in
     let bklt = read_as c.read_flag.result c.in_ok-texts-2.bklt _ _ c.in_ok-texts-2.ensures.ok.0 c.read_flag.ensures in
     let last = c.in_ok-mode-2 in
     let kept = last.ensures.ok.1 ∙ c.in_ok-texts-2.ensures.ok.1 in
     let bkacc = read_as c.read_flag-2.result last.bkacc _ _ last.ensures.ok.0 c.read_flag-2.ensures in (
-      up_to_bkacc v object c.in_ok-check_version.ensures.0 c.in_ok-mode.ensures.read.0 verb.0 bklt.0 ∙ passed_then (needed as_bool None Bkacc v) [] bkacc.0,
+      up_to_bkacc v object c.in_ok-check_version.ensures.0 c.in_ok-mode.ensures.read.0 verb.0 bklt.0
+          ∙ passed_then (needed as_bool None Bkacc v) [] bkacc.0,
       head_is v last.mode last.verb c.in_ok-texts-2.bklt last.bkacc
-          (ap (λ (texts : List ℕ × List ℕ). texts.0) kept ∙ c.in_ok-texts.ensures.ok.1 ∙ c.in_ok-mode.ensures.read.1) (ap (λ (texts : List ℕ × List ℕ). texts.1) kept ∙ verb.1) bklt.1 bkacc.1,
+          (ap (λ (texts : List ℕ × List ℕ). texts.0) kept ∙ c.in_ok-texts.ensures.ok.1 ∙ c.in_ok-mode.ensures.read.1)
+          (ap (λ (texts : List ℕ × List ℕ). texts.1) kept ∙ verb.1) bklt.1 bkacc.1,
     )
 
 pub returns-clause-utf8 : goal.returns-clause-utf8
 returns-clause-utf8 c =
     let kept = c.in_ok-mode-2.ensures.ok.1 ∙ c.in_ok-texts-2.ensures.ok.1 in
     let mode = ap (λ (texts : List ℕ × List ℕ). texts.0) kept ∙ c.in_ok-texts.ensures.ok.1 in
-    let verb = ap (λ (texts : List ℕ × List ℕ). texts.1) kept in
-    (subst IsUtf8 (sym mode) c.in_ok-mode.ensures.utf8, subst IsUtf8 (sym verb) (IfOk-at_ok IsUtf8 c.in_ok-texts.ensures.ok.0 c.read_text-2.ensures.utf8))
+    let verb = ap (λ (texts : List ℕ × List ℕ). texts.1) kept in (
+      subst IsUtf8 (sym mode) c.in_ok-mode.ensures.utf8,
+      subst IsUtf8 (sym verb) (IfOk-at_ok IsUtf8 c.in_ok-texts.ensures.ok.0 c.read_text-2.ensures.utf8),
+    )

@@ -28,12 +28,17 @@ returns-in_err-gathered-clause-fault c =
     let parts = c.into_parts-members in
     let v = data_of (Object parts.result.0) in
     let d = object surveyed.found in
-    let same : v ≡ outline_of survey = ap json_data (view-Object parts.result.0) ∙ ap (λ p. object (members_data (members_view p.0.items) no_members)) parts.ensures in
+    let same : v ≡ outline_of survey =
+    ap json_data (view-Object parts.result.0)
+    ∙ ap (λ p. object (members_data (members_view p.0.items) no_members)) parts.ensures in
     let is = subst (λ (o : Data). IsOutline o d) (sym same) surveyed.met.outline in
     let p = err_from_is_err_and c.from_residual-in_err-gathered.result c.from_residual-in_err-gathered.ensures.1 in
     let fault = c.in_err-gathered.field-0.0 in
-    let refused = refused_as c.read_front-front.result fault _ _ c.in_err-gathered.ensures.err c.read_front-front.ensures.read in
-    rw (p.1, p.2) (fault_follows _ _ fault refused (λ e. ap dhat_in_some surveyed.is ∙ refused_in_front d fault (ap first_of (sym (findings_same v d is)) ∙ e)))
+    let refused =
+    refused_as c.read_front-front.result fault _ _ c.in_err-gathered.ensures.err c.read_front-front.ensures.read in
+    rw (p.1, p.2)
+    (fault_follows _ _ fault refused
+    (λ e. ap dhat_in_some surveyed.is ∙ refused_in_front d fault (ap first_of (sym (findings_same v d is)) ∙ e)))
 
 pub returns-clause-read : goal.returns-clause-read
 returns-clause-read c =
@@ -42,12 +47,16 @@ returns-clause-read c =
     let parts = c.into_parts-members in
     let v = data_of (Object parts.result.0) in
     let d = object surveyed.found in
-    let same : v ≡ outline_of survey = ap json_data (view-Object parts.result.0) ∙ ap (λ p. object (members_data (members_view p.0.items) no_members)) parts.ensures in
+    let same : v ≡ outline_of survey =
+    ap json_data (view-Object parts.result.0)
+    ∙ ap (λ p. object (members_data (members_view p.0.items) no_members)) parts.ensures in
     let is = subst (λ (o : Data). IsOutline o d) (sym same) surveyed.met.outline in
     let both = c.in_ok-gathered in
     let front = read_as c.read_front-front.result both.front _ _ both.ensures.ok.0 c.read_front-front.ensures.read in
     let gathered : both.gathered ≡ survey.gathered = both.ensures.ok.1 ∙ ap (λ p. p.1) parts.ensures in
-    let shape = subst (λ (given : Option Shape). IfSome given (λ shape. survey.gathered.shape ≡ shape)) c.in_ok-survey.ensures.given surveyed.met.shape in record {
+    let shape =
+    subst (λ (given : Option Shape). IfSome given (λ shape. survey.gathered.shape ≡ shape))
+    c.in_ok-survey.ensures.given surveyed.met.shape in record {
       value = d;
       is = surveyed.is;
       says = record { none = ap first_of (sym (findings_same v d is)) ∙ front.0; says = front.1 ∙ front_same v d is };

@@ -11,24 +11,33 @@ returns-in_err-block-clause-read c =
     let v = data_of c.args.value.now in
     let p = err_from_is_err_and c.from_residual.result c.from_residual.ensures.1 in
     let fault = c.in_err-block.field-0.0 in
-    rw (p.1, p.2) (fault_follows _ _ fault c.in_err-block.ensures.read (λ found. first_stays (block_unit_findings v) (time_unit_findings v) fault found))
+    rw (p.1, p.2)
+    (fault_follows _ _ fault c.in_err-block.ensures.read
+    (λ found. first_stays (block_unit_findings v) (time_unit_findings v) fault found))
 
 pub returns-in_err-block-2-clause-read : goal.returns-in_err-block-2-clause-read
 returns-in_err-block-2-clause-read c =
     let v = data_of c.args.value.now in
     let p = err_from_is_err_and c.from_residual-in_err-block-2.result c.from_residual-in_err-block-2.ensures.1 in
     let fault = c.in_err-block-2.field-0.0 in
-    let refused = refused_as c.read_time_units.result fault _ _ c.in_err-block-2.ensures.err c.read_time_units.ensures.read in
-    rw (p.1, p.2) (fault_follows _ _ fault refused (λ found. first_later (block_unit_findings v) (time_unit_findings v) c.in_ok-block.ensures.read.0 ∙ found))
+    let refused =
+    refused_as c.read_time_units.result fault _ _ c.in_err-block-2.ensures.err c.read_time_units.ensures.read in
+    rw (p.1, p.2)
+    (fault_follows _ _ fault refused
+    (λ found. first_later (block_unit_findings v) (time_unit_findings v) c.in_ok-block.ensures.read.0 ∙ found))
 
 pub returns-clause-read : goal.returns-clause-read
 returns-clause-read c =
     let v = data_of c.args.value.now in
     let both = c.in_ok-block-2 in
-    let time = read_as c.read_time_units.result both.time _ _ both.ensures.ok.0 c.read_time_units.ensures.read in
-    (first_later (block_unit_findings v) (time_unit_findings v) c.in_ok-block.ensures.read.0 ∙ time.0, rw (both.ensures.ok.1, c.in_ok-block.ensures.read.1, time.1) refl)
+    let time = read_as c.read_time_units.result both.time _ _ both.ensures.ok.0 c.read_time_units.ensures.read in (
+      first_later (block_unit_findings v) (time_unit_findings v) c.in_ok-block.ensures.read.0 ∙ time.0,
+      rw (both.ensures.ok.1, c.in_ok-block.ensures.read.1, time.1) refl,
+    )
 
 pub returns-clause-utf8 : goal.returns-clause-utf8
 returns-clause-utf8 c =
-    let both = c.in_ok-block-2 in
-    (subst HasBlockTexts (sym both.ensures.ok.1) c.in_ok-block.ensures.utf8, IfOk-at_ok HasTimeTexts both.ensures.ok.0 c.read_time_units.ensures.utf8)
+    let both = c.in_ok-block-2 in (
+      subst HasBlockTexts (sym both.ensures.ok.1) c.in_ok-block.ensures.utf8,
+      IfOk-at_ok HasTimeTexts both.ensures.ok.0 c.read_time_units.ensures.utf8,
+    )

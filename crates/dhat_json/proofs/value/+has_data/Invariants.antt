@@ -14,7 +14,10 @@ abbrev pub decreases-members_have_data : goal.decreases-members_have_data
 decreases-members_have_data l = length (members_tokens (members_view l.members.now.items))
 
 abbrev pub invariant-items_have_data-loop-item : goal.invariant-items_have_data-loop-item
-invariant-items_have_data-loop-item l = items_have_data (items_view l.item-items) ≡ items_have_data (items_view (drop l.item-index l.item-items))
+invariant-items_have_data-loop-item l =
+    items_have_data (items_view l.item-items) ≡ items_have_data (items_view (drop l.item-index l.item-items))
 
 abbrev pub invariant-members_have_data-loop-member : goal.invariant-members_have_data-loop-member
-invariant-members_have_data-loop-member l = members_have_data (members_view l.member-items) ≡ members_have_data (members_view (drop l.member-index l.member-items))
+invariant-members_have_data-loop-member l =
+    members_have_data (members_view l.member-items)
+    ≡ members_have_data (members_view (drop l.member-index l.member-items))

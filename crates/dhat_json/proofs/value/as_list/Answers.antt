@@ -10,5 +10,6 @@ use Rattle.dhat_json.proofs.value.as_list.Goals as goal
 
 pub returns-in-Array : goal.returns-in-Array
 returns-in-Array c =
-    ap (λ (values : List (Value Global)). Some (map data_of values)) c.as_slice.ensures.value ∙ ap Some (sym (list_data c.in-Array.items.items))
+    ap (λ (values : List (Value Global)). Some (map data_of values)) c.as_slice.ensures.value
+    ∙ ap Some (sym (list_data c.in-Array.items.items))
     ∙ ap (λ j. as_list (json_data j)) (sym (ap value_view c.in-Array.is ∙ view-Array c.in-Array.items))

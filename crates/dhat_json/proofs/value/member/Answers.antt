@@ -8,4 +8,6 @@ use Rattle.dhat_json.proofs.value.member.Goals as goal
 pub returns : goal.returns
 returns c =
     let j = value_view c.args.value.now in
-    data_mapped c.get.result ∙ ap (option_map json_data) (c.get.ensures ∙ ap (λ (k : List ℕ). find.get k j) c.name.ensures.name) ∙ sym (get_data _ j)
+    data_mapped c.get.result
+    ∙ ap (option_map json_data) (c.get.ensures ∙ ap (λ (k : List ℕ). find.get k j) c.name.ensures.name)
+    ∙ sym (get_data _ j)

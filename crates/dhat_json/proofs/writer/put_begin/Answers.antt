@@ -12,5 +12,6 @@ returns c =
     c.requires.empty.0 c.requires.empty.1
     c.in_ok-begin_object.ensures.room.0 c.in_ok-begin_object.ensures.ok
     (adds_then _ _ _ (unit_members dhat) (run_members dhat) c.in_ok-put_units.ensures c.in_ok-put_run.ensures)
-    c.in_ok-key.ensures.room.0 (c.in_ok-key.ensures.ok ∙ ap (λ (name : List ℕ). c.put_run.new.out.tokens ++ key name ∷ []) c.name.ensures.name)
+    c.in_ok-key.ensures.room.0
+    (c.in_ok-key.ensures.ok ∙ ap (λ (name : List ℕ). c.put_run.new.out.tokens ++ key name ∷ []) c.name.ensures.name)
     c.in_ok-begin_array.ensures.room.0 c.in_ok-begin_array.ensures.ok

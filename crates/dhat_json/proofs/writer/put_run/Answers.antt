@@ -4,4 +4,8 @@ use Rattle.dhat_json.proofs.writer.put_run.Goals as goal
 
 pub returns : goal.returns
 returns c =
-    on_ok_weaker c.put_whole-2.result (λ last. adds_then _ _ _ _ _ c.in_ok-put_text.ensures (adds_then _ _ _ _ _ c.in_ok-put_whole.ensures (adds_then _ _ _ _ _ c.in_ok-put_table.ensures (adds_then _ _ _ _ _ c.in_ok-put_text-2.ensures last)))) c.put_whole-2.ensures
+    on_ok_weaker c.put_whole-2.result
+    (λ last. adds_then _ _ _ _ _ c.in_ok-put_text.ensures
+    (adds_then _ _ _ _ _ c.in_ok-put_whole.ensures
+    (adds_then _ _ _ _ _ c.in_ok-put_table.ensures (adds_then _ _ _ _ _ c.in_ok-put_text-2.ensures last))))
+    c.put_whole-2.ensures

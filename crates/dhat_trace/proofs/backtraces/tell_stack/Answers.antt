@@ -5,19 +5,24 @@ use Rattle.dhat_trace.proofs.backtraces.tell_stack.Goals as goal
 
 pub inwards-init : goal.inwards-init
 inwards-init c =
-    inwards_first c.args.tables.now c.args.stack c.args.table.now.texts c.args.told.now c.gather.new.self.texts c.gather.new.places.items c.len-end.result c.in_ok-next.next c.gather.new.legs.items
+    inwards_first c.args.tables.now c.args.stack c.args.table.now.texts c.args.told.now c.gather.new.self.texts
+    c.gather.new.places.items c.len-end.result c.in_ok-next.next c.gather.new.legs.items
     (omega arith) c.in_ok-next.ensures.next c.requires.told c.in_ok-next.ensures.gathered
 
 pub inwards-preserved-then-leg-end : goal.inwards-preserved-then-leg-end
 inwards-preserved-then-leg-end c =
     let leg = c.in-Some.leg in
-    inwards_more c.args.tables.now c.args.stack c.args.told.now c.gather.new.self.texts c.inwards.told c.set.new.self c.gather.new.places.items _ c.inwards.end c.inwards.next
+    inwards_more c.args.tables.now c.args.stack c.args.told.now c.gather.new.self.texts c.inwards.told c.set.new.self
+    c.gather.new.places.items _ c.inwards.end c.inwards.next
     c.inwards.legs.items c.pop.new.self.items leg c.in-Some.ensures.items (omega (arith, c.if-leg-end.true))
-    (ap (λ (places : List ℕ). take (c.inwards.end - leg.start) (drop leg.start places)) c.deref.ensures.value) c.in_ok-set.ensures c.inwards.invariant
+    (ap (λ (places : List ℕ). take (c.inwards.end - leg.start) (drop leg.start places)) c.deref.ensures.value)
+    c.in_ok-set.ensures c.inwards.invariant
 
 pub returns-clause-told : goal.returns-clause-told
 returns-clause-told c =
     on_ok_weaker c.set-2.result
-    (λ is. inwards_last c.args.tables.now c.args.stack c.args.table.now.texts c.args.told.now c.gather.new.self.texts c.inwards.told c.set-2.new.self c.gather.new.places.items _ c.inwards.end
-    c.inwards.next c.inwards.legs.items c.requires.held c.in_ok-next.ensures.gathered.added.keeps (ap (take c.inwards.end) c.deref-2.ensures.value) is c.inwards.invariant)
+    (λ is. inwards_last c.args.tables.now c.args.stack c.args.table.now.texts c.args.told.now c.gather.new.self.texts
+    c.inwards.told c.set-2.new.self c.gather.new.places.items _ c.inwards.end
+    c.inwards.next c.inwards.legs.items c.requires.held c.in_ok-next.ensures.gathered.added.keeps
+    (ap (take c.inwards.end) c.deref-2.ensures.value) is c.inwards.invariant)
     c.set-2.ensures

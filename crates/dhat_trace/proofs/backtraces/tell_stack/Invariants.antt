@@ -4,7 +4,8 @@ use Rattle.dhat_trace.proofs.LegLemmas.{IsInwards}
 use Rattle.dhat_trace.proofs.backtraces.tell_stack.Given as goal
 
 abbrev pub invariant-inwards : goal.invariant-inwards
-invariant-inwards l = IsInwards l.tables l.stack l.initial.told l.table.texts l.told l.places.items l.end l.next l.legs.items
+invariant-inwards l =
+    IsInwards l.tables l.stack l.initial.told l.table.texts l.told l.places.items l.end l.next l.legs.items
 
 abbrev pub decreases-inwards : goal.decreases-inwards
 decreases-inwards l = length l.legs.items

@@ -10,6 +10,8 @@ pub each_frame-preserved : goal.each_frame-preserved
 each_frame-preserved c =
     let frames = c.args.frames.now in
     let within : c.each_frame.at-index < length frames = omega arith in
-    frame-more (profile_frame c.args.tables.now) frames c.each_frame.at-index (record { instruction = 0; index = 0 }) within
-    c.args.texts.now c.each_frame.texts c.place_of.new.texts c.args.places.now.items c.each_frame.places.items c.push.new.self.items c.in_ok-place_of.field-0
+    frame-more (profile_frame c.args.tables.now) frames c.each_frame.at-index (record { instruction = 0; index = 0 })
+    within
+    c.args.texts.now c.each_frame.texts c.place_of.new.texts c.args.places.now.items c.each_frame.places.items
+    c.push.new.self.items c.in_ok-place_of.field-0
     c.each_frame.invariant c.in_ok-place_of.ensures.added c.in_ok-place_of.ensures.place c.in_ok-push.ensures.items

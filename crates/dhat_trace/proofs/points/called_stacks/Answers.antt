@@ -11,5 +11,6 @@ each_stack-init c = c.new-stacks.ensures.items
 pub each_stack-preserved : goal.each_stack-preserved
 each_stack-preserved c =
     let figures = figures_of c.args.peaks.now c.args.lifetimes.now in
-    called_with_more figures c.each_stack.stack c.each_stack.stacks.items c.add_stack.new.stacks.items c.each_stack.invariant
+    called_with_more figures c.each_stack.stack c.each_stack.stacks.items c.add_stack.new.stacks.items
+    c.each_stack.invariant
     (c.in_ok-add_stack.ensures figures (sym c.figures_of-figures.ensures))

@@ -15,16 +15,22 @@ begin-requires c =
 
 pub push_frames-requires-clause-in_table : goal.push_frames-requires-clause-in_table
 push_frames-requires-clause-in_table c =
-    held-by (λ (point : Point). All (λ frame. frame < length c.args.table.now) point.fs) c.args.points.now c.each_point.place c.at.result.now c.at.ensures.item c.requires.in_table
+    held-by (λ (point : Point). All (λ frame. frame < length c.args.table.now) point.fs) c.args.points.now
+    c.each_point.place c.at.result.now c.at.ensures.item c.requires.in_table
 
 pub each_point-preserved : goal.each_point-preserved
 each_point-preserved c =
     let table = c.args.table.now in
-    lists-more c.each_point.shape c.begin.new.self c.push_frames.new.shape (numbers_at table c.at.result.now.fs) c.in_ok-begin.ensures.appended c.in_ok-push_frames.ensures.gained
+    lists-more c.each_point.shape c.begin.new.self c.push_frames.new.shape (numbers_at table c.at.result.now.fs)
+    c.in_ok-begin.ensures.appended c.in_ok-push_frames.ensures.gained
     ∙ ap (λ (lists : List (List ℕ)). lists ++ numbers_at table c.at.result.now.fs ∷ []) c.each_point.invariant
-    ∙ sym (map-next (λ (point : Point). numbers_at table point.fs) c.args.points.now c.each_point.place c.at.result.now c.at.ensures.item)
+    ∙ sym (map-next (λ (point : Point). numbers_at table point.fs) c.args.points.now c.each_point.place c.at.result.now
+    c.at.ensures.item)
 
 pub returns : goal.returns
 returns c = record {
-  shape = c.each_point.invariant ∙ ap (λ (points : List Point). numbers_in c.args.table.now points) (take_all c.each_point.place c.args.points.now (omega arith));
+  shape =
+      c.each_point.invariant
+      ∙ ap (λ (points : List Point). numbers_in c.args.table.now points)
+      (take_all c.each_point.place c.args.points.now (omega arith));
 }

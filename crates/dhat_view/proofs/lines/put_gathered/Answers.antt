@@ -10,8 +10,10 @@ pub returns-clause-appended : goal.returns-clause-appended
 unfolding gathered_line
 returns-clause-appended c =
     on_ok_weaker c.put_bytes.result
-    (λ added. four-appended c.args.out.now.items c.put_share.new.out.items c.put_places.new.out.items c.put_percent.new.out.items c.put_bytes.new.out.items
-    (share_text c.args.scale c.args.level c.args.cost) (places_text c.args.places) (percent c.args.scale.threshold) (codes "\n")
+    (λ added. four-appended c.args.out.now.items c.put_share.new.out.items c.put_places.new.out.items
+    c.put_percent.new.out.items c.put_bytes.new.out.items
+    (share_text c.args.scale c.args.level c.args.cost) (places_text c.args.places) (percent c.args.scale.threshold)
+    (codes "\n")
     c.in_ok-put_share.ensures.appended c.in_ok-put_places.ensures.appended c.in_ok-put_percent.ensures.appended added)
     c.put_bytes.ensures.appended
 
@@ -21,8 +23,12 @@ returns-in_err-put_places-clause-kept c =
 
 pub returns-in_err-put_percent-clause-kept : goal.returns-in_err-put_percent-clause-kept
 returns-in_err-put_percent-clause-kept c =
-    extends_trans _ _ _ (extends_trans _ _ _ c.put_share.ensures.kept c.put_places.ensures.kept) (extends_same _ _ c.in_err-put_percent.ensures.unchanged)
+    extends_trans _ _ _ (extends_trans _ _ _ c.put_share.ensures.kept c.put_places.ensures.kept)
+    (extends_same _ _ c.in_err-put_percent.ensures.unchanged)
 
 pub returns-clause-kept : goal.returns-clause-kept
 returns-clause-kept c =
-    extends_trans _ _ _ (extends_trans _ _ _ (extends_trans _ _ _ c.put_share.ensures.kept c.put_places.ensures.kept) (extends_more _ _ _ c.in_ok-put_percent.ensures.appended)) (extends_put c.put_bytes.result _ _ _ c.put_bytes.ensures.appended c.put_bytes.ensures.unchanged)
+    extends_trans _ _ _
+    (extends_trans _ _ _ (extends_trans _ _ _ c.put_share.ensures.kept c.put_places.ensures.kept)
+    (extends_more _ _ _ c.in_ok-put_percent.ensures.appended))
+    (extends_put c.put_bytes.result _ _ _ c.put_bytes.ensures.appended c.put_bytes.ensures.unchanged)

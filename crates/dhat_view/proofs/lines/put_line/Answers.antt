@@ -9,7 +9,8 @@ pub returns-clause-appended : goal.returns-clause-appended
 unfolding view_line
 returns-clause-appended c =
     on_ok_weaker c.put_bytes-2.result
-    (λ added. three-appended c.args.out.now.items c.put_share.new.out.items c.put_bytes.new.out.items c.put_bytes-2.new.out.items
+    (λ added. three-appended c.args.out.now.items c.put_share.new.out.items c.put_bytes.new.out.items
+    c.put_bytes-2.new.out.items
     (share_text c.args.scale c.args.level c.args.cost) c.args.text.now (codes "\n")
     c.in_ok-put_share.ensures.appended c.in_ok-put_bytes.ensures.appended added)
     c.put_bytes-2.ensures.appended
@@ -20,4 +21,6 @@ returns-in_err-put_bytes-clause-kept c =
 
 pub returns-clause-kept : goal.returns-clause-kept
 returns-clause-kept c =
-    extends_trans _ _ _ (extends_trans _ _ _ c.put_share.ensures.kept (extends_more _ _ _ c.in_ok-put_bytes.ensures.appended)) (extends_put c.put_bytes-2.result _ _ _ c.put_bytes-2.ensures.appended c.put_bytes-2.ensures.unchanged)
+    extends_trans _ _ _
+    (extends_trans _ _ _ c.put_share.ensures.kept (extends_more _ _ _ c.in_ok-put_bytes.ensures.appended))
+    (extends_put c.put_bytes-2.result _ _ _ c.put_bytes-2.ensures.appended c.put_bytes-2.ensures.unchanged)

@@ -7,12 +7,16 @@ use Rattle.dhat_view.proofs.lines.put_places.Goals as goal
 
 pub returns-then-places-eq1-clause-appended : goal.returns-then-places-eq1-clause-appended
 returns-then-places-eq1-clause-appended c =
-    on_ok_weaker c.put_bytes.result (λ added. added ∙ ap (λ (text : List ℕ). c.args.out.now.items ++ text) (sym (places-one c.args.places c.if-places-eq1.true))) c.put_bytes.ensures.appended
+    on_ok_weaker c.put_bytes.result
+    (λ added. added
+    ∙ ap (λ (text : List ℕ). c.args.out.now.items ++ text) (sym (places-one c.args.places c.if-places-eq1.true)))
+    c.put_bytes.ensures.appended
 
 pub returns-clause-appended : goal.returns-clause-appended
 returns-clause-appended c =
     on_ok_weaker c.put_bytes-3.result
-    (λ added. three-appended c.args.out.now.items c.put_bytes-2.new.out.items c.put_dec.new.out.items c.put_bytes-3.new.out.items (codes "in ") (decimal c.args.places) (codes " places below ")
+    (λ added. three-appended c.args.out.now.items c.put_bytes-2.new.out.items c.put_dec.new.out.items
+    c.put_bytes-3.new.out.items (codes "in ") (decimal c.args.places) (codes " places below ")
     c.in_ok-put_bytes.ensures.appended c.in_ok-put_dec.ensures.appended added
     ∙ ap (λ (text : List ℕ). c.args.out.now.items ++ text) (sym (places-more c.args.places c.if-places-eq1.false)))
     c.put_bytes-3.ensures.appended

@@ -5,7 +5,9 @@ use Rattle.dhat_view.proofs.sums.figures_sum.Goals as goal
 
 pub each_point-preserved : goal.each_point-preserved
 each_point-preserved c =
-    let more = sum-next (point_costs c.args.key c.args.dhat.now) c.each_point.place c.figure_at.result c.figure_at.ensures.figure in
+    let more =
+    sum-next (point_costs c.args.key c.args.dhat.now) c.each_point.place c.figure_at.result
+    c.figure_at.ensures.figure in
     let figure = c.from-total.ensures in
     let small = c.figure_at.type_inv in
     let total = c.each_point.invariant.total in

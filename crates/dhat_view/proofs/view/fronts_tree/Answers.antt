@@ -10,7 +10,9 @@ pub new-costing-requires : goal.new-costing-requires
 new-costing-requires c =
     let costs : List ℕ = point_costs c.args.options.now.key c.args.dhat.now in
     let count = costs-count c.args.options.now.key c.args.dhat.now in
-    let points : c.len.result ≡ length c.args.dhat.now.pps = c.len.ensures.count ∙ ap (λ (fronts : List (List (List ℕ))). length fronts) c.requires.fronts ∙ fronts-count c.args.dhat.now in
+    let points : c.len.result ≡ length c.args.dhat.now.pps =
+    c.len.ensures.count ∙ ap (λ (fronts : List (List (List ℕ))). length fronts) c.requires.fronts
+    ∙ fronts-count c.args.dhat.now in
     record {
       stated = (
         costs,
@@ -27,7 +29,9 @@ pub of_fronts-requires-clause-stated : goal.of_fronts-requires-clause-stated
 of_fronts-requires-clause-stated c =
     let costs : List ℕ = point_costs c.args.options.now.key c.args.dhat.now in
     let count = costs-count c.args.options.now.key c.args.dhat.now in
-    let points : c.len.result ≡ length c.args.dhat.now.pps = c.len.ensures.count ∙ ap (λ (fronts : List (List (List ℕ))). length fronts) c.requires.fronts ∙ fronts-count c.args.dhat.now in (
+    let points : c.len.result ≡ length c.args.dhat.now.pps =
+    c.len.ensures.count ∙ ap (λ (fronts : List (List (List ℕ))). length fronts) c.requires.fronts
+    ∙ fronts-count c.args.dhat.now in (
       costs,
       c.new-costing.ensures.stated costs (record {
         count = omega arith;
@@ -41,10 +45,14 @@ pub returns : goal.returns
 returns c =
     let costs : List ℕ = point_costs c.args.options.now.key c.args.dhat.now in
     let count = costs-count c.args.options.now.key c.args.dhat.now in
-    let points : c.len.result ≡ length c.args.dhat.now.pps = c.len.ensures.count ∙ ap (λ (fronts : List (List (List ℕ))). length fronts) c.requires.fronts ∙ fronts-count c.args.dhat.now in
+    let points : c.len.result ≡ length c.args.dhat.now.pps =
+    c.len.ensures.count ∙ ap (λ (fronts : List (List (List ℕ))). length fronts) c.requires.fronts
+    ∙ fronts-count c.args.dhat.now in
     record {
       tree = IfOk-weaker c.of_fronts.result _ _
-          (λ tree is. subst (λ (fronts : List (List (List ℕ))). HasLines tree (costed fronts costs) c.args.options.now.depth) c.requires.fronts
+          (λ tree is. subst
+          (λ (fronts : List (List (List ℕ))). HasLines tree (costed fronts costs) c.args.options.now.depth)
+          c.requires.fronts
           (is costs (c.new-costing.ensures.stated costs (record {
             count = omega arith;
             bound = c.requires.within;

@@ -11,10 +11,13 @@ pub returns-clause-appended : goal.returns-clause-appended
 unfolding points_text
 returns-clause-appended c =
     on_ok_weaker c.put_bytes-3.result
-    (λ added. five-appended c.args.out.now.items c.put_bytes.new.out.items c.put_shown.new.out.items c.put_bytes-2.new.out.items c.put_dec.new.out.items c.put_bytes-3.new.out.items
-    (codes "command: ") (shown c.args.dhat.now.cmd) (codes "\npoints: ") (decimal (length c.args.dhat.now.pps)) (codes "\n")
+    (λ added. five-appended c.args.out.now.items c.put_bytes.new.out.items c.put_shown.new.out.items
+    c.put_bytes-2.new.out.items c.put_dec.new.out.items c.put_bytes-3.new.out.items
+    (codes "command: ") (shown c.args.dhat.now.cmd) (codes "\npoints: ") (decimal (length c.args.dhat.now.pps))
+    (codes "\n")
     c.in_ok-put_bytes.ensures.appended
-    (c.in_ok-put_shown.ensures.appended ∙ ap (λ (text : List ℕ). c.put_bytes.new.out.items ++ shown text) c.bytes.ensures.content)
+    (c.in_ok-put_shown.ensures.appended
+    ∙ ap (λ (text : List ℕ). c.put_bytes.new.out.items ++ shown text) c.bytes.ensures.content)
     c.in_ok-put_bytes-2.ensures.appended
     (c.in_ok-put_dec.ensures.appended ∙ ap (λ (n : ℕ). c.put_bytes-2.new.out.items ++ decimal n) c.len.ensures.length)
     added)
@@ -22,16 +25,32 @@ returns-clause-appended c =
 
 pub returns-in_err-put_shown-clause-kept : goal.returns-in_err-put_shown-clause-kept
 returns-in_err-put_shown-clause-kept c =
-    extends_trans _ _ _ (extends_more _ _ _ c.in_ok-put_bytes.ensures.appended) (extends_same _ _ c.in_err-put_shown.ensures.unchanged)
+    extends_trans _ _ _ (extends_more _ _ _ c.in_ok-put_bytes.ensures.appended)
+    (extends_same _ _ c.in_err-put_shown.ensures.unchanged)
 
 pub returns-in_err-put_bytes-2-clause-kept : goal.returns-in_err-put_bytes-2-clause-kept
 returns-in_err-put_bytes-2-clause-kept c =
-    extends_trans _ _ _ (extends_trans _ _ _ (extends_more _ _ _ c.in_ok-put_bytes.ensures.appended) (extends_more _ _ _ c.in_ok-put_shown.ensures.appended)) (extends_same _ _ c.in_err-put_bytes-2.ensures.unchanged)
+    extends_trans _ _ _
+    (extends_trans _ _ _ (extends_more _ _ _ c.in_ok-put_bytes.ensures.appended)
+    (extends_more _ _ _ c.in_ok-put_shown.ensures.appended))
+    (extends_same _ _ c.in_err-put_bytes-2.ensures.unchanged)
 
 pub returns-in_err-put_dec-clause-kept : goal.returns-in_err-put_dec-clause-kept
 returns-in_err-put_dec-clause-kept c =
-    extends_trans _ _ _ (extends_trans _ _ _ (extends_trans _ _ _ (extends_more _ _ _ c.in_ok-put_bytes.ensures.appended) (extends_more _ _ _ c.in_ok-put_shown.ensures.appended)) (extends_more _ _ _ c.in_ok-put_bytes-2.ensures.appended)) (extends_same _ _ c.in_err-put_dec.ensures.unchanged)
+    extends_trans _ _ _
+    (extends_trans _ _ _
+    (extends_trans _ _ _ (extends_more _ _ _ c.in_ok-put_bytes.ensures.appended)
+    (extends_more _ _ _ c.in_ok-put_shown.ensures.appended))
+    (extends_more _ _ _ c.in_ok-put_bytes-2.ensures.appended))
+    (extends_same _ _ c.in_err-put_dec.ensures.unchanged)
 
 pub returns-clause-kept : goal.returns-clause-kept
 returns-clause-kept c =
-    extends_trans _ _ _ (extends_trans _ _ _ (extends_trans _ _ _ (extends_trans _ _ _ (extends_more _ _ _ c.in_ok-put_bytes.ensures.appended) (extends_more _ _ _ c.in_ok-put_shown.ensures.appended)) (extends_more _ _ _ c.in_ok-put_bytes-2.ensures.appended)) (extends_more _ _ _ c.in_ok-put_dec.ensures.appended)) (extends_put c.put_bytes-3.result _ _ _ c.put_bytes-3.ensures.appended c.put_bytes-3.ensures.unchanged)
+    extends_trans _ _ _
+    (extends_trans _ _ _
+    (extends_trans _ _ _
+    (extends_trans _ _ _ (extends_more _ _ _ c.in_ok-put_bytes.ensures.appended)
+    (extends_more _ _ _ c.in_ok-put_shown.ensures.appended))
+    (extends_more _ _ _ c.in_ok-put_bytes-2.ensures.appended))
+    (extends_more _ _ _ c.in_ok-put_dec.ensures.appended))
+    (extends_put c.put_bytes-3.result _ _ _ c.put_bytes-3.ensures.appended c.put_bytes-3.ensures.unchanged)

@@ -16,7 +16,13 @@ put_tree-requires c =
     let dhat = c.args.dhat.now in
     let fronts = point_fronts dhat in
     let costs = point_costs key dhat in
-    record { tree = (costed fronts costs, viewed key dhat c.args.total c.in_ok-tree.tree c.args.options.now.depth c.requires.total c.in_ok-tree.ensures.tree) }
+    record {
+      tree = (
+        costed fronts costs,
+        viewed key dhat c.args.total c.in_ok-tree.tree c.args.options.now.depth c.requires.total
+            c.in_ok-tree.ensures.tree,
+      );
+    }
 
 pub returns-clause-appended : goal.returns-clause-appended
 unfolding view_text
@@ -26,10 +32,16 @@ returns-clause-appended c =
     let fronts = point_fronts dhat in
     let costs = point_costs key dhat in
     let stacks : List Costed = costed fronts costs in
-    let is = viewed key dhat c.args.total c.in_ok-tree.tree c.args.options.now.depth c.requires.total c.in_ok-tree.ensures.tree in
+    let is =
+    viewed key dhat c.args.total c.in_ok-tree.tree c.args.options.now.depth c.requires.total
+    c.in_ok-tree.ensures.tree in
     on_ok_weaker c.put_tree.result
-    (λ added. two-appended c.args.out.now.items c.put_head.new.out.items c.put_tree.new.out.items (head_text key dhat c.args.total) _ c.in_ok-put_head.ensures.appended (added stacks is)
-    ∙ ap (λ (t : ℕ). c.args.out.now.items ++ (head_text key dhat t ++ tree_text c.args.options.now.depth (record { total = t; threshold = c.args.options.now.threshold }) stacks)) c.requires.total)
+    (λ added. two-appended c.args.out.now.items c.put_head.new.out.items c.put_tree.new.out.items
+    (head_text key dhat c.args.total) _ c.in_ok-put_head.ensures.appended (added stacks is)
+    ∙ ap (λ (t : ℕ). c.args.out.now.items
+    ++ (head_text key dhat t
+    ++ tree_text c.args.options.now.depth (record { total = t; threshold = c.args.options.now.threshold }) stacks))
+    c.requires.total)
     c.put_tree.ensures.appended
 
 pub returns-clause-kept : goal.returns-clause-kept

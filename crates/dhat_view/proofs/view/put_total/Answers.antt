@@ -13,9 +13,12 @@ pub returns-clause-appended : goal.returns-clause-appended
 unfolding total_text
 returns-clause-appended c =
     on_ok_weaker c.put_bytes-3.result
-    (λ added. four-appended c.args.out.now.items c.put_bytes.new.out.items c.put_bytes-2.new.out.items c.put_dec.new.out.items c.put_bytes-3.new.out.items
+    (λ added. four-appended c.args.out.now.items c.put_bytes.new.out.items c.put_bytes-2.new.out.items
+    c.put_dec.new.out.items c.put_bytes-3.new.out.items
     (key_name (figure_key c.args.key)) (codes ": ") (decimal c.args.total) (codes "\n\n")
-    (c.in_ok-put_bytes.ensures.appended ∙ ap (λ (text : List ℕ). c.args.out.now.items ++ text) (c.as_bytes.ensures.value ∙ (c.name.ensures.name ∙ ap (λ (k : Key). key_name k) c.key.ensures.key)))
+    (c.in_ok-put_bytes.ensures.appended
+    ∙ ap (λ (text : List ℕ). c.args.out.now.items ++ text)
+    (c.as_bytes.ensures.value ∙ (c.name.ensures.name ∙ ap (λ (k : Key). key_name k) c.key.ensures.key)))
     c.in_ok-put_bytes-2.ensures.appended
     c.in_ok-put_dec.ensures.appended
     added)
@@ -23,12 +26,21 @@ returns-clause-appended c =
 
 pub returns-in_err-put_bytes-2-clause-kept : goal.returns-in_err-put_bytes-2-clause-kept
 returns-in_err-put_bytes-2-clause-kept c =
-    extends_trans _ _ _ (extends_more _ _ _ c.in_ok-put_bytes.ensures.appended) (extends_same _ _ c.in_err-put_bytes-2.ensures.unchanged)
+    extends_trans _ _ _ (extends_more _ _ _ c.in_ok-put_bytes.ensures.appended)
+    (extends_same _ _ c.in_err-put_bytes-2.ensures.unchanged)
 
 pub returns-in_err-put_dec-clause-kept : goal.returns-in_err-put_dec-clause-kept
 returns-in_err-put_dec-clause-kept c =
-    extends_trans _ _ _ (extends_trans _ _ _ (extends_more _ _ _ c.in_ok-put_bytes.ensures.appended) (extends_more _ _ _ c.in_ok-put_bytes-2.ensures.appended)) (extends_same _ _ c.in_err-put_dec.ensures.unchanged)
+    extends_trans _ _ _
+    (extends_trans _ _ _ (extends_more _ _ _ c.in_ok-put_bytes.ensures.appended)
+    (extends_more _ _ _ c.in_ok-put_bytes-2.ensures.appended))
+    (extends_same _ _ c.in_err-put_dec.ensures.unchanged)
 
 pub returns-clause-kept : goal.returns-clause-kept
 returns-clause-kept c =
-    extends_trans _ _ _ (extends_trans _ _ _ (extends_trans _ _ _ (extends_more _ _ _ c.in_ok-put_bytes.ensures.appended) (extends_more _ _ _ c.in_ok-put_bytes-2.ensures.appended)) (extends_more _ _ _ c.in_ok-put_dec.ensures.appended)) (extends_put c.put_bytes-3.result _ _ _ c.put_bytes-3.ensures.appended c.put_bytes-3.ensures.unchanged)
+    extends_trans _ _ _
+    (extends_trans _ _ _
+    (extends_trans _ _ _ (extends_more _ _ _ c.in_ok-put_bytes.ensures.appended)
+    (extends_more _ _ _ c.in_ok-put_bytes-2.ensures.appended))
+    (extends_more _ _ _ c.in_ok-put_dec.ensures.appended))
+    (extends_put c.put_bytes-3.result _ _ _ c.put_bytes-3.ensures.appended c.put_bytes-3.ensures.unchanged)

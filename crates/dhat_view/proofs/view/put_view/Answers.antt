@@ -7,18 +7,28 @@ use Rattle.dhat_view.proofs.ViewSums.{text-sums}
 use Rattle.dhat_view.proofs.view.put_view.Goals as goal
 
 pub returns-then-not-has_figures-clause-fault : goal.returns-then-not-has_figures-clause-fault
-returns-then-not-has_figures-clause-fault c = λ other. no-figures c.args.options.now.key c.args.dhat.now (sym c.has_figures.ensures.told ∙ c.if-not-has_figures.true)
+returns-then-not-has_figures-clause-fault c =
+    λ other. no-figures c.args.options.now.key c.args.dhat.now
+    (sym c.has_figures.ensures.told ∙ c.if-not-has_figures.true)
 
 pub returns-then-not-has_figures-clause-refused : goal.returns-then-not-has_figures-clause-refused
 returns-then-not-has_figures-clause-refused c = λ fault is.
-    ap Err (same_Some NoFigures fault (sym (no-figures c.args.options.now.key c.args.dhat.now (sym c.has_figures.ensures.told ∙ c.if-not-has_figures.true)) ∙ is))
+    ap Err (same_Some NoFigures fault
+    (sym (no-figures c.args.options.now.key c.args.dhat.now
+    (sym c.has_figures.ensures.told ∙ c.if-not-has_figures.true))
+    ∙ is))
 
 pub returns-in_default-clause-fault : goal.returns-in_default-clause-fault
-returns-in_default-clause-fault c = λ other. too-large c.args.options.now.key c.args.dhat.now (sym c.has_figures.ensures.told ∙ c.if-not-has_figures.false) c.in_default.ensures.too_large
+returns-in_default-clause-fault c =
+    λ other. too-large c.args.options.now.key c.args.dhat.now
+    (sym c.has_figures.ensures.told ∙ c.if-not-has_figures.false) c.in_default.ensures.too_large
 
 pub returns-in_default-clause-refused : goal.returns-in_default-clause-refused
 returns-in_default-clause-refused c = λ fault is.
-    ap Err (same_Some TooLarge fault (sym (too-large c.args.options.now.key c.args.dhat.now (sym c.has_figures.ensures.told ∙ c.if-not-has_figures.false) c.in_default.ensures.too_large) ∙ is))
+    ap Err (same_Some TooLarge fault
+    (sym (too-large c.args.options.now.key c.args.dhat.now
+    (sym c.has_figures.ensures.told ∙ c.if-not-has_figures.false) c.in_default.ensures.too_large)
+    ∙ is))
 
 pub returns-in-Ok-clause-sums : goal.returns-in-Ok-clause-sums
 returns-in-Ok-clause-sums c =
@@ -30,12 +40,21 @@ returns-in-Ok-clause-sums c =
 
 pub returns-in-Ok-clause-no_fault : goal.returns-in-Ok-clause-no_fault
 returns-in-Ok-clause-no_fault c =
-    no-fault c.args.options.now.key c.args.dhat.now (sym c.has_figures.ensures.told ∙ c.if-not-has_figures.false) (let total = c.in-Some.ensures.sum in let within = c.in-Some.ensures.within in omega arith)
+    no-fault c.args.options.now.key c.args.dhat.now (sym c.has_figures.ensures.told ∙ c.if-not-has_figures.false)
+    (let total = c.in-Some.ensures.sum in let within = c.in-Some.ensures.within in omega arith)
 
 pub returns-in-Ok-clause-refused : goal.returns-in-Ok-clause-refused
 returns-in-Ok-clause-refused c = λ fault is.
-    absurd (none-some fault (sym (no-fault c.args.options.now.key c.args.dhat.now (sym c.has_figures.ensures.told ∙ c.if-not-has_figures.false) (let total = c.in-Some.ensures.sum in let within = c.in-Some.ensures.within in omega arith)) ∙ is))
+    absurd (none-some fault
+    (sym (no-fault c.args.options.now.key c.args.dhat.now
+    (sym c.has_figures.ensures.told ∙ c.if-not-has_figures.false)
+    (let total = c.in-Some.ensures.sum in let within = c.in-Some.ensures.within in omega arith))
+    ∙ is))
 
 pub returns-in-Err-clause-refused : goal.returns-in-Err-clause-refused
 returns-in-Err-clause-refused c = λ fault is.
-    absurd (none-some fault (sym (no-fault c.args.options.now.key c.args.dhat.now (sym c.has_figures.ensures.told ∙ c.if-not-has_figures.false) (let total = c.in-Some.ensures.sum in let within = c.in-Some.ensures.within in omega arith)) ∙ is))
+    absurd (none-some fault
+    (sym (no-fault c.args.options.now.key c.args.dhat.now
+    (sym c.has_figures.ensures.told ∙ c.if-not-has_figures.false)
+    (let total = c.in-Some.ensures.sum in let within = c.in-Some.ensures.within in omega arith))
+    ∙ is))

@@ -8,18 +8,26 @@ pub loop-digit-init : goal.loop-digit-init
 loop-digit-init c = none_written c.args.text.now c.args.digits.now c.told-text c.requires
 
 pub bounds-text-end : goal.bounds-text-end
-bounds-text-end c = digit_fits c.loop-digit.text c.loop-digit.end c.loop-digit.digit-index c.loop-digit.left c.args.digits.now (omega arith) c.loop-digit.invariant
+bounds-text-end c =
+    digit_fits c.loop-digit.text c.loop-digit.end c.loop-digit.digit-index c.loop-digit.left c.args.digits.now
+    (omega arith) c.loop-digit.invariant
 
 pub bounds-text-end-then-are_full_groups : goal.bounds-text-end-then-are_full_groups
-bounds-text-end-then-are_full_groups c = comma_fits c.loop-digit.text c.loop-digit.end c.loop-digit.digit-index c.loop-digit.left c.args.digits.now (omega arith) c.loop-digit.invariant (sym c.are_full_groups.ensures ∙ c.if-are_full_groups.true)
+bounds-text-end-then-are_full_groups c =
+    comma_fits c.loop-digit.text c.loop-digit.end c.loop-digit.digit-index c.loop-digit.left c.args.digits.now
+    (omega arith) c.loop-digit.invariant (sym c.are_full_groups.ensures ∙ c.if-are_full_groups.true)
 
 pub loop-digit-preserved : goal.loop-digit-preserved
 loop-digit-preserved c = elim c.if-are_full_groups.branch [
   | then-are_full_groups w ↦ rw (w.text-is, w.end-is)
-      (written_comma c.loop-digit.text c.loop-digit.end c.loop-digit.digit-index c.loop-digit.left c.args.digits.now (omega arith) c.loop-digit.invariant (sym c.are_full_groups.ensures ∙ w.if-are_full_groups.true))
+      (written_comma c.loop-digit.text c.loop-digit.end c.loop-digit.digit-index c.loop-digit.left c.args.digits.now
+      (omega arith) c.loop-digit.invariant (sym c.are_full_groups.ensures ∙ w.if-are_full_groups.true))
   | else-are_full_groups w ↦ rw (w.text-is, w.end-is)
-      (written_alone c.loop-digit.text c.loop-digit.end c.loop-digit.digit-index c.loop-digit.left c.args.digits.now (omega arith) c.loop-digit.invariant (sym c.are_full_groups.ensures ∙ w.if-are_full_groups.false))
+      (written_alone c.loop-digit.text c.loop-digit.end c.loop-digit.digit-index c.loop-digit.left c.args.digits.now
+      (omega arith) c.loop-digit.invariant (sym c.are_full_groups.ensures ∙ w.if-are_full_groups.false))
 ]
 
 pub returns-clause-written : goal.returns-clause-written
-returns-clause-written c = all_written c.loop-digit.text c.args.digits.now c.loop-digit.end c.loop-digit.digit-index c.loop-digit.left (omega arith) c.loop-digit.invariant
+returns-clause-written c =
+    all_written c.loop-digit.text c.args.digits.now c.loop-digit.end c.loop-digit.digit-index c.loop-digit.left
+    (omega arith) c.loop-digit.invariant

@@ -1,5 +1,23 @@
 -- The table has the value of each byte that is a digit, and 255 for the others.
-use Rattle.std.proofs.Common.{◌≡◌, ℕ, ◌<◌, ◌≤◌, Bool, true, false, map, cond, ltb, get_or, refl, ap, ◌∙◌, arith, ltb-true, ltb-false}
+use Rattle.std.proofs.Common.{
+  ◌≡◌,
+  ℕ,
+  ◌<◌,
+  ◌≤◌,
+  Bool,
+  true,
+  false,
+  map,
+  cond,
+  ltb,
+  get_or,
+  refl,
+  ap,
+  ◌∙◌,
+  arith,
+  ltb-true,
+  ltb-false,
+}
 use Rattle.std.proofs.lemmas.Bool.Decides.{nat_tests}
 use Rattle.std.proofs.lemmas.List.FromFn.{get_or-map-range_with_len}
 use Rattle.std.specs.Char.{digit_value}
@@ -16,7 +34,8 @@ table_is = refl
 read : (b : ℕ) → b < 256 → get_or DIGIT_VALUES b 0 ≡ entry b
 read b h = ap (λ t. get_or t b 0) table_is ∙ get_or-map-range_with_len entry 0 256 b b 0 h (omega arith)
 
-digit : (b : ℕ) (t : Bool) → ltb (digit_value b) 16 ≡ t → cond t (digit_value b) 255 < 16 → (digit_value b < 16) × (cond t (digit_value b) 255 ≡ digit_value b)
+digit : (b : ℕ) (t : Bool) → ltb (digit_value b) 16 ≡ t → cond t (digit_value b) 255 < 16
+    → (digit_value b < 16) × (cond t (digit_value b) 255 ≡ digit_value b)
 digit b true e h = (ltb-true _ _ e, refl)
 digit b false e h = absurd (omega arith)
 
@@ -24,7 +43,8 @@ no_digit : (b : ℕ) (t : Bool) → ltb (digit_value b) 16 ≡ t → 16 ≤ cond
 no_digit b true e h = absurd (omega (arith, ltb-true _ _ e))
 no_digit b false e h = ltb-false _ _ e
 
-digit_read : (b : ℕ) → b < 256 → get_or DIGIT_VALUES b 0 < 16 → (digit_value b < 16) × (get_or DIGIT_VALUES b 0 ≡ digit_value b)
+digit_read : (b : ℕ) → b < 256 → get_or DIGIT_VALUES b 0 < 16
+    → (digit_value b < 16) × (get_or DIGIT_VALUES b 0 ≡ digit_value b)
 digit_read b h small =
     let same = read b h in
     let both = digit b (ltb (digit_value b) 16) refl (omega arith) in

@@ -12,4 +12,10 @@ returns-in-Some-clause-value c =
 pub returns-in-None-clause-value : goal.returns-in-None-clause-value
 returns-in-None-clause-value c =
     let none = rw rest_of at c.in-None.ensures in
-    omega (arith, none, length-drop c.args.scanned c.args.kept.now, c.requires.within, prefix_len-drop (λ x. not (is_line_feed x)) c.args.kept.now c.args.scanned c.requires.known)
+    omega (
+      arith,
+      none,
+      length-drop c.args.scanned c.args.kept.now,
+      c.requires.within,
+      prefix_len-drop (λ x. not (is_line_feed x)) c.args.kept.now c.args.scanned c.requires.known,
+    )

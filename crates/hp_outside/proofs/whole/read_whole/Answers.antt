@@ -8,9 +8,11 @@ reads-preserved g c = record {
   filled = search rules;
   within = search rules;
   left =
-      let same : take c.reads.filled c.deref_mut.result.now ≡ take c.reads.filled c.reads.bytes.items = grind (arith, common_steps) in
+      let same : take c.reads.filled c.deref_mut.result.now ≡ take c.reads.filled c.reads.bytes.items =
+      grind (arith, common_steps) in
       let held : c.reads.filled ≤ length c.deref_mut.result.now = search rules in
-      prepend_known-filled _ _ _ _ _ _ _ _ _ _ _ c.reads.invariant.left c.in_ok-count.ensures.taken same held (search rules) (search rules);
+      prepend_known-filled _ _ _ _ _ _ _ _ _ _ _ c.reads.invariant.left c.in_ok-count.ensures.taken same held
+      (search rules) (search rules);
   files = search rules;
   current = search rules;
   opens = search rules;

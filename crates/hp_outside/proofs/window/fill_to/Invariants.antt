@@ -4,7 +4,8 @@ use Rattle.hp_outside.proofs.window.fill_to.Given as goal
 
 abbrev pub invariant-growth : goal.invariant-growth
 invariant-growth l = record {
-  front : (count : ℕ) → count ≤ vec_len l.initial.buffer → take count l.buffer.items ≡ take count l.initial.buffer.items;
+  front : (count : ℕ) → count ≤ vec_len l.initial.buffer
+      → take count l.buffer.items ≡ take count l.initial.buffer.items;
   longer : vec_len l.initial.buffer ≤ vec_len l.buffer;
   capacity : vec_capacity l.initial.buffer ≤ vec_capacity l.buffer;
 }

@@ -12,7 +12,11 @@ other byte line above text = All-cons (λ b. b ≢ 10) byte line (λ is. omega (
 whole : (bytes : List ℕ) → bytes ≡ 43 ∷ 32 ∷ 49 ∷ 10 ∷ [] → IsWholeLines bytes 1
 whole bytes is = record {
   lines = (43 ∷ 32 ∷ 49 ∷ []) ∷ [];
-  texts = All-cons IsLineText (43 ∷ 32 ∷ 49 ∷ []) [] (other 43 (32 ∷ 49 ∷ []) (omega arith) (other 32 (49 ∷ []) (omega arith) (other 49 [] (omega arith) (All-nil (λ b. b ≢ 10))))) (All-nil IsLineText);
+  texts =
+      All-cons IsLineText (43 ∷ 32 ∷ 49 ∷ []) []
+      (other 43 (32 ∷ 49 ∷ []) (omega arith)
+      (other 32 (49 ∷ []) (omega arith) (other 49 [] (omega arith) (All-nil (λ b. b ≢ 10)))))
+      (All-nil IsLineText);
   text = is;
   count = refl;
 }

@@ -8,6 +8,9 @@ pub returns : goal.returns
 returns c =
     let front = c.in_ok-front.ensures.cases.same in
     let found = c.in_ok-info.ensures in
-    event-begins _ c.args.bytes.now c.in_ok-info.digits c.in_ok-front.ensures.cases.enough (ap (λ l. get_or l 0 0) (sym front) ∙ c.in_ok-kind.ensures) (ap (λ l. get_or l 1 0) (sym front) ∙ c.if-front-ne32.false) refl found.some found.most
+    event-begins _ c.args.bytes.now c.in_ok-info.digits c.in_ok-front.ensures.cases.enough
+    (ap (λ l. get_or l 0 0) (sym front) ∙ c.in_ok-kind.ensures)
+    (ap (λ l. get_or l 1 0) (sym front) ∙ c.if-front-ne32.false) refl found.some found.most
     (subst (λ l. AllDigits 16 (take c.in_ok-info.digits (drop 2 l))) front found.digits)
-    (found.value ∙ ap (λ l. digits_value 16 (take c.in_ok-info.digits (drop 2 l))) front) (ap (λ l. get_or (drop 2 l) c.in_ok-info.digits 0) (sym front) ∙ found.feed)
+    (found.value ∙ ap (λ l. digits_value 16 (take c.in_ok-info.digits (drop 2 l))) front)
+    (ap (λ l. get_or (drop 2 l) c.in_ok-info.digits 0) (sym front) ∙ found.feed)

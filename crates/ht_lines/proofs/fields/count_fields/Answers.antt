@@ -4,4 +4,5 @@ use Rattle.ht_lines.proofs.FieldLemmas.{length-fields}
 use Rattle.ht_lines.proofs.fields.count_fields.Goals as goal
 
 pub overflow_add-count : goal.overflow_add-count
-overflow_add-count c = omega (arith, length-fields c.args.text.now, c.fields.invariant.0, ap length c.in-Some.ensures.some)
+overflow_add-count c =
+    omega (arith, length-fields c.args.text.now, c.fields.invariant.0, ap length c.in-Some.ensures.some)

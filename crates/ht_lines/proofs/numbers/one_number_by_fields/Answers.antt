@@ -8,5 +8,6 @@ returns-in_default c = rw c.in_default.ensures.none refl
 
 pub returns : goal.returns
 returns c =
-    let end : fields c.in-Some.after.now ≡ [] = where_none c.next_field-2.result _ c.if-is_some.ensures c.next_field-2.ensures.none in
+    let end : fields c.in-Some.after.now ≡ [] =
+    where_none c.next_field-2.result _ c.if-is_some.ensures c.next_field-2.ensures.none in
     rw (c.in-Some.ensures.some, end) (search rules)

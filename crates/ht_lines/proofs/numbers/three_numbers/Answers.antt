@@ -11,7 +11,9 @@ abbrev in_front : ℕ → Result (ℕ × ℕ) Malformed → Result (ℕ × ℕ �
 in_front l (Ok x) = Ok (l, x.0, x.1)
 in_front l (Err fault) = Err fault
 
-behind : (l : ℕ) (m n : Option ℕ) → with_number m (λ m. with_number n (λ n. Ok (l, m, n))) ≡ in_front l (with_number m (λ m. with_number n (λ n. Ok (m, n))))
+behind : (l : ℕ) (m n : Option ℕ)
+    → with_number m (λ m. with_number n (λ n. Ok (l, m, n)))
+    ≡ in_front l (with_number m (λ m. with_number n (λ n. Ok (m, n))))
 behind l None n = refl
 behind l (Some m) None = refl
 behind l (Some m) (Some n) = refl
@@ -23,24 +25,48 @@ pub returns-in_default-next_field : goal.returns-in_default-next_field
 returns-in_default-next_field c = rw (c.in-Some.ensures.some, c.in_default-next_field.ensures.none) refl
 
 pub returns-in_default-next_field-2 : goal.returns-in_default-next_field-2
-returns-in_default-next_field-2 c = rw (c.in-Some.ensures.some, c.in-Some-next_field.ensures.some, c.in_default-next_field-2.ensures.none) refl
+returns-in_default-next_field-2 c =
+    rw (c.in-Some.ensures.some, c.in-Some-next_field.ensures.some, c.in_default-next_field-2.ensures.none) refl
 
 pub returns-in_default-parse_hex : goal.returns-in_default-parse_hex
 returns-in_default-parse_hex c =
-    let end : fields c.in-Some-next_field-2.after.now ≡ [] = where_none c.next_field-4.result _ c.if-is_some.ensures c.next_field-4.ensures.none in
+    let end : fields c.in-Some-next_field-2.after.now ≡ [] =
+    where_none c.next_field-4.result _ c.if-is_some.ensures c.next_field-4.ensures.none in
     let none : parsed_hex c.in-Some.first.now ≡ None = sym c.parse_hex.ensures.parsed ∙ c.in_default-parse_hex.is in
     rw (c.in-Some.ensures.some, c.in-Some-next_field.ensures.some, c.in-Some-next_field-2.ensures.some, end, none) refl
 
 pub returns-in-Ok : goal.returns-in-Ok
 returns-in-Ok c =
-    let end : fields c.in-Some-next_field-2.after.now ≡ [] = where_none c.next_field-4.result _ c.if-is_some.ensures c.next_field-4.ensures.none in
-    let first : parsed_hex c.in-Some.first.now ≡ Some c.in-Some-parse_hex.first = sym c.parse_hex.ensures.parsed ∙ c.in-Some-parse_hex.is in
+    let end : fields c.in-Some-next_field-2.after.now ≡ [] =
+    where_none c.next_field-4.result _ c.if-is_some.ensures c.next_field-4.ensures.none in
+    let first : parsed_hex c.in-Some.first.now ≡ Some c.in-Some-parse_hex.first =
+    sym c.parse_hex.ensures.parsed ∙ c.in-Some-parse_hex.is in
     let both = sym c.both_numbers.ensures ∙ c.in-Ok.is in
-    rw (c.in-Some.ensures.some, c.in-Some-next_field.ensures.some, c.in-Some-next_field-2.ensures.some, end, first, behind c.in-Some-parse_hex.first (parsed_hex c.in-Some-next_field.second.now) (parsed_hex c.in-Some-next_field-2.third.now), both) refl
+    rw (
+      c.in-Some.ensures.some,
+      c.in-Some-next_field.ensures.some,
+      c.in-Some-next_field-2.ensures.some,
+      end,
+      first,
+      behind c.in-Some-parse_hex.first (parsed_hex c.in-Some-next_field.second.now)
+          (parsed_hex c.in-Some-next_field-2.third.now),
+      both,
+    ) refl
 
 pub returns-in-Err : goal.returns-in-Err
 returns-in-Err c =
-    let end : fields c.in-Some-next_field-2.after.now ≡ [] = where_none c.next_field-4.result _ c.if-is_some.ensures c.next_field-4.ensures.none in
-    let first : parsed_hex c.in-Some.first.now ≡ Some c.in-Some-parse_hex.first = sym c.parse_hex.ensures.parsed ∙ c.in-Some-parse_hex.is in
+    let end : fields c.in-Some-next_field-2.after.now ≡ [] =
+    where_none c.next_field-4.result _ c.if-is_some.ensures c.next_field-4.ensures.none in
+    let first : parsed_hex c.in-Some.first.now ≡ Some c.in-Some-parse_hex.first =
+    sym c.parse_hex.ensures.parsed ∙ c.in-Some-parse_hex.is in
     let both = sym c.both_numbers.ensures ∙ c.in-Err.is in
-    rw (c.in-Some.ensures.some, c.in-Some-next_field.ensures.some, c.in-Some-next_field-2.ensures.some, end, first, behind c.in-Some-parse_hex.first (parsed_hex c.in-Some-next_field.second.now) (parsed_hex c.in-Some-next_field-2.third.now), both) refl
+    rw (
+      c.in-Some.ensures.some,
+      c.in-Some-next_field.ensures.some,
+      c.in-Some-next_field-2.ensures.some,
+      end,
+      first,
+      behind c.in-Some-parse_hex.first (parsed_hex c.in-Some-next_field.second.now)
+          (parsed_hex c.in-Some-next_field-2.third.now),
+      both,
+    ) refl

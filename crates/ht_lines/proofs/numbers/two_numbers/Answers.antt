@@ -11,5 +11,6 @@ returns-in_default-next_field c = rw (c.in-Some.ensures.some, c.in_default-next_
 
 pub returns : goal.returns
 returns c =
-    let end : fields c.in-Some-next_field.after.now ≡ [] = where_none c.next_field-3.result _ c.if-is_some.ensures c.next_field-3.ensures.none in
+    let end : fields c.in-Some-next_field.after.now ≡ [] =
+    where_none c.next_field-3.result _ c.if-is_some.ensures c.next_field-3.ensures.none in
     rw (c.in-Some.ensures.some, c.in-Some-next_field.ensures.some, end) c.both_numbers.ensures

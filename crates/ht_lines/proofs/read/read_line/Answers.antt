@@ -1,5 +1,31 @@
 -- The line by its first byte and the rest, test by test.
-use Rattle.std.proofs.Common.{◌≡◌, ◌≢◌, ◌<◌, ◌≤◌, ◌-◌, ◌∙◌, ℕ, true, false, cond, List, [], ◌∷◌, length, get_or, take, drop, take_all, Ok, Err, arith, refl, sym, ap, subst}
+use Rattle.std.proofs.Common.{
+  ◌≡◌,
+  ◌≢◌,
+  ◌<◌,
+  ◌≤◌,
+  ◌-◌,
+  ◌∙◌,
+  ℕ,
+  true,
+  false,
+  cond,
+  List,
+  [],
+  ◌∷◌,
+  length,
+  get_or,
+  take,
+  drop,
+  take_all,
+  Ok,
+  Err,
+  arith,
+  refl,
+  sym,
+  ap,
+  subst,
+}
 use Rattle.std.specs.Prelude.{IfOk}
 use borrow.Author.Tests.{ne_eqb}
 use Rattle.ht_lines.specs.declared.item.Form.{Form}
@@ -24,20 +50,24 @@ parts : (line : List ℕ) → 1 ≤ length line → line ≡ get_or line 0 0 ∷
 parts [] some = absurd (omega arith)
 parts (b ∷ rest) some = ap (λ (r : List ℕ). b ∷ r) (sym (rest_is (b ∷ rest) some))
 
-comment : (form : Form) (version kind : ℕ) (rest : List ℕ) → kind ≡ 35 → reading form version (kind ∷ rest) ≡ Ok (comment_line rest)
+comment : (form : Form) (version kind : ℕ) (rest : List ℕ) → kind ≡ 35
+    → reading form version (kind ∷ rest) ≡ Ok (comment_line rest)
 unfolding reading
 comment form version kind rest is = rw is refl
 
-foreign : (form : Form) (version kind : ℕ) (rest : List ℕ) → kind ≢ 35 → is_foreign form kind ≡ true → reading form version (kind ∷ rest) ≡ Err NotRaw
+foreign : (form : Form) (version kind : ℕ) (rest : List ℕ) → kind ≢ 35 → is_foreign form kind ≡ true
+    → reading form version (kind ∷ rest) ≡ Err NotRaw
 unfolding reading
 foreign form version kind rest other is = rw (ne_eqb kind 35 other, is) refl
 
-unknown : (form : Form) (version kind : ℕ) (rest : List ℕ) → kind ≢ 35 → is_foreign form kind ≡ false → is_kind kind ≡ false
+unknown : (form : Form) (version kind : ℕ) (rest : List ℕ) → kind ≢ 35 → is_foreign form kind ≡ false
+    → is_kind kind ≡ false
     → reading form version (kind ∷ rest) ≡ Ok (other_line (kind ∷ rest))
 unfolding reading
 unknown form version kind rest other here is = rw (ne_eqb kind 35 other, here, is) refl
 
-known : (form : Form) (version kind : ℕ) (rest : List ℕ) → kind ≢ 35 → is_foreign form kind ≡ false → is_kind kind ≡ true
+known : (form : Form) (version kind : ℕ) (rest : List ℕ) → kind ≢ 35 → is_foreign form kind ≡ false
+    → is_kind kind ≡ true
     → reading form version (kind ∷ rest) ≡ (cond (field_ends rest) (reading_kind form version kind rest) (Err BadField))
 unfolding reading
 known form version kind rest other here is = rw (ne_eqb kind 35 other, here, is) refl
@@ -47,7 +77,8 @@ returns-in_default-clause-exact c = empty c.args.form c.args.version c.args.line
 
 pub returns-then-kind-eq35-clause-exact : goal.returns-then-kind-eq35-clause-exact
 returns-then-kind-eq35-clause-exact c =
-    ap (reading c.args.form c.args.version) (parts c.args.line.now c.in-len1-up.len_at_least) ∙ comment c.args.form c.args.version _ _ c.if-kind-eq35.true
+    ap (reading c.args.form c.args.version) (parts c.args.line.now c.in-len1-up.len_at_least)
+    ∙ comment c.args.form c.args.version _ _ c.if-kind-eq35.true
 
 pub returns-then-is_foreign-clause-exact : goal.returns-then-is_foreign-clause-exact
 returns-then-is_foreign-clause-exact c =
@@ -58,14 +89,16 @@ pub returns-then-not-is_kind-clause-exact : goal.returns-then-not-is_kind-clause
 returns-then-not-is_kind-clause-exact c =
     let whole = parts c.args.line.now c.in-len1-up.len_at_least in
     ap (reading c.args.form c.args.version) whole
-    ∙ unknown c.args.form c.args.version _ _ c.if-kind-eq35.false (sym c.is_foreign.ensures ∙ c.if-is_foreign.false) (sym c.is_kind.ensures ∙ c.if-not-is_kind.true)
+    ∙ unknown c.args.form c.args.version _ _ c.if-kind-eq35.false (sym c.is_foreign.ensures ∙ c.if-is_foreign.false)
+    (sym c.is_kind.ensures ∙ c.if-not-is_kind.true)
     ∙ ap (λ (line : List ℕ). Ok (other_line line)) (sym whole)
 
 pub returns-then-not-field_ends-clause-exact : goal.returns-then-not-field_ends-clause-exact
 returns-then-not-field_ends-clause-exact c =
     let no_end = sym c.field_ends.ensures ∙ c.if-not-field_ends.true in
     ap (reading c.args.form c.args.version) (parts c.args.line.now c.in-len1-up.len_at_least)
-    ∙ known c.args.form c.args.version _ _ c.if-kind-eq35.false (sym c.is_foreign.ensures ∙ c.if-is_foreign.false) (sym c.is_kind.ensures ∙ c.if-not-is_kind.false)
+    ∙ known c.args.form c.args.version _ _ c.if-kind-eq35.false (sym c.is_foreign.ensures ∙ c.if-is_foreign.false)
+    (sym c.is_kind.ensures ∙ c.if-not-is_kind.false)
     ∙ rw no_end refl
 
 pub returns-clause-exact : goal.returns-clause-exact
@@ -73,9 +106,11 @@ returns-clause-exact c =
     let ends = sym c.field_ends.ensures ∙ c.if-not-field_ends.false in
     let is =
     ap (reading c.args.form c.args.version) (parts c.args.line.now c.in-len1-up.len_at_least)
-    ∙ known c.args.form c.args.version _ _ c.if-kind-eq35.false (sym c.is_foreign.ensures ∙ c.if-is_foreign.false) (sym c.is_kind.ensures ∙ c.if-not-is_kind.false) in
+    ∙ known c.args.form c.args.version _ _ c.if-kind-eq35.false (sym c.is_foreign.ensures ∙ c.if-is_foreign.false)
+    (sym c.is_kind.ensures ∙ c.if-not-is_kind.false) in
     rw (is, ends) c.read_kind.ensures.exact
 
 pub returns-clause-tail : goal.returns-clause-tail
 returns-clause-tail c =
-    subst (λ (rest : List ℕ). IfOk c.read_kind.result (λ item. HasTail c.args.version rest item)) (rest_is c.args.line.now c.in-len1-up.len_at_least) c.read_kind.ensures.tail
+    subst (λ (rest : List ℕ). IfOk c.read_kind.result (λ item. HasTail c.args.version rest item))
+    (rest_is c.args.line.now c.in-len1-up.len_at_least) c.read_kind.ensures.tail

@@ -1,4 +1,26 @@
-use Rattle.std.proofs.Common.{◌≡◌, ◌<◌, ◌≤◌, ◌-◌, ◌∙◌, ℕ, true, false, List, [], ◌∷◌, length, take, drop, take_all, None, Some, arith, refl, sym, ap}
+use Rattle.std.proofs.Common.{
+  ◌≡◌,
+  ◌<◌,
+  ◌≤◌,
+  ◌-◌,
+  ◌∙◌,
+  ℕ,
+  true,
+  false,
+  List,
+  [],
+  ◌∷◌,
+  length,
+  take,
+  drop,
+  take_all,
+  None,
+  Some,
+  arith,
+  refl,
+  sym,
+  ap,
+}
 use Rattle.std.specs.Prelude.{nat_le}
 use Rattle.std.proofs.lemmas.Bool.{le-leb}
 use Rattle.std.proofs.lemmas.Bool.Decides.{nat_tests}
@@ -22,7 +44,8 @@ too_few n (b ∷ bytes) some few =
     let test : nat_le n (length bytes) ≡ false = grind (arith, nat_tests) in
     rw test refl
 
-module _ (n : ℕ) (b : ℕ) (bytes name tail : List ℕ) (enough : n ≤ length (behind (b ∷ bytes))) (front : name ≡ take n (behind (b ∷ bytes))) (back : tail ≡ drop n (behind (b ∷ bytes))) where
+module _ (n : ℕ) (b : ℕ) (bytes name tail : List ℕ) (enough : n ≤ length (behind (b ∷ bytes)))
+    (front : name ≡ take n (behind (b ∷ bytes))) (back : tail ≡ drop n (behind (b ∷ bytes))) where
   whole : behind (b ∷ bytes) ≡ bytes
   whole = take_all (length (b ∷ bytes) - 1) bytes (omega arith)
 
@@ -38,12 +61,14 @@ module _ (n : ℕ) (b : ℕ) (bytes name tail : List ℕ) (enough : n ≤ length
   goes_on : field_ends tail ≡ false → None ≡ of_size_in (Some n) (b ∷ bytes)
   goes_on ends = rw (held, ap field_ends (sym tail_is) ∙ ends) refl
 
-ended : (n : ℕ) (after name tail : List ℕ) → 1 ≤ length after → n ≤ length (behind after) → name ≡ take n (behind after) → tail ≡ drop n (behind after) → field_ends tail ≡ true
+ended : (n : ℕ) (after name tail : List ℕ) → 1 ≤ length after → n ≤ length (behind after) → name ≡ take n (behind after)
+    → tail ≡ drop n (behind after) → field_ends tail ≡ true
     → Some (name, tail) ≡ of_size_in (Some n) after
 ended n [] name tail some enough front back ends = absurd (omega arith)
 ended n (b ∷ bytes) name tail some enough front back ends = at_end n b bytes name tail enough front back ends
 
-not_ended : (n : ℕ) (after name tail : List ℕ) → 1 ≤ length after → n ≤ length (behind after) → name ≡ take n (behind after) → tail ≡ drop n (behind after) → field_ends tail ≡ false
+not_ended : (n : ℕ) (after name tail : List ℕ) → 1 ≤ length after → n ≤ length (behind after)
+    → name ≡ take n (behind after) → tail ≡ drop n (behind after) → field_ends tail ≡ false
     → None ≡ of_size_in (Some n) after
 not_ended n [] name tail some enough front back ends = absurd (omega arith)
 not_ended n (b ∷ bytes) name tail some enough front back ends = goes_on n b bytes name tail enough front back ends
@@ -52,12 +77,17 @@ pub returns-in_default-clause-exact : goal.returns-in_default-clause-exact
 returns-in_default-clause-exact c = no_bytes c.args.size c.args.after.now c.in_default.len_below
 
 pub returns-then-size-bytes-clause-exact : goal.returns-then-size-bytes-clause-exact
-returns-then-size-bytes-clause-exact c = too_few c.args.size c.args.after.now c.in-len1-up.len_at_least c.if-size-bytes.true
+returns-then-size-bytes-clause-exact c =
+    too_few c.args.size c.args.after.now c.in-len1-up.len_at_least c.if-size-bytes.true
 
 pub returns-then-field_ends-clause-exact : goal.returns-then-field_ends-clause-exact
 returns-then-field_ends-clause-exact c =
-    ended c.args.size c.args.after.now c.split_at.result.0.now c.split_at.result.1.now c.in-len1-up.len_at_least c.if-size-bytes.false c.split_at.ensures.front c.split_at.ensures.back (sym c.field_ends.ensures ∙ c.if-field_ends.true)
+    ended c.args.size c.args.after.now c.split_at.result.0.now c.split_at.result.1.now c.in-len1-up.len_at_least
+    c.if-size-bytes.false c.split_at.ensures.front c.split_at.ensures.back
+    (sym c.field_ends.ensures ∙ c.if-field_ends.true)
 
 pub returns-else-field_ends-clause-exact : goal.returns-else-field_ends-clause-exact
 returns-else-field_ends-clause-exact c =
-    not_ended c.args.size c.args.after.now c.split_at.result.0.now c.split_at.result.1.now c.in-len1-up.len_at_least c.if-size-bytes.false c.split_at.ensures.front c.split_at.ensures.back (sym c.field_ends.ensures ∙ c.if-field_ends.false)
+    not_ended c.args.size c.args.after.now c.split_at.result.0.now c.split_at.result.1.now c.in-len1-up.len_at_least
+    c.if-size-bytes.false c.split_at.ensures.front c.split_at.ensures.back
+    (sym c.field_ends.ensures ∙ c.if-field_ends.false)

@@ -5,7 +5,11 @@ use Rattle.ht_lines.proofs.write.put_comment.Goals as goal
 
 pub returns-clause-appended : goal.returns-clause-appended
 returns-clause-appended c =
-    on_ok_weaker c.put_whole_line.result (λ last. last ∙ ap (λ l. l ++ (c.args.text.now ++ (10 ∷ []))) c.in_ok-put_bytes.ensures.appended ∙ append_assoc c.args.out.now.items (35 ∷ []) (c.args.text.now ++ (10 ∷ []))) c.put_whole_line.ensures.appended
+    on_ok_weaker c.put_whole_line.result
+    (λ last. last ∙ ap (λ l. l ++ (c.args.text.now ++ (10 ∷ []))) c.in_ok-put_bytes.ensures.appended
+    ∙ append_assoc c.args.out.now.items (35 ∷ []) (c.args.text.now ++ (10 ∷ [])))
+    c.put_whole_line.ensures.appended
 
 pub returns-clause-kept : goal.returns-clause-kept
-returns-clause-kept c = extends_trans _ _ _ (extends_more _ _ _ c.in_ok-put_bytes.ensures.appended) c.put_whole_line.ensures.kept
+returns-clause-kept c =
+    extends_trans _ _ _ (extends_more _ _ _ c.in_ok-put_bytes.ensures.appended) c.put_whole_line.ensures.kept

@@ -4,10 +4,12 @@ use Rattle.ht_lines.proofs.WrittenLemmas.{reading-written}
 use Rattle.ht_lines.proofs.write.put_item.Goals as goal
 
 pub returns-then-is_err-clause-reads_back : goal.returns-then-is_err-clause-reads_back
-returns-then-is_err-clause-reads_back c = λ form. reading-written c.hexadecimal_texts.ensures.reads_back form c.args.version
+returns-then-is_err-clause-reads_back c =
+    λ form. reading-written c.hexadecimal_texts.ensures.reads_back form c.args.version
 
 pub returns-else-is_err-clause-reads_back : goal.returns-else-is_err-clause-reads_back
-returns-else-is_err-clause-reads_back c = λ form. reading-written c.hexadecimal_texts.ensures.reads_back form c.args.version
+returns-else-is_err-clause-reads_back c =
+    λ form. reading-written c.hexadecimal_texts.ensures.reads_back form c.args.version
 
 pub returns-then-is_err-clause-one_line : goal.returns-then-is_err-clause-one_line
 returns-then-is_err-clause-one_line c = written-one_line c.args.version _

@@ -6,7 +6,10 @@ use Rattle.ht_lines.proofs.write.put_text_line.Goals as goal
 
 pub returns-clause-appended : goal.returns-clause-appended
 returns-clause-appended c =
-    on_ok_weaker c.put_feed.result (λ last. last ∙ ap (λ l. l ++ (10 ∷ [])) c.in_ok-put_kind_text.ensures.appended ∙ append_assoc c.args.out.now.items (c.args.kind.now ++ spelled_text c.args.version c.args.text.now) (10 ∷ [])) c.put_feed.ensures.appended
+    on_ok_weaker c.put_feed.result
+    (λ last. last ∙ ap (λ l. l ++ (10 ∷ [])) c.in_ok-put_kind_text.ensures.appended
+    ∙ append_assoc c.args.out.now.items (c.args.kind.now ++ spelled_text c.args.version c.args.text.now) (10 ∷ []))
+    c.put_feed.ensures.appended
 
 pub returns-clause-kept : goal.returns-clause-kept
 returns-clause-kept c = extends_trans _ _ _ c.put_kind_text.ensures.kept c.put_feed.ensures.kept

@@ -11,8 +11,10 @@ pub each_stack-preserved : goal.each_stack-preserved
 each_stack-preserved c =
     let figure : ℕ = slice_index c.args.figures.now c.each_stack.stack in
     c.in_ok-add_stack.ensures
-    ∙ ap (λ (es : List Entry). es ++ cond (nat_lt 0 figure) (entry_at c.args.figures.now c.each_stack.stack ∷ []) []) c.each_stack.invariant
+    ∙ ap (λ (es : List Entry). es ++ cond (nat_lt 0 figure) (entry_at c.args.figures.now c.each_stack.stack ∷ []) [])
+    c.each_stack.invariant
     ∙ sym (first-stacks-more c.args.figures.now c.each_stack.stack)
 
 pub returns : goal.returns
-returns c = record { stacks = c.each_stack.invariant ∙ first-stacks-all c.args.figures.now c.each_stack.stack (omega arith) }
+returns c =
+    record { stacks = c.each_stack.invariant ∙ first-stacks-all c.args.figures.now c.each_stack.stack (omega arith) }

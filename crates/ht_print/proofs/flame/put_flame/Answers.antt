@@ -11,15 +11,20 @@ pub returns-clause-appended : goal.returns-clause-appended
 returns-clause-appended c =
     on_ok_weaker c.put_flame_of_lists.result
     (λ added. added
-    ∙ ap (λ (lists : List (List (List ℕ))). c.args.out.now.items ++ flame_of_lists lists c.in_ok-costs.costs.items) c.in_ok-lists.ensures.lists
-    ∙ ap (λ (costs : List ℕ). c.args.out.now.items ++ flame_of_lists (lists_towards FromRoot Plain c.args.tables.now) costs) c.in_ok-costs.ensures.costs)
+    ∙ ap (λ (lists : List (List (List ℕ))). c.args.out.now.items ++ flame_of_lists lists c.in_ok-costs.costs.items)
+    c.in_ok-lists.ensures.lists
+    ∙ ap (λ (costs : List ℕ). c.args.out.now.items
+    ++ flame_of_lists (lists_towards FromRoot Plain c.args.tables.now) costs) c.in_ok-costs.ensures.costs)
     c.put_flame_of_lists.ensures.appended
 
 pub returns-clause-trace : goal.returns-clause-trace
 returns-clause-trace c =
     on_ok_weaker c.put_flame_of_lists.result
     (λ added events stands. added
-    ∙ ap (λ (lists : List (List (List ℕ))). c.args.out.now.items ++ flame_of_lists lists c.in_ok-costs.costs.items) c.in_ok-lists.ensures.lists
-    ∙ ap (λ (costs : List ℕ). c.args.out.now.items ++ flame_of_lists (lists_towards FromRoot Plain c.args.tables.now) costs)
-    (c.in_ok-costs.ensures.trace events stands ∙ ap (λ (stacks : ℕ). trace_costs c.args.cost stacks events) c.requires.as_many))
+    ∙ ap (λ (lists : List (List (List ℕ))). c.args.out.now.items ++ flame_of_lists lists c.in_ok-costs.costs.items)
+    c.in_ok-lists.ensures.lists
+    ∙ ap (λ (costs : List ℕ). c.args.out.now.items
+    ++ flame_of_lists (lists_towards FromRoot Plain c.args.tables.now) costs)
+    (c.in_ok-costs.ensures.trace events stands
+    ∙ ap (λ (stacks : ℕ). trace_costs c.args.cost stacks events) c.requires.as_many))
     c.put_flame_of_lists.ensures.appended

@@ -14,7 +14,8 @@ invariant-each_node l = record {
   held : All (λ m. m < length l.tree.nodes) l.left.items;
   lines : All (HasLine l.tree) l.nodes.items;
   written : (stacks : List Costed) → IsTreeOf l.tree stacks most_frames →
-      flat_map (line_at l.tree) l.nodes.items ++ flat_map (flame_at most_frames l.tree stacks) (reverse l.left.items) ≡ flame_at most_frames l.tree stacks 0;
+      flat_map (line_at l.tree) l.nodes.items ++ flat_map (flame_at most_frames l.tree stacks) (reverse l.left.items)
+      ≡ flame_at most_frames l.tree stacks 0;
 }
 
 abbrev pub decreases-each_node : goal.decreases-each_node

@@ -10,7 +10,8 @@ pub each_node-init : goal.each_node-init
 each_node-init c = record {
   some = omega arith;
   lengths = c.in_ok-push.ensures.items ∙ ap (λ (ls : List ℕ). ls ++ 22 ∷ []) c.in_ok-lengths.ensures.items
-      ∙ sym (ap (λ fronts. map line_bytes fronts) (first-front c.args.tree.now c.requires.tree) ∙ ap (λ (bytes : ℕ). bytes ∷ []) bytes-of-root);
+      ∙ sym (ap (λ fronts. map line_bytes fronts) (first-front c.args.tree.now c.requires.tree)
+      ∙ ap (λ (bytes : ℕ). bytes ∷ []) bytes-of-root);
   bounded = first-bounded c.args.tree.now c.requires.tree;
 }
 
@@ -29,14 +30,20 @@ each_node-preserved c =
     let named : last_text tree n ≡ c.text.result.now = last_text-is tree n last.0 c.text.result.now last.1 in
     let longer = bytes-longer tree n c.node.result c.text.result.now c.requires.tree above c.node.ensures.node named in
     let lower = c.node.ensures.lower above in
-    let before = c.index-above.ensures ∙ length-at fronts c.each_node.lengths.items n c.node.result.parent _ lower within now.lengths in
+    let before =
+    c.index-above.ensures
+    ∙ length-at fronts c.each_node.lengths.items n c.node.result.parent _ lower within now.lengths in
     let own = c.in_ok-length.ensures in
     let is : c.in_ok-length.length ≡ line_bytes (get_or fronts n []) = omega (arith, longer, before, own) in
     let most = c.max-longest.ensures in
     record {
       some = omega arith;
-      lengths = lengths-push fronts c.each_node.lengths.items c.push-in-each_node.new.self.items n c.in_ok-length.length within now.lengths c.in_ok-push-2.ensures.items is;
+      lengths =
+          lengths-push fronts c.each_node.lengths.items c.push-in-each_node.new.self.items n c.in_ok-length.length within
+          now.lengths c.in_ok-push-2.ensures.items is;
       bounded = All-more (λ texts. line_bytes texts ≤ c.max-longest.result) fronts n [] within
-          (All-weaker (λ texts. line_bytes texts ≤ c.each_node.longest) (λ texts. line_bytes texts ≤ c.max-longest.result) (λ texts below. omega (arith, below, most)) _ now.bounded)
+          (All-weaker (λ texts. line_bytes texts ≤ c.each_node.longest)
+          (λ texts. line_bytes texts ≤ c.max-longest.result) (λ texts below. omega (arith, below, most)) _
+          now.bounded)
           (omega (arith, is, most));
     }

@@ -11,4 +11,5 @@ returns-then-node-eq0-clause-text c =
     let tree = c.args.tree.now in
     let own = own-is tree c.args.n c.node.result c.node.ensures.node in
     let none = c.if-node-eq0.true in
-    appended-none (flat_map (line_at tree) c.args.nodes.now.items) (line_at tree c.args.n) (flame_line-none (front_at tree c.args.n) (own_at tree c.args.n) (omega (arith, own, none)))
+    appended-none (flat_map (line_at tree) c.args.nodes.now.items) (line_at tree c.args.n)
+    (flame_line-none (front_at tree c.args.n) (own_at tree c.args.n) (omega (arith, own, none)))

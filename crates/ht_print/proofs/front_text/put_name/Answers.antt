@@ -12,7 +12,10 @@ each_byte-init c = record {
 
 pub each_byte-preserved : goal.each_byte-preserved
 each_byte-preserved c = record {
-  written = appended-more c.args.out.now.items c.each_byte.out.items c.push_reserved.new.self.items (flame_name (take c.each_byte.byte-index c.args.text.now)) (flame_byte (get_or c.args.text.now c.each_byte.byte-index _) ∷ []) _
+  written =
+      appended-more c.args.out.now.items c.each_byte.out.items c.push_reserved.new.self.items
+      (flame_name (take c.each_byte.byte-index c.args.text.now))
+      (flame_byte (get_or c.args.text.now c.each_byte.byte-index _) ∷ []) _
       c.each_byte.invariant.written
       (c.push_reserved.ensures.items ∙ ap (λ b. c.each_byte.out.items ++ b ∷ []) c.plain_byte.ensures)
       (flame_name-more c.args.text.now c.each_byte.byte-index _ (omega arith));

@@ -1,4 +1,21 @@
-use Rattle.std.proofs.Common.{rules, ◌≡◌, ℕ, ◌+◌, ◌++◌, List, [], length, map, take, get_or, ap, ◌∙◌, arith, append_assoc, length-append}
+use Rattle.std.proofs.Common.{
+  rules,
+  ◌≡◌,
+  ℕ,
+  ◌+◌,
+  ◌++◌,
+  List,
+  [],
+  length,
+  map,
+  take,
+  get_or,
+  ap,
+  ◌∙◌,
+  arith,
+  append_assoc,
+  length-append,
+}
 use Rattle.std.specs.Prelude.{codes}
 use Rattle.ht_print.specs.FlameText.{flame_name, flame_rest}
 use Rattle.ht_print.specs.FlameWalk.{last_text}
@@ -13,7 +30,10 @@ so-far old now more is = ap (λ (bytes : List ℕ). length bytes) is ∙ length-
 pub push_reserved-requires : goal.push_reserved-requires
 push_reserved-requires c =
     let fits = rest-within (last_text c.args.tree.now) c.args.rest.now c.each_node.node-index 0 (omega arith) in
-    let size = so-far c.args.out.now.items c.each_node.out.items (flame_rest (map (last_text c.args.tree.now) (take c.each_node.node-index c.args.rest.now))) c.each_node.invariant.written in
+    let size =
+    so-far c.args.out.now.items c.each_node.out.items
+    (flame_rest (map (last_text c.args.tree.now) (take c.each_node.node-index c.args.rest.now)))
+    c.each_node.invariant.written in
     let now = c.each_node.out.ok in
     let then = c.args.out.now.ok in
     let same = c.each_node.invariant.capacity in
@@ -23,7 +43,10 @@ push_reserved-requires c =
 pub put_node-requires-clause-room : goal.put_node-requires-clause-room
 put_node-requires-clause-room c =
     let fits = rest-within (last_text c.args.tree.now) c.args.rest.now c.each_node.node-index 0 (omega arith) in
-    let size = so-far c.args.out.now.items c.each_node.out.items (flame_rest (map (last_text c.args.tree.now) (take c.each_node.node-index c.args.rest.now))) c.each_node.invariant.written in
+    let size =
+    so-far c.args.out.now.items c.each_node.out.items
+    (flame_rest (map (last_text c.args.tree.now) (take c.each_node.node-index c.args.rest.now)))
+    c.each_node.invariant.written in
     let now = c.each_node.out.ok in
     let then = c.args.out.now.ok in
     let same = c.each_node.invariant.capacity in
@@ -42,9 +65,13 @@ pub each_node-preserved : goal.each_node-preserved
 each_node-preserved c =
     let name : List ℕ = flame_name (last_text c.args.tree.now (get_or c.args.rest.now c.each_node.node-index 0)) in
     record {
-      written = appended-more c.args.out.now.items c.each_node.out.items c.put_node.new.out.items (flame_rest (map (last_text c.args.tree.now) (take c.each_node.node-index c.args.rest.now))) (codes ";" ++ name) _
+      written =
+          appended-more c.args.out.now.items c.each_node.out.items c.put_node.new.out.items
+          (flame_rest (map (last_text c.args.tree.now) (take c.each_node.node-index c.args.rest.now)))
+          (codes ";" ++ name) _
           c.each_node.invariant.written
-          (c.put_node.ensures.appended ∙ ap (λ (bytes : List ℕ). bytes ++ name) c.push_reserved.ensures.items ∙ append_assoc c.each_node.out.items (codes ";") name)
+          (c.put_node.ensures.appended ∙ ap (λ (bytes : List ℕ). bytes ++ name) c.push_reserved.ensures.items
+          ∙ append_assoc c.each_node.out.items (codes ";") name)
           (flame_rest-more (last_text c.args.tree.now) c.args.rest.now c.each_node.node-index 0 (omega arith));
       capacity = c.put_node.ensures.capacity ∙ c.push_reserved.ensures.capacity ∙ c.each_node.invariant.capacity;
     }

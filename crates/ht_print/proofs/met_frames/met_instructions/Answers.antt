@@ -11,5 +11,6 @@ each_instruction-preserved c =
     c.in_ok-push.ensures.items
     ∙ ap (λ (met : List Bool). met ++ c.in_ok-meets_frames.field-0 ∷ []) c.each_instruction.invariant
     ∙ ap (λ (answer : Bool). map (meets_instruction tables) (range_with_len 0 n) ++ answer ∷ [])
-    (c.in_ok-meets_frames.ensures ∙ ap (meets_frames tables) (c.deref.ensures.value ∙ c.in_ok-instruction_frames_into.ensures.of_tables))
+    (c.in_ok-meets_frames.ensures
+    ∙ ap (meets_frames tables) (c.deref.ensures.value ∙ c.in_ok-instruction_frames_into.ensures.of_tables))
     ∙ sym (map-range_with_len_more (meets_instruction tables) 0 n n (omega arith))

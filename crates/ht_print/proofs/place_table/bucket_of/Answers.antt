@@ -14,4 +14,5 @@ pub returns-clause-bucket : goal.returns-clause-bucket
 unfolding bucket_of
 returns-clause-bucket c =
     ap (λ (hash : ℕ). hash % c.args.buckets)
-    (c.each_byte.invariant.is ∙ ap (λ (bytes : List ℕ). hash_from 0 bytes) (take_all c.each_byte.byte-index c.args.text.now (omega arith)))
+    (c.each_byte.invariant.is
+    ∙ ap (λ (bytes : List ℕ). hash_from 0 bytes) (take_all c.each_byte.byte-index c.args.text.now (omega arith)))

@@ -9,7 +9,8 @@ pub returns : goal.returns
 returns c = record {
   text = on_ok_weaker c.put_frame.result
       (λ added. added
-      ∙ ap (λ (bytes : List ℕ). bytes ++ frame_text Plain c.args.tables.now c.innermost_frame.result) c.clear.ensures.items
+      ∙ ap (λ (bytes : List ℕ). bytes ++ frame_text Plain c.args.tables.now c.innermost_frame.result)
+      c.clear.ensures.items
       ∙ sym (place-first c.args.tables.now c.args.stack c.innermost_frame.result c.innermost_frame.ensures.first))
       c.put_frame.ensures.appended;
 }

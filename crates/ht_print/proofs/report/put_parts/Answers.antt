@@ -22,9 +22,13 @@ returns-clause-appended c =
     let first : List ℕ = first_sections options tables (λ cost. trace_costs cost (length tables.nodes + 1) events) in
     let last : List ℕ = last_sections options tables (λ cost. trace_costs cost (length tables.nodes + 1) events) in
     let histogram : List ℕ = cond options.histogram (histogram_text events) [] in
-    four-appended out c.put_first_sections.new.out.items c.put_last_sections.new.out.items c.put_wanted_histogram.new.out.items c.put_summary.new.out.items first last histogram (summary_text events)
-    (c.in_ok-put_first_sections.ensures.appended ∙ ap (λ (bytes : List ℕ). out ++ bytes) (first-are options tables peaks events sound stands beside))
-    (c.in_ok-put_last_sections.ensures.appended ∙ ap (λ (bytes : List ℕ). c.put_first_sections.new.out.items ++ bytes) (last-are options tables peaks events sound stands beside))
+    four-appended out c.put_first_sections.new.out.items c.put_last_sections.new.out.items
+    c.put_wanted_histogram.new.out.items c.put_summary.new.out.items first last histogram (summary_text events)
+    (c.in_ok-put_first_sections.ensures.appended
+    ∙ ap (λ (bytes : List ℕ). out ++ bytes) (first-are options tables peaks events sound stands beside))
+    (c.in_ok-put_last_sections.ensures.appended
+    ∙ ap (λ (bytes : List ℕ). c.put_first_sections.new.out.items ++ bytes)
+    (last-are options tables peaks events sound stands beside))
     (c.in_ok-put_wanted_histogram.ensures.appended events stands)
     (added events stands))
     c.put_summary.ensures.appended

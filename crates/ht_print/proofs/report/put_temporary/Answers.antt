@@ -13,6 +13,10 @@ returns-clause-appended c =
     let heading : List ℕ = codes "MOST TEMPORARY ALLOCATIONS\n" in
     on_ok_weaker c.put_section.result
     (λ added. added
-    ∙ ap (λ (figures : List ℕ). c.args.out.now.items ++ section_text c.args.layout.now.options c.args.layout.now.tables.now heading unit.Temporary figures) (c.deref.ensures.value ∙ c.in_ok-temporary.ensures.costs)
-    ∙ ap (λ (bytes : List ℕ). c.args.out.now.items ++ bytes) (sym (cond-true c.args.layout.now.options.temporary _ [] wanted)))
+    ∙ ap (λ (figures : List ℕ). c.args.out.now.items
+    ++ section_text c.args.layout.now.options c.args.layout.now.tables.now heading unit.Temporary figures)
+    (c.deref.ensures.value
+    ∙ c.in_ok-temporary.ensures.costs)
+    ∙ ap (λ (bytes : List ℕ). c.args.out.now.items ++ bytes)
+    (sym (cond-true c.args.layout.now.options.temporary _ [] wanted)))
     c.put_section.ensures.appended

@@ -10,6 +10,7 @@ unfolding group_lines
 returns-clause-appended c =
     on_ok_weaker c.put_members.result
     (λ added. appended-more c.args.out.now.items c.put_place.new.out.items c.put_members.new.out.items
-    (place_line c.args.scale (place_of c.args.layout.now.tables.now c.args.group.stack) c.args.group.figure) (members_lines c.args.layout.now.tables.now c.args.scale c.args.layout.now.options.sub_limit c.args.members.now) _
+    (place_line c.args.scale (place_of c.args.layout.now.tables.now c.args.group.stack) c.args.group.figure)
+    (members_lines c.args.layout.now.tables.now c.args.scale c.args.layout.now.options.sub_limit c.args.members.now) _
     c.in_ok-put_place.ensures.appended added refl)
     c.put_members.ensures.appended

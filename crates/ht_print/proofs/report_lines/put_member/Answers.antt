@@ -9,7 +9,8 @@ use Rattle.ht_print.proofs.report_lines.put_member.Goals as goal
 pub put_frames-requires : goal.put_frames-requires
 put_frames-requires c = record {
   frames = All-tail (λ (at : FrameAt). IsFrame c.args.tables.now at) _ c.in-Some.others.now
-      (subst (λ (fs : List FrameAt). All (λ (at : FrameAt). IsFrame c.args.tables.now at) fs) (sym c.deref.ensures.value ∙ c.in-Some.ensures.cases.0) c.in_ok-frames_into.ensures.places);
+      (subst (λ (fs : List FrameAt). All (λ (at : FrameAt). IsFrame c.args.tables.now at) fs)
+      (sym c.deref.ensures.value ∙ c.in-Some.ensures.cases.0) c.in_ok-frames_into.ensures.places);
 }
 
 pub returns-clause-kept : goal.returns-clause-kept
@@ -17,7 +18,9 @@ returns-clause-kept c =
     let old : List ℕ = c.args.out.now.items in
     extends_trans old c.put_in_stack.new.out.items c.put_frames.new.out.items
     (extends_trans old c.put.new.out.items c.put_in_stack.new.out.items
-    (extends_trans old c.put_bytes.new.out.items c.put.new.out.items (extends_more old c.put_bytes.new.out.items (codes "  ") c.in_ok-put_bytes.ensures.appended) c.put.ensures.kept) c.put_in_stack.ensures.kept)
+    (extends_trans old c.put_bytes.new.out.items c.put.new.out.items
+    (extends_more old c.put_bytes.new.out.items (codes "  ") c.in_ok-put_bytes.ensures.appended) c.put.ensures.kept)
+    c.put_in_stack.ensures.kept)
     c.put_frames.ensures.kept
 
 pub returns-in_err-put-clause-kept : goal.returns-in_err-put-clause-kept
@@ -26,4 +29,5 @@ returns-in_err-put-clause-kept c =
 
 pub returns-in_err-put_in_stack-clause-kept : goal.returns-in_err-put_in_stack-clause-kept
 returns-in_err-put_in_stack-clause-kept c =
-    extends_trans _ _ _ (extends_trans _ _ _ (extends_more _ _ _ c.in_ok-put_bytes.ensures.appended) c.put.ensures.kept) c.put_in_stack.ensures.kept
+    extends_trans _ _ _ (extends_trans _ _ _ (extends_more _ _ _ c.in_ok-put_bytes.ensures.appended) c.put.ensures.kept)
+    c.put_in_stack.ensures.kept

@@ -13,12 +13,20 @@ pub returns-clause-appended : goal.returns-clause-appended
 unfolding members_lines
 returns-clause-appended c =
     on_ok_weaker c.put_left.result
-    (λ added. shown-all (λ (entry : Entry). member_lines c.args.scale (stack_texts Plain c.args.layout.now.tables.now entry.stack) entry) c.args.out.now.items c.each_member.out.items c.put_left.new.out.items (codes "  more stacks: ") c.args.members.now _ c.each_member.member-index c.args.layout.now.options.sub_limit _
-    c.each_member.invariant.written (omega arith) c.split_shown-left.ensures.shown c.split_shown-left.ensures.left added)
+    (λ added. shown-all
+    (λ (entry : Entry). member_lines c.args.scale (stack_texts Plain c.args.layout.now.tables.now entry.stack) entry)
+    c.args.out.now.items c.each_member.out.items c.put_left.new.out.items (codes "  more stacks: ") c.args.members.now
+    _ c.each_member.member-index c.args.layout.now.options.sub_limit _
+    c.each_member.invariant.written (omega arith) c.split_shown-left.ensures.shown c.split_shown-left.ensures.left
+    added)
     c.put_left.ensures.appended
 
 pub returns-in_err-put_member-clause-kept : goal.returns-in_err-put_member-clause-kept
-returns-in_err-put_member-clause-kept c = extends_trans c.args.out.now.items c.each_member.out.items c.put_member.new.out.items c.each_member.invariant.kept c.put_member.ensures.kept
+returns-in_err-put_member-clause-kept c =
+    extends_trans c.args.out.now.items c.each_member.out.items c.put_member.new.out.items c.each_member.invariant.kept
+    c.put_member.ensures.kept
 
 pub returns-clause-kept : goal.returns-clause-kept
-returns-clause-kept c = extends_trans c.args.out.now.items c.each_member.out.items c.put_left.new.out.items c.each_member.invariant.kept c.put_left.ensures.kept
+returns-clause-kept c =
+    extends_trans c.args.out.now.items c.each_member.out.items c.put_left.new.out.items c.each_member.invariant.kept
+    c.put_left.ensures.kept

@@ -9,6 +9,9 @@ use Rattle.ht_print.proofs.report_lines.put_members.Given as goal
 -- the lines so far
 abbrev pub invariant-each_member : goal.invariant-each_member
 invariant-each_member l = record {
-  written : l.out.items ≡ l.initial.out.items ++ flat_map (λ entry. member_lines l.scale (stack_texts Plain l.layout.tables.now entry.stack) entry) (take l.member-index l.shown);
+  written : l.out.items
+      ≡ l.initial.out.items
+      ++ flat_map (λ entry. member_lines l.scale (stack_texts Plain l.layout.tables.now entry.stack) entry)
+      (take l.member-index l.shown);
   kept : Extends l.initial.out.items l.out.items;
 }

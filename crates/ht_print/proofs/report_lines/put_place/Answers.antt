@@ -15,10 +15,12 @@ returns-clause-appended c =
     let text : List ℕ = frame_text Plain c.args.tables.now c.innermost_frame-innermost.result in
     let figure : List ℕ = figure_text c.args.scale c.args.group.figure in
     on_ok_weaker c.put_bytes-2.result
-    (λ added. four-appended c.args.out.now.items c.put.new.out.items c.put_bytes.new.out.items c.put_frame.new.out.items c.put_bytes-2.new.out.items figure (codes " at ") text (codes "\n")
+    (λ added. four-appended c.args.out.now.items c.put.new.out.items c.put_bytes.new.out.items c.put_frame.new.out.items
+    c.put_bytes-2.new.out.items figure (codes " at ") text (codes "\n")
     c.in_ok-put.ensures.appended c.in_ok-put_bytes.ensures.appended c.in_ok-put_frame.ensures.appended added
     ∙ ap (λ (place : List ℕ). c.args.out.now.items ++ (figure ++ (codes " at " ++ (place ++ codes "\n"))))
-    (sym (place-first c.args.tables.now c.args.group.stack c.innermost_frame-innermost.result c.innermost_frame-innermost.ensures.first)))
+    (sym (place-first c.args.tables.now c.args.group.stack c.innermost_frame-innermost.result
+    c.innermost_frame-innermost.ensures.first)))
     c.put_bytes-2.ensures.appended
 
 pub returns-in_err-put_bytes-clause-kept : goal.returns-in_err-put_bytes-clause-kept
@@ -27,8 +29,13 @@ returns-in_err-put_bytes-clause-kept c =
 
 pub returns-in_err-put_frame-clause-kept : goal.returns-in_err-put_frame-clause-kept
 returns-in_err-put_frame-clause-kept c =
-    extends_trans _ _ _ (extends_trans _ _ _ c.put.ensures.kept (extends_more _ _ _ c.in_ok-put_bytes.ensures.appended)) (extends_same _ _ c.in_err-put_frame.ensures.unchanged)
+    extends_trans _ _ _ (extends_trans _ _ _ c.put.ensures.kept (extends_more _ _ _ c.in_ok-put_bytes.ensures.appended))
+    (extends_same _ _ c.in_err-put_frame.ensures.unchanged)
 
 pub returns-clause-kept : goal.returns-clause-kept
 returns-clause-kept c =
-    extends_trans _ _ _ (extends_trans _ _ _ (extends_trans _ _ _ c.put.ensures.kept (extends_more _ _ _ c.in_ok-put_bytes.ensures.appended)) (extends_more _ _ _ c.in_ok-put_frame.ensures.appended)) (extends_put c.put_bytes-2.result _ _ _ c.put_bytes-2.ensures.appended c.put_bytes-2.ensures.unchanged)
+    extends_trans _ _ _
+    (extends_trans _ _ _
+    (extends_trans _ _ _ c.put.ensures.kept (extends_more _ _ _ c.in_ok-put_bytes.ensures.appended))
+    (extends_more _ _ _ c.in_ok-put_frame.ensures.appended))
+    (extends_put c.put_bytes-2.result _ _ _ c.put_bytes-2.ensures.appended c.put_bytes-2.ensures.unchanged)

@@ -13,12 +13,19 @@ pub returns-clause-appended : goal.returns-clause-appended
 unfolding unmerged_lines
 returns-clause-appended c =
     on_ok_weaker c.put_left.result
-    (λ added. shown-all (λ (entry : Entry). stack_lines c.args.scale (stack_texts Plain c.args.layout.now.tables.now entry.stack) entry) c.args.out.now.items c.each_stack.out.items c.put_left.new.out.items (codes "more stacks: ") c.args.stacks.now _ c.each_stack.stack-index c.args.layout.now.options.limit _
+    (λ added. shown-all
+    (λ (entry : Entry). stack_lines c.args.scale (stack_texts Plain c.args.layout.now.tables.now entry.stack) entry)
+    c.args.out.now.items c.each_stack.out.items c.put_left.new.out.items (codes "more stacks: ") c.args.stacks.now _
+    c.each_stack.stack-index c.args.layout.now.options.limit _
     c.each_stack.invariant.written (omega arith) c.split_shown-left.ensures.shown c.split_shown-left.ensures.left added)
     c.put_left.ensures.appended
 
 pub returns-in_err-put_stack-clause-kept : goal.returns-in_err-put_stack-clause-kept
-returns-in_err-put_stack-clause-kept c = extends_trans c.args.out.now.items c.each_stack.out.items c.put_stack.new.out.items c.each_stack.invariant.kept c.put_stack.ensures.kept
+returns-in_err-put_stack-clause-kept c =
+    extends_trans c.args.out.now.items c.each_stack.out.items c.put_stack.new.out.items c.each_stack.invariant.kept
+    c.put_stack.ensures.kept
 
 pub returns-clause-kept : goal.returns-clause-kept
-returns-clause-kept c = extends_trans c.args.out.now.items c.each_stack.out.items c.put_left.new.out.items c.each_stack.invariant.kept c.put_left.ensures.kept
+returns-clause-kept c =
+    extends_trans c.args.out.now.items c.each_stack.out.items c.put_left.new.out.items c.each_stack.invariant.kept
+    c.put_left.ensures.kept

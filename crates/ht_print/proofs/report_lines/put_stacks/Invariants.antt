@@ -9,6 +9,9 @@ use Rattle.ht_print.proofs.report_lines.put_stacks.Given as goal
 -- the lines so far
 abbrev pub invariant-each_stack : goal.invariant-each_stack
 invariant-each_stack l = record {
-  written : l.out.items ≡ l.initial.out.items ++ flat_map (λ entry. stack_lines l.scale (stack_texts Plain l.layout.tables.now entry.stack) entry) (take l.stack-index l.shown);
+  written : l.out.items
+      ≡ l.initial.out.items
+      ++ flat_map (λ entry. stack_lines l.scale (stack_texts Plain l.layout.tables.now entry.stack) entry)
+      (take l.stack-index l.shown);
   kept : Extends l.initial.out.items l.out.items;
 }

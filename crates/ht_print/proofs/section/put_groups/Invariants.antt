@@ -7,6 +7,9 @@ use Rattle.ht_print.proofs.section.put_groups.Given as goal
 -- the lines so far
 abbrev pub invariant-each_group : goal.invariant-each_group
 invariant-each_group l = record {
-  written : l.out.items ≡ l.initial.out.items ++ flat_map (group_at l.layout.tables.now l.scale l.layout.options.sub_limit l.placed.stacks.now) (take l.group-index l.shown);
+  written : l.out.items
+      ≡ l.initial.out.items
+      ++ flat_map (group_at l.layout.tables.now l.scale l.layout.options.sub_limit l.placed.stacks.now)
+      (take l.group-index l.shown);
   kept : Extends l.initial.out.items l.out.items;
 }

@@ -14,11 +14,15 @@ put_groups-requires-clause-groups c =
     let total : ℕ = c.args.scale.total in
     let stacks : List Entry = c.args.stacks.now in
     let same = c.in_ok-placed.ensures.stacks in
-    let held : All (λ (e : Entry). e.stack ≤ length tables.nodes) stacks = λ k d within. (c.requires.entries k d within).held in
+    let held : All (λ (e : Entry). e.stack ≤ length tables.nodes) stacks =
+    λ k d within. (c.requires.entries k d within).held in
     let groups : c.deref.result.now ≡ ordered_groups tables stacks =
-    c.deref.ensures.value ∙ c.in_ok-groups.ensures tables c.requires.places (subst (λ (es : List Entry). All (λ (e : Entry). e.stack ≤ length tables.nodes) es) (sym same) held)
+    c.deref.ensures.value
+    ∙ c.in_ok-groups.ensures tables c.requires.places
+    (subst (λ (es : List Entry). All (λ (e : Entry). e.stack ≤ length tables.nodes) es) (sym same) held)
     ∙ ap (λ (es : List Entry). ordered_groups tables es) same in
-    subst (λ (es : List Entry). All (IsEntry tables total) es) (sym groups) (groups-entries tables total stacks c.requires.entries c.requires.within)
+    subst (λ (es : List Entry). All (IsEntry tables total) es) (sym groups)
+    (groups-entries tables total stacks c.requires.entries c.requires.within)
 
 pub returns-clause-appended : goal.returns-clause-appended
 returns-clause-appended c =
@@ -26,12 +30,17 @@ returns-clause-appended c =
     let options = c.args.layout.now.options in
     let stacks : List Entry = c.args.stacks.now in
     let same = c.in_ok-placed.ensures.stacks in
-    let held : All (λ (e : Entry). e.stack ≤ length tables.nodes) stacks = λ k d within. (c.requires.entries k d within).held in
+    let held : All (λ (e : Entry). e.stack ≤ length tables.nodes) stacks =
+    λ k d within. (c.requires.entries k d within).held in
     let groups : c.deref.result.now ≡ ordered_groups tables stacks =
-    c.deref.ensures.value ∙ c.in_ok-groups.ensures tables c.requires.places (subst (λ (es : List Entry). All (λ (e : Entry). e.stack ≤ length tables.nodes) es) (sym same) held)
+    c.deref.ensures.value
+    ∙ c.in_ok-groups.ensures tables c.requires.places
+    (subst (λ (es : List Entry). All (λ (e : Entry). e.stack ≤ length tables.nodes) es) (sym same) held)
     ∙ ap (λ (es : List Entry). ordered_groups tables es) same in
     on_ok_weaker c.put_groups.result
     (λ added. added
-    ∙ ap (λ (es : List Entry). c.args.out.now.items ++ groups_lines tables c.args.scale options.limit options.sub_limit es c.deref.result.now) same
-    ∙ ap (λ (bytes : List ℕ). c.args.out.now.items ++ bytes) (merged-are tables c.args.scale options.limit options.sub_limit stacks c.deref.result.now groups))
+    ∙ ap (λ (es : List Entry). c.args.out.now.items
+    ++ groups_lines tables c.args.scale options.limit options.sub_limit es c.deref.result.now) same
+    ∙ ap (λ (bytes : List ℕ). c.args.out.now.items ++ bytes)
+    (merged-are tables c.args.scale options.limit options.sub_limit stacks c.deref.result.now groups))
     c.put_groups.ensures.appended

@@ -14,7 +14,8 @@ each_stack-preserved c =
     c.in_ok-push.ensures.items
     ∙ ap (λ (kept : List ℕ). kept ++ c.unsuppressed_figure.result ∷ []) c.each_stack.invariant
     ∙ ap (λ (figure : ℕ). before ++ figure ∷ []) c.unsuppressed_figure.ensures
-    ∙ ap (λ (is : Bool). before ++ cond is 0 (get_or figures stack 0) ∷ []) (sym (get_or_from_slice_get suppressed stack c.has.result false c.has.ensures))
+    ∙ ap (λ (is : Bool). before ++ cond is 0 (get_or figures stack 0) ∷ [])
+    (sym (get_or_from_slice_get suppressed stack c.has.result false c.has.ensures))
     ∙ sym (unsuppressed-more suppressed figures stack false 0 (omega arith) (omega arith))
 
 pub returns : goal.returns
@@ -23,6 +24,8 @@ returns c =
     let stack : ℕ = c.each_stack.stack in
     record {
       figures = c.each_stack.invariant
-          ∙ ap (λ (bs : List Bool). unsuppressed bs (take stack c.args.figures.now)) (take_all stack c.args.suppressed.now (omega arith))
-          ∙ ap (λ (fs : List ℕ). unsuppressed c.args.suppressed.now fs) (take_all stack c.args.figures.now (omega arith));
+          ∙ ap (λ (bs : List Bool). unsuppressed bs (take stack c.args.figures.now))
+          (take_all stack c.args.suppressed.now (omega arith))
+          ∙ ap (λ (fs : List ℕ). unsuppressed c.args.suppressed.now fs)
+          (take_all stack c.args.figures.now (omega arith));
     }

@@ -8,5 +8,7 @@ pub returns-clause-appended : goal.returns-clause-appended
 unfolding summary_text
 returns-clause-appended c =
     on_ok_weaker c.put.result
-    (λ put events stands. put ∙ ap (λ (summary : Summary). c.args.out.now.items ++ (count_lines summary ++ live_lines summary)) (c.of_totals.ensures events stands))
+    (λ put events stands. put
+    ∙ ap (λ (summary : Summary). c.args.out.now.items ++ (count_lines summary ++ live_lines summary))
+    (c.of_totals.ensures events stands))
     c.put.ensures.appended

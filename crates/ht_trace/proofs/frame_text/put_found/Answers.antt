@@ -7,4 +7,5 @@ returns-in_err-put_name-clause-kept c =
 
 pub returns-clause-kept : goal.returns-clause-kept
 returns-clause-kept c =
-    extends_trans _ _ _ (extends_trans _ _ _ c.put_address.ensures.kept c.put_name.ensures.kept) c.put_place.ensures.kept
+    extends_trans _ _ _ (extends_trans _ _ _ c.put_address.ensures.kept c.put_name.ensures.kept)
+    c.put_place.ensures.kept

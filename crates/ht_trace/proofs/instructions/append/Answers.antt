@@ -9,4 +9,10 @@ pub overflow_cast-count : goal.overflow_cast-count
 overflow_cast-count c =
     let all = ap length c.in_ok-push_frames.ensures.appended in
     let said = frames_said (numbers c.args.tail.now) in
-    omega (arith, all, length-append c.args.frames.now.items said, length-frames_said (numbers c.args.tail.now), length-map (fields c.args.tail.now) number)
+    omega (
+      arith,
+      all,
+      length-append c.args.frames.now.items said,
+      length-frames_said (numbers c.args.tail.now),
+      length-map (fields c.args.tail.now) number,
+    )

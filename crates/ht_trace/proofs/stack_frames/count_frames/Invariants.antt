@@ -9,7 +9,8 @@ abbrev pub invariant-outwards : goal.invariant-outwards
 invariant-outwards l = record {
   held : l.at ≤ length l.nodes;
   few : l.count + l.at * 2 ^ 32 ≤ l.n * 2 ^ 32;
-  counted : l.count + length (flat_map (frames_of l.instructions) (stack l.nodes l.at)) ≡ length (flat_map (frames_of l.instructions) (stack l.nodes l.n));
+  counted : l.count + length (flat_map (frames_of l.instructions) (stack l.nodes l.at))
+      ≡ length (flat_map (frames_of l.instructions) (stack l.nodes l.n));
 }
 
 abbrev pub decreases-outwards : goal.decreases-outwards

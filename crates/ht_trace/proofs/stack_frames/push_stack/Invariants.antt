@@ -8,7 +8,8 @@ use Rattle.ht_trace.proofs.stack_frames.push_stack.Given as goal
 abbrev pub invariant-outwards : goal.invariant-outwards
 invariant-outwards l = record {
   held : l.at ≤ length l.nodes;
-  appended : l.out.items ++ flat_map (frames_of l.instructions) (stack l.nodes l.at) ≡ l.initial.out.items ++ flat_map (frames_of l.instructions) (stack l.nodes l.n);
+  appended : l.out.items ++ flat_map (frames_of l.instructions) (stack l.nodes l.at)
+      ≡ l.initial.out.items ++ flat_map (frames_of l.instructions) (stack l.nodes l.n);
   room : vec_len l.out + length (flat_map (frames_of l.instructions) (stack l.nodes l.at)) ≤ vec_capacity l.out;
 }
 

@@ -7,4 +7,16 @@ pub push_instruction-requires : goal.push_instruction-requires
 push_instruction-requires c =
     let all = length-frames_of c.args.instructions.now c.from-instruction.result in
     let count = ap (λ (o : Option ℕ). unwrap_or o 0) c.frame_count.ensures.count in
-    omega (arith, all, count, c.unwrap_or-count.ensures, c.saturating_sub.ensures, c.len.ensures, c.in_ok-reserve.ensures.ok, c.in_ok-reserve.ensures.len, c.in_ok-reserve.ensures.capacity, c.clear.ensures.capacity, c.clear.ensures.len)
+    omega (
+      arith,
+      all,
+      count,
+      c.unwrap_or-count.ensures,
+      c.saturating_sub.ensures,
+      c.len.ensures,
+      c.in_ok-reserve.ensures.ok,
+      c.in_ok-reserve.ensures.len,
+      c.in_ok-reserve.ensures.capacity,
+      c.clear.ensures.capacity,
+      c.clear.ensures.len,
+    )

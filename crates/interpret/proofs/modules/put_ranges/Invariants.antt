@@ -8,4 +8,6 @@ use Rattle.interpret.proofs.modules.put_ranges.Given as goal
 -- the module is put over the others in the ranges so far
 abbrev pub invariant-each_range : goal.invariant-each_range
 invariant-each_range l =
-    (ip : ℕ) → holder_at l.index ip ≡ (if list_any (in_range ip) (take l.range-index l.ranges) then Some l.place else holder_at l.initial.index ip)
+    (ip : ℕ)
+    → holder_at l.index ip
+    ≡ (if list_any (in_range ip) (take l.range-index l.ranges) then Some l.place else holder_at l.initial.index ip)

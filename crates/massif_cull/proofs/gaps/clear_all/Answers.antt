@@ -11,4 +11,5 @@ nodes-preserved c =
     let inside : at < length c.args.nodes.now.items = omega (arith, ap length c.deref_mut-node-items.ensures.value) in
     let within : at < length items = omega arith in
     ap (set items at) c.no_key.ensures
-    ∙ map_over_more (λ _. no_key) _ items at (get_or items at no_key) inside c.nodes.invariant (get_or_default items at no_key (get_or items at no_key) within)
+    ∙ map_over_more (λ _. no_key) _ items at (get_or items at no_key) inside c.nodes.invariant
+    (get_or_default items at no_key (get_or items at no_key) within)

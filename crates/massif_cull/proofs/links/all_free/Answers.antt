@@ -25,7 +25,10 @@ places-preserved c =
     let pushed = c.push_reserved.ensures.items in
     let place : ℕ = c.places.place - 1 in
     let apart = each-weaker (λ p. c.places.place ≤ p) (λ p. place ≢ p) free (λ p least e. omega arith) so_far.from in
-    let from = each-append (λ p. place ≤ p) free (place ∷ []) (each-weaker (λ p. c.places.place ≤ p) (λ p. place ≤ p) free (λ p least. omega arith) so_far.from) (omega arith, tt) in
+    let from =
+    each-append (λ p. place ≤ p) free (place ∷ [])
+    (each-weaker (λ p. c.places.place ≤ p) (λ p. place ≤ p) free (λ p least. omega arith) so_far.from)
+    (omega arith, tt) in
     let below = each-append (λ p. p < c.args.max) free (place ∷ []) so_far.below (omega (arith, so_far.count), tt) in
     record {
       count = omega (arith, ap length pushed, length_push free place, so_far.count);

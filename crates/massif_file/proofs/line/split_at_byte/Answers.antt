@@ -4,7 +4,9 @@ use Rattle.massif_file.proofs.LineLemmas.{take-end, drop-end}
 use Rattle.massif_file.proofs.line.split_at_byte.Goals as goal
 
 pub returns-clause-before : goal.returns-clause-before
-returns-clause-before c = c.split_at.ensures.front ∙ take-end c.args.byte c.args.text.now _ _ c.place_of.ensures.place c.unwrap_or-end.ensures
+returns-clause-before c =
+    c.split_at.ensures.front ∙ take-end c.args.byte c.args.text.now _ _ c.place_of.ensures.place c.unwrap_or-end.ensures
 
 pub returns-clause-from : goal.returns-clause-from
-returns-clause-from c = c.split_at.ensures.back ∙ drop-end c.args.byte c.args.text.now _ _ c.place_of.ensures.place c.unwrap_or-end.ensures
+returns-clause-from c =
+    c.split_at.ensures.back ∙ drop-end c.args.byte c.args.text.now _ _ c.place_of.ensures.place c.unwrap_or-end.ensures

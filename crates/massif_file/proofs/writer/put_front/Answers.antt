@@ -17,7 +17,12 @@ returns-clause-appended c =
     let long = c.write_head-head.array_long in
     let start : ℕ = head - level - 1 in
     let text : List ℕ = set front start 10 in
-    let blank : take head front ≡ replicate head 32 = c.write_head-head.ensures.before ∙ take-replicate head 301 32 (omega arith) in
-    let all : take (301 - start) (drop start text) ≡ drop start text = take_all (301 - start) (drop start text) (omega (arith, length-drop start text, length-set front start 10)) in
-    let is = all ∙ front_is front head level (omega arith) (omega arith) blank ∙ ap (λ (t : List ℕ). 10 ∷ (blanks level ++ t)) c.write_head-head.ensures.written in
-    on_ok_weaker c.put_bytes.result (λ h. h ∙ ap (λ (t : List ℕ). c.args.out.now.items ++ t) is) c.put_bytes.ensures.appended
+    let blank : take head front ≡ replicate head 32 =
+    c.write_head-head.ensures.before ∙ take-replicate head 301 32 (omega arith) in
+    let all : take (301 - start) (drop start text) ≡ drop start text =
+    take_all (301 - start) (drop start text) (omega (arith, length-drop start text, length-set front start 10)) in
+    let is =
+    all ∙ front_is front head level (omega arith) (omega arith) blank
+    ∙ ap (λ (t : List ℕ). 10 ∷ (blanks level ++ t)) c.write_head-head.ensures.written in
+    on_ok_weaker c.put_bytes.result (λ h. h ∙ ap (λ (t : List ℕ). c.args.out.now.items ++ t) is)
+    c.put_bytes.ensures.appended

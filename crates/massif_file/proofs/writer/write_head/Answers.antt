@@ -13,8 +13,14 @@ returns-clause-written c =
     let mid_long : length mid ≡ 301 = omega arith in
     let below = c.write_number-bytes_at.ensures.below in
     let most = c.write_number-bytes_at.ensures.most in
-    let blank : drop 300 (set front 300 32) ≡ 32 ∷ [] = drop-set_at front 300 300 32 (omega arith) (omega arith) ∙ ap (λ (t : List ℕ). 32 ∷ t) (drop_all 301 front (omega arith)) in
+    let blank : drop 300 (set front 300 32) ≡ 32 ∷ [] =
+    drop-set_at front 300 300 32 (omega arith) (omega arith)
+    ∙ ap (λ (t : List ℕ). 32 ∷ t) (drop_all 301 front (omega arith)) in
     let colon : drop (at - 1) (set mid (at - 1) 58) ≡ 58 ∷ drop at mid =
-    drop-set_at mid (at - 1) (at - 1) 58 (omega arith) (omega arith) ∙ ap (λ (n : ℕ). 58 ∷ drop n mid) {x = at - 1 + 1} {y = at} (omega arith) in
+    drop-set_at mid (at - 1) (at - 1) 58 (omega arith) (omega arith)
+    ∙ ap (λ (n : ℕ). 58 ∷ drop n mid) {x = at - 1 + 1} {y = at} (omega arith) in
     c.write_number.ensures.written
-    ∙ ap (λ (t : List ℕ). 110 ∷ (decimal c.args.children ++ t)) (colon ∙ ap (λ (t : List ℕ). 58 ∷ t) (c.write_number-bytes_at.ensures.written ∙ ap (λ (t : List ℕ). 32 ∷ (decimal c.args.bytes ++ t)) blank))
+    ∙ ap (λ (t : List ℕ). 110 ∷ (decimal c.args.children ++ t))
+    (colon
+    ∙ ap (λ (t : List ℕ). 58 ∷ t)
+    (c.write_number-bytes_at.ensures.written ∙ ap (λ (t : List ℕ). 32 ∷ (decimal c.args.bytes ++ t)) blank))

@@ -20,7 +20,9 @@ pub returns-then-taken-eq1-clause-sampling : goal.returns-then-taken-eq1-clause-
 returns-then-taken-eq1-clause-sampling g c =
     let normal : c.args.taken ≡ Normal = search rules in
     λ names events made texts said was.
-    let offer_is = offer-now c.args.samples.now.options (ignores c.args.tables.now names) events c.args.samples.now.running c.args.as_peak was.figures in
+    let offer_is =
+    offer-now c.args.samples.now.options (ignores c.args.tables.now names) events c.args.samples.now.running
+    c.args.as_peak was.figures in
     subst (λ (o : Offer). IsSampling c.take.new.self names c.args.tables.now events (made ++ o ∷ [])) offer_is
     (c.take.ensures.sampling names c.args.tables.now events made (inl normal) was)
 
@@ -29,10 +31,14 @@ returns-in_err-add_fronts-clause-due g c =
     let no_normal : c.args.taken ≢ Normal = search rules in
     at_err c.from_residual.result
     (λ names events made was.
-    let offer_is = offer-now c.args.samples.now.options (ignores c.args.tables.now names) events c.args.samples.now.running c.args.as_peak was.figures in
+    let offer_is =
+    offer-now c.args.samples.now.options (ignores c.args.tables.now names) events c.args.samples.now.running
+    c.args.as_peak was.figures in
     subst (λ (o : Offer). IsTakenAs c.args.samples.now.options made o (with_tree c.args.as_peak)) offer_is
     (record {
-      taken_is = taken-with_tree (settings_of c.args.samples.now.options) (kept_of (settings_of c.args.samples.now.options) made) (offer_of c.args.samples.now.running c.args.as_peak) c.args.taken
+      taken_is =
+          taken-with_tree (settings_of c.args.samples.now.options) (kept_of (settings_of c.args.samples.now.options) made)
+          (offer_of c.args.samples.now.running c.args.as_peak) c.args.taken
           (c.requires.of_sampling names c.args.tables.now events made was) c.requires.some no_normal;
     }))
 
@@ -41,20 +47,32 @@ returns-in_err-keep-clause-due g c =
     let no_normal : c.args.taken ≢ Normal = search rules in
     at_err c.from_residual-in_err-keep.result
     (λ names events made was.
-    let offer_is = offer-now c.args.samples.now.options (ignores c.args.tables.now names) events c.args.samples.now.running c.args.as_peak was.figures in
+    let offer_is =
+    offer-now c.args.samples.now.options (ignores c.args.tables.now names) events c.args.samples.now.running
+    c.args.as_peak was.figures in
     subst (λ (o : Offer). IsTakenAs c.args.samples.now.options made o (with_tree c.args.as_peak)) offer_is
     (record {
-      taken_is = taken-with_tree (settings_of c.args.samples.now.options) (kept_of (settings_of c.args.samples.now.options) made) (offer_of c.args.samples.now.running c.args.as_peak) c.args.taken
+      taken_is =
+          taken-with_tree (settings_of c.args.samples.now.options) (kept_of (settings_of c.args.samples.now.options) made)
+          (offer_of c.args.samples.now.running c.args.as_peak) c.args.taken
           (c.requires.of_sampling names c.args.tables.now events made was) c.requires.some no_normal;
     }))
 
 pub returns-clause-sampling : goal.returns-clause-sampling
 returns-clause-sampling g c =
     let same : c.keep.new.self.running ≡ c.args.samples.now.running =
-    ap (λ (s : SamplesState). s.running) c.keep.ensures.samples ∙ ap (λ (s : SamplesState). s.running) c.add_fronts.ensures.samples in
+    ap (λ (s : SamplesState). s.running) c.keep.ensures.samples
+    ∙ ap (λ (s : SamplesState). s.running) c.add_fronts.ensures.samples in
     λ names events made texts said was.
-    let offer_is = ap (λ (r : Running). offer_of r c.args.as_peak) same ∙ offer-now c.args.samples.now.options (ignores c.args.tables.now names) events c.args.samples.now.running c.args.as_peak was.figures in
+    let offer_is =
+    ap (λ (r : Running). offer_of r c.args.as_peak) same
+    ∙ offer-now c.args.samples.now.options (ignores c.args.tables.now names) events c.args.samples.now.running
+    c.args.as_peak was.figures in
     let known = c.in_ok-add_fronts.ensures.sampling names events made texts was in
-    let here = said-as c.stacks.result (length c.args.tables.now.nodes + 1) (cost_at (ignores c.args.tables.now names) events (event_count events)) c.stacks.ensures.count said in
+    let here =
+    said-as c.stacks.result (length c.args.tables.now.nodes + 1)
+    (cost_at (ignores c.args.tables.now names) events (event_count events)) c.stacks.ensures.count said in
     subst (λ (o : Offer). IsSampling c.take-2.new.self names c.args.tables.now events (made ++ o ∷ [])) offer_is
-    (c.take-2.ensures.sampling names c.args.tables.now events made (inr (c.in_ok-keep.ensures.costs names c.args.tables.now events made here known)) (c.in_ok-keep.ensures.sampling names c.args.tables.now events made here known))
+    (c.take-2.ensures.sampling names c.args.tables.now events made
+    (inr (c.in_ok-keep.ensures.costs names c.args.tables.now events made here known))
+    (c.in_ok-keep.ensures.sampling names c.args.tables.now events made here known))

@@ -21,7 +21,10 @@ new-costing-requires c =
           count = omega arith;
           bound = let within = padded-within c.len.result costs in omega arith;
           callable = λ stack below. search rules;
-          cost = λ stack cost below says. let is : cost ≡ slice_index_or costs stack 0 = search rules in padded-at c.len.result costs stack below ∙ ap (λ (n : ℕ). Some n) (sym is);
+          cost =
+              λ stack cost below says. let is : cost
+              ≡ slice_index_or costs stack 0 =
+              search rules in padded-at c.len.result costs stack below ∙ ap (λ (n : ℕ). Some n) (sym is);
         },
       );
     }
@@ -36,7 +39,10 @@ snapshot_tree-requires-clause-stated c =
         count = omega arith;
         bound = let within = padded-within c.len.result costs in omega arith;
         callable = λ stack below. search rules;
-        cost = λ stack cost below says. let is : cost ≡ slice_index_or costs stack 0 = search rules in padded-at c.len.result costs stack below ∙ ap (λ (n : ℕ). Some n) (sym is);
+        cost =
+            λ stack cost below says. let is : cost
+            ≡ slice_index_or costs stack 0 =
+            search rules in padded-at c.len.result costs stack below ∙ ap (λ (n : ℕ). Some n) (sym is);
       }),
     )
 
@@ -45,7 +51,8 @@ returns-clause-lines c =
     let costs : List ℕ = c.args.costs.now in
     let fits : sum costs ≤ 2 ^ 62 = search rules in
     let count = padded-count c.len.result costs in
-    let lists : TableState → List (List ℕ) → List (List (List ℕ)) = λ tables names. trimmed_before tables names (length c.args.fronts.now.whole) in
+    let lists : TableState → List (List ℕ) → List (List (List ℕ)) =
+    λ tables names. trimmed_before tables names (length c.args.fronts.now.whole) in
     IfOk-weaker c.snapshot_tree.result _ _
     (λ lines is tables names are.
     is tables names (padded c.len.result costs) are
@@ -53,9 +60,15 @@ returns-clause-lines c =
       count = omega arith;
       bound = let within = padded-within c.len.result costs in omega arith;
       callable = λ stack below. search rules;
-      cost = λ stack cost below says. let told : cost ≡ slice_index_or costs stack 0 = search rules in padded-at c.len.result costs stack below ∙ ap (λ (n : ℕ). Some n) (sym told);
+      cost =
+          λ stack cost below says. let told : cost
+          ≡ slice_index_or costs stack 0 =
+          search rules in padded-at c.len.result costs stack below ∙ ap (λ (n : ℕ). Some n) (sym told);
     }))
-    ∙ ap (λ (t : ℕ). massif_tree c.args.options.now t (costed (lists tables names) (padded c.len.result costs))) c.shared_total.ensures
-    ∙ tree-shared c.args.options.now c.args.total c.in-Some.live c.len.result (lists tables names) costs c.in-Some.ensures.sum
-    ∙ ap (λ (n : ℕ). massif_tree c.args.options.now c.args.total (costed (lists tables names) (padded n costs))) c.len.ensures.whole)
+    ∙ ap (λ (t : ℕ). massif_tree c.args.options.now t (costed (lists tables names) (padded c.len.result costs)))
+    c.shared_total.ensures
+    ∙ tree-shared c.args.options.now c.args.total c.in-Some.live c.len.result (lists tables names) costs
+    c.in-Some.ensures.sum
+    ∙ ap (λ (n : ℕ). massif_tree c.args.options.now c.args.total (costed (lists tables names) (padded n costs)))
+    c.len.ensures.whole)
     c.snapshot_tree.ensures.lines

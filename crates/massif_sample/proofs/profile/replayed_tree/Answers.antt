@@ -15,7 +15,10 @@ returns-clause-tree c =
     IfOk-weaker c.place_tree.result _ _
     (λ lines is tables names are.
     is tables names are
-    ∙ ap (λ (cs : List ℕ). massif_tree c.args.options.now c.args.entry.now.total (costed (trimmed_before tables names (length c.args.fronts.now.whole)) cs))
-    (padded-told (length c.args.fronts.now.whole) c.costs.result.now c.move_to.new.self.changes c.args.entry.now.place (λ stack. ap (λ (xs : List ℕ). slice_index xs stack) c.costs.ensures ∙ c.move_to.ensures.costs stack)
-    ∙ ap (λ (cs : List Change). told (length c.args.fronts.now.whole) cs c.args.entry.now.place) (ap (λ (r : ReplayState). r.changes) c.move_to.ensures.rest)))
+    ∙ ap (λ (cs : List ℕ). massif_tree c.args.options.now c.args.entry.now.total
+    (costed (trimmed_before tables names (length c.args.fronts.now.whole)) cs))
+    (padded-told (length c.args.fronts.now.whole) c.costs.result.now c.move_to.new.self.changes c.args.entry.now.place
+    (λ stack. ap (λ (xs : List ℕ). slice_index xs stack) c.costs.ensures ∙ c.move_to.ensures.costs stack)
+    ∙ ap (λ (cs : List Change). told (length c.args.fronts.now.whole) cs c.args.entry.now.place)
+    (ap (λ (r : ReplayState). r.changes) c.move_to.ensures.rest)))
     c.place_tree.ensures.lines

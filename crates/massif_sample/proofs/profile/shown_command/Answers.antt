@@ -9,10 +9,12 @@ pub returns-then-is_empty : goal.returns-then-is_empty
 unfolding shown_command
 returns-then-is_empty c =
     let empty : length c.without_blanks-shown.result.now ≡ 0 = grind (arith, nat_tests) in
-    subst (λ (t : List ℕ). IfOk c.new.result (λ text. text ≡ t)) (sym (or_none-empty _ empty) ∙ ap or_none c.without_blanks-shown.ensures) c.new.ensures.copied
+    subst (λ (t : List ℕ). IfOk c.new.result (λ text. text ≡ t))
+    (sym (or_none-empty _ empty) ∙ ap or_none c.without_blanks-shown.ensures) c.new.ensures.copied
 
 pub returns : goal.returns
 unfolding shown_command
 returns c =
     let some : length c.without_blanks-shown.result.now ≢ 0 = grind (arith, nat_tests) in
-    subst (λ (t : List ℕ). IfOk c.new-2.result (λ text. text ≡ t)) (sym (or_none-some _ some) ∙ ap or_none c.without_blanks-shown.ensures) c.new-2.ensures.copied
+    subst (λ (t : List ℕ). IfOk c.new-2.result (λ text. text ≡ t))
+    (sym (or_none-some _ some) ∙ ap or_none c.without_blanks-shown.ensures) c.new-2.ensures.copied

@@ -12,8 +12,11 @@ invariant-each_snapshot l = record {
   all :
       (tables : TableState) (names : List (List ℕ))
       → l.initial.fronts.whole ≡ first_lists tables names (l.options.depth + 1) (length l.initial.fronts.whole)
-      → l.snaps ++ all_made (told_tree l.options tables names (length l.initial.fronts.whole) l.initial.replay.changes) l.array.kept.entries l.array.loads
-      ≡ all_made (told_tree l.options tables names (length l.initial.fronts.whole) l.initial.replay.changes) l.initial.array.kept.entries l.initial.array.loads;
+      → l.snaps
+      ++ all_made (told_tree l.options tables names (length l.initial.fronts.whole) l.initial.replay.changes)
+      l.array.kept.entries l.array.loads
+      ≡ all_made (told_tree l.options tables names (length l.initial.fronts.whole) l.initial.replay.changes)
+      l.initial.array.kept.entries l.initial.array.loads;
 }
 
 abbrev pub decreases-each_snapshot : goal.decreases-each_snapshot

@@ -21,8 +21,12 @@ returns-clause-sampling g c =
     (record {
       said = λ stack says below answered.
           (let cost : says ≡ live_cost c.args.stacks.now.judged.now c.args.ledger.now stack = search rules in
-          cost ∙ live_cost-is c.args.stacks.now.judged.now c.args.ledger.now names c.args.stacks.now.tables.now events stack judged (omega arith) stands);
-      none = λ stack beyond. cost-none c.args.stacks.now.tables.now (ignores c.args.stacks.now.tables.now names) events (event_count events) stack (omega arith) (of-stacks c.args.stacks.now.tables.now events was.stacks);
+          cost
+          ∙ live_cost-is c.args.stacks.now.judged.now c.args.ledger.now names c.args.stacks.now.tables.now events
+          stack judged (omega arith) stands);
+      none =
+          λ stack beyond. cost-none c.args.stacks.now.tables.now (ignores c.args.stacks.now.tables.now names) events
+          (event_count events) stack (omega arith) (of-stacks c.args.stacks.now.tables.now events was.stacks);
     })
     was)
     c.sample.ensures.sampling

@@ -7,5 +7,6 @@ use Rattle.massif_sample.proofs.tree_places.places_with_tree.Given as goal
 
 abbrev pub invariant-entries : goal.invariant-entries
 invariant-entries l =
-    ((k : ℕ) (entry : SnapEntry) → k < l.entry-index → slice_get l.entries k ≡ Some entry → shows_tree entry.kind ≡ true → Contains l.places.items entry.place)
+    ((k : ℕ) (entry : SnapEntry) → k < l.entry-index → slice_get l.entries k ≡ Some entry → shows_tree entry.kind ≡ true
+    → Contains l.places.items entry.place)
     × All (IsTreePlace l.entries) l.places.items

@@ -12,6 +12,7 @@ each_name-preserved c =
           c.in_ok-add_label.ensures.labels
           ∙ ap (λ (all : List (List ℕ)). all ++ c.in-Some.name.now ∷ []) c.each_name.invariant.labels
           ∙ append_assoc c.args.made.now.labels (take c.each_name.place names) (c.in-Some.name.now ∷ [])
-          ∙ ap (λ (all : List (List ℕ)). c.args.made.now.labels ++ all) (sym (name-next names c.each_name.place c.in-Some.name.now c.in-Some.ensures.name));
+          ∙ ap (λ (all : List (List ℕ)). c.args.made.now.labels ++ all)
+          (sym (name-next names c.each_name.place c.in-Some.name.now c.in-Some.ensures.name));
       lines = c.in_ok-add_label.ensures.lines ∙ c.each_name.invariant.lines;
     }

@@ -10,7 +10,9 @@ unfolding massif_tree
 returns g c = record {
   lines = λ costs are.
       let options = c.args.options.now in
-      let lines : List FrontLine = cost_lines options.depth (scale_of options c.args.total) (costed c.args.fronts.now costs) in
+      let lines : List FrontLine =
+      cost_lines options.depth (scale_of options c.args.total) (costed c.args.fronts.now costs) in
       let made = (c.in_ok-taken.ensures.taken costs are).1 c.new.ensures.no_labels in
-      c.into_tree.ensures.lines ∙ made.2 ∙ ap (λ (before : List TreeLine). before ++ map (massif_line options.threshold) lines) c.new.ensures.no_lines;
+      c.into_tree.ensures.lines ∙ made.2
+      ∙ ap (λ (before : List TreeLine). before ++ map (massif_line options.threshold) lines) c.new.ensures.no_lines;
 }

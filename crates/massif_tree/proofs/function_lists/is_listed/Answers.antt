@@ -9,5 +9,6 @@ pub returns-in-Some : goal.returns-in-Some
 returns-in-Some g c = record {
   listed = λ texts are.
       answer-is texts c.in-Some.function.now c.of.result (c.of.ensures.listed texts are)
-      ∙ ap (λ (found : Option (List ℕ)). option_map_or (λ (function : List ℕ). list_any (bytes_eq function) texts) found false) c.in-Some.ensures.name;
+      ∙ ap (λ (found : Option (List ℕ)). option_map_or (λ (function : List ℕ). list_any (bytes_eq function) texts) found
+      false) c.in-Some.ensures.name;
 }

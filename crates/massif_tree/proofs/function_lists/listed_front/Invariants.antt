@@ -7,4 +7,5 @@ use Rattle.massif_tree.proofs.function_lists.listed_front.Given as goal
 
 abbrev pub invariant-each_frame : goal.invariant-each_frame
 invariant-each_frame g l =
-    (texts : List (List ℕ)) → AreTexts (FnReturnsAt g.F.Fn l.names.test) texts → (k : ℕ) (d : FrameAt) → k < l.place → is_listed l.tables texts (get_or l.frames k d) ≡ true
+    (texts : List (List ℕ)) → AreTexts (FnReturnsAt g.F.Fn l.names.test) texts → (k : ℕ) (d : FrameAt) → k < l.place
+    → is_listed l.tables texts (get_or l.frames k d) ≡ true

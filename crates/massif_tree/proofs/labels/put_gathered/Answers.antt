@@ -8,7 +8,8 @@ pub returns : goal.returns
 unfolding gathered_label
 returns c = record {
   appended = on_ok_weaker c.put_bytes.result
-      (λ added. three-appended c.args.out.now.items c.put_places.new.out.items c.put_threshold.new.out.items c.put_bytes.new.out.items
+      (λ added. three-appended c.args.out.now.items c.put_places.new.out.items c.put_threshold.new.out.items
+      c.put_bytes.new.out.items
       (places_label c.args.places) (threshold_text c.args.threshold) (codes ")")
       c.in_ok-put_places.ensures.appended c.in_ok-put_threshold.ensures.appended added)
       c.put_bytes.ensures.appended;

@@ -10,7 +10,8 @@ pub returns : goal.returns
 unfolding threshold_text
 returns c = record {
   appended = on_ok_weaker c.put_bytes-2.result
-      (λ added. four-appended c.args.out.now.items c.put_dec.new.out.items c.put_bytes.new.out.items c.put_two_digits.new.out.items c.put_bytes-2.new.out.items
+      (λ added. four-appended c.args.out.now.items c.put_dec.new.out.items c.put_bytes.new.out.items
+      c.put_two_digits.new.out.items c.put_bytes-2.new.out.items
       (decimal (c.args.hundredths / 100)) (codes ".") (two_digits (c.args.hundredths % 100)) (codes "%")
       c.in_ok-put_dec.ensures.appended c.in_ok-put_bytes.ensures.appended c.in_ok-put_two_digits.ensures.appended added)
       c.put_bytes-2.ensures.appended;

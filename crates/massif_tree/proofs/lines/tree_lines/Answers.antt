@@ -16,9 +16,11 @@ returns c =
     let taken = c.in_ok-take_lines.ensures.taken in
     record {
       lines = λ stacks shown.
-          let has : HasLines tree stacks depth = record { tree_of = shown.tree_of; few = shown.few; within = shown.within; shallow = omega arith } in
+          let has : HasLines tree stacks depth =
+          record { tree_of = shown.tree_of; few = shown.few; within = shown.within; shallow = omega arith } in
           taken.2.1
-          ∙ ap (λ (made : List TreeLine). made ++ map (line_in c.new-lines.result.threshold tree) taken.0) c.new-lines.ensures.none
+          ∙ ap (λ (made : List TreeLine). made ++ map (line_in c.new-lines.result.threshold tree) taken.0)
+          c.new-lines.ensures.none
           ∙ ap (λ (least : ℕ). map (line_in least tree) taken.0) c.new-lines.ensures.threshold
           ∙ sym (map-map (massif_line threshold) (line_at tree) taken.0)
           ∙ ap (λ (ls : List FrontLine). map (massif_line threshold) ls) (taken.1.all stacks depth has);

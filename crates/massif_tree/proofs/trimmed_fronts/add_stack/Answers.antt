@@ -6,7 +6,17 @@ use Rattle.cost_tree.specs.Following.{following}
 use Rattle.ht_trace.specs.declared.frame.FrameAt.{FrameAt}
 use Rattle.ht_trace.specs.StackFrames.{outer_frames}
 use Rattle.massif_tree.specs.FunctionLists.{is_listed, without_listed}
-use Rattle.massif_tree.proofs.Trimming.{followed, listed-on, outer-is, outer-none, trimmed-all, trimmed-not, trimmed-nothing, trimmed-some, trimmed-whole}
+use Rattle.massif_tree.proofs.Trimming.{
+  followed,
+  listed-on,
+  outer-is,
+  outer-none,
+  trimmed-all,
+  trimmed-not,
+  trimmed-nothing,
+  trimmed-some,
+  trimmed-whole,
+}
 use Rattle.massif_tree.proofs.trimmed_fronts.add_stack.Goals as goal
 
 pub returns-then-front-len-clause-added : goal.returns-then-front-len-clause-added
@@ -22,11 +32,16 @@ returns-then-front-len-clause-added g c =
     let same : c.deref.result.now ≡ own = c.deref.ensures.value ∙ sym c.deref-then-front-len.ensures.value in
     let count = ap (λ (fs : List FrameAt). length fs) same in
     λ names are was.
-    listed-on tables names most stack (drop front own) (without_listed tables names outer) (following lists c.list_of.result) lists c.push_list.new.fronts
-    (trimmed-all tables names stack caller front own (c.in_ok-caller.ensures.frames ∙ ap (λ (fs : List FrameAt). fs ++ outer) (sym c.deref-then-front-len.ensures.value))
-    (c.listed_front-front.ensures.front names are ∙ ap (λ (fs : List FrameAt). prefix_len (is_listed tables names) fs) same)
+    listed-on tables names most stack (drop front own) (without_listed tables names outer)
+    (following lists c.list_of.result) lists c.push_list.new.fronts
+    (trimmed-all tables names stack caller front own
+    (c.in_ok-caller.ensures.frames
+    ∙ ap (λ (fs : List FrameAt). fs ++ outer) (sym c.deref-then-front-len.ensures.value))
+    (c.listed_front-front.ensures.front names are
+    ∙ ap (λ (fs : List FrameAt). prefix_len (is_listed tables names) fs) same)
     (omega (arith, c.if-front-len.true, c.len.ensures, c.deref.ensures.len, count)))
-    (followed tables names most stack caller c.list_of.result (without_listed tables names outer) lists was c.in_ok-caller.ensures.lower c.list_of.ensures
+    (followed tables names most stack caller c.list_of.result (without_listed tables names outer) lists was
+    c.in_ok-caller.ensures.lower c.list_of.ensures
     (λ none. ap (without_listed tables names) (outer-none tables caller none) ∙ trimmed-nothing tables names)
     (λ some. ap (without_listed tables names) (outer-is tables caller some)))
     c.in_ok-push_list.ensures.appended
@@ -42,9 +57,12 @@ returns-then-lacks_frames-clause-added g c =
     let front : ℕ = c.listed_front-front.result in
     let lists = c.args.fronts.now in
     λ names are was.
-    listed-on tables names most stack (drop front frames) [] (following lists None) lists c.push_list-then-lacks_frames.new.fronts
-    (trimmed-whole tables names stack front own outer frames (c.in_ok-caller.ensures.frames ∙ ap (λ (fs : List FrameAt). fs ++ outer) (sym c.deref.ensures.value))
-    (c.listed_front-front.ensures.front names are) (omega (arith, c.if-front-len.false, c.len.ensures, c.deref.ensures.len, c.listed_front-front.ensures.within))
+    listed-on tables names most stack (drop front frames) [] (following lists None) lists
+    c.push_list-then-lacks_frames.new.fronts
+    (trimmed-whole tables names stack front own outer frames
+    (c.in_ok-caller.ensures.frames ∙ ap (λ (fs : List FrameAt). fs ++ outer) (sym c.deref.ensures.value))
+    (c.listed_front-front.ensures.front names are)
+    (omega (arith, c.if-front-len.false, c.len.ensures, c.deref.ensures.len, c.listed_front-front.ensures.within))
     (c.deref-then-lacks_frames.ensures.value ∙ c.in_ok-frames_into.ensures.of_tables))
     (sym (take_all most [] (omega arith)))
     c.in_ok-push_list-2.ensures.appended
@@ -62,11 +80,22 @@ returns-clause-added g c =
     let same : c.deref.result.now ≡ own = c.deref.ensures.value ∙ sym c.deref-3.ensures.value in
     let count = ap (λ (fs : List FrameAt). length fs) same in
     λ names are was.
-    listed-on tables names most stack (drop front own) outer (following lists c.list_of-2.result) lists c.push_list-2.new.fronts
-    (trimmed-some tables names stack front own outer (c.in_ok-caller.ensures.frames ∙ ap (λ (fs : List FrameAt). fs ++ outer) (sym c.deref-3.ensures.value))
-    (c.listed_front-front.ensures.front names are ∙ ap (λ (fs : List FrameAt). prefix_len (is_listed tables names) fs) same)
-    (omega (arith, c.if-front-len.false, c.len.ensures, c.deref.ensures.len, c.listed_front-front.ensures.within, count)))
-    (followed tables names most stack caller c.list_of-2.result outer lists was c.in_ok-caller.ensures.lower c.list_of-2.ensures
+    listed-on tables names most stack (drop front own) outer (following lists c.list_of-2.result) lists
+    c.push_list-2.new.fronts
+    (trimmed-some tables names stack front own outer
+    (c.in_ok-caller.ensures.frames ∙ ap (λ (fs : List FrameAt). fs ++ outer) (sym c.deref-3.ensures.value))
+    (c.listed_front-front.ensures.front names are
+    ∙ ap (λ (fs : List FrameAt). prefix_len (is_listed tables names) fs) same)
+    (omega (
+      arith,
+      c.if-front-len.false,
+      c.len.ensures,
+      c.deref.ensures.len,
+      c.listed_front-front.ensures.within,
+      count,
+    )))
+    (followed tables names most stack caller c.list_of-2.result outer lists was c.in_ok-caller.ensures.lower
+    c.list_of-2.ensures
     (outer-none tables caller)
     (λ some. outer-is tables caller some ∙ sym (c.lacks_frames.ensures.whole c.if-lacks_frames.false some names are)))
     c.in_ok-push_list-3.ensures.appended
@@ -74,17 +103,25 @@ returns-clause-added g c =
 pub returns-then-lacks_frames-clause-whole : goal.returns-then-lacks_frames-clause-whole
 returns-then-lacks_frames-clause-whole g c = λ first names are.
     let own : List FrameAt = c.deref.result.now in
-    let outer : List FrameAt = outer_frames c.args.tables.now.instructions c.args.tables.now.nodes c.in_ok-caller.caller in
+    let outer : List FrameAt =
+    outer_frames c.args.tables.now.instructions c.args.tables.now.nodes c.in_ok-caller.caller in
     let front : ℕ = c.listed_front-front.result in
     let none : front ≡ 0 = grind (arith, nat_tests) in
-    trimmed-not c.args.tables.now names c.args.stack front own outer (c.in_ok-caller.ensures.frames ∙ ap (λ (fs : List FrameAt). fs ++ outer) (sym c.deref.ensures.value))
-    (c.listed_front-front.ensures.front names are) (omega (arith, c.if-front-len.false, c.len.ensures, c.deref.ensures.len, c.listed_front-front.ensures.within)) none
+    trimmed-not c.args.tables.now names c.args.stack front own outer
+    (c.in_ok-caller.ensures.frames ∙ ap (λ (fs : List FrameAt). fs ++ outer) (sym c.deref.ensures.value))
+    (c.listed_front-front.ensures.front names are)
+    (omega (arith, c.if-front-len.false, c.len.ensures, c.deref.ensures.len, c.listed_front-front.ensures.within))
+    none
 
 pub returns-clause-whole : goal.returns-clause-whole
 returns-clause-whole g c = λ first names are.
     let own : List FrameAt = c.deref.result.now in
-    let outer : List FrameAt = outer_frames c.args.tables.now.instructions c.args.tables.now.nodes c.in_ok-caller.caller in
+    let outer : List FrameAt =
+    outer_frames c.args.tables.now.instructions c.args.tables.now.nodes c.in_ok-caller.caller in
     let front : ℕ = c.listed_front-front.result in
     let none : front ≡ 0 = grind (arith, nat_tests) in
-    trimmed-not c.args.tables.now names c.args.stack front own outer (c.in_ok-caller.ensures.frames ∙ ap (λ (fs : List FrameAt). fs ++ outer) (sym c.deref.ensures.value))
-    (c.listed_front-front.ensures.front names are) (omega (arith, c.if-front-len.false, c.len.ensures, c.deref.ensures.len, c.listed_front-front.ensures.within)) none
+    trimmed-not c.args.tables.now names c.args.stack front own outer
+    (c.in_ok-caller.ensures.frames ∙ ap (λ (fs : List FrameAt). fs ++ outer) (sym c.deref.ensures.value))
+    (c.listed_front-front.ensures.front names are)
+    (omega (arith, c.if-front-len.false, c.len.ensures, c.deref.ensures.len, c.listed_front-front.ensures.within))
+    none

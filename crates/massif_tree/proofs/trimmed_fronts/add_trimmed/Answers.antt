@@ -11,8 +11,10 @@ each_stack-preserved g c =
       count = omega arith;
       within = omega arith;
       whole = λ names are.
-          whole-more c.args.tables.now names c.each_stack.stack c.each_stack.buffers.whole.items c.push.new.self.items c.in_ok-is_whole.is_whole
-          (c.in_ok-push.ensures.items ∙ ap (λ (flags : List Bool). flags ++ c.in_ok-is_whole.is_whole ∷ []) c.in_ok-is_whole.ensures.kept)
+          whole-more c.args.tables.now names c.each_stack.stack c.each_stack.buffers.whole.items c.push.new.self.items
+          c.in_ok-is_whole.is_whole
+          (c.in_ok-push.ensures.items
+          ∙ ap (λ (flags : List Bool). flags ++ c.in_ok-is_whole.is_whole ∷ []) c.in_ok-is_whole.ensures.kept)
           (c.each_stack.invariant.whole names are) (λ whole. c.in_ok-is_whole.ensures.whole whole names are);
       lists = λ names are was.
           let tables = c.args.tables.now in
@@ -20,6 +22,7 @@ each_stack-preserved g c =
           let place : c.each_stack.stack ≡ length c.each_stack.fronts = sym before in
           let lists = c.each_stack.invariant.lists names are was in
           first-more tables names most (length c.each_stack.fronts) c.each_stack.fronts c.add_stack.new.fronts lists
-          (c.in_ok-is_whole.ensures.added names are (lists ∙ ap (first_lists tables names most) before) ∙ ap (λ (n : ℕ). c.each_stack.fronts ++ first_texts tables names most n ∷ []) place)
+          (c.in_ok-is_whole.ensures.added names are (lists ∙ ap (first_lists tables names most) before)
+          ∙ ap (λ (n : ℕ). c.each_stack.fronts ++ first_texts tables names most n ∷ []) place)
           ∙ ap (first_lists tables names most) (sym one);
     }

@@ -10,7 +10,9 @@ abbrev pub invariant-each_stack : goal.invariant-each_stack
 invariant-each_stack g l = record {
   count : length l.fronts ≡ l.stack;
   within : l.stack ≤ length l.tables.nodes + 1;
-  whole : (names : List (List ℕ)) → AreTexts (FnReturnsAt g.A.Fn l.alloc_fns.test) names → AreWhole l.tables names l.stack l.buffers.whole.items;
+  whole : (names : List (List ℕ)) → AreTexts (FnReturnsAt g.A.Fn l.alloc_fns.test) names
+      → AreWhole l.tables names l.stack l.buffers.whole.items;
   lists : (names : List (List ℕ)) → AreTexts (FnReturnsAt g.A.Fn l.alloc_fns.test) names
-      → l.initial.fronts ≡ first_lists l.tables names (l.options.depth + 1) (length l.initial.fronts) → l.fronts ≡ first_lists l.tables names (l.options.depth + 1) (length l.fronts);
+      → l.initial.fronts ≡ first_lists l.tables names (l.options.depth + 1) (length l.initial.fronts)
+      → l.fronts ≡ first_lists l.tables names (l.options.depth + 1) (length l.fronts);
 }

@@ -10,5 +10,7 @@ invariant-each_child l = record {
   passed : IsPassed l.view.tree.now l.place l.counter l.child;
   few : l.gathered.places ≤ l.counter;
   fits : l.gathered.bytes < 2 ^ 64;
-  split : IsSplit l.view.scale l.view.tree.now l.indent (children_at l.view.tree.now l.place) (first_trees (l.end - l.counter) (trees_at l.view.tree.now l.child)) l.gathered.places l.gathered.bytes l.children.items;
+  split : IsSplit l.view.scale l.view.tree.now l.indent (children_at l.view.tree.now l.place)
+      (first_trees (l.end - l.counter) (trees_at l.view.tree.now l.child)) l.gathered.places l.gathered.bytes
+      l.children.items;
 }

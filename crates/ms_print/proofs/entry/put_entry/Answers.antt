@@ -3,4 +3,5 @@ use Rattle.ms_print.proofs.entry.put_entry.Goals as goal
 
 pub returns-clause-kept : goal.returns-clause-kept
 returns-clause-kept c =
-    extends_trans _ _ _ c.put_share.ensures.kept (extends_put c.put_bytes.result _ _ _ c.put_bytes.ensures.appended c.put_bytes.ensures.unchanged)
+    extends_trans _ _ _ c.put_share.ensures.kept
+    (extends_put c.put_bytes.result _ _ _ c.put_bytes.ensures.appended c.put_bytes.ensures.unchanged)

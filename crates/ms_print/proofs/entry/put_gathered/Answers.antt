@@ -7,12 +7,21 @@ returns-in_err-put_places-clause-kept c =
 
 pub returns-in_err-put_bytes-clause-kept : goal.returns-in_err-put_bytes-clause-kept
 returns-in_err-put_bytes-clause-kept c =
-    extends_trans _ _ _ (extends_trans _ _ _ c.put_share.ensures.kept c.put_places.ensures.kept) (extends_same _ _ c.in_err-put_bytes.ensures.unchanged)
+    extends_trans _ _ _ (extends_trans _ _ _ c.put_share.ensures.kept c.put_places.ensures.kept)
+    (extends_same _ _ c.in_err-put_bytes.ensures.unchanged)
 
 pub returns-in_err-put_percent-clause-kept : goal.returns-in_err-put_percent-clause-kept
 returns-in_err-put_percent-clause-kept c =
-    extends_trans _ _ _ (extends_trans _ _ _ (extends_trans _ _ _ c.put_share.ensures.kept c.put_places.ensures.kept) (extends_more _ _ _ c.in_ok-put_bytes.ensures.appended)) (extends_same _ _ c.in_err-put_percent.ensures.unchanged)
+    extends_trans _ _ _
+    (extends_trans _ _ _ (extends_trans _ _ _ c.put_share.ensures.kept c.put_places.ensures.kept)
+    (extends_more _ _ _ c.in_ok-put_bytes.ensures.appended))
+    (extends_same _ _ c.in_err-put_percent.ensures.unchanged)
 
 pub returns-clause-kept : goal.returns-clause-kept
 returns-clause-kept c =
-    extends_trans _ _ _ (extends_trans _ _ _ (extends_trans _ _ _ (extends_trans _ _ _ c.put_share.ensures.kept c.put_places.ensures.kept) (extends_more _ _ _ c.in_ok-put_bytes.ensures.appended)) (extends_more _ _ _ c.in_ok-put_percent.ensures.appended)) (extends_put c.put_bytes-2.result _ _ _ c.put_bytes-2.ensures.appended c.put_bytes-2.ensures.unchanged)
+    extends_trans _ _ _
+    (extends_trans _ _ _
+    (extends_trans _ _ _ (extends_trans _ _ _ c.put_share.ensures.kept c.put_places.ensures.kept)
+    (extends_more _ _ _ c.in_ok-put_bytes.ensures.appended))
+    (extends_more _ _ _ c.in_ok-put_percent.ensures.appended))
+    (extends_put c.put_bytes-2.result _ _ _ c.put_bytes-2.ensures.appended c.put_bytes-2.ensures.unchanged)

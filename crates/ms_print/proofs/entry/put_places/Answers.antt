@@ -8,7 +8,8 @@ use Rattle.ms_print.proofs.entry.put_places.Goals as goal
 pub returns-clause-appended : goal.returns-clause-appended
 returns-clause-appended c =
     on_ok_weaker c.put_bytes-3.result
-    (λ added. three-appended c.args.out.now.items c.put_bytes-2.new.out.items c.put_dec.new.out.items c.put_bytes-3.new.out.items (codes "in ") (decimal c.args.places) (codes " places, all below")
+    (λ added. three-appended c.args.out.now.items c.put_bytes-2.new.out.items c.put_dec.new.out.items
+    c.put_bytes-3.new.out.items (codes "in ") (decimal c.args.places) (codes " places, all below")
     c.in_ok-put_bytes.ensures.appended c.in_ok-put_dec.ensures.appended added
     ∙ ap (λ (text : List ℕ). c.args.out.now.items ++ text) (sym (places-more c.args.places c.if-places-eq1.false)))
     c.put_bytes-3.ensures.appended

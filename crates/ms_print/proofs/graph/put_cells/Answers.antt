@@ -1,4 +1,21 @@
-use Rattle.std.proofs.Common.{◌≡◌, ℕ, ◌+◌, ◌++◌, [], ◌∷◌, List, Option, None, map, get_or, sym, ap, ◌∙◌, arith, append_assoc}
+use Rattle.std.proofs.Common.{
+  ◌≡◌,
+  ℕ,
+  ◌+◌,
+  ◌++◌,
+  [],
+  ◌∷◌,
+  List,
+  Option,
+  None,
+  map,
+  get_or,
+  sym,
+  ap,
+  ◌∙◌,
+  arith,
+  append_assoc,
+}
 use Rattle.std.specs.Option.{option_or}
 use Rattle.std.specs.List.{range_with_len}
 use Rattle.std.proofs.lemmas.List.FromFn.{map-range_with_len_more}
@@ -14,7 +31,8 @@ each_column-preserved c =
     let column = c.each_column.bar-index in
     let plot = c.args.plot in
     let snaps = c.args.snaps.now in
-    let bar : get_or c.args.bars.now column None ≡ bar_in plot snaps (column + 1) = c.requires.bars.each column (omega (arith, c.requires.bars.count)) in
+    let bar : get_or c.args.bars.now column None ≡ bar_in plot snaps (column + 1) =
+    c.requires.bars.each column (omega (arith, c.requires.bars.count)) in
     let nearest : c.or-nearest.result ≡ nearest_bar plot snaps (column + 1) =
     c.or-nearest.ensures
     ∙ ap (λ (o : Option Bar). option_or o c.each_column.nearest) bar
@@ -29,9 +47,14 @@ each_column-preserved c =
       written =
           c.in_ok-push.ensures.items
           ∙ ap (λ (out : List ℕ). out ++ c.cell_of.result ∷ []) c.each_column.invariant.written
-          ∙ append_assoc c.args.out.now.items (map (λ k. cell_at plot snaps (k + 1) c.args.y) (range_with_len 0 column)) (c.cell_of.result ∷ [])
-          ∙ ap (λ (b : ℕ). c.args.out.now.items ++ (map (λ k. cell_at plot snaps (k + 1) c.args.y) (range_with_len 0 column) ++ b ∷ [])) cell
-          ∙ ap (λ (cells : List ℕ). c.args.out.now.items ++ cells) (sym (map-range_with_len_more (λ k. cell_at plot snaps (k + 1) c.args.y) 0 column column (omega arith)));
+          ∙ append_assoc c.args.out.now.items (map (λ k. cell_at plot snaps (k + 1) c.args.y) (range_with_len 0 column))
+          (c.cell_of.result ∷ [])
+          ∙ ap
+          (λ (b : ℕ). c.args.out.now.items
+          ++ (map (λ k. cell_at plot snaps (k + 1) c.args.y) (range_with_len 0 column) ++ b ∷ []))
+          cell
+          ∙ ap (λ (cells : List ℕ). c.args.out.now.items ++ cells)
+          (sym (map-range_with_len_more (λ k. cell_at plot snaps (k + 1) c.args.y) 0 column column (omega arith)));
     }
 
 pub returns-clause-appended : goal.returns-clause-appended
@@ -39,4 +62,5 @@ unfolding row_cells
 returns-clause-appended c =
     let all : c.each_column.bar-index ≡ c.args.plot.width = omega (arith, c.requires.bars.count) in
     c.each_column.invariant.written
-    ∙ ap (λ (n : ℕ). c.args.out.now.items ++ map (λ k. cell_at c.args.plot c.args.snaps.now (k + 1) c.args.y) (range_with_len 0 n)) all
+    ∙ ap (λ (n : ℕ). c.args.out.now.items
+    ++ map (λ k. cell_at c.args.plot c.args.snaps.now (k + 1) c.args.y) (range_with_len 0 n)) all

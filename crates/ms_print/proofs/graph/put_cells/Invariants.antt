@@ -7,5 +7,6 @@ use Rattle.ms_print.proofs.graph.put_cells.Given as goal
 abbrev pub invariant-each_column : goal.invariant-each_column
 invariant-each_column l = record {
   nearest : l.nearest ≡ nearest_bar l.fn.plot l.snaps l.bar-index;
-  written : l.out.items ≡ l.initial.out.items ++ map (λ k. cell_at l.fn.plot l.snaps (k + 1) l.y) (range_with_len 0 l.bar-index);
+  written : l.out.items
+      ≡ l.initial.out.items ++ map (λ k. cell_at l.fn.plot l.snaps (k + 1) l.y) (range_with_len 0 l.bar-index);
 }

@@ -7,4 +7,5 @@ returns-in_err-put_cells-clause-kept c =
 
 pub returns-clause-kept : goal.returns-clause-kept
 returns-clause-kept c =
-    extends_trans _ _ _ (extends_trans _ _ _ c.put_edge.ensures.kept c.put_cells.ensures.kept) (extends_put c.put_bytes.result _ _ _ c.put_bytes.ensures.appended c.put_bytes.ensures.unchanged)
+    extends_trans _ _ _ (extends_trans _ _ _ c.put_edge.ensures.kept c.put_cells.ensures.kept)
+    (extends_put c.put_bytes.result _ _ _ c.put_bytes.ensures.appended c.put_bytes.ensures.unchanged)

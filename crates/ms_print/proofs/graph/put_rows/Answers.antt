@@ -7,15 +7,22 @@ use Rattle.ms_print.proofs.graph.put_rows.Goals as goal
 
 pub each_row-preserved : goal.each_row-preserved
 each_row-preserved c = record {
-  kept = extends_trans c.args.out.now.items c.each_row.out.items c.put_row.new.out.items c.each_row.invariant.kept c.put_row.ensures.kept;
+  kept =
+      extends_trans c.args.out.now.items c.each_row.out.items c.put_row.new.out.items c.each_row.invariant.kept
+      c.put_row.ensures.kept;
   written =
-      left-appended c.each_row.out.items c.put_row.new.out.items (row_text c.args.plot c.args.snaps.now (c.each_row.below - 1 + 1)) (rows_text c.args.plot c.args.snaps.now (c.each_row.below - 1)) (rows_text c.args.plot c.args.snaps.now c.each_row.below) _
-      c.in_ok-put_row.ensures.appended (rows-top c.args.plot c.args.snaps.now c.each_row.below (omega arith)) c.each_row.invariant.written;
+      left-appended c.each_row.out.items c.put_row.new.out.items
+      (row_text c.args.plot c.args.snaps.now (c.each_row.below - 1 + 1))
+      (rows_text c.args.plot c.args.snaps.now (c.each_row.below - 1))
+      (rows_text c.args.plot c.args.snaps.now c.each_row.below) _
+      c.in_ok-put_row.ensures.appended (rows-top c.args.plot c.args.snaps.now c.each_row.below (omega arith))
+      c.each_row.invariant.written;
 }
 
 pub returns-in_err-put_row-clause-kept : goal.returns-in_err-put_row-clause-kept
 returns-in_err-put_row-clause-kept c =
-    extends_trans c.args.out.now.items c.each_row.out.items c.put_row.new.out.items c.each_row.invariant.kept c.put_row.ensures.kept
+    extends_trans c.args.out.now.items c.each_row.out.items c.put_row.new.out.items c.each_row.invariant.kept
+    c.put_row.ensures.kept
 
 pub returns-clause-kept : goal.returns-clause-kept
 returns-clause-kept c = c.each_row.invariant.kept

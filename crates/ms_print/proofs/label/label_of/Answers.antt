@@ -6,7 +6,8 @@ use Rattle.ms_print.proofs.label.label_of.Goals as goal
 pub pow-requires : goal.pow-requires
 pow-requires c =
     let factor = c.factor_of.ensures in
-    let small = power-small c.factor_of.result c.power_of-power.result factor.some factor.small c.power_of-power.ensures.small in
+    let small =
+    power-small c.factor_of.result c.power_of-power.result factor.some factor.small c.power_of-power.ensures.small in
     omega arith
 
 pub put_scaled-requires-clause-some : goal.put_scaled-requires-clause-some
@@ -18,6 +19,7 @@ put_scaled-requires-clause-some c =
 pub put_scaled-requires-clause-small : goal.put_scaled-requires-clause-small
 put_scaled-requires-clause-small c =
     let factor = c.factor_of.ensures in
-    let small = power-small c.factor_of.result c.power_of-power.result factor.some factor.small c.power_of-power.ensures.small in
+    let small =
+    power-small c.factor_of.result c.power_of-power.result factor.some factor.small c.power_of-power.ensures.small in
     let is = c.pow.ensures in
     omega arith

@@ -20,10 +20,22 @@ put_table-requires-clause-trees c =
     all-trees 0 c.args.profile.now.snaps right.snaps
 
 pub returns-in_err-put_graph-clause-kept : goal.returns-in_err-put_graph-clause-kept
-returns-in_err-put_graph-clause-kept c = extends_trans c.args.out.now.items c.put_title.new.out.items c.put_graph.new.out.items c.put_title.ensures.kept c.put_graph.ensures.kept
+returns-in_err-put_graph-clause-kept c =
+    extends_trans c.args.out.now.items c.put_title.new.out.items c.put_graph.new.out.items c.put_title.ensures.kept
+    c.put_graph.ensures.kept
 
 pub returns-in_err-put_snapshots-clause-kept : goal.returns-in_err-put_snapshots-clause-kept
-returns-in_err-put_snapshots-clause-kept c = extends_trans c.args.out.now.items c.put_graph.new.out.items c.put_snapshots.new.out.items (extends_trans c.args.out.now.items c.put_title.new.out.items c.put_graph.new.out.items c.put_title.ensures.kept c.put_graph.ensures.kept) c.put_snapshots.ensures.kept
+returns-in_err-put_snapshots-clause-kept c =
+    extends_trans c.args.out.now.items c.put_graph.new.out.items c.put_snapshots.new.out.items
+    (extends_trans c.args.out.now.items c.put_title.new.out.items c.put_graph.new.out.items c.put_title.ensures.kept
+    c.put_graph.ensures.kept)
+    c.put_snapshots.ensures.kept
 
 pub returns-clause-kept : goal.returns-clause-kept
-returns-clause-kept c = extends_trans c.args.out.now.items c.put_snapshots.new.out.items c.put_table.new.out.items (extends_trans c.args.out.now.items c.put_graph.new.out.items c.put_snapshots.new.out.items (extends_trans c.args.out.now.items c.put_title.new.out.items c.put_graph.new.out.items c.put_title.ensures.kept c.put_graph.ensures.kept) c.put_snapshots.ensures.kept) c.put_table.ensures.kept
+returns-clause-kept c =
+    extends_trans c.args.out.now.items c.put_snapshots.new.out.items c.put_table.new.out.items
+    (extends_trans c.args.out.now.items c.put_graph.new.out.items c.put_snapshots.new.out.items
+    (extends_trans c.args.out.now.items c.put_title.new.out.items c.put_graph.new.out.items c.put_title.ensures.kept
+    c.put_graph.ensures.kept)
+    c.put_snapshots.ensures.kept)
+    c.put_table.ensures.kept

@@ -11,10 +11,16 @@ unfolding asked_text
 returns-clause-appended c =
     let profile = c.args.profile.now in
     on_ok_weaker c.put_text-3.result
-    (λ added. three-appended c.args.out.now.items c.put_text.new.out.items c.put_text-2.new.out.items c.put_text-3.new.out.items
-    (named_line (codes "Command:            ") profile.cmd) (named_line (codes "Massif arguments:   ") profile.desc) (named_line (codes "ms_print arguments: ") c.args.words.now)
-    (c.in_ok-put_text.ensures.appended ∙ ap (λ (text : List ℕ). c.args.out.now.items ++ named_line (codes "Command:            ") text) c.bytes.ensures.content)
-    (c.in_ok-put_text-2.ensures.appended ∙ ap (λ (text : List ℕ). c.put_text.new.out.items ++ named_line (codes "Massif arguments:   ") text) c.bytes-2.ensures.content)
+    (λ added. three-appended c.args.out.now.items c.put_text.new.out.items c.put_text-2.new.out.items
+    c.put_text-3.new.out.items
+    (named_line (codes "Command:            ") profile.cmd) (named_line (codes "Massif arguments:   ") profile.desc)
+    (named_line (codes "ms_print arguments: ") c.args.words.now)
+    (c.in_ok-put_text.ensures.appended
+    ∙ ap (λ (text : List ℕ). c.args.out.now.items ++ named_line (codes "Command:            ") text)
+    c.bytes.ensures.content)
+    (c.in_ok-put_text-2.ensures.appended
+    ∙ ap (λ (text : List ℕ). c.put_text.new.out.items ++ named_line (codes "Massif arguments:   ") text)
+    c.bytes-2.ensures.content)
     added)
     c.put_text-3.ensures.appended
 
@@ -24,4 +30,5 @@ returns-in_err-put_text-2-clause-kept c =
 
 pub returns-clause-kept : goal.returns-clause-kept
 returns-clause-kept c =
-    extends_trans _ _ _ (extends_trans _ _ _ c.put_text.ensures.kept c.put_text-2.ensures.kept) c.put_text-3.ensures.kept
+    extends_trans _ _ _ (extends_trans _ _ _ c.put_text.ensures.kept c.put_text-2.ensures.kept)
+    c.put_text-3.ensures.kept

@@ -14,23 +14,34 @@ each_snap-preserved c =
     record {
       kept =
           extends_trans c.args.out.now.items c.put_row.new.out.items c.put_below.new.out.items
-          (extends_trans c.args.out.now.items c.each_snap.out.items c.put_row.new.out.items c.each_snap.invariant.kept c.put_row.ensures.kept)
+          (extends_trans c.args.out.now.items c.each_snap.out.items c.put_row.new.out.items c.each_snap.invariant.kept
+          c.put_row.ensures.kept)
           c.put_below.ensures.kept;
       written =
-          left-appended c.each_snap.out.items c.put_below.new.out.items (snap_row place snap ++ below) (snap_rows c.args.threshold c.args.unit (place + 1) (drop (place + 1) snaps)) (snap_rows c.args.threshold c.args.unit place (drop place snaps)) _
-          (two-appended c.each_snap.out.items c.put_row.new.out.items c.put_below.new.out.items (snap_row place snap) below c.in_ok-put_row.ensures.appended
-          (c.in_ok-put_below.ensures.appended ∙ ap (λ (n : ℕ). c.put_row.new.out.items ++ below_row c.args.threshold c.args.unit snap snap.mark (n - place - 1)) c.len.ensures.length))
-          (rows-next c.args.threshold c.args.unit snaps place snap c.at-snap.ensures.item) c.each_snap.invariant.written;
+          left-appended c.each_snap.out.items c.put_below.new.out.items (snap_row place snap ++ below)
+          (snap_rows c.args.threshold c.args.unit (place + 1) (drop (place + 1) snaps))
+          (snap_rows c.args.threshold c.args.unit place (drop place snaps)) _
+          (two-appended c.each_snap.out.items c.put_row.new.out.items c.put_below.new.out.items (snap_row place snap)
+          below c.in_ok-put_row.ensures.appended
+          (c.in_ok-put_below.ensures.appended
+          ∙ ap
+          (λ (n : ℕ). c.put_row.new.out.items
+          ++ below_row c.args.threshold c.args.unit snap snap.mark (n - place - 1))
+          c.len.ensures.length))
+          (rows-next c.args.threshold c.args.unit snaps place snap c.at-snap.ensures.item)
+          c.each_snap.invariant.written;
     }
 
 pub returns-in_err-put_row-clause-kept : goal.returns-in_err-put_row-clause-kept
 returns-in_err-put_row-clause-kept c =
-    extends_trans c.args.out.now.items c.each_snap.out.items c.put_row.new.out.items c.each_snap.invariant.kept c.put_row.ensures.kept
+    extends_trans c.args.out.now.items c.each_snap.out.items c.put_row.new.out.items c.each_snap.invariant.kept
+    c.put_row.ensures.kept
 
 pub returns-in_err-put_below-clause-kept : goal.returns-in_err-put_below-clause-kept
 returns-in_err-put_below-clause-kept c =
     extends_trans c.args.out.now.items c.put_row.new.out.items c.put_below.new.out.items
-    (extends_trans c.args.out.now.items c.each_snap.out.items c.put_row.new.out.items c.each_snap.invariant.kept c.put_row.ensures.kept)
+    (extends_trans c.args.out.now.items c.each_snap.out.items c.put_row.new.out.items c.each_snap.invariant.kept
+    c.put_row.ensures.kept)
     c.put_below.ensures.kept
 
 pub returns-clause-kept : goal.returns-clause-kept

@@ -9,7 +9,8 @@ use Rattle.ms_print.proofs.tree.put_entries.Given as goal
 abbrev pub invariant-each_entry : goal.invariant-each_entry
 invariant-each_entry l = record {
   kept : Extends l.initial.out.items l.out.items;
-  left : IsLeft l.scale l.tree l.prefix.items (reverse l.pending.items) l.out.items (l.initial.out.items ++ entries_text l.scale [] (shown l.scale (children_at l.tree 0)));
+  left : IsLeft l.scale l.tree l.prefix.items (reverse l.pending.items) l.out.items
+      (l.initial.out.items ++ entries_text l.scale [] (shown l.scale (children_at l.tree 0)));
 }
 
 abbrev pub decreases-each_entry : goal.decreases-each_entry

@@ -3,12 +3,21 @@ use Rattle.ms_print.proofs.tree.put_line.Goals as goal
 
 pub returns-in_err-put_bytes-2-clause-kept : goal.returns-in_err-put_bytes-2-clause-kept
 returns-in_err-put_bytes-2-clause-kept c =
-    extends_trans _ _ _ (extends_more _ _ _ c.in_ok-put_bytes.ensures.appended) (extends_same _ _ c.in_err-put_bytes-2.ensures.unchanged)
+    extends_trans _ _ _ (extends_more _ _ _ c.in_ok-put_bytes.ensures.appended)
+    (extends_same _ _ c.in_err-put_bytes-2.ensures.unchanged)
 
 pub returns-in_err-put_what-clause-kept : goal.returns-in_err-put_what-clause-kept
 returns-in_err-put_what-clause-kept c =
-    extends_trans _ _ _ (extends_trans _ _ _ (extends_more _ _ _ c.in_ok-put_bytes.ensures.appended) (extends_more _ _ _ c.in_ok-put_bytes-2.ensures.appended)) c.put_what.ensures.kept
+    extends_trans _ _ _
+    (extends_trans _ _ _ (extends_more _ _ _ c.in_ok-put_bytes.ensures.appended)
+    (extends_more _ _ _ c.in_ok-put_bytes-2.ensures.appended))
+    c.put_what.ensures.kept
 
 pub returns-clause-kept : goal.returns-clause-kept
 returns-clause-kept c =
-    extends_trans _ _ _ (extends_trans _ _ _ (extends_trans _ _ _ (extends_more _ _ _ c.in_ok-put_bytes.ensures.appended) (extends_more _ _ _ c.in_ok-put_bytes-2.ensures.appended)) c.put_what.ensures.kept) (extends_put c.put_bytes-3.result _ _ _ c.put_bytes-3.ensures.appended c.put_bytes-3.ensures.unchanged)
+    extends_trans _ _ _
+    (extends_trans _ _ _
+    (extends_trans _ _ _ (extends_more _ _ _ c.in_ok-put_bytes.ensures.appended)
+    (extends_more _ _ _ c.in_ok-put_bytes-2.ensures.appended))
+    c.put_what.ensures.kept)
+    (extends_put c.put_bytes-3.result _ _ _ c.put_bytes-3.ensures.appended c.put_bytes-3.ensures.unchanged)

@@ -22,10 +22,13 @@ pub returns-clause-appended : goal.returns-clause-appended
 unfolding tree_text
 returns-clause-appended c =
     on_ok_weaker c.put_entries.result
-    (λ added. three-appended c.args.out.now.items c.put_entry.new.out.items c.put_bytes.new.out.items c.put_entries.new.out.items
-    (entry_text c.args.scale c.at-root.result.bytes c.at-root.result.label.now) (codes "\n") (entries_text c.args.scale [] (shown c.args.scale (children_at c.args.tree.now 0)))
+    (λ added. three-appended c.args.out.now.items c.put_entry.new.out.items c.put_bytes.new.out.items
+    c.put_entries.new.out.items
+    (entry_text c.args.scale c.at-root.result.bytes c.at-root.result.label.now) (codes "\n")
+    (entries_text c.args.scale [] (shown c.args.scale (children_at c.args.tree.now 0)))
     c.in_ok-put_entry.ensures.appended c.in_ok-put_bytes.ensures.appended added
-    ∙ ap (λ (text : List ℕ). c.args.out.now.items ++ text) (sym (root-is c.args.scale c.args.tree.now (line_of c.at-root.result) c.at-root.ensures.item)))
+    ∙ ap (λ (text : List ℕ). c.args.out.now.items ++ text)
+    (sym (root-is c.args.scale c.args.tree.now (line_of c.at-root.result) c.at-root.ensures.item)))
     c.put_entries.ensures.appended
 
 pub returns-in_err-put_bytes-clause-kept : goal.returns-in_err-put_bytes-clause-kept
@@ -34,4 +37,6 @@ returns-in_err-put_bytes-clause-kept c =
 
 pub returns-clause-kept : goal.returns-clause-kept
 returns-clause-kept c =
-    extends_trans _ _ _ (extends_trans _ _ _ c.put_entry.ensures.kept (extends_more _ _ _ c.in_ok-put_bytes.ensures.appended)) c.put_entries.ensures.kept
+    extends_trans _ _ _
+    (extends_trans _ _ _ c.put_entry.ensures.kept (extends_more _ _ _ c.in_ok-put_bytes.ensures.appended))
+    c.put_entries.ensures.kept

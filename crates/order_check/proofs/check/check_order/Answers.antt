@@ -11,7 +11,9 @@ compare_lines-requires-clause-new_check g c =
     record {
       taken = c.in_ok-check.ensures.none;
       spelling = record {
-        few = subst (λ (j : Job). length j.scripts ≤ 64) (c.deref.ensures ∙ job) (omega (arith, c.threads-threads.ensures.count, c.threads-threads.ensures.few));
+        few =
+            subst (λ (j : Job). length j.scripts ≤ 64) (c.deref.ensures ∙ job)
+            (omega (arith, c.threads-threads.ensures.count, c.threads-threads.ensures.few));
         quiet = subst (λ (j : Job). AreQuiet j.modules) job (c.quiet_modules.ensures (arc_value c.args.job).modules
             (subst (λ (j : Job). AreModuleLines j.modules) c.deref-2.ensures c.modules-modules.ensures.whole));
         reads = c.decimal_texts.ensures.reads_back;

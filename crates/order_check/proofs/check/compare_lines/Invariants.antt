@@ -12,7 +12,8 @@ invariant-lines g l = record {
   given : l.lines.given ≤ l.lines.input + 1;
   ended : l.lines.ended ≡ true → WhereTold (g.S.Store.left l.store) (λ bytes. bytes ≡ []);
   same_job : l.check.job ≡ l.initial.check.job;
-  reading : Reading l.initial.lines.input l.initial.lines.line_limit l.check l.lines (g.S.Store.left l.initial.store) (g.S.Store.left l.store);
+  reading : Reading l.initial.lines.input l.initial.lines.line_limit l.check l.lines (g.S.Store.left l.initial.store)
+      (g.S.Store.left l.store);
   files : g.S.Store.files l.store ≡ g.S.Store.files l.initial.store;
   current : g.S.Store.current l.store ≡ g.S.Store.current l.initial.store;
   opens : g.S.Store.opens l.store ≡ g.S.Store.opens l.initial.store;

@@ -8,8 +8,11 @@ lines-init c = ([], c.new-reader.ensures.stands, All-nil IsLine)
 
 pub lines-preserved : goal.lines-preserved
 lines-preserved c =
-    let read = c.lines.invariant in
-    (_, c.in_ok-line.ensures.stands read.0 read.1, All-push IsLine _ _ read.2 (c.is_line.ensures c.if-not-is_line.false))
+    let read = c.lines.invariant in (
+      _,
+      c.in_ok-line.ensures.stands read.0 read.1,
+      All-push IsLine _ _ read.2 (c.is_line.ensures c.if-not-is_line.false),
+    )
 
 pub returns : goal.returns
 returns c = c.finish.ensures.writable c.lines.invariant.0 c.lines.invariant.1 c.lines.invariant.2

@@ -3,4 +3,5 @@ use Rattle.profile_tests.proofs.sampling.ledger_of.Goals as goal
 
 pub returns-clause-stands : goal.returns-clause-stands
 returns-clause-stands c =
-    c.grow_info-3.ensures.stands [] (c.grow_info-2.ensures.stands [] (c.grow_info.ensures.stands [] c.in_ok-ledger.ensures.stands))
+    c.grow_info-3.ensures.stands []
+    (c.grow_info-2.ensures.stands [] (c.grow_info.ensures.stands [] c.in_ok-ledger.ensures.stands))

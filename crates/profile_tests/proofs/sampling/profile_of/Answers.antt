@@ -13,7 +13,11 @@ pub follow-followed-requires-clause-stands : goal.follow-followed-requires-claus
 follow-followed-requires-clause-stands g c =
     let made = c.in-Ok.ensures in
     let names = c.requires.stated.0 in
-    let stated : AreStated (FnReturnsAt g.A.Fn c.in-Ok.sampler.alloc_fns.test) (FnReturnsAt g.I.Fn c.in-Ok.sampler.ignore_fns.test) names =
-    subst (λ given. AreStated (FnReturnsAt g.A.Fn given.test) (FnReturnsAt g.I.Fn c.in-Ok.sampler.ignore_fns.test) names) (sym made.alloc_fns)
-    (subst (λ given. AreStated (FnReturnsAt g.A.Fn c.args.alloc_fns.test) (FnReturnsAt g.I.Fn given.test) names) (sym made.ignore_fns) c.requires.stated.1) in
+    let stated : AreStated (FnReturnsAt g.A.Fn c.in-Ok.sampler.alloc_fns.test)
+    (FnReturnsAt g.I.Fn c.in-Ok.sampler.ignore_fns.test) names =
+    subst (λ given. AreStated (FnReturnsAt g.A.Fn given.test) (FnReturnsAt g.I.Fn c.in-Ok.sampler.ignore_fns.test)
+    names) (sym
+    made.alloc_fns)
+    (subst (λ given. AreStated (FnReturnsAt g.A.Fn c.args.alloc_fns.test) (FnReturnsAt g.I.Fn given.test) names)
+    (sym made.ignore_fns) c.requires.stated.1) in
     (names, [], stated, made.stands names c.requires.stated.1, c.in_ok-ledger.ensures.stands)

@@ -8,7 +8,9 @@ pub returns-in-Ok-clause-interned : goal.returns-in-Ok-clause-interned
 returns-in-Ok-clause-interned c = λ known are.
     let old = c.args.nodes.now in
     let new = c.intern.new.self in
-    interned old new known c.in-Ok.node c.args.ip c.args.parent are c.in-Ok.ensures.nodes c.in-Ok.ensures.continues c.requires.held
-    (subst (λ (parent : ℕ). node_interned old (called c.args.ip parent) ≡ record { nodes = new; number = c.in-Ok.node }) c.from.ensures c.in-Ok.ensures.interned)
+    interned old new known c.in-Ok.node c.args.ip c.args.parent are c.in-Ok.ensures.nodes c.in-Ok.ensures.continues
+    c.requires.held
+    (subst (λ (parent : ℕ). node_interned old (called c.args.ip parent) ≡ record { nodes = new; number = c.in-Ok.node })
+    c.from.ensures c.in-Ok.ensures.interned)
     (subst (λ (parent : ℕ). stack new c.in-Ok.node ≡ c.args.ip ∷ stack new parent) c.from.ensures c.in-Ok.ensures.stack)
     (omega (arith, c.in-Ok.ensures.within)) c.in-Ok.ensures.within.1

@@ -8,6 +8,7 @@ use Rattle.record_book.proofs.node_lines.put_nodes.Given as goal
 abbrev pub invariant-loop-ip : goal.invariant-loop-ip
 invariant-loop-ip l =
     (outer : List ℕ) × (l.ips ≡ l.ip-iterator.iter.rest.now ++ outer)
-    × ((known : List (List ℕ)) → AreNumbered l.initial.nodes known → ArePut known outer l.nodes l.parent l.initial.text.items l.text.items)
+    × ((known : List (List ℕ)) → AreNumbered l.initial.nodes known
+    → ArePut known outer l.nodes l.parent l.initial.text.items l.text.items)
     × (l.parent ≤ length l.nodes) × (length l.nodes ≤ length l.initial.nodes + length outer)
     × Continues l.initial.nodes l.nodes × Extends l.initial.text.items l.text.items

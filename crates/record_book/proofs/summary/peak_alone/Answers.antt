@@ -25,9 +25,12 @@ loop-place-preserved c =
     let ips = (stack (nodes_in c.args.job.now.scripts) c.in-Some._node) in
     let said = turn_said c.in-Some.turn ips in
     let at : slice_get (script_at scripts c.args.thread) c.loop-place.place ≡ Some said =
-    c.turn.ensures.turn ∙ ap (λ (found : Option (ScriptLine × ℕ)). option_map (said_in c.args.job.now.scripts) found) c.in-Some.is in
+    c.turn.ensures.turn
+    ∙ ap (λ (found : Option (ScriptLine × ℕ)). option_map (said_in c.args.job.now.scripts) found) c.in-Some.is in
     record {
-      tallied = subst (λ (all : List Action). IsTally c.take_turn.new.self all) (alone-more (script_at scripts c.args.thread) c.args.thread c.loop-place.place said at)
+      tallied =
+          subst (λ (all : List Action). IsTally c.take_turn.new.self all)
+          (alone-more (script_at scripts c.args.thread) c.args.thread c.loop-place.place said at)
           (c.in_ok-take_turn.ensures.taken ips _ before.tallied);
       few = place-few scripts c.args.thread c.loop-place.place said at c.turn.ensures.few_events;
       few_bytes = omega (arith, c.in_ok-take_turn.ensures.bytes, before.few_bytes);

@@ -8,4 +8,7 @@ pub returns-else-is_err-clause-appended : goal.returns-else-is_err-clause-append
 unfolding rec_summary
 returns-else-is_err-clause-appended c =
     if-ok c.put-put.result _ _ (λ put.
-    put ∙ ap (λ (summary : Summary). c.args.out.now.items ++ (count_lines summary ++ (leaked_line summary ++ peak_line summary))) c.in_ok-summary.ensures) c.put-put.ensures.appended
+    put
+    ∙ ap (λ (summary : Summary). c.args.out.now.items
+    ++ (count_lines summary ++ (leaked_line summary ++ peak_line summary))) c.in_ok-summary.ensures)
+    c.put-put.ensures.appended

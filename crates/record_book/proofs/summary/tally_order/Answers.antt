@@ -23,8 +23,12 @@ entries-init c =
     record {
       within = omega arith;
       threads = ap length zeros ∙ length-zeros c.threads.result ∙ c.threads.ensures.count;
-      taken = taken-none scripts c.in_ok-done.done.items (λ thread. ap (λ (done : List ℕ). done_at done thread) zeros ∙ zero-at c.threads.result thread);
-      tallied = subst (λ (none : List Action). IsTally c.new-tally.result none) (sym (actions-none scripts)) c.new-tally.ensures.none;
+      taken =
+          taken-none scripts c.in_ok-done.done.items
+          (λ thread. ap (λ (done : List ℕ). done_at done thread) zeros ∙ zero-at c.threads.result thread);
+      tallied =
+          subst (λ (none : List Action). IsTally c.new-tally.result none) (sym (actions-none scripts))
+          c.new-tally.ensures.none;
       few_bytes = omega (arith, c.new-tally.ensures.no_bytes);
       few_calls = omega (arith, c.new-tally.ensures.no_calls);
     }
@@ -32,13 +36,16 @@ entries-init c =
 pub index-place-requires : goal.index-place-requires
 index-place-requires c =
     let order = c.args.order.now in
-    let there = entry-there c.args.job.now.scripts order c.entries.entry (slice_index_or order c.entries.entry 0) c.requires.under (at-place order c.entries.entry c.entries-test.true) in
+    let there =
+    entry-there c.args.job.now.scripts order c.entries.entry (slice_index_or order c.entries.entry 0) c.requires.under
+    (at-place order c.entries.entry c.entries-test.true) in
     omega (arith, there, c.entries.invariant.threads)
 
 pub turn-requires : goal.turn-requires
 turn-requires c =
     let order = c.args.order.now in
-    entry-there c.args.job.now.scripts order c.entries.entry (slice_index_or order c.entries.entry 0) c.requires.under (at-place order c.entries.entry c.entries-test.true)
+    entry-there c.args.job.now.scripts order c.entries.entry (slice_index_or order c.entries.entry 0) c.requires.under
+    (at-place order c.entries.entry c.entries-test.true)
 
 pub unreachable-requires : goal.unreachable-requires
 unreachable-requires c =
@@ -47,7 +54,9 @@ unreachable-requires c =
     let thread = slice_index_or order c.entries.entry 0 in
     let at = at-place order c.entries.entry c.entries-test.true in
     let there = entry-there scripts order c.entries.entry thread c.requires.under at in
-    let here = place-is c.entries.done.items thread c.index-place.result.now (omega (arith, there, c.entries.invariant.threads)) c.index-place.ensures in
+    let here =
+    place-is c.entries.done.items thread c.index-place.result.now (omega (arith, there, c.entries.invariant.threads))
+    c.index-place.ensures in
     turn-there scripts order c.entries.done.items c.entries.entry thread c.requires.under c.entries.invariant.taken at
     (ap (λ (n : ℕ). slice_get (script_at scripts thread) n) here ∙ c.turn.ensures.turn
     ∙ ap (λ (found : Option (ScriptLine × ℕ)). option_map (said_in c.args.job.now.scripts) found) c.in_default.is)
@@ -55,18 +64,25 @@ unreachable-requires c =
 pub overflow_add-place : goal.overflow_add-place
 overflow_add-place c =
     let ips = (stack (nodes_in c.args.job.now.scripts) c.in-Some._node) in
-    let few = place-few c.args.job.now.scripts (slice_index_or c.args.order.now c.entries.entry 0) c.index-place.result.now (turn_said c.in-Some.turn ips)
-    (c.turn.ensures.turn ∙ ap (λ (found : Option (ScriptLine × ℕ)). option_map (said_in c.args.job.now.scripts) found) c.in-Some.is) c.turn.ensures.few_events in
+    let few =
+    place-few c.args.job.now.scripts (slice_index_or c.args.order.now c.entries.entry 0) c.index-place.result.now
+    (turn_said c.in-Some.turn ips)
+    (c.turn.ensures.turn
+    ∙ ap (λ (found : Option (ScriptLine × ℕ)). option_map (said_in c.args.job.now.scripts) found) c.in-Some.is)
+    c.turn.ensures.few_events in
     omega (arith, few)
 
 pub index_mut-requires : goal.index_mut-requires
 index_mut-requires c =
     let order = c.args.order.now in
-    let there = entry-there c.args.job.now.scripts order c.entries.entry (slice_index_or order c.entries.entry 0) c.requires.under (at-place order c.entries.entry c.entries-test.true) in
+    let there =
+    entry-there c.args.job.now.scripts order c.entries.entry (slice_index_or order c.entries.entry 0) c.requires.under
+    (at-place order c.entries.entry c.entries-test.true) in
     omega (arith, there, c.entries.invariant.threads)
 
 pub overflow_add-entry : goal.overflow_add-entry
-overflow_add-entry c = omega (arith, c.entries-test.true, c.requires.few, c.turn.ensures.few_events, c.entry_count-entry.ensures.few)
+overflow_add-entry c =
+    omega (arith, c.entries-test.true, c.requires.few, c.turn.ensures.few_events, c.entry_count-entry.ensures.few)
 
 pub entries-smaller : goal.entries-smaller
 entries-smaller c = omega (arith, c.entries-test.true, c.entry_count-entry.ensures.some)
@@ -82,16 +98,22 @@ entries-preserved c =
     let said = turn_said c.in-Some.turn ips in
     let at = at-place order c.entries.entry c.entries-test.true in
     let there = entry-there scripts order c.entries.entry thread c.requires.under at in
-    let here = place-is c.entries.done.items thread place (omega (arith, there, before.threads)) c.index-place.ensures in
+    let here =
+    place-is c.entries.done.items thread place (omega (arith, there, before.threads)) c.index-place.ensures in
     let found : slice_get (script_at scripts thread) place ≡ Some said =
-    c.turn.ensures.turn ∙ ap (λ (found : Option (ScriptLine × ℕ)). option_map (said_in c.args.job.now.scripts) found) c.in-Some.is in
-    let step = walk-next scripts order c.entries.done.items c.entries.entry c.entry_count-entry.result thread place said c.requires.under before.taken c.entries-test.true before.threads at here found
+    c.turn.ensures.turn
+    ∙ ap (λ (found : Option (ScriptLine × ℕ)). option_map (said_in c.args.job.now.scripts) found) c.in-Some.is in
+    let step =
+    walk-next scripts order c.entries.done.items c.entries.entry c.entry_count-entry.result thread place said
+    c.requires.under before.taken c.entries-test.true before.threads at here found
     (c.entry_count-entry.ensures.entries thread ips) in
     record {
       within = step.within;
       threads = length-slice_set c.entries.done.items thread (place + 1) ∙ before.threads;
       taken = step.taken;
-      tallied = subst (λ (all : List Action). IsTally c.take_turn.new.self all) (sym step.means) (c.in_ok-take_turn.ensures.taken ips (actions scripts (take c.entries.entry order)) before.tallied);
+      tallied =
+          subst (λ (all : List Action). IsTally c.take_turn.new.self all) (sym step.means)
+          (c.in_ok-take_turn.ensures.taken ips (actions scripts (take c.entries.entry order)) before.tallied);
       few_bytes = omega (arith, c.in_ok-take_turn.ensures.bytes, before.few_bytes, c.entry_count-entry.ensures.some);
       few_calls = omega (arith, c.in_ok-take_turn.ensures.calls, before.few_calls, c.entry_count-entry.ensures.some);
     }

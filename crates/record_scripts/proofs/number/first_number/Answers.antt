@@ -7,7 +7,8 @@ pub returns-then-is_empty-clause-none : goal.returns-then-is_empty-clause-none
 returns-then-is_empty-clause-none c = no-fields c.args.text.now (sym c.is_empty.ensures ∙ c.if-is_empty.true)
 
 pub returns-then-is_empty-clause-no_number : goal.returns-then-is_empty-clause-no_number
-returns-then-is_empty-clause-no_number c = ap (map number) (no-fields c.args.text.now (sym c.is_empty.ensures ∙ c.if-is_empty.true))
+returns-then-is_empty-clause-no_number c =
+    ap (map number) (no-fields c.args.text.now (sym c.is_empty.ensures ∙ c.if-is_empty.true))
 
 pub returns-in-Some-clause-some : goal.returns-in-Some-clause-some
 returns-in-Some-clause-some c = first-number _ _ _ c.in-Some.ensures

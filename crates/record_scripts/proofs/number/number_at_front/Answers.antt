@@ -7,11 +7,21 @@ use Rattle.record_scripts.proofs.number.number_at_front.Goals as goal
 
 pub overflow_mul-number : goal.overflow_mul-number
 overflow_mul-number c =
-    omega (arith, c.loop-digits.invariant.value, room-for-digit c.args.text.now c.loop-digits.digits (omega arith) c.loop-digits.invariant.all)
+    omega (
+      arith,
+      c.loop-digits.invariant.value,
+      room-for-digit c.args.text.now c.loop-digits.digits (omega arith) c.loop-digits.invariant.all,
+    )
 
 pub overflow_add-number : goal.overflow_add-number
 overflow_add-number c =
-    omega (arith, c.loop-digits.invariant.value, c.from.ensures, c.in-Some.ensures, room-for-digit c.args.text.now c.loop-digits.digits (omega arith) c.loop-digits.invariant.all)
+    omega (
+      arith,
+      c.loop-digits.invariant.value,
+      c.from.ensures,
+      c.in-Some.ensures,
+      room-for-digit c.args.text.now c.loop-digits.digits (omega arith) c.loop-digits.invariant.all,
+    )
 
 pub loop-digits-preserved : goal.loop-digits-preserved
 loop-digits-preserved c =

@@ -18,7 +18,8 @@ loop-thread-preserved c =
     ∙ ap (λ (turns : List TurnEntry). Some (map turn_numbered turns)) (sym c.deref.ensures.value)
     ∙ ap (λ (turns : List Turn). Some turns) (c.are_same_turns.ensures.0 c.if-not-are_same_turns.false)
     ∙ ap (λ (turns : List TurnEntry). Some (map turn_numbered turns)) c.deref-in-loop-thread.ensures.value
-    ∙ sym (map-at script_numbered others thread c.index-others-thread.result (omega (arith, c.loop-thread-test.true, c.if-scripts-others.false))))
+    ∙ sym (map-at script_numbered others thread c.index-others-thread.result
+    (omega (arith, c.loop-thread-test.true, c.if-scripts-others.false))))
 
 pub returns-then-not-are_same_turns : goal.returns-then-not-are_same_turns
 returns-then-not-are_same_turns c =
@@ -29,7 +30,8 @@ returns-then-not-are_same_turns c =
     (ap (map turn_numbered) c.deref.ensures.value
     ∙ same_Some _ _ (sym (map-at script_numbered scripts thread c.index-scripts-thread.result c.loop-thread-test.true)
     ∙ ap (λ (all : List (List Turn)). slice_get all thread) same
-    ∙ map-at script_numbered others thread c.index-others-thread.result (omega (arith, c.loop-thread-test.true, c.if-scripts-others.false)))
+    ∙ map-at script_numbered others thread c.index-others-thread.result
+    (omega (arith, c.loop-thread-test.true, c.if-scripts-others.false)))
     ∙ ap (map turn_numbered) (sym c.deref-in-loop-thread.ensures.value)))
     ∙ c.if-not-are_same_turns.true))
 
@@ -41,4 +43,5 @@ returns c =
     let other_count = length-map others script_numbered in
     answers-true _ (same-items (scripts_numbered scripts) (scripts_numbered others)
     (omega (arith, count, other_count, c.if-scripts-others.false))
-    (λ k within. c.loop-thread.invariant k (omega (arith, within, count, c.loop-thread-test.false, c.loop-thread.auto.thread-end))))
+    (λ k within. c.loop-thread.invariant k
+    (omega (arith, within, count, c.loop-thread-test.false, c.loop-thread.auto.thread-end))))

@@ -5,4 +5,5 @@ use Rattle.record_scripts.proofs.script.are_kept_as.Given as goal
 
 -- the scripts so far are the same
 abbrev pub invariant-loop-thread : goal.invariant-loop-thread
-invariant-loop-thread l = (k : ℕ) → k < l.thread → slice_get (scripts_numbered l.scripts) k ≡ slice_get (scripts_numbered l.others) k
+invariant-loop-thread l =
+    (k : ℕ) → k < l.thread → slice_get (scripts_numbered l.scripts) k ≡ slice_get (scripts_numbered l.others) k

@@ -36,4 +36,5 @@ returns c =
     let other_count = length-map others turn_numbered in
     answers-true _ (same-items (map turn_numbered turns) (map turn_numbered others)
     (omega (arith, count, other_count, c.if-turns-others.false))
-    (λ k within. c.loop-place.invariant k (omega (arith, within, count, c.loop-place-test.false, c.loop-place.auto.place-end))))
+    (λ k within. c.loop-place.invariant k
+    (omega (arith, within, count, c.loop-place-test.false, c.loop-place.auto.place-end))))

@@ -5,4 +5,5 @@ use Rattle.record_scripts.proofs.script.are_same_turns.Given as goal
 
 -- the turns so far are the same
 abbrev pub invariant-loop-place : goal.invariant-loop-place
-invariant-loop-place l = (k : ℕ) → k < l.place → slice_get (map turn_numbered l.turns) k ≡ slice_get (map turn_numbered l.others) k
+invariant-loop-place l =
+    (k : ℕ) → k < l.place → slice_get (map turn_numbered l.turns) k ≡ slice_get (map turn_numbered l.others) k

@@ -16,7 +16,9 @@ returns-in-Ok c = record {
   stack_is = c.in-Ok.ensures.stack;
   within = c.in-Ok.ensures.within;
   few_more = omega (arith, c.intern_stack.ensures.few_more, c.requires.few_ips);
-  single = subst (λ (x : Interned). AreSingle (reverse x.nodes)) c.in-Ok.ensures.interned (interned c.args.nodes.now c.args.ips.now c.requires.single).single;
+  single =
+      subst (λ (x : Interned). AreSingle (reverse x.nodes)) c.in-Ok.ensures.interned
+      (interned c.args.nodes.now c.args.ips.now c.requires.single).single;
   continues = c.intern_stack.ensures.continues;
   unchanged = tt;
 }

@@ -12,15 +12,22 @@ pub returns-then-is_call : goal.returns-then-is_call
 returns-then-is_call c =
     let place = c.loop-place.place in
     let node = node_at-entry c.args.entries.now place (omega arith) in
-    sym (number-found (nodes_of c.args.entries.now) c.args.ip c.args.parent (place + 1) (node_of (get_or c.args.entries.now place past_end)) (subst (λ (k : ℕ). IsPassed (nodes_of c.args.entries.now) c.args.ip c.args.parent k) (back place) c.loop-place.invariant) node (sym c.is_call.ensures ∙ c.if-is_call.true))
+    sym (number-found (nodes_of c.args.entries.now) c.args.ip c.args.parent (place + 1)
+    (node_of (get_or c.args.entries.now place past_end))
+    (subst (λ (k : ℕ). IsPassed (nodes_of c.args.entries.now) c.args.ip c.args.parent k) (back place)
+    c.loop-place.invariant)
+    node (sym c.is_call.ensures ∙ c.if-is_call.true))
 
 pub loop-place-preserved : goal.loop-place-preserved
 loop-place-preserved c =
     let place = c.loop-place.place in
     let node = node_at-entry c.args.entries.now place (omega arith) in
-    passed-next (nodes_of c.args.entries.now) c.args.ip c.args.parent place (node_of (get_or c.args.entries.now place past_end)) c.loop-place.invariant node (sym c.is_call.ensures ∙ c.if-is_call.false)
+    passed-next (nodes_of c.args.entries.now) c.args.ip c.args.parent place
+    (node_of (get_or c.args.entries.now place past_end)) c.loop-place.invariant node
+    (sym c.is_call.ensures ∙ c.if-is_call.false)
 
 pub returns : goal.returns
 returns c =
     let count = length-nodes_of c.args.entries.now in
-    sym (number-none (nodes_of c.args.entries.now) c.args.ip c.args.parent c.loop-place.place c.loop-place.invariant (omega arith))
+    sym (number-none (nodes_of c.args.entries.now) c.args.ip c.args.parent c.loop-place.place c.loop-place.invariant
+    (omega arith))

@@ -32,5 +32,7 @@ outwards-preserved c =
 pub returns-clause-ips : goal.returns-clause-ips
 returns-clause-ips c =
     let outermost : c.outwards.at ≡ 0 = omega arith in
-    let left = ap (λ (n : ℕ). stack (nodes_of c.args.entries.now) n) outermost ∙ stack-zero (nodes_of c.args.entries.now) in
-    sym (append-nil c.outwards.out.items) ∙ ap (λ (ips : List ℕ). c.outwards.out.items ++ ips) (sym left) ∙ c.outwards.invariant.appended
+    let left =
+    ap (λ (n : ℕ). stack (nodes_of c.args.entries.now) n) outermost ∙ stack-zero (nodes_of c.args.entries.now) in
+    sym (append-nil c.outwards.out.items) ∙ ap (λ (ips : List ℕ). c.outwards.out.items ++ ips) (sym left)
+    ∙ c.outwards.invariant.appended

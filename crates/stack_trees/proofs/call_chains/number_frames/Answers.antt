@@ -12,7 +12,15 @@ each_frame-preserved c =
     record {
       stay = λ k within. is.names_stay k (omega (arith, within)) ∙ c.each_frame.invariant.stay k within;
       longer = omega (arith, is.none_lost);
-      numbered = numbered-more (frame_text c.args.style c.args.tables.now) c.each_frame.names c.intern.new.self c.each_frame.numbers.items c.push.new.self.items c.in_ok-number.number
-          c.args.frames.now c.each_frame.at-index nowhere c.deref.result.now (omega arith) is.none_lost is.names_stay c.each_frame.invariant.numbered is.within is.name
-          (c.deref.ensures.value ∙ c.in_ok-put_frame.ensures.appended ∙ ap (λ (text : List ℕ). text ++ frame_text c.args.style c.args.tables.now (get_or c.args.frames.now c.each_frame.at-index nowhere)) c.clear-in-each_frame.ensures.items) c.in_ok-push.ensures.items;
+      numbered =
+          numbered-more (frame_text c.args.style c.args.tables.now) c.each_frame.names c.intern.new.self
+          c.each_frame.numbers.items c.push.new.self.items c.in_ok-number.number
+          c.args.frames.now c.each_frame.at-index nowhere c.deref.result.now (omega arith) is.none_lost is.names_stay
+          c.each_frame.invariant.numbered is.within is.name
+          (c.deref.ensures.value ∙ c.in_ok-put_frame.ensures.appended
+          ∙ ap
+          (λ (text : List ℕ). text
+          ++ frame_text c.args.style c.args.tables.now (get_or c.args.frames.now c.each_frame.at-index nowhere))
+          c.clear-in-each_frame.ensures.items)
+          c.in_ok-push.ensures.items;
     }

@@ -12,7 +12,9 @@ begin_list-requires c =
 
 pub each_stack-preserved : goal.each_stack-preserved
 each_stack-preserved c =
-    root-more c.args.style c.args.tables.now c.each_stack.stack c.begin_list.new.frames.items c.each_stack.lists c.begin_list.new.lists c.push_turned.new.lists c.each_stack.invariant c.in_ok-begin_list.ensures.begun c.in_ok-push_turned.ensures.gained
+    root-more c.args.style c.args.tables.now c.each_stack.stack c.begin_list.new.frames.items c.each_stack.lists
+    c.begin_list.new.lists c.push_turned.new.lists c.each_stack.invariant c.in_ok-begin_list.ensures.begun
+    c.in_ok-push_turned.ensures.gained
 
 pub returns-clause-lists : goal.returns-clause-lists
 unfolding lists_towards

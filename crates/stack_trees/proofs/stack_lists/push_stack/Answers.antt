@@ -16,6 +16,9 @@ returns c =
     let frames = c.deref.ensures.value
     ∙ c.truncate.ensures.items
     ∙ ap (λ (xs : List FrameAt). take form.most xs) c.in_ok-frames_into.ensures.of_tables in
-    let texts = ap (λ (xs : List FrameAt). map text xs) frames ∙ texts-of-first text form.most FromAllocation (stack_frames tables.instructions tables.nodes c.args.stack) in
-    let P : List (List ℕ) → Type 0 = λ xs. OnOk c.push_texts.result (LastGains c.args.lists.now xs c.push_texts.new.lists) in
+    let texts =
+    ap (λ (xs : List FrameAt). map text xs) frames
+    ∙ texts-of-first text form.most FromAllocation (stack_frames tables.instructions tables.nodes c.args.stack) in
+    let P : List (List ℕ) → Type 0 =
+    λ xs. OnOk c.push_texts.result (LastGains c.args.lists.now xs c.push_texts.new.lists) in
     record { gained = subst P texts c.push_texts.ensures.gained }

@@ -14,11 +14,14 @@ add_stack-requires-clause-few c =
 pub each_stack-preserved : goal.each_stack-preserved
 each_stack-preserved c =
     let list = needed_list FromAllocation c.args.form.style c.args.tables.now c.args.form.most c.args.costs.now in
-    listed-more list c.each_stack.stack c.each_stack.lists c.add_stack.new.lists c.each_stack.invariant c.in_ok-add_stack.ensures.added
+    listed-more list c.each_stack.stack c.each_stack.lists c.add_stack.new.lists c.each_stack.invariant
+    c.in_ok-add_stack.ensures.added
 
 pub returns : goal.returns
 returns c =
     let list = needed_list FromAllocation c.args.form.style c.args.tables.now c.args.form.most c.args.costs.now in
     record {
-      lists = needed_lists-all FromAllocation c.args.form.style c.args.tables.now c.args.form.most c.args.costs.now c.each_stack.stack c.each_stack.lists (omega arith) c.each_stack.invariant;
+      lists =
+          needed_lists-all FromAllocation c.args.form.style c.args.tables.now c.args.form.most c.args.costs.now
+          c.each_stack.stack c.each_stack.lists (omega arith) c.each_stack.invariant;
     }

@@ -8,7 +8,9 @@ use Rattle.stack_trees.proofs.trace_lists.trace_lists.Goals as goal
 pub returns-in-FromAllocation : goal.returns-in-FromAllocation
 returns-in-FromAllocation c = record {
   lists = IfOk-weaker c.stack_lists.result _ _
-      (λ fronts is. subst (λ (d : Direction). StandFor d c.args.style c.args.tables.now c.args.costs.now c.args.depth fronts) (sym c.in-FromAllocation.is)
+      (λ fronts is. subst
+      (λ (d : Direction). StandFor d c.args.style c.args.tables.now c.args.costs.now c.args.depth fronts)
+      (sym c.in-FromAllocation.is)
       (StandFor-needed c.args.style c.args.tables.now c.args.costs.now c.args.depth fronts c.requires.as_many is))
       c.stack_lists.ensures.lists;
 }
@@ -16,7 +18,9 @@ returns-in-FromAllocation c = record {
 pub returns-in-FromRoot : goal.returns-in-FromRoot
 returns-in-FromRoot c = record {
   lists = IfOk-weaker c.lists_from_root.result _ _
-      (λ fronts is. subst (λ (d : Direction). StandFor d c.args.style c.args.tables.now c.args.costs.now c.args.depth fronts) (sym c.in-FromRoot.is)
+      (λ fronts is. subst
+      (λ (d : Direction). StandFor d c.args.style c.args.tables.now c.args.costs.now c.args.depth fronts)
+      (sym c.in-FromRoot.is)
       (StandFor-root c.args.style c.args.tables.now c.args.costs.now c.args.depth fronts c.requires.as_many is))
       c.lists_from_root.ensures.lists;
 }

@@ -7,5 +7,6 @@ of_lists-requires-clause-as_many c = omega (arith, c.in_ok-lists.ensures.lists.c
 
 pub returns : goal.returns
 returns c = record {
-  tree = IfOk-weaker c.of_lists.result _ _ (λ tree is. c.in_ok-lists.ensures.lists.tree tree is) c.of_lists.ensures.tree;
+  tree =
+      IfOk-weaker c.of_lists.result _ _ (λ tree is. c.in_ok-lists.ensures.lists.tree tree is) c.of_lists.ensures.tree;
 }

@@ -9,7 +9,9 @@ returns c =
     let texts = c.hexadecimal_texts.ensures in
     record {
       put = on_ok_weaker c.put_number_line.result
-          (instruction_put c.args.line.now.items c.put_number_line.new.out.items before (texts.digits (before + 1) (omega arith)) (texts.digits (before + 2) (omega arith)) (texts.at_most_16 (before + 1) (omega arith))
+          (instruction_put c.args.line.now.items c.put_number_line.new.out.items before
+          (texts.digits (before + 1) (omega arith)) (texts.digits (before + 2) (omega arith))
+          (texts.at_most_16 (before + 1) (omega arith))
           (texts.at_most_16 (before + 2) (omega arith)))
           c.put_number_line.ensures.appended;
     }

@@ -13,5 +13,6 @@ returns-then-is_empty c = λ came is.
 
 pub returns : goal.returns
 returns c = λ came is.
-    c.in_ok-intern.ensures.without_repeats (with_text came) is ∙ ap (λ (texts : List (List ℕ)). without_repeats bytes_eq texts)
+    c.in_ok-intern.ensures.without_repeats (with_text came) is
+    ∙ ap (λ (texts : List (List ℕ)). without_repeats bytes_eq texts)
     (sym (with_text-more came c.args.piece.now (grind (arith, nat_tests, c.if-is_empty.false, c.is_empty.ensures))))

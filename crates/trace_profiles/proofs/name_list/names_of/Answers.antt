@@ -16,14 +16,19 @@ pieces-preserved c =
     (c.in_ok-add_piece.ensures (map (λ (piece : Bor (List ℕ)). piece.now) c.pieces.yielded) c.pieces.invariant)
 
 -- at the end all were yielded, by an iterator that goes by another name
-all-yielded : {S A B : Type 0} {steps : S → Option A → S → Type 0} {v : A → B} {s source : S} {all : List B} (xs : List A) (t : S) → Yields steps s xs t → (r : Option A) (u : S) → r ≡ None → steps t r u
+all-yielded : {S A B : Type 0} {steps : S → Option A → S → Type 0} {v : A → B} {s source : S} {all : List B}
+    (xs : List A) (t : S)
+    → Yields steps s xs t → (r : Option A) (u : S) → r ≡ None → steps t r u
     → YieldsList steps v source all → s ≡ source → map v xs ≡ all
-all-yielded xs t yielded r u none step whole same = (YieldsList-end (YieldsList-at same whole) xs t yielded r u none step).0
+all-yielded xs t yielded r u none step whole same =
+    (YieldsList-end (YieldsList-at same whole) xs t yielded r u none step).0
 
 pub returns : goal.returns
 unfolding names_in
 returns c =
     c.pieces.invariant ∙ ap (λ (texts : List (List ℕ)). without_repeats bytes_eq (with_text texts))
     (all-yielded c.pieces.yielded _ c.pieces.yielded_by _ _ c.in-None.is c.next.ensures.steps
-    (YieldsList-from_slice_split {s = c.split-piece-items.result} _ is_semicolon c.args.list.now c.split-piece-items.ensures.rest c.split-piece-items.ensures.done c.split-piece-items.ensures.closure (λ x r q k. search (rules, tests)))
+    (YieldsList-from_slice_split {s = c.split-piece-items.result} _ is_semicolon c.args.list.now
+    c.split-piece-items.ensures.rest c.split-piece-items.ensures.done c.split-piece-items.ensures.closure
+    (λ x r q k. search (rules, tests)))
     (cc))

@@ -29,13 +29,15 @@ pub returns-clause-held_event : goal.returns-clause-held_event
 returns-clause-held_event c =
     let held : HeldInfo = record { stack = c.in_ok-size.stack; size = c.in_ok-size.size } in
     subst (IsHeld (ledger_of c.args.ledger.now)) (sym c.event_of_info-event.ensures)
-    (event_is_among (ledger_of c.args.ledger.now) c.in_ok-line.line.kind c.in_ok-line.line.info held c.in_ok-size.ensures.some)
+    (event_is_among (ledger_of c.args.ledger.now) c.in_ok-line.line.kind c.in_ok-line.line.info held
+    c.in_ok-size.ensures.some)
 
 pub returns-clause-held_stack : goal.returns-clause-held_stack
 returns-clause-held_stack c = λ tables beside.
     let held : HeldInfo = record { stack = c.in_ok-size.stack; size = c.in_ok-size.size } in
     let few : held.stack ≤ length tables.nodes = omega (arith, c.in_ok-size.ensures.stack_held, beside.stacks) in
-    subst (HasHeldEvent tables) (sym c.event_of_info-event.ensures) (event_is_held tables c.in_ok-line.line.kind c.in_ok-line.line.info held few)
+    subst (HasHeldEvent tables) (sym c.event_of_info-event.ensures)
+    (event_is_held tables c.in_ok-line.line.kind c.in_ok-line.line.info held few)
 
 pub returns-clause-least_length : goal.returns-clause-least_length
 returns-clause-least_length c =

@@ -11,13 +11,16 @@ use Rattle.trace_reports.proofs.gen_summary.gen_summary.Goals as goal
 pub summarize-summary-requires-clause-good : goal.summarize-summary-requires-clause-good
 summarize-summary-requires-clause-good c =
     let options = c.args.options.now in
-    subst (HasNoFault []) (sym c.in_ok-generator.ensures.lines) (c.generated_traces.ensures.no_fault (sizes_of options) options.stacks_above_zero options.stacks_in_range options.events_in_range)
+    subst (HasNoFault []) (sym c.in_ok-generator.ensures.lines)
+    (c.generated_traces.ensures.no_fault (sizes_of options) options.stacks_above_zero options.stacks_in_range
+    options.events_in_range)
 
 pub summarize-summary-requires-clause-sound : goal.summarize-summary-requires-clause-sound
 summarize-summary-requires-clause-sound c =
     let tables = c.new-tables.result in
     let peaks = c.new-follower.ensures in
-    new_sound tables (totals_view c.new-follower.result) c.new-tables.ensures.nodes c.new-tables.ensures.infos (new_totals c.new-follower.result peaks.stands peaks.stacks peaks.infos tables)
+    new_sound tables (totals_view c.new-follower.result) c.new-tables.ensures.nodes c.new-tables.ensures.infos
+    (new_totals c.new-follower.result peaks.stands peaks.stacks peaks.infos tables)
 
 pub summarize-summary-requires-clause-new_trace : goal.summarize-summary-requires-clause-new_trace
 summarize-summary-requires-clause-new_trace c = record {
@@ -31,8 +34,13 @@ pub summarize-summary-requires-clause-no_weight : goal.summarize-summary-require
 summarize-summary-requires-clause-no_weight c =
     let tables = c.new-tables.result in
     let peaks = c.new-follower.ensures in
-    new_weight tables (totals_view c.new-follower.result) c.new-tables.ensures.nodes (new_totals c.new-follower.result peaks.stands peaks.stacks peaks.infos tables)
+    new_weight tables (totals_view c.new-follower.result) c.new-tables.ensures.nodes
+    (new_totals c.new-follower.result peaks.stands peaks.stacks peaks.infos tables)
 
 pub returns : goal.returns
 returns c =
-    IfOk-weaker c.summarize-summary.result _ _ (λ summary is. is ∙ summary_of_lines (sizes_of c.args.options.now) (lines_yet c.in_ok-generator.generator) c.in_ok-generator.ensures.lines) c.summarize-summary.ensures
+    IfOk-weaker c.summarize-summary.result _ _
+    (λ summary is. is
+    ∙ summary_of_lines (sizes_of c.args.options.now) (lines_yet c.in_ok-generator.generator)
+    c.in_ok-generator.ensures.lines)
+    c.summarize-summary.ensures

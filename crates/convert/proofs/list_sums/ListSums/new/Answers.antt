@@ -7,4 +7,5 @@ use Rattle.convert.proofs.list_sums.ListSums.new.Goals as goal
 pub returns-clause-sums : goal.returns-clause-sums
 returns-clause-sums c =
     let P : List (Vec ℕ) → List ℕ → Type 0 = λ keys sums. AreSums c.args.names keys sums [] in
-    subst (λ keys. P keys c.new-2.result.items) (sym c.new.ensures.empty) (subst (P []) (sym c.new-2.ensures.items) (none-added c.args.names c.requires.distinct))
+    subst (λ keys. P keys c.new-2.result.items) (sym c.new.ensures.empty)
+    (subst (P []) (sym c.new-2.ensures.items) (none-added c.args.names c.requires.distinct))

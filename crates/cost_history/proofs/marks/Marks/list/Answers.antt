@@ -11,10 +11,13 @@ returns-then-place-self c =
     let held : c.args.stack < length c.self.inside.order.items = rw (← c.self.view_is) at c.requires in
     let long = c.self.invariant.as_many in
     let here : c.args.stack < length c.self.inside.places.items = omega arith in
-    let at : c.index-place.result.now ≡ slice_index c.self.inside.places.items c.args.stack = get_or_read c.self.inside.places.items c.args.stack c.index-place.result.now here c.index-place.ensures 0 in
+    let at : c.index-place.result.now ≡ slice_index c.self.inside.places.items c.args.stack =
+    get_or_read c.self.inside.places.items c.args.stack c.index-place.result.now here c.index-place.ensures 0 in
     let among = c.if-place-self.true in
     let first : slice_index c.self.inside.places.items c.args.stack < c.self.inside.count = omega arith in
-    rw (← c.self.view_is) (listed-already c.self.inside.order.items c.self.inside.places.items c.self.inside.count c.args.stack c.self.inside.all c.self.invariant held first)
+    rw (← c.self.view_is)
+    (listed-already c.self.inside.order.items c.self.inside.places.items c.self.inside.count c.args.stack
+    c.self.inside.all c.self.invariant held first)
 
 -- what is known where the two are to be exchanged
 record Apart (order places : List ℕ) (count stack place other : ℕ) : Type 0 where
@@ -41,21 +44,37 @@ apart order places count stack place other placed held read behind read_other =
 pub overflow_add-self : goal.overflow_add-self
 overflow_add-self c =
     let held : c.args.stack < length c.self.inside.order.items = rw (← c.self.view_is) at c.requires in
-    let room = (apart c.self.inside.order.items c.self.inside.places.items c.self.inside.count c.args.stack c.index-place.result.now c.index-other.result.now c.self.invariant held c.index-place.ensures c.if-place-self.false c.index-other.ensures).room in
+    let room =
+    (apart c.self.inside.order.items c.self.inside.places.items c.self.inside.count c.args.stack
+    c.index-place.result.now c.index-other.result.now c.self.invariant held c.index-place.ensures
+    c.if-place-self.false c.index-other.ensures).room in
     let few = c.self.invariant.few in
     omega arith
 
 pub invariant_of-self : goal.invariant_of-self
 invariant_of-self c =
     let held : c.args.stack < length c.self.inside.order.items = rw (← c.self.view_is) at c.requires in
-    let known = apart c.self.inside.order.items c.self.inside.places.items c.self.inside.count c.args.stack c.index-place.result.now c.index-other.result.now c.self.invariant held c.index-place.ensures c.if-place-self.false c.index-other.ensures in
+    let known =
+    apart c.self.inside.order.items c.self.inside.places.items c.self.inside.count c.args.stack
+    c.index-place.result.now c.index-other.result.now c.self.invariant held c.index-place.ensures
+    c.if-place-self.false c.index-other.ensures in
     rw (c.exchange.ensures.order, c.exchange.ensures.places)
-    (placed-after c.self.inside.order.items c.self.inside.places.items c.self.inside.count c.args.stack c.index-place.result.now c.index-other.result.now c.self.invariant held known.room known.at known.is c.if-place-self.false)
+    (placed-after c.self.inside.order.items c.self.inside.places.items c.self.inside.count c.args.stack
+    c.index-place.result.now c.index-other.result.now c.self.invariant held known.room known.at known.is
+    c.if-place-self.false)
 
 pub returns : goal.returns
 returns c =
     let held : c.args.stack < length c.self.inside.order.items = rw (← c.self.view_is) at c.requires in
-    let known = apart c.self.inside.order.items c.self.inside.places.items c.self.inside.count c.args.stack c.index-place.result.now c.index-other.result.now c.self.invariant held c.index-place.ensures c.if-place-self.false c.index-other.ensures in
+    let known =
+    apart c.self.inside.order.items c.self.inside.places.items c.self.inside.count c.args.stack
+    c.index-place.result.now c.index-other.result.now c.self.invariant held c.index-place.ensures
+    c.if-place-self.false c.index-other.ensures in
     ap (λ (xs : List ℕ). marks_of xs (c.self.inside.count + 1) c.self.inside.all) c.exchange.ensures.order
-    ∙ marks-after c.self.inside.order.items c.self.inside.places.items c.self.inside.count c.args.stack c.index-place.result.now c.index-other.result.now c.self.inside.all c.self.invariant known.room known.at c.if-place-self.false
-    ∙ ap (λ (state : RoomyMarks). let marked : RoomyMarks = record state { marks = with_mark state.marks c.args.stack } in marked) c.self.view_is
+    ∙ marks-after c.self.inside.order.items c.self.inside.places.items c.self.inside.count c.args.stack
+    c.index-place.result.now c.index-other.result.now c.self.inside.all c.self.invariant known.room known.at
+    c.if-place-self.false
+    ∙ ap (λ (state : RoomyMarks). let marked : RoomyMarks = record state {
+      marks = with_mark state.marks
+          c.args.stack;
+    } in marked) c.self.view_is

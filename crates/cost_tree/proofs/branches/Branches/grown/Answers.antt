@@ -30,7 +30,9 @@ each_list-preserved-then-costs-list-eq0 c =
     record {
       built = now.built;
       weight = let so_far = now.weight in omega arith;
-      grown = AreGrown-free keys ends costs c.args.depth c.each_list.branches c.each_list.list (omega (arith, c.requires.as_many)) (omega (arith, c.requires.as_many)) c.if-costs-list-eq0.true now.grown;
+      grown =
+          AreGrown-free keys ends costs c.args.depth c.each_list.branches c.each_list.list
+          (omega (arith, c.requires.as_many)) (omega (arith, c.requires.as_many)) c.if-costs-list-eq0.true now.grown;
     }
 
 pub add-requires-clause-room : goal.add-requires-clause-room
@@ -51,7 +53,9 @@ each_list-preserved c =
     record {
       built = c.in_ok-add.ensures.built;
       weight = omega (arith, now.weight, c.in_ok-add.ensures.weight);
-      grown = AreGrown-more keys ends costs c.args.depth c.each_list.branches c.add.new.self c.each_list.list (omega (arith, c.requires.as_many)) (omega (arith, c.requires.as_many)) c.in_ok-add.ensures.grown now.grown;
+      grown =
+          AreGrown-more keys ends costs c.args.depth c.each_list.branches c.add.new.self c.each_list.list
+          (omega (arith, c.requires.as_many)) (omega (arith, c.requires.as_many)) c.in_ok-add.ensures.grown now.grown;
     }
 
 pub returns-clause-grown : goal.returns-clause-grown
@@ -60,4 +64,5 @@ returns-clause-grown c = λ names distinct texts.
     let ends = c.args.ends.now in
     let costs = c.args.costs.now in
     let tree = c.each_list.branches in
-    HasGrown-all names keys ends costs c.args.depth tree c.each_list.list (omega arith) (AreNames-used names keys ends c.requires.shape distinct texts) c.each_list.invariant.grown
+    HasGrown-all names keys ends costs c.args.depth tree c.each_list.list (omega arith)
+    (AreNames-used names keys ends c.requires.shape distinct texts) c.each_list.invariant.grown

@@ -3,7 +3,11 @@ use Rattle.cost_tree.proofs.branches.Branches.of.Goals as goal
 
 pub returns-clause-tree : goal.returns-clause-tree
 returns-clause-tree c = λ names distinct texts.
-    IsTree-summed names c.in_ok-branches.branches.edges.items c.in_ok-branches.branches.nodes.items c.sum_up.new.nodes.items _ c.args.depth (c.in_ok-branches.ensures.grown names distinct texts) c.sum_up.ensures.sums
+    IsTree-summed names c.in_ok-branches.branches.edges.items c.in_ok-branches.branches.nodes.items
+    c.sum_up.new.nodes.items _ c.args.depth (c.in_ok-branches.ensures.grown names distinct texts)
+    c.sum_up.ensures.sums
 
 pub returns-clause-lower : goal.returns-clause-lower
-returns-clause-lower c = sums-lower c.in_ok-branches.branches.nodes.items c.sum_up.new.nodes.items c.sum_up.ensures.sums c.in_ok-branches.ensures.lower
+returns-clause-lower c =
+    sums-lower c.in_ok-branches.branches.nodes.items c.sum_up.new.nodes.items c.sum_up.ensures.sums
+    c.in_ok-branches.ensures.lower

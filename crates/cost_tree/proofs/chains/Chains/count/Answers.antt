@@ -12,5 +12,7 @@ returns c =
     let as_many = c.self.invariant.as_many in
     record {
       count = sym (ap (λ (lists : List (List ℕ)). length (get_or lists c.args.list [])) (sym c.self.view_is)
-          ∙ count-at numbers chains (chain_lists numbers chains) c.args.list c.index.result.now c.self.invariant (slice_get_read chains (length chains) c.args.list c.index.result.now (omega arith) (omega (arith, c.requires.held)) c.index.ensures));
+          ∙ count-at numbers chains (chain_lists numbers chains) c.args.list c.index.result.now c.self.invariant
+          (slice_get_read chains (length chains) c.args.list c.index.result.now (omega arith)
+          (omega (arith, c.requires.held)) c.index.ensures));
     }

@@ -6,8 +6,10 @@ use Rattle.cost_tree.proofs.chains.Chains.new.Goals as goal
 
 pub invariant_of-result : goal.invariant_of-result
 invariant_of-result c =
-    subst (λ (numbers : List ℕ). AreChains numbers c.new-2.result.items (chain_lists numbers c.new-2.result.items)) (sym c.new.ensures.items)
-    (subst (λ (chains : List Chain). AreChains [] chains (chain_lists [] chains)) (sym c.new-2.ensures.items) AreChains-none)
+    subst (λ (numbers : List ℕ). AreChains numbers c.new-2.result.items (chain_lists numbers c.new-2.result.items))
+    (sym c.new.ensures.items)
+    (subst (λ (chains : List Chain). AreChains [] chains (chain_lists [] chains)) (sym c.new-2.ensures.items)
+    AreChains-none)
 
 pub returns : goal.returns
 returns c = record {

@@ -18,4 +18,8 @@ loop-stack-preserved g c = record {
 }
 
 pub returns : goal.returns
-returns g c = record { costs = λ costs are. c.loop-stack.invariant.costs costs are ∙ take_all c.loop-stack.stack costs (omega (arith, are.count)) }
+returns g c =
+    record {
+      costs = λ costs are. c.loop-stack.invariant.costs costs are
+          ∙ take_all c.loop-stack.stack costs (omega (arith, are.count));
+    }

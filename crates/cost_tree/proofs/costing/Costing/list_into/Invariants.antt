@@ -7,5 +7,6 @@ abbrev pub invariant-loop-stack : goal.invariant-loop-stack
 invariant-loop-stack g l = record {
   room : l.self.stacks ≤ vec_capacity l.costs;
   count : length l.costs.items ≡ l.stack;
-  costs : (costs : List ℕ) → AreCosts (goal.F-pre g l.self.cost) (goal.F-post g l.self.cost) l.self.stacks costs → l.costs.items ≡ take l.stack costs;
+  costs : (costs : List ℕ) → AreCosts (goal.F-pre g l.self.cost) (goal.F-post g l.self.cost) l.self.stacks costs
+      → l.costs.items ≡ take l.stack costs;
 }

@@ -4,16 +4,28 @@ use Rattle.std.specs.Prelude.{slice_get}
 use Rattle.std.proofs.lemmas.List.{length-map}
 use Rattle.cost_tree.specs.CutShapes.{AreCutAlike, equal_cost, left, raised_counts}
 use Rattle.cost_tree.specs.Cuts.{cut_lists}
-use Rattle.cost_tree.proofs.Lengthening.{cut-count, raised-alike, raised-count, raised-enough, raised-from, raised-left, raised-some}
+use Rattle.cost_tree.proofs.Lengthening.{
+  cut-count,
+  raised-alike,
+  raised-count,
+  raised-enough,
+  raised-from,
+  raised-left,
+  raised-some,
+}
 use Rattle.cost_tree.proofs.cut.Cut.lengthen_some.Goals as goal
 
 -- as many costs as there are lists
-as-many : (whole shape : List (List ℕ)) (counts costs : List ℕ) → length counts ≡ length whole → shape ≡ cut_lists counts whole → length (map (equal_cost shape costs) shape) ≡ length counts
-as-many whole shape counts costs same is = length-map shape (equal_cost shape costs) ∙ ap (λ (ls : List (List ℕ)). length ls) is ∙ cut-count counts whole same ∙ sym same
+as-many : (whole shape : List (List ℕ)) (counts costs : List ℕ) → length counts ≡ length whole
+    → shape ≡ cut_lists counts whole → length (map (equal_cost shape costs) shape) ≡ length counts
+as-many whole shape counts costs same is =
+    length-map shape (equal_cost shape costs) ∙ ap (λ (ls : List (List ℕ)). length ls) is ∙ cut-count counts whole same
+    ∙ sym same
 
 pub ended_costs_into-requires-clause-as_many : goal.ended_costs_into-requires-clause-as_many
 ended_costs_into-requires-clause-as_many c =
-    c.requires.as_many ∙ sym (cut-count c.args.self.now.counts.items c.args.whole.now c.requires.cut.count) ∙ sym (ap (λ (ls : List (List ℕ)). length ls) c.requires.cut.lists)
+    c.requires.as_many ∙ sym (cut-count c.args.self.now.counts.items c.args.whole.now c.requires.cut.count)
+    ∙ sym (ap (λ (ls : List (List ℕ)). length ls) c.requires.cut.lists)
 
 pub is_some_raised-requires-clause-shared : goal.is_some_raised-requires-clause-shared
 is_some_raised-requires-clause-shared c =
@@ -34,22 +46,33 @@ returns-then-not-is_some_raised-clause-enough c = λ none names depth distinct n
     let old = c.args.self.now in
     let cut = c.requires.cut in
     let whole = c.args.whole.now in
-    let is = raised-from c.args.scale whole old.shape old.counts.items old.lengths.items c.ended_costs_into.new.ended.of_lists.items c.args.costs.now _ _ _ c.deref.result.now
-    cut.lengths cut.lists c.in_ok-ended_costs_into.ensures.shared c.deref.ensures.value c.deref-2.ensures.value c.deref-3.ensures.value (sym (c.is_some_raised.ensures.none c.if-not-is_some_raised.true)) in
-    raised-enough c.args.scale names whole old.counts.items c.args.costs.now cut.some cut.alike cut.count (sym is ∙ c.deref.ensures.value) distinct named depth
+    let is =
+    raised-from c.args.scale whole old.shape old.counts.items old.lengths.items
+    c.ended_costs_into.new.ended.of_lists.items c.args.costs.now _ _ _ c.deref.result.now
+    cut.lengths cut.lists c.in_ok-ended_costs_into.ensures.shared c.deref.ensures.value c.deref-2.ensures.value
+    c.deref-3.ensures.value (sym (c.is_some_raised.ensures.none c.if-not-is_some_raised.true)) in
+    raised-enough c.args.scale names whole old.counts.items c.args.costs.now cut.some cut.alike cut.count
+    (sym is ∙ c.deref.ensures.value) distinct named depth
 
 pub cut_shape-requires : goal.cut_shape-requires
 cut_shape-requires c =
     let old = c.args.self.now in
     let cut = c.requires.cut in
     let whole = c.args.whole.now in
-    let is = raised-from c.args.scale whole old.shape old.counts.items old.lengths.items c.ended_costs_into.new.ended.of_lists.items c.args.costs.now _ _ _ c.raised_counts_into.new.more.items
-    cut.lengths cut.lists c.in_ok-ended_costs_into.ensures.shared c.deref-4.ensures.value c.deref-5.ensures.value c.deref-6.ensures.value c.in_ok-raised_counts_into.ensures.raised in
-    let shared : List ℕ = map (equal_cost (cut_lists old.counts.items whole) c.args.costs.now) (cut_lists old.counts.items whole) in
+    let is =
+    raised-from c.args.scale whole old.shape old.counts.items old.lengths.items
+    c.ended_costs_into.new.ended.of_lists.items c.args.costs.now _ _ _ c.raised_counts_into.new.more.items
+    cut.lengths cut.lists c.in_ok-ended_costs_into.ensures.shared c.deref-4.ensures.value c.deref-5.ensures.value
+    c.deref-6.ensures.value c.in_ok-raised_counts_into.ensures.raised in
+    let shared : List ℕ =
+    map (equal_cost (cut_lists old.counts.items whole) c.args.costs.now) (cut_lists old.counts.items whole) in
     record {
       as_many = ap (λ (ns : List ℕ). length ns) (c.deref-7.ensures.value ∙ is)
-          ∙ raised-count c.args.scale old.counts.items (map length whole) shared (length-map whole length ∙ sym cut.count)
-          (length-map (cut_lists old.counts.items whole) (equal_cost (cut_lists old.counts.items whole) c.args.costs.now) ∙ cut-count old.counts.items whole cut.count ∙ sym cut.count)
+          ∙ raised-count c.args.scale old.counts.items (map length whole) shared
+          (length-map whole length ∙ sym cut.count)
+          (length-map (cut_lists old.counts.items whole)
+          (equal_cost (cut_lists old.counts.items whole) c.args.costs.now)
+          ∙ cut-count old.counts.items whole cut.count ∙ sym cut.count)
           ∙ cut.count;
     }
 
@@ -58,19 +81,33 @@ returns-clause-cut c =
     let old = c.args.self.now in
     let cut = c.requires.cut in
     let whole = c.args.whole.now in
-    let swapped : c.swap.new.x.items ≡ c.raised_counts_into.new.more.items = ap (λ (v : Vec ℕ). v.items) c.swap.ensures.x_after in
-    let is = swapped ∙ raised-from c.args.scale whole old.shape old.counts.items old.lengths.items c.ended_costs_into.new.ended.of_lists.items c.args.costs.now _ _ _ c.raised_counts_into.new.more.items
-    cut.lengths cut.lists c.in_ok-ended_costs_into.ensures.shared c.deref-4.ensures.value c.deref-5.ensures.value c.deref-6.ensures.value c.in_ok-raised_counts_into.ensures.raised in
-    let shared : List ℕ = map (equal_cost (cut_lists old.counts.items whole) c.args.costs.now) (cut_lists old.counts.items whole) in
+    let swapped : c.swap.new.x.items ≡ c.raised_counts_into.new.more.items =
+    ap (λ (v : Vec ℕ). v.items) c.swap.ensures.x_after in
+    let is =
+    swapped
+    ∙ raised-from c.args.scale whole old.shape old.counts.items old.lengths.items
+    c.ended_costs_into.new.ended.of_lists.items c.args.costs.now _ _ _ c.raised_counts_into.new.more.items
+    cut.lengths cut.lists c.in_ok-ended_costs_into.ensures.shared c.deref-4.ensures.value c.deref-5.ensures.value
+    c.deref-6.ensures.value c.in_ok-raised_counts_into.ensures.raised in
+    let shared : List ℕ =
+    map (equal_cost (cut_lists old.counts.items whole) c.args.costs.now) (cut_lists old.counts.items whole) in
     record {
       count = ap (λ (ns : List ℕ). length ns) is
-          ∙ raised-count c.args.scale old.counts.items (map length whole) shared (length-map whole length ∙ sym cut.count)
-          (length-map (cut_lists old.counts.items whole) (equal_cost (cut_lists old.counts.items whole) c.args.costs.now) ∙ cut-count old.counts.items whole cut.count ∙ sym cut.count)
+          ∙ raised-count c.args.scale old.counts.items (map length whole) shared
+          (length-map whole length ∙ sym cut.count)
+          (length-map (cut_lists old.counts.items whole)
+          (equal_cost (cut_lists old.counts.items whole) c.args.costs.now)
+          ∙ cut-count old.counts.items whole cut.count ∙ sym cut.count)
           ∙ cut.count;
       lengths = cut.lengths;
-      lists = c.in_ok-shape.ensures.lists ∙ ap (λ (ks : List ℕ). cut_lists ks whole) (c.deref-7.ensures.value ∙ sym swapped);
-      some = λ k count at. raised-some c.args.scale old.counts.items (map length whole) shared cut.some k count (ap (λ (ks : List ℕ). slice_get ks k) (sym is) ∙ at);
-      alike = subst (AreCutAlike whole) (sym is) (raised-alike c.args.scale whole old.counts.items c.args.costs.now cut.some cut.alike);
+      lists =
+          c.in_ok-shape.ensures.lists ∙ ap (λ (ks : List ℕ). cut_lists ks whole) (c.deref-7.ensures.value ∙ sym swapped);
+      some =
+          λ k count at. raised-some c.args.scale old.counts.items (map length whole) shared cut.some k count
+          (ap (λ (ks : List ℕ). slice_get ks k) (sym is) ∙ at);
+      alike =
+          subst (AreCutAlike whole) (sym is)
+          (raised-alike c.args.scale whole old.counts.items c.args.costs.now cut.some cut.alike);
     }
 
 pub returns-clause-less : goal.returns-clause-less
@@ -78,16 +115,27 @@ returns-clause-less c = λ some.
     let old = c.args.self.now in
     let cut = c.requires.cut in
     let whole = c.args.whole.now in
-    let swapped : c.swap.new.x.items ≡ c.raised_counts_into.new.more.items = ap (λ (v : Vec ℕ). v.items) c.swap.ensures.x_after in
-    let is = swapped ∙ raised-from c.args.scale whole old.shape old.counts.items old.lengths.items c.ended_costs_into.new.ended.of_lists.items c.args.costs.now _ _ _ c.raised_counts_into.new.more.items
-    cut.lengths cut.lists c.in_ok-ended_costs_into.ensures.shared c.deref-4.ensures.value c.deref-5.ensures.value c.deref-6.ensures.value c.in_ok-raised_counts_into.ensures.raised in
-    let shared : List ℕ = map (equal_cost (cut_lists old.counts.items whole) c.args.costs.now) (cut_lists old.counts.items whole) in
-    let asked = raised-from c.args.scale whole old.shape old.counts.items old.lengths.items c.ended_costs_into.new.ended.of_lists.items c.args.costs.now _ _ _
+    let swapped : c.swap.new.x.items ≡ c.raised_counts_into.new.more.items =
+    ap (λ (v : Vec ℕ). v.items) c.swap.ensures.x_after in
+    let is =
+    swapped
+    ∙ raised-from c.args.scale whole old.shape old.counts.items old.lengths.items
+    c.ended_costs_into.new.ended.of_lists.items c.args.costs.now _ _ _ c.raised_counts_into.new.more.items
+    cut.lengths cut.lists c.in_ok-ended_costs_into.ensures.shared c.deref-4.ensures.value c.deref-5.ensures.value
+    c.deref-6.ensures.value c.in_ok-raised_counts_into.ensures.raised in
+    let shared : List ℕ =
+    map (equal_cost (cut_lists old.counts.items whole) c.args.costs.now) (cut_lists old.counts.items whole) in
+    let asked =
+    raised-from c.args.scale whole old.shape old.counts.items old.lengths.items
+    c.ended_costs_into.new.ended.of_lists.items c.args.costs.now _ _ _
     (raised_counts c.args.scale c.deref.result.now c.deref-2.result.now c.deref-3.result.now)
-    cut.lengths cut.lists c.in_ok-ended_costs_into.ensures.shared c.deref.ensures.value c.deref-2.ensures.value c.deref-3.ensures.value refl in
+    cut.lengths cut.lists c.in_ok-ended_costs_into.ensures.shared c.deref.ensures.value c.deref-2.ensures.value
+    c.deref-3.ensures.value refl in
     let other = c.is_some_raised.ensures.some c.if-not-is_some_raised.false in
-    elim (raised-left c.args.scale old.counts.items (map length whole) shared cut.some (length-map whole length ∙ sym cut.count)
-    (length-map (cut_lists old.counts.items whole) (equal_cost (cut_lists old.counts.items whole) c.args.costs.now) ∙ cut-count old.counts.items whole cut.count ∙ sym cut.count)) [
+    elim (raised-left c.args.scale old.counts.items (map length whole) shared cut.some
+    (length-map whole length ∙ sym cut.count)
+    (length-map (cut_lists old.counts.items whole) (equal_cost (cut_lists old.counts.items whole) c.args.costs.now)
+    ∙ cut-count old.counts.items whole cut.count ∙ sym cut.count)) [
       | inl same ↦ absurd (other (asked ∙ same ∙ sym c.deref.ensures.value))
       | inr less ↦ subst (λ (ls : List ℕ). left c.swap.new.x.items ls < left old.counts.items ls) (sym cut.lengths)
           (subst (λ (ks : List ℕ). left ks (map length whole) < left old.counts.items (map length whole)) (sym is) less)

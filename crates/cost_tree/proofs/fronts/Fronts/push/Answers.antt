@@ -11,8 +11,10 @@ invariant_of-self-2 c =
     let new = c.intern.new.self in
     let shape = c.self.inside.shape in
     let is = c.in_ok-number.ensures in
-    texts-pushed c.push.result new shape c.push.new.self c.in_ok-number.number (texts-grown names new shape is.none_lost c.self.invariant) is.within
-    (let seen = ap (λ (lists : List (List (List ℕ))). length lists) c.self.view_is in let count = length-map shape (texts_of names) in omega (arith, c.requires.begun))
+    texts-pushed c.push.result new shape c.push.new.self c.in_ok-number.number
+    (texts-grown names new shape is.none_lost c.self.invariant) is.within
+    (let seen = ap (λ (lists : List (List (List ℕ))). length lists) c.self.view_is in let count = length-map shape
+    (texts_of names) in omega (arith, c.requires.begun))
     c.push.ensures.appended c.push.ensures.unchanged
 
 pub returns-clause-appended : goal.returns-clause-appended
@@ -24,7 +26,8 @@ returns-clause-appended c =
     on_ok_weaker c.push.result
     (λ gains earlier last front.
     lists-last new shape c.push.new.self c.in_ok-number.number c.args.text.now earlier last
-    (let seen = ap (λ (lists : List (List (List ℕ))). length lists) c.self.view_is in let count = length-map shape (texts_of names) in omega (arith, c.requires.begun))
+    (let seen = ap (λ (lists : List (List (List ℕ))). length lists) c.self.view_is in let count = length-map shape
+    (texts_of names) in omega (arith, c.requires.begun))
     is.name gains (lists-kept names new shape is.names_stay c.self.invariant ∙ c.self.view_is ∙ front))
     c.push.ensures.appended
 
@@ -35,5 +38,6 @@ returns-clause-unchanged c =
     let shape = c.self.inside.shape in
     let is = c.in_ok-number.ensures in
     on_err_weaker c.push.result
-    (λ same. ap (λ (lists : List (List ℕ)). lists_of new lists) same ∙ lists-kept names new shape is.names_stay c.self.invariant ∙ c.self.view_is)
+    (λ same. ap (λ (lists : List (List ℕ)). lists_of new lists) same
+    ∙ lists-kept names new shape is.names_stay c.self.invariant ∙ c.self.view_is)
     c.push.ensures.unchanged

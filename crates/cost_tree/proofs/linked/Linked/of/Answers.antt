@@ -14,7 +14,8 @@ returns c = record {
       let nodes = c.args.branches.nodes.items in
       let links = c.in_ok-links.links.links.items in
       let linked = subst (λ (es : List Edge). AreNodeLinks es nodes links) c.deref.ensures.value
-      (subst (λ (ns : List CostNode). AreNodeLinks c.deref.result.now ns links) c.deref-2.ensures.value c.in_ok-links.ensures.links) in
+      (subst (λ (ns : List CostNode). AreNodeLinks c.deref.result.now ns links) c.deref-2.ensures.value
+      c.in_ok-links.ensures.links) in
       let same = sym (edges-beside names edges nodes _ links is.branches linked.beside) in
       let taken = sym (ap (λ (v : Vec CostNode). v.items) c.replace-nodes.ensures.value) in
       record {

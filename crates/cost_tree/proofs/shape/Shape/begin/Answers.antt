@@ -10,4 +10,5 @@ invariant_of-self-2 c =
     let ends = c.self.inside.ends.items in
     let seen = ap (λ (lists : List (List ℕ)). length lists) c.self.view_is in
     let count = length-map ends (list_at edges) in
-    subst (λ (after : List ℕ). IsShape edges after) (sym c.in_ok-push.ensures.items) (IsShape-push edges ends 0 c.self.invariant (omega arith) (omega (arith, c.requires.few)))
+    subst (λ (after : List ℕ). IsShape edges after) (sym c.in_ok-push.ensures.items)
+    (IsShape-push edges ends 0 c.self.invariant (omega arith) (omega (arith, c.requires.few)))

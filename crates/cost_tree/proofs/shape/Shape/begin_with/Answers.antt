@@ -14,4 +14,5 @@ invariant_of-self-2 c =
     let within = c.requires.held c.if-caller-eq0.false in
     let held = c.self.invariant.held c.args.caller end (omega arith) in
     let read = c.index-end.ensures in
-    subst (λ (after : List ℕ). IsShape edges after) (sym c.in_ok-push.ensures.items) (IsShape-push edges ends end c.self.invariant (omega arith) (omega (arith, c.requires.few)))
+    subst (λ (after : List ℕ). IsShape edges after) (sym c.in_ok-push.ensures.items)
+    (IsShape-push edges ends end c.self.invariant (omega arith) (omega (arith, c.requires.few)))

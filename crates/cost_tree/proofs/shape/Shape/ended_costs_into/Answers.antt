@@ -19,7 +19,8 @@ returns c =
           ∙ ap (λ (ns : List ℕ). map (slice_index ns) c.deref-2.result.now) c.deref-3.ensures.value
           ∙ ap (λ (es : List ℕ). map (slice_index sums) es) c.deref-2.ensures.value
           ∙ shared-are edges ends costs sums c.self.invariant.steps c.self.invariant.held
-          (λ node within. c.in_ok-ended_costs_into.ensures.sums node (omega arith) ∙ ap (λ (es : List ℕ). ended_cost es costs node) c.deref.ensures.value)
+          (λ node within. c.in_ok-ended_costs_into.ensures.sums node (omega arith)
+          ∙ ap (λ (es : List ℕ). ended_cost es costs node) c.deref.ensures.value)
           ∙ ap (λ (lists : List (List ℕ)). map (equal_cost lists costs) lists) c.self.view_is)
           c.costs_at_into.ensures.costs;
     }

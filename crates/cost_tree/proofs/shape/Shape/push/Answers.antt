@@ -10,7 +10,8 @@ invariant_of-self-2 c =
     let ends = c.self.inside.ends.items in
     let seen = ap (λ (lists : List (List ℕ)). length lists) c.self.view_is in
     let count = length-map ends (list_at edges) in
-    (HasPushed-read edges c.child_of.new.edges.keys ends c.len-last.result c.index.result.now c.args.number c.in_ok-child.child
+    (HasPushed-read edges c.child_of.new.edges.keys ends c.len-last.result c.index.result.now c.args.number
+    c.in_ok-child.child
     c.self.invariant (omega (arith, c.requires.begun)) (omega arith) c.index.ensures c.in_ok-child.ensures.child).shape
 
 pub returns-clause-appended : goal.returns-clause-appended
@@ -19,5 +20,8 @@ returns-clause-appended c = λ earlier last is.
     let ends = c.self.inside.ends.items in
     let seen = ap (λ (lists : List (List ℕ)). length lists) c.self.view_is in
     let count = length-map ends (list_at edges) in
-    (HasPushed-read edges c.child_of.new.edges.keys ends c.len-last.result c.index.result.now c.args.number c.in_ok-child.child
-    c.self.invariant (omega (arith, c.requires.begun)) (omega arith) c.index.ensures c.in_ok-child.ensures.child).appended earlier last (c.self.view_is ∙ is)
+    (HasPushed-read edges c.child_of.new.edges.keys ends c.len-last.result c.index.result.now c.args.number
+    c.in_ok-child.child
+    c.self.invariant (omega (arith, c.requires.begun)) (omega arith) c.index.ensures
+    c.in_ok-child.ensures.child).appended
+    earlier last (c.self.view_is ∙ is)

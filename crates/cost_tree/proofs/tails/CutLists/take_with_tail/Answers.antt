@@ -22,14 +22,25 @@ returns g c =
     record {
       taken = on_ok_weaker c.take_tail.result
           (λ taken front_line first lines shown before.
-          let line : FrontLine = record { level = front_line.level; children = 1; cost = front_line.cost; shown = front_line.shown } in
-          let made : List FrontLine = tail_lines (texts_of names c.deref.result.now) c.args.line.cost c.args.line.level in
+          let line : FrontLine =
+          record { level = front_line.level; children = 1; cost = front_line.cost; shown = front_line.shown } in
+          let made : List FrontLine =
+          tail_lines (texts_of names c.deref.result.now) c.args.line.cost c.args.line.level in
           let made_is : made ≡ tail_lines tail front_line.cost front_line.level =
           ap (λ (xs : List (List ℕ)). tail_lines xs c.args.line.cost c.args.line.level) texts
           ∙ ap (λ (cost : ℕ). tail_lines tail cost c.args.line.level) shown.cost
           ∙ ap (λ (level : ℕ). tail_lines tail front_line.cost level) shown.level in
-          subst (λ (ls : List FrontLine). g.T.FrontLineTaker.takes names first ls c.take_tail.new.taker) (append_assoc lines (line ∷ []) made ∙ ap (λ (ls : List FrontLine). lines ++ line ∷ ls) made_is)
+          subst (λ (ls : List FrontLine). g.T.FrontLineTaker.takes names first ls c.take_tail.new.taker)
+          (append_assoc lines (line ∷ []) made ∙ ap (λ (ls : List FrontLine). lines ++ line ∷ ls) made_is)
           (taken first (lines ++ line ∷ [])
-          (c.in_ok-take_line.ensures.taken names line first lines (record { levelled = shown.levelled; level = shown.level; children = refl; cost = shown.cost; place = shown.place }) before)))
+          (c.in_ok-take_line.ensures.taken names line first lines
+          (record {
+            levelled = shown.levelled;
+            level = shown.level;
+            children = refl;
+            cost = shown.cost;
+            place = shown.place;
+          })
+          before)))
           c.take_tail.ensures.taken;
     }

@@ -17,7 +17,8 @@ invariant_of-self-2 c =
     let count = length-map (told steps) (texts_of names) in
     let held : caller ≢ 0 → caller < length (told steps) = λ some. omega (arith, c.requires.held some) in
     subst (λ (ss : List ListStep). AreTold names ss) (sym c.in_ok-push.ensures.items)
-    (AreTold-more names steps (Begin caller) c.self.invariant (held, omega (arith, c.requires.few)) (begun-held names (told steps) caller held c.self.invariant.texts))
+    (AreTold-more names steps (Begin caller) c.self.invariant (held, omega (arith, c.requires.few))
+    (begun-held names (told steps) caller held c.self.invariant.texts))
 
 pub returns : goal.returns
 returns c =

@@ -4,4 +4,10 @@ use Rattle.cost_tree.specs.Told.{AreTold}
 use Rattle.cost_tree.proofs.told_lists.ToldLists.fronts.Goals as goal
 
 pub shape_of-shape-requires : goal.shape_of-shape-requires
-shape_of-shape-requires c = record { told = (c.self.inside.names, subst (λ (ss : List ListStep). AreTold c.self.inside.names ss) (sym c.deref.ensures.value) c.self.invariant) }
+shape_of-shape-requires c =
+    record {
+      told = (
+        c.self.inside.names,
+        subst (λ (ss : List ListStep). AreTold c.self.inside.names ss) (sym c.deref.ensures.value) c.self.invariant,
+      );
+    }

@@ -6,7 +6,9 @@ use Rattle.cost_tree.proofs.Telling.{AreTold-none}
 use Rattle.cost_tree.proofs.told_lists.ToldLists.new.Goals as goal
 
 pub invariant_of-result : goal.invariant_of-result
-invariant_of-result c = subst (λ (steps : List ListStep). AreTold c.new.result steps) (sym c.new-2.ensures.items) (AreTold-none c.new.result)
+invariant_of-result c =
+    subst (λ (steps : List ListStep). AreTold c.new.result steps) (sym c.new-2.ensures.items)
+    (AreTold-none c.new.result)
 
 pub returns : goal.returns
 unfolding told

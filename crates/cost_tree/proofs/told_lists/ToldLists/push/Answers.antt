@@ -21,7 +21,8 @@ invariant_of-self-2 c =
     let grown = texts-grown names new (told steps) is.none_lost c.self.invariant.texts in
     subst (λ (ss : List ListStep). AreTold new ss) (sym c.in_ok-push.ensures.items)
     (AreTold-more new steps (Push number) (AreTold-names names new steps is.none_lost c.self.invariant) some
-    (texts-last new (told steps) (after (told steps) (Push number)) number some grown is.within (pushed-gains (told steps) number)))
+    (texts-last new (told steps) (after (told steps) (Push number)) number some grown is.within
+    (pushed-gains (told steps) number)))
 
 pub returns-clause-appended : goal.returns-clause-appended
 returns-clause-appended c = λ earlier last front.
@@ -35,7 +36,8 @@ returns-clause-appended c = λ earlier last front.
     let some : 0 < length (told steps) = omega (arith, c.requires.begun) in
     ap (λ (ss : List ListStep). lists_of new (told ss)) c.in_ok-push.ensures.items
     ∙ ap (λ (lists : List (List ℕ)). lists_of new lists) (told-more steps (Push number))
-    ∙ lists-last new (told steps) (after (told steps) (Push number)) number c.args.text.now earlier last some is.name (pushed-gains (told steps) number)
+    ∙ lists-last new (told steps) (after (told steps) (Push number)) number c.args.text.now earlier last some is.name
+    (pushed-gains (told steps) number)
     (lists-kept names new (told steps) is.names_stay c.self.invariant.texts ∙ c.self.view_is ∙ front)
 
 pub returns-clause-count : goal.returns-clause-count

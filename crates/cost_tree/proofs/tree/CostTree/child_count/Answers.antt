@@ -8,7 +8,9 @@ overflow_add-count c =
     let nodes = c.self.inside.nodes.items in
     let links = c.self.invariant.links.children in
     let now = c.each_child.invariant in
-    let step = IsWalk-next nodes (firsts_in c.self.inside.links.links.items) (nexts_in c.self.inside.links.links.items) c.args.n c.each_child.child links now.walk c.each_child-test.true in
+    let step =
+    IsWalk-next nodes (firsts_in c.self.inside.links.links.items) (nexts_in c.self.inside.links.links.items) c.args.n
+    c.each_child.child links now.walk c.each_child-test.true in
     let longer = ap (λ (xs : List ℕ). length xs) step.1 in
     let most = length-children_from nodes c.args.n 1 in
     omega arith
@@ -16,7 +18,9 @@ overflow_add-count c =
 pub each_child-smaller : goal.each_child-smaller
 each_child-smaller c =
     let now = c.each_child.invariant in
-    let step = IsWalk-read c.self.inside.nodes.items (firsts_in c.self.inside.links.links.items) (nexts_in c.self.inside.links.links.items) c.args.n c.each_child.child c.next_brother-child.result
+    let step =
+    IsWalk-read c.self.inside.nodes.items (firsts_in c.self.inside.links.links.items)
+    (nexts_in c.self.inside.links.links.items) c.args.n c.each_child.child c.next_brother-child.result
     c.self.invariant.links.children now.walk c.each_child-test.true c.next_brother-child.ensures in
     let longer = ap (λ (xs : List ℕ). length xs) step.1 in
     omega arith
@@ -24,7 +28,9 @@ each_child-smaller c =
 pub each_child-preserved : goal.each_child-preserved
 each_child-preserved c =
     let now = c.each_child.invariant in
-    let step = IsWalk-read c.self.inside.nodes.items (firsts_in c.self.inside.links.links.items) (nexts_in c.self.inside.links.links.items) c.args.n c.each_child.child c.next_brother-child.result
+    let step =
+    IsWalk-read c.self.inside.nodes.items (firsts_in c.self.inside.links.links.items)
+    (nexts_in c.self.inside.links.links.items) c.args.n c.each_child.child c.next_brother-child.result
     c.self.invariant.links.children now.walk c.each_child-test.true c.next_brother-child.ensures in
     let longer = ap (λ (xs : List ℕ). length xs) step.1 in
     record { walk = step.0; rest = omega arith }

@@ -6,7 +6,8 @@ use Rattle.cost_tree.proofs.tree.CostTree.child_count.Given as goal
 abbrev pub invariant-each_child : goal.invariant-each_child
 invariant-each_child l = record {
   walk : IsWalk l.self-inside.nodes.items l.n l.child;
-  rest : l.count + length (chain l.self-inside.nodes.items l.n l.child) ≡ length (children_of l.self-inside.nodes.items l.n);
+  rest : l.count + length (chain l.self-inside.nodes.items l.n l.child)
+      ≡ length (children_of l.self-inside.nodes.items l.n);
 }
 
 abbrev pub decreases-each_child : goal.decreases-each_child

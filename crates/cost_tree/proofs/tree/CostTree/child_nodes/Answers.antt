@@ -12,9 +12,15 @@ returns-then-next_brother-eq0 c =
     let links = c.self.inside.links.links.items in
     let child : ℕ = c.first_child-child.result in
     let held = ap (λ (t : TreeState). length t.nodes) c.self.view_is in
-    let walk = IsWalk-first nodes (firsts_in links) (nexts_in links) c.args.n c.self.invariant.links.children (omega (arith, c.requires.held)) in
-    let first = subst (λ (k : ℕ). IsWalk nodes c.args.n k × (children_of nodes c.args.n ≡ chain nodes c.args.n k)) (sym c.first_child-child.ensures) walk in
-    let next = IsWalk-read nodes (firsts_in links) (nexts_in links) c.args.n child c.next_brother.result c.self.invariant.links.children first.0 c.if-child-eq0.false c.next_brother.ensures in
+    let walk =
+    IsWalk-first nodes (firsts_in links) (nexts_in links) c.args.n c.self.invariant.links.children
+    (omega (arith, c.requires.held)) in
+    let first =
+    subst (λ (k : ℕ). IsWalk nodes c.args.n k × (children_of nodes c.args.n ≡ chain nodes c.args.n k))
+    (sym c.first_child-child.ensures) walk in
+    let next =
+    IsWalk-read nodes (firsts_in links) (nexts_in links) c.args.n child c.next_brother.result
+    c.self.invariant.links.children first.0 c.if-child-eq0.false c.next_brother.ensures in
     ap (λ (t : TreeState). children_of t.nodes c.args.n) (sym c.self.view_is)
     ∙ first.1
     ∙ next.1

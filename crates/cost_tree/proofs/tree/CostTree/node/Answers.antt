@@ -11,6 +11,11 @@ pub returns-clause-lower : goal.returns-clause-lower
 returns-clause-lower c = λ above.
     let tree = c.self.inside in
     let count = ap (λ (t : TreeState). length t.nodes) c.self.view_is in
-    let at = slice_get_read tree.nodes.items (length tree.nodes.items) c.args.n c.index.result.now refl (omega arith) c.index.ensures in
-    let edge = HasEdge-is (names_in tree.names) (edges_of tree) tree.nodes.items (fronts_of (names_in tree.names) (edges_of tree)) c.args.n c.index.result.now c.self.invariant.branches above at in
+    let at =
+    slice_get_read tree.nodes.items (length tree.nodes.items) c.args.n c.index.result.now refl (omega arith)
+    c.index.ensures in
+    let edge =
+    HasEdge-is (names_in tree.names) (edges_of tree) tree.nodes.items
+    (fronts_of (names_in tree.names) (edges_of tree)) c.args.n c.index.result.now c.self.invariant.branches above
+    at in
     edge.lower

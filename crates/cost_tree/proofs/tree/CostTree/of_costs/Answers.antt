@@ -15,9 +15,12 @@ of_shape-requires c =
 pub returns : goal.returns
 returns c = record {
   tree = IfOk-weaker c.of_shape.result _ _
-      (λ tree has. let moved = subst (λ (ls : List (List (List ℕ))). HasLines tree (costed ls c.args.costs.now) c.args.depth) c.fronts.view_is has in moved.tree_of)
+      (λ tree has. let moved = subst
+      (λ (ls : List (List (List ℕ))). HasLines tree (costed ls c.args.costs.now) c.args.depth) c.fronts.view_is
+      has in moved.tree_of)
       c.of_shape.ensures.lines;
   lines = IfOk-weaker c.of_shape.result _ _
-      (λ tree has. subst (λ (ls : List (List (List ℕ))). HasLines tree (costed ls c.args.costs.now) c.args.depth) c.fronts.view_is has)
+      (λ tree has. subst (λ (ls : List (List (List ℕ))). HasLines tree (costed ls c.args.costs.now) c.args.depth)
+      c.fronts.view_is has)
       c.of_shape.ensures.lines;
 }

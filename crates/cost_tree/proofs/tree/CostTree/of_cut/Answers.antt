@@ -16,8 +16,12 @@ of_shape-requires g c =
     let are = c.requires.stated.1 in
     let is : c.deref.result.now ≡ costs = c.deref.ensures.value ∙ c.in_ok-list_into.ensures.costs costs are in
     record {
-      texts = subst (AreTexts names) (sym c.fronts.invariant.cut_of.lists) (cut-named names cut.counts.items c.fronts.inside.whole c.fronts.invariant.texts);
-      as_many = ap (λ (cs : List ℕ). length cs) is ∙ are.count ∙ c.requires.as_many ∙ sym (ap (λ (s : CutState). length s.cut) c.fronts.view_is) ∙ length-map cut.shape (texts_of names);
+      texts =
+          subst (AreTexts names) (sym c.fronts.invariant.cut_of.lists)
+          (cut-named names cut.counts.items c.fronts.inside.whole c.fronts.invariant.texts);
+      as_many =
+          ap (λ (cs : List ℕ). length cs) is ∙ are.count ∙ c.requires.as_many
+          ∙ sym (ap (λ (s : CutState). length s.cut) c.fronts.view_is) ∙ length-map cut.shape (texts_of names);
       bound = subst (λ (cs : List ℕ). sum cs ≤ 2 ^ 62) (sym is) are.bound;
     }
 
@@ -25,7 +29,9 @@ pub returns : goal.returns
 returns g c = record {
   lines = IfOk-weaker c.of_shape.result _ _
       (λ tree has costs are.
-      subst (λ (cs : List ℕ). HasLines tree (costed c.args.fronts.now.cut cs) c.args.depth) (c.deref.ensures.value ∙ c.in_ok-list_into.ensures.costs costs are)
-      (subst (λ (ls : List (List (List ℕ))). HasLines tree (costed ls c.deref.result.now) c.args.depth) (ap (λ (s : CutState). s.cut) c.fronts.view_is) has))
+      subst (λ (cs : List ℕ). HasLines tree (costed c.args.fronts.now.cut cs) c.args.depth)
+      (c.deref.ensures.value ∙ c.in_ok-list_into.ensures.costs costs are)
+      (subst (λ (ls : List (List (List ℕ))). HasLines tree (costed ls c.deref.result.now) c.args.depth)
+      (ap (λ (s : CutState). s.cut) c.fronts.view_is) has))
       c.of_shape.ensures.lines;
 }

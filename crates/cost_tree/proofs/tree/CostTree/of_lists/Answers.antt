@@ -29,26 +29,41 @@ pub invariant_of-result : goal.invariant_of-result
 invariant_of-result c =
     let names = c.names.inside.names in
     let lists : lists_in c.deref.result.now c.deref-2.result.now ≡ c.names.inside.shape =
-    ap (λ (edges : List Edge). lists_in edges c.deref-2.result.now) (c.deref.ensures.value ∙ c.into_list-edges.ensures.edges)
+    ap (λ (edges : List Edge). lists_in edges c.deref-2.result.now)
+    (c.deref.ensures.value ∙ c.into_list-edges.ensures.edges)
     ∙ ap (λ (ends : List ℕ). lists_in c.shape.inside.edges.keys ends) c.deref-2.ensures.value
     ∙ c.shape.view_is in
     let texts = subst (λ (ls : List (List ℕ)). AreTexts names ls) (sym lists) c.names.invariant in
     let grown = c.in_ok-grown.ensures.tree names c.len-count.ensures.distinct texts in
-    let is = c.in_ok-nodes.ensures.tree names _ c.args.depth (IsTree-same names _ _ _ _ _ c.args.depth c.settled-branches.ensures.edges c.settled-branches.ensures.nodes grown) in
+    let is =
+    c.in_ok-nodes.ensures.tree names _ c.args.depth
+    (IsTree-same names _ _ _ _ _ c.args.depth c.settled-branches.ensures.edges c.settled-branches.ensures.nodes
+    grown) in
     record { branches = is.nodes.branches; links = is.links }
 
 pub returns : goal.returns
 returns c =
     let names = c.names.inside.names in
     let lists : lists_in c.deref.result.now c.deref-2.result.now ≡ c.names.inside.shape =
-    ap (λ (edges : List Edge). lists_in edges c.deref-2.result.now) (c.deref.ensures.value ∙ c.into_list-edges.ensures.edges)
+    ap (λ (edges : List Edge). lists_in edges c.deref-2.result.now)
+    (c.deref.ensures.value ∙ c.into_list-edges.ensures.edges)
     ∙ ap (λ (ends : List ℕ). lists_in c.shape.inside.edges.keys ends) c.deref-2.ensures.value
     ∙ c.shape.view_is in
     let texts = subst (λ (ls : List (List ℕ)). AreTexts names ls) (sym lists) c.names.invariant in
     let grown = c.in_ok-grown.ensures.tree names c.len-count.ensures.distinct texts in
-    let is = c.in_ok-nodes.ensures.tree names _ c.args.depth (IsTree-same names _ _ _ _ _ c.args.depth c.settled-branches.ensures.edges c.settled-branches.ensures.nodes grown) in
-    let tree : TreeState = record { names = names; fronts = fronts_of names (edges_in c.in_ok-nodes.field-0.nodes.items c.in_ok-nodes.field-0.links.links.items); nodes = c.in_ok-nodes.field-0.nodes.items } in
+    let is =
+    c.in_ok-nodes.ensures.tree names _ c.args.depth
+    (IsTree-same names _ _ _ _ _ c.args.depth c.settled-branches.ensures.edges c.settled-branches.ensures.nodes
+    grown) in
+    let tree : TreeState =
+    record {
+      names = names;
+      fronts = fronts_of names (edges_in c.in_ok-nodes.field-0.nodes.items c.in_ok-nodes.field-0.links.links.items);
+      nodes = c.in_ok-nodes.field-0.nodes.items;
+    } in
     let all = ap (λ (ls : List (List ℕ)). lists_of names ls) lists ∙ c.names.view_is ∙ c.in_ok-names.ensures.same in
     record {
-      tree = subst (λ (ls : List (List (List ℕ))). IsTreeOf tree (costed ls c.args.costs.now) c.args.depth) all is.nodes.tree_of;
+      tree =
+          subst (λ (ls : List (List (List ℕ))). IsTreeOf tree (costed ls c.args.costs.now) c.args.depth) all
+          is.nodes.tree_of;
     }

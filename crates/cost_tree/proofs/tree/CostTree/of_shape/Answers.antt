@@ -30,7 +30,9 @@ invariant_of-result c =
     ∙ ap (λ (ends : List ℕ). lists_in c.shape.inside.edges.keys ends) c.deref.ensures.value
     ∙ c.shape.view_is in
     let texts = subst (λ (ls : List (List ℕ)). AreTexts names ls) (sym same) c.requires.texts in
-    let is = c.in_ok-linked.ensures.tree names _ c.args.depth (c.in_ok-branches.ensures.tree names c.len-count.ensures.distinct texts) in
+    let is =
+    c.in_ok-linked.ensures.tree names _ c.args.depth
+    (c.in_ok-branches.ensures.tree names c.len-count.ensures.distinct texts) in
     record { branches = is.nodes.branches; links = is.links }
 
 pub returns : goal.returns
@@ -41,7 +43,9 @@ returns c =
     ∙ ap (λ (ends : List ℕ). lists_in c.shape.inside.edges.keys ends) c.deref.ensures.value
     ∙ c.shape.view_is in
     let texts = subst (λ (ls : List (List ℕ)). AreTexts names ls) (sym same) c.requires.texts in
-    let is = c.in_ok-linked.ensures.tree names _ c.args.depth (c.in_ok-branches.ensures.tree names c.len-count.ensures.distinct texts) in
+    let is =
+    c.in_ok-linked.ensures.tree names _ c.args.depth
+    (c.in_ok-branches.ensures.tree names c.len-count.ensures.distinct texts) in
     let costs = c.args.costs.now in
     let lists : List (List (List ℕ)) = lists_of c.args.names.now c.args.shape.now in
     let kept = length-map c.args.shape.now (texts_of c.args.names.now) in
@@ -50,8 +54,20 @@ returns c =
     let count = costed-count lists costs (omega arith) in
     let whole = costed-sum lists costs (omega arith) in
     let bound = c.requires.bound in
-    let tree : TreeState = record { names = names; fronts = fronts_of names (edges_in c.in_ok-linked.linked.nodes.items c.in_ok-linked.linked.links.links.items); nodes = c.in_ok-linked.linked.nodes.items } in
+    let tree : TreeState =
     record {
-      lines = record { tree_of = subst (λ (ls : List (List ℕ)). IsTreeOf tree (costed (lists_of names ls) costs) c.args.depth) same is.nodes.tree_of; few = omega arith; within = omega arith; shallow = omega arith };
+      names = names;
+      fronts = fronts_of names (edges_in c.in_ok-linked.linked.nodes.items c.in_ok-linked.linked.links.links.items);
+      nodes = c.in_ok-linked.linked.nodes.items;
+    } in
+    record {
+      lines =
+          record {
+            tree_of = subst (λ (ls : List (List ℕ)). IsTreeOf tree (costed (lists_of names ls) costs) c.args.depth)
+                same is.nodes.tree_of;
+            few = omega arith;
+            within = omega arith;
+            shallow = omega arith;
+          };
       names = refl;
     }

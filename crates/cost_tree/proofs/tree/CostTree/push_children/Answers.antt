@@ -7,7 +7,9 @@ use Rattle.cost_tree.proofs.tree.CostTree.push_children.Goals as goal
 pub each_child-smaller : goal.each_child-smaller
 each_child-smaller c =
     let now = c.each_child.invariant in
-    let step = IsWalk-read c.self.inside.nodes.items (firsts_in c.self.inside.links.links.items) (nexts_in c.self.inside.links.links.items) c.args.n c.each_child.child c.next_brother-child.result
+    let step =
+    IsWalk-read c.self.inside.nodes.items (firsts_in c.self.inside.links.links.items)
+    (nexts_in c.self.inside.links.links.items) c.args.n c.each_child.child c.next_brother-child.result
     c.self.invariant.links.children now.walk c.each_child-test.true c.next_brother-child.ensures in
     let longer = ap (λ (xs : List ℕ). length xs) step.1 in
     omega arith
@@ -15,7 +17,9 @@ each_child-smaller c =
 pub each_child-preserved : goal.each_child-preserved
 each_child-preserved c =
     let now = c.each_child.invariant in
-    let step = IsWalk-read c.self.inside.nodes.items (firsts_in c.self.inside.links.links.items) (nexts_in c.self.inside.links.links.items) c.args.n c.each_child.child c.next_brother-child.result
+    let step =
+    IsWalk-read c.self.inside.nodes.items (firsts_in c.self.inside.links.links.items)
+    (nexts_in c.self.inside.links.links.items) c.args.n c.each_child.child c.next_brother-child.result
     c.self.invariant.links.children now.walk c.each_child-test.true c.next_brother-child.ensures in
     let left : List ℕ = chain c.self.inside.nodes.items c.args.n c.next_brother-child.result in
     record {

@@ -7,7 +7,8 @@ use Rattle.cost_tree.proofs.tree.CostTree.push_children.Given as goal
 abbrev pub invariant-each_child : goal.invariant-each_child
 invariant-each_child l = record {
   walk : IsWalk l.self-inside.nodes.items l.n l.child;
-  rest : l.out.items ++ chain l.self-inside.nodes.items l.n l.child ≡ l.initial.out.items ++ children_of l.self-inside.nodes.items l.n;
+  rest : l.out.items ++ chain l.self-inside.nodes.items l.n l.child
+      ≡ l.initial.out.items ++ children_of l.self-inside.nodes.items l.n;
   room : vec_capacity l.initial.out ≤ vec_capacity l.out;
 }
 

@@ -25,14 +25,22 @@ returns-clause-last c = λ above.
     let nodes_count = c.self.invariant.branches.nodes_count in
     let held = c.requires.held in
     let at : slice_get edges place ≡ Some edge = slice_get-get_or edges place no_edge (omega arith) in
-    let number : c.text.result ≡ edge.text = c.text.ensures ∙ text-beside edges tree.nodes.items tree.links.links.items c.args.n no_edge c.self.invariant.links.beside above (omega arith) in
-    let is_text = edge-text names edges tree.nodes.items (fronts_of names edges) place edge c.self.invariant.branches (sym at) in
-    let is_read = subst (λ (k : ℕ). IsText c.names.result.now k) (sym number) (subst (λ (ns : List (List ℕ)). IsText ns edge.text) (sym c.names.ensures) is_text) in
+    let number : c.text.result ≡ edge.text =
+    c.text.ensures
+    ∙ text-beside edges tree.nodes.items tree.links.links.items c.args.n no_edge c.self.invariant.links.beside above
+    (omega arith) in
+    let is_text =
+    edge-text names edges tree.nodes.items (fronts_of names edges) place edge c.self.invariant.branches (sym at) in
+    let is_read =
+    subst (λ (k : ℕ). IsText c.names.result.now k) (sym number)
+    (subst (λ (ns : List (List ℕ)). IsText ns edge.text) (sym c.names.ensures) is_text) in
     let text = ap (λ (name : Bor (List ℕ)). name.now) c.unwrap_or.ensures
     ∙ text-found c.names.result.now c.text.result c.name.result _ (c.name.ensures.found.1 is_read) c.name.ensures.name
     ∙ ap (λ (ns : List (List ℕ)). text_of ns c.text.result) c.names.ensures
     ∙ ap (λ (k : ℕ). text_of names k) number in
-    let last = last-text names edges tree.nodes.items c.args.n place edge c.unwrap_or.result.now c.self.invariant.branches above (omega arith) (omega arith) (sym at) text in
+    let last =
+    last-text names edges tree.nodes.items c.args.n place edge c.unwrap_or.result.now c.self.invariant.branches above
+    (omega arith) (omega arith) (sym at) text in
     (last.0, sym (ap (λ (t : TreeState). slice_get t.fronts c.args.n) c.self.view_is) ∙ last.1)
 
 pub returns-clause-below : goal.returns-clause-below
@@ -46,9 +54,15 @@ returns-clause-below c = λ node front above node_at parent_at.
     let nodes_count = c.self.invariant.branches.nodes_count in
     let held = c.requires.held in
     let at : slice_get edges place ≡ Some edge = slice_get-get_or edges place no_edge (omega arith) in
-    let number : c.text.result ≡ edge.text = c.text.ensures ∙ text-beside edges tree.nodes.items tree.links.links.items c.args.n no_edge c.self.invariant.links.beside above (omega arith) in
-    let is_text = edge-text names edges tree.nodes.items (fronts_of names edges) place edge c.self.invariant.branches (sym at) in
-    let is_read = subst (λ (k : ℕ). IsText c.names.result.now k) (sym number) (subst (λ (ns : List (List ℕ)). IsText ns edge.text) (sym c.names.ensures) is_text) in
+    let number : c.text.result ≡ edge.text =
+    c.text.ensures
+    ∙ text-beside edges tree.nodes.items tree.links.links.items c.args.n no_edge c.self.invariant.links.beside above
+    (omega arith) in
+    let is_text =
+    edge-text names edges tree.nodes.items (fronts_of names edges) place edge c.self.invariant.branches (sym at) in
+    let is_read =
+    subst (λ (k : ℕ). IsText c.names.result.now k) (sym number)
+    (subst (λ (ns : List (List ℕ)). IsText ns edge.text) (sym c.names.ensures) is_text) in
     let text = ap (λ (name : Bor (List ℕ)). name.now) c.unwrap_or.ensures
     ∙ text-found c.names.result.now c.text.result c.name.result _ (c.name.ensures.found.1 is_read) c.name.ensures.name
     ∙ ap (λ (ns : List (List ℕ)). text_of ns c.text.result) c.names.ensures
@@ -56,4 +70,5 @@ returns-clause-below c = λ node front above node_at parent_at.
     let node_held = ap (λ (t : TreeState). slice_get t.nodes c.args.n) c.self.view_is ∙ node_at in
     let parent_held = ap (λ (t : TreeState). slice_get t.fronts node.parent) c.self.view_is ∙ parent_at in
     sym (ap (λ (t : TreeState). slice_get t.fronts c.args.n) c.self.view_is)
-    ∙ text-below names edges tree.nodes.items c.args.n place edge c.unwrap_or.result.now node front c.self.invariant.branches above node_held parent_held (omega arith) (sym at) text
+    ∙ text-below names edges tree.nodes.items c.args.n place edge c.unwrap_or.result.now node front
+    c.self.invariant.branches above node_held parent_held (omega arith) (sym at) text

@@ -1,4 +1,22 @@
-use Rattle.std.proofs.Common.{◌≡◌, ℕ, ◌-◌, inl, inr, List, [], ◌∷◌, ◌++◌, Some, length, get_or, refl, sym, ap, ◌∙◌, arith}
+use Rattle.std.proofs.Common.{
+  ◌≡◌,
+  ℕ,
+  ◌-◌,
+  inl,
+  inr,
+  List,
+  [],
+  ◌∷◌,
+  ◌++◌,
+  Some,
+  length,
+  get_or,
+  refl,
+  sym,
+  ap,
+  ◌∙◌,
+  arith,
+}
 use Rattle.std.specs.Prelude.{slice_get, slice_index}
 use Rattle.std.proofs.lemmas.Bool.{cases_lt}
 use Rattle.std.proofs.lemmas.Option.{get_or_from_slice_get, slice_get-get_or}
@@ -34,23 +52,33 @@ returns c =
     let count = ap (λ (t : TreeState). length t.nodes) c.self.view_is in
     let nodes_count = branches.nodes_count in
     let held = c.requires.held in
-    let named : text_of c.args.self.now.names c.text.result ≡ text_of names (slice_index (texts_in tree.links.links.items) n) =
-    ap (λ (t : TreeState). text_of t.names c.text.result) (sym c.self.view_is) ∙ ap (λ (k : ℕ). text_of names k) c.text.ensures in
-    let front_is : last_of (get_or fronts n []) ≡ last_of (front_at c.args.self.now n) = ap (λ (t : TreeState). last_of (front_at t n)) c.self.view_is in
+    let named : text_of c.args.self.now.names c.text.result
+    ≡ text_of names (slice_index (texts_in tree.links.links.items) n) =
+    ap (λ (t : TreeState). text_of t.names c.text.result) (sym c.self.view_is)
+    ∙ ap (λ (k : ℕ). text_of names k) c.text.ensures in
+    let front_is : last_of (get_or fronts n []) ≡ last_of (front_at c.args.self.now n) =
+    ap (λ (t : TreeState). last_of (front_at t n)) c.self.view_is in
     record {
       number = named
           ∙ elim (cases_lt 0 n) [
             | inl above ↦
                 let at : slice_get edges (n - 1) ≡ Some edge = slice_get-get_or edges (n - 1) no_edge (omega arith) in
-                let last = last-text names edges tree.nodes.items n (n - 1) edge (text_of names edge.text) branches above (omega arith) refl (sym at) refl in
-                ap (λ (k : ℕ). text_of names k) (text-beside edges tree.nodes.items tree.links.links.items n no_edge beside above (omega arith))
-                ∙ sym (ap last_of (get_or_from_slice_get fronts n (last.0 ++ text_of names edge.text ∷ []) [] last.1) ∙ last-push last.0 (text_of names edge.text))
+                let last =
+                last-text names edges tree.nodes.items n (n - 1) edge (text_of names edge.text) branches above
+                (omega arith) refl (sym at) refl in
+                ap (λ (k : ℕ). text_of names k)
+                (text-beside edges tree.nodes.items tree.links.links.items n no_edge beside above (omega arith))
+                ∙ sym
+                (ap last_of (get_or_from_slice_get fronts n (last.0 ++ text_of names edge.text ∷ []) [] last.1)
+                ∙ last-push last.0 (text_of names edge.text))
             | inr below ↦
                 let root : n ≡ 0 = omega arith in
                 ap (λ (k : ℕ). text_of names (slice_index (texts_in tree.links.links.items) k)) root
                 ∙ ap (λ (ks : List ℕ). text_of names (slice_index ks 0)) beside.texts
                 ∙ no-text names
-                ∙ sym (ap (λ (k : ℕ). last_of (get_or fronts k [])) root ∙ ap last_of (get_or_from_slice_get fronts 0 [] [] branches.steps.root))
+                ∙ sym
+                (ap (λ (k : ℕ). last_of (get_or fronts k [])) root
+                ∙ ap last_of (get_or_from_slice_get fronts 0 [] [] branches.steps.root))
           ]
           ∙ front_is;
     }

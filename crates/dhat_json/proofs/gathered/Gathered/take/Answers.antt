@@ -8,7 +8,8 @@ pub returns-then-is_some-clause-taken : goal.returns-then-is_some-clause-taken
 returns-then-is_some-clause-taken c values h =
     let old = c.args.self.now in
     let fault = which old.fault (sym c.is_some.ensures ∙ c.if-is_some.true) in
-    fault_kept old _ values (data_of c.args.item.now) (is_few old values c.if-self.false h) refl refl h fault.0 fault.1 fault.1
+    fault_kept old _ values (data_of c.args.item.now) (is_few old values c.if-self.false h) refl refl h fault.0 fault.1
+    fault.1
 
 pub returns-in-Ok-clause-taken : goal.returns-in-Ok-clause-taken
 returns-in-Ok-clause-taken c values h =
@@ -19,13 +20,16 @@ returns-in-Ok-clause-taken c values h =
     let none = is_none old.fault (sym c.is_some.ensures ∙ c.if-is_some.false) in
     let read = c.in-Ok.ensures in
     elim c.push.ensures.pushed [
-      | inl is ↦ point_taken old new values d few (ap (λ g. g.count) is) (ap (λ g. g.shape) is) h none (ap (λ g. g.fault) is ∙ none) read.0
+      | inl is ↦ point_taken old new values d few (ap (λ g. g.count) is) (ap (λ g. g.shape) is) h none
+          (ap (λ g. g.fault) is ∙ none) read.0
           (ap (λ g. g.points) is ∙ ap (λ (point : Point). old.points ++ point ∷ []) read.1)
-      | inr is ↦ fault_found old new values d few (ap (λ g. g.count) is) (ap (λ g. g.shape) is) h _ none (ap (λ g. g.fault) is) tt
+      | inr is ↦ fault_found old new values d few (ap (λ g. g.count) is) (ap (λ g. g.shape) is) h _ none
+          (ap (λ g. g.fault) is) tt
     ]
 
 pub returns-in-Err-clause-taken : goal.returns-in-Err-clause-taken
 returns-in-Err-clause-taken c values h =
     let old = c.args.self.now in
     let none = is_none old.fault (sym c.is_some.ensures ∙ c.if-is_some.false) in
-    fault_found old _ values (data_of c.args.item.now) (is_few old values c.if-self.false h) refl refl h c.in-Err.fault none refl c.in-Err.ensures
+    fault_found old _ values (data_of c.args.item.now) (is_few old values c.if-self.false h) refl refl h c.in-Err.fault
+    none refl c.in-Err.ensures

@@ -10,7 +10,8 @@ use Rattle.dhat_json.proofs.gathered.Gathered.take_items.Given as goal
 abbrev pub invariant-items : goal.invariant-items
 invariant-items l =
     (n : ℕ) × (length l.reader ≤ n) × (done : List Data)
-    × (items_ahead 125 l.initial.reader ≡ parse_map (items_before done) (converted of_items (items (value 125) n l.reader)))
+    × (items_ahead 125 l.initial.reader
+    ≡ parse_map (items_before done) (converted of_items (items (value 125) n l.reader)))
     × (HasGathered l.initial.self [] → HasGathered l.self done)
     × (l.self.shape ≡ l.initial.self.shape)
     × (length l.reader ≤ length l.initial.reader)

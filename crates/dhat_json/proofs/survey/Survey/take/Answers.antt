@@ -16,10 +16,13 @@ returns-then-eq-clause-met c =
     let name = c.args.name in
     let v = c.in_ok-table.table in
     let d = data_of v in
-    let is : name.now ≡ codes "ftbl" = (bytes_eq-Decides name.now (codes "ftbl")).0 (sym c.eq.ensures ∙ c.if-eq.true) in record {
+    let is : name.now ≡ codes "ftbl" =
+    (bytes_eq-Decides name.now (codes "ftbl")).0 (sym c.eq.ensures ∙ c.if-eq.true) in record {
       value = d;
       is = c.in_ok-table.ensures.read;
-      met = λ found met. other_met old c.keep.new.self name v found c.in_ok-keep.ensures.kept c.keep.ensures.given d c.keep.ensures.points refl (λ table. refl) (λ points. differ (sym is ∙ points)) met;
+      met =
+          λ found met. other_met old c.keep.new.self name v found c.in_ok-keep.ensures.kept c.keep.ensures.given d
+          c.keep.ensures.points refl (λ table. refl) (λ points. differ (sym is ∙ points)) met;
     }
 
 pub returns-in_err-token-clause-fault : goal.returns-in_err-token-clause-fault
@@ -34,10 +37,17 @@ returns-clause-met c =
     let name = c.args.name in
     let v = c.in_ok-outline.outline in
     let first : c.args.reader.now ≡ token_of c.in_ok-token.token ∷ c.next.new.self = grind arith in
-    let is = hollow_is (value_ahead 126 (token_of c.in_ok-token.token ∷ c.next.new.self)) (data_of v) c.outline_from.new.reader c.in_ok-outline.ensures.outlined in
-    let no_table : name.now ≡ codes "ftbl" → ⊥ = λ e. true≢false (sym ((bytes_eq-Decides name.now (codes "ftbl")).1 e) ∙ sym c.eq.ensures ∙ c.if-eq.false) in
-    let no_points : name.now ≡ codes "pps" → ⊥ = λ e. true≢false (sym ((bytes_eq-Decides name.now (codes "pps")).1 e) ∙ sym c.eq-2.ensures ∙ c.if-eq-2.false) in record {
+    let is =
+    hollow_is (value_ahead 126 (token_of c.in_ok-token.token ∷ c.next.new.self)) (data_of v) c.outline_from.new.reader
+    c.in_ok-outline.ensures.outlined in
+    let no_table : name.now ≡ codes "ftbl" → ⊥ =
+    λ e. true≢false (sym ((bytes_eq-Decides name.now (codes "ftbl")).1 e) ∙ sym c.eq.ensures ∙ c.if-eq.false) in
+    let no_points : name.now ≡ codes "pps" → ⊥ =
+    λ e. true≢false
+    (sym ((bytes_eq-Decides name.now (codes "pps")).1 e) ∙ sym c.eq-2.ensures ∙ c.if-eq-2.false) in record {
       value = is.0;
       is = ap (value_ahead 126) first ∙ is.1;
-      met = λ found met. other_met old c.keep-2.new.self name v found c.in_ok-keep-2.ensures.kept c.keep-2.ensures.given is.0 c.keep-2.ensures.points (ap hollow is.2 ∙ hollow_twice is.0) (λ e. absurd (no_table e)) no_points met;
+      met =
+          λ found met. other_met old c.keep-2.new.self name v found c.in_ok-keep-2.ensures.kept c.keep-2.ensures.given
+          is.0 c.keep-2.ensures.points (ap hollow is.2 ∙ hollow_twice is.0) (λ e. absurd (no_table e)) no_points met;
     }

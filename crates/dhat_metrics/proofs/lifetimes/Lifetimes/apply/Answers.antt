@@ -1,18 +1,32 @@
 use Rattle.std.proofs.Common.{◌≡◌, ◌+◌, ◌-◌, refl, arith}
 use Rattle.live_ledger.specs.declared.event.Event.TheVariants.{Alloc, Free}
-use Rattle.dhat_metrics.proofs.LifeLemmas.{HasMoved, TakesFree, moved-alloc, moved-free, sound-of, stands-move, stands-tick, takes-alloc, takes-free}
+use Rattle.dhat_metrics.proofs.LifeLemmas.{
+  HasMoved,
+  TakesFree,
+  moved-alloc,
+  moved-free,
+  sound-of,
+  stands-move,
+  stands-tick,
+  takes-alloc,
+  takes-free,
+}
 use Rattle.dhat_metrics.proofs.lifetimes.Lifetimes.apply.Goals as goal
 
 pub allocate-requires-clause-fits : goal.allocate-requires-clause-fits
 allocate-requires-clause-fits c =
-    (takes-alloc _ _ _ _ c.in-Alloc.info c.in-Alloc.stack c.in-Alloc.size _ c.self.view_is c.in-Alloc.is c.requires.held c.requires.possible c.possible_events.ensures c.index_mut.ensures.value).fits
+    (takes-alloc _ _ _ _ c.in-Alloc.info c.in-Alloc.stack c.in-Alloc.size _ c.self.view_is c.in-Alloc.is c.requires.held
+    c.requires.possible c.possible_events.ensures c.index_mut.ensures.value).fits
 
 -- the sums and the figures after an allocation
-allocated : (c : goal.After-self-in-Alloc-1) → HasMoved c.self.inside.events c.self.inside.lives.items c.in-Alloc.stack c.allocate.new.self (Alloc c.in-Alloc.info c.in-Alloc.stack c.in-Alloc.size)
+allocated : (c : goal.After-self-in-Alloc-1)
+    → HasMoved c.self.inside.events c.self.inside.lives.items c.in-Alloc.stack c.allocate.new.self
+    (Alloc c.in-Alloc.info c.in-Alloc.stack c.in-Alloc.size)
 allocated c =
     let few = rw (← c.self.view_is) at c.requires.count in
     moved-alloc _ _ _ _ _ _ _ few c.self.invariant
-    (takes-alloc _ _ _ _ c.in-Alloc.info c.in-Alloc.stack c.in-Alloc.size _ c.self.view_is c.in-Alloc.is c.requires.held c.requires.possible c.possible_events.ensures c.index_mut.ensures.value)
+    (takes-alloc _ _ _ _ c.in-Alloc.info c.in-Alloc.stack c.in-Alloc.size _ c.self.view_is c.in-Alloc.is c.requires.held
+    c.requires.possible c.possible_events.ensures c.index_mut.ensures.value)
     c.allocate.ensures
 
 pub invariant_of-self : goal.invariant_of-self
@@ -20,7 +34,8 @@ invariant_of-self c = (allocated c).kept
 
 pub returns-in-Alloc-clause-stands : goal.returns-in-Alloc-clause-stands
 returns-in-Alloc-clause-stands c =
-    rw (← c.self.view_is, c.in-Alloc.is) (λ events stands. stands-move _ _ events _ refl refl (allocated c).moves stands)
+    rw (← c.self.view_is, c.in-Alloc.is)
+    (λ events stands. stands-move _ _ events _ refl refl (allocated c).moves stands)
 
 pub returns-in-Alloc-clause-changes : goal.returns-in-Alloc-clause-changes
 returns-in-Alloc-clause-changes c = rw (← c.self.view_is, c.in-Alloc.is) (allocated c).moves
@@ -29,8 +44,11 @@ pub returns-in-Alloc-clause-sound : goal.returns-in-Alloc-clause-sound
 returns-in-Alloc-clause-sound c = sound-of _ _ (allocated c).kept
 
 -- the sums of a free's stack
-taken : (c : goal.After-index_mut-in-Free) → TakesFree c.self.inside.lives.items c.in-Free.stack c.in-Free.size c.index_mut-in-Free.result.now
-taken c = takes-free _ _ _ _ c.in-Free.info c.in-Free.stack c.in-Free.size _ c.self.view_is c.in-Free.is c.requires.held c.requires.possible c.possible_events.ensures c.index_mut-in-Free.ensures.value
+taken : (c : goal.After-index_mut-in-Free)
+    → TakesFree c.self.inside.lives.items c.in-Free.stack c.in-Free.size c.index_mut-in-Free.result.now
+taken c =
+    takes-free _ _ _ _ c.in-Free.info c.in-Free.stack c.in-Free.size _ c.self.view_is c.in-Free.is c.requires.held
+    c.requires.possible c.possible_events.ensures c.index_mut-in-Free.ensures.value
 
 pub free-requires-clause-sound : goal.free-requires-clause-sound
 free-requires-clause-sound c =
@@ -44,11 +62,14 @@ pub free-requires-clause-block : goal.free-requires-clause-block
 free-requires-clause-block c = (taken c).block.block
 
 -- the sums and the figures after a free
-freed : (c : goal.After-self-in-Free-2-1) → HasMoved c.self.inside.events c.self.inside.lives.items c.in-Free.stack c.free.new.self (Free c.in-Free.info c.in-Free.stack c.in-Free.size)
+freed : (c : goal.After-self-in-Free-2-1)
+    → HasMoved c.self.inside.events c.self.inside.lives.items c.in-Free.stack c.free.new.self
+    (Free c.in-Free.info c.in-Free.stack c.in-Free.size)
 freed c =
     let few = rw (← c.self.view_is) at c.requires.count in
     moved-free _ _ _ _ _ _ _ few c.self.invariant
-    (takes-free _ _ _ _ c.in-Free.info c.in-Free.stack c.in-Free.size _ c.self.view_is c.in-Free.is c.requires.held c.requires.possible c.possible_events.ensures c.index_mut-in-Free.ensures.value)
+    (takes-free _ _ _ _ c.in-Free.info c.in-Free.stack c.in-Free.size _ c.self.view_is c.in-Free.is c.requires.held
+    c.requires.possible c.possible_events.ensures c.index_mut-in-Free.ensures.value)
     c.free.ensures
 
 pub invariant_of-self-in-Free : goal.invariant_of-self-in-Free

@@ -12,7 +12,8 @@ invariant-outwards l = record {
   held : l.at ≤ length l.tables.nodes;
   known : AreKnown l.tables l.self.texts l.self.known;
   told : AreTold l.tables l.self.texts l.told;
-  adds : (later : List (List ℕ)) → AddsTexts l.self.texts (outer_texts l.tables l.at) later → AddsTexts l.initial.self.texts (frame_texts l.tables l.stack) later;
+  adds : (later : List (List ℕ)) → AddsTexts l.self.texts (outer_texts l.tables l.at) later
+      → AddsTexts l.initial.self.texts (frame_texts l.tables l.stack) later;
   first : IsBegun l.tables l.self.texts l.at l.places.items (record { stack = l.stack; start = 0 });
   legs : All (IsBegun l.tables l.self.texts l.at l.places.items) l.legs.items;
 }

@@ -14,7 +14,8 @@ invariant-reads g l = record {
   bounded : l.initial.self.given ≤ l.initial.self.input + 1;
   fault : l.self.fault ≡ None;
   same : StandsAt l.initial.self l.self;
-  rest : prepend_known l.initial.self.kept (g.S.Store.left l.initial.store) ≡ prepend_known l.self.kept (g.S.Store.left l.store);
+  rest : prepend_known l.initial.self.kept (g.S.Store.left l.initial.store)
+      ≡ prepend_known l.self.kept (g.S.Store.left l.store);
   scanned : l.scanned ≤ length l.self.kept;
   known : l.scanned ≤ position_or_len is_line_feed l.self.kept;
   files : g.S.Store.files l.store ≡ g.S.Store.files l.initial.store;

@@ -25,13 +25,19 @@ returns-in-Ok-eq0 g c =
       };
       took = record {
         rest = ap (λ s. prepend_known s.kept (g.S.Store.left c.args.store.now)) (sym inside) ∙ fill.filled.rest;
-        front = subst (λ (kept : List ℕ). take (length kept) c.fill.new.self.kept ≡ kept) (ap (λ s. s.kept) inside) fill.filled.front;
+        front =
+            subst (λ (kept : List ℕ). take (length kept) c.fill.new.self.kept ≡ kept) (ap (λ s. s.kept) inside)
+            fill.filled.front;
         bounded = search rules;
         fault = ap (λ s. s.fault) inside;
         sound = fill.filled.sound;
         more = inl refl;
-        end = λ ended. left_at_end _ _ _ _ c.in-Ok-eq0.field-0 c.in-Ok-eq0.field-0-test fill.filled.rest fill.filled.count.1 (fill.filled.end c.in-Ok-eq0.field-0-test);
-        end_kept = λ ended. kept_whole _ _ c.in-Ok-eq0.field-0 c.in-Ok-eq0.field-0-test fill.filled.front fill.filled.count.1 ∙ ap (λ s. s.kept) inside;
+        end =
+            λ ended. left_at_end _ _ _ _ c.in-Ok-eq0.field-0 c.in-Ok-eq0.field-0-test fill.filled.rest fill.filled.count.1
+            (fill.filled.end c.in-Ok-eq0.field-0-test);
+        end_kept =
+            λ ended. kept_whole _ _ c.in-Ok-eq0.field-0 c.in-Ok-eq0.field-0-test fill.filled.front fill.filled.count.1
+            ∙ ap (λ s. s.kept) inside;
         failed = tt;
         still = tt;
         kept = tt;
@@ -60,11 +66,18 @@ returns-in-Ok g c =
       };
       took = record {
         rest = ap (λ s. prepend_known s.kept (g.S.Store.left c.args.store.now)) (sym inside) ∙ fill.filled.rest;
-        front = subst (λ (kept : List ℕ). take (length kept) c.fill.new.self.kept ≡ kept) (ap (λ s. s.kept) inside) fill.filled.front;
+        front =
+            subst (λ (kept : List ℕ). take (length kept) c.fill.new.self.kept ≡ kept) (ap (λ s. s.kept) inside)
+            fill.filled.front;
         bounded = search rules;
         fault = ap (λ s. s.fault) inside;
         sound = fill.filled.sound;
-        more = inr (unended, longer_by _ _ _ c.in-Ok.field-0 (ap (λ s. length s.kept) inside) fill.filled.count.1 c.in-Ok.field-0-test.1);
+        more =
+            inr (
+              unended,
+              longer_by _ _ _ c.in-Ok.field-0 (ap (λ s. length s.kept) inside) fill.filled.count.1
+                  c.in-Ok.field-0-test.1,
+            );
         end = λ ended. absurd (false≢true (sym unended ∙ ended));
         end_kept = λ ended. absurd (false≢true (sym unended ∙ ended));
         failed = tt;
@@ -78,7 +91,9 @@ returns-in-Err g c =
     let inside = c.self.view_is in
     let fill = c.in-Err.ensures in
     let after = c.refuse.ensures.after in
-    let front : take (length c.args.self.now.kept) c.fill.new.self.kept ≡ c.args.self.now.kept = subst (λ (kept : List ℕ). take (length kept) c.fill.new.self.kept ≡ kept) (ap (λ s. s.kept) inside) fill.filled.front in
+    let front : take (length c.args.self.now.kept) c.fill.new.self.kept ≡ c.args.self.now.kept =
+    subst (λ (kept : List ℕ). take (length kept) c.fill.new.self.kept ≡ kept) (ap (λ s. s.kept) inside)
+    fill.filled.front in
     record {
       store = record {
         files = fill.store.files;
@@ -95,7 +110,9 @@ returns-in-Err g c =
         line_ended = ap (λ s. s.line_ended) after ∙ ap (λ s. s.line_ended) inside;
       };
       took = record {
-        rest = ap (λ s. prepend_known s.kept (g.S.Store.left c.args.store.now)) (sym inside) ∙ fill.filled.rest ∙ ap (λ s. prepend_known s.kept (g.S.Store.left c.fill.new.store)) (sym after);
+        rest =
+            ap (λ s. prepend_known s.kept (g.S.Store.left c.args.store.now)) (sym inside) ∙ fill.filled.rest
+            ∙ ap (λ s. prepend_known s.kept (g.S.Store.left c.fill.new.store)) (sym after);
         front = ap (λ s. take (length c.args.self.now.kept) s.kept) after ∙ front;
         bounded = search rules;
         fault = ap (λ s. s.fault) after;

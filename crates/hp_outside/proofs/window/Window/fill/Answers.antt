@@ -9,8 +9,11 @@ use Rattle.hp_outside.proofs.window.Window.fill.Goals as goal
 -- a read that failed leaves what is kept
 pub returns-in_err-count-clause-filled : goal.returns-in_err-count-clause-filled
 returns-in_err-count-clause-filled g c =
-    let same : part_of c.read_part.new.buffer.items c.make_room-self-inside.result (c.make_room-self-inside.result + (c.self.inside.end - c.self.inside.start)) ≡ c.args.self.now.kept =
-    part_of-front _ _ c.make_room-self-inside.result _ (omega arith) c.read_part.ensures.buffer.front ∙ c.make_room-self-inside.ensures.kept ∙ ap (λ w. w.kept) c.self.view_is in
+    let same : part_of c.read_part.new.buffer.items c.make_room-self-inside.result
+    (c.make_room-self-inside.result + (c.self.inside.end - c.self.inside.start))
+    ≡ c.args.self.now.kept =
+    part_of-front _ _ c.make_room-self-inside.result _ (omega arith) c.read_part.ensures.buffer.front
+    ∙ c.make_room-self-inside.ensures.kept ∙ ap (λ w. w.kept) c.self.view_is in
     let p = err_from_is_err_and c.from_residual.result c.from_residual.ensures.1 in
     record {
       most = search rules;
@@ -27,12 +30,27 @@ returns-in_err-count-clause-filled g c =
 -- a read puts what it gives behind what is kept
 pub returns-clause-filled : goal.returns-clause-filled
 returns-clause-filled g c =
-    let more : part_of c.read_part.new.buffer.items c.make_room-self-inside.result (c.make_room-self-inside.result + (c.self.inside.end - c.self.inside.start) + c.in_ok-count.count) ≡ c.args.self.now.kept ++ part_of c.read_part.new.buffer.items (c.make_room-self-inside.result + (c.self.inside.end - c.self.inside.start)) (c.make_room-self-inside.result + (c.self.inside.end - c.self.inside.start) + c.in_ok-count.count) =
-    part_of-further _ _ c.make_room-self-inside.result _ c.in_ok-count.count (omega arith) c.read_part.ensures.buffer.front
-    ∙ ap (λ l. l ++ part_of c.read_part.new.buffer.items (c.make_room-self-inside.result + (c.self.inside.end - c.self.inside.start)) (c.make_room-self-inside.result + (c.self.inside.end - c.self.inside.start) + c.in_ok-count.count)) (c.make_room-self-inside.ensures.kept ∙ ap (λ w. w.kept) c.self.view_is) in
+    let more : part_of c.read_part.new.buffer.items c.make_room-self-inside.result
+    (c.make_room-self-inside.result + (c.self.inside.end - c.self.inside.start) + c.in_ok-count.count)
+    ≡ c.args.self.now.kept
+    ++ part_of c.read_part.new.buffer.items
+    (c.make_room-self-inside.result + (c.self.inside.end - c.self.inside.start))
+    (c.make_room-self-inside.result + (c.self.inside.end - c.self.inside.start) + c.in_ok-count.count) =
+    part_of-further _ _ c.make_room-self-inside.result _ c.in_ok-count.count (omega arith)
+    c.read_part.ensures.buffer.front
+    ∙ ap (λ l. l
+    ++ part_of c.read_part.new.buffer.items (c.make_room-self-inside.result + (c.self.inside.end - c.self.inside.start))
+    (c.make_room-self-inside.result + (c.self.inside.end - c.self.inside.start) + c.in_ok-count.count))
+    (c.make_room-self-inside.ensures.kept
+    ∙ ap (λ w. w.kept) c.self.view_is) in
     let inside = c.self.inside in
-    let old : length c.args.self.now.kept ≡ inside.end - inside.start = ap (λ w. length w.kept) (sym c.self.view_is) ∙ length-part_of inside.buffer.items inside.start inside.end (omega arith) in
-    let new = length-part_of c.read_part.new.buffer.items c.make_room-self-inside.result (c.make_room-self-inside.result + (inside.end - inside.start) + c.in_ok-count.count) (omega (arith, c.in_ok-count.ensures.read.count, c.read_part.ensures.buffer.len)) in
+    let old : length c.args.self.now.kept ≡ inside.end - inside.start =
+    ap (λ w. length w.kept) (sym c.self.view_is)
+    ∙ length-part_of inside.buffer.items inside.start inside.end (omega arith) in
+    let new =
+    length-part_of c.read_part.new.buffer.items c.make_room-self-inside.result
+    (c.make_room-self-inside.result + (inside.end - inside.start) + c.in_ok-count.count)
+    (omega (arith, c.in_ok-count.ensures.read.count, c.read_part.ensures.buffer.len)) in
     record {
       most = search rules;
       rest = rest_of_read _ _ _ _ _ c.in_ok-count.ensures.read.taken more;

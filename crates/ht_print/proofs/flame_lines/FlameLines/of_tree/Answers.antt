@@ -25,7 +25,10 @@ invariant_of-result c =
       lines = c.in_ok-nodes.ensures.lines;
       text = text-of-root tree front rooted made.node made.text;
       room = record {
-        text = All-weaker (λ texts. line_bytes texts ≤ c.in_ok-longest.longest) (λ texts. length (flame_rest texts) ≤ vec_capacity front.text) (λ texts below. omega (arith, below, longest)) tree.fronts c.in_ok-longest.ensures;
+        text =
+            All-weaker (λ texts. line_bytes texts ≤ c.in_ok-longest.longest)
+            (λ texts. length (flame_rest texts) ≤ vec_capacity front.text)
+            (λ texts below. omega (arith, below, longest)) tree.fronts c.in_ok-longest.ensures;
         path = λ k d within.
             let short = c.requires.1.short k (get_or tree.fronts k d) (slice_get-get_or tree.fronts k d within) in
             omega (arith, short, deepest);

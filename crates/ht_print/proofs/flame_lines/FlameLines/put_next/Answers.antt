@@ -20,6 +20,10 @@ returns-clause-given c =
     let text = c.go_to.ensures.text.text ∙ ap (λ (k : ℕ). flame_rest (front_at tree k)) c.go_to.ensures.node in
     record {
       given = line_at tree n;
-      appended = c.in_ok-put_line.ensures.appended ∙ ap (λ (bytes : List ℕ). c.args.out.now.items ++ bytes) (line-is tree n c.node.result c.path.result.now has c.node.ensures.node (c.path.ensures.path (front_at tree n) text));
+      appended =
+          c.in_ok-put_line.ensures.appended
+          ∙ ap (λ (bytes : List ℕ). c.args.out.now.items ++ bytes)
+          (line-is tree n c.node.result c.path.result.now has c.node.ensures.node
+          (c.path.ensures.path (front_at tree n) text));
       left = ap (λ (state : FlameState). state.rest) (sym c.self.view_is) ∙ next-line tree nodes given n within same;
     }

@@ -6,8 +6,12 @@ use Rattle.ht_print.proofs.front_text.FrontText.go_to.Goals as goal
 
 pub put_rest-requires-clause-room : goal.put_rest-requires-clause-room
 put_rest-requires-clause-room c =
-    let fits = rest-fits c.args.tree.now c.args.n c.cut_back.new.self c.requires.tree c.requires.held c.cut_back.ensures.left c.cut_back.ensures.room in
-    let path = ap (λ (ns : List ℕ). Rattle.std.proofs.Common.length (flame_rest (map (last_text c.args.tree.now) ns))) c.deref.ensures.value in
+    let fits =
+    rest-fits c.args.tree.now c.args.n c.cut_back.new.self c.requires.tree c.requires.held c.cut_back.ensures.left
+    c.cut_back.ensures.room in
+    let path =
+    ap (λ (ns : List ℕ). Rattle.std.proofs.Common.length (flame_rest (map (last_text c.args.tree.now) ns)))
+    c.deref.ensures.value in
     omega (arith, fits, path)
 
 pub returns-clause-text : goal.returns-clause-text
@@ -26,4 +30,6 @@ returns-clause-text c =
     }
 
 pub returns-clause-room : goal.returns-clause-room
-returns-clause-room c = room-kept c.args.tree.now c.cut_back.new.self _ (record { text = c.put_rest.ensures.capacity; path = Rattle.std.proofs.Common.refl }) c.cut_back.ensures.room
+returns-clause-room c =
+    room-kept c.args.tree.now c.cut_back.new.self _
+    (record { text = c.put_rest.ensures.capacity; path = Rattle.std.proofs.Common.refl }) c.cut_back.ensures.room

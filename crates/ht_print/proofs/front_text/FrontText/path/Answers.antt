@@ -14,6 +14,8 @@ returns-in-Some c =
 
 pub returns-in-None : goal.returns-in-None
 returns-in-None c = record {
-  path = λ front is. path-none front (sym (nothing-held c.deref.result.now c.in-None.ensures.cases) ∙ c.deref.ensures.value ∙ is);
+  path =
+      λ front is. path-none front
+      (sym (nothing-held c.deref.result.now c.in-None.ensures.cases) ∙ c.deref.ensures.value ∙ is);
   within = omega arith;
 }

@@ -8,7 +8,8 @@ returns-then-begins_with_one c = λ patterns are.
     let from : ℕ = c.each_place.from in
     let text : List ℕ = c.args.text.now in
     let pattern_of = λ (pattern : Bor (List ℕ)). pattern.now in
-    let left : take (length text - from) (drop from text) ≡ drop from text = take_all (length text - from) (drop from text) (omega (arith, length-drop from text)) in
+    let left : take (length text - from) (drop from text) ≡ drop from text =
+    take_all (length text - from) (drop from text) (omega (arith, length-drop from text)) in
     sym (somewhere patterns text from (omega arith)
     (sym (are.same (drop from text))
     ∙ ap (λ (ps : List (Bor (List ℕ))). begins_any pattern_of ps (drop from text)) (sym c.deref.ensures.value)
@@ -17,4 +18,5 @@ returns-then-begins_with_one c = λ patterns are.
 
 pub returns : goal.returns
 returns c = λ patterns are.
-    sym (nowhere patterns c.args.text.now (λ k within. sym (are.same (drop k c.args.text.now)) ∙ c.each_place.invariant k (omega (arith, within))))
+    sym (nowhere patterns c.args.text.now
+    (λ k within. sym (are.same (drop k c.args.text.now)) ∙ c.each_place.invariant k (omega (arith, within))))

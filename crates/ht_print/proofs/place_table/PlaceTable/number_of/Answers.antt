@@ -12,19 +12,27 @@ returns-then-known-gt0-clause-place c =
     let count = are.count in
     let held = c.in-Some.ensures.instruction in
     let at : slice_get known c.in-Some.instruction ≡ Some (suc (c.index-known.result.now - 1)) =
-    slice_get-get_or known c.in-Some.instruction c.index-known.result.now (omega arith) ∙ ap (λ (n : ℕ). Some n) (sym c.index-known.ensures ∙ omega arith) in
+    slice_get-get_or known c.in-Some.instruction c.index-known.result.now (omega arith)
+    ∙ ap (λ (n : ℕ). Some n) (sym c.index-known.ensures ∙ omega arith) in
     are.told c.in-Some.instruction (c.index-known.result.now - 1) at
-    ∙ ap (λ (text : List ℕ). Some text) (sym (place-by c.args.tables.now c.args.stack c.in-Some.instruction _ c.in-Some.ensures.frames c.in-Some.ensures.some_frame))
+    ∙ ap (λ (text : List ℕ). Some text)
+    (sym (place-by c.args.tables.now c.args.stack c.in-Some.instruction _ c.in-Some.ensures.frames
+    c.in-Some.ensures.some_frame))
 
 pub returns-clause-table : goal.returns-clause-table
 returns-clause-table c =
     let tables = c.args.tables.now in
     let told = c.in_ok-number.ensures in
-    let own : slice_get (names_of tables c.number_of_text-2.new.self) c.in_ok-number.number ≡ Some (instruction_place tables c.in-Some.instruction) =
-    told.place ∙ ap (λ (text : List ℕ). Some text) (place-by tables c.args.stack c.in-Some.instruction _ c.in-Some.ensures.frames c.in-Some.ensures.some_frame) in
+    let own : slice_get (names_of tables c.number_of_text-2.new.self) c.in_ok-number.number
+    ≡ Some (instruction_place tables c.in-Some.instruction) =
+    told.place
+    ∙ ap (λ (text : List ℕ). Some text)
+    (place-by tables c.args.stack c.in-Some.instruction _ c.in-Some.ensures.frames c.in-Some.ensures.some_frame) in
     record {
       held = told.table.held;
       distinct = told.table.distinct;
       bucketed = told.table.bucketed;
-      known = known-more tables (names_of tables c.number_of_text-2.new.self) c.number_of_text-2.new.self.known.items c.in-Some.instruction c.in_ok-number.number own told.table.known;
+      known =
+          known-more tables (names_of tables c.number_of_text-2.new.self) c.number_of_text-2.new.self.known.items
+          c.in-Some.instruction c.in_ok-number.number own told.table.known;
     }

@@ -11,5 +11,6 @@ returns-clause-names_stay c =
     let old = c.args.self.now in
     let new = c.add.new.self in
     on_ok_weaker c.add.result
-    (λ stacks. names-stay (names_of tables old) (names_of tables new) (place_of tables c.args.stack ∷ []) (names-more tables old new c.args.stack stacks))
+    (λ stacks. names-stay (names_of tables old) (names_of tables new) (place_of tables c.args.stack ∷ [])
+    (names-more tables old new c.args.stack stacks))
     c.add.ensures.stacks

@@ -12,5 +12,6 @@ returns c =
     let count = c.stacks-stack-end.ensures.count in
     let all = c.stacks.ensures.count in
     let names = length-map table.stacks.items (place_of tables) in
-    tell-places tables (names_of tables table) _ c.each_stack.invariant.table.distinct (let so-far = c.each_stack.invariant.count in omega arith) (c.len.ensures ∙ omega arith)
+    tell-places tables (names_of tables table) _ c.each_stack.invariant.table.distinct
+    (let so-far = c.each_stack.invariant.count in omega arith) (c.len.ensures ∙ omega arith)
     (λ stack within. c.each_stack.invariant.told stack (omega arith))

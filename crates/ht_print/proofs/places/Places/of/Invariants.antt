@@ -10,5 +10,6 @@ invariant-each_stack l = record {
   count : length l.numbers.items ≡ l.stack;
   few : length l.table.stacks.items ≤ l.stack;
   table : IsTable l.tables l.table;
-  told : (n : ℕ) → n < l.stack → slice_get (names_of l.tables l.table) (slice_index l.numbers.items n) ≡ Some (place_of l.tables n);
+  told : (n : ℕ) → n < l.stack
+      → slice_get (names_of l.tables l.table) (slice_index l.numbers.items n) ≡ Some (place_of l.tables n);
 }

@@ -9,4 +9,5 @@ returns c = λ events stands.
     summary_by c.totals.result c.peak_total.result c.peak_moment.result events
     (c.totals.ensures.figures events (subst (λ ledger. HasTotals ledger events) (sym c.ledger.ensures) stands.ledger))
     (c.peak_moment.ensures.peak events stands)
-    (c.peak_total.ensures.total events stands ∙ ap (λ moment. total_after moment events) (sym c.peak_moment.ensures.value))
+    (c.peak_total.ensures.total events stands
+    ∙ ap (λ moment. total_after moment events) (sym c.peak_moment.ensures.value))

@@ -21,5 +21,7 @@ returns-clause-some_frame c =
     let table = c.self.inside in
     let held = subst (λ (t : TableState). c.args.stack ≤ length t.nodes) (sym c.self.view_is) c.requires in
     MatchResult-weaker c.replace_by_stack.result c.replace_by_stack.ensures.frames
-    (λ done is. let some = some-stack-frame table.version (length table.strings) table.instructions table.nodes table.infos c.args.stack c.self.invariant held in omega (arith, some, ap (λ (places : List FrameAt). length places) is))
+    (λ done is. let some = some-stack-frame table.version (length table.strings) table.instructions table.nodes
+    table.infos c.args.stack c.self.invariant held in omega
+    (arith, some, ap (λ (places : List FrameAt). length places) is))
     (λ error all. all)

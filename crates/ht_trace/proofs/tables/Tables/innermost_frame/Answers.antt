@@ -12,4 +12,5 @@ returns-in-Some-clause-first c =
 pub returns-in-Some-clause-place : goal.returns-in-Some-clause-place
 returns-in-Some-clause-place c =
     let tables = c.args.self.now in
-    first-place tables.instructions tables.nodes c.args.stack (record { instruction = c.in-Some.instruction; index = 0 }) (returns-in-Some-clause-first c)
+    first-place tables.instructions tables.nodes c.args.stack
+    (record { instruction = c.in-Some.instruction; index = 0 }) (returns-in-Some-clause-first c)

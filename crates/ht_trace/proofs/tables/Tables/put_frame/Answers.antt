@@ -8,4 +8,7 @@ pub returns-clause-appended : goal.returns-clause-appended
 unfolding frame_text
 returns-clause-appended c =
     MatchResult-weaker c.put_text.result c.put_text.ensures.appended
-    (λ done is. subst (λ (t : TableState). c.put_text.new.out.items ≡ c.args.out.now.items ++ frame_text c.args.style t c.args.at.now) c.self.view_is is) (λ error all. all)
+    (λ done is. subst
+    (λ (t : TableState). c.put_text.new.out.items ≡ c.args.out.now.items ++ frame_text c.args.style t c.args.at.now)
+    c.self.view_is is)
+    (λ error all. all)

@@ -5,13 +5,15 @@ use Rattle.intern_tables.proofs.Tables.{Grows, grows-insert, length-names_of, re
 use Rattle.intern_tables.proofs.names.Names.intern.Goals as goal
 
 pub returns-in-Some-clause-without_repeats : goal.returns-in-Some-clause-without_repeats
-returns-in-Some-clause-without_repeats c = λ came same. repeats-present c.args.self.now came c.args.bytes.now (c.in-Some.ensures.found.0 refl) same
+returns-in-Some-clause-without_repeats c =
+    λ came same. repeats-present c.args.self.now came c.args.bytes.now (c.in-Some.ensures.found.0 refl) same
 
 -- the names after a new one is inserted
 grown : (c : goal.After-len) → Grows c.args.self.now c.args.bytes.now (names_of c.insert.new.self.keys)
 grown c =
     grows-insert c.self.inside.names.keys c.insert.new.self.keys c.args.self.now c.in_ok-name.name c.args.bytes.now
-    c.self.view_is c.find.ensures.distinct (λ held. false≢true (c.in_default.ensures.found.1 held)) c.in_ok-name.ensures.items c.in_ok-insert.ensures.keys
+    c.self.view_is c.find.ensures.distinct (λ held. false≢true (c.in_default.ensures.found.1 held))
+    c.in_ok-name.ensures.items c.in_ok-insert.ensures.keys
 
 pub invariant_of-self-2 : goal.invariant_of-self-2
 invariant_of-self-2 c = let new = grown c in record { distinct = new.distinct; few = omega arith }

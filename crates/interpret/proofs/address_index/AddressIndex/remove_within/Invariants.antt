@@ -4,7 +4,8 @@ use Rattle.interpret.proofs.address_index.AddressIndex.remove_within.Given as go
 
 -- nothing is removed outside
 abbrev pub invariant-changes : goal.invariant-changes
-invariant-changes l = (from : ℕ) → (from < l.begin) ⊎ (l.end ≤ from) → change_at l.self from ≡ change_at l.initial.self from
+invariant-changes l =
+    (from : ℕ) → (from < l.begin) ⊎ (l.end ≤ from) → change_at l.self from ≡ change_at l.initial.self from
 
 abbrev pub decreases-changes : goal.decreases-changes
 decreases-changes l = length l.self.changes.entries

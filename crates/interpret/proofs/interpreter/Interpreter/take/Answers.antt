@@ -7,7 +7,9 @@ pub returns-in-Version-clause-answers : goal.returns-in-Version-clause-answers
 returns-in-Version-clause-answers c = rw c.in-Version.is (c.set_version.ensures.answers c.args.line.now)
 
 pub returns-in-ModuleClear-clause-answers : goal.returns-in-ModuleClear-clause-answers
-returns-in-ModuleClear-clause-answers c = rw c.in-ModuleClear.is (record { takes = c.clear_modules.ensures c.args.line.now c.args.out.now.items; refuses = tt })
+returns-in-ModuleClear-clause-answers c =
+    rw c.in-ModuleClear.is
+    (record { takes = c.clear_modules.ensures c.args.line.now c.args.out.now.items; refuses = tt })
 
 pub returns-in-Module-clause-answers : goal.returns-in-Module-clause-answers
 returns-in-Module-clause-answers c = rw c.in-Module.is (c.add_module.ensures c.args.out.now c.args.line.now)
@@ -27,5 +29,6 @@ returns-in-Executable-clause-answers c = record {
       (λ done wrote. takes-passed c.args.self.now c.args.item.now c.args.line.now _ _ c.in-Executable.is wrote)
       (λ error all. all);
   refuses = MatchResult-weaker c.put_line.result c.put_line.ensures.only (λ done all. all)
-      (λ error is. record { fault = λ other. absurd (other is); unchanged = λ one two. refl; symbols = refl; failed = refl });
+      (λ error
+      is. record { fault = λ other. absurd (other is); unchanged = λ one two. refl; symbols = refl; failed = refl });
 }

@@ -7,7 +7,9 @@ returns-in-Allocation c = rw c.in-Allocation.is c.allocate_held.ensures
 pub returns-in-Free : goal.returns-in-Free
 returns-in-Free c =
     rw c.in-Free.is (record {
-      taken = λ taken line. ok-holds c.free.result c.is_ok.result c.is_ok.ensures.value taken (c.free.ensures.answers line).takes;
+      taken =
+          λ taken line. ok-holds c.free.result c.is_ok.result c.is_ok.ensures.value taken
+          (c.free.ensures.answers line).takes;
       untaken = λ not. err-holds c.free.result c.is_ok.result c.is_ok.ensures.value not c.free.ensures.untaken;
       unwritten = λ not. err-holds c.free.result c.is_ok.result c.is_ok.ensures.value not c.free.ensures.unwritten;
     })

@@ -12,20 +12,31 @@ not_zero ip some = grind (arith, nat_tests)
 
 pub returns-in_err-place-clause-none : goal.returns-in_err-place-clause-none
 returns-in_err-place-clause-none c =
-    rw c.from_residual.ensures (subst (λ (held : List KnownIp). list_any (λ (k : KnownIp). c.args.ip == k.ip) held ≡ false) c.self.view_is
-    (known-any c.self.inside.frames.entries c.args.ip ∙ position-none (λ (k : ℕ). c.args.ip == k) (keys_of c.self.inside.frames.entries) (sym c.in_err-place.ensures.index)))
+    rw c.from_residual.ensures
+    (subst (λ (held : List KnownIp). list_any (λ (k : KnownIp). c.args.ip == k.ip) held ≡ false) c.self.view_is
+    (known-any c.self.inside.frames.entries c.args.ip
+    ∙ position-none (λ (k : ℕ). c.args.ip == k) (keys_of c.self.inside.frames.entries)
+    (sym c.in_err-place.ensures.index)))
 
 pub returns-clause-some : goal.returns-clause-some
 returns-clause-some c =
     subst (λ (held : List KnownIp). list_any (λ (k : KnownIp). c.args.ip == k.ip) held ≡ true) c.self.view_is
-    (known-any c.self.inside.frames.entries c.args.ip ∙ (position-some (λ (k : ℕ). c.args.ip == k) (keys_of c.self.inside.frames.entries) c.in_ok-place.place (sym c.in_ok-place.ensures.index)).0)
+    (known-any c.self.inside.frames.entries c.args.ip
+    ∙ (position-some (λ (k : ℕ). c.args.ip == k) (keys_of c.self.inside.frames.entries) c.in_ok-place.place
+    (sym c.in_ok-place.ensures.index)).0)
 
 pub returns-clause-number : goal.returns-clause-number
 returns-clause-number c =
     subst (λ (held : List KnownIp). c.in_ok-place.place + 1 ≡ ip_number held c.args.ip) c.self.view_is
-    (rw (not_zero c.args.ip c.requires.some) (ap (λ (n : ℕ). n + 1) (sym (known-place c.self.inside.frames.entries c.args.ip ∙ (position-some (λ (k : ℕ). c.args.ip == k) (keys_of c.self.inside.frames.entries) c.in_ok-place.place (sym c.in_ok-place.ensures.index)).1))))
+    (rw (not_zero c.args.ip c.requires.some)
+    (ap (λ (n : ℕ). n + 1)
+    (sym (known-place c.self.inside.frames.entries c.args.ip
+    ∙ (position-some (λ (k : ℕ). c.args.ip == k) (keys_of c.self.inside.frames.entries) c.in_ok-place.place
+    (sym c.in_ok-place.ensures.index)).1))))
 
 pub returns-clause-frames : goal.returns-clause-frames
 returns-clause-frames c =
     subst (λ (held : List KnownIp). c.in_ok-place.frames.now ≡ ip_frames held c.args.ip) c.self.view_is
-    (rw (not_zero c.args.ip c.requires.some) (ap (λ (o : Option ℕ). unwrap_or o 1) (c.in_ok-place.ensures.value ∙ sym (known-frames c.self.inside.frames.entries c.args.ip))))
+    (rw (not_zero c.args.ip c.requires.some)
+    (ap (λ (o : Option ℕ). unwrap_or o 1)
+    (c.in_ok-place.ensures.value ∙ sym (known-frames c.self.inside.frames.entries c.args.ip))))

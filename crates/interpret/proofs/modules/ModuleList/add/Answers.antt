@@ -20,13 +20,22 @@ count c =
     c.len-place.ensures ∙ c.reserve.ensures.len ∙ held
 
 -- it is put over all others
-put : (c : goal.In_ok-push) (ip : ℕ) → holder_at c.put_ranges.new.index ip ≡ (if list_any (in_range ip) (entry c).ranges.items then Some (length c.self.inside.entries.items) else holder_at c.self.inside.index ip)
+put : (c : goal.In_ok-push) (ip : ℕ)
+    → holder_at c.put_ranges.new.index ip
+    ≡ (if list_any (in_range ip) (entry c).ranges.items then Some (length c.self.inside.entries.items) else holder_at
+    c.self.inside.index ip)
 put c ip =
     c.in_default.ensures ip
-    ∙ ap (λ (ranges : List AddressRange). if list_any (in_range ip) ranges then Some c.len-place.result else holder_at c.self.inside.index ip) c.deref.ensures.value
-    ∙ ap (λ (place : ℕ). if list_any (in_range ip) (entry c).ranges.items then Some place else holder_at c.self.inside.index ip) (count c)
+    ∙ ap (λ (ranges : List AddressRange). if list_any (in_range ip) ranges then Some c.len-place.result else holder_at
+    c.self.inside.index ip) c.deref.ensures.value
+    ∙ ap (λ (place : ℕ). if list_any (in_range ip) (entry c).ranges.items then Some place else holder_at
+    c.self.inside.index ip) (count
+    c)
 
 pub invariant_of-self-2 : goal.invariant_of-self-2
 invariant_of-self-2 c =
-    let pushed = c.in_ok-push.ensures.items ∙ ap (λ (es : List ModuleEntry). es ++ entry c ∷ []) c.reserve.ensures.items in
-    subst (λ (es : List ModuleEntry). AreHeld es c.put_ranges.new.index) (sym pushed) (held-push c.self.inside.entries.items (entry c) c.self.inside.index c.put_ranges.new.index c.self.invariant (put c))
+    let pushed =
+    c.in_ok-push.ensures.items ∙ ap (λ (es : List ModuleEntry). es ++ entry c ∷ []) c.reserve.ensures.items in
+    subst (λ (es : List ModuleEntry). AreHeld es c.put_ranges.new.index) (sym pushed)
+    (held-push c.self.inside.entries.items (entry c) c.self.inside.index c.put_ranges.new.index c.self.invariant
+    (put c))

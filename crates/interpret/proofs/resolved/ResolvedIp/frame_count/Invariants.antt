@@ -7,7 +7,8 @@ use Rattle.interpret.proofs.resolved.ResolvedIp.frame_count.Given as goal
 -- the frames so far and those that are left are all
 abbrev pub invariant-frames : goal.invariant-frames
 invariant-frames l = record {
-  counted : l.count + length (frames_of (following (option_copied l.rest))) ≡ length (frames_of (following (option_copied l.self.texts)));
+  counted : l.count + length (frames_of (following (option_copied l.rest)))
+      ≡ length (frames_of (following (option_copied l.self.texts)));
   few : l.count ≤ 4097;
 }
 

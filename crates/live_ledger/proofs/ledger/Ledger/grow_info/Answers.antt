@@ -11,7 +11,8 @@ invariant_of-self-2 c =
 
 pub returns-clause-stands : goal.returns-clause-stands
 returns-clause-stands c =
-    rw (← c.self.view_is) (λ events stands. stands-same _ _ events (c.grow_info.ensures.stands events stands.whole) (λ stack. refl) stands)
+    rw (← c.self.view_is)
+    (λ events stands. stands-same _ _ events (c.grow_info.ensures.stands events stands.whole) (λ stack. refl) stands)
 
 pub returns-clause-sound : goal.returns-clause-sound
 returns-clause-sound c =

@@ -11,20 +11,27 @@ use Rattle.live_ledger.proofs.totals_ledger.TotalsLedger.allocate.Goals as goal
 pub index_mut-entry-requires : goal.index_mut-entry-requires
 index_mut-entry-requires c =
     let held = rw (← c.self.view_is) at c.requires.held in
-    omega (arith, entry-within c.self.inside.infos.items c.args.info (record { stack = held.0; size = c.args.size }) held.1)
+    omega (
+      arith,
+      entry-within c.self.inside.infos.items c.args.info (record { stack = held.0; size = c.args.size }) held.1,
+    )
 
 pub overflow_add-entry : goal.overflow_add-entry
 overflow_add-entry c =
     let held = rw (← c.self.view_is) at c.requires.held in
     let count = rw (← c.self.view_is) at c.requires.count in
-    let entry = entry-is_held c.self.inside.infos.items c.args.info held.0 c.args.size c.index_mut-entry.result.now held.1 c.index_mut-entry.ensures.value in
+    let entry =
+    entry-is_held c.self.inside.infos.items c.args.info held.0 c.args.size c.index_mut-entry.result.now held.1
+    c.index_mut-entry.ensures.value in
     omega (arith, (entry-fits _ _ _ _ _ _ _ c.self.invariant entry count).0)
 
 pub overflow_add-entry-2 : goal.overflow_add-entry-2
 overflow_add-entry-2 c =
     let held = rw (← c.self.view_is) at c.requires.held in
     let count = rw (← c.self.view_is) at c.requires.count in
-    let entry = entry-is_held c.self.inside.infos.items c.args.info held.0 c.args.size c.index_mut-entry.result.now held.1 c.index_mut-entry.ensures.value in
+    let entry =
+    entry-is_held c.self.inside.infos.items c.args.info held.0 c.args.size c.index_mut-entry.result.now held.1
+    c.index_mut-entry.ensures.value in
     omega (arith, (entry-fits _ _ _ _ _ _ _ c.self.invariant entry count).1)
 
 pub invariant_of-self : goal.invariant_of-self
@@ -32,22 +39,30 @@ invariant_of-self c =
     let fits = rw (← c.self.view_is) at c.requires.fits in
     let count = rw (← c.self.view_is) at c.requires.count in
     let held = rw (← c.self.view_is) at c.requires.held in
-    let entry = entry-is_held c.self.inside.infos.items c.args.info held.0 c.args.size c.index_mut-entry.result.now held.1 c.index_mut-entry.ensures.value in
+    let entry =
+    entry-is_held c.self.inside.infos.items c.args.info held.0 c.args.size c.index_mut-entry.result.now held.1
+    c.index_mut-entry.ensures.value in
     rw c.allocate.ensures (kept-alloc _ _ _ _ _ _ _ c.self.invariant entry fits count)
 
 pub returns-clause-after : goal.returns-clause-after
 returns-clause-after c =
     let held = rw (← c.self.view_is) at c.requires.held in
     let inside = c.self.inside in
-    let entry = entry-is_held inside.infos.items c.args.info held.0 c.args.size c.index_mut-entry.result.now held.1 c.index_mut-entry.ensures.value in
+    let entry =
+    entry-is_held inside.infos.items c.args.info held.0 c.args.size c.index_mut-entry.result.now held.1
+    c.index_mut-entry.ensures.value in
     let whole = whole_of inside.stacks inside.infos.items inside.sums inside.last_allocated in
     rw (← c.self.view_is, c.allocate.ensures)
-    (ap (λ (e : InfoEntry). whole_of inside.stacks (set inside.infos.items c.args.info (one_more e)) (with_alloc inside.sums c.args.size) (Some c.args.info)) (entry-read whole c.args.info c.index_mut-entry.result.now entry.within entry.is))
+    (ap (λ (e : InfoEntry). whole_of inside.stacks (set inside.infos.items c.args.info (one_more e))
+    (with_alloc inside.sums c.args.size) (Some c.args.info)) (entry-read
+    whole c.args.info c.index_mut-entry.result.now entry.within entry.is))
 
 pub returns-clause-sound : goal.returns-clause-sound
 returns-clause-sound c =
     let fits = rw (← c.self.view_is) at c.requires.fits in
     let count = rw (← c.self.view_is) at c.requires.count in
     let held = rw (← c.self.view_is) at c.requires.held in
-    let entry = entry-is_held c.self.inside.infos.items c.args.info held.0 c.args.size c.index_mut-entry.result.now held.1 c.index_mut-entry.ensures.value in
+    let entry =
+    entry-is_held c.self.inside.infos.items c.args.info held.0 c.args.size c.index_mut-entry.result.now held.1
+    c.index_mut-entry.ensures.value in
     rw c.allocate.ensures (kept-alloc _ _ _ _ _ _ _ c.self.invariant entry fits count)

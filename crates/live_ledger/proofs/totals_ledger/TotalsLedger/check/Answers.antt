@@ -14,33 +14,58 @@ use Rattle.live_ledger.proofs.totals_ledger.TotalsLedger.check.Goals as goal
 pub index-requires : goal.index-requires
 index-requires c =
     let held = rw (← c.self.view_is, c.in-Free.is) at c.requires.held in
-    omega (arith, entry-within c.self.inside.infos.items c.in-Free.info (record { stack = c.in-Free.stack; size = c.in-Free.size }) held)
+    omega (
+      arith,
+      entry-within c.self.inside.infos.items c.in-Free.info (record { stack = c.in-Free.stack; size = c.in-Free.size })
+          held,
+    )
 
 pub returns-else-size-self-clause-possible : goal.returns-else-size-self-clause-possible
 returns-else-size-self-clause-possible c =
-    let figures : None ≡ fault_at (ledger_of c.args.self.now) c.args.event = rw (← c.self.view_is, c.in-Alloc.is) (fits-alloc _ _ c.self.invariant.allocated_within (omega (arith, c.if-size-self.false))) in
+    let figures : None ≡ fault_at (ledger_of c.args.self.now) c.args.event =
+    rw (← c.self.view_is, c.in-Alloc.is)
+    (fits-alloc _ _ c.self.invariant.allocated_within (omega (arith, c.if-size-self.false))) in
     λ events stands. possible-more _ events _ c.requires.held stands (sym (figures ∙ fault_at-is _ events _ stands))
 
 pub returns-in-Tick-clause-possible : goal.returns-in-Tick-clause-possible
-returns-in-Tick-clause-possible c = λ events stands. possible-more _ events _ c.requires.held stands (rw c.in-Tick.is refl)
+returns-in-Tick-clause-possible c =
+    λ events stands. possible-more _ events _ c.requires.held stands (rw c.in-Tick.is refl)
 
 pub returns-then-index-eq0 : goal.returns-then-index-eq0
 returns-then-index-eq0 c =
     let held = rw (← c.self.view_is, c.in-Free.is) at c.requires.held in
     let within = entry-within c.self.inside.infos.items c.in-Free.info _ held in
-    let entry = fault-of_entry (whole_of c.self.inside.stacks c.self.inside.infos.items c.self.inside.sums c.self.inside.last_allocated) c.in-Free.info c.in-Free.stack c.in-Free.size c.index.result.now within c.index.ensures in
-    let figures : Some FreeOfNothing ≡ fault_at (ledger_of c.args.self.now) c.args.event = rw (← c.self.view_is, c.in-Free.is, entry, c.if-index-eq0.true) refl in
-    record { by_figures = figures; fault = λ events stands. figures ∙ fault_at-is _ events _ stands; possible = tt; sound = rw (← c.self.view_is) c.self.invariant }
+    let entry =
+    fault-of_entry
+    (whole_of c.self.inside.stacks c.self.inside.infos.items c.self.inside.sums c.self.inside.last_allocated)
+    c.in-Free.info c.in-Free.stack c.in-Free.size c.index.result.now within c.index.ensures in
+    let figures : Some FreeOfNothing ≡ fault_at (ledger_of c.args.self.now) c.args.event =
+    rw (← c.self.view_is, c.in-Free.is, entry, c.if-index-eq0.true) refl in
+    record {
+      by_figures = figures;
+      fault =
+          λ events stands. figures ∙ fault_at-is _ events _ stands;
+      possible = tt;
+      sound = rw (← c.self.view_is) c.self.invariant;
+    }
 
 pub returns-else-index-eq0 : goal.returns-else-index-eq0
 returns-else-index-eq0 c =
     let held = rw (← c.self.view_is, c.in-Free.is) at c.requires.held in
     let within = entry-within c.self.inside.infos.items c.in-Free.info _ held in
-    let entry = fault-of_entry (whole_of c.self.inside.stacks c.self.inside.infos.items c.self.inside.sums c.self.inside.last_allocated) c.in-Free.info c.in-Free.stack c.in-Free.size c.index.result.now within c.index.ensures in
-    let figures : None ≡ fault_at (ledger_of c.args.self.now) c.args.event = rw (← c.self.view_is, c.in-Free.is, entry) (ap (λ (b : Bool). cond {A = Option EventFault} b (Some FreeOfNothing) None) (sym (ne_eqb _ _ c.if-index-eq0.false))) in
+    let entry =
+    fault-of_entry
+    (whole_of c.self.inside.stacks c.self.inside.infos.items c.self.inside.sums c.self.inside.last_allocated)
+    c.in-Free.info c.in-Free.stack c.in-Free.size c.index.result.now within c.index.ensures in
+    let figures : None ≡ fault_at (ledger_of c.args.self.now) c.args.event =
+    rw (← c.self.view_is, c.in-Free.is, entry)
+    (ap (λ (b : Bool). cond {A = Option EventFault} b (Some FreeOfNothing) None)
+    (sym (ne_eqb _ _ c.if-index-eq0.false))) in
     record {
       by_figures = figures;
       fault = λ events stands. figures ∙ fault_at-is _ events _ stands;
-      possible = λ events stands. possible-more _ events _ c.requires.held stands (sym (figures ∙ fault_at-is _ events _ stands));
+      possible =
+          λ events stands. possible-more _ events _ c.requires.held stands
+          (sym (figures ∙ fault_at-is _ events _ stands));
       sound = rw (← c.self.view_is) c.self.invariant;
     }

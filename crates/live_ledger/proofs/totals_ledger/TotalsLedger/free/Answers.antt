@@ -13,12 +13,17 @@ use Rattle.live_ledger.proofs.totals_ledger.TotalsLedger.free.Goals as goal
 pub index_mut-requires : goal.index_mut-requires
 index_mut-requires c =
     let held = rw (← c.self.view_is) at c.requires.held in
-    omega (arith, entry-within c.self.inside.infos.items c.args.info (record { stack = held.0; size = c.args.size }) held.1)
+    omega (
+      arith,
+      entry-within c.self.inside.infos.items c.args.info (record { stack = held.0; size = c.args.size }) held.1,
+    )
 
 pub free-requires-clause-freed : goal.free-requires-clause-freed
 free-requires-clause-freed c =
     let held = rw (← c.self.view_is) at c.requires.held in
-    let entry = entry-is_held c.self.inside.infos.items c.args.info held.0 c.args.size c.index_mut.result.now held.1 c.index_mut.ensures.value in
+    let entry =
+    entry-is_held c.self.inside.infos.items c.args.info held.0 c.args.size c.index_mut.result.now held.1
+    c.index_mut.ensures.value in
     let live = entry-live _ _ _ _ _ entry (rw (← c.self.view_is) at c.requires.live) in
     let few : c.from-ended.result ≤ 1 = omega (arith, c.from-ended.ensures, (byte-is c.eq.result).1) in
     (free-fits_whole _ _ _ _ _ _ _ _ c.self.invariant entry live few).freed
@@ -27,7 +32,9 @@ pub invariant_of-self : goal.invariant_of-self
 invariant_of-self c =
     let count = rw (← c.self.view_is) at c.requires.count in
     let held = rw (← c.self.view_is) at c.requires.held in
-    let entry = entry-is_held c.self.inside.infos.items c.args.info held.0 c.args.size c.index_mut.result.now held.1 c.index_mut.ensures.value in
+    let entry =
+    entry-is_held c.self.inside.infos.items c.args.info held.0 c.args.size c.index_mut.result.now held.1
+    c.index_mut.ensures.value in
     let live = entry-live _ _ _ _ _ entry (rw (← c.self.view_is) at c.requires.live) in
     let few : c.from-ended.result ≤ 1 = omega (arith, c.from-ended.ensures, (byte-is c.eq.result).1) in
     rw c.free.ensures (kept-free _ _ _ _ _ _ _ _ c.self.invariant entry live few count)
@@ -39,17 +46,24 @@ pub returns-clause-after : goal.returns-clause-after
 returns-clause-after c =
     let held = rw (← c.self.view_is) at c.requires.held in
     let inside = c.self.inside in
-    let entry = entry-is_held inside.infos.items c.args.info held.0 c.args.size c.index_mut.result.now held.1 c.index_mut.ensures.value in
+    let entry =
+    entry-is_held inside.infos.items c.args.info held.0 c.args.size c.index_mut.result.now held.1
+    c.index_mut.ensures.value in
     let whole = whole_of inside.stacks inside.infos.items inside.sums inside.last_allocated in
-    let ended : c.from-ended.result ≡ ended_by_free (ledger_of whole) c.args.info = c.from-ended.ensures ∙ ap from_bool c.eq.ensures ∙ (byte-is _).0 in
+    let ended : c.from-ended.result ≡ ended_by_free (ledger_of whole) c.args.info =
+    c.from-ended.ensures ∙ ap from_bool c.eq.ensures ∙ (byte-is _).0 in
     rw (← c.self.view_is, c.free.ensures)
-    (ap₂ (λ (e : InfoEntry) (n : ℕ). whole_of inside.stacks (set inside.infos.items c.args.info (one_fewer e)) (with_free inside.sums c.args.size n) None) (entry-read whole c.args.info c.index_mut.result.now entry.within entry.is) ended)
+    (ap₂ (λ (e : InfoEntry) (n : ℕ). whole_of inside.stacks (set inside.infos.items c.args.info (one_fewer e))
+    (with_free inside.sums c.args.size n) None) (entry-read
+    whole c.args.info c.index_mut.result.now entry.within entry.is) ended)
 
 pub returns-clause-sound : goal.returns-clause-sound
 returns-clause-sound c =
     let count = rw (← c.self.view_is) at c.requires.count in
     let held = rw (← c.self.view_is) at c.requires.held in
-    let entry = entry-is_held c.self.inside.infos.items c.args.info held.0 c.args.size c.index_mut.result.now held.1 c.index_mut.ensures.value in
+    let entry =
+    entry-is_held c.self.inside.infos.items c.args.info held.0 c.args.size c.index_mut.result.now held.1
+    c.index_mut.ensures.value in
     let live = entry-live _ _ _ _ _ entry (rw (← c.self.view_is) at c.requires.live) in
     let few : c.from-ended.result ≤ 1 = omega (arith, c.from-ended.ensures, (byte-is c.eq.result).1) in
     rw c.free.ensures (kept-free _ _ _ _ _ _ _ _ c.self.invariant entry live few count)

@@ -13,7 +13,8 @@ invariant_of-self-2 c =
 
 pub returns-clause-stands : goal.returns-clause-stands
 returns-clause-stands c =
-    rw (← c.self.view_is, c.in_ok-push.ensures.items) (λ events stands. totals-info _ c.args.stack c.args.size events stands)
+    rw (← c.self.view_is, c.in_ok-push.ensures.items)
+    (λ events stands. totals-info _ c.args.stack c.args.size events stands)
 
 pub returns-clause-sound : goal.returns-clause-sound
 returns-clause-sound c =

@@ -9,4 +9,5 @@ returns-in-Some-clause-stack_held c =
     let found = c.in-Some.ensures.lookup in
     let items = c.deref.ensures.value in
     let within : c.args.n < length c.self.inside.infos.items = grind (arith, nat_tests, common_steps) in
-    rw (← c.self.view_is) (stack-of_entry _ _ _ c.args.n c.in-Some.entry.now c.self.invariant within (rw items at found.1))
+    rw (← c.self.view_is)
+    (stack-of_entry _ _ _ c.args.n c.in-Some.entry.now c.self.invariant within (rw items at found.1))

@@ -20,10 +20,12 @@ pub returns-then-offer-clause-passed : goal.returns-then-offer-clause-passed
 returns-then-offer-clause-passed g c =
     let taken : No ≡ taken_as c.args.self.now.settings c.args.self.now.kept c.args.offer.now = search rules in
     let sound : IsSound c.args.self.now = search rules in
-    λ none offers stands. stands-push c.args.self.now c.args.self.now offers c.args.offer.now refl (none-kept c.args.self.now c.args.offer.now sound taken) stands
+    λ none offers stands. stands-push c.args.self.now c.args.self.now offers c.args.offer.now refl
+    (none-kept c.args.self.now c.args.offer.now sound taken) stands
 
 pub returns-then-offer-self-2-clause-passed : goal.returns-then-offer-self-2-clause-passed
 returns-then-offer-self-2-clause-passed g c =
     let taken : No ≡ taken_as c.args.self.now.settings c.args.self.now.kept c.args.offer.now = search rules in
     let sound : IsSound c.args.self.now = search rules in
-    λ none offers stands. stands-push c.args.self.now c.args.self.now offers c.args.offer.now refl (none-kept c.args.self.now c.args.offer.now sound taken) stands
+    λ none offers stands. stands-push c.args.self.now c.args.self.now offers c.args.offer.now refl
+    (none-kept c.args.self.now c.args.offer.now sound taken) stands

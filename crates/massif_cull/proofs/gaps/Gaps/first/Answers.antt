@@ -15,6 +15,9 @@ pub returns : goal.returns
 returns c =
     let some = rw (← c.self.view_is) at c.requires.some in
     let ready = rw (← c.self.view_is) at c.requires.ready in
-    let top = get_or_default c.self.inside.nodes.items 1 no_key c.index.result.now (some-nodes c.self.inside c.self.invariant some) in
+    let top =
+    get_or_default c.self.inside.nodes.items 1 no_key c.index.result.now
+    (some-nodes c.self.inside c.self.invariant some) in
     rw (← c.self.view_is)
-    (subst (λ (key : Key). IsFirst (gaps_of c.self.inside).keys key) (top ∙ sym c.index.ensures) (top-first c.self.inside c.self.invariant ready some))
+    (subst (λ (key : Key). IsFirst (gaps_of c.self.inside).keys key) (top ∙ sym c.index.ensures)
+    (top-first c.self.inside c.self.invariant ready some))

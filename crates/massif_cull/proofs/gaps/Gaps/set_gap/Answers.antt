@@ -13,4 +13,5 @@ returns-clause-keys c =
     let node = node-inside c.self.inside _ c.self.invariant inside in
     rw (← c.self.view_is)
     (c.climb.ensures.keys c.self.inside.max (omega (arith, node, c.self.invariant.size))
-    ∙ gap-made c.self.inside.nodes.items c.self.inside.max c.args.place c.args.gap c.index.result.now node c.index.ensures)
+    ∙ gap-made c.self.inside.nodes.items c.self.inside.max c.args.place c.args.gap c.index.result.now node
+    c.index.ensures)

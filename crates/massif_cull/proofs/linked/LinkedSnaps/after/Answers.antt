@@ -11,9 +11,16 @@ pub unwrap-place-requires : goal.unwrap-place-requires
 unwrap-place-requires g c =
     let here = rw (← c.self.view_is) at c.requires.spot in
     let inside = rw (← c.self.view_is) at c.requires.inside in
-    some-inside c.self.inside.links.places (c.args.spot.index + 1) _ (c.next.ensures.place c.args.spot.index here) (omega (arith, inside, entries-beside c.self.inside c.self.invariant))
+    some-inside c.self.inside.links.places (c.args.spot.index + 1) _ (c.next.ensures.place c.args.spot.index here)
+    (omega (arith, inside, entries-beside c.self.inside c.self.invariant))
 
 pub overflow_add-result : goal.overflow_add-result
 overflow_add-result g c =
     let inside = rw (← c.self.view_is) at c.requires.inside in
-    omega (arith, inside, entries-beside c.self.inside c.self.invariant, c.self.invariant.most, c.self.invariant.max_most)
+    omega (
+      arith,
+      inside,
+      entries-beside c.self.inside c.self.invariant,
+      c.self.invariant.most,
+      c.self.invariant.max_most,
+    )

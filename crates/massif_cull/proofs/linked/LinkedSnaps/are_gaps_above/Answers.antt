@@ -15,7 +15,9 @@ spots-init g c =
       spot = c.after-spot.ensures.spot;
       some = omega arith;
       most = omega arith;
-      time = sym (time-of c.args.self.now.entries c.first-first.result.index c.entry-time.result c.entry-time.ensures) ∙ ap (slice_index (times c.args.self.now.entries)) here;
+      time =
+          sym (time-of c.args.self.now.entries c.first-first.result.index c.entry-time.result c.entry-time.ensures)
+          ∙ ap (slice_index (times c.args.self.now.entries)) here;
       above = λ k low high. absurd (omega arith);
     }
 
@@ -28,7 +30,10 @@ spots-preserved g c =
       spot = c.after-spot-in-spots.ensures.spot;
       some = omega arith;
       most = omega arith;
-      time = sym (time-of c.args.self.now.entries c.spots.spot.index c.entry-time-in-spots.result c.entry-time-in-spots.ensures) ∙ ap (slice_index (times c.args.self.now.entries)) here;
+      time =
+          sym (time-of c.args.self.now.entries c.spots.spot.index c.entry-time-in-spots.result
+          c.entry-time-in-spots.ensures)
+          ∙ ap (slice_index (times c.args.self.now.entries)) here;
       above = λ k low high. elim (cases_eq k c.spots.spot.index) [
         | inl at ↦ (let gap = c.gap_from.ensures in let same = ap (gap_to_go c.args.self.now.entries) at in omega arith)
         | inr before ↦ so_far.above k low (omega arith)

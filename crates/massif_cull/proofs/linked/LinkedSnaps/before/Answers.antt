@@ -17,4 +17,5 @@ returns-clause-spot g c =
     let here = rw (← c.self.view_is) at c.requires.spot in
     let same : c.args.spot.index - 1 + 1 ≡ c.args.spot.index = omega (arith, c.requires.inside) in
     rw (← c.self.view_is)
-    (sym (c.prev.ensures.place (c.args.spot.index - 1) (ap (slice_get c.self.inside.links.places) same ∙ here)) ∙ c.unwrap-place.ensures)
+    (sym (c.prev.ensures.place (c.args.spot.index - 1) (ap (slice_get c.self.inside.links.places) same ∙ here))
+    ∙ c.unwrap-place.ensures)

@@ -22,7 +22,8 @@ back-preserved-then-is_peak_entry g c =
     let so_far = c.back.invariant in
     let entries = c.args.self.now.entries in
     let index = c.before-spot.ensures.index in
-    let peak : is_peak_at entries c.before-spot.result.index ≡ true = peak-of entries _ _ c.entry.ensures ∙ sym c.is_peak_entry.ensures ∙ c.if-is_peak_entry.true in
+    let peak : is_peak_at entries c.before-spot.result.index ≡ true =
+    peak-of entries _ _ c.entry.ensures ∙ sym c.is_peak_entry.ensures ∙ c.if-is_peak_entry.true in
     record {
       spot = c.before-spot.ensures.spot;
       some = omega arith;
@@ -37,14 +38,19 @@ back-preserved g c =
     let entries = c.args.self.now.entries in
     let index = c.before-spot.ensures.index in
     let inside = so_far.inside in
-    let normal : is_peak_at entries c.before-spot.result.index ≡ false = peak-of entries _ _ c.entry.ensures ∙ sym c.is_peak_entry.ensures ∙ c.if-is_peak_entry.false in
+    let normal : is_peak_at entries c.before-spot.result.index ≡ false =
+    peak-of entries _ _ c.entry.ensures ∙ sym c.is_peak_entry.ensures ∙ c.if-is_peak_entry.false in
     record {
       spot = c.before-spot.ensures.spot;
       some = omega arith;
       inside = omega arith;
       most = omega arith;
-      found = goers-goes entries _ _ index so_far.inside (may_go-inside entries _ (omega arith) (omega arith) normal) ∙ ap (λ (n : ℕ). n + 1) so_far.found;
+      found =
+          goers-goes entries _ _ index so_far.inside (may_go-inside entries _ (omega arith) (omega arith) normal)
+          ∙ ap (λ (n : ℕ). n + 1) so_far.found;
     }
 
 pub returns-clause-count : goal.returns-clause-count
-returns-clause-count g c = c.back.invariant.found ∙ (let most = c.back.invariant.most in let all : c.back.found ≡ c.args.count = omega arith in all)
+returns-clause-count g c =
+    c.back.invariant.found
+    ∙ (let most = c.back.invariant.most in let all : c.back.found ≡ c.args.count = omega arith in all)

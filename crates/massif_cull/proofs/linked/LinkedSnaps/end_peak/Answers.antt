@@ -10,7 +10,11 @@ use Rattle.massif_cull.proofs.linked.LinkedSnaps.end_peak.Goals.{After-self-1}
 
 -- the fields afterwards
 after : (g : Over) → After-self-1 g → Inside g.row.T.Denot
-after g c = record { links = c.self.inside.links; slots = with_item c.self.inside.slots c.in-Some.spot.place c.end_peak_at.new.slot }
+after g c =
+    record {
+      links = c.self.inside.links;
+      slots = with_item c.self.inside.slots c.in-Some.spot.place c.end_peak_at.new.slot;
+    }
 
 -- what has become of them
 done : (g : Over) (c : After-self-1 g) → IsEnded c.self.inside (after g c) c.in-Some.spot.index c.in-Some.spot.place
@@ -23,7 +27,9 @@ done g c =
       at = here;
       others = others;
       slots = ap (set c.self.inside.slots.items c.in-Some.spot.place)
-          (c.end_peak_at.ensures ∙ ap (option_map ended) (sym (slot-there _ _ _ (place-inside c.self.inside _ _ c.self.invariant here) c.index_mut.ensures.value)));
+          (c.end_peak_at.ensures
+          ∙ ap (option_map ended)
+          (sym (slot-there _ _ _ (place-inside c.self.inside _ _ c.self.invariant here) c.index_mut.ensures.value)));
     }
 
 pub invariant_of-self : goal.invariant_of-self
@@ -32,7 +38,8 @@ invariant_of-self g c = ended-stays c.self.inside (after g c) _ _ c.self.invaria
 
 pub returns-clause-entries : goal.returns-clause-entries
 unfolding after
-returns-clause-entries g c = rw (← c.self.view_is) (ended-entries c.self.inside (after g c) _ _ c.self.invariant (done g c))
+returns-clause-entries g c =
+    rw (← c.self.view_is) (ended-entries c.self.inside (after g c) _ _ c.self.invariant (done g c))
 
 pub returns-clause-loads : goal.returns-clause-loads
 unfolding after

@@ -8,4 +8,5 @@ gap-requires-clause-held g c = contains-at _ _ _ c.requires.spot
 
 pub returns : goal.returns
 returns g c =
-    ap (λ (gap : ℕ). let key : Key = record { gap = gap; number = c.args.spot.index; place = c.args.spot.place } in key) (c.gap.ensures _ c.requires.spot)
+    ap (λ (gap : ℕ). let key : Key = record { gap = gap; number = c.args.spot.index; place = c.args.spot.place } in key)
+    (c.gap.ensures _ c.requires.spot)

@@ -10,7 +10,9 @@ returns-in_err-place-clause-none g c = λ none.
 
 pub overflow_sub-index : goal.overflow_sub-index
 overflow_sub-index g c =
-    let within = slice_get_within c.self.inside.links.places (length c.self.inside.links.places - 1) c.in_ok-place.place (sym c.in_ok-place.ensures.place) in
+    let within =
+    slice_get_within c.self.inside.links.places (length c.self.inside.links.places - 1) c.in_ok-place.place
+    (sym c.in_ok-place.ensures.place) in
     let count = rw (← c.self.view_is) at c.len-index.ensures.entries in
     omega (arith, within, count, entries-beside c.self.inside c.self.invariant)
 
@@ -18,4 +20,5 @@ pub returns-clause-spot : goal.returns-clause-spot
 returns-clause-spot g c =
     let count = rw (← c.self.view_is) at c.len-index.ensures.entries in
     rw (← c.self.view_is)
-    (ap (λ k. slice_get c.self.inside.links.places (k - 1)) (count ∙ entries-beside c.self.inside c.self.invariant) ∙ sym c.in_ok-place.ensures.place)
+    (ap (λ k. slice_get c.self.inside.links.places (k - 1)) (count ∙ entries-beside c.self.inside c.self.invariant)
+    ∙ sym c.in_ok-place.ensures.place)

@@ -3,10 +3,12 @@ use Rattle.massif_cull.proofs.SnapsLemmas.{entries-beside, loads-beside}
 use Rattle.massif_cull.proofs.linked.LinkedSnaps.len.Goals as goal
 
 pub returns-clause-entries : goal.returns-clause-entries
-returns-clause-entries g c = rw (← c.self.view_is) (c.len.ensures.length ∙ sym (entries-beside c.self.inside c.self.invariant))
+returns-clause-entries g c =
+    rw (← c.self.view_is) (c.len.ensures.length ∙ sym (entries-beside c.self.inside c.self.invariant))
 
 pub returns-clause-loads : goal.returns-clause-loads
-returns-clause-loads g c = rw (← c.self.view_is) (c.len.ensures.length ∙ sym (loads-beside c.self.inside c.self.invariant))
+returns-clause-loads g c =
+    rw (← c.self.view_is) (c.len.ensures.length ∙ sym (loads-beside c.self.inside c.self.invariant))
 
 pub returns-clause-placed : goal.returns-clause-placed
 returns-clause-placed g c =

@@ -29,7 +29,9 @@ walk-preserved g c =
       spot = c.after-spot.ensures.spot;
       inside = omega arith;
       keys = ap length c.put.ensures ∙ length-set _ _ _ ∙ so_far.keys;
-      numbered = numbered-more _ _ _ _ _ _ _ _ next c.len-last.ensures.placed.different so_far.spot (omega (arith, below, so_far.keys)) c.key.ensures c.put.ensures so_far.numbered;
+      numbered =
+          numbered-more _ _ _ _ _ _ _ _ next c.len-last.ensures.placed.different so_far.spot
+          (omega (arith, below, so_far.keys)) c.key.ensures c.put.ensures so_far.numbered;
     }
 
 pub put-requires-2 : goal.put-requires-2
@@ -47,11 +49,15 @@ returns g c =
     let below = place-below c.args.self.now _ _ placed so_far.spot in
     let one : c.walk.spot.index + 1 ≡ c.walk.spot.index + 1 = refl in
     let count = ap length c.put-2.ensures ∙ length-set _ _ _ ∙ so_far.keys in
-    let numbered = numbered-more _ _ _ _ _ _ _ _ one placed.different so_far.spot (omega (arith, below, so_far.keys)) c.key-2.ensures c.put-2.ensures so_far.numbered in
+    let numbered =
+    numbered-more _ _ _ _ _ _ _ _ one placed.different so_far.spot (omega (arith, below, so_far.keys)) c.key-2.ensures
+    c.put-2.ensures so_far.numbered in
     let counted = c.len-last.ensures.entries in
     record {
       gaps = ap length c.build.ensures.keys ∙ count ∙ sym c.requires.gaps;
-      keyed = subst (λ (ks : List Key). AreKeyed c.args.self.now.places c.args.self.now.entries ks) (sym c.build.ensures.keys)
-          (numbered-all _ _ _ _ beside placed.different (subst (λ (n : ℕ). AreBelow n c.args.self.now.places) (sym count) placed.below) (omega arith) numbered);
+      keyed =
+          subst (λ (ks : List Key). AreKeyed c.args.self.now.places c.args.self.now.entries ks) (sym c.build.ensures.keys)
+          (numbered-all _ _ _ _ beside placed.different
+          (subst (λ (n : ℕ). AreBelow n c.args.self.now.places) (sym count) placed.below) (omega arith) numbered);
       ready = c.build.ensures.ready;
     }

@@ -14,7 +14,8 @@ back-init g c = record {
 pub returns-then-is_peak_entry-clause-others : goal.returns-then-is_peak_entry-clause-others
 returns-then-is_peak_entry-clause-others g c =
     let entries = c.args.self.now.entries in
-    let peak : is_peak_at entries c.back.spot.index ≡ true = peak-of entries _ _ c.entry.ensures ∙ sym c.is_peak_entry.ensures ∙ c.if-is_peak_entry.true in
+    let peak : is_peak_at entries c.back.spot.index ≡ true =
+    peak-of entries _ _ c.entry.ensures ∙ sym c.is_peak_entry.ensures ∙ c.if-is_peak_entry.true in
     let inside = slice_get_within entries _ _ c.entry.ensures in
     λ k apart. elim (cases_lt k c.back.spot.index) [
       | inl before ↦ no-other_peak entries c.back.spot.index k c.requires peak before inside
@@ -24,7 +25,8 @@ returns-then-is_peak_entry-clause-others g c =
 pub back-preserved : goal.back-preserved
 back-preserved g c =
     let entries = c.args.self.now.entries in
-    let normal : is_peak_at entries c.back.spot.index ≡ false = peak-of entries _ _ c.entry.ensures ∙ sym c.is_peak_entry.ensures ∙ c.if-is_peak_entry.false in
+    let normal : is_peak_at entries c.back.spot.index ≡ false =
+    peak-of entries _ _ c.entry.ensures ∙ sym c.is_peak_entry.ensures ∙ c.if-is_peak_entry.false in
     let index = c.before-spot.ensures.index in
     record {
       spot = c.before-spot.ensures.spot;

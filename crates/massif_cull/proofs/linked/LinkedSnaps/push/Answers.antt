@@ -9,10 +9,16 @@ use Rattle.massif_cull.proofs.linked.LinkedSnaps.push.Goals.{Joined-index_mut}
 
 -- the fields afterwards
 after : (g : Over) → Joined-index_mut g → Inside g.row.T.Denot
-after g c = record { links = c.push-place.new.self; slots = with_item c.self.inside.slots c.push-place.result (Some (record { entry = c.args.entry; load = c.args.load })) }
+after g c =
+    record {
+      links = c.push-place.new.self;
+      slots =
+          with_item c.self.inside.slots c.push-place.result (Some (record { entry = c.args.entry; load = c.args.load }));
+    }
 
 -- what has become of them
-done : (g : Over) (c : Joined-index_mut g) → IsGrown c.self.inside (after g c) c.push-place.result (record { entry = c.args.entry; load = c.args.load })
+done : (g : Over) (c : Joined-index_mut g)
+    → IsGrown c.self.inside (after g c) c.push-place.result (record { entry = c.args.entry; load = c.args.load })
 unfolding after
 done g c =
     let room = rw (← c.self.view_is) at c.requires in
@@ -36,7 +42,8 @@ invariant_of-self g c = grown-stays c.self.inside (after g c) _ _ c.self.invaria
 
 pub returns-clause-entries : goal.returns-clause-entries
 unfolding after
-returns-clause-entries g c = rw (← c.self.view_is) (grown-entries c.self.inside (after g c) _ _ c.self.invariant (done g c))
+returns-clause-entries g c =
+    rw (← c.self.view_is) (grown-entries c.self.inside (after g c) _ _ c.self.invariant (done g c))
 
 pub returns-clause-loads : goal.returns-clause-loads
 unfolding after

@@ -9,5 +9,6 @@ returns-clause-spot g c =
     let index = c.args.spot.index in
     ap (λ (ps : List ℕ). slice_get ps index) c.remove.ensures.places
     ∙ get-remove_above places index index (omega arith)
-    ∙ ap (slice_get places) (let next : suc index ≡ c.after-next.result.index = omega (arith, c.after-next.ensures.index) in next)
+    ∙ ap (slice_get places)
+    (let next : suc index ≡ c.after-next.result.index = omega (arith, c.after-next.ensures.index) in next)
     ∙ c.after-next.ensures.spot

@@ -23,7 +23,9 @@ each_removal-preserved g c =
     let so_far = c.each_removal.invariant in
     let removed = c.remove_next.ensures.removed in
     record {
-      left = left-at_more _ _ _ _ _ _ _ _ _ (omega arith) removed.goes removed.inside removed.entries removed.loads so_far.left;
+      left =
+          left-at_more _ _ _ _ _ _ _ _ _ (omega arith) removed.goes removed.inside removed.entries removed.loads
+          so_far.left;
       max = c.remove_next.ensures.max ∙ so_far.max;
       keys = c.remove_next.ensures.gaps ∙ so_far.keys;
       keyed = c.remove_next.ensures.keyed;

@@ -10,8 +10,11 @@ use Rattle.massif_cull.proofs.Removals.{left-at_start}
 use Rattle.massif_cull.proofs.linked.LinkedSnaps.remove_end.Goals as goal
 
 -- of equal lists the same stays
-kept_with : {X : Type 0} {entries others : List SnapEntry} {xs ys : List X} (place : ℕ) → entries ≡ others → xs ≡ ys → keep_from place xs (map is_peak entries) ≡ keep_from place ys (map is_peak others)
-kept_with {entries} {ys} place same equal = ap (λ zs. keep_from place zs (map is_peak entries)) equal ∙ ap (λ (es : List SnapEntry). keep_from place ys (map is_peak es)) same
+kept_with : {X : Type 0} {entries others : List SnapEntry} {xs ys : List X} (place : ℕ) → entries ≡ others → xs ≡ ys
+    → keep_from place xs (map is_peak entries) ≡ keep_from place ys (map is_peak others)
+kept_with {entries} {ys} place same equal =
+    ap (λ zs. keep_from place zs (map is_peak entries)) equal
+    ∙ ap (λ (es : List SnapEntry). keep_from place ys (map is_peak es)) same
 
 pub end-init : goal.end-init
 end-init g c =
@@ -33,7 +36,8 @@ end-preserved-then-is_peak_entry g c =
     let so_far = c.end.invariant in
     let next = c.after-spot.ensures.index in
     let from = so_far.from in
-    let peak : is_peak_at c.end.self.entries c.end.spot.index ≡ true = peak-of c.end.self.entries _ _ c.entry.ensures ∙ sym c.is_peak_entry.ensures ∙ c.if-is_peak_entry.true in
+    let peak : is_peak_at c.end.self.entries c.end.spot.index ≡ true =
+    peak-of c.end.self.entries _ _ c.entry.ensures ∙ sym c.is_peak_entry.ensures ∙ c.if-is_peak_entry.true in
     record {
       max = so_far.max;
       spot = c.after-spot.ensures.spot;
@@ -58,9 +62,11 @@ end-preserved g c =
     let now = c.remove_at-spot.new.self in
     let removed = c.remove_at-spot.ensures.entries in
     let removed_loads = c.remove_at-spot.ensures.loads in
-    let normal : is_peak_at c.end.self.entries c.end.spot.index ≡ false = peak-of c.end.self.entries _ _ c.entry.ensures ∙ sym c.is_peak_entry.ensures ∙ c.if-is_peak_entry.false in
+    let normal : is_peak_at c.end.self.entries c.end.spot.index ≡ false =
+    peak-of c.end.self.entries _ _ c.entry.ensures ∙ sym c.is_peak_entry.ensures ∙ c.if-is_peak_entry.false in
     let shorter : length c.remove_at-spot.new.self.entries + 1 ≡ length c.end.self.entries =
-    ap (λ (es : List SnapEntry). length es + 1) removed ∙ length-remove c.end.self.entries c.end.spot.index (omega arith) in
+    ap (λ (es : List SnapEntry). length es + 1) removed
+    ∙ length-remove c.end.self.entries c.end.spot.index (omega arith) in
     record {
       max = c.remove_at-spot.ensures.max ∙ so_far.max;
       spot = c.remove_at-spot.ensures.spot;
@@ -68,11 +74,14 @@ end-preserved g c =
       inside = omega arith;
       from = omega arith;
       peaks = λ k low high. ap (λ (es : List SnapEntry). is_peak_at es k) removed
-          ∙ peak-below c.end.self.entries c.end.spot.index k (omega arith) (omega arith) ∙ so_far.peaks k low (omega arith);
+          ∙ peak-below c.end.self.entries c.end.spot.index k (omega arith) (omega arith)
+          ∙ so_far.peaks k low (omega arith);
       entries = ap (λ (es : List SnapEntry). keep_from place es (map is_peak es)) removed
-          ∙ kept-removed c.end.self.entries c.end.self.entries place c.end.spot.index from (omega arith) normal ∙ so_far.entries;
+          ∙ kept-removed c.end.self.entries c.end.self.entries place c.end.spot.index from (omega arith) normal
+          ∙ so_far.entries;
       loads = kept_with place removed removed_loads
-          ∙ kept-removed c.end.self.entries c.end.self.loads place c.end.spot.index from (omega arith) normal ∙ so_far.loads;
+          ∙ kept-removed c.end.self.entries c.end.self.loads place c.end.spot.index from (omega arith) normal
+          ∙ so_far.loads;
     }
 
 pub returns-clause-left : goal.returns-clause-left

@@ -25,7 +25,9 @@ walk-init g c =
       last = omega arith;
       inside = omega arith;
       passed = passed-first _ _ (omega arith);
-      time = sym (time-of c.args.self.now.entries c.first-first.result.index c.entry-time.result c.entry-time.ensures) ∙ ap (slice_index (times c.args.self.now.entries)) here;
+      time =
+          sym (time-of c.args.self.now.entries c.first-first.result.index c.entry-time.result c.entry-time.ensures)
+          ∙ ap (slice_index (times c.args.self.now.entries)) here;
     }
 
 pub walk-preserved-then-gap_from-gt0 : goal.walk-preserved-then-gap_from-gt0
@@ -42,7 +44,10 @@ walk-preserved-then-gap_from-gt0 g c =
       last = so_far.last;
       inside = omega arith;
       passed = passed-more _ _ _ next so_far.passed (unequal-gap _ _ (omega (arith, c.gap_from.ensures)));
-      time = sym (time-of c.walk.self.entries c.walk.spot.index c.entry-time-then-gap_from-gt0.result c.entry-time-then-gap_from-gt0.ensures) ∙ ap (slice_index (times c.walk.self.entries)) here;
+      time =
+          sym (time-of c.walk.self.entries c.walk.spot.index c.entry-time-then-gap_from-gt0.result
+          c.entry-time-then-gap_from-gt0.ensures)
+          ∙ ap (slice_index (times c.walk.self.entries)) here;
     }
 
 pub walk-preserved : goal.walk-preserved
@@ -55,10 +60,13 @@ walk-preserved g c =
     let place = goes-next _ _ so_far.passed equal.0 equal.1 in
     let same = c.remove_at-spot.ensures.index in
     let shorter : length c.remove_at-spot.new.self.entries + 1 ≡ length c.walk.self.entries =
-    ap (λ (es : List SnapEntry). length es + 1) c.remove_at-spot.ensures.entries ∙ length-remove c.walk.self.entries c.walk.spot.index (omega arith) in
+    ap (λ (es : List SnapEntry). length es + 1) c.remove_at-spot.ensures.entries
+    ∙ length-remove c.walk.self.entries c.walk.spot.index (omega arith) in
     let before : c.walk.spot.index - 1 ≡ c.remove_at-spot.result.index - 1 = omega arith in
     record {
-      left = left-at_more _ _ _ _ _ _ _ _ _ (omega arith) place inside c.remove_at-spot.ensures.entries c.remove_at-spot.ensures.loads so_far.left;
+      left =
+          left-at_more _ _ _ _ _ _ _ _ _ (omega arith) place inside c.remove_at-spot.ensures.entries
+          c.remove_at-spot.ensures.loads so_far.left;
       max = c.remove_at-spot.ensures.max ∙ so_far.max;
       spot = c.remove_at-spot.ensures.spot;
       some = omega arith;
@@ -67,6 +75,7 @@ walk-preserved g c =
       passed = passed-removed _ _ _ _ c.remove_at-spot.ensures.entries same so_far.left.sound inside so_far.passed;
       time = so_far.time
           ∙ sym (time-below c.walk.self.entries c.walk.spot.index (c.walk.spot.index - 1) (omega arith) (omega arith))
-          ∙ ap (λ (es : List SnapEntry). slice_index (times es) (c.walk.spot.index - 1)) (sym c.remove_at-spot.ensures.entries)
+          ∙ ap (λ (es : List SnapEntry). slice_index (times es) (c.walk.spot.index - 1))
+          (sym c.remove_at-spot.ensures.entries)
           ∙ ap (slice_index (times c.remove_at-spot.new.self.entries)) before;
     }

@@ -22,7 +22,8 @@ unwrap-before-requires g c =
     let some = next.some in
     let back : next.index - 1 + 1 ≡ next.index = omega arith in
     let within = slice_get_within places next.index _ next.at in
-    some-inside places (next.index - 1) _ (c.place_before.ensures.place (next.index - 1) (ap (slice_get places) back ∙ next.at)) (omega arith)
+    some-inside places (next.index - 1) _
+    (c.place_before.ensures.place (next.index - 1) (ap (slice_get places) back ∙ next.at)) (omega arith)
 
 pub place_after-requires : goal.place_after-requires
 place_after-requires g c =
@@ -65,7 +66,8 @@ pub gap-requires-clause-sound : goal.gap-requires-clause-sound
 gap-requires-clause-sound g c =
     let next = next-goes _ _ _ _ c.requires.keyed c.requires.sound c.requires.long c.first-place.ensures in
     let inside = next.inside in
-    subst AreSound (sym (c.take_out.ensures.entries next.index next.at)) (sound-remove c.args.self.now.entries next.index (omega arith) c.requires.sound)
+    subst AreSound (sym (c.take_out.ensures.entries next.index next.at))
+    (sound-remove c.args.self.now.entries next.index (omega arith) c.requires.sound)
 
 pub set_gap-requires-2-clause-inside : goal.set_gap-requires-2-clause-inside
 set_gap-requires-2-clause-inside g c =
@@ -84,7 +86,8 @@ gap-requires-2-clause-held g c =
     let places = c.args.self.now.places in
     let next = next-goes _ _ _ _ c.requires.keyed c.requires.sound c.requires.long c.first-place.ensures in
     let follows : suc next.index ≡ next.index + 1 = omega arith in
-    let at_after : slice_get places (next.index + 1) ≡ Some c.unwrap-after.result = sym (c.place_after.ensures.place next.index next.at) ∙ c.unwrap-after.ensures in
+    let at_after : slice_get places (next.index + 1) ≡ Some c.unwrap-after.result =
+    sym (c.place_after.ensures.place next.index next.at) ∙ c.unwrap-after.ensures in
     contains-at _ next.index _
     (ap (λ (ps : List ℕ). slice_get ps next.index) (c.take_out.ensures.places next.index next.at)
     ∙ get-remove_above places next.index next.index (omega arith)
@@ -95,15 +98,22 @@ pub gap-requires-2-clause-sound : goal.gap-requires-2-clause-sound
 gap-requires-2-clause-sound g c =
     let next = next-goes _ _ _ _ c.requires.keyed c.requires.sound c.requires.long c.first-place.ensures in
     let inside = next.inside in
-    subst AreSound (sym (c.take_out.ensures.entries next.index next.at)) (sound-remove c.args.self.now.entries next.index (omega arith) c.requires.sound)
+    subst AreSound (sym (c.take_out.ensures.entries next.index next.at))
+    (sound-remove c.args.self.now.entries next.index (omega arith) c.requires.sound)
 
 pub set_gap-requires-3-clause-inside : goal.set_gap-requires-3-clause-inside
 set_gap-requires-3-clause-inside g c =
     let places = c.args.self.now.places in
     let next = next-goes _ _ _ _ c.requires.keyed c.requires.sound c.requires.long c.first-place.ensures in
-    let at_after : slice_get places (next.index + 1) ≡ Some c.unwrap-after.result = sym (c.place_after.ensures.place next.index next.at) ∙ c.unwrap-after.ensures in
+    let at_after : slice_get places (next.index + 1) ≡ Some c.unwrap-after.result =
+    sym (c.place_after.ensures.place next.index next.at) ∙ c.unwrap-after.ensures in
     let inside = key-inside _ _ _ _ _ c.requires.keyed at_after in
-    omega (arith, inside, length-with_gap _ _ _ _ c.set_gap.ensures.keys, length-with_gap _ _ _ _ c.set_gap-2.ensures.keys)
+    omega (
+      arith,
+      inside,
+      length-with_gap _ _ _ _ c.set_gap.ensures.keys,
+      length-with_gap _ _ _ _ c.set_gap-2.ensures.keys,
+    )
 
 pub returns-clause-removed : goal.returns-clause-removed
 returns-clause-removed g c =
@@ -118,7 +128,8 @@ returns-clause-removed g c =
 
 pub returns-clause-gaps : goal.returns-clause-gaps
 returns-clause-gaps g c =
-    length-with_gap _ _ _ _ c.set_gap-3.ensures.keys ∙ length-with_gap _ _ _ _ c.set_gap-2.ensures.keys ∙ length-with_gap _ _ _ _ c.set_gap.ensures.keys
+    length-with_gap _ _ _ _ c.set_gap-3.ensures.keys ∙ length-with_gap _ _ _ _ c.set_gap-2.ensures.keys
+    ∙ length-with_gap _ _ _ _ c.set_gap.ensures.keys
 
 pub returns-clause-keyed : goal.returns-clause-keyed
 returns-clause-keyed g c =
@@ -131,10 +142,14 @@ returns-clause-keyed g c =
     let at_before : slice_get places (next.index - 1) ≡ Some c.unwrap-before.result =
     sym (c.place_before.ensures.place (next.index - 1) (ap (slice_get places) back ∙ next.at)) ∙ c.unwrap-before.ensures
     in
-    let at_after : slice_get places (next.index + 1) ≡ Some c.unwrap-after.result = sym (c.place_after.ensures.place next.index next.at) ∙ c.unwrap-after.ensures in
+    let at_after : slice_get places (next.index + 1) ≡ Some c.unwrap-after.result =
+    sym (c.place_after.ensures.place next.index next.at) ∙ c.unwrap-after.ensures in
     let before = c.gap.ensures (next.index - 1)
-    (ap (λ (ps : List ℕ). slice_get ps (next.index - 1)) is_places ∙ get-remove_below places next.index (next.index - 1) (omega arith) ∙ at_before) in
+    (ap (λ (ps : List ℕ). slice_get ps (next.index - 1)) is_places
+    ∙ get-remove_below places next.index (next.index - 1) (omega arith) ∙ at_before) in
     let after = c.gap-2.ensures next.index
-    (ap (λ (ps : List ℕ). slice_get ps next.index) is_places ∙ get-remove_above places next.index next.index (omega arith) ∙ ap (slice_get places) follows ∙ at_after) in
+    (ap (λ (ps : List ℕ). slice_get ps next.index) is_places
+    ∙ get-remove_above places next.index next.index (omega arith) ∙ ap (slice_get places) follows ∙ at_after) in
     keyed-next _ _ _ _ _ _ _ _ next.index _ _ _ _ _ c.requires.keyed next.at next.some next.inside at_before at_after
-    is_places (c.take_out.ensures.entries next.index next.at) before after c.set_gap.ensures.keys c.set_gap-2.ensures.keys c.set_gap-3.ensures.keys
+    is_places (c.take_out.ensures.entries next.index next.at) before after c.set_gap.ensures.keys
+    c.set_gap-2.ensures.keys c.set_gap-3.ensures.keys

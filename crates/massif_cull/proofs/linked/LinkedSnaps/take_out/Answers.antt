@@ -5,7 +5,16 @@ use Rattle.massif_cull.specs.declared.linked.Held.{Held}
 use Rattle.massif_cull.specs.declared.linked.LinkedSnaps.TheInside.{Inside}
 use Rattle.massif_cull.specs.Held.{held_at}
 use Rattle.massif_cull.proofs.Linking.{contained-at, each-at}
-use Rattle.massif_cull.proofs.SnapsLemmas.{IsShrunk, place-inside, slot-there, entry-there, load-there, shrunk-entries, shrunk-loads, shrunk-stays}
+use Rattle.massif_cull.proofs.SnapsLemmas.{
+  IsShrunk,
+  place-inside,
+  slot-there,
+  entry-there,
+  load-there,
+  shrunk-entries,
+  shrunk-loads,
+  shrunk-stays,
+}
 use Rattle.massif_cull.proofs.linked.LinkedSnaps.take_out.Goals as goal
 use Rattle.massif_cull.proofs.linked.LinkedSnaps.take_out.Given.{Over}
 use Rattle.massif_cull.proofs.linked.LinkedSnaps.take_out.Goals.{After-unwrap}
@@ -15,7 +24,8 @@ after : (g : Over) → After-unwrap g → Inside g.row.T.Denot
 after g c = record { links = c.unlink.new.self; slots = with_item c.self.inside.slots c.args.place c.take.new.self }
 
 -- what has become of them
-done : (g : Over) (c : After-unwrap g) (k : ℕ) → slice_get c.self.inside.links.places k ≡ Some c.args.place → IsShrunk c.self.inside (after g c) k c.args.place
+done : (g : Over) (c : After-unwrap g) (k : ℕ) → slice_get c.self.inside.links.places k ≡ Some c.args.place
+    → IsShrunk c.self.inside (after g c) k c.args.place
 unfolding after
 done g c k here = record {
   same_max = c.unlink.ensures.max;
@@ -37,9 +47,12 @@ pub unwrap-requires : goal.unwrap-requires
 unwrap-requires g c =
     let held = rw (← c.self.view_is) at c.requires in
     let found = contained-at _ _ held in
-    let there = slot-there _ _ _ (place-inside c.self.inside _ _ c.self.invariant found.1) c.index_mut.ensures.value ∙ sym c.take.ensures.value in
+    let there =
+    slot-there _ _ _ (place-inside c.self.inside _ _ c.self.invariant found.1) c.index_mut.ensures.value
+    ∙ sym c.take.ensures.value in
     subst (λ (o : Option (Held g.row.T.Denot)). IsSome o) there
-    (each-at (λ place. IsSome (held_at c.self.inside.slots.items place)) c.self.inside.links.places found.0 c.args.place found.1 c.self.invariant.each)
+    (each-at (λ place. IsSome (held_at c.self.inside.slots.items place)) c.self.inside.links.places found.0 c.args.place
+    found.1 c.self.invariant.each)
 
 pub invariant_of-self : goal.invariant_of-self
 unfolding after
@@ -69,11 +82,15 @@ returns-clause-loads g c k at =
 pub returns-clause-entry : goal.returns-clause-entry
 returns-clause-entry g c k at =
     let here = rw (← c.self.view_is) at at in
-    let there = slot-there _ _ _ (place-inside c.self.inside _ _ c.self.invariant here) c.index_mut.ensures.value ∙ sym c.take.ensures.value ∙ c.unwrap.ensures in
+    let there =
+    slot-there _ _ _ (place-inside c.self.inside _ _ c.self.invariant here) c.index_mut.ensures.value
+    ∙ sym c.take.ensures.value ∙ c.unwrap.ensures in
     rw (← c.self.view_is) (entry-there c.self.inside _ _ _ c.self.invariant here there)
 
 pub returns-clause-load : goal.returns-clause-load
 returns-clause-load g c k at =
     let here = rw (← c.self.view_is) at at in
-    let there = slot-there _ _ _ (place-inside c.self.inside _ _ c.self.invariant here) c.index_mut.ensures.value ∙ sym c.take.ensures.value ∙ c.unwrap.ensures in
+    let there =
+    slot-there _ _ _ (place-inside c.self.inside _ _ c.self.invariant here) c.index_mut.ensures.value
+    ∙ sym c.take.ensures.value ∙ c.unwrap.ensures in
     rw (← c.self.view_is) (load-there c.self.inside _ _ _ c.self.invariant here there)

@@ -2,7 +2,16 @@ use Rattle.std.proofs.Common.{◌≡◌, ◌∙◌, List, ℕ, [], ◌∷◌, �
 use Rattle.std.proofs.lemmas.List.{length-set}
 use Rattle.massif_cull.specs.declared.links.Links.TheInside.{Inside}
 use Rattle.massif_cull.specs.LinksState.{LinksState}
-use Rattle.massif_cull.proofs.LinksLemmas.{IsPushed, popped, free-below, last-most, places-count, places-different, pushed-places, pushed-stays}
+use Rattle.massif_cull.proofs.LinksLemmas.{
+  IsPushed,
+  popped,
+  free-below,
+  last-most,
+  places-count,
+  places-different,
+  pushed-places,
+  pushed-stays,
+}
 use Rattle.massif_cull.proofs.links.Links.push.Goals as goal
 use Rattle.massif_cull.proofs.links.Links.push.Goals.{After-link-2}
 
@@ -18,8 +27,10 @@ done c = record {
   was_free = popped _ _ _ _ c.pop.ensures.items c.unwrap-place.ensures;
   room = c.pop.ensures.capacity;
   last = c.index-last.ensures;
-  next = c.link-2.ensures.next ∙ ap (λ (xs : List ℕ). set xs c.unwrap-place.result c.self.inside.max) c.link.ensures.next;
-  prev = c.link-2.ensures.prev ∙ ap (λ (xs : List ℕ). set xs c.self.inside.max c.unwrap-place.result) c.link.ensures.prev;
+  next =
+      c.link-2.ensures.next ∙ ap (λ (xs : List ℕ). set xs c.unwrap-place.result c.self.inside.max) c.link.ensures.next;
+  prev =
+      c.link-2.ensures.prev ∙ ap (λ (xs : List ℕ). set xs c.self.inside.max c.unwrap-place.result) c.link.ensures.prev;
 }
 
 pub unwrap-place-requires : goal.unwrap-place-requires
@@ -29,16 +40,23 @@ unwrap-place-requires c =
     c.pop.ensures.variant.1 (omega (arith, few, count, c.self.inside.free.ok.0))
 
 pub link-requires-clause-before : goal.link-requires-clause-before
-link-requires-clause-before c = omega (arith, last-most c.self.inside _ c.self.invariant c.index-last.ensures, c.self.invariant.next_length)
+link-requires-clause-before c =
+    omega (arith, last-most c.self.inside _ c.self.invariant c.index-last.ensures, c.self.invariant.next_length)
 
 pub link-requires-clause-after : goal.link-requires-clause-after
 link-requires-clause-after c =
-    omega (arith, free-below c.self.inside _ _ c.self.invariant (popped _ _ _ _ c.pop.ensures.items c.unwrap-place.ensures), c.self.invariant.prev_length)
+    omega (
+      arith,
+      free-below c.self.inside _ _ c.self.invariant (popped _ _ _ _ c.pop.ensures.items c.unwrap-place.ensures),
+      c.self.invariant.prev_length,
+    )
 
 pub link-requires-2-clause-before : goal.link-requires-2-clause-before
 link-requires-2-clause-before c =
-    let below = free-below c.self.inside _ _ c.self.invariant (popped _ _ _ _ c.pop.ensures.items c.unwrap-place.ensures) in
-    let long : length c.link.new.next.items ≡ length c.self.inside.next.items = ap length c.link.ensures.next ∙ length-set _ _ _ in
+    let below =
+    free-below c.self.inside _ _ c.self.invariant (popped _ _ _ _ c.pop.ensures.items c.unwrap-place.ensures) in
+    let long : length c.link.new.next.items ≡ length c.self.inside.next.items =
+    ap length c.link.ensures.next ∙ length-set _ _ _ in
     omega (arith, below, c.self.invariant.next_length)
 
 pub invariant_of-self : goal.invariant_of-self
@@ -53,8 +71,10 @@ returns-clause-appended c =
 
 pub returns-clause-below : goal.returns-clause-below
 returns-clause-below c =
-    rw (← c.self.view_is) (free-below c.self.inside _ _ c.self.invariant (popped _ _ _ _ c.pop.ensures.items c.unwrap-place.ensures))
+    rw (← c.self.view_is)
+    (free-below c.self.inside _ _ c.self.invariant (popped _ _ _ _ c.pop.ensures.items c.unwrap-place.ensures))
 
 pub returns-clause-different : goal.returns-clause-different
 unfolding after
-returns-clause-different c = places-different (after c) (pushed-stays c.self.inside (after c) _ _ c.self.invariant (done c))
+returns-clause-different c =
+    places-different (after c) (pushed-stays c.self.inside (after c) _ _ c.self.invariant (done c))

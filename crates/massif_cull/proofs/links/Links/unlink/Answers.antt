@@ -2,16 +2,25 @@ use Rattle.std.proofs.Common.{◌∙◌, ap, refl, arith}
 use Rattle.std.specs.Prelude.{remove}
 use Rattle.massif_cull.specs.declared.links.Links.TheInside.{Inside}
 use Rattle.massif_cull.specs.LinksState.{LinksState}
-use Rattle.massif_cull.proofs.LinksLemmas.{IsUnlinked, before-most, after-most, unlinked-places, unlinked-stays, places-different}
+use Rattle.massif_cull.proofs.LinksLemmas.{
+  IsUnlinked,
+  before-most,
+  after-most,
+  unlinked-places,
+  unlinked-stays,
+  places-different,
+}
 use Rattle.massif_cull.proofs.links.Links.unlink.Goals as goal
 use Rattle.massif_cull.proofs.links.Links.unlink.Goals.{After-push_reserved}
 
 -- the fields afterwards
 after : After-push_reserved → Inside
-after c = record { max = c.self.inside.max; next = c.link.new.next; prev = c.link.new.prev; free = c.push_reserved.new.self }
+after c =
+    record { max = c.self.inside.max; next = c.link.new.next; prev = c.link.new.prev; free = c.push_reserved.new.self }
 
 -- what has become of them
-done : (c : After-push_reserved) → IsUnlinked c.self.inside (after c) c.args.place c.index-before.result.now c.index-after.result.now
+done : (c : After-push_reserved)
+    → IsUnlinked c.self.inside (after c) c.args.place c.index-before.result.now c.index-after.result.now
 unfolding after
 done c = record {
   same_max = refl;
@@ -26,12 +35,20 @@ done c = record {
 pub link-requires-clause-before : goal.link-requires-clause-before
 link-requires-clause-before c =
     let held = rw (← c.self.view_is) at c.requires in
-    omega (arith, before-most c.self.inside c.args.place _ c.self.invariant held c.index-before.ensures, c.self.invariant.next_length)
+    omega (
+      arith,
+      before-most c.self.inside c.args.place _ c.self.invariant held c.index-before.ensures,
+      c.self.invariant.next_length,
+    )
 
 pub link-requires-clause-after : goal.link-requires-clause-after
 link-requires-clause-after c =
     let held = rw (← c.self.view_is) at c.requires in
-    omega (arith, after-most c.self.inside c.args.place _ c.self.invariant held c.index-after.ensures, c.self.invariant.prev_length)
+    omega (
+      arith,
+      after-most c.self.inside c.args.place _ c.self.invariant held c.index-after.ensures,
+      c.self.invariant.prev_length,
+    )
 
 pub invariant_of-self : goal.invariant_of-self
 unfolding after

@@ -8,5 +8,6 @@ pub returns-clause-lines : goal.returns-clause-lines
 returns-clause-lines c =
     rw (← c.self.view_is)
     (on_ok_weaker c.push.result
-    (λ appended. ap (λ (labels : List (List ℕ)). lines_in labels c.self.inside.entries.items) appended ∙ lines-same c.self.inside.labels _ c.self.inside.entries.items c.self.invariant)
+    (λ appended. ap (λ (labels : List (List ℕ)). lines_in labels c.self.inside.entries.items) appended
+    ∙ lines-same c.self.inside.labels _ c.self.inside.entries.items c.self.invariant)
     c.push.ensures.appended)

@@ -6,4 +6,7 @@ pub returns : goal.returns
 returns c =
     let held = subst (λ (labels : List (List ℕ)). c.args.number < length labels) (sym c.self.view_is) c.requires.held in
     rw (← c.self.view_is, c.deref.ensures.value)
-    (record { label = label-at c.self.inside.bytes.items c.self.inside.spans.items c.args.number c.index-span.result.now held c.index-span.ensures })
+    (record {
+      label = label-at c.self.inside.bytes.items c.self.inside.spans.items c.args.number c.index-span.result.now
+          held c.index-span.ensures;
+    })

@@ -7,4 +7,7 @@ use Rattle.massif_file.proofs.ReadingLemmas.{unless_claim, after-refused}
 use Rattle.massif_file.proofs.reading.Reading.line.Goals as goal
 
 pub returns-in-Refused-clause-refused : goal.returns-in-Refused-clause-refused
-returns-in-Refused-clause-refused c = unless_claim c.in-Refused.fault (ap (λ (s : Stage). after (shown_at s c.args.self.now) c.args.line.now) c.in-Refused.is ∙ after-refused c.in-Refused.fault c.args.line.now)
+returns-in-Refused-clause-refused c =
+    unless_claim c.in-Refused.fault
+    (ap (λ (s : Stage). after (shown_at s c.args.self.now) c.args.line.now) c.in-Refused.is
+    ∙ after-refused c.in-Refused.fault c.args.line.now)

@@ -8,4 +8,6 @@ use Rattle.massif_file.proofs.reading.Reading.take.Goals as goal
 
 pub returns-in-Refused : goal.returns-in-Refused
 unfolding taken
-returns-in-Refused c = unless_claim c.in-Refused.fault (ap (λ (s : Stage). taken (shown_at s c.args.self.now) c.args.line.now) c.in-Refused.is)
+returns-in-Refused c =
+    unless_claim c.in-Refused.fault
+    (ap (λ (s : Stage). taken (shown_at s c.args.self.now) c.args.line.now) c.in-Refused.is)

@@ -15,9 +15,16 @@ returns-clause-sampling g c =
     (both_ok c.add_trimmed.result
     (λ count lists names events made texts was.
     let tables = c.args.tables.now in
-    let are : List (List (List ℕ)) → ℕ → Type 0 = λ fronts depth. fronts ≡ first_lists tables names.alloc_fns (depth + 1) (length fronts) in
-    sampling-fronts (state_of inside.options inside.running inside.array inside.failed inside.fronts inside.history) c.add_trimmed.new.fronts
+    let are : List (List (List ℕ)) → ℕ → Type 0 =
+    λ fronts depth. fronts ≡ first_lists tables names.alloc_fns (depth + 1) (length fronts) in
+    sampling-fronts (state_of inside.options inside.running inside.array inside.failed inside.fronts inside.history)
+    c.add_trimmed.new.fronts
     names tables events made
-    (record { held = omega arith; are = subst (are c.add_trimmed.new.fronts) same (lists names.alloc_fns texts (subst (are inside.fronts) (sym same) was.fronts.are)) })
+    (record {
+      held = omega arith;
+      are =
+          subst (are c.add_trimmed.new.fronts) same
+          (lists names.alloc_fns texts (subst (are inside.fronts) (sym same) was.fronts.are));
+    })
     (let held = was.fronts.held in omega arith) was)
     c.add_trimmed.ensures.count c.add_trimmed.ensures.lists)

@@ -16,7 +16,11 @@ returns-clause-sampling c =
     rw (← c.self.view_is)
     (λ names tables events made event was of_stack is_in figures.
     let costs = λ (es : _) (stack : ℕ). cost_at (ignores tables names) es (event_count es) stack in
-    let tells = c.mark.ensures.tells (costs events) (costs (events ++ event ∷ [])) was.told (λ other apart. cost-other (ignores tables names) events event c.args.stack other is_in apart) in
-    subst (λ (h : RoomyHistory). IsSampling (record old { running = c.args.next; history = h.history }) names tables (events ++ event ∷ []) made) (sym c.mark.ensures.rest)
+    let tells =
+    c.mark.ensures.tells (costs events) (costs (events ++ event ∷ [])) was.told
+    (λ other apart. cost-other (ignores tables names) events event c.args.stack other is_in apart) in
+    subst (λ (h : RoomyHistory). IsSampling (record old { running = c.args.next; history = h.history }) names tables
+    (events ++ event ∷ []) made) (sym
+    c.mark.ensures.rest)
     (sampling-moved old c.mark.new.self.history.marks names tables events made event c.args.next was of_stack figures
     (subst (λ (h : RoomyHistory). TellsNow h.history (costs (events ++ event ∷ []))) c.mark.ensures.rest tells)))

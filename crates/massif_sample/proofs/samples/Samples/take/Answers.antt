@@ -11,7 +11,8 @@ use Rattle.massif_sample.proofs.samples.Samples.take.Goals as goal
 pub take-requires-clause-judged : goal.take-requires-clause-judged
 take-requires-clause-judged c =
     let inside = c.self.inside in
-    let offer_is : c.offer-offer.result ≡ offer_of inside.running c.args.as_peak = rw (← c.self.view_is) at c.offer-offer.ensures.exact in
+    let offer_is : c.offer-offer.result ≡ offer_of inside.running c.args.as_peak =
+    rw (← c.self.view_is) at c.offer-offer.ensures.exact in
     let judged = rw (← c.self.view_is) at c.requires.judged in
     judged
     ∙ sym (ap (λ (s : Settings). taken_as s inside.array.kept c.offer-offer.result) c.self.invariant.settings
@@ -23,10 +24,12 @@ returns-clause-sampling c =
     let inside = c.self.inside in
     let old = state_of inside.options inside.running inside.array inside.failed inside.fronts inside.history in
     let offer = c.offer-offer.result in
-    let offer_is : offer ≡ offer_of inside.running c.args.as_peak = rw (← c.self.view_is) at c.offer-offer.ensures.exact in
+    let offer_is : offer ≡ offer_of inside.running c.args.as_peak =
+    rw (← c.self.view_is) at c.offer-offer.ensures.exact in
     rw (← c.self.view_is)
     (λ names tables events made tree was.
-    subst (λ (o : Offer). IsSampling (record old { array = c.take.new.self }) names tables events (made ++ o ∷ [])) offer_is
+    subst (λ (o : Offer). IsSampling (record old { array = c.take.new.self }) names tables events (made ++ o ∷ []))
+    offer_is
     (sampling-offered old c.take.new.self names tables events made offer
     (record { heap = inside.running.heap; extra = inside.running.gross - inside.running.heap }) c.args.taken
     (record {

@@ -11,5 +11,7 @@ returns-clause-sampling c =
     let old = state_of inside.options inside.running inside.array inside.failed inside.fronts inside.history in
     rw (← c.self.view_is)
     (λ names tables events made was.
-    subst (λ (h : RoomyHistory). IsSampling (record old { history = h.history }) names tables events made) (sym c.thin.ensures.rest)
-    (sampling-thinned old c.thin.new.self.history.changes (length c.thin.new.self.history.changes) c.in_ok-places.places.items names tables events made c.in_ok-places.ensures.all c.thin.ensures.costs was))
+    subst (λ (h : RoomyHistory). IsSampling (record old { history = h.history }) names tables events made)
+    (sym c.thin.ensures.rest)
+    (sampling-thinned old c.thin.new.self.history.changes (length c.thin.new.self.history.changes)
+    c.in_ok-places.places.items names tables events made c.in_ok-places.ensures.all c.thin.ensures.costs was))

@@ -12,6 +12,7 @@ returns-clause-gone c =
     let new = c.step.new.self in
     let text = c.in_ok-step.ensures.text in
     let none : text.0 ≡ [] =
-    nothing-stepped old.job _ old.order new.order text.0 c.in_ok-step.ensures.step.order_is (sym c.in_ok-step.ensures.step.more_is ∙ c.if-branch.false)
+    nothing-stepped old.job _ old.order new.order text.0 c.in_ok-step.ensures.step.order_is
+    (sym c.in_ok-step.ensures.step.more_is ∙ c.if-branch.false)
     (ap (λ (job : Job). recorded job new.order) (sym c.step.ensures.job) ∙ text.2) in
     text.1 ∙ ap (λ (stream : Streamed). stream.text ++ text.0) c.let_go.ensures ∙ none

@@ -8,12 +8,17 @@ pub returns-then-at-self : goal.returns-then-at-self
 returns-then-at-self c =
     let held = rw (← c.self.view_is) at c.requires in
     let value : c.at-then-at-self.result ≡ slice_index c.args.self.now.block_shares c.args.stack =
-    rw (← c.self.view_is) (c.at-then-at-self.ensures.value ∙ sym (share-saved_at (λ (f : Figures). f.blocks) c.self.inside.ledger _ _ _ _ held (sym c.at.ensures.value ∙ c.if-at-self.true))) in
+    rw (← c.self.view_is)
+    (c.at-then-at-self.ensures.value
+    ∙ sym (share-saved_at (λ (f : Figures). f.blocks) c.self.inside.ledger _ _ _ _ held
+    (sym c.at.ensures.value ∙ c.if-at-self.true))) in
     record { value = value; share = λ events stands. value ∙ stands.block_shares c.args.stack }
 
 pub returns-else-at-self : goal.returns-else-at-self
 returns-else-at-self c =
     let held = rw (← c.self.view_is) at c.requires in
     let value : c.stack.result.blocks ≡ slice_index c.args.self.now.block_shares c.args.stack =
-    rw (← c.self.view_is, c.stack.ensures.value) (sym (share-live_at (λ (f : Figures). f.blocks) c.self.inside.ledger _ _ _ _ refl held (λ is. c.if-at-self.false (c.at.ensures.value ∙ is)))) in
+    rw (← c.self.view_is, c.stack.ensures.value)
+    (sym (share-live_at (λ (f : Figures). f.blocks) c.self.inside.ledger _ _ _ _ refl held
+    (λ is. c.if-at-self.false (c.at.ensures.value ∙ is)))) in
     record { value = value; share = λ events stands. value ∙ stands.block_shares c.args.stack }

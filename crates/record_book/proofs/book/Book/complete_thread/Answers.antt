@@ -13,9 +13,11 @@ turns-smaller c =
     let more = sym c.if-branch.true ∙ c.in_ok-step.ensures.more in
     let order : new.order ≡ _ = ap (λ (r : Recording). r.order) c.in_ok-step.ensures.stepped in
     let job : new.job ≡ old.job = ap (λ (r : Recording). r.job) c.in_ok-step.ensures.stepped in
-    let same : length (events_at new.job.scripts c.args.thread) ≡ length (events_at old.job.scripts c.args.thread) = ap (λ (j : Job). length (events_at j.scripts c.args.thread)) job in
+    let same : length (events_at new.job.scripts c.args.thread) ≡ length (events_at old.job.scripts c.args.thread) =
+    ap (λ (j : Job). length (events_at j.scripts c.args.thread)) job in
     let grew : times c.args.thread old.order < times c.args.thread new.order =
-    subst (λ (entries : List ℕ). times c.args.thread old.order < times c.args.thread entries) (sym order) (stepped-own old.job.scripts c.args.thread old.order more) in
+    subst (λ (entries : List ℕ). times c.args.thread old.order < times c.args.thread entries) (sym order)
+    (stepped-own old.job.scripts c.args.thread old.order more) in
     let bound = c.in_ok-step.ensures.under.at_most c.args.thread in
     omega (arith, same, grew, bound)
 
@@ -24,14 +26,23 @@ turns-preserved c =
     let old = c.turns.self in
     let before = c.turns.invariant in
     let order = ap (λ (r : Recording). r.order) c.in_ok-step.ensures.stepped in
-    let entries = turn_entries c.args.thread (slice_get (events_at old.job.scripts c.args.thread) (times c.args.thread old.order)) in
+    let entries =
+    turn_entries c.args.thread
+    (slice_get (events_at old.job.scripts c.args.thread) (times c.args.thread old.order)) in
     record {
-      others = λ other apart. ap (times other) order ∙ stepped-other old.job.scripts c.args.thread other old.order apart ∙ before.others other apart;
+      others =
+          λ other apart. ap (times other) order ∙ stepped-other old.job.scripts c.args.thread other old.order apart
+          ∙ before.others other apart;
       same_job = ap (λ (r : Recording). r.job) c.in_ok-step.ensures.stepped ∙ before.same_job;
-      grown = (before.grown.0 ++ entries, order ∙ ap (λ (front : List ℕ). front ++ entries) before.grown.1 ∙ append_assoc c.args.self.now.order before.grown.0 entries);
+      grown = (
+        before.grown.0 ++ entries,
+        order ∙ ap (λ (front : List ℕ). front ++ entries) before.grown.1
+            ∙ append_assoc c.args.self.now.order before.grown.0 entries,
+      );
     }
 
 pub returns-clause-others : goal.returns-clause-others
 returns-clause-others c = λ other apart.
     let old = c.turns.self in
-    ap (times other) (ap (λ (r : Recording). r.order) c.in_ok-step.ensures.stepped) ∙ stepped-other old.job.scripts c.args.thread other old.order apart ∙ c.turns.invariant.others other apart
+    ap (times other) (ap (λ (r : Recording). r.order) c.in_ok-step.ensures.stepped)
+    ∙ stepped-other old.job.scripts c.args.thread other old.order apart ∙ c.turns.invariant.others other apart

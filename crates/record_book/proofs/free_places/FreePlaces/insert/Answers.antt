@@ -9,7 +9,8 @@ use Rattle.record_book.proofs.free_places.FreePlaces.insert.Goals as goal
 
 pub insert-requires : goal.insert-requires
 insert-requires c =
-    subst (λ (found : Option FreeAddresses). is_among found c.args.address ≡ false) (sym c.in-Some.ensures.value) c.requires
+    subst (λ (found : Option FreeAddresses). is_among found c.args.address ≡ false) (sym c.in-Some.ensures.value)
+    c.requires
 
 pub returns-in-Some-clause-put : goal.returns-in-Some-clause-put
 returns-in-Some-clause-put c =
@@ -17,8 +18,13 @@ returns-in-Some-clause-put c =
     let after = c.insert.new.self in
     let some : IsSome (get nat_eq map c.args.class) = subst IsSome c.in-Some.ensures.value refl in
     let puts = ((c.get_mut.follows.holds after).3 some).0 in
-    on-ok c.insert.result _ _ (λ put. class-changed (λ (q : ℕ). get nat_eq map q) (λ (q : ℕ). get nat_eq (c.get_mut.follows.lender after) q) c.args.class c.args.address true after puts
-    (λ a. put a ∙ ap (λ (found : Option FreeAddresses). cond (c.args.address == a) true (is_among found a)) c.in-Some.ensures.value)) c.insert.ensures.put
+    on-ok c.insert.result _ _
+    (λ put. class-changed (λ (q : ℕ). get nat_eq map q) (λ (q : ℕ). get nat_eq (c.get_mut.follows.lender after) q)
+    c.args.class c.args.address true after puts
+    (λ a. put a
+    ∙ ap (λ (found : Option FreeAddresses). cond (c.args.address == a) true (is_among found a))
+    c.in-Some.ensures.value))
+    c.insert.ensures.put
 
 pub returns-in-Some-clause-unchanged : goal.returns-in-Some-clause-unchanged
 returns-in-Some-clause-unchanged c =
@@ -26,5 +32,8 @@ returns-in-Some-clause-unchanged c =
     let after = c.insert.new.self in
     let some : IsSome (get nat_eq map c.args.class) = subst IsSome c.in-Some.ensures.value refl in
     let puts = ((c.get_mut.follows.holds after).3 some).0 in
-    err-then c.insert.result _ _ (λ same. class-same (λ (q : ℕ). get nat_eq map q) (λ (q : ℕ). get nat_eq (c.get_mut.follows.lender after) q) c.args.class after puts
-    (λ a. same a ∙ ap (λ (found : Option FreeAddresses). is_among found a) c.in-Some.ensures.value)) c.insert.ensures.unchanged
+    err-then c.insert.result _ _
+    (λ same. class-same (λ (q : ℕ). get nat_eq map q) (λ (q : ℕ). get nat_eq (c.get_mut.follows.lender after) q)
+    c.args.class after puts
+    (λ a. same a ∙ ap (λ (found : Option FreeAddresses). is_among found a) c.in-Some.ensures.value))
+    c.insert.ensures.unchanged

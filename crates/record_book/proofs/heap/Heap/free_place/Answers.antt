@@ -6,4 +6,5 @@ use Rattle.record_book.proofs.heap.Heap.free_place.Goals as goal
 
 pub insert-requires : goal.insert-requires
 insert-requires c =
-    subst (λ (left : Option LiveEntry). IfSome left (λ entry. has_place c.args.self.now.free entry.class entry.address ≡ false)) c.in-Some.is c.requires
+    subst (λ (left : Option LiveEntry). IfSome left
+    (λ entry. has_place c.args.self.now.free entry.class entry.address ≡ false)) c.in-Some.is c.requires

@@ -18,18 +18,27 @@ pub returns-in_default-clause-freed : goal.returns-in_default-clause-freed
 returns-in_default-clause-freed c =
     let heap = c.args.self.now in
     let new : Heap = record heap { live = c.remove.new.self } in
-    let none : entry_at heap c.args.thread c.args.id ≡ None = sym (c.in_ok-reserve.ensures.same c.args.thread c.args.id) ∙ sym c.remove.ensures.taken ∙ c.in_default.is in
+    let none : entry_at heap c.args.thread c.args.id ≡ None =
+    sym (c.in_ok-reserve.ensures.same c.args.thread c.args.id) ∙ sym c.remove.ensures.taken ∙ c.in_default.is in
     record {
-      address_is = λ places of. sym (address-none places c.args.thread c.args.id (sym (of.live_blocks c.args.thread c.args.id) ∙ none));
-      places_are = λ places of. of-kept (entry_at heap) (entry_at new) (has_place heap.free) (has_place heap.free) heap.end places c.args.thread c.args.id of none (λ k a. refl)
-          (λ t i. c.remove.ensures.left t i ∙ ap (λ (found : Option LiveEntry). cond (same c.args.thread c.args.id t i) None found) (c.in_ok-reserve.ensures.same t i));
+      address_is =
+          λ places of. sym
+          (address-none places c.args.thread c.args.id (sym (of.live_blocks c.args.thread c.args.id) ∙ none));
+      places_are =
+          λ places of. of-kept (entry_at heap) (entry_at new) (has_place heap.free) (has_place heap.free) heap.end places
+          c.args.thread c.args.id of none (λ k a. refl)
+          (λ t i. c.remove.ensures.left t i
+          ∙ ap (λ (found : Option LiveEntry). cond (same c.args.thread c.args.id t i) None found)
+          (c.in_ok-reserve.ensures.same t i));
     }
 
 pub insert-requires : goal.insert-requires
 insert-requires c =
     let heap = c.args.self.now in
-    let at : entry_at heap c.args.thread c.args.id ≡ Some c.in-Some.left = sym (c.in_ok-reserve.ensures.same c.args.thread c.args.id) ∙ sym c.remove.ensures.taken ∙ c.in-Some.is in
-    subst (λ (found : Option LiveEntry). IfSome found (λ entry. has_place heap.free entry.class entry.address ≡ false)) at
+    let at : entry_at heap c.args.thread c.args.id ≡ Some c.in-Some.left =
+    sym (c.in_ok-reserve.ensures.same c.args.thread c.args.id) ∙ sym c.remove.ensures.taken ∙ c.in-Some.is in
+    subst (λ (found : Option LiveEntry). IfSome found (λ entry. has_place heap.free entry.class entry.address ≡ false))
+    at
     (left-not-free heap c.requires.places c.args.thread c.args.id c.requires.heap_is)
 
 pub returns-in-Ok-clause-freed : goal.returns-in-Ok-clause-freed
@@ -37,12 +46,19 @@ returns-in-Ok-clause-freed c =
     let heap = c.args.self.now in
     let new : Heap = record heap { live = c.remove.new.self; free = c.insert.new.self } in
     let left = c.in-Some.left in
-    let at : entry_at heap c.args.thread c.args.id ≡ Some left = sym (c.in_ok-reserve.ensures.same c.args.thread c.args.id) ∙ sym c.remove.ensures.taken ∙ c.in-Some.is in
+    let at : entry_at heap c.args.thread c.args.id ≡ Some left =
+    sym (c.in_ok-reserve.ensures.same c.args.thread c.args.id) ∙ sym c.remove.ensures.taken ∙ c.in-Some.is in
     record {
-      address_is = λ places of. sym (address-some places c.args.thread c.args.id left (sym (of.live_blocks c.args.thread c.args.id) ∙ at));
-      places_are = λ places of. of-released (entry_at heap) (entry_at new) (has_place heap.free) (has_place new.free) heap.end places c.args.thread c.args.id left of at
+      address_is =
+          λ places of. sym
+          (address-some places c.args.thread c.args.id left (sym (of.live_blocks c.args.thread c.args.id) ∙ at));
+      places_are =
+          λ places of. of-released (entry_at heap) (entry_at new) (has_place heap.free) (has_place new.free) heap.end
+          places c.args.thread c.args.id left of at
           c.in-Ok.ensures.put
-          (λ t i. c.remove.ensures.left t i ∙ ap (λ (found : Option LiveEntry). cond (same c.args.thread c.args.id t i) None found) (c.in_ok-reserve.ensures.same t i));
+          (λ t i. c.remove.ensures.left t i
+          ∙ ap (λ (found : Option LiveEntry). cond (same c.args.thread c.args.id t i) None found)
+          (c.in_ok-reserve.ensures.same t i));
     }
 
 pub returns-in_ok-insert-in-Err-clause-same : goal.returns-in_ok-insert-in-Err-clause-same
@@ -50,10 +66,13 @@ returns-in_ok-insert-in-Err-clause-same c =
     let heap = c.args.self.now in
     let new : Heap = record { live = c.insert-in-Err.new.self; free = c.insert.new.self; end = heap.end } in
     let left = c.in-Some.left in
-    let at : entry_at heap c.args.thread c.args.id ≡ Some left = sym (c.in_ok-reserve.ensures.same c.args.thread c.args.id) ∙ sym c.remove.ensures.taken ∙ c.in-Some.is in
+    let at : entry_at heap c.args.thread c.args.id ≡ Some left =
+    sym (c.in_ok-reserve.ensures.same c.args.thread c.args.id) ∙ sym c.remove.ensures.taken ∙ c.in-Some.is in
     same-heap heap new
     (λ t i. c.in_ok-insert-in-Err.ensures.put t i
-    ∙ ap (λ (found : Option LiveEntry). cond (same c.args.thread c.args.id t i) (Some left) found) (c.remove.ensures.left t i
-    ∙ ap (λ (found : Option LiveEntry). cond (same c.args.thread c.args.id t i) None found) (c.in_ok-reserve.ensures.same t i))
+    ∙ ap (λ (found : Option LiveEntry). cond (same c.args.thread c.args.id t i) (Some left) found)
+    (c.remove.ensures.left t i
+    ∙ ap (λ (found : Option LiveEntry). cond (same c.args.thread c.args.id t i) None found)
+    (c.in_ok-reserve.ensures.same t i))
     ∙ put-back (entry_at heap) c.args.thread c.args.id left at t i)
     c.in-Err.ensures.unchanged refl

@@ -10,7 +10,9 @@ returns-in-Some-clause-taken c = λ live places of.
     record {
       next = next-free live (has_place heap.free) heap.end places c.args.class address of took.held took.first;
       left = took.left;
-      end_is = end-stays address heap.end c.args.class (free-first live (has_place heap.free) heap.end places c.args.class address of took.held);
+      end_is =
+          end-stays address heap.end c.args.class
+          (free-first live (has_place heap.free) heap.end places c.args.class address of took.held);
     }
 
 pub returns-in-None-clause-taken : goal.returns-in-None-clause-taken
@@ -18,6 +20,8 @@ returns-in-None-clause-taken c = λ live places of.
     let heap = c.args.self.now in
     record {
       next = next-end live (has_place heap.free) heap.end places c.args.class of c.in-None.ensures.none;
-      left = none-taken (has_place heap.free) (has_place c.take_first.new.self) c.args.class heap.end c.in-None.ensures.none c.in-None.ensures.unchanged;
+      left =
+          none-taken (has_place heap.free) (has_place c.take_first.new.self) c.args.class heap.end c.in-None.ensures.none
+          c.in-None.ensures.unchanged;
       end_is = end-up heap.end c.args.class;
     }

@@ -6,18 +6,39 @@ use Rattle.record_book.proofs.tally.Tally.allocate.Goals as goal
 
 pub overflow_sub-self : goal.overflow_sub-self
 overflow_sub-self c =
-    omega (arith, c.unwrap_or.ensures, (freed-within c.args.self.now c.requires.room.tallied.0 c.args.thread c.args.id c.in_ok-before.before c.requires.room.tallied.1 c.in_ok-before.ensures.old).0)
+    omega (
+      arith,
+      c.unwrap_or.ensures,
+      (freed-within c.args.self.now c.requires.room.tallied.0 c.args.thread c.args.id c.in_ok-before.before
+          c.requires.room.tallied.1 c.in_ok-before.ensures.old).0,
+    )
 
 pub overflow_sub-self-2 : goal.overflow_sub-self-2
 overflow_sub-self-2 c =
     let one : c.count_of.result ≡ cond {A = ℕ} (is_some c.in_ok-before.before) 1 0 = c.count_of.ensures in
-    omega (arith, one, (freed-within c.args.self.now c.requires.room.tallied.0 c.args.thread c.args.id c.in_ok-before.before c.requires.room.tallied.1 c.in_ok-before.ensures.old).1)
+    omega (
+      arith,
+      one,
+      (freed-within c.args.self.now c.requires.room.tallied.0 c.args.thread c.args.id c.in_ok-before.before
+          c.requires.room.tallied.1 c.in_ok-before.ensures.old).1,
+    )
 
 pub overflow_add-self-3 : goal.overflow_add-self-3
-overflow_add-self-3 c = omega (arith, c.requires.few_bytes, c.requires.room.few_bytes, (tally-within c.args.self.now c.requires.room.tallied.0 c.requires.room.tallied.1).0)
+overflow_add-self-3 c =
+    omega (
+      arith,
+      c.requires.few_bytes,
+      c.requires.room.few_bytes,
+      (tally-within c.args.self.now c.requires.room.tallied.0 c.requires.room.tallied.1).0,
+    )
 
 pub overflow_add-self-4 : goal.overflow_add-self-4
-overflow_add-self-4 c = omega (arith, c.requires.room.few_calls, (tally-within c.args.self.now c.requires.room.tallied.0 c.requires.room.tallied.1).1)
+overflow_add-self-4 c =
+    omega (
+      arith,
+      c.requires.room.few_calls,
+      (tally-within c.args.self.now c.requires.room.tallied.0 c.requires.room.tallied.1).1,
+    )
 
 pub returns-clause-taken : goal.returns-clause-taken
 returns-clause-taken c = λ ips actions is.
@@ -32,5 +53,7 @@ returns-clause-taken c = λ ips actions is.
       blocks = old.blocks - c.count_of.result + 1;
       peak = c.max-self.result;
     } in
-    tally-allocated old new actions c.args.thread c.args.id c.args.size ips found is c.in_ok-before.ensures.old (λ t i. c.in_ok-before.ensures.updates.0 (t, i))
-    (ap (λ (n : ℕ). old.total - n + c.args.size) c.unwrap_or.ensures) (ap (λ (n : ℕ). old.blocks - n + 1) one) refl refl c.max-self.ensures
+    tally-allocated old new actions c.args.thread c.args.id c.args.size ips found is c.in_ok-before.ensures.old
+    (λ t i. c.in_ok-before.ensures.updates.0 (t, i))
+    (ap (λ (n : ℕ). old.total - n + c.args.size) c.unwrap_or.ensures) (ap (λ (n : ℕ). old.blocks - n + 1) one) refl refl
+    c.max-self.ensures

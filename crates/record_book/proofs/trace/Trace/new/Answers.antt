@@ -9,7 +9,8 @@ pub returns-clause-new : goal.returns-clause-new
 returns-clause-new c = record {
   text_is =
       c.in_ok-put_bytes-2.ensures.appended
-      ∙ ap (λ (text : List ℕ). text ++ c.args.modules.now) (c.in_ok-put_bytes.ensures.appended ∙ ap (λ (text : List ℕ). text ++ opening) c.new-text.ensures.items);
+      ∙ ap (λ (text : List ℕ). text ++ c.args.modules.now)
+      (c.in_ok-put_bytes.ensures.appended ∙ ap (λ (text : List ℕ). text ++ opening) c.new-text.ensures.items);
   nodes_are = numbered-none c.new-2.result (subst AreNodes (sym c.new-2.ensures.empty) law-none) c.new-2.ensures.empty;
   heap_is = c.in_ok-heap.ensures.empty;
   last_is = refl;

@@ -17,7 +17,8 @@ returns-clause-put c = λ known places are heap_is.
           c.put_stack.new.nodes c.in_ok-node.node c.args.size ptr places c.args.thread
           c.args.id put c.in_ok-node.ensures.grown.held (block.address_is places heap_is)
           (c.in_ok-put_alloc.ensures.appended
-          ∙ ap (λ (text : List ℕ). text ++ line_of (raw_allocation_line c.args.size c.from.result ptr)) c.in_ok-reserve.ensures.items
+          ∙ ap (λ (text : List ℕ). text ++ line_of (raw_allocation_line c.args.size c.from.result ptr))
+          c.in_ok-reserve.ensures.items
           ∙ ap (λ (n : ℕ). c.put_stack.new.text.items
           ++ line_of (raw_allocation_line c.args.size n ptr)) c.from.ensures);
       nodes_are = put.numbered;

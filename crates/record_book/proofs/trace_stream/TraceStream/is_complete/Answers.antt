@@ -11,6 +11,9 @@ use Rattle.record_book.proofs.trace_stream.TraceStream.is_complete.Goals as goal
 pub returns : goal.returns
 returns c =
     let stream = c.self.inside in
-    subst (λ (r : Streamed). IsTrue (length c.as_slice-order.result.now == c.events.result) ↔ IsInterleaving r.job.scripts r.order) c.self.view_is
-    (complete-is (arc_value stream.job) stream.done.items stream.order.items stream.trace (length c.as_slice-order.result.now) c.events.result c.self.invariant.0
-    (ap length c.as_slice-order.ensures.value) (c.events.ensures.count ∙ ap (λ (j : Job). event_count j.scripts) c.deref.ensures))
+    subst (λ (r : Streamed). IsTrue (length c.as_slice-order.result.now == c.events.result) ↔ IsInterleaving
+    r.job.scripts r.order) c.self.view_is
+    (complete-is (arc_value stream.job) stream.done.items stream.order.items stream.trace
+    (length c.as_slice-order.result.now) c.events.result c.self.invariant.0
+    (ap length c.as_slice-order.ensures.value)
+    (c.events.ensures.count ∙ ap (λ (j : Job). event_count j.scripts) c.deref.ensures))

@@ -16,16 +16,24 @@ pub invariant_of-result : goal.invariant_of-result
 invariant_of-result c =
     let job = arc_value c.args.job in
     let modules = c.modules.ensures.lines ∙ ap (λ (j : Job). j.modules) c.deref-3.ensures in
-    let stream = subst (λ (order : List ℕ). IsStream job c.in_ok-done.done.items order c.in_ok-trace.trace) (sym c.new-3.ensures.items)
-    (stream-none job c.in_ok-done.done.items c.threads.result c.in_ok-trace.trace (c.in_ok-done.ensures.items_if_clones_equal (λ y same. same))
+    let stream =
+    subst (λ (order : List ℕ). IsStream job c.in_ok-done.done.items order c.in_ok-trace.trace)
+    (sym c.new-3.ensures.items)
+    (stream-none job c.in_ok-done.done.items c.threads.result c.in_ok-trace.trace
+    (c.in_ok-done.ensures.items_if_clones_equal (λ y same. same))
     (c.threads.ensures.count ∙ ap (λ (j : Job). length j.scripts) c.deref.ensures)
-    (subst (λ (lines : List ℕ). IsTrace [] c.in_ok-trace.trace lines []) modules c.in_ok-trace.ensures.new) c.in_ok-trace.ensures.no_nodes c.in_ok-trace.ensures.end
-    (subst IsPlayable c.deref.ensures c.threads.ensures.playable)) in
-    (stream, subst (λ (j : Job). AreMapped c.in_ok-nodes.nodes (nodes_in j.scripts) c.in_ok-trace.trace.nodes) c.deref-2.ensures (c.in_ok-nodes.ensures.mapped c.in_ok-trace.trace.nodes))
+    (subst (λ (lines : List ℕ). IsTrace [] c.in_ok-trace.trace lines []) modules c.in_ok-trace.ensures.new)
+    c.in_ok-trace.ensures.no_nodes c.in_ok-trace.ensures.end
+    (subst IsPlayable c.deref.ensures c.threads.ensures.playable)) in (
+      stream,
+      subst (λ (j : Job). AreMapped c.in_ok-nodes.nodes (nodes_in j.scripts) c.in_ok-trace.trace.nodes)
+          c.deref-2.ensures (c.in_ok-nodes.ensures.mapped c.in_ok-trace.trace.nodes),
+    )
 
 pub returns-clause-whole : goal.returns-clause-whole
 returns-clause-whole c =
     let job = arc_value c.args.job in
     let modules = c.modules.ensures.lines ∙ ap (λ (j : Job). j.modules) c.deref-3.ensures in
     c.in_ok-trace.ensures.new.text_is ∙ ap (λ (lines : List ℕ). trace_text lines []) modules
-    ∙ ap (λ (acts : List Action). trace_text job.modules acts) (sym (actions-none job.scripts)) ∙ ap (λ (order : List ℕ). recorded job order) (sym c.new-3.ensures.items)
+    ∙ ap (λ (acts : List Action). trace_text job.modules acts) (sym (actions-none job.scripts))
+    ∙ ap (λ (order : List ℕ). recorded job order) (sym c.new-3.ensures.items)

@@ -8,4 +8,5 @@ use Rattle.record_book.proofs.trace_stream.TraceStream.scripts.Goals as goal
 pub returns-clause-under : goal.returns-clause-under
 returns-clause-under c =
     let stream = c.self.inside in
-    subst (λ (r : Streamed). IsUnder r.job.scripts r.order) c.self.view_is (under-of (arc_value stream.job) stream.done.items stream.order.items stream.trace c.self.invariant.0)
+    subst (λ (r : Streamed). IsUnder r.job.scripts r.order) c.self.view_is
+    (under-of (arc_value stream.job) stream.done.items stream.order.items stream.trace c.self.invariant.0)

@@ -12,7 +12,9 @@ pub invariant_of-self : goal.invariant_of-self
 invariant_of-self c =
     let stream = c.self.inside in
     let job = arc_value c.args.job in
-    let same : IsSameWork (arc_value stream.job) job = subst (λ (r : Streamed). IsSameWork r.job job) (sym c.self.view_is) c.requires in (
+    let same : IsSameWork (arc_value stream.job) job =
+    subst (λ (r : Streamed). IsSameWork r.job job) (sym c.self.view_is) c.requires in (
       stream-moved (arc_value stream.job) job stream.done.items stream.order.items stream.trace same c.self.invariant.0,
-      subst (λ (all : List (List Turn)). AreMapped stream.nodes (nodes_in all) stream.trace.nodes) same.same_scripts c.self.invariant.1,
+      subst (λ (all : List (List Turn)). AreMapped stream.nodes (nodes_in all) stream.trace.nodes) same.same_scripts
+          c.self.invariant.1,
     )

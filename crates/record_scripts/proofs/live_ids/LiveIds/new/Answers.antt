@@ -7,5 +7,6 @@ use Rattle.record_scripts.proofs.live_ids.LiveIds.new.Goals as goal
 
 pub returns : goal.returns
 returns c =
-    none-held c.in_ok-low.low.items 65536 (contains nat_eq c.new.result) (c.in_ok-low.ensures.items_if_clones_equal (λ y same. same))
+    none-held c.in_ok-low.low.items 65536 (contains nat_eq c.new.result)
+    (c.in_ok-low.ensures.items_if_clones_equal (λ y same. same))
     (λ id. ap (λ (keys : List ℕ). list_any (nat_eq id) keys) c.new.ensures.empty)

@@ -16,14 +16,18 @@ returns c =
     let modules : c.args.self.now.modules ≡ c.args.other.now.modules = search rules in (
       λ is. record {
         same_scripts = sym own
-            ∙ same-numbered nodes others scripts more (sym c.nodes.ensures ∙ c.are_same_nodes.ensures.same.0 c.if-not-are_same_nodes.false ∙ c.nodes-2.ensures) c.self.invariant.held c.other.invariant.held
-            (ap scripts_numbered (sym c.deref.ensures.value) ∙ c.are_kept_as.ensures.0 is ∙ ap scripts_numbered c.deref-2.ensures.value)
+            ∙ same-numbered nodes others scripts more
+            (sym c.nodes.ensures ∙ c.are_same_nodes.ensures.same.0 c.if-not-are_same_nodes.false ∙ c.nodes-2.ensures)
+            c.self.invariant.held c.other.invariant.held
+            (ap scripts_numbered (sym c.deref.ensures.value) ∙ c.are_kept_as.ensures.0 is
+            ∙ ap scripts_numbered c.deref-2.ensures.value)
             ∙ its;
         same_modules = modules;
       },
       λ same. c.are_kept_as.ensures.1
           (ap scripts_numbered c.deref.ensures.value
-          ∙ (same-kept nodes others scripts more (subst AreNodes c.nodes.ensures c.are_same_nodes.ensures.nodes) c.self.invariant.nodes_are c.other.invariant.nodes_are c.self.invariant.held c.other.invariant.held
+          ∙ (same-kept nodes others scripts more (subst AreNodes c.nodes.ensures c.are_same_nodes.ensures.nodes)
+          c.self.invariant.nodes_are c.other.invariant.nodes_are c.self.invariant.held c.other.invariant.held
           (own ∙ same.same_scripts ∙ sym its)).1
           ∙ ap scripts_numbered (sym c.deref-2.ensures.value)),
     )

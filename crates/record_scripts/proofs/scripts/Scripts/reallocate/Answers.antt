@@ -16,14 +16,20 @@ use Rattle.record_scripts.proofs.scripts.Scripts.reallocate.Goals as goal
 
 pub invariant_of-self-in_err-reserve_turn : goal.invariant_of-self-in_err-reserve_turn
 invariant_of-self-in_err-reserve_turn c =
-    scripts-same c.self.inside.stacks c.self.inside.scripts.items c.reserve_turn.new.scripts.items (has_id c.self.inside.live) (has_id c.self.inside.live) c.self.inside.events c.self.inside.limit c.self.invariant
-    (c.reserve_turn.ensures.same c.self.inside.stacks) (c.reserve_turn.ensures.held _ c.self.invariant.held) c.reserve_turn.ensures.count (λ id. refl)
+    scripts-same c.self.inside.stacks c.self.inside.scripts.items c.reserve_turn.new.scripts.items
+    (has_id c.self.inside.live) (has_id c.self.inside.live) c.self.inside.events c.self.inside.limit c.self.invariant
+    (c.reserve_turn.ensures.same c.self.inside.stacks) (c.reserve_turn.ensures.held _ c.self.invariant.held)
+    c.reserve_turn.ensures.count (λ id. refl)
 
 pub invariant_of-self-in_err-node : goal.invariant_of-self-in_err-node
 invariant_of-self-in_err-node c =
-    subst (λ (nodes : List Node). AreScripts nodes c.reserve_turn.new.scripts.items (has_id c.self.inside.live) c.self.inside.events c.self.inside.limit) (sym c.in_err-node.ensures.interned.unchanged)
-    (scripts-same c.self.inside.stacks c.self.inside.scripts.items c.reserve_turn.new.scripts.items (has_id c.self.inside.live) (has_id c.self.inside.live) c.self.inside.events c.self.inside.limit c.self.invariant
-    (c.reserve_turn.ensures.same c.self.inside.stacks) (c.reserve_turn.ensures.held _ c.self.invariant.held) c.reserve_turn.ensures.count (λ id. refl))
+    subst (λ (nodes : List Node). AreScripts nodes c.reserve_turn.new.scripts.items (has_id c.self.inside.live)
+    c.self.inside.events c.self.inside.limit) (sym
+    c.in_err-node.ensures.interned.unchanged)
+    (scripts-same c.self.inside.stacks c.self.inside.scripts.items c.reserve_turn.new.scripts.items
+    (has_id c.self.inside.live) (has_id c.self.inside.live) c.self.inside.events c.self.inside.limit c.self.invariant
+    (c.reserve_turn.ensures.same c.self.inside.stacks) (c.reserve_turn.ensures.held _ c.self.invariant.held)
+    c.reserve_turn.ensures.count (λ id. refl))
 
 -- the scripts with the turn
 kept : (c : goal.After-self-1) → scripts_kept c.intern.new.self c.push_turn.new.scripts.items
@@ -42,14 +48,28 @@ kept c =
 
 pub invariant_of-self-2 : goal.invariant_of-self-2
 invariant_of-self-2 c =
-    scripts-next c.self.inside.stacks c.intern.new.self c.self.inside.scripts.items c.push_turn.new.scripts.items (has_id c.self.inside.live) (has_id c.self.inside.live) c.self.inside.events c.self.inside.limit
-    (reallocates c.args.id c.args.size (numbers c.args.text.now)) c.self.invariant (omega (arith, ap (λ (job : Job). length job.scripts) c.self.view_is)) (c.push_turn.ensures.pushes.count ∙ c.reserve_turn.ensures.count)
-    (c.in_ok-push_turn.ensures.held _ (omega (arith, c.new-turn.ensures.node, c.in_ok-node.ensures.interned.within)) (c.reserve_turn.ensures.held _ (held-grown _ _ c.intern.ensures.interned.continues.held c.self.inside.scripts.items c.self.invariant.held)))
-    c.intern.ensures.interned.single c.intern.ensures.interned.few_more (ap (λ (x : Interned). x.nodes) (sym c.in_ok-node.ensures.interned.interned)) (kept c) (omega arith)
-    (live-kept (has_id c.self.inside.live) _ c.args.id c.self.invariant.live_blocks (sym c.contains.ensures ∙ c.if-not-contains.false)) (c.requires.few_bytes, few-ips (numbers c.args.text.now) c.in-Ok.ensures.read.good)
-    (sym (c.self.invariant.live_blocks c.args.id) ∙ (sym c.contains.ensures ∙ c.if-not-contains.false), c.in_ok-node.ensures.words)
+    scripts-next c.self.inside.stacks c.intern.new.self c.self.inside.scripts.items c.push_turn.new.scripts.items
+    (has_id c.self.inside.live) (has_id c.self.inside.live) c.self.inside.events c.self.inside.limit
+    (reallocates c.args.id c.args.size (numbers c.args.text.now)) c.self.invariant
+    (omega (arith, ap (λ (job : Job). length job.scripts) c.self.view_is))
+    (c.push_turn.ensures.pushes.count ∙ c.reserve_turn.ensures.count)
+    (c.in_ok-push_turn.ensures.held _ (omega (arith, c.new-turn.ensures.node, c.in_ok-node.ensures.interned.within))
+    (c.reserve_turn.ensures.held _
+    (held-grown _ _ c.intern.ensures.interned.continues.held c.self.inside.scripts.items c.self.invariant.held)))
+    c.intern.ensures.interned.single c.intern.ensures.interned.few_more
+    (ap (λ (x : Interned). x.nodes) (sym c.in_ok-node.ensures.interned.interned)) (kept c) (omega arith)
+    (live-kept (has_id c.self.inside.live) _ c.args.id c.self.invariant.live_blocks
+    (sym c.contains.ensures ∙ c.if-not-contains.false))
+    (c.requires.few_bytes, few-ips (numbers c.args.text.now) c.in-Ok.ensures.read.good) (
+      sym (c.self.invariant.live_blocks c.args.id) ∙ (sym c.contains.ensures ∙ c.if-not-contains.false),
+      c.in_ok-node.ensures.words,
+    )
 
 pub returns-clause-added : goal.returns-clause-added
 returns-clause-added c =
-    view-next c.self.inside.limit c.self.inside.modules (scripts_kept c.self.inside.stacks c.self.inside.scripts.items) _ c.args.self.now (reallocates c.args.id c.args.size (numbers c.args.text.now)) (kept c) c.self.view_is
-    ∙ sym (ap (λ (b : Bool). with_turn c.args.self.now (cond b (Some (reallocates c.args.id c.args.size (numbers c.args.text.now))) None)) c.in-Ok.ensures.read.good)
+    view-next c.self.inside.limit c.self.inside.modules (scripts_kept c.self.inside.stacks c.self.inside.scripts.items)
+    _ c.args.self.now (reallocates c.args.id c.args.size (numbers c.args.text.now)) (kept c) c.self.view_is
+    ∙ sym (ap
+    (λ (b : Bool). with_turn c.args.self.now
+    (cond b (Some (reallocates c.args.id c.args.size (numbers c.args.text.now))) None))
+    c.in-Ok.ensures.read.good)

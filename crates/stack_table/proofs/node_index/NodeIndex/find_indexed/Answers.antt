@@ -7,7 +7,11 @@ use Rattle.stack_table.proofs.Stacks.{node_at-within}
 use Rattle.stack_table.proofs.EntryLemmas.{length-nodes_of, node_at-number}
 use Rattle.stack_table.proofs.IndexLemmas.{indexed-number, indexed-passed}
 use Rattle.stack_table.proofs.node_index.NodeIndex.find_indexed.Goals as goal
-use Rattle.stack_table.proofs.node_index.NodeIndex.find_indexed.Goals.{then-number-eq0-via-then-number-eq0, then-number-eq0-via-else-number-eq0+then-number-self, then-number-eq0-via-else-number-eq0+else-number-self+then-not-is_call}
+use Rattle.stack_table.proofs.node_index.NodeIndex.find_indexed.Goals.{
+  then-number-eq0-via-then-number-eq0,
+  then-number-eq0-via-else-number-eq0+then-number-self,
+  then-number-eq0-via-else-number-eq0+else-number-self+then-not-is_call,
+}
 
 pub returns-in_err-number-clause-passed : goal.returns-in_err-number-clause-passed
 returns-in_err-number-clause-passed c =
@@ -36,5 +40,6 @@ pub returns-clause-found : goal.returns-clause-found
 returns-clause-found c =
     let count = length-nodes_of c.args.entries.now in
     let here = node_at-number c.args.entries.now c.in_ok-number.field-0.now (omega arith) (omega arith) in
-    sym (indexed-number (nodes_of c.args.entries.now) c.args.self.now c.args.ip c.args.parent c.in_ok-number.field-0.now _ c.requires.indexed c.if-number-self.false here (sym c.is_call.ensures ∙ c.if-not-is_call.false))
+    sym (indexed-number (nodes_of c.args.entries.now) c.args.self.now c.args.ip c.args.parent c.in_ok-number.field-0.now
+    _ c.requires.indexed c.if-number-self.false here (sym c.is_call.ensures ∙ c.if-not-is_call.false))
     ∙ sym c.in_ok-number.ensures.value

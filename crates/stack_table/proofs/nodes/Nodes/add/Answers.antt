@@ -25,13 +25,17 @@ invariant_of-self-2 c =
     let count = length-append nodes (node ∷ []) in (
       grown c,
       rw (c.in_ok-push.ensures.items, nodes_of-push) (
-          indexed-shared nodes (nodes ++ node ∷ []) c.self.inside.index c.self.inside.index (length nodes) c.self.invariant.1
-          (λ m held. node_at-older nodes node m held) (λ ip parent. refl) (omega arith) c.self.invariant.1.within (omega arith)
+          indexed-shared nodes (nodes ++ node ∷ []) c.self.inside.index c.self.inside.index (length nodes)
+          c.self.invariant.1
+          (λ m held. node_at-older nodes node m held) (λ ip parent. refl) (omega arith) c.self.invariant.1.within
+          (omega arith)
           ),
     )
 
 -- and its nodes are the old ones and the new one
-added : (c : goal.In_ok-push) → nodes_of c.push.new.self.items ≡ c.args.self.now ++ record { ip = c.args.ip; parent = c.args.parent; frames = c.args.frames } ∷ []
+added : (c : goal.In_ok-push)
+    → nodes_of c.push.new.self.items
+    ≡ c.args.self.now ++ record { ip = c.args.ip; parent = c.args.parent; frames = c.args.frames } ∷ []
 added c = rw (c.in_ok-push.ensures.items, nodes_of-push, c.self.view_is) refl
 
 pub returns-clause-added : goal.returns-clause-added

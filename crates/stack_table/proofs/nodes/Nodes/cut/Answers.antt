@@ -22,7 +22,8 @@ invariant_of-self c =
       left c,
       rw (c.truncate.ensures.items, nodes_of-take) (
           indexed-shared nodes (take c.args.len nodes) c.self.inside.index c.cut.new.self c.args.len c.self.invariant.1
-          (λ m within. sym (continues.nodes m (omega arith))) c.cut.ensures.same c.cut.ensures.fewer c.cut.ensures.within (omega arith)
+          (λ m within. sym (continues.nodes m (omega arith))) c.cut.ensures.same c.cut.ensures.fewer
+          c.cut.ensures.within (omega arith)
           ),
     )
 

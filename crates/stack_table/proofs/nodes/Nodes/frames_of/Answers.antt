@@ -8,10 +8,14 @@ returns-then-n-eq0-clause-frames c = rw c.if-n-eq0.true (sym (frame_count-zero c
 
 pub returns-clause-frames : goal.returns-clause-frames
 returns-clause-frames c =
-    let reads = read c.self.inside.entries.items c.args.self.now c.args.n c.index.result.now c.self.invariant.0 c.self.view_is (omega arith) c.requires c.index.ensures in
+    let reads =
+    read c.self.inside.entries.items c.args.self.now c.args.n c.index.result.now c.self.invariant.0 c.self.view_is
+    (omega arith) c.requires c.index.ensures in
     c.from.ensures ∙ reads.depth
 
 pub returns-clause-few : goal.returns-clause-few
 returns-clause-few c =
-    let reads = read c.self.inside.entries.items c.args.self.now c.args.n c.index.result.now c.self.invariant.0 c.self.view_is (omega arith) c.requires c.index.ensures in
+    let reads =
+    read c.self.inside.entries.items c.args.self.now c.args.n c.index.result.now c.self.invariant.0 c.self.view_is
+    (omega arith) c.requires c.index.ensures in
     rw c.from.ensures reads.few_frames

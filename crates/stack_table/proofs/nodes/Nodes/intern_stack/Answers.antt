@@ -1,4 +1,21 @@
-use Rattle.std.proofs.Common.{◌≡◌, ℕ, ◌∷◌, ◌++◌, List, [], None, Some, Option, refl, sym, ap, ◌∙◌, arith, subst, append_assoc}
+use Rattle.std.proofs.Common.{
+  ◌≡◌,
+  ℕ,
+  ◌∷◌,
+  ◌++◌,
+  List,
+  [],
+  None,
+  Some,
+  Option,
+  refl,
+  sym,
+  ap,
+  ◌∙◌,
+  arith,
+  subst,
+  append_assoc,
+}
 use Rattle.std.specs.Option.{IfSome}
 use Rattle.stack_table.specs.Continues.{Continues}
 use Rattle.stack_table.specs.Interned.{node_interned, node_interned_fault, stack_fault, stack_interned}
@@ -10,8 +27,10 @@ use Rattle.stack_table.proofs.Interning.{IsInterned, called, fault-more, interne
 use Rattle.stack_table.proofs.nodes.Nodes.intern_stack.Goals as goal
 
 -- a list that is parted before its last element, and then more
-parted : (whole inner left outer : List ℕ) (ip : ℕ) → whole ≡ left ++ outer → left ≡ inner ++ ip ∷ [] → whole ≡ inner ++ ip ∷ outer
-parted whole inner left outer ip is last = is ∙ ap (λ (xs : List ℕ). xs ++ outer) last ∙ append_assoc inner (ip ∷ []) outer
+parted : (whole inner left outer : List ℕ) (ip : ℕ) → whole ≡ left ++ outer → left ≡ inner ++ ip ∷ []
+    → whole ≡ inner ++ ip ∷ outer
+parted whole inner left outer ip is last =
+    is ∙ ap (λ (xs : List ℕ). xs ++ outer) last ∙ append_assoc inner (ip ∷ []) outer
 
 pub loop-ip-preserved : goal.loop-ip-preserved
 loop-ip-preserved c =
@@ -20,11 +39,16 @@ loop-ip-preserved c =
     let old = c.loop-ip.self in
     let new = c.intern.new.self in (
       ip ∷ before.0,
-      parted c.args.ips.now c.next.new.self.iter.rest.now c.loop-ip.ip-iterator.iter.rest.now before.0 ip before.1 c.in-Some.ensures.steps,
+      parted c.args.ips.now c.next.new.self.iter.rest.now c.loop-ip.ip-iterator.iter.rest.now before.0 ip before.1
+          c.in-Some.ensures.steps,
       interned-more c.args.self.now before.0 old new ip c.loop-ip.number c.in-Ok.called before.2
-          (subst (λ (parent : ℕ). node_interned old (called ip parent) ≡ record { nodes = new; number = c.in-Ok.called }) c.from.ensures c.in-Ok.ensures.interned)
-          (subst (λ (parent : ℕ). node_interned_fault old (called ip parent) ≡ None) c.from.ensures c.in-Ok.ensures.no_fault)
-          (subst (λ (parent : ℕ). stack new c.in-Ok.called ≡ ip ∷ stack new parent) c.from.ensures c.in-Ok.ensures.stack)
+          (subst
+          (λ (parent : ℕ). node_interned old (called ip parent) ≡ record { nodes = new; number = c.in-Ok.called })
+          c.from.ensures c.in-Ok.ensures.interned)
+          (subst (λ (parent : ℕ). node_interned_fault old (called ip parent) ≡ None) c.from.ensures
+          c.in-Ok.ensures.no_fault)
+          (subst (λ (parent : ℕ). stack new c.in-Ok.called ≡ ip ∷ stack new parent) c.from.ensures
+          c.in-Ok.ensures.stack)
           c.in-Ok.ensures.within.1 c.in-Ok.ensures.continues c.in-Ok.ensures.one_more c.in-Ok.ensures.nodes,
       before.3,
     )
@@ -33,13 +57,18 @@ pub returns-in-Err-clause-fault : goal.returns-in-Err-clause-fault
 returns-in-Err-clause-fault c = λ other.
     let before = c.loop-ip.invariant in
     let ip = c.in-Some.ip.now in
-    let whole = parted c.args.ips.now c.next.new.self.iter.rest.now c.loop-ip.ip-iterator.iter.rest.now before.0 ip before.1 c.in-Some.ensures.steps in
+    let whole =
+    parted c.args.ips.now c.next.new.self.iter.rest.now c.loop-ip.ip-iterator.iter.rest.now before.0 ip before.1
+    c.in-Some.ensures.steps in
     ap (λ (ips : List ℕ). stack_fault c.args.self.now ips) whole
-    ∙ fault-more c.args.self.now c.next.new.self.iter.rest.now before.0 c.loop-ip.self ip c.loop-ip.number c.in-Err.fault before.2
-    (subst (λ (parent : ℕ). node_interned_fault c.loop-ip.self (called ip parent) ≡ Some c.in-Err.fault) c.from.ensures (c.in-Err.ensures.fault other))
+    ∙ fault-more c.args.self.now c.next.new.self.iter.rest.now before.0 c.loop-ip.self ip c.loop-ip.number
+    c.in-Err.fault before.2
+    (subst (λ (parent : ℕ). node_interned_fault c.loop-ip.self (called ip parent) ≡ Some c.in-Err.fault) c.from.ensures
+    (c.in-Err.ensures.fault other))
 
 -- a node that is held isn't refused
-refused : (found : Option ℕ) (answer : ℕ → Type 0) → ((number : ℕ) → answer number → ⊥) → IfSome found (λ number. answer number) → found ≡ None
+refused : (found : Option ℕ) (answer : ℕ → Type 0) → ((number : ℕ) → answer number → ⊥)
+    → IfSome found (λ number. answer number) → found ≡ None
 refused None answer never said = refl
 refused (Some number) answer never said = absurd (never number said)
 
@@ -47,8 +76,12 @@ pub returns-in-Err-clause-held : goal.returns-in-Err-clause-held
 returns-in-Err-clause-held c = λ same.
     let before = c.loop-ip.invariant in
     let ip = c.in-Some.ip.now in
-    let whole = parted c.args.ips.now c.next.new.self.iter.rest.now c.loop-ip.ip-iterator.iter.rest.now before.0 ip before.1 c.in-Some.ensures.steps in
-    let none = refused (node_number c.loop-ip.self ip c.from.result) _ (λ number said. let err = said.0 in grind (arith, err)) c.in-Err.ensures.held in
+    let whole =
+    parted c.args.ips.now c.next.new.self.iter.rest.now c.loop-ip.ip-iterator.iter.rest.now before.0 ip before.1
+    c.in-Some.ensures.steps in
+    let none =
+    refused (node_number c.loop-ip.self ip c.from.result) _ (λ number said. let err = said.0 in grind (arith, err))
+    c.in-Err.ensures.held in
     absurd (
     not_held c.args.self.now c.next.new.self.iter.rest.now before.0 c.loop-ip.self ip c.loop-ip.number before.2
     (subst (λ (parent : ℕ). node_number c.loop-ip.self ip parent ≡ None) c.from.ensures none)
@@ -60,19 +93,23 @@ left : (c : goal.After-cut) → c.cut.new.self ≡ c.args.self.now
 left c =
     let before = c.loop-ip.invariant in
     let P : List Node → Type 0 = λ new. Continues c.args.self.now new in
-    c.cut.ensures.nodes_left ∙ take-continued c.args.self.now c.intern.new.self c.len-len.result (subst P (sym c.in-Err.ensures.unchanged) before.2.continues) before.3
+    c.cut.ensures.nodes_left
+    ∙ take-continued c.args.self.now c.intern.new.self c.len-len.result
+    (subst P (sym c.in-Err.ensures.unchanged) before.2.continues) before.3
 
 pub returns-in-Err-clause-unchanged : goal.returns-in-Err-clause-unchanged
 returns-in-Err-clause-unchanged c = left c
 
 pub returns-in-Err-clause-continues : goal.returns-in-Err-clause-continues
-returns-in-Err-clause-continues c = subst (λ new. Continues c.args.self.now new) (sym (left c)) (Continues-refl c.args.self.now)
+returns-in-Err-clause-continues c =
+    subst (λ new. Continues c.args.self.now new) (sym (left c)) (Continues-refl c.args.self.now)
 
 -- all of the stack is interned where none of it is left
 all : (c : goal.In-None) → IsInterned c.args.self.now c.args.ips.now c.loop-ip.self c.loop-ip.number
 all c =
     let before = c.loop-ip.invariant in
-    interned-all c.args.self.now c.args.ips.now c.loop-ip.ip-iterator.iter.rest.now before.0 c.loop-ip.self c.loop-ip.number before.1 c.in-None.ensures.steps.0 before.2
+    interned-all c.args.self.now c.args.ips.now c.loop-ip.ip-iterator.iter.rest.now before.0 c.loop-ip.self
+    c.loop-ip.number before.1 c.in-None.ensures.steps.0 before.2
 
 pub returns-clause-interned : goal.returns-clause-interned
 returns-clause-interned c = let found = all c in found.interned

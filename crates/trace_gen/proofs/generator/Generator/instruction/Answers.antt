@@ -13,7 +13,11 @@ returns c =
     let sizes = sizes_of old.options in
     let stands = subst (λ group. Stands sizes group old.next old.state old.live.items) c.requires.group c.requires.at in
     record {
-      made = subst (λ (new : Generator). MakesLine old new c.args.line.now.items c.put_instruction.new.line.items) (sym c.pass.ensures.passed)
-          (passed old old.state Instructions Nodes instruction_line c.args.line.now.items c.put_instruction.new.line.items (has_instructions sizes old.options.stacks_above_zero) c.requires.group c.requires.at stands.within
+      made =
+          subst (λ (new : Generator). MakesLine old new c.args.line.now.items c.put_instruction.new.line.items)
+          (sym c.pass.ensures.passed)
+          (passed old old.state Instructions Nodes instruction_line c.args.line.now.items
+          c.put_instruction.new.line.items (has_instructions sizes old.options.stacks_above_zero) c.requires.group
+          c.requires.at stands.within
           stands.state_is stands.small c.in_ok-put_instruction.ensures.put);
     }

@@ -13,7 +13,10 @@ returns c =
     let sizes = sizes_of old.options in
     let stands = subst (λ group. Stands sizes group old.next old.state old.live.items) c.requires.group c.requires.at in
     record {
-      made = subst (λ (new : Generator). MakesLine old new c.args.line.now.items c.put_name.new.line.items) (sym c.pass.ensures.passed)
-          (passed old old.state Names Instructions name_line c.args.line.now.items c.put_name.new.line.items (has_names sizes old.options.stacks_above_zero) c.requires.group c.requires.at stands.within
+      made =
+          subst (λ (new : Generator). MakesLine old new c.args.line.now.items c.put_name.new.line.items)
+          (sym c.pass.ensures.passed)
+          (passed old old.state Names Instructions name_line c.args.line.now.items c.put_name.new.line.items
+          (has_names sizes old.options.stacks_above_zero) c.requires.group c.requires.at stands.within
           stands.state_is stands.small c.in_ok-put_name.ensures.put);
     }

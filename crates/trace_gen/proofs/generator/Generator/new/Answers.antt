@@ -13,4 +13,8 @@ returns-clause-text c = ap text_of_lines (all_lines (sizes_of c.args.options.now
 pub returns-clause-few : goal.returns-clause-few
 returns-clause-few c =
     let options = c.args.options.now in
-    omega (arith, ap length (all_lines (sizes_of options)), few_lines (sizes_of options) options.stacks_in_range options.events_in_range)
+    omega (
+      arith,
+      ap length (all_lines (sizes_of options)),
+      few_lines (sizes_of options) options.stacks_in_range options.events_in_range,
+    )

@@ -17,11 +17,18 @@ returns c =
     let sizes = sizes_of old.options in
     let stands = subst (λ group. Stands sizes group old.next old.state old.live.items) c.requires.group c.requires.at in
     let parent : c.number_below-parent.result ≡ draw sizes.seed old.next (old.next + 1) =
-    c.number_below-parent.ensures.number ∙ ap (number_below (old.next + 1)) (c.next_state-self.ensures.next ∙ ap next_state stands.state_is) in
+    c.number_below-parent.ensures.number
+    ∙ ap (number_below (old.next + 1)) (c.next_state-self.ensures.next ∙ ap next_state stands.state_is) in
     let line : ℕ → List ℕ = λ number. codes "t " ++ (hexadecimal (old.next + 1) ++ (codes " " ++ hexadecimal number)) in
     record {
-      made = subst (λ (new : Generator). MakesLine old new c.args.line.now.items c.put_pair.new.line.items) (sym c.pass.ensures.passed)
-          (passed old c.next_state-self.result Nodes Infos (node_line sizes) c.args.line.now.items c.put_pair.new.line.items (has_nodes sizes old.options.stacks_above_zero) c.requires.group c.requires.at stands.within
-          (c.next_state-self.ensures.next ∙ drawn sizes.seed old.next (old.next + 1) old.state refl stands.state_is) c.next_state-self.ensures.small
-          (subst (λ number. PutsLine c.args.line.now.items c.put_pair.new.line.items (line number)) parent c.in_ok-put_pair.ensures.put));
+      made =
+          subst (λ (new : Generator). MakesLine old new c.args.line.now.items c.put_pair.new.line.items)
+          (sym c.pass.ensures.passed)
+          (passed old c.next_state-self.result Nodes Infos (node_line sizes) c.args.line.now.items
+          c.put_pair.new.line.items (has_nodes sizes old.options.stacks_above_zero) c.requires.group c.requires.at
+          stands.within
+          (c.next_state-self.ensures.next ∙ drawn sizes.seed old.next (old.next + 1) old.state refl stands.state_is)
+          c.next_state-self.ensures.small
+          (subst (λ number. PutsLine c.args.line.now.items c.put_pair.new.line.items (line number)) parent
+          c.in_ok-put_pair.ensures.put));
     }

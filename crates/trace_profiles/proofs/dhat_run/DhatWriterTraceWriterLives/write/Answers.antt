@@ -11,4 +11,5 @@ returns c = λ given lines tables stand.
     c.in_ok-push.ensures.items
     ∙ ap (λ (text : List ℕ). text ++ codes "\n")
     (ap (λ v. v.items) c.into_bytes-output.ensures.value
-    ∙ (c.in_ok-text.ensures.trace (events lines) stand.peaks stand.lives ∙ ap (λ state. dhat_text (dhat_of state (events lines))) tables.tables_is))
+    ∙ (c.in_ok-text.ensures.trace (events lines) stand.peaks stand.lives
+    ∙ ap (λ state. dhat_text (dhat_of state (events lines))) tables.tables_is))

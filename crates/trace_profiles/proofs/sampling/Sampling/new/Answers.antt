@@ -7,9 +7,11 @@ returns-clause-fresh g c =
     let made = c.in-Ok.ensures in
     let ledger = c.in_ok-ledger.ensures in
     let names = g.T.Settled.settings.names in
-    new_followed g.T.Settled.settings _ c.in_ok-ledger.ledger c.in-Ok.sampler c.new-tables.result c.new-tables.ensures.stands
+    new_followed g.T.Settled.settings _ c.in_ok-ledger.ledger c.in-Ok.sampler c.new-tables.result
+    c.new-tables.ensures.stands
     (record {
-      meant = rw (made.alloc_fns, made.ignore_fns) (c.requires.alloc_callable, c.requires.ignore_callable, c.requires.stated);
+      meant =
+          rw (made.alloc_fns, made.ignore_fns) (c.requires.alloc_callable, c.requires.ignore_callable, c.requires.stated);
       options = made.options ∙ sym c.requires.settled;
       judged = omega (arith, made.judged, ledger.stacks, ap length c.new-tables.ensures.nodes);
     })

@@ -4,4 +4,7 @@ use Rattle.trace_profiles.proofs.sampling.SamplingFollower.goes_on.Goals as goal
 pub returns : goal.returns
 returns g c = λ before after taken continues stands.
     let settings = g.T.Settled.settings in
-    stand_still settings c.args.self.now.ledger c.args.self.now.sampler before after taken (λ flags samples stood. c.sampling_goes_on.ensures flags samples settings.names before after taken stood continues) stands
+    stand_still settings c.args.self.now.ledger c.args.self.now.sampler before after taken
+    (λ flags samples stood. c.sampling_goes_on.ensures flags samples settings.names before after taken stood
+    continues)
+    stands

@@ -2,7 +2,8 @@ use Rattle.trace_reading.proofs.ReadingLemmas.{new_peaks}
 use Rattle.trace_reading.proofs.suppressed_trace.SuppressedTraceFilePair.second.Goals as goal
 
 pub new-requires-2-clause-new : goal.new-requires-2-clause-new
-new-requires-2-clause-new g c = new_peaks c.in-Ok.peaks c.in-Ok.ensures.stands c.in-Ok.ensures.stacks c.in-Ok.ensures.infos _
+new-requires-2-clause-new g c =
+    new_peaks c.in-Ok.peaks c.in-Ok.ensures.stands c.in-Ok.ensures.stacks c.in-Ok.ensures.infos _
 
 pub returns-clause-new : goal.returns-clause-new
 returns-clause-new g c = record {

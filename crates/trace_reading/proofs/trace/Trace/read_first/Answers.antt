@@ -9,15 +9,23 @@ returns-in-Some-clause-read g c =
     let faults = g.F.Follower.faults in
     let old = g.F.Follower.view c.args.self.now.follower in
     let new = g.F.Follower.view c.front.new.self.follower in
-    subst (λ (tables : TableState). HasReadOne faults c.args.self.now.tables old tables new c.args.text.now c.split_at.result.1.now) (sym c.front.ensures.tables)
-    (front_first faults c.args.self.now.tables old new c.args.text.now c.split_at.result.1.now c.in-Some.bytes c.in-Some.ensures.read c.split_at.ensures.back)
+    subst (λ (tables : TableState). HasReadOne faults c.args.self.now.tables old tables new c.args.text.now
+    c.split_at.result.1.now) (sym
+    c.front.ensures.tables)
+    (front_first faults c.args.self.now.tables old new c.args.text.now c.split_at.result.1.now c.in-Some.bytes
+    c.in-Some.ensures.read c.split_at.ensures.back)
 
 pub read_line-requires-clause-sound : goal.read_line-requires-clause-sound
-read_line-requires-clause-sound g c = subst (λ (tables : TableState). IsSound tables (g.F.Follower.view c.front.new.self.follower)) (sym c.front.ensures.tables) c.in-None.ensures.read.sound
+read_line-requires-clause-sound g c =
+    subst (λ (tables : TableState). IsSound tables (g.F.Follower.view c.front.new.self.follower))
+    (sym c.front.ensures.tables) c.in-None.ensures.read.sound
 
 pub read_line-requires-clause-room : goal.read_line-requires-clause-room
 read_line-requires-clause-room g c =
-    subst (λ (tables : TableState). weight_of tables (g.F.Follower.view c.front.new.self.follower) + length c.args.text.now ≤ 2 ^ 34) (sym c.front.ensures.tables)
+    subst (λ (tables : TableState). weight_of tables (g.F.Follower.view c.front.new.self.follower)
+    + length c.args.text.now
+    ≤ 2 ^ 34) (sym
+    c.front.ensures.tables)
     (omega (arith, c.in-None.ensures.read.weight, c.requires.room))
 
 pub returns-in-Ok-clause-read : goal.returns-in-Ok-clause-read
@@ -26,8 +34,10 @@ returns-in-Ok-clause-read g c =
     let old = g.F.Follower.view c.args.self.now.follower in
     let mid = g.F.Follower.view c.front.new.self.follower in
     let new = c.read_line.new.self in
-    one_behind faults c.args.self.now.tables old mid c.args.text.now c.in-None.ensures.read new.tables (g.F.Follower.view new.follower) c.in-Ok.rest.now
-    (subst (λ (tables : TableState). HasReadOne faults tables mid new.tables (g.F.Follower.view new.follower) c.args.text.now c.in-Ok.rest.now) c.front.ensures.tables c.in-Ok.ensures.read)
+    one_behind faults c.args.self.now.tables old mid c.args.text.now c.in-None.ensures.read new.tables
+    (g.F.Follower.view new.follower) c.in-Ok.rest.now
+    (subst (λ (tables : TableState). HasReadOne faults tables mid new.tables (g.F.Follower.view new.follower)
+    c.args.text.now c.in-Ok.rest.now) c.front.ensures.tables c.in-Ok.ensures.read)
 
 pub returns-in-Err-clause-fault : goal.returns-in-Err-clause-fault
 returns-in-Err-clause-fault g c =
@@ -36,4 +46,6 @@ returns-in-Err-clause-fault g c =
     let mid = g.F.Follower.view c.front.new.self.follower in
     let tables = c.args.self.now.tables in
     rest_refused faults tables old c.front.new.self.tables mid c.args.text.now c.args.text.now
-    (subst (λ (now : TableState). HasReadTo faults tables old now mid c.args.text.now c.args.text.now) (sym c.front.ensures.tables) (none_first faults tables old mid c.args.text.now c.in-None.ensures.read)) c.in-Err.refusal c.in-Err.ensures.fault
+    (subst (λ (now : TableState). HasReadTo faults tables old now mid c.args.text.now c.args.text.now)
+    (sym c.front.ensures.tables) (none_first faults tables old mid c.args.text.now c.in-None.ensures.read))
+    c.in-Err.refusal c.in-Err.ensures.fault

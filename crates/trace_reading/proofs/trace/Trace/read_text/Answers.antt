@@ -9,7 +9,9 @@ lines-init g c = record {
   left = omega arith;
   weight = omega arith;
   more = λ some. omega arith;
-  read = nothing_read g.F.Follower.faults c.args.self.now.tables (g.F.Follower.view c.args.self.now.follower) c.args.text.now c.requires.sound;
+  read =
+      nothing_read g.F.Follower.faults c.args.self.now.tables (g.F.Follower.view c.args.self.now.follower) c.args.text.now
+      c.requires.sound;
 }
 
 pub read_first-requires-clause-room : goal.read_first-requires-clause-room
@@ -33,15 +35,21 @@ lines-preserved g c =
       left = omega (arith, here.left, one.fewer);
       weight = omega (arith, weight, one.weight);
       more = λ left. let room = one.more left in omega (arith, weight, room);
-      read = read_on g.F.Follower.faults old.tables (view old.follower) c.lines.self.tables (view c.lines.self.follower) c.args.text.now c.lines.rest.now here.read new.tables (view new.follower) c.in-Ok.more.now one.read;
+      read =
+          read_on g.F.Follower.faults old.tables (view old.follower) c.lines.self.tables (view c.lines.self.follower)
+          c.args.text.now c.lines.rest.now here.read new.tables (view new.follower) c.in-Ok.more.now one.read;
     }
 
 pub returns-in-Err-clause-fault : goal.returns-in-Err-clause-fault
 returns-in-Err-clause-fault g c =
-    rest_refused g.F.Follower.faults c.args.self.now.tables (g.F.Follower.view c.args.self.now.follower) c.lines.self.tables (g.F.Follower.view c.lines.self.follower) c.args.text.now c.lines.rest.now c.lines.invariant.read
+    rest_refused g.F.Follower.faults c.args.self.now.tables (g.F.Follower.view c.args.self.now.follower)
+    c.lines.self.tables (g.F.Follower.view c.lines.self.follower) c.args.text.now c.lines.rest.now
+    c.lines.invariant.read
     c.in-Err.refusal c.in-Err.ensures.fault
 
 pub returns-clause-read : goal.returns-clause-read
 returns-clause-read g c =
-    all_read g.F.Follower.faults c.args.self.now.tables (g.F.Follower.view c.args.self.now.follower) c.lines.self.tables (g.F.Follower.view c.lines.self.follower) c.args.text.now c.lines.rest.now c.lines.invariant.read
-    (eqb-true (length c.lines.rest.now) 0 (sym c.is_empty.ensures ∙ c.lines-test.false)) (omega (arith, c.lines.invariant.weight))
+    all_read g.F.Follower.faults c.args.self.now.tables (g.F.Follower.view c.args.self.now.follower) c.lines.self.tables
+    (g.F.Follower.view c.lines.self.follower) c.args.text.now c.lines.rest.now c.lines.invariant.read
+    (eqb-true (length c.lines.rest.now) 0 (sym c.is_empty.ensures ∙ c.lines-test.false))
+    (omega (arith, c.lines.invariant.weight))

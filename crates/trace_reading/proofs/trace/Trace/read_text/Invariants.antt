@@ -6,8 +6,10 @@ use Rattle.trace_reading.proofs.trace.Trace.read_text.Given as goal
 abbrev pub invariant-lines : goal.invariant-lines
 invariant-lines g l = record {
   left : length l.rest ≤ length l.text;
-  weight : weight_of g.F.Follower.view l.self + length l.rest ≤ weight_of g.F.Follower.view l.initial.self + length l.text + 1;
-  more : 0 < length l.rest → weight_of g.F.Follower.view l.self + length l.rest ≤ weight_of g.F.Follower.view l.initial.self + length l.text;
+  weight : weight_of g.F.Follower.view l.self + length l.rest
+      ≤ weight_of g.F.Follower.view l.initial.self + length l.text + 1;
+  more : 0 < length l.rest
+      → weight_of g.F.Follower.view l.self + length l.rest ≤ weight_of g.F.Follower.view l.initial.self + length l.text;
   read : HasReadTo g.F.Follower.faults g.F.Follower.view l.initial.self l.self l.text l.rest;
 }
 

@@ -12,7 +12,8 @@ returns-clause-sound g c = record {
 pub returns-clause-read : goal.returns-clause-read
 returns-clause-read g c = λ given stands.
     let follower = g.F.Follower.view c.args.follower in
-    subst (λ (before : List (List ℕ)). HasRead c.args.tables follower before []) (sym (before_all c.suppressions-given.result c.args.tables c.suppressions-given.ensures.count))
+    subst (λ (before : List (List ℕ)). HasRead c.args.tables follower before [])
+    (sym (before_all c.suppressions-given.result c.args.tables c.suppressions-given.ensures.count))
     (new_read c.args.tables follower given c.requires.new stands)
 
 pub returns-clause-patterns : goal.returns-clause-patterns

@@ -12,6 +12,8 @@ returns-clause-taken g c =
     let before : List (List ℕ) = patterns_before old.given old.trace.tables in
     let text = g.W.TraceWriter.text old.writer before in
     let output = c.args._output.now.items in
-    subst (λ (tables : TableState). TakesFirst (trace_report g.F.Follower.faults before text) (HasRead old.trace.tables (g.F.Follower.view old.trace.follower) before) (HasRead tables new (patterns_before old.given tables)) c.args.ready.now
+    subst (λ (tables : TableState). TakesFirst (trace_report g.F.Follower.faults before text)
+    (HasRead old.trace.tables (g.F.Follower.view old.trace.follower) before)
+    (HasRead tables new (patterns_before old.given tables)) c.args.ready.now
     output output c.front.result)
     (sym c.front.ensures.tables) (c.front.ensures.read.taken before text output)

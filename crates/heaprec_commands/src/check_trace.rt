@@ -1,0 +1,30 @@
+//! Whether a named trace is a recording of scripts. From which files the scripts come is no part of it.
+ghost use Rattle.std.specs.Prelude.{◌≡◌, ◌-◌, ◌^◌, ◌<◌, [], ◌∷◌};
+ghost use Rattle.command_frame.specs.Plan.{one_file};
+ghost use Rattle.command_frame.specs.RunsTo.{Runs};
+ghost use Rattle.heaprec_commands.specs.CheckReport.{check_report};
+
+use crate::trace_reader::TraceReader;
+use command_frame::{Desk, Halt, run_one_file};
+use hp_outside::{Sink, Store};
+use order_check::OrderCheck;
+use record_scripts::Scripts;
+
+/// Reads the trace of this name line by line, up to the first line with which no recording of the scripts goes on, and answers
+/// the line that says of how many events it is a recording.
+pub fn check_trace<S: Store, O: Sink>(
+    desk: &Desk,
+    name: &str,
+    scripts: Scripts,
+    store: &mut S,
+    out: &mut O,
+) -> Result<Vec<u8>, Halt>
+    requires { S.opens store.old < 2 ^ 64 - 1 }
+    ensures { Runs S.Store O.Sink desk.now (name.now ∷ [])
+        (one_file name.now (check_report scripts))
+        store.old store.new out.old out.new result }
+{
+    let check = OrderCheck::new(desk.alloc, scripts.share()?)?;
+    let reader = TraceReader { check };
+    run_one_file(desk, name, reader, store, out)
+}

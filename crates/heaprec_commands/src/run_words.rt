@@ -1,0 +1,89 @@
+//! From the words and the files to what is to be delivered. How that is written is the business of the frame.
+ghost use Rattle.std.specs.Prelude.{◌≡◌, ◌^◌, ◌<◌, ◌≤◌, [], length, map, string_bytes, Some};
+ghost use Rattle.command_frame.specs.FirstFault.{bounds_of};
+ghost use Rattle.command_frame.specs.RunsTo.{rest_of, shown, taken};
+ghost use Rattle.command_frame.specs.Texts.{texts_of};
+ghost use Rattle.heaprec_commands.specs.Recorded.{IsRecorded};
+ghost use Rattle.heaprec_commands.specs.RecordWords.{record_asked};
+ghost use Rattle.heaprec_commands.specs.Requests.{asked_by};
+ghost use Rattle.heaprec_commands.specs.Run.{WordsRecord};
+ghost use Rattle.heaprec_commands.specs.Texts.{heaprec_texts};
+
+use crate::check_trace::check_trace;
+use crate::files::{ScriptFiles, read_files};
+use crate::record_text::record_text;
+use crate::request::{RecordRequest, RecordTask};
+use command_frame::{Desk, Halt};
+use command_words::WordsFault;
+use hp_outside::{Sink, Store};
+use order_check::front_laws;
+use record_book::quiet_modules;
+use recorder::Gate;
+use std::alloc::Global;
+use std::sync::Wait;
+use std::thread::Threads;
+
+/// Runs what the words ask for. Nothing is written, and no words at all take no memory.
+pub fn run_words<R: Threads + Wait + Sync, S: Store, O: Sink, G: Gate + Sync>(
+    rt: &R,
+    desk: &Desk,
+    words: &[String],
+    store: &mut S,
+    out: &mut O,
+    gate: &G,
+) -> Result<Vec<u8>, Halt>
+    requires opens { S.opens store.old < 2 ^ 63 }
+    requires texts { texts_of desk.now.texts ≡ heaprec_texts }
+    ensures run { WordsRecord IsRecorded (bounds_of desk.now.limits) desk.now.limits.order
+        (record_asked (map string_bytes words.now)) (shown S.Store store.old)
+        (shown S.Store store.new)
+        (taken O.Sink out.old) (taken O.Sink out.new) (rest_of heaprec_texts result) }
+    ensures none { map string_bytes words.now ≡ []
+        → (rest_of heaprec_texts result).status ≡ 2 }
+{
+    match RecordRequest::read(desk.alloc, words) {
+        Ok(request) => run_request(rt, desk, &request, store, out, gate),
+        Err(WordsFault::NotTaken) => Err(Halt::usage()),
+        Err(WordsFault::NoMemory) => Err(Halt::no_memory()),
+    }
+}
+
+/// Runs a request: reads its files, and records what they say or checks a trace against it.
+fn run_request<R: Threads + Wait + Sync, S: Store, O: Sink, G: Gate + Sync>(
+    rt: &R,
+    desk: &Desk,
+    request: &RecordRequest,
+    store: &mut S,
+    out: &mut O,
+    gate: &G,
+) -> Result<Vec<u8>, Halt>
+    requires opens { S.opens store.old < 2 ^ 63 }
+    requires texts { texts_of desk.now.texts ≡ heaprec_texts }
+    requires some { 1 ≤ length request.now.scripts.items }
+    requires few { length request.now.scripts.items ≤ 64 }
+    ensures { WordsRecord IsRecorded (bounds_of desk.now.limits) desk.now.limits.order
+        (Some (asked_by request.now))
+        (shown S.Store store.old) (shown S.Store store.new) (taken O.Sink out.old)
+        (taken O.Sink out.new)
+        (rest_of heaprec_texts result) }
+{
+    let files = ScriptFiles {
+        modules: request.modules,
+        scripts: &request.scripts,
+    };
+    let scripts = match read_files(desk, &files, store, out) {
+        Ok(scripts) => scripts,
+        Err(halt) => return Err(halt),
+    };
+    match request.task {
+        RecordTask::Record { summary } => {
+            Ok(record_text(rt, desk.alloc, scripts, summary, gate)?)
+        }
+        RecordTask::Check { trace } => {
+            front_laws();
+            quiet_modules();
+            let _modules = scripts.modules();
+            check_trace(desk, trace, scripts, store, out)
+        }
+    }
+}
