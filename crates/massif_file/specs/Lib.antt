@@ -25,3 +25,6 @@ pub mod TreeLineOf
 pub mod TreeTexts
 pub mod Trees
 pub mod UnlessNoMemory
+pub mod AreRead
+pub mod ReaderCalls
+pub mod Appended

@@ -1,6 +1,7 @@
 //! The lines of a tree, with labels that are known by their numbers.
 //! How the lines are spelled, and which of them make a tree, are no part of it.
-ghost use Rattle.std.specs.Prelude.{◌≡◌, ◌<◌, [], ◌∷◌, ◌++◌, length, slice_get, slice_index_or, Some, IfOk, OnOk, OnErr};
+ghost use Rattle.std.specs.Prelude.{◌≡◌, ◌<◌, [], ◌∷◌, ◌++◌, length, slice_get, Some, IfOk, OnOk, OnErr};
+ghost use Rattle.massif_file.specs.LabelledLines.{line_with};
 ghost use Rattle.massif_file.specs.TreeLine.{line_of};
 
 use crate::labels::Labels;
@@ -73,11 +74,7 @@ impl LabelledTree {
         requires held { label < length self.old.labels }
         ensures labels { OnOk result (self.new.labels ≡ self.old.labels) }
         ensures lines { OnOk result
-            (self.new.lines ≡ self.old.lines ++ record {
-              children = children;
-              bytes = bytes;
-              label = slice_index_or self.old.labels label [];
-            } ∷ []) }
+            (self.new.lines ≡ self.old.lines ++ line_with self.old children bytes label ∷ []) }
         ensures unchanged { OnErr result (self.new ≡ self.old) }
     {
         self.entries.push(LineEntry {

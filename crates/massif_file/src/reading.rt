@@ -1,13 +1,12 @@
 //! Reading a Massif file line by line: one short step for each line that may come next.
 //! The lines' own forms are read elsewhere; skipped lines and repeated faults are the reader's part.
-ghost use Rattle.std.specs.Prelude.{◌≡◌, [], Err, Ok, None, OnOk, IfErr, IfOk};
-ghost use Rattle.massif_file.specs.declared.fault.ProfileFault.{ProfileFault};
+ghost use Rattle.std.specs.Prelude.{◌≡◌, [], Err, Ok, OnOk, IfErr, IfOk};
 ghost use Rattle.massif_file.specs.declared.fault.ProfileFault.TheVariants as faults;
-ghost use Rattle.massif_file.specs.Progress.{at_extra, at_heap, at_mark, at_snapshot, at_stacks, at_time, at_unit, in_descriptions, in_tree, refused_for, after, end_of, fault_in, taken, with_snap};
+ghost use Rattle.massif_file.specs.Progress.{at_snapshot, end_of, in_descriptions, taken, with_snap};
 ghost use Rattle.massif_file.specs.Descriptions.{joined};
 ghost use Rattle.massif_file.specs.LastTime.{last_time};
-ghost use Rattle.massif_file.specs.Reading.{Goes, shown};
-ghost use Rattle.massif_file.specs.UnlessNoMemory.{UnlessNoMemory};
+ghost use Rattle.massif_file.specs.ReaderCalls.{TakesLine};
+ghost use Rattle.massif_file.specs.Reading.{Goes, shown, shown_at};
 
 use crate::fault::ProfileFault;
 use crate::levels::Levels;
@@ -72,13 +71,7 @@ impl Reading {
 
     /// Takes the next line, or answers why it is refused, and from then on that again.
     pub fn line(&mut self, line: &[u8]) -> Result<(), ProfileFault>
-        ensures taken { OnOk result (shown self.new ≡ after (shown self.old) line.now) }
-        ensures not_refused { OnOk result (fault_in (shown self.new) ≡ None) }
-        ensures kept { IfErr result (λ fault. shown self.new ≡ refused_for fault) }
-        ensures refused { IfErr result
-            (λ fault. UnlessNoMemory fault (after (shown self.old) line.now ≡ refused_for fault)) }
-        ensures again { (fault : ProfileFault) → shown self.old ≡ refused_for fault
-            → result ≡ Err fault }
+        ensures { TakesLine (shown self.old) line.now (shown self.new) result }
     {
         if let Stage::Refused(fault) = self.stage {
             return Err(fault);
@@ -148,7 +141,7 @@ impl Reading {
     #[tactic(auto, unfolding(crate::specs::Progress::taken))]
     fn header(&mut self, line: &[u8]) -> Result<(), ProfileFault>
         requires { self.old.stage ≡ Stage.Descriptions }
-        ensures { Goes result (taken (in_descriptions self.old.desc.items) line.now)
+        ensures { Goes result (taken (shown_at Stage.Descriptions self.old) line.now)
             (shown self.new) }
     {
         if let Some(value) = header_value(b"desc:", line) {
@@ -167,8 +160,7 @@ impl Reading {
 
     #[tactic(auto, unfolding(crate::specs::Progress::taken))]
     fn unit(&mut self, line: &[u8]) -> Result<(), ProfileFault>
-        ensures { Goes result (taken (at_unit self.old.profile.desc self.old.profile.cmd) line.now)
-            (shown self.new) }
+        ensures { Goes result (taken (shown_at Stage.Unit self.old) line.now) (shown self.new) }
     {
         let Some(unit) = unit_after(line) else {
             return Err(ProfileFault::BadHeader);
@@ -181,7 +173,7 @@ impl Reading {
 
     #[tactic(auto, unfolding(crate::specs::Progress::taken))]
     fn number(&mut self, line: &[u8]) -> Result<(), ProfileFault>
-        ensures { Goes result (taken (at_snapshot self.old.profile) line.now) (shown self.new) }
+        ensures { Goes result (taken (shown_at Stage.Snapshot self.old) line.now) (shown self.new) }
     {
         let number = key_number(b"snapshot=", line)?;
         if number != self.profile.snaps.len() as u64 {
@@ -193,7 +185,7 @@ impl Reading {
 
     #[tactic(auto, unfolding(crate::specs::Progress::taken))]
     fn time(&mut self, line: &[u8]) -> Result<(), ProfileFault>
-        ensures { Goes result (taken (at_time self.old.profile) line.now) (shown self.new) }
+        ensures { Goes result (taken (shown_at Stage.Time self.old) line.now) (shown self.new) }
     {
         let time = key_number(b"time=", line)?;
         if time < last_time(&self.profile.snaps) {
@@ -206,8 +198,7 @@ impl Reading {
 
     #[tactic(auto, unfolding(crate::specs::Progress::taken))]
     fn heap(&mut self, line: &[u8]) -> Result<(), ProfileFault>
-        ensures { Goes result (taken (at_heap self.old.profile self.old.snap.time) line.now)
-            (shown self.new) }
+        ensures { Goes result (taken (shown_at Stage.Heap self.old) line.now) (shown self.new) }
     {
         self.snap.heap = key_number(b"mem_heap_B=", line)?;
         self.stage = Stage::Extra;
@@ -216,9 +207,7 @@ impl Reading {
 
     #[tactic(auto, unfolding(crate::specs::Progress::taken))]
     fn extra(&mut self, line: &[u8]) -> Result<(), ProfileFault>
-        ensures { Goes result
-            (taken (at_extra self.old.profile self.old.snap.time self.old.snap.heap) line.now)
-            (shown self.new) }
+        ensures { Goes result (taken (shown_at Stage.Extra self.old) line.now) (shown self.new) }
     {
         self.snap.extra = key_number(b"mem_heap_extra_B=", line)?;
         self.stage = Stage::Stacks;
@@ -227,9 +216,7 @@ impl Reading {
 
     #[tactic(auto, unfolding(crate::specs::Progress::taken))]
     fn stacks(&mut self, line: &[u8]) -> Result<(), ProfileFault>
-        ensures { Goes result
-            (taken (at_stacks self.old.profile self.old.snap.time self.old.snap.heap
-            self.old.snap.extra) line.now) (shown self.new) }
+        ensures { Goes result (taken (shown_at Stage.Stacks self.old) line.now) (shown self.new) }
     {
         self.snap.stacks = key_number(b"mem_stacks_B=", line)?;
         self.stage = Stage::Mark;
@@ -238,10 +225,7 @@ impl Reading {
 
     #[tactic(auto, unfolding(crate::specs::Progress::taken))]
     fn mark(&mut self, line: &[u8]) -> Result<(), ProfileFault>
-        ensures { Goes result
-            (taken (at_mark self.old.profile self.old.snap.time self.old.snap.heap
-            self.old.snap.extra self.old.snap.stacks) line.now)
-            (shown self.new) }
+        ensures { Goes result (taken (shown_at Stage.Mark self.old) line.now) (shown self.new) }
     {
         let Some(mark) = mark_after(line) else {
             return Err(ProfileFault::BadSnapshot);
@@ -259,9 +243,7 @@ impl Reading {
     #[tactic(auto, unfolding(crate::specs::Progress::taken))]
     fn tree_line(&mut self, line: &[u8]) -> Result<(), ProfileFault>
         requires { self.old.stage ≡ Stage.Tree }
-        ensures { Goes result
-            (taken (in_tree self.old.profile self.old.snap self.old.levels) line.now)
-            (shown self.new) }
+        ensures { Goes result (taken (shown_at Stage.Tree self.old) line.now) (shown self.new) }
     {
         if self.levels.len() > MAX_LEVELS {
             return Err(ProfileFault::BadTree);

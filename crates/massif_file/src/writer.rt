@@ -1,9 +1,10 @@
 //! A profile written as the text of Massif's output file. Reading such a text is the reader's part.
-ghost use Rattle.std.specs.Prelude.{◌≡◌, ℕ, ◌+◌, ◌-◌, ◌^◌, ◌<◌, ◌≤◌, [], ◌∷◌, ◌++◌, length, take, drop, decimal, codes, vec_len, OnOk, OnErr};
+ghost use Rattle.std.specs.Prelude.{◌≡◌, ◌+◌, ◌^◌, ◌<◌, ◌≤◌, [], ◌∷◌, ◌++◌, take, drop, decimal, OnOk, OnErr};
+ghost use Rattle.massif_file.specs.Appended.{KeepsFront, at_level, node_head, separated};
 ghost use Rattle.massif_file.specs.Blanks.{blanks};
 ghost use Rattle.massif_file.specs.Fields.{unit_name, mark_name};
 ghost use Rattle.massif_file.specs.TreeLine.{line_of};
-ghost use Rattle.massif_file.specs.MassifText.{head_lines, mark_lines, massif_text, node_text, separator, size_lines, snap_lines, snaps_lines, text_of, tree_lines};
+ghost use Rattle.massif_file.specs.MassifText.{head_lines, mark_lines, massif_text, node_text, size_lines, snap_lines, snaps_lines, text_of, tree_lines};
 
 use crate::levels::Levels;
 use crate::lists::Snaps;
@@ -35,7 +36,7 @@ pub fn put_profile(profile: &Profile, out: &mut Vec<u8>) -> Result<(), NoMemory>
 }
 
 fn put_all(out: &mut Vec<u8>, profile: &Profile) -> Result<(), NoMemory>
-    ensures kept { take (vec_len out.old) out.new.items ≡ out.old.items }
+    ensures kept { KeepsFront out.old out.new }
     ensures appended { OnOk result (out.new.items ≡ out.old.items ++ massif_text profile.now) }
 {
     put_line(out, b"desc: ", profile.desc.bytes())?;
@@ -45,7 +46,7 @@ fn put_all(out: &mut Vec<u8>, profile: &Profile) -> Result<(), NoMemory>
 }
 
 fn put_snaps(out: &mut Vec<u8>, snaps: &Snaps) -> Result<(), NoMemory>
-    ensures kept { take (vec_len out.old) out.new.items ≡ out.old.items }
+    ensures kept { KeepsFront out.old out.new }
     ensures appended { OnOk result
         (out.new.items ≡ out.old.items ++ text_of (snaps_lines 0 snaps.now)) }
 {
@@ -56,7 +57,7 @@ fn put_snaps(out: &mut Vec<u8>, snaps: &Snaps) -> Result<(), NoMemory>
 }
 
 fn put_snap(out: &mut Vec<u8>, n: u64, snap: &Snap) -> Result<(), NoMemory>
-    ensures kept { take (vec_len out.old) out.new.items ≡ out.old.items }
+    ensures kept { KeepsFront out.old out.new }
     ensures appended { OnOk result
         (out.new.items ≡ out.old.items ++ text_of (snap_lines n snap.now)) }
 {
@@ -66,7 +67,7 @@ fn put_snap(out: &mut Vec<u8>, n: u64, snap: &Snap) -> Result<(), NoMemory>
 }
 
 fn put_head(out: &mut Vec<u8>, n: u64, time: u64) -> Result<(), NoMemory>
-    ensures kept { take (vec_len out.old) out.new.items ≡ out.old.items }
+    ensures kept { KeepsFront out.old out.new }
     ensures appended { OnOk result (out.new.items ≡ out.old.items ++ text_of (head_lines n time)) }
 {
     put_separated(out, b"snapshot=", n)?;
@@ -75,16 +76,16 @@ fn put_head(out: &mut Vec<u8>, n: u64, time: u64) -> Result<(), NoMemory>
 
 // A separator, and a line of a key and a number.
 fn put_separated(out: &mut Vec<u8>, key: &[u8], n: u64) -> Result<(), NoMemory>
-    ensures kept { take (vec_len out.old) out.new.items ≡ out.old.items }
-    ensures appended { OnOk result (out.new.items
-        ≡ out.old.items ++ text_of (separator ∷ (key.now ++ decimal n) ∷ [])) }
+    ensures kept { KeepsFront out.old out.new }
+    ensures appended { OnOk result
+        (out.new.items ≡ out.old.items ++ text_of (separated key.now n)) }
 {
     put_bytes(out, b"#-----------\n")?;
     put_number(out, key, n)
 }
 
 fn put_sizes(out: &mut Vec<u8>, snap: &Snap) -> Result<(), NoMemory>
-    ensures kept { take (vec_len out.old) out.new.items ≡ out.old.items }
+    ensures kept { KeepsFront out.old out.new }
     ensures appended { OnOk result
         (out.new.items ≡ out.old.items ++ text_of (size_lines snap.now)) }
 {
@@ -95,7 +96,7 @@ fn put_sizes(out: &mut Vec<u8>, snap: &Snap) -> Result<(), NoMemory>
 
 // The mark and the lines of the tree.
 fn put_marked_tree(out: &mut Vec<u8>, snap: &Snap) -> Result<(), NoMemory>
-    ensures kept { take (vec_len out.old) out.new.items ≡ out.old.items }
+    ensures kept { KeepsFront out.old out.new }
     ensures appended { OnOk result
         (out.new.items ≡ out.old.items ++ text_of (mark_lines snap.now)) }
 {
@@ -106,7 +107,7 @@ fn put_marked_tree(out: &mut Vec<u8>, snap: &Snap) -> Result<(), NoMemory>
 
 // The line feed of the line before, and the lines of the tree.
 fn put_tree(out: &mut Vec<u8>, tree: &Tree) -> Result<(), NoMemory>
-    ensures kept { take (vec_len out.old) out.new.items ≡ out.old.items }
+    ensures kept { KeepsFront out.old out.new }
     ensures appended { OnOk result
         (out.new.items ≡ out.old.items ++ (10 ∷ text_of (tree_lines (1 ∷ []) tree.now))) }
 {
@@ -123,9 +124,9 @@ fn put_tree(out: &mut Vec<u8>, tree: &Tree) -> Result<(), NoMemory>
 // The line feed of the line before, and the line at this level but for its own line feed.
 fn put_node(out: &mut Vec<u8>, level: usize, line: &TreeFields) -> Result<(), NoMemory>
     requires few { level < 2 ^ 63 }
-    ensures kept { take (vec_len out.old) out.new.items ≡ out.old.items }
+    ensures kept { KeepsFront out.old out.new }
     ensures appended { OnOk result
-        (out.new.items ≡ out.old.items ++ (10 ∷ (blanks level ++ node_text (line_of line.now)))) }
+        (out.new.items ≡ out.old.items ++ at_level level (node_text (line_of line.now))) }
 {
     put_front(out, level, u64::from(line.children), line.bytes)?;
     put_bytes(out, line.label)
@@ -134,10 +135,9 @@ fn put_node(out: &mut Vec<u8>, level: usize, line: &TreeFields) -> Result<(), No
 // What stands before the label of a line at this level, and before it the line feed of the line before.
 fn put_front(out: &mut Vec<u8>, level: usize, children: u64, bytes: u64) -> Result<(), NoMemory>
     requires few { level < 2 ^ 63 }
-    ensures kept { take (vec_len out.old) out.new.items ≡ out.old.items }
+    ensures kept { KeepsFront out.old out.new }
     ensures appended { OnOk result
-        (out.new.items ≡ out.old.items ++ (10 ∷ (blanks level
-        ++ node_text (record { children = children; bytes = bytes; label = [] })))) }
+        (out.new.items ≡ out.old.items ++ at_level level (node_head children bytes)) }
 {
     let mut front = [b' '; LONGEST_FRONT];
     let head = write_head(&mut front, children, bytes);
@@ -152,9 +152,9 @@ fn put_front(out: &mut Vec<u8>, level: usize, children: u64, bytes: u64) -> Resu
 // The same part by part, for any level.
 fn put_parts(out: &mut Vec<u8>, level: usize, head: &[u8]) -> Result<(), NoMemory>
     requires few { level < 2 ^ 63 }
-    ensures kept { take (vec_len out.old) out.new.items ≡ out.old.items }
+    ensures kept { KeepsFront out.old out.new }
     ensures appended { OnOk result
-        (out.new.items ≡ out.old.items ++ (10 ∷ (blanks level ++ head.now))) }
+        (out.new.items ≡ out.old.items ++ at_level level head.now) }
 {
     put_bytes(out, b"\n")?;
     put_blanks(out, level)?;
@@ -165,8 +165,7 @@ fn put_parts(out: &mut Vec<u8>, level: usize, head: &[u8]) -> Result<(), NoMemor
 fn write_head(front: &mut [u8; LONGEST_FRONT], children: u64, bytes: u64) -> usize
     ensures room { 257 ≤ result }
     ensures within { result < 301 }
-    ensures written { drop result front.new
-        ≡ node_text (record { children = children; bytes = bytes; label = [] }) }
+    ensures written { drop result front.new ≡ node_head children bytes }
     ensures before { take result front.new ≡ take result front.old }
 {
     front[LONGEST_FRONT - 1] = b' ';
@@ -193,7 +192,7 @@ fn write_number(front: &mut [u8; LONGEST_FRONT], end: usize, first: u8, number: 
 
 fn put_blanks(out: &mut Vec<u8>, count: usize) -> Result<(), NoMemory>
     requires few { count < 2 ^ 63 }
-    ensures kept { take (vec_len out.old) out.new.items ≡ out.old.items }
+    ensures kept { KeepsFront out.old out.new }
     ensures appended { OnOk result (out.new.items ≡ out.old.items ++ blanks count) }
 {
     out.resize(out.len() + count, b' ')?;
@@ -202,7 +201,7 @@ fn put_blanks(out: &mut Vec<u8>, count: usize) -> Result<(), NoMemory>
 
 // A line of a key and a number.
 fn put_number(out: &mut Vec<u8>, key: &[u8], n: u64) -> Result<(), NoMemory>
-    ensures kept { take (vec_len out.old) out.new.items ≡ out.old.items }
+    ensures kept { KeepsFront out.old out.new }
     ensures appended { OnOk result
         (out.new.items ≡ out.old.items ++ text_of ((key.now ++ decimal n) ∷ [])) }
 {
@@ -213,7 +212,7 @@ fn put_number(out: &mut Vec<u8>, key: &[u8], n: u64) -> Result<(), NoMemory>
 
 // A line of a key and a text.
 fn put_line(out: &mut Vec<u8>, key: &[u8], text: &[u8]) -> Result<(), NoMemory>
-    ensures kept { take (vec_len out.old) out.new.items ≡ out.old.items }
+    ensures kept { KeepsFront out.old out.new }
     ensures appended { OnOk result
         (out.new.items ≡ out.old.items ++ text_of ((key.now ++ text.now) ∷ [])) }
 {

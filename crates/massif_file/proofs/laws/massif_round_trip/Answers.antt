@@ -13,7 +13,7 @@ returns-clause-lines c =
     are_lines (record { digits = c.decimal_texts.ensures.digits; reads_back = c.decimal_texts.ensures.reads_back })
 
 pub returns-clause-writable : goal.returns-clause-writable
-returns-clause-writable c = is_writable
+returns-clause-writable c = λ lines all profile is. is_writable lines profile all is
 
 pub returns-clause-levels : goal.returns-clause-levels
 returns-clause-levels c = level_texts

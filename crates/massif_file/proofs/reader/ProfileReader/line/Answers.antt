@@ -5,19 +5,17 @@ use Rattle.massif_file.proofs.Profiles.{call_first}
 use Rattle.massif_file.proofs.ReadingLemmas.{call_stands, call_fault}
 use Rattle.massif_file.proofs.reader.ProfileReader.line.Goals as goal
 
-pub returns-clause-stands : goal.returns-clause-stands
-returns-clause-stands c =
-    call_stands c.args.self.now (shown c.line.new.self) c.args.line.now c.line.result
-    (rw (← c.self.view_is) c.line.ensures.taken) c.line.ensures.not_refused
+pub returns-clause-step : goal.returns-clause-step
+returns-clause-step c = rw (← c.self.view_is) c.line.ensures
 
-pub returns-clause-fault : goal.returns-clause-fault
-returns-clause-fault c =
-    call_fault c.args.self.now c.args.line.now c.line.result (rw (← c.self.view_is) c.line.ensures.refused)
-
-pub returns-clause-not_truncated : goal.returns-clause-not_truncated
-returns-clause-not_truncated c =
-    never_truncated c.args.self.now c.args.line.now c.line.result (rw (← c.self.view_is) c.line.ensures.refused)
-
-pub returns-clause-first_fault : goal.returns-clause-first_fault
-returns-clause-first_fault c =
-    call_first c.args.self.now c.args.line.now c.line.result (rw (← c.self.view_is) c.line.ensures.refused)
+pub returns-clause-lines : goal.returns-clause-lines
+returns-clause-lines c =
+    let step = rw c.self.view_is at c.line.ensures in
+    record {
+      stands =
+          call_stands c.args.self.now (shown c.line.new.self) c.args.line.now c.line.result step.taken
+          step.not_refused;
+      not_truncated = never_truncated c.args.self.now c.args.line.now c.line.result step.refused;
+      fault = call_fault c.args.self.now c.args.line.now c.line.result step.refused;
+      first_fault = call_first c.args.self.now c.args.line.now c.line.result step.refused;
+    }
