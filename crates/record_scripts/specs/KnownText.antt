@@ -18,12 +18,25 @@ pub record IsKnownText (nodes : List Node) (text : List ℕ) (node : ℕ) : Type
   pub within : node ≤ length nodes
   pub interned : stack_interned nodes (numbers text) ≡ record { nodes = nodes; number = node }
 
--- each slot has a text that is known
+-- a slot has a text that is known
+abbrev pub IsKnownSlot : List Node → KnownStack → Type 0
+IsKnownSlot nodes slot = IsKnownText nodes slot.text.items slot.node
+
+-- each slot has one
 abbrev pub AreKnownSlots : List Node → List KnownStack → Type 0
-AreKnownSlots nodes slots = All (λ slot. IsKnownText nodes slot.text.items slot.node) slots
+AreKnownSlots nodes slots = All (IsKnownSlot nodes) slots
 
 abbrev pub AreKnown : List Node → KnownStacks → Type 0
 AreKnown nodes known = AreKnownSlots nodes known.slots.items
+
+-- whatever nodes the stacks are known by, the text is known for this one of them
+abbrev pub Finds : KnownStacks → List ℕ → ℕ → Type 0
+Finds known text node = (nodes : List Node) → AreKnown nodes known → IsKnownText nodes text node
+
+-- stacks that were known still are, with a text that is known for a node
+abbrev pub Learns : KnownStacks → KnownStacks → List ℕ → ℕ → Type 0
+Learns old new text node = (nodes : List Node) → AreKnown nodes old → IsKnownText nodes text node
+    → AreKnown nodes new
 
 -- a stack was read by its text: its node is known, or its ips are there
 abbrev pub IsSaid : List Node → List ℕ → Option ℕ → List ℕ → Type 0

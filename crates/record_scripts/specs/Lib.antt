@@ -2,6 +2,7 @@ pub mod Skipped
 pub mod Turns
 pub mod NumberAtFront
 pub mod ScriptLine
+pub mod BlockSaid
 pub mod ModuleLine
 pub mod ModuleLines
 pub mod Events

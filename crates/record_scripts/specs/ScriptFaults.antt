@@ -1,25 +1,6 @@
 -- The fault of a line after the lines before it: first that of its grammar, then that of its block,
 -- then that of the number of events; and what a line without a fault adds.
-use Rattle.std.specs.Prelude.{
-  ◌≡◌,
-  ◌≢◌,
-  ℕ,
-  ◌+◌,
-  if◌then◌else◌,
-  List,
-  [],
-  ◌++◌,
-  length,
-  nat_lt,
-  Option,
-  None,
-  Some,
-  Result,
-  IfErr,
-  OnOk,
-  OnErr,
-  unwrap_or,
-}
+use Rattle.std.specs.Prelude.{◌≡◌, ◌≢◌, ℕ, ◌+◌, if◌then◌else◌, List, [], ◌++◌, length, nat_lt, Option, None, Some, Result, IfErr, OnOk, OnErr, unwrap_or, false}
 use Rattle.record_scripts.specs.declared.fault.ScriptFault.{ScriptFault}
 use Rattle.record_scripts.specs.declared.fault.ScriptFault.TheVariants.{
   BadScriptLine,
@@ -28,9 +9,10 @@ use Rattle.record_scripts.specs.declared.fault.ScriptFault.TheVariants.{
   TooManyEvents,
   NoMemory,
 }
+use Rattle.ht_lines.specs.Fields.{numbers}
 use Rattle.record_scripts.specs.Skipped.{is_skipped}
 use Rattle.record_scripts.specs.Turns.{Turn, allocates, frees, reallocates, is_live}
-use Rattle.record_scripts.specs.ScriptLine.{turn_in}
+use Rattle.record_scripts.specs.ScriptLine.{turn_in, are_ips}
 use Rattle.record_scripts.specs.ModuleLine.{module_in}
 use Rattle.record_scripts.specs.Events.{event_count, events_of_turn}
 use Rattle.record_scripts.specs.Job.{Job, in_last, last_script}
@@ -87,6 +69,11 @@ with_module_line job line =
 -- the fault is this one, unless memory was wanting
 abbrev pub Tells : ScriptFault → Option ScriptFault → Type 0
 Tells fault found = fault ≢ NoMemory → found ≡ Some fault
+
+-- a text of ips is refused, unless memory was wanting: one of its numbers is none, or there are too many
+abbrev pub RefusesIps : List ℕ → ScriptFault → Type 0
+RefusesIps text fault = fault ≢ NoMemory
+    → (fault ≡ BadScriptLine) × (are_ips (numbers text) ≡ false)
 
 -- a turn, or a line that says none, was taken and had no fault; or its fault is told, and all is as it was
 pub record JudgesTurn {T : Type 0} (old new : Job) (said : Option Turn)

@@ -1,36 +1,12 @@
 -- How scripts are kept: each turn with the node of its stack, its ID and its size in two parts
 -- each. Turns are numbered where that number stands in the place of the stack.
-use Rattle.std.specs.Prelude.{
-  ◌≡◌,
-  ℕ,
-  ◌+◌,
-  ◌*◌,
-  ◌^◌,
-  ◌<◌,
-  ◌≤◌,
-  Bool,
-  if◌then◌else◌,
-  Option,
-  None,
-  Some,
-  List,
-  [],
-  ◌∷◌,
-  length,
-  map,
-  reverse,
-  vec_capacity,
-  vec_len,
-  Result,
-  IfOk,
-  OnOk,
-  OnErr,
-}
+use Rattle.std.specs.Prelude.{◌≡◌, ℕ, ◌+◌, ◌*◌, ◌^◌, ◌<◌, ◌≤◌, Bool, if◌then◌else◌, Option, None, Some, List, [], ◌∷◌, length, map, reverse, vec_capacity, vec_len, Result, IfOk, OnOk, OnErr, option_map, slice_get}
 use Rattle.std.specs.List.{AllByRecursion}
 use Rattle.stack_table.specs.Node.{Node}
 use Rattle.stack_table.specs.Continues.{Continues}
 use Rattle.stack_table.specs.Interned.{stack_interned}
 use Rattle.stack_table.specs.Stack.{stack}
+use Rattle.ht_lines.specs.Fields.{numbers}
 use Rattle.record_scripts.specs.declared.script_line.ScriptLine.{ScriptLine}
 use Rattle.record_scripts.specs.declared.script_line.ScriptLine.TheVariants.{
   Allocation as AllocationLine,
@@ -39,7 +15,7 @@ use Rattle.record_scripts.specs.declared.script_line.ScriptLine.TheVariants.{
 }
 use Rattle.record_scripts.specs.declared.turn_entry.TurnEntry.{TurnEntry}
 use Rattle.record_scripts.specs.declared.script.Script.{Script}
-use Rattle.record_scripts.specs.Turns.{AreBounded, Turn, allocates, frees, reallocates, is_live}
+use Rattle.record_scripts.specs.Turns.{AreBounded, Turn, allocates, frees, reallocates, is_live, script_at}
 use Rattle.record_scripts.specs.Events.{event_count}
 use Rattle.record_scripts.specs.Job.{in_last, last_script}
 use Rattle.record_scripts.specs.KeptTurn.{line_kept}
@@ -62,6 +38,18 @@ abbrev pub turn_read : ScriptLine → List ℕ → Option Turn
 turn_read (AllocationLine id size) ips = stack_turn ips (allocates id size ips)
 turn_read (FreeLine id) ips = Some (frees id)
 turn_read (ReallocationLine id size) ips = stack_turn ips (reallocates id size ips)
+
+-- the same with those of a text
+abbrev pub turn_by : ScriptLine → List ℕ → Option Turn
+turn_by line text = turn_read line (numbers text)
+
+-- the turn of a line and of a node of scripts
+abbrev pub turn_with : List (List Turn) → ScriptLine × ℕ → Turn
+turn_with scripts found = turn_said found.0 (stack (nodes_in scripts) found.1)
+
+-- the turn at a place of a thread's script
+abbrev pub turn_at : List (List Turn) → ℕ → ℕ → Option Turn
+turn_at scripts thread place = slice_get (script_at scripts thread) place
 
 -- the turn that an entry keeps
 abbrev pub turn_kept : List Node → TurnEntry → Turn
@@ -120,12 +108,30 @@ pub record AreScripts (nodes : List Node) (scripts : List Script) (live : ℕ �
   pub in_turn : AllByRecursion IsInTurn (scripts_kept nodes scripts)
   pub live_blocks : (id : ℕ) → live id ≡ is_live (last_script (scripts_kept nodes scripts)) id
 
+-- by whatever nodes, the same scripts are kept; and those of all turns stay held
+abbrev pub KeepsScripts : List Script → List Script → Type 0
+KeepsScripts old new = (nodes : List Node) → scripts_kept nodes new ≡ scripts_kept nodes old
+
+abbrev pub StayHeld : List Script → List Script → Type 0
+StayHeld old new = (count : ℕ) → AreHeld count old → AreHeld count new
+
+-- they stay so with a turn more, whose node is held
+abbrev pub StayHeldWith : List Script → List Script → TurnEntry → Type 0
+StayHeldWith old new turn = (count : ℕ) → IsHeld count turn → AreHeld count old
+    → AreHeld count new
+
+-- by whatever nodes, a place of a thread's script has the turn that is kept so, or none
+abbrev pub KeepsAt : List Script → ℕ → ℕ → Option TurnEntry → Type 0
+KeepsAt scripts thread place turn = (nodes : List Node)
+    → slice_get (script_at (scripts_kept nodes scripts) thread) place
+    ≡ option_map (turn_kept nodes) turn
+
 -- one turn more stands in the last script; where memory was wanting, all is as it was
 pub record PushesTurn {T E : Type 0} (old new : List Script) (turn : TurnEntry)
     (result : Result T E) : Type 0 where
   pub pushed : OnOk result ((nodes : List Node)
       → scripts_kept nodes new ≡ in_last (scripts_kept nodes old) (turn_kept nodes turn))
-  pub same : OnErr result ((nodes : List Node) → scripts_kept nodes new ≡ scripts_kept nodes old)
+  pub same : OnErr result (KeepsScripts old new)
   pub count : length new ≡ length old
 
 -- the stack has the number, and its nodes are there, each of one frame; where memory was wanting, the nodes are as they were

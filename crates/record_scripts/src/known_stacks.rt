@@ -1,7 +1,7 @@
 //! Stacks that were read lately, by the texts of their ips. What nodes are, is no part of it.
-ghost use Rattle.std.specs.Prelude.{◌≡◌, ◌<◌, List, IfOk, IfSome};
+ghost use Rattle.std.specs.Prelude.{◌<◌, List, IfOk, IfSome, ◌≡◌};
 ghost use Rattle.stack_table.specs.Node.{Node};
-ghost use Rattle.record_scripts.specs.KnownText.{AreKnown, AreKnownSlots, IsKnownText};
+ghost use Rattle.record_scripts.specs.KnownText.{AreKnown, AreKnownSlots, Finds, IsKnownSlot, IsKnownText, Learns};
 
 use hp_num::NoMemory;
 use std::alloc::Global;
@@ -39,8 +39,7 @@ impl KnownStacks {
 
     /// The node of the stack with this text, where it is kept.
     pub fn find(&self, text: &[u8]) -> Option<u32>
-        ensures { (nodes : List Node) → AreKnown nodes self.now
-            → IfSome result (λ node. IsKnownText nodes text.now node) }
+        ensures { IfSome result (Finds self.now text.now) }
     {
         let slot = slot_of(text);
         if slot >= self.slots.len() {
@@ -55,8 +54,7 @@ impl KnownStacks {
 
     /// Keeps a stack with its text, where there is memory for it.
     pub fn learn(&mut self, text: &[u8], node: u32)
-        ensures { (nodes : List Node) → AreKnown nodes self.old → IsKnownText nodes text.now node
-            → AreKnown nodes self.new }
+        ensures { Learns self.old self.new text.now node }
     {
         if text.len() > LONGEST_TEXT {
             return;
@@ -86,7 +84,7 @@ impl KnownStack {
     // Takes a stack with its text in the place of what it has, or that of no ips where memory is wanting.
     fn take(&mut self, text: &[u8], node: u32)
         ensures { (nodes : List Node) → IsKnownText nodes text.now node
-            → IsKnownText nodes self.new.text.items self.new.node }
+            → IsKnownSlot nodes self.new }
     {
         self.text.clear();
         self.node = 0;

@@ -1,6 +1,6 @@
 //! The IDs of the blocks that are live in a script. What a turn does with its block is no part of it.
-ghost use Rattle.std.specs.Prelude.{◌≡◌, ℕ, ◌==◌, Bool, true, false, if◌then◌else◌, not, IfOk, OnErr, OnOk};
-ghost use Rattle.record_scripts.specs.LiveIds.{has_id};
+ghost use Rattle.std.specs.Prelude.{◌≡◌, ℕ, true, false, not, IfOk, OnErr, OnOk};
+ghost use Rattle.record_scripts.specs.LiveIds.{HasSameIds, SetsId, has_id};
 
 use hp_num::NoMemory;
 use std::alloc::Global;
@@ -52,9 +52,8 @@ impl LiveIds {
     /// Takes in an ID, and answers whether it wasn't live. On `NoMemory` the IDs are as before.
     pub fn insert(&mut self, id: u64) -> Result<bool, NoMemory>
         ensures added { IfOk result (λ added. added ≡ not (has_id self.old id)) }
-        ensures live { OnOk result ((q : ℕ) → has_id self.new q
-            ≡ (if id == q then true else has_id self.old q)) }
-        ensures unchanged { OnErr result ((q : ℕ) → has_id self.new q ≡ has_id self.old q) }
+        ensures live { OnOk result (SetsId self.old self.new id true) }
+        ensures unchanged { OnErr result (HasSameIds self.old self.new) }
     {
         if id < self.low.len() as u64 {
             let added = !self.low[id as usize];
@@ -67,8 +66,7 @@ impl LiveIds {
     /// Takes out an ID, and answers whether it was live. It takes no memory.
     pub fn remove(&mut self, id: u64) -> bool
         ensures removed { result ≡ has_id self.old id }
-        ensures live { (q : ℕ) → has_id self.new q
-            ≡ (if id == q then false else has_id self.old q) }
+        ensures live { SetsId self.old self.new id false }
     {
         if id < self.low.len() as u64 {
             let removed = self.low[id as usize];

@@ -1,8 +1,6 @@
 //! The script of one thread, and its next turn. What its lines say is no part of it.
-ghost use Rattle.std.specs.Prelude.{◌≡◌, ℕ, ◌<◌, ◌≤◌, ◌↔◌, List, length, map, IsTrue, IfSome, IsOk, OnOk, OnErr, option_map, slice_get};
-ghost use Rattle.stack_table.specs.Node.{Node};
-ghost use Rattle.record_scripts.specs.Turns.{script_at};
-ghost use Rattle.record_scripts.specs.ScriptTurns.{AreHeld, HasRoom, IsHeld, PushesTurn, scripts_kept, scripts_numbered, turn_kept, turn_numbered};
+ghost use Rattle.std.specs.Prelude.{◌≡◌, ℕ, ◌<◌, ◌↔◌, length, map, IsTrue, IfSome, IsOk, OnOk, OnErr, ◌≤◌};
+ghost use Rattle.record_scripts.specs.ScriptTurns.{AreHeld, HasRoom, IsHeld, KeepsAt, KeepsScripts, PushesTurn, StayHeld, StayHeldWith, scripts_numbered, turn_numbered};
 
 use crate::turn_entry::TurnEntry;
 use hp_num::NoMemory;
@@ -16,9 +14,8 @@ pub struct Script {
 /// Makes room for one turn more in the last script. On `NoMemory` the scripts are as before.
 pub fn reserve_turn(scripts: &mut Vec<Script>) -> Result<(), NoMemory>
     requires { 0 < length scripts.old.items }
-    ensures same { (nodes : List Node)
-        → scripts_kept nodes scripts.new.items ≡ scripts_kept nodes scripts.old.items }
-    ensures held { (count : ℕ) → AreHeld count scripts.old.items → AreHeld count scripts.new.items }
+    ensures same { KeepsScripts scripts.old.items scripts.new.items }
+    ensures held { StayHeld scripts.old.items scripts.new.items }
     ensures count { length scripts.new.items ≡ length scripts.old.items }
     ensures room { OnOk result (HasRoom scripts.new.items) }
 {
@@ -32,11 +29,8 @@ pub fn reserve_turn(scripts: &mut Vec<Script>) -> Result<(), NoMemory>
 pub fn push_turn(scripts: &mut Vec<Script>, turn: TurnEntry) -> Result<(), NoMemory>
     requires { 0 < length scripts.old.items }
     ensures pushes { PushesTurn scripts.old.items scripts.new.items turn result }
-    ensures held { OnOk result
-        ((count : ℕ) → IsHeld count turn → AreHeld count scripts.old.items
-        → AreHeld count scripts.new.items) }
-    ensures still_held { OnErr result
-        ((count : ℕ) → AreHeld count scripts.old.items → AreHeld count scripts.new.items) }
+    ensures held { OnOk result (StayHeldWith scripts.old.items scripts.new.items turn) }
+    ensures still_held { OnErr result (StayHeld scripts.old.items scripts.new.items) }
     ensures room { HasRoom scripts.old.items → IsOk result }
 {
     let last = scripts.len() - 1;
@@ -48,9 +42,7 @@ pub fn push_turn(scripts: &mut Vec<Script>, turn: TurnEntry) -> Result<(), NoMem
 /// The turn of a thread with the number `place` from 0.
 pub fn turn_at(scripts: &[Script], thread: u32, place: u32) -> Option<TurnEntry>
     requires { thread < length scripts.now }
-    ensures kept { (nodes : List Node)
-        → slice_get (script_at (scripts_kept nodes scripts.now) thread) place
-        ≡ option_map (turn_kept nodes) result }
+    ensures kept { KeepsAt scripts.now thread place result }
     ensures held { (count : ℕ) → AreHeld count scripts.now
         → IfSome result (λ turn. IsHeld count turn) }
 {

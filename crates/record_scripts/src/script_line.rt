@@ -1,9 +1,11 @@
 //! One line of a script, by itself. Which blocks are live, and how many events there are, is no part of it.
-ghost use Rattle.std.specs.Prelude.{◌≡◌, ◌≢◌, ◌^◌, ◌≤◌, true, false, [], None, IfErr, IfNone, IfSome, OnOk, option_map};
+ghost use Rattle.std.specs.Prelude.{◌≡◌, ◌^◌, ◌≤◌, true, [], None, IfErr, IfNone, IfSome, OnOk, option_map};
 ghost use Rattle.ht_lines.specs.Fields.{field_ends, fields, numbers};
 ghost use Rattle.record_scripts.specs.Skipped.{is_skipped};
-ghost use Rattle.record_scripts.specs.ScriptLine.{are_ips, block_of, block_read, free_of, sized_of, turn_in, turn_of};
-ghost use Rattle.record_scripts.specs.ScriptTurns.{turn_read, turn_said};
+ghost use Rattle.record_scripts.specs.ScriptLine.{are_ips, block_of, free_of, sized_of, turn_in, turn_of};
+ghost use Rattle.record_scripts.specs.BlockSaid.{block_said, sized_said};
+ghost use Rattle.record_scripts.specs.ScriptFaults.{RefusesIps};
+ghost use Rattle.record_scripts.specs.ScriptTurns.{turn_by, turn_said};
 ghost use Rattle.record_scripts.specs.Turns.{IsBounded};
 
 use crate::fault::ScriptFault;
@@ -48,7 +50,7 @@ pub fn is_skipped(line: &[u8]) -> bool
 /// `None` exactly where no ips make it a line of a script.
 pub fn read_script_line(line: &[u8]) -> Option<(ScriptLine, &[u8])>
     ensures said { IfSome result
-        (λ found. turn_in line.now ≡ turn_read found.0 (numbers found.1.now)) }
+        (λ found. turn_in line.now ≡ turn_by found.0 found.1.now) }
     ensures bounded { IfSome result (λ found. IsBounded (turn_said found.0 [])) }
     ensures none { IfNone result (turn_in line.now ≡ None) }
 {
@@ -65,7 +67,7 @@ pub fn read_script_line(line: &[u8]) -> Option<(ScriptLine, &[u8])>
 #[tactic(auto, unfolding(crate::specs::ScriptLine::turn_of))]
 fn read_turn(kind: u8, rest: &[u8]) -> Option<(ScriptLine, &[u8])>
     ensures said { IfSome result
-        (λ found. turn_of kind (fields rest.now) ≡ turn_read found.0 (numbers found.1.now)) }
+        (λ found. turn_of kind (fields rest.now) ≡ turn_by found.0 found.1.now) }
     ensures bounded { IfSome result (λ found. IsBounded (turn_said found.0 [])) }
     ensures none { IfNone result (turn_of kind (fields rest.now) ≡ None) }
 {
@@ -112,8 +114,8 @@ fn read_free(rest: &[u8]) -> Option<u64>
 
 // The block that a line allocates, and the text of its ips.
 fn read_block(rest: &[u8]) -> Option<(Block, &[u8])>
-    ensures said { IfSome result (λ found. block_of (fields rest.now)
-        ≡ block_read found.0.id found.0.size (numbers found.1.now)) }
+    ensures said { IfSome result
+        (λ found. block_of (fields rest.now) ≡ block_said found.0 found.1.now) }
     ensures few_bytes { IfSome result (λ found. found.0.size ≤ 2 ^ 32) }
     ensures none { IfNone result (block_of (fields rest.now) ≡ None) }
 {
@@ -126,7 +128,7 @@ fn read_block(rest: &[u8]) -> Option<(Block, &[u8])>
 
 // The ID and the size of a block, and what follows them; 0 is looked at again, as in `read_free`.
 fn read_size(rest: &[u8]) -> Option<(Block, &[u8])>
-    ensures { option_map (λ found. (found.0.id, found.0.size, numbers found.1.now)) result
+    ensures { option_map (λ found. sized_said found.0 found.1.now) result
         ≡ sized_of (fields rest.now) }
 {
     let (id, after) = first_number(rest)?;
@@ -147,9 +149,7 @@ fn read_size(rest: &[u8]) -> Option<(Block, &[u8])>
 pub fn read_ips(stack: &[u8], ips: &mut Vec<u64>) -> Result<(), ScriptFault>
     ensures said { OnOk result (ips.new.items ≡ numbers stack.now) }
     ensures are_ips { OnOk result (are_ips (numbers stack.now) ≡ true) }
-    ensures fault { IfErr result
-        (λ fault. fault ≢ ScriptFault.NoMemory
-        → (fault ≡ ScriptFault.BadScriptLine) × (are_ips (numbers stack.now) ≡ false)) }
+    ensures fault { IfErr result (RefusesIps stack.now) }
 {
     ips.clear();
     let mut rest = stack;

@@ -1,8 +1,7 @@
 //! The scripts of all threads, and the modules, by the lines of their files. The order in which the threads take their
 //! turns is no part of it.
-ghost use Rattle.std.specs.Prelude.{◌≡◌, ℕ, ◌-◌, ◌^◌, ◌<◌, ◌≤◌, ◌↔◌, List, [], ◌∷◌, ◌++◌, length, None, Some, IsTrue, IfErr, IfOk, IfSome, OnOk, OnErr, option_map, slice_get};
+ghost use Rattle.std.specs.Prelude.{◌≡◌, ◌-◌, ◌^◌, ◌<◌, ◌≤◌, ◌↔◌, [], ◌∷◌, ◌++◌, length, None, Some, IsTrue, IfErr, IfOk, IfSome, OnOk, OnErr, option_map, ℕ, List};
 ghost use Rattle.std.specs.Arc.{arc_value};
-ghost use Rattle.ht_lines.specs.Fields.{numbers};
 ghost use Rattle.stack_table.specs.Stack.{stack};
 ghost use Rattle.record_scripts.specs.Events.{event_count};
 ghost use Rattle.record_scripts.specs.Job.{IsSameWork, Job};
@@ -10,8 +9,8 @@ ghost use Rattle.record_scripts.specs.Playable.{IsPlayable};
 ghost use Rattle.record_scripts.specs.ModuleLines.{AreModuleLines};
 ghost use Rattle.record_scripts.specs.ScriptFaults.{JudgesTurn, Tells, line_fault, module_fault, turn_fault, with_line, with_module_line, with_turn};
 ghost use Rattle.record_scripts.specs.ScriptNodes.{nodes_in};
-ghost use Rattle.record_scripts.specs.ScriptTurns.{turn_read, turn_said};
-ghost use Rattle.record_scripts.specs.Turns.{IsBounded, frees, script_at};
+ghost use Rattle.record_scripts.specs.ScriptTurns.{turn_at, turn_by, turn_with};
+ghost use Rattle.record_scripts.specs.Turns.{IsBounded, frees};
 ghost use Rattle.record_scripts.specs.declared.script_line.ScriptLine.TheVariants.{Allocation as AllocationLine, Reallocation as ReallocationLine};
 
 use crate::fault::ScriptFault;
@@ -156,15 +155,12 @@ impl Scripts {
     /// The thread's script has to be begun. It takes no memory.
     pub fn turn(&self, thread: u32, place: u32) -> Option<(ScriptLine, u32)>
         requires { thread < length self.now.scripts }
-        ensures turn { slice_get (script_at self.now.scripts thread) place
-            ≡ option_map (λ found. turn_said found.0 (stack (nodes_in self.now.scripts) found.1))
-            result }
+        ensures turn { turn_at self.now.scripts thread place
+            ≡ option_map (turn_with self.now.scripts) result }
         ensures held { IfSome result (λ found. found.1 ≤ length (nodes_in self.now.scripts)) }
 
         // Its bounds, and that of all events.
-        ensures bounded { IfSome result
-            (λ found. IsBounded
-            (turn_said found.0 (stack (nodes_in self.now.scripts) found.1))) }
+        ensures bounded { IfSome result (λ found. IsBounded (turn_with self.now.scripts found)) }
         ensures few_events { event_count self.now.scripts < 2 ^ 24 }
         ensures few_threads { length self.now.scripts ≤ 64 }
     {
@@ -239,9 +235,9 @@ impl Scripts {
         requires begun { 0 < length self.old.scripts }
         requires few_bytes { size ≤ 2 ^ 32 }
         ensures added { OnOk result (self.new
-            ≡ with_turn self.old (turn_read (AllocationLine id size) (numbers text.now))) }
+            ≡ with_turn self.old (turn_by (AllocationLine id size) text.now)) }
         ensures judged { JudgesTurn self.old self.new
-            (turn_read (AllocationLine id size) (numbers text.now)) result }
+            (turn_by (AllocationLine id size) text.now) result }
     {
         let known = match self.stacks.read(text, &mut self.ips) {
             Ok(known) => known,
@@ -302,9 +298,9 @@ impl Scripts {
         requires begun { 0 < length self.old.scripts }
         requires few_bytes { size ≤ 2 ^ 32 }
         ensures added { OnOk result (self.new
-            ≡ with_turn self.old (turn_read (ReallocationLine id size) (numbers text.now))) }
+            ≡ with_turn self.old (turn_by (ReallocationLine id size) text.now)) }
         ensures judged { JudgesTurn self.old self.new
-            (turn_read (ReallocationLine id size) (numbers text.now)) result }
+            (turn_by (ReallocationLine id size) text.now) result }
     {
         let known = match self.stacks.read(text, &mut self.ips) {
             Ok(known) => known,

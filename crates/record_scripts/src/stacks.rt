@@ -1,9 +1,10 @@
 //! The nodes of the stacks of scripts, each of which is one frame, and the stacks that were read lately.
-ghost use Rattle.std.specs.Prelude.{◌≡◌, ◌≢◌, ◌+◌, ◌-◌, ◌^◌, ◌≤◌, ◌↔◌, true, false, [], length, reverse, IsTrue, IfErr, IfOk, OnOk};
+ghost use Rattle.std.specs.Prelude.{◌≡◌, ◌+◌, ◌-◌, ◌^◌, ◌≤◌, ◌↔◌, true, [], length, reverse, IsTrue, IfErr, IfOk, OnOk};
 ghost use Rattle.stack_table.specs.AreNodes.{AreNodes};
 ghost use Rattle.ht_lines.specs.Fields.{numbers};
 ghost use Rattle.ht_lines.specs.Written.{AreWords};
 ghost use Rattle.record_scripts.specs.KnownText.{IsRead};
+ghost use Rattle.record_scripts.specs.ScriptFaults.{RefusesIps};
 ghost use Rattle.record_scripts.specs.ScriptLine.{are_ips};
 ghost use Rattle.record_scripts.specs.ScriptTurns.{AreSingle, InternsStack};
 
@@ -59,9 +60,7 @@ impl Stacks {
     /// - `NoMemory` only where memory for the ips is wanting.
     pub fn read(&self, text: &[u8], ips: &mut Vec<u64>) -> Result<Option<u32>, ScriptFault>
         ensures read { IfOk result (λ node. IsRead self.now text.now node ips.new.items) }
-        ensures fault { IfErr result
-            (λ fault. fault ≢ ScriptFault.NoMemory
-            → (fault ≡ ScriptFault.BadScriptLine) × (are_ips (numbers text.now) ≡ false)) }
+        ensures fault { IfErr result (RefusesIps text.now) }
     {
         if let Some(node) = self.known.find(text) {
             return Ok(Some(node));
