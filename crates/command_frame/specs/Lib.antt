@@ -24,6 +24,7 @@ pub mod Delivery
 pub mod RunFacts
 pub mod RunsTo
 pub mod Delivers
+pub mod SinkCalls
 pub mod Outside
 pub mod Task
 pub mod WordsRan

@@ -11,7 +11,7 @@ pub record IsNewTaker {T F : Type 0} (g : taker.Ghosts T F) (it : T) : Type 0 wh
   pub no_weight : g.weight it ≡ 0
 
 -- it makes of lines what it made of them, and where all went well, it may take more
-pub record KeepsTaker {T F X E : Type 0} (g : taker.Ghosts T F) (old new : T) (result : Result X E)
+pub record SameTaker {T F X E : Type 0} (g : taker.Ghosts T F) (old new : T) (result : Result X E)
     : Type 0 where
   pub report : g.report new ≡ g.report old
   pub sound : OnOk result (g.is_sound new)

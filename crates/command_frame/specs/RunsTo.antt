@@ -1,7 +1,7 @@
 -- What reading a file and running a plan come to, of what a store and an output show before and
 -- after: how it ended, what is yet to be delivered, the files as they were, and failed writes
 -- exactly where the status says so.
-use Rattle.std.specs.Prelude.{◌≡◌, ◌≢◌, ℕ, List, Option, Result, Ok, Err, Vec, vec_items}
+use Rattle.std.specs.Prelude.{◌≡◌, ◌≢◌, ℕ, List, [], ◌∷◌, Option, Result, Ok, Err, Vec, vec_items}
 use Rattle.std.specs.Io.KnownBytes.{append_known}
 use Rattle.hp_outside.specs.declared.store.Store as store
 use Rattle.hp_outside.specs.declared.sink.Sink as sink
@@ -9,6 +9,7 @@ use Rattle.hp_outside.specs.Faults.{Rose}
 use Rattle.hp_outside.specs.Folder.{Folder}
 use Rattle.command_frame.specs.declared.desk.Desk.{Desk}
 use Rattle.command_frame.specs.declared.halt.Halt.{Halt}
+use Rattle.command_frame.specs.declared.pair.PairNames.{PairNames}
 use Rattle.command_frame.specs.Answer.{Answer, done}
 use Rattle.command_frame.specs.DocumentRead.{DocumentEnd, DocumentRead}
 use Rattle.command_frame.specs.FileRead.{FileEnd, FileRead, end_output}
@@ -16,8 +17,8 @@ use Rattle.command_frame.specs.FirstFault.{bounds_of}
 use Rattle.command_frame.specs.Halts.{halt_answer, status_code}
 use Rattle.command_frame.specs.Moment.{Moment}
 use Rattle.command_frame.specs.Outcome.{GivesWhole, HaltsAt}
-use Rattle.command_frame.specs.Plan.{Plan}
-use Rattle.command_frame.specs.Report.{Report}
+use Rattle.command_frame.specs.Plan.{Pieces, Plan, one_document, one_file, two_files}
+use Rattle.command_frame.specs.Report.{Report, Verdict}
 use Rattle.command_frame.specs.Run.{RanTo}
 use Rattle.command_frame.specs.Texts.{Texts, texts_of}
 
@@ -119,3 +120,29 @@ abbrev pub Runs : {S O Z : Type 0} → store.Ghosts S → sink.Ghosts O → Desk
     → S → S → O → O → Result (Vec ℕ Z) Halt → Type 0
 Runs s o desk names plan before now old new result =
     RunsTo desk names plan (shown s before) (shown s now) (taken o old) (taken o new) result
+
+-- a plan of one file by lines was run
+abbrev pub ReadiesFile : {S O R : Type 0} → store.Ghosts S → sink.Ghosts O → (R → List ℕ) → Desk
+    → List ℕ → Report → S → S → O → O → Result R Halt → Type 0
+ReadiesFile s o bytes desk name report before now old new result =
+    Readies s o bytes desk (name ∷ []) (one_file name report) before now old new result
+
+-- a plan of two files by lines was run
+abbrev pub ReadiesPair : {S O R : Type 0} → store.Ghosts S → sink.Ghosts O → (R → List ℕ) → Desk
+    → PairNames → Report → (List (List ℕ) → Report) → S → S → O → O → Result R Halt → Type 0
+ReadiesPair s o bytes desk names report next before now old new result =
+    Readies s o bytes desk (names.first.now ∷ names.second.now ∷ [])
+    (two_files names.first.now report names.second.now next) before now old new result
+
+-- a plan of one file that is read whole was run beside any output, which isn't touched
+abbrev pub RunsWhole : {S Z : Type 0} → store.Ghosts S → Desk → List ℕ → (List ℕ → Verdict) → S → S
+    → Result (Vec ℕ Z) Halt → Type 0
+RunsWhole s desk name verdict before now result =
+    (out : Taken) → RunsTo desk (name ∷ []) (one_document name verdict) (shown s before)
+    (shown s now) out out result
+
+-- a plan of a text that is written while it is made was run beside any store, which isn't touched
+abbrev pub RunsPieces : {O Z : Type 0} → sink.Ghosts O → Desk → List ℕ → O → O
+    → Result (Vec ℕ Z) Halt → Type 0
+RunsPieces o desk text old new result =
+    (store : Shown) → RunsTo desk [] (Pieces text) store store (taken o old) (taken o new) result

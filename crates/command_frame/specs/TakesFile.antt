@@ -1,5 +1,5 @@
 -- What taking the lines of the current file does to the store, to the output and to the reader of lines.
-use Rattle.std.specs.Prelude.{◌≡◌, ◌≢◌, ◌^◌, ◌≤◌, ℕ, List, [], Result, Err, IsTrue, OnOk}
+use Rattle.std.specs.Prelude.{◌≡◌, ◌≢◌, ◌^◌, ◌≤◌, ℕ, List, [], Result, Err, IsTrue, OnOk, Vec}
 use Rattle.hp_outside.specs.declared.store.Store as store
 use Rattle.hp_outside.specs.declared.sink.Sink as sink
 use Rattle.hp_outside.specs.Faults.{Rose}
@@ -9,6 +9,7 @@ use Rattle.hp_outside.specs.NewReader.{IsNewReader}
 use Rattle.hp_outside.specs.Taken.{WhereTold}
 use Rattle.command_frame.specs.declared.lines.LinesStop.{LinesStop}
 use Rattle.command_frame.specs.declared.lines.LinesStop.TheVariants.{ReadFailed, WriteFailed}
+use Rattle.command_frame.specs.declared.taker.LineTaker as taker
 use Rattle.command_frame.specs.LinesRun.{LinesRun, end_of}
 use Rattle.command_frame.specs.Report.{Report}
 use Rattle.command_frame.specs.Told.{Told}
@@ -59,3 +60,17 @@ pub record RanThrough {S O F : Type 0} (s : store.Ghosts S) (o : sink.Ghosts O) 
       (s.left before) (s.left now) (o.written old) (o.written new) kept_back
       (end_of told result taken count)
   pub has : OnOk result (has_taken taken)
+
+-- the same of a taker, where a buffer holds what is kept back, and where nothing is kept back
+abbrev pub RanToBuffer : {S O T F Z : Type 0} → store.Ghosts S → sink.Ghosts O → (F → Told)
+    → taker.Ghosts T F → T → T → LineReaderState → S → S → O → O → Vec ℕ Z
+    → Result (Unit {0}) (LinesStop F) → Type 0
+RanToBuffer s o told g before after lines from now old new buffer result =
+    RanThrough s o told (g.report before) (g.has_taken after) lines from now old new buffer.items
+    result
+
+abbrev pub RanToEnd : {S O T F : Type 0} → store.Ghosts S → sink.Ghosts O → (F → Told)
+    → taker.Ghosts T F → T → T → LineReaderState → S → S → O → O → Result (Unit {0}) (LinesStop F)
+    → Type 0
+RanToEnd s o told g before after lines from now old new result =
+    RanThrough s o told (g.report before) (g.has_taken after) lines from now old new [] result

@@ -1,13 +1,6 @@
 //! Writing what is left of a run to the two outputs. What is written is decided by the commands; here are its order and the
 //! status of a write that fails.
-ghost use Rattle.std.specs.Prelude.{◌≡◌, ◌≢◌, ◌≤◌, ℕ, List, Some, OnOk, OnErr};
-ghost use Rattle.std.specs.Io.KnownBytes.{append_known};
-ghost use Rattle.hp_outside.specs.Faults.{Rose};
-ghost use Rattle.hp_outside.specs.Taken.{GainsFront};
-ghost use Rattle.command_frame.specs.Delivers.{Delivers};
-ghost use Rattle.command_frame.specs.Delivery.{Delivered, GainsFronts};
-ghost use Rattle.command_frame.specs.RunsTo.{answer_of};
-ghost use Rattle.command_frame.specs.Texts.{texts_of};
+ghost use Rattle.command_frame.specs.Delivers.{DeliversParts, DeliversRun, WritesBoth};
 
 use crate::halt::Halt;
 use crate::ready_text::{NoText, ReadyText};
@@ -29,8 +22,7 @@ pub fn deliver<R: ReadyText + Drop, O: Sink, E: Sink>(
     out: &mut O,
     err: &mut E,
 ) -> u8
-    ensures { Delivers O.Sink E.Sink texts.now.write_failed.now
-        (answer_of R.bytes (texts_of texts.now) ran)
+    ensures { DeliversRun O.Sink E.Sink R.bytes texts.now ran
         result out.old out.new err.old err.new }
 {
     match ran {
@@ -56,23 +48,8 @@ fn deliver_parts<R: ReadyText, O: Sink, E: Sink>(
     out: &mut O,
     err: &mut E,
 ) -> u8
-    ensures status { result ≢ 4
-        → Delivered (record { output = R.bytes rest.old; message = message.now; status = status })
-        result
-        (O.written out.old) (O.written out.new) (E.written err.old) (E.written err.new) }
-    ensures fronts { GainsFronts write_failed.now
-        (record { output = R.bytes rest.old; message = message.now; status = status })
-        (Rose (O.faults out.old) (O.faults out.new)) (Rose (E.faults err.old) (E.faults err.new))
-        (O.written out.old) (O.written out.new) (E.written err.old) (E.written err.new) }
-    ensures own_message { (bytes : List ℕ) → O.written out.old ≡ Some bytes
-        → O.written out.new ≡ append_known (O.written out.old) (R.bytes rest.old)
-        → GainsFront (E.written err.old) (E.written err.new) message.now }
-    ensures cause { result ≡ 4 → status ≢ 4 → ¬ Rose (O.faults out.old) (O.faults out.new)
-        → Rose (E.faults err.old) (E.faults err.new) }
-    ensures given { status ≡ 4 → result ≡ 4 }
-    ensures out_sound { result ≢ 4 → O.faults out.new ≡ O.faults out.old }
-    ensures err_sound { result ≢ 4 → E.faults err.new ≡ E.faults err.old }
-    ensures out_faults { O.faults out.old ≤ O.faults out.new }
+    ensures { DeliversParts O.Sink E.Sink write_failed.now (R.bytes rest.old) message.now status
+        result out.old out.new err.old err.new }
 {
     let wrote = write_both(rest, message, write_failed, out, err);
     let flushed_out = out.flush();
@@ -92,25 +69,8 @@ fn write_both<R: ReadyText, O: Sink, E: Sink>(
     out: &mut O,
     err: &mut E,
 ) -> Result<(), Failed>
-    ensures output { OnOk result
-        (O.written out.new ≡ append_known (O.written out.old) (R.bytes rest.old)) }
-    ensures message { OnOk result
-        (E.written err.new ≡ append_known (E.written err.old) message.now) }
-    ensures fronts { (status : ℕ)
-        → GainsFronts write_failed.now
-        (record { output = R.bytes rest.old; message = message.now; status = status })
-        (Rose (O.faults out.old) (O.faults out.new)) (Rose (E.faults err.old) (E.faults err.new))
-        (O.written out.old) (O.written out.new) (E.written err.old) (E.written err.new) }
-    ensures out_faults { O.faults out.old ≤ O.faults out.new }
-    ensures err_faults { E.faults err.old ≤ E.faults err.new }
-    ensures out_sound { OnOk result (O.faults out.new ≡ O.faults out.old) }
-    ensures err_sound { OnOk result (E.faults err.new ≡ E.faults err.old) }
-    ensures own_message { (bytes : List ℕ) → O.written out.old ≡ Some bytes
-        → O.written out.new ≡ append_known (O.written out.old) (R.bytes rest.old)
-        → GainsFront (E.written err.old) (E.written err.new) message.now }
-    ensures cause { OnErr result
-        (¬ Rose (O.faults out.old) (O.faults out.new)
-        → Rose (E.faults err.old) (E.faults err.new)) }
+    ensures { WritesBoth O.Sink E.Sink write_failed.now (R.bytes rest.old) message.now
+        out.old out.new err.old err.new result }
 {
     match rest.write(out) {
         Ok(()) => write_whole(err, message),

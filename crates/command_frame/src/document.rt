@@ -1,14 +1,9 @@
 //! Reading a named file as a whole, and making the output of it. What its bytes mean is the business of the commands.
-ghost use Rattle.std.specs.Prelude.{◌≡◌, ◌≢◌, ◌-◌, ◌^◌, ◌<◌, ◌≤◌, ℕ, List, [], ◌∷◌, IfErr, IfOk, length};
-ghost use Rattle.command_frame.specs.Answer.{memory_answer};
-ghost use Rattle.command_frame.specs.DocumentRead.{document_end_answer};
-ghost use Rattle.command_frame.specs.Halts.{halt_answer, status_code};
-ghost use Rattle.command_frame.specs.Outcome.{end_of_whole};
-ghost use Rattle.command_frame.specs.Plan.{one_document};
+ghost use Rattle.std.specs.Prelude.{◌≡◌, ◌-◌, ◌^◌, ◌<◌, ◌≤◌, ℕ, List, IfErr, IfOk, length};
+ghost use Rattle.command_frame.specs.HaltsWith.{HaltsUnread};
 ghost use Rattle.command_frame.specs.Report.{Verdict, Writes};
-ghost use Rattle.command_frame.specs.RunsTo.{ReadsWhole, RunsTo, Taken, shown};
+ghost use Rattle.command_frame.specs.RunsTo.{ReadsWhole, RunsWhole};
 ghost use Rattle.command_frame.specs.Taker.{Refuses};
-ghost use Rattle.command_frame.specs.Texts.{texts_of};
 
 use crate::desk::Desk;
 use crate::fault::{Fault, FaultStatus};
@@ -53,12 +48,7 @@ impl Fault for TooLong {
 
 /// The halt where the bytes of an open file weren't given.
 fn unread(desk: &Desk, name: &str, fault: WholeFault) -> Halt
-    ensures answer { status_code result.status ≢ 5
-        → halt_answer (texts_of desk.now.texts) result
-        ≡ document_end_answer (texts_of desk.now.texts) name.now (end_of_whole fault) }
-    ensures memory { status_code result.status ≡ 5
-        → halt_answer (texts_of desk.now.texts) result ≡ memory_answer (texts_of desk.now.texts) }
-    ensures write { status_code result.status ≢ 4 }
+    ensures { HaltsUnread desk.now.texts name.now fault result }
 {
     match fault {
         WholeFault::ReadFailed => Halt::unreadable(desk.alloc, &desk.texts, name, fault.text()),
@@ -91,9 +81,8 @@ pub fn run_document<D: DocumentReport, S: Store>(
     store: &mut S,
 ) -> Result<Vec<u8>, Halt>
     requires opens { S.opens store.old < 2 ^ 64 - 1 }
-    ensures { (out : Taken) → RunsTo desk.now (name.now ∷ [])
-        (one_document name.now (D.verdict document.now))
-        (shown S.Store store.old) (shown S.Store store.new) out out result }
+    ensures { RunsWhole S.Store desk.now name.now (D.verdict document.now)
+        store.old store.new result }
 {
     let bytes = match read_document(desk, name, store) {
         Ok(bytes) => bytes,

@@ -1,12 +1,8 @@
 //! Opening named files and reading them by lines, to a message where that ends before the last line.
-ghost use Rattle.std.specs.Prelude.{◌≡◌, ◌≢◌, ◌-◌, ◌^◌, ◌<◌, ◌≤◌, ℕ, List, [], Err, OnOk, IsTrue};
-ghost use Rattle.hp_outside.specs.Faults.{Rose};
-ghost use Rattle.hp_outside.specs.Taken.{WhereTold};
-ghost use Rattle.command_frame.specs.FileRead.{end_answer};
-ghost use Rattle.command_frame.specs.HaltsWith.{HaltsWith, StopsWith};
-ghost use Rattle.command_frame.specs.NewTaker.{IsNewTaker, KeepsTaker};
-ghost use Rattle.command_frame.specs.TakesFile.{HasLimits, KeepsLimits, MayReadLines, RanThrough, TakesFile};
-ghost use Rattle.command_frame.specs.Outcome.{end_of_open};
+ghost use Rattle.std.specs.Prelude.{◌-◌, ◌^◌, ◌<◌};
+ghost use Rattle.command_frame.specs.HaltsWith.{HaltsUnopened, StopsWith};
+ghost use Rattle.command_frame.specs.NewTaker.{IsNewTaker, SameTaker};
+ghost use Rattle.command_frame.specs.TakesFile.{HasLimits, KeepsLimits, MayReadLines, RanToEnd, TakesFile};
 ghost use Rattle.command_frame.specs.RunsTo.{Reads};
 ghost use Rattle.command_frame.specs.Texts.{texts_of};
 
@@ -28,11 +24,11 @@ fn read_current_file<T: LineTaker, S: Store, O: Sink>(
 ) -> Result<(), LinesStop<T::Fault>>
     requires file { MayReadLines S.Store lines.old store.old }
     requires taker { IsNewTaker T.LineTaker taker.old }
-    ensures run { RanThrough S.Store O.Sink T.Fault.told (T.report taker.old)
-        (T.has_taken taker.new) lines.old store.old store.new out.old out.new [] result }
+    ensures run { RanToEnd S.Store O.Sink T.Fault.told T.LineTaker taker.old taker.new lines.old
+        store.old store.new out.old out.new result }
     ensures file { TakesFile S.Store O.Sink lines.old lines.new store.old store.new out.old out.new
         result }
-    ensures taker { KeepsTaker T.LineTaker taker.old taker.new result }
+    ensures taker { SameTaker T.LineTaker taker.old taker.new result }
 {
     let mut buffer = Vec::new(alloc);
     let taken = read_through_buffer(lines, taker, store, out, &mut buffer);
@@ -45,8 +41,7 @@ fn read_current_file<T: LineTaker, S: Store, O: Sink>(
 impl Desk {
     /// The halt where a file wasn't opened.
     pub(crate) fn unopened(&self, name: &str, fault: OpenFault) -> Halt
-        ensures { HaltsWith (texts_of self.now.texts)
-            (end_answer (texts_of self.now.texts) name.now (end_of_open fault)) result }
+        ensures { HaltsUnopened self.now.texts name.now fault result }
     {
         Halt::unreadable(self.alloc, &self.texts, name, fault.text())
     }
@@ -91,7 +86,7 @@ pub fn read_named_file<T: LineTaker, S: Store, O: Sink>(
         (T.has_taken taker.new)
         store.old store.new out.old out.new result }
     ensures limits { KeepsLimits lines.old lines.new }
-    ensures taker { KeepsTaker T.LineTaker taker.old taker.new result }
+    ensures taker { SameTaker T.LineTaker taker.old taker.new result }
 {
     lines.start();
     match store.open(name) {

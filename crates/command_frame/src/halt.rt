@@ -1,9 +1,8 @@
 //! Why a run ends before its output is whole: a message and a status that are ready to be delivered.
-ghost use Rattle.std.specs.Prelude.{◌≡◌, ◌≢◌, ◌++◌, codes, IfOk};
-ghost use Rattle.command_frame.specs.Answer.{file_answer, line_answer, refused};
+ghost use Rattle.std.specs.Prelude.{◌≡◌, ◌++◌, codes, IfOk};
 ghost use Rattle.command_frame.specs.Halts.{message_bytes, status_code};
-ghost use Rattle.command_frame.specs.HaltsWith.{HaltsWith};
-ghost use Rattle.command_frame.specs.Texts.{at_file, at_line, texts_of};
+ghost use Rattle.command_frame.specs.HaltsWith.{HaltsAtFile, HaltsAtLine, HaltsUnreadable, SaysOfFile, SaysOfLine};
+ghost use Rattle.command_frame.specs.Texts.{texts_of};
 ghost use Rattle.command_frame.specs.Told.{code_of};
 
 use crate::fault::{Fault, FaultStatus};
@@ -122,8 +121,7 @@ impl Halt {
     /// A file that is absent, or of which a call failed; or the halt for want of memory, where that is wanting for the
     /// message.
     pub fn unreadable(alloc: Global, texts: &ProgramTexts, file: &str, text: &str) -> Halt
-        ensures { HaltsWith (texts_of texts.now)
-            (refused (at_file (texts_of texts.now) file.now text.now) 3) result }
+        ensures { HaltsUnreadable texts.now file.now text.now result }
     {
         match text_message(alloc, texts, file, text) {
             Ok(message) => Halt {
@@ -136,8 +134,7 @@ impl Halt {
 
     /// A fault of a file, at no line; or the halt for want of memory.
     pub fn at_file<F: Fault>(alloc: Global, texts: &ProgramTexts, file: &str, fault: &F) -> Halt
-        ensures { HaltsWith (texts_of texts.now)
-            (file_answer (texts_of texts.now) file.now (F.told fault.now)) result }
+        ensures { HaltsAtFile texts.now file.now (F.told fault.now) result }
     {
         match file_message(alloc, texts, file, fault) {
             Ok(message) => Halt {
@@ -156,8 +153,7 @@ impl Halt {
         number: u64,
         fault: &F,
     ) -> Halt
-        ensures { HaltsWith (texts_of texts.now)
-            (line_answer (texts_of texts.now) file.now number (F.told fault.now)) result }
+        ensures { HaltsAtLine texts.now file.now number (F.told fault.now) result }
     {
         match line_message(alloc, texts, file, number, fault) {
             Ok(message) => Halt {
@@ -199,8 +195,7 @@ fn text_message(
     file: &str,
     text: &str,
 ) -> Result<Vec<u8>, NoMemory>
-    ensures { IfOk result
-        (λ message. message.items ≡ at_file (texts_of texts.now) file.now text.now) }
+    ensures { IfOk result (λ message. SaysOfFile texts.now file.now text.now message) }
 {
     let mut message = begin(alloc, texts, file)?;
     put_bytes(&mut message, b": ")?;
@@ -217,7 +212,7 @@ fn file_message<F: Fault>(
     fault: &F,
 ) -> Result<Vec<u8>, NoMemory>
     ensures { IfOk result
-        (λ message. message.items ≡ at_file (texts_of texts.now) file.now (F.told fault.now).text) }
+        (λ message. SaysOfFile texts.now file.now (F.told fault.now).text message) }
 {
     let mut message = begin(alloc, texts, file)?;
     put_bytes(&mut message, b": ")?;
@@ -235,8 +230,7 @@ fn line_message<F: Fault>(
     fault: &F,
 ) -> Result<Vec<u8>, NoMemory>
     ensures { IfOk result
-        (λ message. message.items
-        ≡ at_line (texts_of texts.now) file.now number (F.told fault.now).text) }
+        (λ message. SaysOfLine texts.now file.now number (F.told fault.now) message) }
 {
     let mut message = begin(alloc, texts, file)?;
     put_bytes(&mut message, b":")?;

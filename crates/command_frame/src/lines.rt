@@ -1,12 +1,11 @@
 //! Taking the lines of the current file, one after another, and passing on what they give to standard output. Which file it
 //! is, and what a stop is called, is no part of it.
-ghost use Rattle.std.specs.Prelude.{◌≡◌, ◌≢◌, ◌+◌, ◌-◌, ◌^◌, ◌<◌, ◌≤◌, ℕ, List, [], ◌++◌, Ok, Err, OnOk, OnErr, IsTrue};
-ghost use Rattle.std.specs.Io.KnownBytes.{append_known};
-ghost use Rattle.hp_outside.specs.Faults.{Rose};
-ghost use Rattle.hp_outside.specs.Taken.{GainsFront, WhereTold};
-ghost use Rattle.command_frame.specs.NewTaker.{IsNewTaker, KeepsTaker};
+ghost use Rattle.std.specs.Prelude.{◌≡◌, ◌+◌, ◌^◌, ◌≤◌, [], OnOk, OnErr};
+ghost use Rattle.hp_outside.specs.Taken.{GainsFront};
+ghost use Rattle.command_frame.specs.NewTaker.{IsNewTaker, SameTaker};
 ghost use Rattle.command_frame.specs.TakenReady.{HasTakenReady};
-ghost use Rattle.command_frame.specs.TakesFile.{MayReadLines, RanThrough, TakesFile};
+ghost use Rattle.command_frame.specs.TakesFile.{MayReadLines, RanToBuffer, TakesFile};
+ghost use Rattle.command_frame.specs.SinkCalls.{HasFailed, PassesOn, SameFaults, Writes};
 
 use crate::fault::{Fault, FaultStatus};
 use crate::front::take_batch;
@@ -76,12 +75,11 @@ pub fn read_through_buffer<T: LineTaker, S: Store, O: Sink>(
     requires file { MayReadLines S.Store lines.old store.old }
     requires taker { IsNewTaker T.LineTaker taker.old }
     requires no_output { buffer.old.items ≡ [] }
-    ensures run { RanThrough S.Store O.Sink T.Fault.told (T.report taker.old)
-        (T.has_taken taker.new) lines.old store.old store.new out.old out.new
-        buffer.new.items result }
+    ensures run { RanToBuffer S.Store O.Sink T.Fault.told T.LineTaker taker.old taker.new lines.old
+        store.old store.new out.old out.new buffer.new result }
     ensures file { TakesFile S.Store O.Sink lines.old lines.new store.old store.new out.old out.new
         result }
-    ensures taker { KeepsTaker T.LineTaker taker.old taker.new result }
+    ensures taker { SameTaker T.LineTaker taker.old taker.new result }
 {
     'lines: loop {
         let number = lines.number() + 1;
@@ -143,14 +141,12 @@ fn take_ready<T: LineTaker>(lines: &mut LineReader, taker: &mut T, buffer: &mut 
 
 /// Writes what is kept back, where it is a piece or more.
 pub fn pass_on_piece<O: Sink>(buffer: &mut Vec<u8>, out: &mut O) -> Result<(), Failed>
-    ensures passed { OnOk result
-        ((early : List ℕ) × ((O.written out.new ≡ append_known (O.written out.old) early)
-        × (early ++ buffer.new.items ≡ buffer.old.items))) }
+    ensures passed { OnOk result (PassesOn O.Sink out.old out.new buffer.old buffer.new) }
     ensures front { OnErr result
         (GainsFront (O.written out.old) (O.written out.new) buffer.old.items) }
     ensures emptied { OnErr result (buffer.new.items ≡ []) }
-    ensures sound { OnOk result (O.faults out.new ≡ O.faults out.old) }
-    ensures failed { OnErr result (Rose (O.faults out.old) (O.faults out.new)) }
+    ensures sound { OnOk result (SameFaults O.Sink out.old out.new) }
+    ensures failed { OnErr result (HasFailed O.Sink out.old out.new) }
 {
     if buffer.len() < PIECE {
         return Ok(());
@@ -161,11 +157,11 @@ pub fn pass_on_piece<O: Sink>(buffer: &mut Vec<u8>, out: &mut O) -> Result<(), F
 /// Writes all that is kept back.
 pub fn pass_on<O: Sink>(buffer: &mut Vec<u8>, out: &mut O) -> Result<(), Failed>
     ensures passed { OnOk result
-        (O.written out.new ≡ append_known (O.written out.old) buffer.old.items) }
+        (Writes O.Sink out.old out.new buffer.old.items) }
     ensures front { GainsFront (O.written out.old) (O.written out.new) buffer.old.items }
     ensures emptied { buffer.new.items ≡ [] }
-    ensures sound { OnOk result (O.faults out.new ≡ O.faults out.old) }
-    ensures failed { OnErr result (Rose (O.faults out.old) (O.faults out.new)) }
+    ensures sound { OnOk result (SameFaults O.Sink out.old out.new) }
+    ensures failed { OnErr result (HasFailed O.Sink out.old out.new) }
 {
     let wrote = write_whole(out, buffer);
     buffer.clear();

@@ -1,9 +1,9 @@
 //! A whole run over two files that are read by lines, of which the first says what is made of the second.
-ghost use Rattle.std.specs.Prelude.{◌≡◌, ◌-◌, ◌^◌, ◌<◌, ℕ, List, [], ◌∷◌, IfOk};
+ghost use Rattle.std.specs.Prelude.{◌-◌, ◌^◌, ◌<◌, ℕ, List, IfOk};
 ghost use Rattle.command_frame.specs.NewTaker.{IsNewTaker};
-ghost use Rattle.command_frame.specs.Plan.{two_files};
 ghost use Rattle.command_frame.specs.Report.{Report};
-ghost use Rattle.command_frame.specs.RunsTo.{Readies};
+ghost use Rattle.command_frame.specs.RunsTo.{ReadiesPair};
+ghost use Rattle.command_frame.specs.Taker.{Reports};
 
 use crate::desk::Desk;
 use crate::files::read_named_file;
@@ -31,9 +31,8 @@ pub trait FilePair {
     fn second(&self, alloc: Global, first: Self::First) -> Result<Self::Second, NoMemory>
         requires sound { Self.First.is_sound first }
         ensures new { IfOk result (λ second. IsNewTaker Self.Second.LineTaker second) }
-        ensures report { IfOk result
-            (λ second. (lines : List (List ℕ)) → Self.First.has_taken first lines
-            → Self.Second.report second ≡ second_report self.now lines) };
+        ensures report { Reports (Self.First.has_taken first) (second_report self.now)
+            Self.Second.report result };
 }
 
 /// The names of two files.
@@ -54,10 +53,8 @@ pub fn run_pair<P: FilePair, S: Store, O: Sink>(
 ) -> Result<<P::Second as LineReport>::Rest, Halt>
     requires opens { S.opens store.old < 2 ^ 64 - 2 }
     requires taker { IsNewTaker P.First.LineTaker first }
-    ensures { Readies S.Store O.Sink P.Second.Rest.bytes desk.now
-        (names.now.first.now ∷ names.now.second.now ∷ [])
-        (two_files names.now.first.now (P.First.report first)
-        names.now.second.now (P.second_report pair.now))
+    ensures { ReadiesPair S.Store O.Sink P.Second.Rest.bytes desk.now names.now
+        (P.First.report first) (P.second_report pair.now)
         store.old store.new out.old out.new result }
 {
     let mut lines = LineReader::new(desk.alloc, &desk.limits)?;

@@ -1,10 +1,9 @@
 //! Texts that are ready to be written: what writing needs of memory was taken before. Which text it is, is the business of
 //! the commands.
 ghost use Rattle.std.specs.Prelude.{◌≡◌, ◌+◌, ◌<◌, ◌≤◌, ◌++◌, ℕ, List, [], Ok, true, false, IfOk, IsOk, OnOk, OnErr, vec_len, vec_capacity};
-ghost use Rattle.std.specs.Io.KnownBytes.{append_known};
-ghost use Rattle.hp_outside.specs.Faults.{Rose};
-ghost use Rattle.hp_outside.specs.Taken.{GainsCutFront, GainsFront};
+ghost use Rattle.hp_outside.specs.Taken.{GainsFront};
 ghost use Rattle.command_frame.specs.PageRoom.{HasPageRoom, IsEmptied, IsPassedOn};
+ghost use Rattle.command_frame.specs.SinkCalls.{CutsPage, HasFailed, PassesOn, SameFaults, Writes, WritesLess};
 
 use crate::lines::PIECE;
 use hp_num::NoMemory;
@@ -22,12 +21,12 @@ pub trait ReadyText {
     fn write<O: Sink>(&mut self, out: &mut O) -> Result<(), Failed>
         ensures faults { O.faults out.old ≤ O.faults out.new }
         ensures written { OnOk result
-            (O.written out.new ≡ append_known (O.written out.old) (bytes self.old)) }
+            (Writes O.Sink out.old out.new (bytes self.old)) }
         ensures front { GainsFront (O.written out.old) (O.written out.new) (bytes self.old) }
         ensures cut { OnErr result
-            (GainsCutFront (O.written out.old) (O.written out.new) (bytes self.old)) }
-        ensures sound { OnOk result (O.faults out.new ≡ O.faults out.old) }
-        ensures failed { OnErr result (Rose (O.faults out.old) (O.faults out.new)) };
+            (WritesLess O.Sink out.old out.new (bytes self.old)) }
+        ensures sound { OnOk result (SameFaults O.Sink out.old out.new) }
+        ensures failed { OnErr result (HasFailed O.Sink out.old out.new) };
 }
 
 impl ReadyText for Vec<u8> {
@@ -137,11 +136,11 @@ fn write_pieces<M: PieceMaker, O: Sink>(
     requires page { HasPageRoom (M.longest maker.old) page.old }
     ensures page { HasPageRoom (M.longest maker.new) page.new }
     ensures written { OnOk result
-        (O.written out.new ≡ append_known (O.written out.old) (M.rest maker.old)) }
+        (Writes O.Sink out.old out.new (M.rest maker.old)) }
     ensures cut { OnErr result
-        (GainsCutFront (O.written out.old) (O.written out.new) (M.rest maker.old)) }
-    ensures sound { OnOk result (O.faults out.new ≡ O.faults out.old) }
-    ensures failed { OnErr result (Rose (O.faults out.old) (O.faults out.new)) }
+        (WritesLess O.Sink out.old out.new (M.rest maker.old)) }
+    ensures sound { OnOk result (SameFaults O.Sink out.old out.new) }
+    ensures failed { OnErr result (HasFailed O.Sink out.old out.new) }
     ensures faults { O.faults out.old ≤ O.faults out.new }
 {
     'pieces: loop {
@@ -158,14 +157,11 @@ fn write_pieces<M: PieceMaker, O: Sink>(
 
 /// Writes the page where it is full.
 fn pass_on_full<O: Sink>(page: &mut Vec<u8>, out: &mut O) -> Result<(), Failed>
-    ensures passed { OnOk result
-        ((early : List ℕ) × ((O.written out.new ≡ append_known (O.written out.old) early)
-        × (early ++ page.new.items ≡ page.old.items))) }
+    ensures passed { OnOk result (PassesOn O.Sink out.old out.new page.old page.new) }
     ensures page { IsPassedOn result page.old page.new }
-    ensures cut { OnErr result
-        (GainsCutFront (O.written out.old) (O.written out.new) page.old.items) }
-    ensures sound { OnOk result (O.faults out.new ≡ O.faults out.old) }
-    ensures failed { OnErr result (Rose (O.faults out.old) (O.faults out.new)) }
+    ensures cut { CutsPage O.Sink out.old out.new page.old result }
+    ensures sound { OnOk result (SameFaults O.Sink out.old out.new) }
+    ensures failed { OnErr result (HasFailed O.Sink out.old out.new) }
     ensures faults { O.faults out.old ≤ O.faults out.new }
 {
     if page.len() < PIECE {
@@ -177,12 +173,11 @@ fn pass_on_full<O: Sink>(page: &mut Vec<u8>, out: &mut O) -> Result<(), Failed>
 /// Writes the page.
 fn pass_on<O: Sink>(page: &mut Vec<u8>, out: &mut O) -> Result<(), Failed>
     ensures passed { OnOk result
-        (O.written out.new ≡ append_known (O.written out.old) page.old.items) }
+        (Writes O.Sink out.old out.new page.old.items) }
     ensures page { IsEmptied page.old page.new }
-    ensures cut { OnErr result
-        (GainsCutFront (O.written out.old) (O.written out.new) page.old.items) }
-    ensures sound { OnOk result (O.faults out.new ≡ O.faults out.old) }
-    ensures failed { OnErr result (Rose (O.faults out.old) (O.faults out.new)) }
+    ensures cut { CutsPage O.Sink out.old out.new page.old result }
+    ensures sound { OnOk result (SameFaults O.Sink out.old out.new) }
+    ensures failed { OnErr result (HasFailed O.Sink out.old out.new) }
     ensures faults { O.faults out.old ≤ O.faults out.new }
 {
     let wrote = write_whole(out, page);

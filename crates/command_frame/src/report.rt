@@ -1,7 +1,5 @@
 //! What makes the rest of the output of the lines that it has taken.
-ghost use Rattle.std.specs.Prelude.{◌≡◌, ℕ, List, IfOk, IfErr};
-ghost use Rattle.command_frame.specs.Report.{Writes};
-ghost use Rattle.command_frame.specs.Taker.{Refuses};
+ghost use Rattle.command_frame.specs.Taker.{RefusesRest, WritesRest};
 
 use crate::ready_text::ReadyText;
 use crate::taker::{LineRefusal, LineTaker};
@@ -15,12 +13,10 @@ pub trait LineReport: LineTaker {
     /// The rest of the output, or the fault of the file that has no line. `NoMemory` where memory is wanting.
     fn finish(self, alloc: Global) -> Result<Self::Rest, LineRefusal<Self::Fault>>
         requires sound { Self.is_sound self }
-        ensures output { IfOk result
-            (λ rest. (lines : List (List ℕ)) → Self.has_taken self lines
-            → (Self.report self).verdict lines ≡ Writes (Self.Rest.bytes rest)) }
-        ensures fault { IfErr result
-            (λ refusal. (lines : List (List ℕ)) → Self.has_taken self lines
-            → Refuses Self.Fault.told refusal ((Self.report self).verdict lines)) };
+        ensures output { WritesRest Self.Rest.bytes (Self.report self)
+            (Self.has_taken self) result }
+        ensures fault { RefusesRest Self.Fault.told (Self.report self)
+            (Self.has_taken self) result };
 
     /// Lets it go, where not all lines were taken.
     // A method, since a value whose type names a closure can't be let go as one of a type parameter.

@@ -1,8 +1,7 @@
 //! A whole run over one file that is read by lines.
-ghost use Rattle.std.specs.Prelude.{◌≡◌, ◌-◌, ◌^◌, ◌<◌, [], ◌∷◌};
+ghost use Rattle.std.specs.Prelude.{◌-◌, ◌^◌, ◌<◌};
 ghost use Rattle.command_frame.specs.NewTaker.{IsNewTaker};
-ghost use Rattle.command_frame.specs.Plan.{one_file};
-ghost use Rattle.command_frame.specs.RunsTo.{Readies};
+ghost use Rattle.command_frame.specs.RunsTo.{ReadiesFile};
 ghost use Rattle.command_frame.specs.TakesFile.{HasLimits};
 
 use crate::desk::Desk;
@@ -22,8 +21,7 @@ pub fn run_one_file<T: LineReport, S: Store, O: Sink>(
 ) -> Result<T::Rest, Halt>
     requires opens { S.opens store.old < 2 ^ 64 - 1 }
     requires taker { IsNewTaker T.LineTaker taker }
-    ensures { Readies S.Store O.Sink T.Rest.bytes desk.now (name.now ∷ [])
-        (one_file name.now (T.report taker))
+    ensures { ReadiesFile S.Store O.Sink T.Rest.bytes desk.now name.now (T.report taker)
         store.old store.new out.old out.new result }
 {
     let Ok(mut lines) = LineReader::new(desk.alloc, &desk.limits) else {
@@ -45,8 +43,7 @@ pub fn run_last_file<T: LineReport, S: Store, O: Sink>(
     requires opens { S.opens store.old < 2 ^ 64 - 1 }
     requires limits { HasLimits lines.old desk.now.limits }
     requires taker { IsNewTaker T.LineTaker taker }
-    ensures { Readies S.Store O.Sink T.Rest.bytes desk.now (name.now ∷ [])
-        (one_file name.now (T.report taker))
+    ensures { ReadiesFile S.Store O.Sink T.Rest.bytes desk.now name.now (T.report taker)
         store.old store.new out.old out.new result }
 {
     let mut taker = taker;

@@ -1,9 +1,9 @@
 //! What takes the lines of a file, one after another. What the lines mean is the business of the commands.
-ghost use Rattle.std.specs.Prelude.{◌≡◌, ℕ, ◌+◌, ◌^◌, ◌<◌, ◌≤◌, List, [], ◌∷◌, ◌++◌, None, Some, length, unwrap_or, OnOk, OnErr, IfErr};
+ghost use Rattle.std.specs.Prelude.{◌≡◌, ℕ, ◌+◌, ◌^◌, ◌<◌, ◌≤◌, List, length, unwrap_or, OnOk, OnErr};
 ghost use Rattle.hp_outside.specs.WholeLines.{IsLineText};
 ghost use Rattle.command_frame.specs.Batch.{TakesFirst};
 ghost use Rattle.command_frame.specs.Report.{Report};
-ghost use Rattle.command_frame.specs.Taker.{Tells};
+ghost use Rattle.command_frame.specs.Taker.{GainsLine, IsGood, MayEnd, TakesMore, TellsEnd, TellsLine};
 
 use crate::fault::Fault;
 use hp_num::NoMemory;
@@ -52,18 +52,12 @@ pub trait LineTaker {
         requires short { length line.now < 2 ^ 32 }
         requires room { weight self.old + length line.now ≤ 2 ^ 34 }
         ensures sound { OnOk result (is_sound self.new) }
-        ensures taken { OnOk result
-            ((lines : List (List ℕ)) → has_taken self.old lines
-            → has_taken self.new (lines ++ line.now ∷ [])) }
-        ensures no_fault { OnOk result
-            ((lines : List (List ℕ)) → has_taken self.old lines
-            → (report self.old).line_fault lines line.now ≡ None) }
-        ensures fault { IfErr result
-            (λ refusal. (lines : List (List ℕ)) → has_taken self.old lines
-            → Tells Self.Fault.told refusal ((report self.old).line_fault lines line.now)) }
-        ensures output { OnOk result
-            ((lines : List (List ℕ)) → has_taken self.old lines
-            → output.new.items ≡ output.old.items ++ (report self.old).gains lines line.now) }
+        ensures taken { OnOk result (TakesMore (has_taken self.old) (has_taken self.new) line.now) }
+        ensures no_fault { OnOk result (IsGood (report self.old) (has_taken self.old) line.now) }
+        ensures fault { TellsLine Self.Fault.told (report self.old) (has_taken self.old)
+            line.now result }
+        ensures output { GainsLine (report self.old) (has_taken self.old) line.now
+            output.old output.new result }
         ensures no_output { OnErr result (output.new.items ≡ output.old.items) }
         ensures weight { OnOk result (weight self.new ≤ weight self.old + length line.now + 1) }
         ensures report { report self.new ≡ report self.old };
@@ -71,12 +65,9 @@ pub trait LineTaker {
     /// Whether the file may end here: the fault of its end, if it has one. `ended` says whether the last line ended with
     /// its line feed; it is true where there is no line.
     fn end(&self, ended: bool) -> Result<(), Self::Fault>
-        ensures no_fault { OnOk result
-            ((lines : List (List ℕ)) → has_taken self.now lines
-            → (report self.now).end_fault lines ended ≡ None) }
-        ensures fault { IfErr result
-            (λ fault. (lines : List (List ℕ)) → has_taken self.now lines
-            → (report self.now).end_fault lines ended ≡ Some (Self.Fault.told fault)) };
+        ensures no_fault { OnOk result (MayEnd (report self.now) (has_taken self.now) ended) }
+        ensures fault { TellsEnd Self.Fault.told (report self.now) (has_taken self.now)
+            ended result };
 
     /// Takes the line at the front of the bytes, as `line` would, and answers how many bytes it has with its line feed: a
     /// whole line of fewer than 64 bytes that has no fault. `None` where it takes none, as it may of any line; then it

@@ -1,7 +1,6 @@
 //! Writing a text piece by piece while it is made. Which text it is, is the business of the commands.
 ghost use Rattle.std.specs.Prelude.{◌≡◌, ◌<◌, ◌++◌, ℕ, List, [], Ok, true, false, OnOk};
-ghost use Rattle.command_frame.specs.Plan.{Pieces};
-ghost use Rattle.command_frame.specs.RunsTo.{RunsTo, Shown, taken};
+ghost use Rattle.command_frame.specs.RunsTo.{RunsPieces};
 
 use crate::desk::Desk;
 use crate::halt::Halt;
@@ -39,8 +38,7 @@ pub fn run_text<M: TextMaker, O: Sink>(
     out: &mut O,
 ) -> Result<Vec<u8>, Halt>
     requires sound { M.is_sound maker.old }
-    ensures { (store : Shown) → RunsTo desk.now [] (Pieces (M.rest maker.old)) store store
-        (taken O.Sink out.old) (taken O.Sink out.new) result }
+    ensures { RunsPieces O.Sink desk.now (M.rest maker.old) out.old out.new result }
 {
     let mut buffer = Vec::new(desk.alloc);
     'pieces: loop {
