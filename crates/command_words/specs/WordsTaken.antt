@@ -1,5 +1,6 @@
 -- Which words a table takes, and what they give.
-use Rattle.std.specs.Prelude.{Bool, false, List, [], ◌∷◌, Option, Some, None, codes}
+use Rattle.std.specs.Prelude.{◌≡◌, Bool, false, List, [], ◌∷◌, Option, Some, None, IfOk, Result, String, codes, map, option_map, string_bytes}
+use Rattle.std.specs.Borrow.{Bor}
 use Rattle.std.specs.Str.{bytes_eq}
 use Rattle.std.specs.Option.{option_map_or}
 use Rattle.clap.specs.Words.{Kinds, Row, Text, all_of, fault_of, first_of, matches_of, rows_of, found_of}
@@ -46,3 +47,16 @@ only_of _ = None
 -- the name of a file, where there is exactly one
 abbrev pub only_file_in : List Row → Option Text
 only_file_in rows = only_of (files_in rows)
+
+-- the words are taken, and give these rows
+abbrev pub GivesRows : {Z E : Type 0} → Table → List (String Z) → Result TakenWords E → Type 0
+GivesRows table words result =
+    IfOk result (λ taken. words_taken table (map string_bytes words) ≡ Some (rows_in taken))
+
+-- the words aren't taken
+abbrev pub AreRefused : {Z : Type 0} → Table → List (String Z) → Type 0
+AreRefused table words = words_taken table (map string_bytes words) ≡ None
+
+-- borrowed names by their bytes
+abbrev pub names_of : Option (Bor (List (Bor Text))) → Option (List Text)
+names_of names = option_map (λ names. map (λ name. name.now) names.now) names

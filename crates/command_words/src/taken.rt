@@ -1,8 +1,8 @@
 //! Words that a table takes, and what they give.
-ghost use Rattle.std.specs.Prelude.{◌≡◌, ◌≢◌, Some, None, Err, IfOk, map, option_map, string_bytes};
+ghost use Rattle.std.specs.Prelude.{◌≡◌, ◌≢◌, Err, option_map};
 ghost use Rattle.clap.specs.Words.{kind_of};
 ghost use Rattle.command_words.specs.TableApp.{table_of};
-ghost use Rattle.command_words.specs.WordsTaken.{files_in, flag_in, only_file_in, rows_in, value_in, words_taken};
+ghost use Rattle.command_words.specs.WordsTaken.{AreRefused, GivesRows, files_in, flag_in, names_of, only_file_in, rows_in, value_in};
 
 use crate::command::{FILES, command_for};
 use crate::table::WordTable;
@@ -41,11 +41,9 @@ pub fn take_words<'a>(
     table: &WordTable<'a>,
     words: &'a [String],
 ) -> Result<TakenWords<'a>, WordsFault>
-    ensures taken { IfOk result
-        (λ taken. words_taken (table_of table.now) (map string_bytes words.entry.now)
-        ≡ Some (rows_in taken)) }
+    ensures taken { GivesRows (table_of table.now) words.entry.now result }
     ensures refused { result ≡ Err WordsFault.NotTaken
-        → words_taken (table_of table.now) (map string_bytes words.entry.now) ≡ None }
+        → AreRefused (table_of table.now) words.entry.now }
 {
     let command = command_for(alloc, table)?;
     match command.try_get_matches_from(words) {
@@ -84,8 +82,7 @@ impl<'a> TakenWords<'a> {
 
     /// The names of files, in the order of the words. `None` where there is none.
     pub fn files(&self) -> Option<&[&'a str]>
-        ensures { option_map (λ names. map (λ name. name.now) names.now) result
-            ≡ files_in (rows_in self.now) }
+        ensures { names_of result ≡ files_in (rows_in self.now) }
     {
         self.matches.get_strs(FILES)
     }
