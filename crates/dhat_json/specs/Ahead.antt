@@ -1,6 +1,6 @@
 -- What stands next among the tokens of a text, as data, with the tokens behind it. A value whose
 -- numbers are in range has data, for private clauses.
-use Rattle.std.specs.Prelude.{◌≡◌, ℕ, List, length, Option, None}
+use Rattle.std.specs.Prelude.{◌≡◌, ℕ, List, length, Option, Result, Some, None, MatchResult}
 use Rattle.std.specs.Option.{option_map}
 use Rattle.json.specs.Token.{Token}
 use Rattle.json.specs.Json.{value, items, members}
@@ -26,6 +26,11 @@ members_ahead depth ts = converted (λ ms. of_members ms no_members)
 -- the tokens behind it
 abbrev pub behind : {A : Type 0} → Option (A × List Token) → Option (List Token)
 behind ahead = option_map (λ p. p.1) ahead
+
+-- what stands there was passed over, or nothing of the kind does
+abbrev pub Passes : {A E : Type 0} → Result (Unit {0}) E → Option (A × List Token) → List Token → Type 0
+Passes result ahead now = MatchResult result (λ _. behind ahead ≡ Some now)
+    (λ _. behind ahead ≡ None)
 
 -- nothing of the kind stands there, or memory was wanting
 abbrev pub IsNone : {A : Type 0} → DhatFault → Option (A × List Token) → Type 0

@@ -13,6 +13,13 @@ use Rattle.dhat_json.specs.declared.profile.Dhat.{Dhat}
 abbrev pub whole : ℕ → Data
 whole n = number (unsigned n)
 
+-- lists of texts and of whole numbers
+abbrev pub texts_data : List (List ℕ) → Data
+texts_data texts = array (items_of (map string texts))
+
+abbrev pub wholes_data : List ℕ → Data
+wholes_data numbers = array (items_of (map whole numbers))
+
 -- a member that is left out where it is absent
 abbrev pub optional : List ℕ → Option Data → Members → Members
 optional key None rest = rest
@@ -35,7 +42,7 @@ abbrev pub point_members : Point → Members
 point_members point =
     life_member (codes "eb") (λ life. life.eb) point.life
     (life_member (codes "ebk") (λ life. life.ebk) point.life
-    (member (codes "fs") (array (items_of (map whole point.fs)))
+    (member (codes "fs") (wholes_data point.fs)
     (life_member (codes "gb") (λ life. life.gb) point.life
     (life_member (codes "gbk") (λ life. life.gbk) point.life
     (life_member (codes "mb") (λ life. life.mb) point.life
@@ -59,7 +66,7 @@ dhat_members dhat =
     (optional_text (codes "bu") dhat.bu
     (member (codes "cmd") (string dhat.cmd)
     (member (codes "dhatFileVersion") (whole 2)
-    (member (codes "ftbl") (array (items_of (map string dhat.ftbl)))
+    (member (codes "ftbl") (texts_data dhat.ftbl)
     (member (codes "mode") (string dhat.mode)
     (member (codes "pid") (whole dhat.pid)
     (member (codes "pps") (array (items_of (map point_value dhat.pps)))

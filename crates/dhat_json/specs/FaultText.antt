@@ -11,6 +11,7 @@ use Rattle.dhat_json.specs.declared.fault.DhatFault.TheVariants.{
   TooMany,
   NoMemory,
 }
+use Rattle.dhat_json.specs.declared.key.Key.{Key}
 use Rattle.dhat_json.specs.KeyName.{key_name}
 
 abbrev pub fault_text : DhatFault → List ℕ
@@ -31,12 +32,18 @@ point_text (Some point) = codes "point " ++ (decimal point ++ codes ": ")
 abbrev pub frame_text : ℕ → List ℕ
 frame_text frame = codes "frame " ++ (decimal frame ++ codes " ")
 
+-- what is told of a key with this fault's text, of a point or not; and of a frame
+abbrev pub key_message : Option ℕ → List ℕ → Key → List ℕ
+key_message point text key = point_text point ++ (text ++ (codes " " ++ key_name key))
+
+abbrev pub frame_message : ℕ → ℕ → List ℕ → List ℕ
+frame_message point frame text = point_text (Some point) ++ (frame_text frame ++ text)
+
 -- what is told of a fault with this text: before it its point, where it has one, and its frame, and behind it its key
 abbrev pub message_with : List ℕ → DhatFault → List ℕ
-message_with text (MissingKey point key) = point_text point ++ (text ++ (codes " " ++ key_name key))
-message_with text (WrongKind point key) = point_text point ++ (text ++ (codes " " ++ key_name key))
-message_with text (FrameOutOfTable point frame) = point_text (Some point)
-    ++ (frame_text frame ++ text)
+message_with text (MissingKey point key) = key_message point text key
+message_with text (WrongKind point key) = key_message point text key
+message_with text (FrameOutOfTable point frame) = frame_message point frame text
 message_with text fault = text
 
 abbrev pub fault_message : DhatFault → List ℕ

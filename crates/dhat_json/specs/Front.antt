@@ -1,6 +1,6 @@
 -- A profile but for its points: what is found of it, what it says, and what it tells of all points,
 -- for private clauses.
-use Rattle.std.specs.Prelude.{◌≡◌, ℕ, List, [], ◌∷◌, ◌++◌, length, map, Option, None, Some, All, IfSome, IsUtf8}
+use Rattle.std.specs.Prelude.{◌≡◌, ℕ, List, [], ◌∷◌, ◌++◌, length, Option, None, Some, All, IfSome, IsUtf8}
 use Rattle.serde_json.specs.Data.{Data}
 use Rattle.serde_json.specs.Read.{read}
 use Rattle.dhat_json.specs.declared.gathered.Gathered.{Gathered}
@@ -19,7 +19,7 @@ use Rattle.dhat_json.specs.DhatFault.{
 use Rattle.dhat_json.specs.Gathered.{HasGathered}
 use Rattle.dhat_json.specs.Kinds.{as_list}
 use Rattle.dhat_json.specs.Parts.{HasBlockTexts, HasTimeTexts, head_in, run_in, units_in}
-use Rattle.dhat_json.specs.ProfileIn.{flag_at, list_at, text_in}
+use Rattle.dhat_json.specs.ProfileIn.{flag_at, list_at, table_in}
 
 abbrev pub front_findings : Data → List Finding
 front_findings value = head_findings value
@@ -31,7 +31,7 @@ front_in value = record {
   head = head_in value;
   units = units_in value;
   run = run_in value;
-  ftbl = map text_in (list_at Ftbl value);
+  ftbl = table_in value;
 }
 
 -- the texts are UTF-8
@@ -49,6 +49,11 @@ shape_in value = record {
   bkacc = flag_at Bkacc value;
   frames = length (list_at Ftbl value);
 }
+
+-- what was gathered are the points of the value, in its shape
+abbrev pub ArePointsOf : Gathered → Data → Type 0
+ArePointsOf gathered value =
+    HasGathered (record gathered { shape = shape_in value }) (list_at Pps value)
 
 -- the value says it, and nothing was found up to the points
 pub record IsFront (front : Front) (value : Data) : Type 0 where

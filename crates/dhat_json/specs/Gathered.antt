@@ -1,11 +1,14 @@
 -- What was gathered of the items of a list of points, for private clauses.
-use Rattle.std.specs.Prelude.{◌≡◌, ◌-◌, ◌^◌, ◌<◌, ◌≤◌, List, [], ◌∷◌, ◌++◌, length, map, Some, None}
+use Rattle.std.specs.Prelude.{◌≡◌, ◌⊎◌, ℕ, ◌-◌, ◌^◌, ◌<◌, ◌≤◌, List, [], ◌∷◌, ◌++◌, length, map, Some, None}
 use Rattle.json.specs.Token.{Token}
-use Rattle.serde_json.specs.Data.{Data}
+use Rattle.serde_json.specs.Data.{Data, Items}
 use Rattle.dhat_json.specs.declared.gathered.Gathered.{Gathered}
 use Rattle.dhat_json.specs.declared.shape.Shape.{Shape}
-use Rattle.dhat_json.specs.Ahead.{value_ahead}
-use Rattle.dhat_json.specs.DhatFault.{Finding, first_of, points_findings}
+use Rattle.dhat_json.specs.declared.fault.DhatFault.TheVariants as DhatFault
+use Rattle.dhat_json.specs.declared.profile.Point.{Point}
+use Rattle.dhat_json.specs.Ahead.{items_ahead, value_ahead}
+use Rattle.dhat_json.specs.DhatFault.{Finding, first_of, point_findings, points_findings}
+use Rattle.dhat_json.specs.Kinds.{list_of}
 use Rattle.dhat_json.specs.ProfileIn.{point_in}
 use Rattle.dhat_json.specs.Reads.{UnlessNoMemory}
 
@@ -27,8 +30,36 @@ pub record HasGathered (gathered : Gathered) (values : List Data) : Type 0 where
   pub points : length values < 2 ^ 32 - 1 → gathered.fault ≡ None
       → gathered.points ≡ map (point_in gathered.shape.bklt gathered.shape.bkacc) values
 
+-- a point of this shape, and what is found of it under a number
+abbrev pub point_of : Shape → Data → Point
+point_of shape = point_in shape.bklt shape.bkacc
+
+abbrev pub findings_of : Shape → ℕ → Data → List Finding
+findings_of shape = point_findings shape.bklt shape.bkacc shape.frames
+
+-- this item came behind others
+abbrev pub GathersNext : Gathered → Gathered → Data → Type 0
+GathersNext old new item = (values : List Data) → HasGathered old values
+    → HasGathered new (values ++ item ∷ [])
+
+-- the items of a list came, which stood next
+abbrev pub TakesItems : Gathered → Gathered → List Token → List Token → Type 0
+TakesItems old new ahead behind = (items : Items)
+    × (items_ahead 125 ahead ≡ Some (items, behind))
+    × (HasGathered old [] → HasGathered new (list_of items))
+
+-- the points are the same in that shape
+abbrev pub AreSameIn : Shape → Gathered → Type 0
+AreSameIn shape gathered = (values : List Data) → HasGathered gathered values
+    → HasGathered (record gathered { shape = shape }) values
+
+-- the point came to the others, or memory was wanting
+abbrev pub GainsPoint : Gathered → Gathered → Point → Type 0
+GainsPoint old new point = (new ≡ record old { points = old.points ++ point ∷ [] })
+    ⊎ (new ≡ record old { fault = Some DhatFault.NoMemory })
+
 -- one item more came, which stood next
 pub record Takes (old new : Gathered) (ahead behind : List Token) : Type 0 where
   pub item : Data
   pub is : value_ahead 125 ahead ≡ Some (item, behind)
-  pub taken : (values : List Data) → HasGathered old values → HasGathered new (values ++ item ∷ [])
+  pub taken : GathersNext old new item

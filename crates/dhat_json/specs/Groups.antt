@@ -19,7 +19,7 @@ abbrev pub run_members : Dhat → Members → Members
 run_members dhat rest =
     member (codes "cmd") (string dhat.cmd)
     (member (codes "dhatFileVersion") (whole 2)
-    (member (codes "ftbl") (array (items_of (map string dhat.ftbl)))
+    (member (codes "ftbl") (texts_data dhat.ftbl)
     (member (codes "mode") (string dhat.mode)
     (member (codes "pid") (whole dhat.pid) rest))))
 
@@ -39,7 +39,7 @@ abbrev pub first_members : Point → Members → Members
 first_members point rest =
     life_member (codes "eb") (λ life. life.eb) point.life
     (life_member (codes "ebk") (λ life. life.ebk) point.life
-    (member (codes "fs") (array (items_of (map whole point.fs))) rest))
+    (member (codes "fs") (wholes_data point.fs) rest))
 
 -- the figures at the peak of the profile and at their own
 abbrev pub peak_members : Point → Members → Members

@@ -20,5 +20,6 @@ pub mod Parts
 pub mod PointWriter
 pub mod ProfileIn
 pub mod Reads
+pub mod ReadsPart
 pub mod Shown
 pub mod Survey

@@ -80,17 +80,33 @@ life_in d = record {
 abbrev pub access_in : Data → Access
 access_in d = record { rb = whole_at Rb d; wb = whole_at Wb d }
 
+-- two whole numbers, the frames of a point, and the table
+abbrev pub pair_at : Key → Key → Data → ℕ × ℕ
+pair_at first second d = (whole_at first d, whole_at second d)
+
+abbrev pub frames_in : Data → List ℕ
+frames_in d = map whole_in (list_at Fs d)
+
+abbrev pub table_in : Data → List (List ℕ)
+table_in value = map text_in (list_at Ftbl value)
+
 -- a part of a point, where the profile tells of it
 abbrev pub part_in : {A : Type 0} → Bool → A → Option A
 part_in told part = if told then Some part else None
+
+abbrev pub life_if : Bool → Data → Option Life
+life_if told d = part_in told (life_in d)
+
+abbrev pub access_if : Bool → Data → Option Access
+access_if told d = part_in told (access_in d)
 
 abbrev pub point_in : Bool → Bool → Data → Point
 point_in bklt bkacc d = record {
   tb = whole_at Tb d;
   tbk = whole_at Tbk d;
-  life = part_in bklt (life_in d);
-  access = part_in bkacc (access_in d);
-  fs = map whole_in (list_at Fs d);
+  life = life_if bklt d;
+  access = access_if bkacc d;
+  fs = frames_in d;
 }
 
 abbrev pub profile_in : Data → Dhat
@@ -110,5 +126,5 @@ profile_in value = record {
   te = whole_at Te value;
   tg = found as_whole Tg value;
   pps = map (point_in (flag_at Bklt value) (flag_at Bkacc value)) (list_at Pps value);
-  ftbl = map text_in (list_at Ftbl value);
+  ftbl = table_in value;
 }

@@ -6,7 +6,7 @@ use Rattle.serde_json.specs.Data.{Data, object, Members, no_members, put}
 use Rattle.serde_json.specs.Read.{read}
 use Rattle.dhat_json.specs.declared.key.Key.TheVariants.{Pps}
 use Rattle.dhat_json.specs.declared.survey.Survey.{Survey}
-use Rattle.dhat_json.specs.Ahead.{value_ahead}
+use Rattle.dhat_json.specs.Ahead.{members_ahead, value_ahead}
 use Rattle.dhat_json.specs.DataOf.{members_data}
 use Rattle.dhat_json.specs.Gathered.{HasGathered}
 use Rattle.dhat_json.specs.Outline.{IsOutline}
@@ -26,6 +26,12 @@ pub record Meets (old new : Survey) (name : List ℕ) (ahead behind : List Token
   pub value : Data
   pub is : value_ahead 126 ahead ≡ Some (value, behind)
   pub met : (found : Members) → HasMet old found → HasMet new (put name value found)
+
+-- the members of an object came, which stood next
+abbrev pub MeetsMembers : Survey → Survey → List Token → List Token → Type 0
+MeetsMembers old new ahead behind = (found : Members)
+    × (members_ahead 126 ahead ≡ Some (found, behind))
+    × (HasMet old no_members → HasMet new found)
 
 -- the text is an object, and its members came
 pub record HasSurveyed (survey : Survey) (text : List ℕ) : Type 0 where

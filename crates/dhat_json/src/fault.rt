@@ -1,8 +1,7 @@
 //! Why a document is no DHAT profile, and what each reason is called. Which program tells it is no part of it.
-ghost use Rattle.std.specs.Prelude.{◌≡◌, ◌++◌, OnOk, Some, codes};
+ghost use Rattle.std.specs.Prelude.{◌≡◌, ◌++◌, OnOk, Some};
 ghost use Rattle.dhat_json.specs.declared.fault.DhatFault.TheVariants.{NoMemory as OutOfMemory, NotJson};
-ghost use Rattle.dhat_json.specs.FaultText.{fault_message, fault_text, frame_text, point_text};
-ghost use Rattle.dhat_json.specs.KeyName.{key_name};
+ghost use Rattle.dhat_json.specs.FaultText.{fault_message, fault_text, frame_message, frame_text, key_message, point_text};
 
 use crate::key::Key;
 use hp_num::{NoMemory, put_bytes, put_dec};
@@ -70,8 +69,7 @@ fn put_key_fault(
     key: Key,
     out: &mut Vec<u8>,
 ) -> Result<(), NoMemory>
-    ensures { OnOk result (out.new.items
-        ≡ out.old.items ++ (point_text point ++ (text.now ++ (codes " " ++ key_name key)))) }
+    ensures { OnOk result (out.new.items ≡ out.old.items ++ key_message point text.now key) }
 {
     put_point(point, out)?;
     put_bytes(out, text)?;
@@ -93,8 +91,7 @@ fn put_point(point: Option<u32>, out: &mut Vec<u8>) -> Result<(), NoMemory>
 
 /// Appends the point of a fault, and that this frame of it isn't in the table.
 fn put_frame_fault(point: u32, frame: u64, text: &[u8], out: &mut Vec<u8>) -> Result<(), NoMemory>
-    ensures { OnOk result (out.new.items
-        ≡ out.old.items ++ (point_text (Some point) ++ (frame_text frame ++ text.now))) }
+    ensures { OnOk result (out.new.items ≡ out.old.items ++ frame_message point frame text.now) }
 {
     put_point(Some(point), out)?;
     put_frame(frame, out)?;

@@ -1,11 +1,8 @@
 //! The points of a list, read as its items come. An item is kept no longer than it takes to read its point.
-ghost use Rattle.std.specs.Prelude.{◌≡◌, ◌⊎◌, [], ◌∷◌, ◌++◌, ◌<◌, List, Ok, Some, IfErr, IfOk, IsTrue, OnOk, length};
-ghost use Rattle.serde_json.specs.Data.{Data, Items};
+ghost use Rattle.std.specs.Prelude.{◌≡◌, [], ◌<◌, Ok, Some, IfErr, IsTrue, OnOk, length};
 ghost use Rattle.dhat_json.specs.Ahead.{IsNone, items_ahead, value_ahead};
 ghost use Rattle.dhat_json.specs.DataOf.{data_of};
-ghost use Rattle.dhat_json.specs.declared.gathered.Gathered.{Gathered as GatheredPoints};
-ghost use Rattle.dhat_json.specs.Gathered.{HasGathered, Takes};
-ghost use Rattle.dhat_json.specs.Kinds.{list_of};
+ghost use Rattle.dhat_json.specs.Gathered.{AreSameIn, GainsPoint, GathersNext, HasGathered, Takes, TakesItems};
 
 use crate::fault::DhatFault;
 use crate::lists::Points;
@@ -49,9 +46,7 @@ impl Gathered {
         alloc: Global,
         reader: &mut Reader<'_>,
     ) -> Result<(), DhatFault>
-        ensures taken { OnOk result ((items : Items)
-            × (items_ahead ITEM_DEPTH reader.old ≡ Some (items, reader.new))
-            × (HasGathered self.old [] → HasGathered self.new (list_of items))) }
+        ensures taken { OnOk result (TakesItems self.old self.new reader.old reader.new) }
         ensures shape { self.new.shape ≡ self.old.shape }
         ensures shorter { OnOk result (length reader.new < length reader.old) }
         ensures fault { IfErr result
@@ -78,8 +73,7 @@ impl Gathered {
 
     /// Reads a point, unless one before it had a fault.
     fn take(&mut self, alloc: Global, item: &Value)
-        ensures taken { (values : List Data) → HasGathered self.old values
-            → HasGathered self.new (values ++ data_of item.now ∷ []) }
+        ensures taken { GathersNext self.old self.new (data_of item.now) }
         ensures shape { self.new.shape ≡ self.old.shape }
     {
         if self.count == u32::MAX {
@@ -99,8 +93,7 @@ impl Gathered {
     /// Whether the points are the same in that shape: they were read with the parts that it has, without a fault, and their
     /// frames are in its table.
     pub(crate) fn fits(&self, shape: Shape) -> bool
-        ensures { IsTrue result → (values : List Data) → HasGathered self.now values
-            → HasGathered (record self.now { shape = shape }) values }
+        ensures { IsTrue result → AreSameIn shape self.now }
     {
         if self.fault.is_some() {
             return false;
@@ -115,8 +108,7 @@ impl Gathered {
     }
 
     fn push(&mut self, point: Point)
-        ensures pushed { (self.new ≡ record self.old { points = self.old.points ++ point ∷ [] })
-            ⊎ (self.new ≡ record self.old { fault = Some DhatFault.NoMemory }) }
+        ensures pushed { GainsPoint self.old self.new point }
     {
         if self.points.push(point).is_err() {
             self.fault = Some(DhatFault::NoMemory);

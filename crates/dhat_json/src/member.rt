@@ -1,12 +1,12 @@
 //! One member of a JSON value by its key: its value in the kind that the key has, or why there is none.
 //! Which keys there are, and in which order they are read, is decided by the callers.
-ghost use Rattle.std.specs.Prelude.{◌≡◌, List, None, Some, map, IfOk, IfErr, IfSome, IsUtf8};
+ghost use Rattle.std.specs.Prelude.{◌≡◌, None, Some, IfOk, IfErr, IfSome, IsUtf8};
 ghost use Rattle.serde_json.specs.Find.{as_str, as_bool};
 ghost use Rattle.dhat_json.specs.DataOf.{data_of};
 ghost use Rattle.dhat_json.specs.DhatFault.{needed, allowed};
 ghost use Rattle.dhat_json.specs.Kinds.{as_whole, as_list};
-ghost use Rattle.dhat_json.specs.ProfileIn.{found, text_at, whole_at, flag_at, list_at};
-ghost use Rattle.dhat_json.specs.Reads.{Reads};
+ghost use Rattle.dhat_json.specs.ProfileIn.{found, text_at, whole_at, flag_at};
+ghost use Rattle.dhat_json.specs.ReadsPart.{IsListAt, ReadsPart};
 
 use crate::fault::DhatFault;
 use crate::key::Key;
@@ -17,8 +17,7 @@ use std::alloc::Global;
 
 /// A whole number that must be there.
 pub(crate) fn read_whole(value: &Value, point: Option<u32>, key: Key) -> Result<u64, DhatFault>
-    ensures { Reads result (needed as_whole point key (data_of value.now))
-        (whole_at key (data_of value.now)) }
+    ensures { ReadsPart result (needed as_whole point key) (whole_at key) value.now }
 {
     let Some(found) = member(value, key) else {
         return Err(DhatFault::MissingKey { point, key });
@@ -31,8 +30,7 @@ pub(crate) fn read_whole(value: &Value, point: Option<u32>, key: Key) -> Result<
 
 /// A whole number of the profile that may be left out.
 pub(crate) fn read_optional_whole(value: &Value, key: Key) -> Result<Option<u64>, DhatFault>
-    ensures { Reads result (allowed as_whole None key (data_of value.now))
-        (found as_whole key (data_of value.now)) }
+    ensures { ReadsPart result (allowed as_whole None key) (found as_whole key) value.now }
 {
     let Some(found) = member(value, key) else {
         return Ok(None);
@@ -45,8 +43,7 @@ pub(crate) fn read_optional_whole(value: &Value, key: Key) -> Result<Option<u64>
 
 /// A flag of the profile.
 pub(crate) fn read_flag(value: &Value, key: Key) -> Result<bool, DhatFault>
-    ensures { Reads result (needed as_bool None key (data_of value.now))
-        (flag_at key (data_of value.now)) }
+    ensures { ReadsPart result (needed as_bool None key) (flag_at key) value.now }
 {
     let Some(found) = member(value, key) else {
         return Err(DhatFault::MissingKey { point: None, key });
@@ -59,8 +56,7 @@ pub(crate) fn read_flag(value: &Value, key: Key) -> Result<bool, DhatFault>
 
 /// A text of the profile.
 pub(crate) fn read_text(alloc: Global, value: &Value, key: Key) -> Result<Text, DhatFault>
-    ensures read { Reads result (needed as_str None key (data_of value.now))
-        (text_at key (data_of value.now)) }
+    ensures read { ReadsPart result (needed as_str None key) (text_at key) value.now }
     ensures utf8 { IfOk result IsUtf8 }
 {
     let Some(found) = member(value, key) else {
@@ -78,8 +74,7 @@ pub(crate) fn read_optional_text(
     value: &Value,
     key: Key,
 ) -> Result<Option<Text>, DhatFault>
-    ensures read { Reads result (allowed as_str None key (data_of value.now))
-        (found as_str key (data_of value.now)) }
+    ensures read { ReadsPart result (allowed as_str None key) (found as_str key) value.now }
     ensures utf8 { IfOk result (λ text. IfSome text IsUtf8) }
 {
     let Some(found) = member(value, key) else {
@@ -97,8 +92,7 @@ pub(crate) fn read_list<'v, 'a>(
     point: Option<u32>,
     key: Key,
 ) -> Result<&'v [Value<'a>], DhatFault>
-    ensures ok { IfOk result (λ list. (needed as_list point key (data_of value.now) ≡ None)
-        × (map data_of list.now ≡ list_at key (data_of value.now))) }
+    ensures ok { IfOk result (λ list. IsListAt point key value.now list.now) }
     ensures err { IfErr result
         (λ fault. needed as_list point key (data_of value.now) ≡ Some fault) }
 {

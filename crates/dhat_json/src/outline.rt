@@ -1,10 +1,7 @@
 //! A value of which it is known what it is, and not what is in it: a list or an object is an empty one.
-ghost use Rattle.std.specs.Prelude.{◌≡◌, ◌∷◌, ◌≤◌, length, Some, None, MatchResult, OnOk};
-ghost use Rattle.json.specs.Json.{parse_map};
+ghost use Rattle.std.specs.Prelude.{◌∷◌, ◌≤◌, length, OnOk};
 ghost use Rattle.json.specs.Reads.{token_of};
-ghost use Rattle.dhat_json.specs.Ahead.{value_ahead};
-ghost use Rattle.dhat_json.specs.DataOf.{data_of};
-ghost use Rattle.dhat_json.specs.Outline.{hollow};
+ghost use Rattle.dhat_json.specs.Outline.{IsOutlined};
 
 use crate::number::is_in_range;
 use crate::pass::{pass_items, pass_members};
@@ -23,10 +20,7 @@ pub(crate) fn outline_from<'a>(
     token: Token<'a>,
     reader: &mut Reader<'a>,
 ) -> Result<Value<'a>, Invalid>
-    ensures outlined { MatchResult result
-        (λ v. parse_map hollow (value_ahead MEMBER_DEPTH (token_of token.entry ∷ reader.old))
-        ≡ Some (data_of v, reader.new))
-        (λ _. value_ahead MEMBER_DEPTH (token_of token.entry ∷ reader.old) ≡ None) }
+    ensures outlined { IsOutlined result (token_of token.entry ∷ reader.old) reader.new }
     ensures shorter { OnOk result (length reader.new ≤ length reader.old) }
 {
     match token {

@@ -1,6 +1,6 @@
 //! Passing over values that are not kept, so that they take no memory. Each number in them is asked whether it is in range.
-ghost use Rattle.std.specs.Prelude.{◌≡◌, ◌<◌, length, Some, None, MatchResult, OnOk};
-ghost use Rattle.dhat_json.specs.Ahead.{behind, items_ahead, members_ahead, value_ahead};
+ghost use Rattle.std.specs.Prelude.{◌<◌, length, Some, OnOk};
+ghost use Rattle.dhat_json.specs.Ahead.{Passes, items_ahead, members_ahead, value_ahead};
 
 use crate::number::is_in_range;
 use json::{Invalid, Reader, Token};
@@ -8,9 +8,7 @@ use json::{Invalid, Reader, Token};
 /// Passes over the next value. Arrays and objects may nest `depth` deep.
 #[cycle(pass)]
 pub(crate) fn pass_value(reader: &mut Reader<'_>, depth: usize) -> Result<(), Invalid>
-    ensures passed { MatchResult result
-        (λ _. behind (value_ahead depth reader.old) ≡ Some reader.new)
-        (λ _. behind (value_ahead depth reader.old) ≡ None) }
+    ensures passed { Passes result (value_ahead depth reader.old) reader.new }
     ensures shorter { OnOk result (length reader.new < length reader.old) }
 {
     let token = reader.next().ok_or(Invalid)?;
@@ -47,9 +45,7 @@ pub(crate) fn pass_value(reader: &mut Reader<'_>, depth: usize) -> Result<(), In
 #[cycle(pass)]
 #[inline(never)]
 pub(crate) fn pass_items(reader: &mut Reader<'_>, depth: usize) -> Result<(), Invalid>
-    ensures passed { MatchResult result
-        (λ _. behind (items_ahead depth reader.old) ≡ Some reader.new)
-        (λ _. behind (items_ahead depth reader.old) ≡ None) }
+    ensures passed { Passes result (items_ahead depth reader.old) reader.new }
     ensures shorter { OnOk result (length reader.new < length reader.old) }
 {
     'items: while !reader.take_end_array() {
@@ -62,9 +58,7 @@ pub(crate) fn pass_items(reader: &mut Reader<'_>, depth: usize) -> Result<(), In
 #[cycle(pass)]
 #[inline(never)]
 pub(crate) fn pass_members(reader: &mut Reader<'_>, depth: usize) -> Result<(), Invalid>
-    ensures passed { MatchResult result
-        (λ _. behind (members_ahead depth reader.old) ≡ Some reader.new)
-        (λ _. behind (members_ahead depth reader.old) ≡ None) }
+    ensures passed { Passes result (members_ahead depth reader.old) reader.new }
     ensures shorter { OnOk result (length reader.new < length reader.old) }
 {
     'members: while let Some(_) = reader.next_key()? {

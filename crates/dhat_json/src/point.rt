@@ -1,10 +1,12 @@
 //! A point of a profile, read from its JSON value: its first fault is the answer.
-ghost use Rattle.std.specs.Prelude.{◌≡◌, map, Some};
+ghost use Rattle.std.specs.Prelude.{Some};
 ghost use Rattle.dhat_json.specs.DataOf.{data_of};
-ghost use Rattle.dhat_json.specs.DhatFault.{first_of, frame_finding, frames_findings, life_findings, access_findings, pair_findings, point_findings, allowed};
+ghost use Rattle.dhat_json.specs.DhatFault.{frame_finding, frames_findings, life_findings, access_findings, pair_findings, allowed};
 ghost use Rattle.dhat_json.specs.Kinds.{as_list};
-ghost use Rattle.dhat_json.specs.ProfileIn.{whole_at, whole_in, list_at, life_in, access_in, part_in, point_in};
+ghost use Rattle.dhat_json.specs.ProfileIn.{access_if, frames_in, life_if, pair_at, whole_in};
+ghost use Rattle.dhat_json.specs.Gathered.{findings_of, point_of};
 ghost use Rattle.dhat_json.specs.Reads.{Reads};
+ghost use Rattle.dhat_json.specs.ReadsPart.{ReadsFirst, ReadsPart};
 
 use crate::fault::DhatFault;
 use crate::key::Key;
@@ -23,9 +25,7 @@ pub(crate) fn read_point(
     shape: Shape,
     number: u32,
 ) -> Result<Point, DhatFault>
-    ensures { Reads result
-        (first_of (point_findings shape.bklt shape.bkacc shape.frames number (data_of value.now)))
-        (point_in shape.bklt shape.bkacc (data_of value.now)) }
+    ensures { ReadsFirst result (findings_of shape number) (point_of shape) value.now }
 {
     if !is_object(value) {
         return Err(DhatFault::WrongKind {
@@ -47,8 +47,7 @@ pub(crate) fn read_point(
 }
 
 fn read_life(value: &Value, number: u32, told: bool) -> Result<Option<Life>, DhatFault>
-    ensures { Reads result (first_of (life_findings told number (data_of value.now)))
-        (part_in told (life_in (data_of value.now))) }
+    ensures { ReadsFirst result (life_findings told number) (life_if told) value.now }
 {
     if !told {
         return Ok(None);
@@ -70,8 +69,7 @@ fn read_life(value: &Value, number: u32, told: bool) -> Result<Option<Life>, Dha
 
 // Two whole numbers that must be there, one after the other.
 fn read_pair(value: &Value, number: u32, first: Key, second: Key) -> Result<(u64, u64), DhatFault>
-    ensures { Reads result (first_of (pair_findings number first second (data_of value.now)))
-        (whole_at first (data_of value.now), whole_at second (data_of value.now)) }
+    ensures { ReadsFirst result (pair_findings number first second) (pair_at first second) value.now }
 {
     let first = read_whole(value, Some(number), first)?;
     let second = read_whole(value, Some(number), second)?;
@@ -79,8 +77,7 @@ fn read_pair(value: &Value, number: u32, first: Key, second: Key) -> Result<(u64
 }
 
 fn read_access(value: &Value, number: u32, told: bool) -> Result<Option<Access>, DhatFault>
-    ensures { Reads result (first_of (access_findings told number (data_of value.now)))
-        (part_in told (access_in (data_of value.now))) }
+    ensures { ReadsFirst result (access_findings told number) (access_if told) value.now }
 {
     if !told {
         return Ok(None);
@@ -109,8 +106,7 @@ fn read_frames(
     number: u32,
     frames: usize,
 ) -> Result<FrameList, DhatFault>
-    ensures { Reads result (first_of (frames_findings number frames (data_of value.now)))
-        (map whole_in (list_at Key.Fs (data_of value.now))) }
+    ensures { ReadsFirst result (frames_findings number frames) frames_in value.now }
 {
     let values = read_list(value, Some(number), Key::Fs)?;
     let mut list = FrameList::new(alloc);
@@ -121,8 +117,7 @@ fn read_frames(
 }
 
 fn read_frame(value: &Value, number: u32, frames: usize) -> Result<u64, DhatFault>
-    ensures { Reads result (frame_finding number frames (data_of value.now))
-        (whole_in (data_of value.now)) }
+    ensures { ReadsPart result (frame_finding number frames) whole_in value.now }
 {
     let Some(frame) = as_whole(value) else {
         return Err(DhatFault::WrongKind {

@@ -1,11 +1,9 @@
 //! A profile's text whose points come one by one, so that they need not be held at once.
-ghost use Rattle.std.specs.Prelude.{◌≡◌, ◌++◌, ◌∷◌, [], Ok, Some, IfOk, OnOk, string_bytes};
+ghost use Rattle.std.specs.Prelude.{[], Ok, IfOk, OnOk, string_bytes};
 ghost use Rattle.dhat_json.specs.declared.profile.Dhat.{Dhat};
 ghost use Rattle.dhat_json.specs.Begun.{with_points};
-ghost use Rattle.dhat_json.specs.DhatValue.{dhat_text, dhat_value};
-ghost use Rattle.dhat_json.specs.Document.{document_of, value_of};
-ghost use Rattle.dhat_json.specs.IsSound.{HasTexts, IsSound};
-ghost use Rattle.dhat_json.specs.PointWriter.{HasWritten};
+ghost use Rattle.dhat_json.specs.IsSound.{HasTexts};
+ghost use Rattle.dhat_json.specs.PointWriter.{HasWritten, IsTextOfWritten, WritesPoint};
 
 use crate::lists::{Points, Texts};
 use crate::profile::{Dhat, Point};
@@ -43,8 +41,7 @@ impl PointWriter {
 
     /// Puts a point behind the others. After `NoMemory` the writer is of no use.
     pub fn put(&mut self, point: &Point) -> Result<(), NoMemory>
-        ensures more { OnOk result ((dhat : Dhat) → HasWritten self.old dhat
-            → HasWritten self.new (with_points dhat (dhat.pps ++ point.now ∷ []))) }
+        ensures more { OnOk result (WritesPoint self.old self.new point.now) }
     {
         put_point(&mut self.out, point)
     }
@@ -53,12 +50,7 @@ impl PointWriter {
     /// profile, where this is sound. `NoMemory` where memory is wanting.
     pub fn finish(self) -> Result<String, NoMemory>
         requires begun { (dhat : Dhat) × HasWritten self dhat }
-        ensures text { IfOk result (λ text. (dhat : Dhat) → HasWritten self dhat
-            → string_bytes text ≡ dhat_text dhat) }
-        ensures value { IfOk result (λ text. (dhat : Dhat) → HasWritten self dhat
-            → value_of (string_bytes text) ≡ Some (dhat_value dhat)) }
-        ensures reads_back { IfOk result (λ text. (dhat : Dhat) → HasWritten self dhat
-            → IsSound dhat → document_of (string_bytes text) ≡ Ok dhat) }
+        ensures text { IfOk result (λ text. IsTextOfWritten self (string_bytes text)) }
     {
         let PointWriter { out, head } = self;
         let text = ended(out, &head);

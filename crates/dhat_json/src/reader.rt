@@ -1,6 +1,6 @@
 //! A DHAT profile read from the bytes of a document. The document is gone through as JSON first, and then asked for its keys
 //! in the order of the format's checks.
-ghost use Rattle.std.specs.Prelude.{◌≡◌, map, Err, IfErr, IfOk, IfSome, Ok, All, IsUtf8};
+ghost use Rattle.std.specs.Prelude.{◌≡◌, Err, IfErr, IfOk, Ok, All, IsUtf8};
 ghost use Rattle.serde_json.specs.Data.{Data};
 ghost use Rattle.serde_json.specs.Find.{as_str};
 ghost use Rattle.serde_json.specs.Read.{read};
@@ -8,13 +8,13 @@ ghost use Rattle.dhat_json.specs.DataOf.{data_of};
 ghost use Rattle.dhat_json.specs.declared.profile.Dhat.{Dhat};
 ghost use Rattle.dhat_json.specs.DhatFault.{first_of, version_findings, head_findings, block_unit_findings, time_unit_findings, unit_findings, run_findings, table_findings, needed, other_kind};
 ghost use Rattle.dhat_json.specs.Document.{document_of, dhat_in, dhat_in_some, IsDocument};
-ghost use Rattle.dhat_json.specs.Front.{HasFrontTexts, HasRead, IsFront, front_findings, front_in, shape_in};
-ghost use Rattle.dhat_json.specs.Gathered.{HasGathered};
+ghost use Rattle.dhat_json.specs.Front.{ArePointsOf, HasFrontTexts, HasRead, IsFront, front_findings, front_in};
 ghost use Rattle.dhat_json.specs.IsSound.{IsWritable, HasTexts};
 ghost use Rattle.dhat_json.specs.Kinds.{as_list};
 ghost use Rattle.dhat_json.specs.Parts.{HasBlockTexts, HasTimeTexts, block_units_in, head_in, run_in, time_units_in, units_in};
-ghost use Rattle.dhat_json.specs.ProfileIn.{text_in, list_at};
+ghost use Rattle.dhat_json.specs.ProfileIn.{table_in, text_in};
 ghost use Rattle.dhat_json.specs.Reads.{Answers, Reads, UnlessNoMemory};
+ghost use Rattle.dhat_json.specs.ReadsPart.{ReadsFirst, ReadsPart};
 
 use crate::fault::DhatFault;
 use crate::gathered::Gathered;
@@ -97,8 +97,7 @@ fn read_once(
 }
 
 fn read_front(alloc: Global, value: &Value) -> Result<Front, DhatFault>
-    ensures read { Reads result (first_of (front_findings (data_of value.now)))
-        (front_in (data_of value.now)) }
+    ensures read { ReadsFirst result front_findings front_in value.now }
     ensures utf8 { IfOk result HasFrontTexts }
 {
     let head = read_head(alloc, value)?;
@@ -116,8 +115,7 @@ fn read_front(alloc: Global, value: &Value) -> Result<Front, DhatFault>
 }
 
 fn read_head(alloc: Global, value: &Value) -> Result<Head, DhatFault>
-    ensures read { Reads result (first_of (head_findings (data_of value.now)))
-        (head_in (data_of value.now)) }
+    ensures read { ReadsFirst result head_findings head_in value.now }
     ensures utf8 { IfOk result (λ head. IsUtf8 head.mode × IsUtf8 head.verb) }
 {
     if !is_object(value) {
@@ -152,8 +150,7 @@ fn check_version(value: &Value) -> Result<(), DhatFault>
 }
 
 fn read_units(alloc: Global, value: &Value) -> Result<Units, DhatFault>
-    ensures read { Reads result (first_of (unit_findings (data_of value.now)))
-        (units_in (data_of value.now)) }
+    ensures read { ReadsFirst result unit_findings units_in value.now }
     ensures utf8 { IfOk result (λ units. HasBlockTexts units.block × HasTimeTexts units.time) }
 {
     let block = read_block_units(alloc, value)?;
@@ -162,8 +159,7 @@ fn read_units(alloc: Global, value: &Value) -> Result<Units, DhatFault>
 }
 
 fn read_block_units(alloc: Global, value: &Value) -> Result<BlockUnits, DhatFault>
-    ensures read { Reads result (first_of (block_unit_findings (data_of value.now)))
-        (block_units_in (data_of value.now)) }
+    ensures read { ReadsFirst result block_unit_findings block_units_in value.now }
     ensures utf8 { IfOk result HasBlockTexts }
 {
     let bu = read_optional_text(alloc, value, Key::Bu)?;
@@ -173,8 +169,7 @@ fn read_block_units(alloc: Global, value: &Value) -> Result<BlockUnits, DhatFaul
 }
 
 fn read_time_units(alloc: Global, value: &Value) -> Result<TimeUnits, DhatFault>
-    ensures read { Reads result (first_of (time_unit_findings (data_of value.now)))
-        (time_units_in (data_of value.now)) }
+    ensures read { ReadsFirst result time_unit_findings time_units_in value.now }
     ensures utf8 { IfOk result HasTimeTexts }
 {
     let tu = read_text(alloc, value, Key::Tu)?;
@@ -184,8 +179,7 @@ fn read_time_units(alloc: Global, value: &Value) -> Result<TimeUnits, DhatFault>
 }
 
 fn read_run(alloc: Global, value: &Value) -> Result<Run, DhatFault>
-    ensures read { Reads result (first_of (run_findings (data_of value.now)))
-        (run_in (data_of value.now)) }
+    ensures read { ReadsFirst result run_findings run_in value.now }
     ensures utf8 { IfOk result (λ run. IsUtf8 run.cmd) }
 {
     let cmd = read_text(alloc, value, Key::Cmd)?;
@@ -196,8 +190,7 @@ fn read_run(alloc: Global, value: &Value) -> Result<Run, DhatFault>
 }
 
 fn read_table(alloc: Global, value: &Value) -> Result<Texts, DhatFault>
-    ensures read { Reads result (first_of (table_findings (data_of value.now)))
-        (map text_in (list_at Key.Ftbl (data_of value.now))) }
+    ensures read { ReadsFirst result table_findings table_in value.now }
     ensures utf8 { IfOk result (All IsUtf8) }
 {
     let values = read_list(value, None, Key::Ftbl)?;
@@ -210,8 +203,7 @@ fn read_table(alloc: Global, value: &Value) -> Result<Texts, DhatFault>
 
 // One text of the table.
 fn read_entry(alloc: Global, value: &Value) -> Result<Text, DhatFault>
-    ensures read { Reads result (other_kind as_str None Key.Ftbl (data_of value.now))
-        (text_in (data_of value.now)) }
+    ensures read { ReadsPart result (other_kind as_str None Key.Ftbl) text_in value.now }
     ensures utf8 { IfOk result IsUtf8 }
 {
     let Some(text) = as_text(value) else {
@@ -235,8 +227,7 @@ fn check_points(value: &Value) -> Result<(), DhatFault>
 
 /// The profile, where the points have no fault and are few enough to be numbered.
 fn with_points(front: Front, gathered: Gathered) -> Result<Dhat, DhatFault>
-    ensures exact { (value : Data) → IsFront front value
-        → HasGathered (record gathered { shape = shape_in value }) (list_at Key.Pps value)
+    ensures exact { (value : Data) → IsFront front value → ArePointsOf gathered value
         → Answers result (dhat_in value) }
     ensures texts { HasFrontTexts front → IfOk result HasTexts }
 {

@@ -1,12 +1,12 @@
 //! A document gone through member by member. What is asked of it later is kept, and nothing else: its points as they come,
 //! its table, and what its other members are.
 ghost use Rattle.std.specs.Prelude.{◌≡◌, ◌∷◌, [], ◌++◌, ◌<◌, codes, Err, IfErr, IfOk, OnOk, Some, IfSome, length};
-ghost use Rattle.serde_json.specs.Data.{Data, Members, no_members, put};
+ghost use Rattle.serde_json.specs.Data.{no_members};
 ghost use Rattle.serde_json.specs.Read.{read};
 ghost use Rattle.dhat_json.specs.Ahead.{IsNone, members_ahead, value_ahead};
 ghost use Rattle.dhat_json.specs.Document.{dhat_in_some};
 ghost use Rattle.dhat_json.specs.Reads.{UnlessNoMemory};
-ghost use Rattle.dhat_json.specs.Survey.{HasMet, HasSurveyed, Meets};
+ghost use Rattle.dhat_json.specs.Survey.{HasMet, HasSurveyed, Meets, MeetsMembers};
 
 use crate::fault::DhatFault;
 use crate::gathered::Gathered;
@@ -87,9 +87,7 @@ impl<'a> Survey<'a> {
 
     /// Takes the members of an object and its brace.
     fn take_members(&mut self, alloc: Global, reader: &mut Reader<'a>) -> Result<(), DhatFault>
-        ensures met { OnOk result ((found : Members)
-            × (members_ahead MEMBER_DEPTH reader.old ≡ Some (found, reader.new))
-            × (HasMet self.old no_members → HasMet self.new found)) }
+        ensures met { OnOk result (MeetsMembers self.old self.new reader.old reader.new) }
         ensures given { self.new.given ≡ self.old.given }
         ensures fault { IfErr result
             (λ fault. IsNone fault (members_ahead MEMBER_DEPTH reader.old)) }

@@ -1,10 +1,8 @@
 //! The members of an object, written one by one as JSON. In which order they stand is decided by the callers.
-ghost use Rattle.std.specs.Prelude.{OnOk, All, IsUtf8, IfSome, map};
-ghost use Rattle.std.specs.Option.{option_map};
-ghost use Rattle.serde_json.specs.Data.{member, boolean, string, array};
-ghost use Rattle.serde_json.specs.View.{items_of};
+ghost use Rattle.std.specs.Prelude.{OnOk, All, IsUtf8, IfSome};
+ghost use Rattle.serde_json.specs.Data.{member, boolean, string};
 ghost use Rattle.dhat_json.specs.Adds.{Adds, AddsValue};
-ghost use Rattle.dhat_json.specs.DhatValue.{whole, optional_text, optional_whole};
+ghost use Rattle.dhat_json.specs.DhatValue.{optional_text, optional_whole, texts_data, whole, wholes_data};
 ghost use Rattle.dhat_json.specs.KeyName.{key_name};
 
 use crate::key::Key;
@@ -61,16 +59,14 @@ pub(crate) fn put_optional_text(
 
 pub(crate) fn put_table(out: &mut Writer, key: Key, texts: &Texts) -> Result<(), NoMemory>
     requires { All IsUtf8 texts.now }
-    ensures { OnOk result
-        (Adds out.old out.new (member (key_name key) (array (items_of (map string texts.now))))) }
+    ensures { OnOk result (Adds out.old out.new (member (key_name key) (texts_data texts.now))) }
 {
     out.key(key.name())?;
     put_strings(out, texts.as_slice())
 }
 
 pub(crate) fn put_frames(out: &mut Writer, key: Key, frames: &FrameList) -> Result<(), NoMemory>
-    ensures { OnOk result
-        (Adds out.old out.new (member (key_name key) (array (items_of (map whole frames.now))))) }
+    ensures { OnOk result (Adds out.old out.new (member (key_name key) (wholes_data frames.now))) }
 {
     out.key(key.name())?;
     put_numbers(out, frames.as_slice())
@@ -89,7 +85,7 @@ fn put_string(out: &mut Writer, text: &Text) -> Result<(), NoMemory>
 
 fn put_strings(out: &mut Writer, texts: &[Text]) -> Result<(), NoMemory>
     requires { All IsUtf8 texts.now }
-    ensures { OnOk result (AddsValue out.old out.new (array (items_of (map string texts.now)))) }
+    ensures { OnOk result (AddsValue out.old out.new (texts_data texts.now)) }
 {
     out.begin_array()?;
     for text in texts {
@@ -100,7 +96,7 @@ fn put_strings(out: &mut Writer, texts: &[Text]) -> Result<(), NoMemory>
 }
 
 fn put_numbers(out: &mut Writer, numbers: &[u64]) -> Result<(), NoMemory>
-    ensures { OnOk result (AddsValue out.old out.new (array (items_of (map whole numbers.now)))) }
+    ensures { OnOk result (AddsValue out.old out.new (wholes_data numbers.now)) }
 {
     out.begin_array()?;
     for n in numbers {

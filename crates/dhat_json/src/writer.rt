@@ -1,8 +1,7 @@
 //! A profile written as its one JSON text. The keys of each object are written in the order of their bytes.
-ghost use Rattle.std.specs.Prelude.{◌≡◌, ◌++◌, [], Ok, Some, IfOk, OnOk, string_bytes};
-ghost use Rattle.std.specs.Option.{option_map};
+ghost use Rattle.std.specs.Prelude.{◌≡◌, [], Ok, Some, IfOk, OnOk, string_bytes};
 ghost use Rattle.dhat_json.specs.Adds.{Adds, AddsValue};
-ghost use Rattle.dhat_json.specs.Begun.{HasBegun, HasTimes, IsTextOf, IsWhole, with_points};
+ghost use Rattle.dhat_json.specs.Begun.{GoesOn, HasBegun, IsEnded, IsTextOf, IsWhole, with_points};
 ghost use Rattle.dhat_json.specs.declared.profile.Dhat.{Dhat};
 ghost use Rattle.dhat_json.specs.DhatValue.{dhat_value, dhat_text, point_value};
 ghost use Rattle.dhat_json.specs.Document.{document_of, value_of};
@@ -61,8 +60,7 @@ fn put_begin(out: &mut Writer, dhat: &Dhat) -> Result<(), NoMemory>
 }
 
 fn put_points(out: &mut Writer, points: &[Point]) -> Result<(), NoMemory>
-    ensures { OnOk result ((dhat : Dhat) → HasBegun out.old dhat
-        → HasBegun out.new (with_points dhat (dhat.pps ++ points.now))) }
+    ensures { OnOk result (GoesOn out.old out.new points.now) }
 {
     for point in points {
         put_point(out, point)?;
@@ -74,8 +72,7 @@ fn put_points(out: &mut Writer, points: &[Point]) -> Result<(), NoMemory>
 pub(crate) fn ended(mut out: Writer, dhat: &Dhat) -> Result<String, NoMemory>
     requires texts { HasTexts dhat.now }
     requires alone { out.before ≡ [] }
-    ensures { IfOk result (λ text. (whole : Dhat) → HasBegun out whole → HasTimes dhat.now whole
-        → IsTextOf whole (string_bytes text)) }
+    ensures { IfOk result (λ text. IsEnded out dhat.now (λ whole. IsTextOf whole (string_bytes text))) }
 {
     if let Err(error) = put_end(&mut out, dhat) {
         drop(out);
@@ -90,8 +87,7 @@ pub(crate) fn ended(mut out: Writer, dhat: &Dhat) -> Result<String, NoMemory>
 fn put_end(out: &mut Writer, dhat: &Dhat) -> Result<(), NoMemory>
     requires { HasTexts dhat.now }
     ensures before { OnOk result (out.new.before ≡ out.old.before) }
-    ensures whole { OnOk result ((whole : Dhat) → HasBegun out.old whole
-        → HasTimes dhat.now whole → IsWhole out.new whole) }
+    ensures whole { OnOk result (IsEnded out.old dhat.now (IsWhole out.new)) }
 {
     out.end_array()?;
     put_times(out, dhat)?;
