@@ -1,5 +1,5 @@
 -- What holds of all lifetimes: the order of a stack's figures, and their bounds.
-use Rattle.std.specs.Prelude.{ℕ, ◌^◌, ◌<◌, ◌≤◌, List, length, slice_index_or}
+use Rattle.std.specs.Prelude.{ℕ, ◌^◌, ◌<◌, ◌≤◌, List, [], ◌∷◌, ◌++◌, length, slice_index_or}
 use Rattle.dhat_metrics.specs.declared.figures.LifeFigures.{LifeFigures}
 
 -- how many allocations and frees there were, and the figures of each stack that is held
@@ -10,6 +10,10 @@ pub record LifeState : Type 0 where
 -- the figures of a stack before its first event
 abbrev pub no_figures : LifeFigures
 no_figures = record { tb = 0; tbk = 0; tl = 0; mb = 0; mbk = 0; eb = 0; ebk = 0 }
+
+-- with a stack more
+abbrev pub with_stack : LifeState → LifeState
+with_stack state = record state { figures = state.figures ++ no_figures ∷ [] }
 
 -- the figures of a stack by its number; one that isn't held yet has none
 abbrev pub figures_at : LifeState → ℕ → LifeFigures

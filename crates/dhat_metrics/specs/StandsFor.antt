@@ -2,9 +2,10 @@
 -- the time of the last event, less the times of its allocations. A stack's most is what it has live
 -- after the least number of events after which it has the most bytes. Lifetimes stand for a list
 -- where they count its events and each stack's figures are the list's.
-use Rattle.std.specs.Prelude.{◌≡◌, ℕ, ◌+◌, ◌*◌, ◌<◌, ◌≤◌, List, take}
+use Rattle.std.specs.Prelude.{◌≡◌, ℕ, ◌+◌, ◌*◌, ◌<◌, ◌≤◌, List, [], ◌∷◌, ◌++◌, take}
 use Rattle.live_ledger.specs.declared.event.Event.{Event}
 use Rattle.live_ledger.specs.Events.{counted, event_count}
+use Rattle.live_ledger.specs.Possible.{ArePossible}
 use Rattle.live_ledger.specs.InStack.{allocated_in, blocks_in, calls_in, freed_in, frees_in, live_in}
 use Rattle.dhat_metrics.specs.declared.figures.LifeFigures.{LifeFigures}
 use Rattle.dhat_metrics.specs.LifeState.{LifeState, figures_at}
@@ -45,3 +46,12 @@ pub record AreFiguresOf (figures : LifeFigures) (stack : ℕ) (events : List Eve
 pub record StandsFor (state : LifeState) (events : List Event) : Type 0 where
   pub events_is : state.events ≡ event_count events
   pub each_stack : (stack : ℕ) → AreFiguresOf (figures_at state stack) stack events
+
+-- the event may come behind the events that are stood for, and came
+abbrev pub MayHappen : LifeState → Event → Type 0
+MayHappen state event = (events : List Event)
+    × (StandsFor state events × ArePossible (events ++ event ∷ []))
+
+abbrev pub TakesEvent : LifeState → LifeState → Event → Type 0
+TakesEvent old new event = (events : List Event) → StandsFor old events
+    → StandsFor new (events ++ event ∷ [])

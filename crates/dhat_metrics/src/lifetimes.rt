@@ -1,11 +1,10 @@
 //! Lifetimes: each stack's figures, kept up event by event. No block is kept, and no time of one.
-ghost use Rattle.std.specs.Prelude.{◌≡◌, ℕ, ◌+◌, ◌-◌, ◌^◌, ◌<◌, List, [], ◌∷◌, ◌++◌, length, IfOk, OnOk, OnErr, IsTrue};
+ghost use Rattle.std.specs.Prelude.{◌≡◌, ◌+◌, ◌-◌, ◌^◌, ◌<◌, List, [], length, IfOk, OnOk, OnErr, IsTrue};
 ghost use Rattle.live_ledger.specs.declared.event.Event.{Event};
 ghost use Rattle.live_ledger.specs.Events.{IsTick, is_counted};
-ghost use Rattle.live_ledger.specs.Possible.{ArePossible};
 ghost use Rattle.dhat_metrics.specs.Changes.{Changes, IsOfHeld};
-ghost use Rattle.dhat_metrics.specs.LifeState.{IsSound, figures_at, no_figures};
-ghost use Rattle.dhat_metrics.specs.StandsFor.{AreFiguresOf, StandsFor};
+ghost use Rattle.dhat_metrics.specs.LifeState.{IsSound, figures_at, with_stack};
+ghost use Rattle.dhat_metrics.specs.StandsFor.{AreFiguresOf, StandsFor, MayHappen, TakesEvent};
 
 use crate::figures::LifeFigures;
 use crate::life::Life;
@@ -52,8 +51,7 @@ impl Lifetimes {
     pub fn grow_stack(&mut self) -> Result<u32, NoMemory>
         requires { length self.old.figures < 2 ^ 32 - 1 }
         ensures number { IfOk result (λ number. number ≡ length self.old.figures) }
-        ensures grown { OnOk result
-            (self.new ≡ record self.old { figures = self.old.figures ++ no_figures ∷ [] }) }
+        ensures grown { OnOk result (self.new ≡ with_stack self.old) }
         ensures stands { (events : List Event) → StandsFor self.old events
             → StandsFor self.new events }
         ensures unchanged { OnErr result (self.new ≡ self.old) }
@@ -71,10 +69,8 @@ impl Lifetimes {
     pub fn apply(&mut self, event: Event)
         requires held { IsOfHeld self.old event }
         requires count { self.old.events < 2 ^ 32 }
-        requires possible { (events : List Event)
-            × (StandsFor self.old events × ArePossible (events ++ event ∷ [])) }
-        ensures stands { (events : List Event) → StandsFor self.old events
-            → StandsFor self.new (events ++ event ∷ []) }
+        requires possible { MayHappen self.old event }
+        ensures stands { TakesEvent self.old self.new event }
         ensures changes { Changes self.old self.new event }
         ensures counted { IsTrue (is_counted event) → self.new.events ≡ self.old.events + 1 }
         ensures tick { IsTick event → self.new ≡ self.old }
