@@ -28,15 +28,16 @@ use Rattle.std.specs.Prelude.{
 }
 use Rattle.std.specs.List.{flat_map}
 use Rattle.cost_tree.specs.declared.scale.Scale.{Scale}
-use Rattle.cost_tree.specs.Costed.{Costed, costed}
+use Rattle.cost_tree.specs.Costed.{Costed}
 use Rattle.cost_tree.specs.CostLines.{FrontLine, Shown, a_front, gathered, last_of}
 use Rattle.cost_tree.specs.Inclusive.{inclusive}
 use Rattle.dhat_json.specs.declared.figure.FigureKey.{FigureKey}
 use Rattle.dhat_json.specs.declared.profile.Dhat.{Dhat}
+use Rattle.dhat_view.specs.declared.options.ViewOptions.{ViewOptions}
 use Rattle.dhat_view.specs.Lines.{line_text}
 use Rattle.dhat_view.specs.PointCosts.{point_costs}
-use Rattle.dhat_view.specs.PointFronts.{point_fronts}
-use Rattle.dhat_view.specs.ViewText.{head_text}
+use Rattle.dhat_view.specs.TreeText.{scale_of}
+use Rattle.dhat_view.specs.ViewText.{fronts_with_costs, head_text}
 
 -- a front goes on from another by one text, costs something, and its share of the total is below the threshold
 pub record IsSmallNext (scale : Scale) (stacks : List Costed) (front next : List (List ℕ)) : Type
@@ -95,16 +96,19 @@ pub record AreViewSums (depth : ℕ) (scale : Scale) (stacks : List Costed)
 
 -- the shares of a view are those of the sum of the points' figures
 abbrev pub view_scale : FigureKey → ℕ → Dhat → Scale
-view_scale key threshold dhat = record {
-  total = sum (point_costs key dhat);
-  threshold = threshold;
-}
+view_scale key threshold dhat = scale_of (sum (point_costs key dhat)) threshold
 
 -- a view's text is its head and some lines without the first, which have the sums of the points
 pub record HasViewSums (key : FigureKey) (threshold depth : ℕ) (dhat : Dhat) (text : List ℕ) : Type
     0 where
   pub lines : List FrontLine
   pub are : AreViewSums depth (view_scale key threshold dhat)
-      (costed (point_fronts dhat) (point_costs key dhat)) lines
+      (fronts_with_costs key dhat) lines
   pub written : text ≡ head_text key dhat (sum (point_costs key dhat))
       ++ flat_map (line_text (view_scale key threshold dhat)) (drop 1 lines)
+
+-- a view with these options came to the bytes
+abbrev pub GainsView : ViewOptions → Dhat → List ℕ → List ℕ → Type 0
+GainsView options dhat old new = (text : List ℕ)
+    × HasViewSums options.key options.threshold options.depth dhat text
+    × (new ≡ old ++ text)

@@ -3,12 +3,18 @@
 use Rattle.std.specs.Prelude.{◌≡◌, ℕ, All, List, [], ◌∷◌, ◌++◌, map, slice_index}
 use Rattle.cost_tree.specs.Texts.{IsText, texts_of}
 use Rattle.dhat_json.specs.declared.profile.Point.{Point}
+use Rattle.dhat_view.specs.declared.texts.ShownTexts.{ShownTexts}
 
 -- the numbers are those of texts, one for each
 pub record AreNumbers (names : List (List ℕ)) (numbers : List ℕ) (texts : List (List ℕ)) : Type
     0 where
   pub held : All (IsText names) numbers
   pub texts_are : texts_of names numbers ≡ texts
+
+-- a text and its number came behind the others
+abbrev pub AddsText : ShownTexts → ShownTexts → List ℕ → Type 0
+AddsText old new text = (texts : List (List ℕ)) → AreNumbers old.names old.numbers.items texts
+    → AreNumbers new.names new.numbers.items (texts ++ text ∷ [])
 
 -- the numbers of these frames in a table of numbers
 abbrev pub numbers_at : List ℕ → List ℕ → List ℕ

@@ -1,12 +1,16 @@
 -- A profile has no view where its points have no figures of the key, or where these sum to more
 -- than 2^62.
-use Rattle.std.specs.Prelude.{◌^◌, nat_lt, if◌then◌else◌, Option, Some, None, sum}
+use Rattle.std.specs.Prelude.{◌≡◌, ◌≢◌, ◌^◌, nat_lt, if◌then◌else◌, Option, Some, None, sum}
 use Rattle.dhat_json.specs.declared.figure.FigureKey.{FigureKey}
 use Rattle.dhat_json.specs.declared.profile.Dhat.{Dhat}
 use Rattle.dhat_json.specs.Figure.{has_figures}
 use Rattle.dhat_view.specs.declared.fault.ViewFault.{ViewFault}
-use Rattle.dhat_view.specs.declared.fault.ViewFault.TheVariants.{NoFigures, TooLarge}
+use Rattle.dhat_view.specs.declared.fault.ViewFault.TheVariants.{NoFigures, NoMemory, TooLarge}
 use Rattle.dhat_view.specs.PointCosts.{point_costs}
+
+-- the fault is what a profile has, unless memory was wanting
+abbrev pub IsFaultOf : Option ViewFault → ViewFault → Type 0
+IsFaultOf defined fault = fault ≢ NoMemory → defined ≡ Some fault
 
 -- its points have no figures of the key, or the figures sum to more than 2^62
 unfoldable pub view_fault : FigureKey → Dhat → Option ViewFault

@@ -1,7 +1,6 @@
 //! What the points of a profile cost together.
 ghost use Rattle.std.specs.Prelude.{◌≡◌, ◌<◌, ◌≤◌, ◌^◌, IfSome, IfNone, slice_get, Some, length, sum};
-ghost use Rattle.dhat_json.specs.IsSound.{IsSound};
-ghost use Rattle.dhat_view.specs.PointCosts.{point_cost, point_costs};
+ghost use Rattle.dhat_view.specs.PointCosts.{point_costs};
 
 use dhat_json::{Dhat, FigureKey};
 

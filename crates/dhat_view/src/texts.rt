@@ -1,8 +1,8 @@
 //! The shown forms of texts under numbers: each different one is kept once, and hashed once for each text.
-ghost use Rattle.std.specs.Prelude.{ℕ, List, [], ◌∷◌, ◌++◌, map, IfOk, OnOk};
+ghost use Rattle.std.specs.Prelude.{[], map, IfOk, OnOk};
 ghost use Rattle.dhat_json.specs.Shown.{shown};
 ghost use Rattle.intern_tables.specs.Distinct.{AreDistinct};
-ghost use Rattle.dhat_view.specs.Numbers.{AreNumbers};
+ghost use Rattle.dhat_view.specs.Numbers.{AreNumbers, AddsText};
 
 use dhat_json::{Texts, put_shown};
 use hp_num::NoMemory;
@@ -32,9 +32,7 @@ impl ShownTexts {
 
     /// Appends the number of the text's shown form. On `NoMemory` the texts are unfit for use.
     pub fn push(&mut self, text: &[u8]) -> Result<(), NoMemory>
-        ensures numbers { OnOk result
-            ((texts : List (List ℕ)) → AreNumbers self.old.names self.old.numbers.items texts
-            → AreNumbers self.new.names self.new.numbers.items (texts ++ shown text.now ∷ [])) }
+        ensures numbers { OnOk result (AddsText self.old self.new (shown text.now)) }
         ensures distinct { OnOk result (AreDistinct self.new.names) }
     {
         self.buffer.clear();

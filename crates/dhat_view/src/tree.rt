@@ -2,13 +2,11 @@
 //! Which places have lines of their own, and in which order, is `cost_tree`'s part.
 #![tactic(auto, using(hp_num::proofs::Laws::extends_same, hp_num::proofs::Laws::extends_more, hp_num::proofs::Laws::extends_trans))]
 
-ghost use Rattle.std.specs.Prelude.{◌≡◌, ◌-◌, ◌≤◌, ◌^◌, ◌++◌, [], List, All, OnOk};
-ghost use Rattle.std.specs.List.{flat_map};
+ghost use Rattle.std.specs.Prelude.{◌≡◌, ◌-◌, ◌≤◌, ◌++◌, [], List, All, OnOk};
 ghost use Rattle.cost_tree.specs.Costed.{Costed};
 ghost use Rattle.cost_tree.specs.TreeLines.{front_at};
 ghost use Rattle.hp_num.specs.Extends.{Extends};
-ghost use Rattle.dhat_view.specs.LinesIn.{IsViewed, IsWritten, text_in};
-ghost use Rattle.dhat_view.specs.TreeText.{tree_text};
+ghost use Rattle.dhat_view.specs.LinesIn.{IsViewed, IsWritten, text_in, GainsTree, texts_in};
 
 use crate::lines::{put_gathered, put_line};
 use crate::options::ViewOptions;
@@ -27,10 +25,7 @@ pub(crate) fn put_tree(
 ) -> Result<(), NoMemory>
     requires tree { (stacks : List Costed) × IsViewed sum tree.now stacks options.now.depth }
     ensures appended { OnOk result
-        ((stacks : List Costed) → IsViewed sum tree.now stacks options.now.depth
-        → out.new.items ≡ out.old.items
-        ++ tree_text options.now.depth (record { total = sum; threshold = options.now.threshold })
-        stacks) }
+        (GainsTree sum options.now tree.now out.old.items out.new.items) }
     ensures kept { Extends out.old.items out.new.items }
 {
     let scale = Scale {
@@ -55,7 +50,7 @@ fn put_lines(
     requires root { front_at tree.now 0 ≡ [] }
     requires written { All (IsWritten scale tree.now) lines.now }
     ensures appended { OnOk result
-        (out.new.items ≡ out.old.items ++ flat_map (text_in scale tree.now) lines.now) }
+        (out.new.items ≡ out.old.items ++ texts_in scale tree.now lines.now) }
     ensures kept { Extends out.old.items out.new.items }
 {
     'each_line: for line in lines {

@@ -1,16 +1,15 @@
 //! The view of a profile: its head, and the tree of its points' costs.
 #![tactic(auto, using(hp_num::proofs::Laws::extends_same, hp_num::proofs::Laws::extends_more, hp_num::proofs::Laws::extends_trans))]
 
-ghost use Rattle.std.specs.Prelude.{◌≡◌, ◌≢◌, ◌<◌, ◌≤◌, ◌^◌, ◌++◌, ℕ, List, length, sum, Some, None, Err, IfErr, IfOk, OnErr, OnOk};
-ghost use Rattle.cost_tree.specs.Costed.{costed};
+ghost use Rattle.std.specs.Prelude.{◌≡◌, ◌<◌, ◌≤◌, ◌^◌, ◌++◌, sum, Some, None, Err, IfErr, IfOk, OnErr, OnOk};
 ghost use Rattle.cost_tree.specs.TreeLines.{HasLines};
 ghost use Rattle.dhat_json.specs.IsSound.{IsSound};
 ghost use Rattle.hp_num.specs.Extends.{Extends};
-ghost use Rattle.dhat_view.specs.AreViewSums.{HasViewSums};
+ghost use Rattle.dhat_view.specs.AreViewSums.{GainsView};
 ghost use Rattle.dhat_view.specs.PointCosts.{point_costs};
 ghost use Rattle.dhat_view.specs.PointFronts.{point_fronts};
-ghost use Rattle.dhat_view.specs.ViewFault.{view_fault};
-ghost use Rattle.dhat_view.specs.ViewText.{head_text, points_text, total_text, view_text};
+ghost use Rattle.dhat_view.specs.ViewFault.{view_fault, IsFaultOf};
+ghost use Rattle.dhat_view.specs.ViewText.{head_text, points_text, total_text, fronts_with_costs, view_by};
 
 use crate::fault::ViewFault;
 use crate::fronts::fronts_of;
@@ -37,18 +36,13 @@ pub fn put_view(
 ) -> Result<(), ViewFault>
     requires sound { IsSound dhat.now }
     ensures appended { OnOk result
-        (out.new.items ≡ out.old.items
-        ++ view_text options.now.key options.now.threshold options.now.depth dhat.now) }
+        (out.new.items ≡ out.old.items ++ view_by options.now dhat.now) }
 
     // Each line of a front has the sum over the points that begin with it, and one of gathered places their sum and number.
-    ensures sums { OnOk result
-        ((text : List ℕ)
-        × HasViewSums options.now.key options.now.threshold options.now.depth dhat.now text
-        × (out.new.items ≡ out.old.items ++ text)) }
+    ensures sums { OnOk result (GainsView options.now dhat.now out.old.items out.new.items) }
 
     ensures no_fault { OnOk result (view_fault options.now.key dhat.now ≡ None) }
-    ensures fault { IfErr result
-        (λ fault. fault ≢ ViewFault.NoMemory → view_fault options.now.key dhat.now ≡ Some fault) }
+    ensures fault { IfErr result (IsFaultOf (view_fault options.now.key dhat.now)) }
     ensures refused { (fault : ViewFault) → view_fault options.now.key dhat.now ≡ Some fault
         → result ≡ Err fault }
     ensures unchanged { OnErr result (out.new.items ≡ out.old.items) }
@@ -81,8 +75,7 @@ fn put_text(
     requires total { total ≡ sum (point_costs options.now.key dhat.now) }
     requires within { total ≤ 2 ^ 62 }
     ensures appended { OnOk result
-        (out.new.items ≡ out.old.items
-        ++ view_text options.now.key options.now.threshold options.now.depth dhat.now) }
+        (out.new.items ≡ out.old.items ++ view_by options.now dhat.now) }
     ensures kept { Extends out.old.items out.new.items }
 {
     put_head(options.key, dhat, total, out)?;
@@ -133,8 +126,7 @@ fn fronts_tree<'a>(
     requires fronts { fronts.now ≡ point_fronts dhat.now }
     requires within { sum (point_costs options.now.key dhat.now) ≤ 2 ^ 62 }
     ensures tree { IfOk result
-        (λ tree. HasLines tree
-        (costed (point_fronts dhat.now) (point_costs options.now.key dhat.now)) options.now.depth) }
+        (λ tree. HasLines tree (fronts_with_costs options.now.key dhat.now) options.now.depth) }
 {
     let key = options.key;
     let depth = options.depth;
