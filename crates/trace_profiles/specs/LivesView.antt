@@ -5,7 +5,8 @@ use Rattle.dhat_metrics.specs.StandsFor as life_spec
 use Rattle.live_ledger.specs.declared.event.Event.{Event}
 use Rattle.peak_costs.specs.Peak as peak_spec
 use Rattle.peak_costs.specs.PeakState.{PeakState}
-use Rattle.trace_reading.specs.Following.{Following}
+use Rattle.ht_trace.specs.TableState.{TableState}
+use Rattle.trace_reading.specs.Following.{Following, IsNew}
 
 -- both stand for the events
 pub record StandFor (held : PeakState) (lifetimes : LifeState) (events : List Event) : Type 0 where
@@ -19,3 +20,7 @@ lives_view peaks lifetimes = record {
   stands = λ tables. StandFor peaks lifetimes;
   sound = length lifetimes.figures ≡ peaks.ledger.stacks;
 }
+
+-- nothing was followed yet, whatever the tables are
+abbrev pub IsAlwaysNew : Following → Type 0
+IsAlwaysNew following = (tables : TableState) → IsNew tables following

@@ -1,8 +1,6 @@
 //! Peaks and the lifetimes of blocks, as what follows a trace.
 ghost use Rattle.std.specs.Prelude.{IfOk};
-ghost use Rattle.ht_trace.specs.TableState.{TableState};
-ghost use Rattle.trace_profiles.specs.LivesView.{lives_view};
-ghost use Rattle.trace_reading.specs.Following.{IsNew};
+ghost use Rattle.trace_profiles.specs.LivesView.{lives_view, IsAlwaysNew};
 
 use command_frame::LineRefusal;
 use dhat_metrics::Lifetimes;
@@ -24,8 +22,7 @@ impl Lives {
     /// What has followed nothing, or `NoMemory`.
     pub fn new(alloc: Global) -> Result<Lives, NoMemory>
         ensures { IfOk result
-            (λ lives. (tables : TableState)
-            → IsNew tables (lives_view lives.peaks lives.lifetimes)) }
+            (λ lives. IsAlwaysNew (lives_view lives.peaks lives.lifetimes)) }
     {
         let lifetimes = Lifetimes::new(alloc)?;
         let peaks = Peaks::new(alloc)?;

@@ -1,11 +1,9 @@
 //! A whole run over one trace, whose snapshots are written as a Massif file.
 ghost use Rattle.std.specs.Prelude.{◌≡◌, ◌^◌, ◌<◌, IfOk, [], ◌∷◌};
-ghost use Rattle.std.specs.Str.{bytes_eq};
-ghost use Rattle.intern_tables.specs.WithoutRepeats.{without_repeats};
 ghost use Rattle.command_frame.specs.RunsTo.{Runs};
-ghost use Rattle.massif_sample.specs.NameList.{names_in};
 ghost use Rattle.massif_sample.specs.SettingsIn.{settings_in};
 ghost use Rattle.trace_profiles.specs.MassifReport.{command_in, massif_plan};
+ghost use Rattle.trace_profiles.specs.ListedNames.{listed};
 
 use crate::name_list::{is_named, names_of};
 use crate::sampling::{Sampling, Settled};
@@ -110,10 +108,8 @@ fn run_settled<T: Settled, S: Store, O: Sink>(
 
 /// The names of both lists of functions, which the tests of names keep. `NoMemory` where memory is wanting.
 fn names_in_settings(alloc: Global, settings: &SampleSettings) -> Result<(Names, Names), NoMemory>
-    ensures alloc_fns { IfOk result
-        (λ names. names.0 ≡ without_repeats bytes_eq (names_in settings.now.alloc_fns.now)) }
-    ensures ignore_fns { IfOk result
-        (λ names. names.1 ≡ without_repeats bytes_eq (names_in settings.now.ignore_fns.now)) }
+    ensures alloc_fns { IfOk result (λ names. names.0 ≡ listed settings.now.alloc_fns.now) }
+    ensures ignore_fns { IfOk result (λ names. names.1 ≡ listed settings.now.ignore_fns.now) }
 {
     let alloc_fns = names_of(alloc, settings.alloc_fns.as_bytes())?;
     let ignore_fns = names_of(alloc, settings.ignore_fns.as_bytes())?;

@@ -1,9 +1,7 @@
 //! Names in a list with semicolons between them, each once, and whether a name is one of them. What they name is no part of
 //! it.
-ghost use Rattle.std.specs.Prelude.{◌≡◌, ℕ, ◌↔◌, Contains, IsTrue, IfOk, List, ◌∷◌, ◌++◌, [], OnOk};
-ghost use Rattle.std.specs.Str.{bytes_eq};
-ghost use Rattle.intern_tables.specs.WithoutRepeats.{without_repeats};
-ghost use Rattle.massif_sample.specs.NameList.{names_in, with_text};
+ghost use Rattle.std.specs.Prelude.{◌≡◌, IfOk, OnOk};
+ghost use Rattle.trace_profiles.specs.ListedNames.{AddsPiece, SaysNamed, listed};
 
 use hp_num::NoMemory;
 use intern_tables::Names;
@@ -12,7 +10,7 @@ use std::alloc::Global;
 /// The names of a list, each once: its pieces between semicolons without the empty ones. They are looked up by a hash.
 /// `NoMemory` where memory is wanting.
 pub fn names_of(alloc: Global, list: &[u8]) -> Result<Names, NoMemory>
-    ensures { IfOk result (λ names. names ≡ without_repeats bytes_eq (names_in list.now)) }
+    ensures { IfOk result (λ names. names ≡ listed list.now) }
 {
     let mut names = Names::new(alloc);
     'pieces: for piece in list.split(|byte| *byte == b';') {
@@ -23,9 +21,7 @@ pub fn names_of(alloc: Global, list: &[u8]) -> Result<Names, NoMemory>
 
 /// Adds a piece, unless it is empty.
 fn add_piece(names: &mut Names, piece: &[u8]) -> Result<(), NoMemory>
-    ensures { OnOk result
-        ((came : List (List ℕ)) → names.old ≡ without_repeats bytes_eq (with_text came) →
-        names.new ≡ without_repeats bytes_eq (with_text (came ++ piece.now ∷ []))) }
+    ensures { OnOk result (AddsPiece names.old names.new piece.now) }
 {
     if piece.is_empty() {
         return Ok(());
@@ -36,8 +32,7 @@ fn add_piece(names: &mut Names, piece: &[u8]) -> Result<(), NoMemory>
 
 /// Whether the name is one of a list's.
 pub fn is_named(names: &Names, name: &[u8]) -> bool
-    ensures { (list : List ℕ) → names.now ≡ without_repeats bytes_eq (names_in list) →
-        IsTrue result ↔ Contains (names_in list) name.now }
+    ensures { SaysNamed names.now name.now result }
 {
     names.find(name).is_some()
 }
