@@ -47,11 +47,7 @@ use Rattle.convert.specs.Folded.{
 }
 use Rattle.convert.proofs.Sums.{sums-count}
 use Rattle.cost_tree.specs.Texts.{text_of, texts_of}
-use Rattle.convert.specs.Numbers.{AreSums, lines_at, lists_at}
-
--- texts from the last to the first, each behind a semicolon
-abbrev pub later_texts : List (List ℕ) → List ℕ → List ℕ
-later_texts names numbers = flat_map (λ text. codes ";" ++ folded_name text) (reverse (texts_of names numbers))
+use Rattle.convert.specs.Numbers.{AreSums, later_texts, lines_at, lists_at}
 
 pub later-none : (names : List (List ℕ)) (numbers : List ℕ) → later_texts names (drop (length numbers) numbers) ≡ []
 later-none names [] = refl

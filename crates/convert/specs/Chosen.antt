@@ -23,6 +23,7 @@ use Rattle.massif_file.specs.declared.profile.HeapTree.{HeapTree}
 use Rattle.massif_file.specs.declared.profile.HeapTree.TheVariants.{Empty, Detailed, Peak}
 use Rattle.massif_file.specs.declared.profile.Profile.{Profile}
 use Rattle.massif_file.specs.declared.profile.Snap.{Snap}
+use Rattle.convert.specs.Folded.{folded_text}
 use Rattle.convert.specs.TreeItems.{tree_items}
 
 abbrev pub is_peak : HeapTree → Bool
@@ -49,13 +50,20 @@ if_marked passes snap = if passes snap.mark then Some snap else None
 abbrev pub last_marked : (HeapTree → Bool) → List Snap → Option Snap
 last_marked passes snaps = find (λ snap. passes snap.mark) (reverse snaps)
 
+-- the last peak, and where there is none the last detailed snapshot
+abbrev pub last_chosen : List Snap → Option Snap
+last_chosen snaps = option_or (last_marked is_peak snaps) (last_marked is_detailed snaps)
+
 -- the snapshot with this number, where it has a tree; without a number the last peak, and where there is none the last detailed one
 abbrev pub chosen : Option ℕ → Profile → Option Snap
 chosen (Some number) profile = option_and_then (if_marked has_tree) (slice_get profile.snaps number)
-chosen None profile = option_or (last_marked is_peak profile.snaps)
-    (last_marked is_detailed profile.snaps)
+chosen None profile = last_chosen profile.snaps
 
 -- the items of its tree
 abbrev pub chosen_items : Option ℕ → Profile → List Costed
 chosen_items number profile = option_map_or (λ snap. tree_items snap.tree) (chosen number profile)
     []
+
+-- their folded lines
+abbrev pub folded_of_massif : Option ℕ → Profile → List ℕ
+folded_of_massif number profile = folded_text (chosen_items number profile)

@@ -2,7 +2,7 @@
 -- where no snapshot with a tree is chosen, or where the items' numbers sum to more than 2^62; there
 -- is no Massif profile where points tell of no lifetimes, or where the time at the end or what was
 -- live is more than 2^62.
-use Rattle.std.specs.Prelude.{ℕ, ◌^◌, ◌||◌, nat_lt, Bool, if◌then◌else◌, List, Option, Some, None, sum, sum_by}
+use Rattle.std.specs.Prelude.{◌≡◌, ◌≢◌, ℕ, ◌^◌, ◌||◌, nat_lt, Bool, if◌then◌else◌, List, Option, Some, None, sum, sum_by}
 use Rattle.cost_tree.specs.Costed.{Costed}
 use Rattle.dhat_json.specs.declared.figure.FigureKey.{FigureKey}
 use Rattle.dhat_json.specs.declared.figure.FigureKey.TheVariants.{Eb, Gb}
@@ -12,9 +12,13 @@ use Rattle.dhat_view.specs.PointCosts.{point_costs}
 use Rattle.massif_file.specs.declared.profile.Profile.{Profile}
 use Rattle.massif_file.specs.declared.profile.Snap.{Snap}
 use Rattle.convert.specs.declared.fault.ConvertFault.{ConvertFault}
-use Rattle.convert.specs.declared.fault.ConvertFault.TheVariants.{NoFigures, NoTree, TooLarge}
+use Rattle.convert.specs.declared.fault.ConvertFault.TheVariants.{NoFigures, NoMemory, NoTree, TooLarge}
 use Rattle.convert.specs.Chosen.{chosen}
 use Rattle.convert.specs.TreeItems.{tree_items}
+
+-- the fault is what stands against a profile, unless memory was wanting
+abbrev pub IsFaultOf : Option ConvertFault → ConvertFault → Type 0
+IsFaultOf defined fault = fault ≢ NoMemory → defined ≡ Some fault
 
 -- a number above 2^62
 abbrev pub is_too_large : ℕ → Bool

@@ -14,6 +14,7 @@ use Rattle.massif_file.specs.declared.profile.Snap.{Snap}
 use Rattle.massif_file.specs.declared.profile.TimeUnit.{TimeUnit}
 use Rattle.massif_file.specs.declared.profile.TimeUnit.TheVariants.{Events, Instructions}
 use Rattle.massif_tree.specs.declared.options.TreeOptions.{TreeOptions}
+use Rattle.massif_file.specs.TreeLine.{TreeLine}
 use Rattle.massif_tree.specs.MassifTree.{massif_tree}
 use Rattle.convert.specs.Items.{point_items}
 
@@ -34,16 +35,28 @@ unit_of unit = if bytes_eq unit (codes "instrs") then Instructions else Events
 abbrev pub peak_time : Dhat → ℕ
 peak_time dhat = option_map_or (λ time. min time dhat.te) dhat.tg dhat.te
 
--- a snapshot at this time: the sum of a figure, and the tree of the points by it
-abbrev pub snap_of : ℕ → HeapTree → FigureKey → Dhat → Snap
-snap_of time mark key dhat = record {
+-- a snapshot with so many live bytes
+abbrev pub snap_with : ℕ → ℕ → HeapTree → List TreeLine → Snap
+snap_with time heap mark tree = record {
   time = time;
-  heap = sum (point_costs key dhat);
+  heap = heap;
   extra = 0;
   stacks = 0;
   mark = mark;
-  tree = massif_tree whole_tree (sum (point_costs key dhat)) (point_items key dhat);
+  tree = tree;
 }
+
+-- the tree of the points by a figure
+abbrev pub tree_by : FigureKey → Dhat → List TreeLine
+tree_by key dhat = massif_tree whole_tree (sum (point_costs key dhat)) (point_items key dhat)
+
+-- a snapshot at this time: the sum of a figure, and the tree of the points by it
+abbrev pub snap_of : ℕ → HeapTree → FigureKey → Dhat → Snap
+snap_of time mark key dhat = snap_with time (sum (point_costs key dhat)) mark (tree_by key dhat)
+
+-- those of what was live at the peak, and at the end
+abbrev pub snaps_of : Dhat → List Snap
+snaps_of dhat = snap_of (peak_time dhat) Peak Gb dhat ∷ snap_of dhat.te Detailed Eb dhat ∷ []
 
 -- the profile: what was live at the peak, and what was live at the end
 unfoldable pub converted : Dhat → Profile
@@ -51,5 +64,5 @@ converted dhat = record {
   desc = codes "heapsuite convert";
   cmd = command_of dhat.cmd;
   unit = unit_of dhat.tu;
-  snaps = snap_of (peak_time dhat) Peak Gb dhat ∷ snap_of dhat.te Detailed Eb dhat ∷ [];
+  snaps = snaps_of dhat;
 }

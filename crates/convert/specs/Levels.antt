@@ -1,5 +1,5 @@
 -- Where a walk over a tree's lines stands, for private clauses: the levels that are open, from the innermost one outwards.
-use Rattle.std.specs.Prelude.{ℕ, zero, suc, ◌-◌, List, [], ◌∷◌, ◌++◌, drop, map, reverse, take}
+use Rattle.std.specs.Prelude.{◌≡◌, ℕ, zero, suc, ◌-◌, List, [], ◌∷◌, ◌++◌, drop, map, reverse, sum, take}
 use Rattle.cost_tree.specs.Costed.{Costed}
 use Rattle.massif_file.specs.TreeLine.{TreeLine}
 use Rattle.convert.specs.declared.path.Level.{Level}
@@ -10,6 +10,13 @@ use Rattle.convert.specs.TreeItems.{all_items, left_bytes}
 unfoldable pub left_in : List TreeLine → List ℕ
 left_in [] = []
 left_in (line ∷ lines) = left_bytes line lines ∷ left_in lines
+
+-- what so many of the last roots leave of these bytes, and that a root with these bytes takes their place
+abbrev pub kept : ℕ → ℕ → List ℕ → ℕ
+kept bytes children roots = bytes - sum (take children (reverse roots))
+
+abbrev pub TakesRoots : ℕ → ℕ → List ℕ → List ℕ → Type 0
+TakesRoots bytes children old new = reverse new ≡ bytes ∷ drop children (reverse old)
 
 -- the innermost levels at which no line is to come are ended
 abbrev pub level_at : ℕ → ℕ → Level

@@ -8,6 +8,10 @@ use Rattle.cost_tree.specs.Costed.{Costed}
 use Rattle.dhat_json.specs.Shown.{shown}
 use Rattle.massif_file.specs.TreeLine.{TreeLine}
 
+-- the shown labels of lines
+abbrev pub labels_of : List TreeLine → List (List ℕ)
+labels_of lines = map (λ line. shown line.label) lines
+
 -- the bytes of each tree's root
 unfoldable pub root_bytes : List TreeLine → List ℕ
 root_bytes [] = []

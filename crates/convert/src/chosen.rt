@@ -1,7 +1,6 @@
 //! Which snapshot of a Massif profile is folded.
 ghost use Rattle.std.specs.Prelude.{◌≡◌, slice_get, option_and_then, option_copied};
-ghost use Rattle.std.specs.Option.{option_or};
-ghost use Rattle.convert.specs.Chosen.{chosen, has_tree, if_marked, is_detailed, is_peak, last_marked};
+ghost use Rattle.convert.specs.Chosen.{chosen, has_tree, last_chosen, if_marked, is_detailed, is_peak, last_marked};
 
 use massif_file::{HeapTree, Profile, Snap};
 
@@ -33,7 +32,7 @@ fn with_tree(snaps: &[Snap], number: usize) -> Option<&Snap>
 /// The last peak, and where there is none the last detailed snapshot.
 fn last_with_tree(snaps: &[Snap]) -> Option<&Snap>
     ensures { option_copied result
-        ≡ option_or (last_marked is_peak snaps.now) (last_marked is_detailed snaps.now) }
+        ≡ last_chosen snaps.now }
 {
     match last_peak(snaps) {
         Some(snap) => Some(snap),

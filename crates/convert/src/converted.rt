@@ -1,5 +1,5 @@
 //! The Massif profile of a DHAT profile: what was live at the peak, and what was live at the end.
-ghost use Rattle.std.specs.Prelude.{◌≡◌, ◌≢◌, ◌≤◌, ◌^◌, [], ◌∷◌, sum, true, Some, None, Err, IfErr, IfOk, OnOk};
+ghost use Rattle.std.specs.Prelude.{◌≡◌, ◌≤◌, ◌^◌, [], ◌∷◌, sum, true, Some, None, Err, IfErr, IfOk, OnOk};
 ghost use Rattle.dhat_json.specs.declared.figure.FigureKey.TheVariants.{Eb, Gb};
 ghost use Rattle.dhat_json.specs.IsSound.{IsSound};
 ghost use Rattle.dhat_view.specs.PointCosts.{point_costs};
@@ -8,9 +8,8 @@ ghost use Rattle.massif_file.specs.declared.profile.HeapTree.TheVariants.{Detail
 ghost use Rattle.massif_file.specs.IsWritable.{IsWritable};
 ghost use Rattle.massif_tree.specs.MassifTree.{massif_tree};
 ghost use Rattle.convert.specs.AreTreeSums.{HaveTreeSums};
-ghost use Rattle.convert.specs.ConvertFault.{converted_fault};
-ghost use Rattle.convert.specs.Converted.{command_of, converted, peak_time, snap_of, unit_of, whole_tree};
-ghost use Rattle.convert.specs.Items.{point_items};
+ghost use Rattle.convert.specs.ConvertFault.{IsFaultOf, converted_fault};
+ghost use Rattle.convert.specs.Converted.{command_of, converted, peak_time, snap_with, snaps_of, tree_by, unit_of};
 
 use crate::fault::ConvertFault;
 use crate::point_lists::point_lists;
@@ -46,8 +45,7 @@ pub fn massif_of_dhat(alloc: Global, dhat: &Dhat) -> Result<Profile, ConvertFaul
     ensures sums { IfOk result (λ profile. HaveTreeSums dhat.now profile) }
 
     ensures no_fault { OnOk result (converted_fault dhat.now ≡ None) }
-    ensures fault { IfErr result
-        (λ fault. fault ≢ ConvertFault.NoMemory → converted_fault dhat.now ≡ Some fault) }
+    ensures fault { IfErr result (λ fault. IsFaultOf (converted_fault dhat.now) fault) }
     ensures refused { (fault : ConvertFault) → converted_fault dhat.now ≡ Some fault
         → result ≡ Err fault }
 {
@@ -122,9 +120,7 @@ fn live_snaps(alloc: Global, dhat: &Dhat, at_peak: u64, at_end: u64) -> Result<S
     requires at_end { at_end ≡ sum (point_costs Eb dhat.now) }
     requires peak_within { at_peak ≤ 2 ^ 62 }
     requires end_within { at_end ≤ 2 ^ 62 }
-    ensures snaps { IfOk result
-        (λ snaps. snaps ≡ snap_of (peak_time dhat.now) Peak Gb dhat.now
-        ∷ snap_of dhat.now.te Detailed Eb dhat.now ∷ []) }
+    ensures snaps { IfOk result (λ snaps. snaps ≡ snaps_of dhat.now) }
 {
     let fronts = point_lists(alloc, dhat)?;
     let snaps = snaps_over(alloc, dhat, &fronts, at_peak, at_end);
@@ -145,9 +141,7 @@ fn snaps_over(
     requires at_end { at_end ≡ sum (point_costs Eb dhat.now) }
     requires peak_within { at_peak ≤ 2 ^ 62 }
     requires end_within { at_end ≤ 2 ^ 62 }
-    ensures snaps { IfOk result
-        (λ snaps. snaps ≡ snap_of (peak_time dhat.now) Peak Gb dhat.now
-        ∷ snap_of dhat.now.te Detailed Eb dhat.now ∷ []) }
+    ensures snaps { IfOk result (λ snaps. snaps ≡ snaps_of dhat.now) }
 {
     let peak_tree = live_tree(alloc, dhat, fronts, FigureKey::Gb, at_peak)?;
     let end_tree = end_tree(alloc, dhat, fronts, &peak_tree, at_end)?;
@@ -178,14 +172,7 @@ fn time_of_peak(dhat: &Dhat) -> u64
 
 /// A snapshot with so many live bytes.
 fn live_snap(time: u64, heap: u64, mark: HeapTree, tree: Tree) -> Snap
-    ensures { result ≡ record {
-      time = time;
-      heap = heap;
-      extra = 0;
-      stacks = 0;
-      mark = mark;
-      tree = tree;
-    } }
+    ensures { result ≡ snap_with time heap mark tree }
 {
     Snap {
         time,
@@ -208,9 +195,7 @@ fn live_tree(
     requires fronts { fronts.now ≡ point_fronts dhat.now }
     requires total { total ≡ sum (point_costs key dhat.now) }
     requires within { total ≤ 2 ^ 62 }
-    ensures tree { IfOk result
-        (λ tree. tree ≡ massif_tree whole_tree (sum (point_costs key dhat.now))
-        (point_items key dhat.now)) }
+    ensures tree { IfOk result (λ tree. tree ≡ tree_by key dhat.now) }
 {
     let costing = Costing::new(
         fronts.len(),
@@ -233,13 +218,10 @@ fn end_tree(
     at_end: u64,
 ) -> Result<Tree, NoMemory>
     requires fronts { fronts.now ≡ point_fronts dhat.now }
-    requires peak { peak_tree.now
-        ≡ massif_tree whole_tree (sum (point_costs Gb dhat.now)) (point_items Gb dhat.now) }
+    requires peak { peak_tree.now ≡ tree_by Gb dhat.now }
     requires total { at_end ≡ sum (point_costs Eb dhat.now) }
     requires within { at_end ≤ 2 ^ 62 }
-    ensures tree { IfOk result
-        (λ tree. tree ≡ massif_tree whole_tree (sum (point_costs Eb dhat.now))
-        (point_items Eb dhat.now)) }
+    ensures tree { IfOk result (λ tree. tree ≡ tree_by Eb dhat.now) }
 {
     if ends_as_at_peak(dhat) {
         return peak_tree.copy(alloc);

@@ -1,7 +1,7 @@
 //! What the children of each line of a tree leave of its bytes.
-ghost use Rattle.std.specs.Prelude.{◌≡◌, ◌<◌, ◌-◌, ◌^◌, ◌∷◌, IfOk, OnOk, drop, reverse, sum, take};
+ghost use Rattle.std.specs.Prelude.{◌≡◌, ◌<◌, ◌-◌, IfOk, OnOk, drop, reverse, sum, take};
 ghost use Rattle.convert.specs.ConvertFault.{is_too_large};
-ghost use Rattle.convert.specs.Levels.{left_in};
+ghost use Rattle.convert.specs.Levels.{TakesRoots, kept, left_in};
 
 use hp_num::NoMemory;
 use massif_file::{Tree, TreeFields};
@@ -26,11 +26,9 @@ pub(crate) fn left_bytes(alloc: Global, tree: &Tree) -> Result<Vec<u64>, NoMemor
 /// What the line's children leave of its bytes. They are the last roots; the line takes their place.
 fn take_line(line: TreeFields, roots: &mut Vec<u64>) -> Result<u64, NoMemory>
     ensures left { IfOk result
-        (λ left. left
-        ≡ line.entry.bytes - sum (take line.entry.children (reverse roots.old.items))) }
-    ensures roots { OnOk result
-        (reverse roots.new.items
-        ≡ line.entry.bytes ∷ drop line.entry.children (reverse roots.old.items)) }
+        (λ left. left ≡ kept line.entry.bytes line.entry.children roots.old.items) }
+    ensures roots { OnOk result (TakesRoots line.entry.bytes line.entry.children
+        roots.old.items roots.new.items) }
 {
     let mut left = line.bytes;
     'each_child: for _ in 0..line.children {

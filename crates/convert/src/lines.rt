@@ -1,12 +1,12 @@
 //! Folded lines: a line for each list with its sum.
 #![tactic(auto, using(hp_num::proofs::Laws::extends_same, hp_num::proofs::Laws::extends_more, hp_num::proofs::Laws::extends_trans))]
 
-ghost use Rattle.std.specs.Prelude.{◌≡◌, ◌<◌, ◌++◌, All, List, OnOk, Some, codes, flat_map, length, reverse, slice_get};
+ghost use Rattle.std.specs.Prelude.{◌≡◌, ◌<◌, ◌++◌, All, List, OnOk, Some, length, slice_get};
 ghost use Rattle.cost_tree.specs.Costed.{Costed};
 ghost use Rattle.hp_num.specs.Extends.{Extends};
 ghost use Rattle.convert.specs.Folded.{folded_byte, folded_line, folded_name, folded_path, folded_text};
 ghost use Rattle.cost_tree.specs.Texts.{IsText, text_of, texts_of};
-ghost use Rattle.convert.specs.Numbers.{AreSums, lines_at};
+ghost use Rattle.convert.specs.Numbers.{SumsUp, item_of, later_texts, lines_of};
 
 use crate::list_sums::ListSums;
 use hp_num::{NoMemory, put_bytes, put_dec};
@@ -14,11 +14,9 @@ use intern_tables::Names;
 
 /// Appends the lines of all lists, in their order.
 pub(crate) fn put_lines(sums: &ListSums, out: &mut Vec<u8>) -> Result<(), NoMemory>
-    requires sums { (items : List Costed)
-        × AreSums sums.now.names sums.now.lists.keys sums.now.sums.items items }
+    requires sums { (items : List Costed) × SumsUp sums.now items }
     ensures appended { OnOk result
-        ((items : List Costed)
-        → AreSums sums.now.names sums.now.lists.keys sums.now.sums.items items
+        ((items : List Costed) → SumsUp sums.now items
         → out.new.items ≡ out.old.items ++ folded_text items) }
     ensures kept { Extends out.old.items out.new.items }
 {
@@ -33,8 +31,7 @@ fn put_line_at(sums: &ListSums, place: usize, out: &mut Vec<u8>) -> Result<(), N
     requires held { All (λ key. All (IsText sums.now.names) key.items) sums.now.lists.keys }
     requires place { place < length sums.now.sums.items }
     ensures appended { OnOk result
-        ((line : Costed) → slice_get
-        (lines_at sums.now.names sums.now.lists.keys sums.now.sums.items) place ≡ Some line
+        ((line : Costed) → slice_get (lines_of sums.now) place ≡ Some line
         → out.new.items ≡ out.old.items ++ folded_line line) }
     ensures kept { Extends out.old.items out.new.items }
 {
@@ -48,8 +45,7 @@ fn put_line_at(sums: &ListSums, place: usize, out: &mut Vec<u8>) -> Result<(), N
 fn put_line(names: &Names, list: &[usize], sum: u64, out: &mut Vec<u8>) -> Result<(), NoMemory>
     requires held { All (IsText names.now) list.now }
     ensures appended { OnOk result
-        (out.new.items ≡ out.old.items
-        ++ folded_line (record { texts = texts_of names.now list.now; cost = sum })) }
+        (out.new.items ≡ out.old.items ++ folded_line (item_of names.now list.now sum)) }
     ensures kept { Extends out.old.items out.new.items }
 {
     put_path(names, list, out)?;
@@ -76,9 +72,7 @@ fn put_path(names: &Names, list: &[usize], out: &mut Vec<u8>) -> Result<(), NoMe
 fn put_before(names: &Names, before: &[usize], out: &mut Vec<u8>) -> Result<(), NoMemory>
     requires held { All (IsText names.now) before.now }
     ensures appended { OnOk result
-        (out.new.items ≡ out.old.items
-        ++ flat_map (λ text. codes ";" ++ folded_name text)
-        (reverse (texts_of names.now before.now))) }
+        (out.new.items ≡ out.old.items ++ later_texts names.now before.now) }
     ensures kept { Extends out.old.items out.new.items }
 {
     'each_text: for place in (0..before.len()).rev() {

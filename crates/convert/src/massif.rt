@@ -2,21 +2,18 @@
 //! leave of their bytes.
 #![tactic(auto, using(hp_num::proofs::Laws::extends_same, hp_num::proofs::Laws::extends_more, hp_num::proofs::Laws::extends_trans))]
 
-ghost use Rattle.std.specs.Prelude.{◌≡◌, ◌≢◌, ◌≤◌, ◌^◌, ◌++◌, [], List, length, map, sum, Some, None, Err, IfErr, IfOk, OnErr, OnOk};
-ghost use Rattle.cost_tree.specs.Costed.{Costed};
-ghost use Rattle.dhat_json.specs.Shown.{shown};
+ghost use Rattle.std.specs.Prelude.{◌≡◌, ◌≢◌, ◌≤◌, ◌^◌, ◌++◌, [], length, sum, Some, None, Err, IfErr, IfOk, OnErr, OnOk};
 ghost use Rattle.hp_num.specs.Extends.{Extends};
 ghost use Rattle.intern_tables.specs.Distinct.{AreDistinct};
-ghost use Rattle.massif_file.specs.TreeLine.{TreeLine};
 ghost use Rattle.convert.specs.declared.fault.ConvertFault.TheVariants.{NoTree};
-ghost use Rattle.convert.specs.AreFolded.{AreFolded};
-ghost use Rattle.convert.specs.Chosen.{chosen, chosen_items};
-ghost use Rattle.convert.specs.ConvertFault.{folded_massif_fault, items_fault};
-ghost use Rattle.convert.specs.Folded.{folded_text, lines_text};
+ghost use Rattle.convert.specs.AreFolded.{GainsLines};
+ghost use Rattle.convert.specs.Chosen.{chosen, chosen_items, folded_of_massif};
+ghost use Rattle.convert.specs.ConvertFault.{IsFaultOf, folded_massif_fault, items_fault};
+ghost use Rattle.convert.specs.Folded.{folded_text};
 ghost use Rattle.convert.specs.Levels.{left_in};
 ghost use Rattle.dhat_view.specs.Numbers.{AreNumbers};
-ghost use Rattle.convert.specs.Numbers.{AreSums};
-ghost use Rattle.convert.specs.TreeItems.{tree_items};
+ghost use Rattle.convert.specs.Numbers.{SumsUp};
+ghost use Rattle.convert.specs.TreeItems.{labels_of, tree_items};
 
 use crate::chosen::chosen_snap;
 use crate::fault::ConvertFault;
@@ -45,17 +42,15 @@ pub fn put_folded_massif(
     out: &mut Vec<u8>,
 ) -> Result<(), ConvertFault>
     ensures appended { OnOk result
-        (out.new.items ≡ out.old.items ++ folded_text (chosen_items snapshot profile.now)) }
+        (out.new.items ≡ out.old.items ++ folded_of_massif snapshot profile.now) }
 
     // For each list the lines have the sum of the items with that list, and a list whose sum is 0 has no line.
     ensures sums { OnOk result
-        ((lines : List Costed) × AreFolded (chosen_items snapshot profile.now) lines
-        × (out.new.items ≡ out.old.items ++ lines_text lines)) }
+        (GainsLines (chosen_items snapshot profile.now) out.old.items out.new.items) }
 
     ensures no_fault { OnOk result (folded_massif_fault snapshot profile.now ≡ None) }
     ensures fault { IfErr result
-        (λ fault. fault ≢ ConvertFault.NoMemory
-        → folded_massif_fault snapshot profile.now ≡ Some fault) }
+        (λ fault. IsFaultOf (folded_massif_fault snapshot profile.now) fault) }
     ensures no_tree { chosen snapshot profile.now ≡ None → result ≡ Err NoTree }
     ensures unchanged { OnErr result (out.new.items ≡ out.old.items) }
 {
@@ -77,8 +72,7 @@ fn put_tree(alloc: Global, tree: &Tree, out: &mut Vec<u8>) -> Result<(), Convert
     ensures appended { OnOk result
         (out.new.items ≡ out.old.items ++ folded_text (tree_items tree.now)) }
     ensures no_fault { OnOk result (items_fault (tree_items tree.now) ≡ None) }
-    ensures fault { IfErr result
-        (λ fault. fault ≢ ConvertFault.NoMemory → items_fault (tree_items tree.now) ≡ Some fault) }
+    ensures fault { IfErr result (λ fault. IsFaultOf (items_fault (tree_items tree.now)) fault) }
     ensures not_no_tree { IfErr result (λ fault. fault ≢ ConvertFault.NoTree) }
     ensures kept { Extends out.old.items out.new.items }
 {
@@ -95,8 +89,7 @@ fn put_tree(alloc: Global, tree: &Tree, out: &mut Vec<u8>) -> Result<(), Convert
 fn tree_sums(alloc: Global, tree: &Tree, left: &[u64]) -> Result<ListSums, NoMemory>
     requires left { left.now ≡ left_in tree.now }
     requires within { sum left.now ≤ 2 ^ 62 }
-    ensures sums { IfOk result
-        (λ sums. AreSums sums.names sums.lists.keys sums.sums.items (tree_items tree.now)) }
+    ensures sums { IfOk result (λ sums. SumsUp sums (tree_items tree.now)) }
 {
     let texts = shown_labels(alloc, tree)?;
     let ShownTexts { names, numbers, .. } = texts;
@@ -129,11 +122,9 @@ fn add_lines(
     requires left_count { length left.now ≡ length tree.now }
     requires count { length numbers.now ≡ length tree.now }
     requires begun { walk.old.levels.items ≡ [] }
-    requires numbers { AreNumbers sums.old.names numbers.now
-        (map (λ line. shown line.label) tree.now) }
-    requires sums { AreSums sums.old.names sums.old.lists.keys sums.old.sums.items [] }
-    ensures sums { OnOk result
-        (AreSums sums.new.names sums.new.lists.keys sums.new.sums.items (tree_items tree.now)) }
+    requires numbers { AreNumbers sums.old.names numbers.now (labels_of tree.now) }
+    requires sums { SumsUp sums.old [] }
+    ensures sums { OnOk result (SumsUp sums.new (tree_items tree.now)) }
 {
     'each_line: for place in 0..tree.len() {
         enter(&mut walk.levels, numbers[place], tree.at(place).children)?;
@@ -146,8 +137,7 @@ fn add_lines(
 /// The shown labels of the lines under numbers.
 fn shown_labels(alloc: Global, tree: &Tree) -> Result<ShownTexts, NoMemory>
     ensures numbers { IfOk result
-        (λ texts. AreNumbers texts.names texts.numbers.items
-        (map (λ line. shown line.label) tree.now)) }
+        (λ texts. AreNumbers texts.names texts.numbers.items (labels_of tree.now)) }
     ensures distinct { IfOk result (λ texts. AreDistinct texts.names) }
 {
     let mut texts = ShownTexts::new(alloc);

@@ -1,16 +1,15 @@
 //! The folded lines of a DHAT profile: its points by the texts of their frames, with a figure.
 #![tactic(auto, using(hp_num::proofs::Laws::extends_same, hp_num::proofs::Laws::extends_more, hp_num::proofs::Laws::extends_trans))]
 
-ghost use Rattle.std.specs.Prelude.{◌≡◌, ◌≢◌, ◌<◌, ◌≤◌, ◌^◌, ◌++◌, All, List, length, map, slice_index, sum, Some, None, Err, IfErr, IfOk, OnErr, OnOk};
-ghost use Rattle.cost_tree.specs.Costed.{Costed};
+ghost use Rattle.std.specs.Prelude.{◌≡◌, ◌<◌, ◌≤◌, ◌^◌, ◌++◌, All, length, map, slice_index, sum, Some, None, Err, IfErr, IfOk, OnErr, OnOk};
 ghost use Rattle.dhat_json.specs.IsSound.{IsSound};
 ghost use Rattle.dhat_view.specs.PointCosts.{point_costs};
 ghost use Rattle.hp_num.specs.Extends.{Extends};
-ghost use Rattle.convert.specs.AreFolded.{AreFolded};
-ghost use Rattle.convert.specs.ConvertFault.{folded_fault};
-ghost use Rattle.convert.specs.Folded.{folded_text, lines_text};
+ghost use Rattle.convert.specs.AreFolded.{GainsLines};
+ghost use Rattle.convert.specs.ConvertFault.{IsFaultOf, folded_fault};
+ghost use Rattle.convert.specs.Folded.{folded_text};
 ghost use Rattle.convert.specs.Items.{point_items};
-ghost use Rattle.convert.specs.Numbers.{AreSums};
+ghost use Rattle.convert.specs.Numbers.{SumsUp};
 
 use crate::fault::ConvertFault;
 use crate::lines::put_lines;
@@ -38,13 +37,10 @@ pub fn put_folded_dhat(
         (out.new.items ≡ out.old.items ++ folded_text (point_items key dhat.now)) }
 
     // For each list the lines have the sum of the points with that list, and a list whose sum is 0 has no line.
-    ensures sums { OnOk result
-        ((lines : List Costed) × AreFolded (point_items key dhat.now) lines
-        × (out.new.items ≡ out.old.items ++ lines_text lines)) }
+    ensures sums { OnOk result (GainsLines (point_items key dhat.now) out.old.items out.new.items) }
 
     ensures no_fault { OnOk result (folded_fault key dhat.now ≡ None) }
-    ensures fault { IfErr result
-        (λ fault. fault ≢ ConvertFault.NoMemory → folded_fault key dhat.now ≡ Some fault) }
+    ensures fault { IfErr result (λ fault. IsFaultOf (folded_fault key dhat.now) fault) }
     ensures refused { (fault : ConvertFault) → folded_fault key dhat.now ≡ Some fault
         → result ≡ Err fault }
     ensures unchanged { OnErr result (out.new.items ≡ out.old.items) }
@@ -81,8 +77,7 @@ fn put_points(alloc: Global, key: FigureKey, dhat: &Dhat, out: &mut Vec<u8>) -> 
 fn point_sums(alloc: Global, key: FigureKey, dhat: &Dhat) -> Result<ListSums, NoMemory>
     requires sound { IsSound dhat.now }
     requires within { sum (point_costs key dhat.now) ≤ 2 ^ 62 }
-    ensures sums { IfOk result
-        (λ sums. AreSums sums.names sums.lists.keys sums.sums.items (point_items key dhat.now)) }
+    ensures sums { IfOk result (λ sums. SumsUp sums (point_items key dhat.now)) }
 {
     let table = shown_table(alloc, &dhat.ftbl)?;
     let ShownTexts { names, numbers, .. } = table;

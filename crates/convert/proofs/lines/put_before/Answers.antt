@@ -4,7 +4,8 @@ use Rattle.hp_num.proofs.Laws.{extends_more, extends_same, extends_trans}
 use Rattle.convert.specs.Folded.{folded_name}
 use Rattle.cost_tree.specs.Texts.{text_of}
 use Rattle.convert.proofs.Appends.{appended-more, appended-none}
-use Rattle.convert.proofs.LineTexts.{later-more, later-none, later_texts}
+use Rattle.convert.specs.Numbers.{later_texts}
+use Rattle.convert.proofs.LineTexts.{later-more, later-none}
 use Rattle.convert.proofs.lines.put_before.Goals as goal
 
 pub each_text-init : goal.each_text-init

@@ -1,6 +1,6 @@
 use Rattle.std.proofs.Common.{◌≡◌, ◌++◌, drop}
 use Rattle.hp_num.specs.Extends.{Extends}
-use Rattle.convert.proofs.LineTexts.{later_texts}
+use Rattle.convert.specs.Numbers.{later_texts}
 use Rattle.convert.proofs.lines.put_before.Given as goal
 
 abbrev pub invariant-each_text : goal.invariant-each_text

@@ -5,7 +5,8 @@ use Rattle.convert.specs.Folded.{folded_name}
 use Rattle.cost_tree.specs.Texts.{IsText, text_of}
 use Rattle.convert.proofs.Appends.{appended-more}
 use Rattle.convert.proofs.Lists.{all-front}
-use Rattle.convert.proofs.LineTexts.{later_texts, path-last, path-none}
+use Rattle.convert.specs.Numbers.{later_texts}
+use Rattle.convert.proofs.LineTexts.{path-last, path-none}
 use Rattle.convert.proofs.lines.put_path.Goals as goal
 
 pub returns-in_default-clause-appended : goal.returns-in_default-clause-appended
