@@ -7,4 +7,4 @@ pub returns-in-Ok-clause-no_fault : goal.returns-in-Ok-clause-no_fault
 returns-in-Ok-clause-no_fault g c = λ lines taken.
     told-none lines c.args.line.now (end_of c.line.new.self)
     (c.massif_profiles.ensures.stands c.line.new.self (lines ++ c.args.line.now ∷ [])
-    (c.in-Ok.ensures.stands lines taken.0))
+    (c.in-Ok.ensures.lines.stands lines taken.0))
