@@ -7,13 +7,14 @@ JOBS ?= $(shell awk -v wanted="$$(nproc)" '/^MemAvailable/ { fit = int($$2 / 300
 
 PROGRAMS = heapsuite heaprec
 SCRIPTS = heapsuite-leaks heapsuite-symbols heapsuite-compare heapsuite-budget
+COMPLETIONS = completions/_heapsuite completions/heapsuite.bash completions/heapsuite.fish
 BIN = $(DESTDIR)$(PREFIX)/bin
 MAN = $(DESTDIR)$(PREFIX)/share/man/man1
 BASH = $(DESTDIR)$(PREFIX)/share/bash-completion/completions
 ZSH = $(DESTDIR)$(PREFIX)/share/zsh/site-functions
 FISH = $(DESTDIR)$(PREFIX)/share/fish/vendor_completions.d
 
-.PHONY: demo build test sweep install uninstall
+.PHONY: demo build test sweep completions install uninstall
 
 # A summary of an example.
 demo: build
@@ -38,9 +39,14 @@ test:
 sweep: $(PROGRAMS:%=bin/%)
 	bench/sweep bin
 
+# The completions of heapsuite, which are written of its page.
+completions: $(COMPLETIONS)
+$(COMPLETIONS) &: man/heapsuite.1 completions/make
+	completions/make
+
 # Takes the programs that stand in bin/, and builds them only where they aren't there. Bash and fish look for a completion by the
 # name of the command, so that of the scripts stands there under the name of each.
-install: $(PROGRAMS:%=bin/%)
+install: $(PROGRAMS:%=bin/%) $(COMPLETIONS)
 	install -d "$(BIN)" "$(MAN)" "$(BASH)" "$(ZSH)" "$(FISH)"
 	install $(PROGRAMS:%=bin/%) $(SCRIPTS:%=scripts/%) "$(BIN)"
 	install -m 644 $(PROGRAMS:%=man/%.1) $(SCRIPTS:%=man/%.1) "$(MAN)"
