@@ -1,4 +1,4 @@
--- Instructions by their parts of the frames, and strings by their names, when more are appended.
+-- Instructions by their parts of the frames, and strings by those of the texts, when more are appended.
 use Rattle.std.proofs.Common.{
   ◌≡◌,
   ℕ,
@@ -15,25 +15,21 @@ use Rattle.std.proofs.Common.{
   take,
   drop,
   map,
-  Option,
-  None,
-  Some,
   refl,
   ap,
   ◌∙◌,
   arith,
 }
-use Rattle.std.specs.Prelude.{IfNone, IfSome, unwrap_or}
 use Rattle.std.specs.List.{AllByRecursion}
 use Rattle.std.proofs.lemmas.List.{map-append, take-append-le, drop-append-le, length-append, length-drop}
 use Rattle.std.proofs.Math.Seq.{drop-append_seam, take-length}
-use Rattle.intern_tables.specs.Numbers.{name_at}
 use Rattle.ht_trace.specs.declared.frame.Frame.{Frame}
 use Rattle.ht_trace.specs.declared.instructions.InstructionEntry.{InstructionEntry}
+use Rattle.ht_trace.specs.declared.strings.TextSpan.{TextSpan}
 use Rattle.ht_trace.specs.Instruction.{Instruction}
 use Rattle.ht_trace.specs.InstructionEntries.{AreInstructions, instruction_of, instructions_of}
 use Rattle.ht_trace.proofs.Growing.{all-push, all-weaker}
-use Rattle.ht_trace.specs.StringEntries.{AreStrings, texts_of}
+use Rattle.ht_trace.specs.StringEntries.{AreStrings, text_of, texts_of}
 
 -- two functions that agree where P holds give the same list
 map-agree : {X Y : Type 0} (P : X → Type 0) (f g : X → Y) → ((x : X) → P x → f x ≡ g x) → (xs : List X)
@@ -82,39 +78,27 @@ AreInstructions-push frames more entries entry are start count few = record {
   few = few;
 }
 
--- the strings with one more, whose name may be new
-pub texts-push : (names grown : List (List ℕ)) (numbers : List ℕ) (number : ℕ) (text : List ℕ)
-    → AreStrings names numbers → ((n : ℕ) → n ≤ length names → name_at grown n ≡ name_at names n)
-    → name_at grown number ≡ Some text → texts_of grown (numbers ++ number ∷ []) ≡ texts_of names numbers ++ text ∷ []
-texts-push names grown numbers number text are stay is =
-    let text_in = λ (all : List (List ℕ)) (n : ℕ). unwrap_or (name_at all n) [] in
-    let before =
-    map-agree (λ (n : ℕ). (0 < n) × (n ≤ length names)) (text_in grown) (text_in names)
-    (λ n held. ap (λ (found : Option (List ℕ)). unwrap_or found []) (stay n held.1)) numbers are.held in
-    map-append (text_in grown) numbers (number ∷ [])
-    ∙ ap (λ (xs : List (List ℕ)). xs ++ text_in grown number ∷ []) before
-    ∙ ap (λ (found : Option (List ℕ)). texts_of names numbers ++ unwrap_or found [] ∷ []) is
+-- a part of the texts stays the same when more are appended
+text-same : (bytes more : List ℕ) (span : TextSpan) → span.start + span.len ≤ length bytes → text_of (bytes ++ more) span ≡ text_of bytes span
+text-same bytes more span within =
+    let front = drop-append-le span.start bytes more (omega arith) in
+    let part = take-append-le span.len (drop span.start bytes) more (omega (arith, length-drop span.start bytes)) in
+    ap (take span.len) front ∙ part
 
-pub AreStrings-push : (names grown : List (List ℕ)) (numbers : List ℕ) (number : ℕ) → AreStrings names numbers
-    → length names ≤ length grown → length grown ≤ length names + 1 → 0 < number → number ≤ length grown
-    → length numbers < 2 ^ 32 - 1 → AreStrings grown (numbers ++ number ∷ [])
-AreStrings-push names grown numbers number are more one above held few = record {
-  held =
-      all-push (λ (n : ℕ). (0 < n) × (n ≤ length grown)) numbers number
-      (all-weaker (λ (n : ℕ). (0 < n) × (n ≤ length names)) (λ (n : ℕ). (0 < n) × (n ≤ length grown))
-      (λ n within. (within.0, omega (arith, within.1))) numbers are.held)
-      (above, held);
-  few_names = omega (arith, length-append numbers (number ∷ []));
-  few = omega (arith, length-append numbers (number ∷ []));
+-- the strings stay when bytes are appended
+pub texts-stay : (bytes more : List ℕ) (spans : List TextSpan) → AreStrings bytes spans → texts_of (bytes ++ more) spans ≡ texts_of bytes spans
+texts-stay bytes more spans are = map-agree (λ (span : TextSpan). span.start + span.len ≤ length bytes) (text_of (bytes ++ more)) (text_of bytes) (text-same bytes more) spans are.within
+
+-- the strings with one more, whose text is appended
+pub texts-push : (bytes text : List ℕ) (spans : List TextSpan) (span : TextSpan) → AreStrings bytes spans → span.start ≡ length bytes → span.len ≡ length text → texts_of (bytes ++ text) (spans ++ span ∷ []) ≡ texts_of bytes spans ++ text ∷ []
+texts-push bytes text spans span are start len =
+    let own : take span.len (drop span.start (bytes ++ text)) ≡ text = rw (len, start, drop-append_seam bytes text) (take-length text) in
+    map-append (text_of (bytes ++ text)) spans (span ∷ [])
+    ∙ ap (λ (texts : List (List ℕ)). texts ++ text_of (bytes ++ text) span ∷ []) (texts-stay bytes text spans are)
+    ∙ ap (λ (own : List ℕ). texts_of bytes spans ++ own ∷ []) own
+
+pub AreStrings-push : (bytes text : List ℕ) (spans : List TextSpan) (span : TextSpan) → AreStrings bytes spans → span.start ≡ length bytes → span.len ≡ length text → length spans < 2 ^ 32 - 1 → AreStrings (bytes ++ text) (spans ++ span ∷ [])
+AreStrings-push bytes text spans span are start len few = record {
+  within = all-push (λ (s : TextSpan). s.start + s.len ≤ length (bytes ++ text)) spans span (all-weaker (λ (s : TextSpan). s.start + s.len ≤ length bytes) (λ (s : TextSpan). s.start + s.len ≤ length (bytes ++ text)) (λ s within. omega (arith, length-append bytes text)) spans are.within) (omega (arith, length-append bytes text));
+  few = omega (arith, length-append spans (span ∷ []));
 }
-
--- a text that is interned makes at most one name more
-pub names-grow : (old new : List (List ℕ)) (text : List ℕ) (found : Option ℕ) (A : ℕ → Type 0)
-    → IfSome found (λ n. A n × (new ≡ old)) → IfNone found (new ≡ old ++ text ∷ [])
-    → (length old ≤ length new) × (length new ≤ length old + 1)
-names-grow old new text None A present added = (
-  omega (arith, ap length added, length-append old (text ∷ [])),
-  omega (arith, ap length added, length-append old (text ∷ [])),
-)
-names-grow old new text (Some n) A present added =
-    (omega (arith, ap length present.1), omega (arith, ap length present.1))

@@ -1,14 +1,17 @@
--- How the strings are kept: each as the number of its name, for private clauses.
-use Rattle.std.specs.Prelude.{ℕ, ◌-◌, ◌^◌, ◌<◌, ◌≤◌, List, [], length, map, unwrap_or}
+-- How the strings are kept: the texts of all in one list, of which each has a part, for private
+-- clauses.
+use Rattle.std.specs.Prelude.{ℕ, ◌+◌, ◌-◌, ◌^◌, ◌≤◌, List, length, map, take, drop}
 use Rattle.std.specs.List.{AllByRecursion}
-use Rattle.intern_tables.specs.Numbers.{name_at}
+use Rattle.ht_trace.specs.declared.strings.TextSpan.{TextSpan}
 
--- the names that the numbers name
-abbrev pub texts_of : List (List ℕ) → List ℕ → List (List ℕ)
-texts_of names numbers = map (λ number. unwrap_or (name_at names number) []) numbers
+-- the text of a string
+abbrev pub text_of : List ℕ → TextSpan → List ℕ
+text_of bytes span = take span.len (drop span.start bytes)
 
--- each number names a name, there are no more names than strings, and the strings aren't too many
-pub record AreStrings (names : List (List ℕ)) (numbers : List ℕ) : Type 0 where
-  pub held : AllByRecursion (λ number. (0 < number) × (number ≤ length names)) numbers
-  pub few_names : length names ≤ length numbers
-  pub few : length numbers ≤ 2 ^ 32 - 1
+abbrev pub texts_of : List ℕ → List TextSpan → List (List ℕ)
+texts_of bytes spans = map (text_of bytes) spans
+
+-- each part lies within the bytes, and the strings aren't too many
+pub record AreStrings (bytes : List ℕ) (spans : List TextSpan) : Type 0 where
+  pub within : AllByRecursion (λ span. span.start + span.len ≤ length bytes) spans
+  pub few : length spans ≤ 2 ^ 32 - 1

@@ -1,22 +1,29 @@
-//! The strings of a trace, by their numbers from 1. Each text is kept once, however many strings have it.
+//! The strings of a trace, by their numbers from 1: their texts stand one after another.
 ghost use Rattle.std.specs.Prelude.{◌≡◌, ℕ, ◌+◌, ◌-◌, ◌^◌, ◌<◌, ◌≤◌, List, [], ◌∷◌, ◌++◌, length, None, Some, IfErr, IfOk, OnOk, OnErr};
 ghost use Rattle.std.specs.Option.{option_copied};
 ghost use Rattle.ht_trace.specs.FrameText.{string_at};
 ghost use Rattle.ht_trace.specs.LineFault.{Tells, growth_fault, most_entries};
 
 use crate::error::LineError;
-use intern_tables::Names;
+use hp_num::put_bytes;
 use std::alloc::Global;
 use std::marker::Model;
 
 /// The most strings.
 const MAX_STRINGS: usize = u32::MAX as usize;
 
+/// Where the text of a string stands.
+#[derive(Clone, Copy)]
+pub struct TextSpan {
+    start: usize,
+    len: usize,
+}
+
 /// The strings. Contracts see it as the list of their texts.
 #[derive(Drop)]
 pub struct StringTable {
-    names: Names,
-    numbers: Vec<u32>,
+    bytes: Vec<u8>,
+    spans: Vec<TextSpan>,
 }
 
 impl Model for StringTable {
@@ -25,9 +32,9 @@ impl Model for StringTable {
 
     ghost Value = { List (List ℕ) };
 
-    ghost view = { λ table. texts_of table.names table.numbers.items };
+    ghost view = { λ table. texts_of table.bytes.items table.spans.items };
 
-    ghost invariant = { λ table. AreStrings table.names table.numbers.items };
+    ghost invariant = { λ table. AreStrings table.bytes.items table.spans.items };
 }
 
 impl StringTable {
@@ -36,8 +43,8 @@ impl StringTable {
         ensures empty { result ≡ [] }
     {
         StringTable {
-            names: Names::new(alloc),
-            numbers: Vec::new(alloc),
+            bytes: Vec::new(alloc),
+            spans: Vec::new(alloc),
         }
     }
 
@@ -49,12 +56,16 @@ impl StringTable {
             (λ error. Tells error (growth_fault (length self.old) most_entries)) }
         ensures unchanged { OnErr result (self.new ≡ self.old) }
     {
-        if self.numbers.len() == MAX_STRINGS {
+        if self.spans.len() == MAX_STRINGS {
             return Err(LineError::TooMany);
         }
-        self.numbers.reserve(1)?;
-        let number = self.names.intern(text)?;
-        self.numbers.push(number as u32)?;
+        self.spans.reserve(1)?;
+        let span = TextSpan {
+            start: self.bytes.len(),
+            len: text.len(),
+        };
+        put_bytes(&mut self.bytes, text)?;
+        self.spans.push(span)?;
         Ok(())
     }
 
@@ -63,14 +74,14 @@ impl StringTable {
         ensures { option_copied result ≡ string_at self.now n }
     {
         let place = n.checked_sub(1)?;
-        let number = *self.numbers.get(place as usize)?;
-        self.names.name(number as usize)
+        let span = *self.spans.get(place as usize)?;
+        Some(&self.bytes[span.start..span.start + span.len])
     }
 
     /// How many strings there are, which is the greatest number of a string.
     pub fn len(&self) -> u32
         ensures count { result ≡ length self.now }
     {
-        self.numbers.len() as u32
+        self.spans.len() as u32
     }
 }

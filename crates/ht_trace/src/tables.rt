@@ -34,7 +34,7 @@ use std::marker::Model;
 /// The tables of an interpreted trace: they stand for the lines that were read so far.
 ///
 /// Contracts see the file version, the lists of strings, instructions, nodes, infos and patterns, and the command.
-/// Memory grows with these lists and never with events; a text that comes as many strings is kept once.
+/// Memory grows with these lists and never with events.
 #[derive(Drop)]
 pub struct Tables {
     version: Option<u8>,
