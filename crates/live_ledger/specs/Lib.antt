@@ -16,3 +16,6 @@ pub mod Changes
 pub mod Sound
 pub mod Taken
 pub mod ByInfo
+pub mod ForEvents
+pub mod GrownLedger
+pub mod SumLaws

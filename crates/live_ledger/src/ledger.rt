@@ -1,13 +1,13 @@
 //! The ledger: the figures of a heap trace and of each of its stacks, kept up event by event. Those of the whole trace
 //! are the ledger of totals' part, and where the total was greatest is no part of it.
-ghost use Rattle.std.specs.Prelude.{◌≡◌, ℕ, ◌+◌, ◌-◌, ◌^◌, ◌<◌, ◌≤◌, List, [], ◌∷◌, ◌++◌, length, None, Some, slice_get, slice_index, IfNone, IfOk, IfSome, OnOk, OnErr, IsTrue};
+ghost use Rattle.std.specs.Prelude.{◌≡◌, ℕ, ◌+◌, ◌-◌, ◌^◌, ◌<◌, ◌≤◌, [], ◌++◌, length, None, Some, slice_get, slice_index, IfNone, IfOk, IfSome, OnOk, OnErr};
 ghost use Rattle.std.specs.Result.{result_err};
-ghost use Rattle.live_ledger.specs.declared.event.Event.{Event};
-ghost use Rattle.live_ledger.specs.Changes.{Allocates, Changes, Frees};
-ghost use Rattle.live_ledger.specs.Events.{IsTick, is_counted};
-ghost use Rattle.live_ledger.specs.Faults.{fault_at, fault_of};
+ghost use Rattle.live_ledger.specs.Changes.{Allocates, Frees};
+ghost use Rattle.live_ledger.specs.Faults.{fault_at};
+ghost use Rattle.live_ledger.specs.ForEvents.{GoesOn, GoesOnWith, TellsFault};
+ghost use Rattle.live_ledger.specs.GrownLedger.{answered_info, one_info, with_stack};
 ghost use Rattle.live_ledger.specs.InfoBlocks.{allocs_of};
-ghost use Rattle.live_ledger.specs.LedgerState.{IsHeld, figures_at, no_figures, without_figures};
+ghost use Rattle.live_ledger.specs.LedgerState.{IsHeld, figures_at, without_figures};
 ghost use Rattle.live_ledger.specs.Possible.{ArePossible};
 ghost use Rattle.live_ledger.specs.Sound.{IsSound};
 ghost use Rattle.live_ledger.specs.StandsFor.{AreFiguresOf, AreTotalsOf, StandsFor};
@@ -66,11 +66,9 @@ impl Ledger {
         requires { self.old.stacks < 2 ^ 32 - 1 }
         ensures number { IfOk result (λ number. number ≡ self.old.stacks) }
         ensures grown { OnOk result
-            (self.new ≡ record self.old
-            { stacks = self.old.stacks + 1; figures = self.old.figures ++ no_figures ∷ [] }) }
+            (self.new ≡ with_stack self.old) }
         ensures figures { (stack : ℕ) → figures_at self.new stack ≡ figures_at self.old stack }
-        ensures stands { (events : List Event) → StandsFor self.old events
-            → StandsFor self.new events }
+        ensures stands { GoesOn (StandsFor self.old) (StandsFor self.new) }
         ensures unchanged { OnErr result (self.new ≡ self.old) }
         ensures sound { IsSound self.new }
     {
@@ -87,14 +85,13 @@ impl Ledger {
         requires stack_held { stack < self.old.stacks }
         ensures number { IfOk result (λ number. number ≡ length self.old.infos) }
         ensures infos { OnOk result
-            (self.new.infos ≡ self.old.infos ++ record { stack = stack; size = size } ∷ []) }
+            (self.new.infos ≡ self.old.infos ++ one_info stack size) }
         ensures stacks { self.new.stacks ≡ self.old.stacks }
         ensures figures { self.new.figures ≡ self.old.figures }
         ensures totals { self.new.totals ≡ self.old.totals }
         ensures info_calls { (info : ℕ)
             → slice_index self.new.info_calls info ≡ slice_index self.old.info_calls info }
-        ensures stands { (events : List Event) → StandsFor self.old events
-            → StandsFor self.new events }
+        ensures stands { GoesOn (StandsFor self.old) (StandsFor self.new) }
         ensures unchanged { OnErr result (self.new ≡ self.old) }
         ensures sound { IsSound self.new }
     {
@@ -111,11 +108,8 @@ impl Ledger {
         requires held { IsHeld self.now event }
         requires count { self.now.totals.events < 2 ^ 32 }
         ensures by_figures { result_err result ≡ fault_at self.now event }
-        ensures fault { (events : List Event) → StandsFor self.now events
-            → result_err result ≡ fault_of events event }
-        ensures possible { OnOk result
-            ((events : List Event) → StandsFor self.now events
-            → ArePossible (events ++ event ∷ [])) }
+        ensures fault { TellsFault (StandsFor self.now) event result }
+        ensures possible { OnOk result (GoesOnWith event (StandsFor self.now) ArePossible) }
         ensures sound { IsSound self.now }
     {
         self.whole.check(event)
@@ -131,18 +125,8 @@ impl Ledger {
         requires held { IsHeld self.old event }
         requires count { self.old.totals.events < 2 ^ 32 }
         ensures by_figures { result_err result ≡ fault_at self.old event }
-        ensures fault { (events : List Event) → StandsFor self.old events
-            → result_err result ≡ fault_of events event }
-        ensures stands { OnOk result
-            ((events : List Event) → StandsFor self.old events
-            → StandsFor self.new (events ++ event ∷ [])) }
-        ensures changes { OnOk result (Changes self.old self.new event) }
-        ensures counted { IsTrue (is_counted event)
-            → OnOk result (self.new.totals.events ≡ self.old.totals.events + 1) }
-        ensures at_most_one_more { self.new.totals.events ≤ self.old.totals.events + 1 }
-        ensures stacks { self.new.stacks ≡ self.old.stacks }
-        ensures infos { self.new.infos ≡ self.old.infos }
-        ensures tick { IsTick event → self.new ≡ self.old }
+        ensures fault { TellsFault (StandsFor self.old) event result }
+        ensures taken { OnOk result (HasTaken self.old self.new event) }
         ensures unchanged { OnErr result (self.new ≡ self.old) }
         ensures sound { IsSound self.new }
     {
@@ -200,8 +184,7 @@ impl Ledger {
     /// The figures of all stacks together.
     pub fn totals(&self) -> Totals
         ensures value { result ≡ self.now.totals }
-        ensures figures { (events : List Event) → StandsFor self.now events
-            → AreTotalsOf result events }
+        ensures figures { GoesOn (StandsFor self.now) (AreTotalsOf result) }
         ensures sound { IsSound self.now }
     {
         self.whole.totals()
@@ -211,8 +194,7 @@ impl Ledger {
     pub fn stack(&self, stack: u32) -> Figures
         requires { stack < self.now.stacks }
         ensures value { result ≡ figures_at self.now stack }
-        ensures figures { (events : List Event) → StandsFor self.now events
-            → AreFiguresOf result stack events }
+        ensures figures { GoesOn (StandsFor self.now) (AreFiguresOf result stack) }
         ensures sound { IsSound self.now }
     {
         self.stacks[stack as usize].figures()
@@ -222,8 +204,7 @@ impl Ledger {
     pub fn info_calls(&self, info: u32) -> u64
         requires { info < length self.now.infos }
         ensures value { result ≡ slice_index self.now.info_calls info }
-        ensures calls { (events : List Event) → StandsFor self.now events
-            → result ≡ allocs_of info events }
+        ensures calls { GoesOn (StandsFor self.now) (λ events. result ≡ allocs_of info events) }
         ensures within { result ≤ self.now.totals.calls }
     {
         self.whole.info_calls(info)
@@ -233,7 +214,7 @@ impl Ledger {
     pub fn info(&self, n: u32) -> Option<(u64, u32)>
         ensures none { IfNone result (length self.now.infos ≤ n) }
         ensures some { IfSome result
-            (λ info. slice_get self.now.infos n ≡ Some (record { stack = info.1; size = info.0 })) }
+            (λ info. slice_get self.now.infos n ≡ Some (answered_info info)) }
         ensures stack_held { IfSome result (λ info. info.1 < self.now.stacks) }
     {
         self.whole.info(n)

@@ -1,11 +1,12 @@
 //! The ledger of totals: the figures of a whole heap trace, and the blocks of each info, kept up event by event. The
 //! figures of stacks are no part of it.
-ghost use Rattle.std.specs.Prelude.{◌≡◌, ℕ, ◌+◌, ◌-◌, ◌^◌, ◌<◌, ◌≤◌, List, [], ◌∷◌, ◌++◌, length, Some, map, slice_get, slice_index, IfNone, IfOk, IfSome, OnOk, OnErr};
+ghost use Rattle.std.specs.Prelude.{◌≡◌, ℕ, ◌+◌, ◌-◌, ◌^◌, ◌<◌, ◌≤◌, [], length, Some, map, slice_get, slice_index, IfNone, IfOk, IfSome, OnOk, OnErr};
 ghost use Rattle.std.specs.Result.{result_err};
-ghost use Rattle.live_ledger.specs.declared.event.Event.{Event};
 ghost use Rattle.live_ledger.specs.Changes.{ended_by_free};
 ghost use Rattle.live_ledger.specs.Consistent.{info_of};
-ghost use Rattle.live_ledger.specs.Faults.{fault_at, fault_of};
+ghost use Rattle.live_ledger.specs.Faults.{fault_at};
+ghost use Rattle.live_ledger.specs.ForEvents.{GoesOn, GoesOnWith, TellsFault};
+ghost use Rattle.live_ledger.specs.GrownLedger.{answered_info};
 ghost use Rattle.live_ledger.specs.InfoBlocks.{allocs_of};
 ghost use Rattle.live_ledger.specs.LedgerState.{IsHeld};
 ghost use Rattle.live_ledger.specs.Possible.{ArePossible};
@@ -78,8 +79,7 @@ impl TotalsLedger {
     pub fn grow_stack(&mut self)
         requires { self.old.stacks < 2 ^ 32 - 1 }
         ensures grown { self.new ≡ with_stack self.old }
-        ensures stands { (events : List Event) → HasTotals (ledger_of self.old) events
-            → HasTotals (ledger_of self.new) events }
+        ensures stands { GoesOn (HasTotals (ledger_of self.old)) (HasTotals (ledger_of self.new)) }
         ensures sound { IsKept self.new }
     {
         self.stacks += 1;
@@ -92,8 +92,7 @@ impl TotalsLedger {
         requires stack_held { stack < self.old.stacks }
         ensures number { IfOk result (λ number. number ≡ length self.old.infos) }
         ensures grown { OnOk result (self.new ≡ with_info self.old stack size) }
-        ensures stands { (events : List Event) → HasTotals (ledger_of self.old) events
-            → HasTotals (ledger_of self.new) events }
+        ensures stands { GoesOn (HasTotals (ledger_of self.old)) (HasTotals (ledger_of self.new)) }
         ensures unchanged { OnErr result (self.new ≡ self.old) }
         ensures sound { IsKept self.new }
     {
@@ -115,11 +114,9 @@ impl TotalsLedger {
     pub fn check(&self, event: Event) -> Result<(), EventFault>
         requires held { IsHeld (ledger_of self.now) event }
         ensures by_figures { result_err result ≡ fault_at (ledger_of self.now) event }
-        ensures fault { (events : List Event) → HasTotals (ledger_of self.now) events
-            → result_err result ≡ fault_of events event }
+        ensures fault { TellsFault (HasTotals (ledger_of self.now)) event result }
         ensures possible { OnOk result
-            ((events : List Event) → HasTotals (ledger_of self.now) events
-            → ArePossible (events ++ event ∷ [])) }
+            (GoesOnWith event (HasTotals (ledger_of self.now)) ArePossible) }
         ensures sound { IsKept self.now }
     {
         match event {
@@ -149,11 +146,9 @@ impl TotalsLedger {
     pub fn apply(&mut self, event: Event) -> Result<(), EventFault>
         requires held { IsHeld (ledger_of self.old) event }
         requires count { (ledger_of self.old).totals.events < 2 ^ 32 }
-        ensures fault { (events : List Event) → HasTotals (ledger_of self.old) events
-            → result_err result ≡ fault_of events event }
+        ensures fault { TellsFault (HasTotals (ledger_of self.old)) event result }
         ensures stands { OnOk result
-            ((events : List Event) → HasTotals (ledger_of self.old) events
-            → HasTotals (ledger_of self.new) (events ++ event ∷ [])) }
+            (GoesOnWith event (HasTotals (ledger_of self.old)) (HasTotals (ledger_of self.new))) }
         ensures after { OnOk result (self.new ≡ state_after self.old event) }
         ensures infos { (ledger_of self.new).infos ≡ (ledger_of self.old).infos }
         ensures unchanged { OnErr result (self.new ≡ self.old) }
@@ -204,8 +199,7 @@ impl TotalsLedger {
     /// The figures of the whole trace.
     pub fn totals(&self) -> Totals
         ensures value { result ≡ (ledger_of self.now).totals }
-        ensures figures { (events : List Event) → HasTotals (ledger_of self.now) events
-            → AreTotalsOf result events }
+        ensures figures { GoesOn (HasTotals (ledger_of self.now)) (AreTotalsOf result) }
         ensures sound { IsKept self.now }
     {
         self.sums.totals()
@@ -215,8 +209,8 @@ impl TotalsLedger {
     pub fn info_calls(&self, info: u32) -> u64
         requires { info < length self.now.infos }
         ensures value { result ≡ slice_index (ledger_of self.now).info_calls info }
-        ensures calls { (events : List Event) → HasTotals (ledger_of self.now) events
-            → result ≡ allocs_of info events }
+        ensures calls { GoesOn (HasTotals (ledger_of self.now))
+            (λ events. result ≡ allocs_of info events) }
         ensures within { result ≤ (ledger_of self.now).totals.calls }
     {
         self.infos[info as usize].calls
@@ -225,8 +219,8 @@ impl TotalsLedger {
     /// The size in bytes and the stack of an info; `None` exactly where there is no such info.
     pub fn info(&self, n: u32) -> Option<(u64, u32)>
         ensures none { IfNone result (length self.now.infos ≤ n) }
-        ensures some { IfSome result (λ info. slice_get (map info_of self.now.infos) n
-            ≡ Some (record { stack = info.1; size = info.0 })) }
+        ensures some { IfSome result
+            (λ info. slice_get (map info_of self.now.infos) n ≡ Some (answered_info info)) }
         ensures stack_held { IfSome result (λ info. info.1 < self.now.stacks) }
     {
         match self.infos.get(n as usize) {

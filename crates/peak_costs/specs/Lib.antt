@@ -6,3 +6,4 @@ pub mod Kept
 pub mod PeakTotals
 pub mod FirstGreatest
 pub mod Totals
+pub mod IsShare

@@ -1,8 +1,7 @@
 //! The totals of a heap trace with their peak, and no figure of a stack.
-ghost use Rattle.std.specs.Prelude.{◌≡◌, ℕ, ◌+◌, ◌-◌, ◌^◌, ◌<◌, ◌≤◌, List, [], ◌∷◌, ◌++◌, length, IfOk, OnOk, OnErr};
-ghost use Rattle.std.specs.Result.{result_err};
-ghost use Rattle.live_ledger.specs.declared.event.Event.{Event};
-ghost use Rattle.live_ledger.specs.Faults.{fault_of};
+ghost use Rattle.std.specs.Prelude.{◌≡◌, ℕ, ◌+◌, ◌-◌, ◌^◌, ◌<◌, ◌≤◌, [], ◌++◌, length, IfOk, OnOk, OnErr};
+ghost use Rattle.live_ledger.specs.ForEvents.{GoesOn, GoesOnWith, TellsFault};
+ghost use Rattle.live_ledger.specs.GrownLedger.{one_info};
 ghost use Rattle.live_ledger.specs.LedgerState.{IsHeld};
 ghost use Rattle.live_ledger.specs.TotalsState.{ledger_of};
 ghost use Rattle.peak_costs.specs.Peak.{IsPeak, total_after};
@@ -48,8 +47,7 @@ impl PeakTotals {
     pub fn grow_stack(&mut self)
         requires { self.old.ledger.stacks < 2 ^ 32 - 1 }
         ensures grown { self.new ≡ with_stack self.old }
-        ensures stands { (events : List Event) → StandsFor self.old events
-            → StandsFor self.new events }
+        ensures stands { GoesOn (StandsFor self.old) (StandsFor self.new) }
     {
         self.ledger.grow_stack();
     }
@@ -60,12 +58,10 @@ impl PeakTotals {
         requires stack_held { stack < self.old.ledger.stacks }
         ensures number { IfOk result (λ number. number ≡ length self.old.ledger.infos) }
         ensures infos { OnOk result
-            (self.new.ledger.infos
-            ≡ self.old.ledger.infos ++ record { stack = stack; size = size } ∷ []) }
+            (self.new.ledger.infos ≡ self.old.ledger.infos ++ one_info stack size) }
         ensures stacks { self.new.ledger.stacks ≡ self.old.ledger.stacks }
         ensures totals { self.new.ledger.totals ≡ self.old.ledger.totals }
-        ensures stands { (events : List Event) → StandsFor self.old events
-            → StandsFor self.new events }
+        ensures stands { GoesOn (StandsFor self.old) (StandsFor self.new) }
         ensures unchanged { OnErr result (self.new ≡ self.old) }
     {
         let number = self.ledger.grow_info(stack, size)?;
@@ -80,11 +76,9 @@ impl PeakTotals {
     pub fn apply(&mut self, event: Event) -> Result<(), EventFault>
         requires held { IsHeld self.old.ledger event }
         requires count { self.old.ledger.totals.events < 2 ^ 32 }
-        ensures fault { (events : List Event) → StandsFor self.old events
-            → result_err result ≡ fault_of events event }
+        ensures fault { TellsFault (StandsFor self.old) event result }
         ensures stands { OnOk result
-            ((events : List Event) → StandsFor self.old events
-            → StandsFor self.new (events ++ event ∷ [])) }
+            (GoesOnWith event (StandsFor self.old) (StandsFor self.new)) }
         ensures at_most_one_more { self.new.ledger.totals.events
             ≤ self.old.ledger.totals.events + 1 }
         ensures stacks { self.new.ledger.stacks ≡ self.old.ledger.stacks }
@@ -113,8 +107,8 @@ impl PeakTotals {
 
     /// The greatest total, in bytes.
     pub fn peak_total(&self) -> u64
-        ensures total { (events : List Event) → StandsFor self.now events
-            → result ≡ total_after self.now.moment events }
+        ensures total { GoesOn (StandsFor self.now)
+            (λ events. result ≡ total_after self.now.moment events) }
     {
         self.mark.total
     }
@@ -122,7 +116,7 @@ impl PeakTotals {
     /// The least number of events after which the total is greatest.
     pub fn peak_moment(&self) -> u64
         ensures value { result ≡ self.now.moment }
-        ensures peak { (events : List Event) → StandsFor self.now events → IsPeak result events }
+        ensures peak { GoesOn (StandsFor self.now) (IsPeak result) }
     {
         self.mark.moment
     }

@@ -1,13 +1,15 @@
 //! Peaks: a ledger, and beside it the peak of its total with each stack's share, which no new peak copies.
-ghost use Rattle.std.specs.Prelude.{◌≡◌, ℕ, ◌+◌, ◌-◌, ◌^◌, ◌<◌, ◌≤◌, List, [], ◌∷◌, ◌++◌, length, slice_index, IfOk, OnOk, OnErr};
+ghost use Rattle.std.specs.Prelude.{◌≡◌, ℕ, ◌+◌, ◌-◌, ◌^◌, ◌<◌, ◌≤◌, [], ◌++◌, length, slice_index, IfOk, OnOk, OnErr};
 ghost use Rattle.std.specs.Result.{result_err};
-ghost use Rattle.live_ledger.specs.declared.event.Event.{Event};
 ghost use Rattle.live_ledger.specs.Changes.{Changes};
 ghost use Rattle.live_ledger.specs.Events.{IsTick};
-ghost use Rattle.live_ledger.specs.Faults.{fault_at, fault_of};
+ghost use Rattle.live_ledger.specs.Faults.{fault_at};
+ghost use Rattle.live_ledger.specs.ForEvents.{GoesOn, GoesOnWith, TellsFault};
+ghost use Rattle.live_ledger.specs.GrownLedger.{one_info};
 ghost use Rattle.live_ledger.specs.LedgerState.{IsHeld};
 ghost use Rattle.live_ledger.specs.InStack.{blocks_in, live_in};
-ghost use Rattle.peak_costs.specs.Peak.{IsIn, IsPeak, StandsFor, first_events, total_after};
+ghost use Rattle.peak_costs.specs.IsShare.{IsShare};
+ghost use Rattle.peak_costs.specs.Peak.{IsIn, IsPeak, StandsFor, total_after};
 ghost use Rattle.peak_costs.specs.PeakState.{IsSound, with_stack};
 
 #[cfg(test)]
@@ -75,8 +77,7 @@ impl Peaks {
         requires { self.old.ledger.stacks < 2 ^ 32 - 1 }
         ensures number { IfOk result (λ number. number ≡ self.old.ledger.stacks) }
         ensures grown { OnOk result (self.new ≡ with_stack self.old) }
-        ensures stands { (events : List Event) → StandsFor self.old events
-            → StandsFor self.new events }
+        ensures stands { GoesOn (StandsFor self.old) (StandsFor self.new) }
         ensures unchanged { OnErr result (self.new ≡ self.old) }
     {
         let stacks = self.ledger.stacks();
@@ -93,12 +94,10 @@ impl Peaks {
         requires stack_held { stack < self.old.ledger.stacks }
         ensures number { IfOk result (λ number. number ≡ length self.old.ledger.infos) }
         ensures infos { OnOk result
-            (self.new.ledger.infos
-            ≡ self.old.ledger.infos ++ record { stack = stack; size = size } ∷ []) }
+            (self.new.ledger.infos ≡ self.old.ledger.infos ++ one_info stack size) }
         ensures stacks { self.new.ledger.stacks ≡ self.old.ledger.stacks }
         ensures totals { self.new.ledger.totals ≡ self.old.ledger.totals }
-        ensures stands { (events : List Event) → StandsFor self.old events
-            → StandsFor self.new events }
+        ensures stands { GoesOn (StandsFor self.old) (StandsFor self.new) }
         ensures unchanged { OnErr result (self.new ≡ self.old) }
     {
         self.ledger.grow_info(stack, size)
@@ -118,11 +117,9 @@ impl Peaks {
         requires held { IsHeld self.old.ledger event }
         requires count { self.old.ledger.totals.events < 2 ^ 32 }
         ensures by_figures { result_err result ≡ fault_at self.old.ledger event }
-        ensures fault { (events : List Event) → StandsFor self.old events
-            → result_err result ≡ fault_of events event }
+        ensures fault { TellsFault (StandsFor self.old) event result }
         ensures stands { OnOk result
-            ((events : List Event) → StandsFor self.old events
-            → StandsFor self.new (events ++ event ∷ [])) }
+            (GoesOnWith event (StandsFor self.old) (StandsFor self.new)) }
         ensures changes { OnOk result (Changes self.old.ledger self.new.ledger event) }
         ensures at_most_one_more { self.new.ledger.totals.events
             ≤ self.old.ledger.totals.events + 1 }
@@ -155,11 +152,9 @@ impl Peaks {
         requires count { self.old.ledger.totals.events < 2 ^ 32 }
         requires own { IsIn stack event }
         ensures by_figures { result_err result ≡ fault_at self.old.ledger event }
-        ensures fault { (events : List Event) → StandsFor self.old events
-            → result_err result ≡ fault_of events event }
+        ensures fault { TellsFault (StandsFor self.old) event result }
         ensures stands { OnOk result
-            ((events : List Event) → StandsFor self.old events
-            → StandsFor self.new (events ++ event ∷ [])) }
+            (GoesOnWith event (StandsFor self.old) (StandsFor self.new)) }
         ensures changes { OnOk result (Changes self.old.ledger self.new.ledger event) }
         ensures at_most_one_more { self.new.ledger.totals.events
             ≤ self.old.ledger.totals.events + 1 }
@@ -199,8 +194,8 @@ impl Peaks {
     /// The greatest total, in bytes.
     pub fn peak_total(&self) -> u64
         ensures value { result ≡ self.now.total }
-        ensures total { (events : List Event) → StandsFor self.now events
-            → result ≡ total_after self.now.moment events }
+        ensures total { GoesOn (StandsFor self.now)
+            (λ events. result ≡ total_after self.now.moment events) }
         ensures sound { IsSound self.now }
     {
         self.mark.total
@@ -209,7 +204,7 @@ impl Peaks {
     /// The least number of events after which the total is greatest.
     pub fn peak_moment(&self) -> u64
         ensures value { result ≡ self.now.moment }
-        ensures peak { (events : List Event) → StandsFor self.now events → IsPeak result events }
+        ensures peak { GoesOn (StandsFor self.now) (IsPeak result) }
         ensures sound { IsSound self.now }
     {
         self.mark.moment
@@ -219,8 +214,7 @@ impl Peaks {
     pub fn peak_of(&self, stack: u32) -> u64
         requires { stack < self.now.ledger.stacks }
         ensures value { result ≡ slice_index self.now.shares stack }
-        ensures share { (events : List Event) → StandsFor self.now events
-            → result ≡ live_in stack (first_events self.now.moment events) }
+        ensures share { IsShare live_in stack self.now result }
         ensures within { result ≤ self.now.total }
     {
         if self.stamps.at(stack) == self.mark.counter {
@@ -234,8 +228,7 @@ impl Peaks {
     pub fn peak_blocks_of(&self, stack: u32) -> u64
         requires { stack < self.now.ledger.stacks }
         ensures value { result ≡ slice_index self.now.block_shares stack }
-        ensures share { (events : List Event) → StandsFor self.now events
-            → result ≡ blocks_in stack (first_events self.now.moment events) }
+        ensures share { IsShare blocks_in stack self.now result }
     {
         if self.stamps.at(stack) == self.mark.counter {
             self.blocks.at(stack)

@@ -12,7 +12,7 @@ returns-in_err-apply-2-clause-sound g c =
 
 pub follow-requires-clause-freed : goal.follow-requires-clause-freed
 follow-requires-clause-freed g c =
-    freed-within _ _ c.args.event _ c.in_ok-apply.ensures.changes c.self.invariant.live_within
+    freed-within _ _ c.args.event _ c.in_ok-apply.ensures.taken.changes c.self.invariant.live_within
 
 pub invariant_of-self-then-has : goal.invariant_of-self-then-has
 invariant_of-self-then-has g c =
@@ -20,7 +20,7 @@ invariant_of-self-then-has g c =
     let is = sym c.has.ensures ∙ c.if-has.true in
     let moved =
     marked-moved _ _ _ _ _ _ c.args.event c.args.stack c.self.invariant.kept c.in_ok-apply.ensures.sound
-    c.in_ok-apply.ensures.changes c.requires.own held in
+    c.in_ok-apply.ensures.taken.changes c.requires.own held in
     rw c.follow.ensures (rw is at moved)
 
 pub returns-then-has-clause-stands : goal.returns-then-has-clause-stands
@@ -30,7 +30,7 @@ returns-then-has-clause-stands g c =
     rw (← c.self.view_is, c.follow.ensures)
     (λ events stands. rw is at
     (stands-event _ _ _ _ _ _ c.args.stack events c.args.event c.self.invariant.kept c.in_ok-apply.ensures.sound
-    c.in_ok-apply.ensures.changes c.requires.own held stands (c.in_ok-apply.ensures.stands events stands.ledger)))
+    c.in_ok-apply.ensures.taken.changes c.requires.own held stands (c.in_ok-apply.ensures.taken.stands events stands.ledger)))
 
 pub returns-then-has-clause-sound : goal.returns-then-has-clause-sound
 returns-then-has-clause-sound g c =
@@ -39,12 +39,12 @@ returns-then-has-clause-sound g c =
     let moved =
     sound-of _ _ _ _ _
     (kept-moved _ _ _ _ _ _ c.args.event c.args.stack c.self.invariant.kept c.in_ok-apply.ensures.sound
-    c.in_ok-apply.ensures.changes c.requires.own held) in
+    c.in_ok-apply.ensures.taken.changes c.requires.own held) in
     rw c.follow.ensures (rw is at moved)
 
 pub follow-requires-2-clause-freed : goal.follow-requires-2-clause-freed
 follow-requires-2-clause-freed g c =
-    freed-within _ _ c.args.event _ c.in_ok-apply-2.ensures.changes c.self.invariant.live_within
+    freed-within _ _ c.args.event _ c.in_ok-apply-2.ensures.taken.changes c.self.invariant.live_within
 
 pub invariant_of-self-2 : goal.invariant_of-self-2
 invariant_of-self-2 g c =
@@ -52,7 +52,7 @@ invariant_of-self-2 g c =
     let is = sym c.has.ensures ∙ c.if-has.false in
     let moved =
     marked-moved _ _ _ _ _ _ c.args.event c.args.stack c.self.invariant.kept c.in_ok-apply-2.ensures.sound
-    c.in_ok-apply-2.ensures.changes c.requires.own held in
+    c.in_ok-apply-2.ensures.taken.changes c.requires.own held in
     rw (
       c.save.ensures.saved,
       c.save.ensures.blocks,
@@ -75,8 +75,8 @@ returns-clause-stands g c =
     )
     (λ events stands.
     rw is at (stands-event _ _ _ _ _ _ c.args.stack events c.args.event c.self.invariant.kept
-    c.in_ok-apply-2.ensures.sound c.in_ok-apply-2.ensures.changes c.requires.own held stands
-    (c.in_ok-apply-2.ensures.stands events stands.ledger)))
+    c.in_ok-apply-2.ensures.sound c.in_ok-apply-2.ensures.taken.changes c.requires.own held stands
+    (c.in_ok-apply-2.ensures.taken.stands events stands.ledger)))
 
 pub returns-clause-sound : goal.returns-clause-sound
 returns-clause-sound g c =
@@ -85,7 +85,7 @@ returns-clause-sound g c =
     let moved =
     sound-of _ _ _ _ _
     (kept-moved _ _ _ _ _ _ c.args.event c.args.stack c.self.invariant.kept c.in_ok-apply-2.ensures.sound
-    c.in_ok-apply-2.ensures.changes c.requires.own held) in
+    c.in_ok-apply-2.ensures.taken.changes c.requires.own held) in
     rw (
       c.save.ensures.saved,
       c.save.ensures.blocks,
