@@ -26,3 +26,7 @@ pub mod KeepsFrames
 pub mod StringEntries
 pub mod InstructionEntries
 pub mod VersionLines
+pub mod LineAnswers
+pub mod SaidFrames
+pub mod CallAnswers
+pub mod VersionAnswers

@@ -3,7 +3,8 @@
 
 ghost use Rattle.std.specs.Prelude.{◌≡◌, ℕ, List, [], ◌++◌, length, OnOk, OnErr};
 ghost use Rattle.hp_num.specs.Extends.{Extends};
-ghost use Rattle.ht_trace.specs.FrameText.{address_text, found_text, frame_at, name_text, place_text, text_at, text_of};
+ghost use Rattle.ht_trace.specs.CallAnswers.{text_among};
+ghost use Rattle.ht_trace.specs.FrameText.{address_text, found_text, name_text, place_text, text_at, text_of};
 
 use crate::frame::{FrameAt, FrameFound, Style};
 use crate::instructions::InstructionTable;
@@ -19,8 +20,7 @@ pub fn put_text(
     out: &mut Vec<u8>,
 ) -> Result<(), NoMemory>
     ensures appended { OnOk result
-        (out.new.items ≡ out.old.items
-        ++ text_of style strings.now at.now.index (frame_at instructions.now at.now)) }
+        (out.new.items ≡ out.old.items ++ text_among style strings.now instructions.now at.now) }
     ensures unchanged { OnErr result (out.new.items ≡ out.old.items) }
 {
     let start = out.len();

@@ -1,6 +1,7 @@
 //! The infos of a trace, by their numbers from 0: a size, and the stack that allocates blocks of that size.
 ghost use Rattle.std.specs.Prelude.{◌≡◌, ℕ, ◌+◌, ◌-◌, ◌^◌, ◌<◌, ◌≤◌, List, [], ◌∷◌, ◌++◌, length, None, Some, IfErr, IfNone, IfSome, OnOk, OnErr, slice_get};
 ghost use Rattle.live_ledger.specs.LedgerState.{HeldInfo};
+ghost use Rattle.ht_trace.specs.Entries.{held_info};
 ghost use Rattle.ht_trace.specs.LineFault.{Tells, growth_fault, most_entries};
 
 use crate::error::LineError;
@@ -65,8 +66,7 @@ impl InfoTable {
     pub fn get(&self, n: u64) -> Option<InfoEntry>
         ensures none { IfNone result (slice_get self.now n ≡ None) }
         ensures some { IfSome result
-            (λ entry. slice_get self.now n
-            ≡ Some (record { stack = entry.stack; size = entry.size })) }
+            (λ entry. slice_get self.now n ≡ Some (held_info entry)) }
         ensures past { IfNone result (length self.now ≤ n) }
         ensures held { IfSome result (λ entry. n < length self.now) }
         ensures small { IfSome result (λ entry. n < 2 ^ 32 - 1) }

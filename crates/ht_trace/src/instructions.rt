@@ -1,12 +1,12 @@
 //! The instructions of a trace, by their numbers from 1, with their frames.
 //! How the frames stand in a line is the part of `push_frames`.
 ghost use Rattle.std.specs.Prelude.{◌≡◌, ℕ, ◌+◌, ◌-◌, ◌^◌, ◌<◌, ◌≤◌, List, [], ◌∷◌, ◌++◌, length, take, None, Some, IfErr, IfOk, IfSome, OnOk, OnErr};
-ghost use Rattle.ht_lines.specs.Fields.{fields, numbers};
+ghost use Rattle.ht_lines.specs.Fields.{fields};
 ghost use Rattle.ht_trace.specs.FrameText.{frame_at};
-ghost use Rattle.ht_trace.specs.FramesSaid.{frames_said};
 ghost use Rattle.ht_trace.specs.Instruction.{Instruction, frame_count_of};
 ghost use Rattle.ht_trace.specs.KeepsFrames.{KeepsFrames};
-ghost use Rattle.ht_trace.specs.LineFault.{Tells, append_fault, instruction_fault};
+ghost use Rattle.ht_trace.specs.LineFault.{Tells};
+ghost use Rattle.ht_trace.specs.SaidFrames.{frames_fault, tail_entry, tail_fault, tail_frames, tail_instruction};
 
 use crate::error::LineError;
 use crate::frame::{Frame, FrameAt, FrameFound};
@@ -71,19 +71,11 @@ impl InstructionTable {
     ) -> Result<(), LineError>
         requires { length (fields tail.now) + 2 ≡ field_count }
         ensures added { OnOk result
-            (self.new ≡ self.old
-            ++ record {
-              ip = ip;
-              module_string = module_string;
-              frames = frames_said (numbers tail.now);
-            } ∷ []) }
+            (self.new ≡ self.old ++ tail_instruction ip module_string tail.now ∷ []) }
         ensures no_fault { OnOk result
-            (instruction_fault strings (length self.old) module_string
-            (frames_said (numbers tail.now)) ≡ None) }
+            (tail_fault strings (length self.old) module_string tail.now ≡ None) }
         ensures fault { IfErr result
-            (λ error. Tells error
-            (instruction_fault strings (length self.old) module_string
-            (frames_said (numbers tail.now)))) }
+            (λ error. Tells error (tail_fault strings (length self.old) module_string tail.now)) }
         ensures unchanged { OnErr result (self.new ≡ self.old) }
     {
         if module_string > u64::from(strings) {
@@ -158,21 +150,14 @@ fn append(
     requires whole { length (fields tail.now) + 2 ≡ field_count }
     requires few { length entries.old.items ≤ 2 ^ 32 - 1 }
     ensures frames { OnOk result
-        (frames.new.items ≡ frames.old.items ++ frames_said (numbers tail.now)) }
+        (frames.new.items ≡ frames.old.items ++ tail_frames tail.now) }
     ensures entry { OnOk result
-        (entries.new.items ≡ entries.old.items
-        ++ record {
-          ip = front.ip;
-          start = length frames.old.items;
-          count = length (frames_said (numbers tail.now));
-          module_string = front.module_string;
-        } ∷ []) }
+        (entries.new.items ≡ entries.old.items ++ tail_entry front frames.old.items tail.now ∷ []) }
     ensures few { OnOk result (length entries.new.items ≤ 2 ^ 32 - 1) }
     ensures no_fault { OnOk result
-        (append_fault strings (length entries.old.items) (frames_said (numbers tail.now)) ≡ None) }
+        (frames_fault strings (length entries.old.items) tail.now ≡ None) }
     ensures fault { IfErr result
-        (λ error. Tells error
-        (append_fault strings (length entries.old.items) (frames_said (numbers tail.now)))) }
+        (λ error. Tells error (frames_fault strings (length entries.old.items) tail.now)) }
     ensures unchanged { OnErr result (entries.new.items ≡ entries.old.items) }
     ensures kept { KeepsFrames frames.old.items frames.new.items }
 {

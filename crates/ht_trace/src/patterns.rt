@@ -1,6 +1,7 @@
 //! The patterns of suppressions, by their numbers from 1. What they suppress is no part of it.
-ghost use Rattle.std.specs.Prelude.{◌≡◌, ◌↔◌, ◌⊎◌, ◌-◌, ◌^◌, ◌≤◌, [], ◌++◌, length, None, Some, Err, IfErr, OnOk, OnErr};
+ghost use Rattle.std.specs.Prelude.{◌≡◌, ◌↔◌, ◌⊎◌, ◌-◌, ◌^◌, ◌≤◌, [], ◌++◌, length, None, Err, IfErr, OnOk, OnErr};
 ghost use Rattle.std.specs.Option.{option_copied, option_to_list};
+ghost use Rattle.ht_trace.specs.LineAnswers.{HasNoRoom};
 ghost use Rattle.ht_trace.specs.LineFault.{Tells, pattern_fault};
 ghost use Rattle.ht_trace.specs.Pattern.{pattern_at, pattern_of};
 
@@ -50,7 +51,7 @@ impl PatternTable {
         ensures fault { IfErr result
             (λ error. Tells error (pattern_fault (length self.old) text.now)) }
         ensures too_many { (result ≡ Err LineError.TooMany)
-            ↔ (pattern_fault (length self.old) text.now ≡ Some LineError.TooMany) }
+            ↔ HasNoRoom (length self.old) text.now }
         ensures only { IfErr result
             (λ error. (error ≡ LineError.TooMany) ⊎ (error ≡ LineError.NoMemory)) }
         ensures unchanged { OnErr result (self.new ≡ self.old) }

@@ -1,10 +1,10 @@
 //! The frames of an instruction line, read from the numbers after its module in one walk.
 //! Which frames are an instruction's own, once they are held, is the part of `instructions`.
 ghost use Rattle.std.specs.Prelude.{◌≡◌, ℕ, ◌+◌, ◌^◌, ◌<◌, ◌≤◌, List, [], ◌∷◌, ◌++◌, length, None, Some, IfErr, IfNone, IfSome, OnOk};
-ghost use Rattle.ht_lines.specs.Fields.{fields, numbers};
-ghost use Rattle.ht_trace.specs.FramesSaid.{frames_said, triples};
+ghost use Rattle.ht_lines.specs.Fields.{fields};
 ghost use Rattle.ht_trace.specs.KeepsFrames.{KeepsFrames};
 ghost use Rattle.ht_trace.specs.LineFault.{Tells, held_fault};
+ghost use Rattle.ht_trace.specs.SaidFrames.{frame_said, tail_frames, tail_triples};
 
 use crate::error::LineError;
 use crate::frame::Frame;
@@ -31,10 +31,10 @@ pub fn push_frames(
 ) -> Result<(), LineError>
     requires { length (fields tail.now) + 2 ≡ field_count }
     ensures appended { OnOk result
-        (frames.new.items ≡ frames.old.items ++ frames_said (numbers tail.now)) }
-    ensures no_fault { OnOk result (held_fault strings (frames_said (numbers tail.now)) ≡ None) }
+        (frames.new.items ≡ frames.old.items ++ tail_frames tail.now) }
+    ensures no_fault { OnOk result (held_fault strings (tail_frames tail.now) ≡ None) }
     ensures fault { IfErr result
-        (λ error. Tells error (held_fault strings (frames_said (numbers tail.now)))) }
+        (λ error. Tells error (held_fault strings (tail_frames tail.now))) }
     ensures kept { KeepsFrames frames.old.items frames.new.items }
 {
     let Some((function, after)) = next_number(tail) else {
@@ -63,10 +63,10 @@ fn without_file(function: u64) -> FrameNumbers
 /// Appends a frame for each three numbers of a tail.
 fn push_triples(frames: &mut Vec<Frame>, tail: &[u8], strings: u32) -> Result<(), LineError>
     ensures appended { OnOk result
-        (frames.new.items ≡ frames.old.items ++ triples (numbers tail.now)) }
-    ensures no_fault { OnOk result (held_fault strings (triples (numbers tail.now)) ≡ None) }
+        (frames.new.items ≡ frames.old.items ++ tail_triples tail.now) }
+    ensures no_fault { OnOk result (held_fault strings (tail_triples tail.now) ≡ None) }
     ensures fault { IfErr result
-        (λ error. Tells error (held_fault strings (triples (numbers tail.now)))) }
+        (λ error. Tells error (held_fault strings (tail_triples tail.now))) }
     ensures kept { KeepsFrames frames.old.items frames.new.items }
 {
     let mut rest = tail;
@@ -79,10 +79,9 @@ fn push_triples(frames: &mut Vec<Frame>, tail: &[u8], strings: u32) -> Result<()
 
 /// The first three numbers of a text, as those of a frame, and what follows them.
 fn next_triple(text: &[u8]) -> Option<(FrameNumbers, &[u8])>
-    ensures none { IfNone result (triples (numbers text.now) ≡ []) }
-    ensures some { IfSome result (λ found. triples (numbers text.now) ≡
-        record { function = found.0.function; file = found.0.file; line = found.0.line }
-        ∷ triples (numbers found.1.now)) }
+    ensures none { IfNone result (tail_triples text.now ≡ []) }
+    ensures some { IfSome result
+        (λ found. tail_triples text.now ≡ frame_said found.0 ∷ tail_triples found.1.now) }
     ensures shorter { IfSome result (λ found. length found.1.now < length text.now) }
 {
     let (function, after) = next_number(text)?;
@@ -99,15 +98,10 @@ fn next_triple(text: &[u8]) -> Option<(FrameNumbers, &[u8])>
 /// Appends a frame whose function and file are held.
 fn push_frame(frames: &mut Vec<Frame>, numbers: FrameNumbers, strings: u32) -> Result<(), LineError>
     ensures appended { OnOk result
-        (frames.new.items ≡ frames.old.items
-        ++ record { function = numbers.function; file = numbers.file; line = numbers.line } ∷ []) }
-    ensures no_fault { OnOk result
-        (held_fault strings (record
-        { function = numbers.function; file = numbers.file; line = numbers.line } ∷ []) ≡ None) }
+        (frames.new.items ≡ frames.old.items ++ frame_said numbers ∷ []) }
+    ensures no_fault { OnOk result (held_fault strings (frame_said numbers ∷ []) ≡ None) }
     ensures fault { IfErr result
-        (λ error. Tells error
-        (held_fault strings (record
-        { function = numbers.function; file = numbers.file; line = numbers.line } ∷ []))) }
+        (λ error. Tells error (held_fault strings (frame_said numbers ∷ []))) }
     ensures kept { KeepsFrames frames.old.items frames.new.items }
 {
     let FrameNumbers {

@@ -1,8 +1,7 @@
 //! The frames of a stack: those of its nodes' instructions, from the innermost node outwards.
 //! The texts of frames are no part of it.
 ghost use Rattle.std.specs.Prelude.{◌≡◌, ℕ, ◌+◌, ◌*◌, ◌^◌, ◌<◌, ◌≤◌, List, [], ◌∷◌, ◌++◌, length, vec_len, vec_capacity, IsOk, OnOk, OnErr};
-ghost use Rattle.std.specs.List.{flat_map};
-ghost use Rattle.stack_table.specs.Stack.{stack};
+ghost use Rattle.ht_trace.specs.CallAnswers.{frames_along};
 ghost use Rattle.ht_trace.specs.StackFrames.{frames_of, no_stack, stack_frames};
 
 use crate::frame::FrameAt;
@@ -63,7 +62,7 @@ fn replace_by_no_stack(out: &mut Vec<FrameAt>) -> Result<(), NoMemory>
 /// How many frames stack `n` has.
 fn count_frames(instructions: &InstructionTable, nodes: &Nodes, n: u32) -> usize
     requires { n ≤ length nodes.now }
-    ensures { result ≡ length (flat_map (frames_of instructions.now) (stack nodes.now n)) }
+    ensures { result ≡ length (frames_along instructions.now nodes.now n) }
 {
     let mut count = 0;
     let mut at = n;
@@ -83,11 +82,11 @@ fn push_stack(
 ) -> Result<(), NoMemory>
     requires held { n ≤ length nodes.now }
     requires room { vec_len out.old
-        + length (flat_map (frames_of instructions.now) (stack nodes.now n))
+        + length (frames_along instructions.now nodes.now n)
         ≤ vec_capacity out.old }
     ensures succeeds { IsOk result }
     ensures appended { out.new.items
-        ≡ out.old.items ++ flat_map (frames_of instructions.now) (stack nodes.now n) }
+        ≡ out.old.items ++ frames_along instructions.now nodes.now n }
 {
     let mut at = n;
     'outwards: while let Some((instruction, parent)) = nodes.node(at) {

@@ -1,19 +1,18 @@
 //! The tables, and what each line of a trace adds to them or why it is refused.
 //! What one line says is the grammar's part. What each kind of line does, and the frames of a stack, stand in files of their own.
-ghost use Rattle.std.specs.Prelude.{◌≡◌, ℕ, ◌+◌, ◌-◌, ◌^◌, ◌<◌, ◌≤◌, ◌↔◌, ◌⊎◌, List, [], ◌∷◌, ◌++◌, length, None, Some, Ok, Err, IsNone, IfErr, IfOk, IfSome, OnOk, OnErr, slice_get};
-ghost use Rattle.std.specs.Option.{option_copied, option_map, option_to_list};
+ghost use Rattle.std.specs.Prelude.{◌≡◌, ℕ, ◌+◌, ◌-◌, ◌^◌, ◌<◌, ◌≤◌, ◌↔◌, ◌⊎◌, [], length, None, Err, IsNone, IfErr, IfOk, IfSome, OnOk, OnErr};
+ghost use Rattle.std.specs.Option.{option_copied};
 ghost use Rattle.ht_lines.specs.declared.item.Form.TheVariants.{Interpreted};
-ghost use Rattle.live_ledger.specs.LedgerState.{LedgerState};
+ghost use Rattle.ht_trace.specs.CallAnswers.{info_answer};
 ghost use Rattle.ht_trace.specs.Continues.{Continues};
 ghost use Rattle.ht_trace.specs.HeldStack.{HasHeldStack};
-ghost use Rattle.ht_trace.specs.LedgerFits.{CanTake, Grows, IsBeside, least_length};
-ghost use Rattle.ht_trace.specs.LineFault.{Tells, end_fault, line_fault_after, pattern_fault};
+ghost use Rattle.ht_trace.specs.LedgerFits.{Grows, least_length};
+ghost use Rattle.ht_trace.specs.LineAnswers.{AddsEvent, Brings, HasNoFault, HasNoRoom, HasRoomFor, MayEnd, StandsBehind, StandsWith, TellsEndFault, TellsFault};
+ghost use Rattle.ht_trace.specs.LineFault.{Tells, pattern_fault};
 ghost use Rattle.ht_trace.specs.Pattern.{pattern_at};
-ghost use Rattle.ht_trace.specs.StandsFor.{StandsAfter, StandsFor};
+ghost use Rattle.ht_trace.specs.StandsFor.{StandsFor};
 ghost use Rattle.ht_trace.specs.StateAfter.{with_pattern};
-ghost use Rattle.ht_trace.specs.StepOf.{event_of, step_of};
 ghost use Rattle.ht_trace.specs.TableState.{TableState};
-ghost use Rattle.ht_trace.specs.TraceEvents.{events};
 
 mod frames;
 mod kinds;
@@ -98,21 +97,11 @@ impl Tables {
     pub fn line(&mut self, line: &[u8]) -> Result<Step, LineError>
         requires { length line.now < 2 ^ 32 }
         // For all lines that the tables stand for.
-        ensures stands { OnOk result
-            ((given lines : List (List ℕ)) → StandsAfter self.old given lines
-            → StandsAfter self.new given (lines ++ line.now ∷ [])) }
-        ensures no_fault { OnOk result
-            ((given lines : List (List ℕ)) → StandsAfter self.old given lines
-            → line_fault_after given lines line.now ≡ None) }
-        ensures step { IfOk result
-            (λ step. (given lines : List (List ℕ)) → StandsAfter self.old given lines
-            → step ≡ step_of lines line.now) }
-        ensures events { IfOk result
-            (λ step. (given lines : List (List ℕ)) → StandsAfter self.old given lines →
-            events (lines ++ line.now ∷ []) ≡ events lines ++ option_to_list (event_of step)) }
-        ensures fault { IfErr result
-            (λ error. (given lines : List (List ℕ)) → StandsAfter self.old given lines
-            → Tells error (line_fault_after given lines line.now)) }
+        ensures stands { OnOk result (StandsWith self.old line.now self.new) }
+        ensures no_fault { OnOk result (HasNoFault self.old line.now) }
+        ensures step { IfOk result (λ step. Brings self.old line.now step) }
+        ensures events { IfOk result (λ step. AddsEvent self.old line.now step) }
+        ensures fault { IfErr result (λ error. TellsFault self.old line.now error) }
         ensures continues { Continues self.old self.new }
         ensures goes_on { (before : TableState) → Continues before self.old
             → Continues before self.new }
@@ -120,7 +109,7 @@ impl Tables {
 
         // For a ledger that is kept beside the tables.
         ensures can_take { IfOk result
-            (λ step. (ledger : LedgerState) → IsBeside self.old ledger → CanTake ledger step) }
+            (λ step. HasRoomFor self.old step) }
         ensures grows { IfOk result (λ step. Grows self.old step self.new) }
         ensures stack_held { IfOk result (λ step. HasHeldStack self.new step) }
         ensures least_length { IfOk result (λ step. least_length step ≤ length line.now) }
@@ -136,12 +125,8 @@ impl Tables {
     pub fn end(&self) -> Result<(), LineError>
         ensures no_version { (result ≡ Err LineError.NoVersion) ↔ IsNone self.now.version }
         ensures only { IfErr result (λ error. error ≡ LineError.NoVersion) }
-        ensures no_fault { OnOk result
-            ((given lines : List (List ℕ)) → StandsAfter self.now given lines
-            → end_fault lines ≡ None) }
-        ensures fault { IfErr result
-            (λ error. (given lines : List (List ℕ)) → StandsAfter self.now given lines
-            → end_fault lines ≡ Some error) }
+        ensures no_fault { OnOk result (MayEnd self.now) }
+        ensures fault { IfErr result (λ error. TellsEndFault self.now error) }
     {
         if self.version.is_none() {
             return Err(LineError::NoVersion);
@@ -160,9 +145,7 @@ impl Tables {
 
     /// Size in bytes and stack of info `n`: `None` exactly where no info has that number. It takes no memory.
     pub fn info(&self, n: u32) -> Option<(u64, u32)>
-        ensures entry { result
-            ≡ option_map (λ info. record { 0 = info.size; 1 = info.stack })
-            (slice_get self.now.infos n) }
+        ensures entry { result ≡ info_answer self.now.infos n }
         ensures stack_held { IfSome result (λ info. info.1 ≤ length self.now.nodes) }
     {
         let InfoEntry { size, stack } = self.infos.get(u64::from(n))?;
@@ -194,14 +177,12 @@ impl Tables {
     /// patterns are then as before.
     pub fn suppress(&mut self, text: &[u8]) -> Result<(), LineError>
         ensures added { OnOk result (self.new ≡ with_pattern self.old text.now) }
-        ensures stands { OnOk result
-            ((given : List (List ℕ)) → StandsAfter self.old given []
-            → StandsAfter self.new (given ++ text.now ∷ []) []) }
+        ensures stands { OnOk result (StandsBehind self.old text.now self.new) }
         ensures no_fault { OnOk result (pattern_fault (length self.old.patterns) text.now ≡ None) }
         ensures fault { IfErr result
             (λ error. Tells error (pattern_fault (length self.old.patterns) text.now)) }
         ensures too_many { (result ≡ Err LineError.TooMany)
-            ↔ (pattern_fault (length self.old.patterns) text.now ≡ Some LineError.TooMany) }
+            ↔ HasNoRoom (length self.old.patterns) text.now }
         ensures only { IfErr result
             (λ error. (error ≡ LineError.TooMany) ⊎ (error ≡ LineError.NoMemory)) }
         ensures continues { Continues self.old self.new }

@@ -1,11 +1,12 @@
 //! The frames of a table's stacks and instructions, and what a frame is called.
-ghost use Rattle.std.specs.Prelude.{◌≡◌, ℕ, ◌+◌, ◌-◌, ◌<◌, ◌≤◌, ◌↔◌, List, ◌++◌, All, length, vec_len, None, Some, IsNone, IsSome, IfSome, OnOk, OnErr, slice_get};
+ghost use Rattle.std.specs.Prelude.{◌≡◌, ℕ, ◌+◌, ◌-◌, ◌<◌, ◌≤◌, ◌↔◌, ◌++◌, All, length, vec_len, None, Some, IsNone, IsSome, IfSome, OnOk, OnErr, slice_get};
 ghost use Rattle.std.specs.Option.{option_copied};
+ghost use Rattle.ht_trace.specs.CallAnswers.{IsCalledFrom};
 ghost use Rattle.ht_trace.specs.FrameText.{HasNoFunction, frame_text, function_at};
 ghost use Rattle.stack_table.specs.Stack.{most_frames};
 ghost use Rattle.ht_trace.specs.IsFrame.{IsFrame};
-ghost use Rattle.ht_trace.specs.StackFrames.{frames, frames_of, outer_frames, stack_frames};
-ghost use Rattle.ht_trace.specs.StandsFor.{StandsAfter};
+ghost use Rattle.ht_trace.specs.LineAnswers.{AreFramesOf};
+ghost use Rattle.ht_trace.specs.StackFrames.{frames_of, stack_frames};
 
 use crate::frame::{FrameAt, Style};
 use crate::frame_text::put_text;
@@ -21,9 +22,7 @@ impl Tables {
         requires { stack ≤ length self.now.nodes }
         ensures of_tables { OnOk result
             (out.new.items ≡ stack_frames self.now.instructions self.now.nodes stack) }
-        ensures frames { OnOk result
-            ((given lines : List (List ℕ)) → StandsAfter self.now given lines
-            → out.new.items ≡ frames lines stack) }
+        ensures frames { OnOk result (AreFramesOf self.now stack out.new.items) }
         ensures places { OnOk result (All (λ at. IsFrame self.now at) out.new.items) }
         ensures some_frame { OnOk result (1 ≤ vec_len out.new) }
         ensures few { OnOk result (vec_len out.new ≤ most_frames) }
@@ -37,10 +36,7 @@ impl Tables {
     /// stack has that number. It takes no memory.
     pub fn node(&self, n: u32) -> Option<(u32, u32)>
         ensures found { IsSome result ↔ ((1 ≤ n) × (n ≤ length self.now.nodes)) }
-        ensures frames { IfSome result
-            (λ node. stack_frames self.now.instructions self.now.nodes n
-            ≡ frames_of self.now.instructions node.0
-            ++ outer_frames self.now.instructions self.now.nodes node.1) }
+        ensures frames { IfSome result (λ node. IsCalledFrom self.now n node) }
         ensures instruction { IfSome result (λ node. node.0 ≤ length self.now.instructions) }
         ensures some_frame { IfSome result
             (λ node. 1 ≤ length (frames_of self.now.instructions node.0)) }

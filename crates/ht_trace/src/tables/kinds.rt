@@ -1,12 +1,13 @@
 //! What each kind of line does to the tables, or why it is refused.
 ghost use Rattle.std.specs.Prelude.{◌≡◌, ℕ, ◌+◌, ◌-◌, ◌%◌, ◌<◌, ◌≤◌, ◌⊎◌, length, Some, Ok, Err, IfErr, IfOk, unwrap_or};
-ghost use Rattle.ht_lines.specs.Content.{allocation_line, command_line, free_line, info_line, instruction_line, node_line, string_line, suppression_line, version_line};
+ghost use Rattle.ht_lines.specs.Content.{allocation_line, command_line, free_line, info_line, node_line, string_line, suppression_line};
 ghost use Rattle.ht_lines.specs.Fields.{fields, numbers};
 ghost use Rattle.ht_lines.specs.ItemContent.{IsWhole, content};
 ghost use Rattle.ht_lines.specs.Written.{IsWritable};
 ghost use Rattle.ht_lines.specs.declared.item.Form.TheVariants.{Interpreted};
-ghost use Rattle.ht_trace.specs.StackFrames.{frames};
+ghost use Rattle.ht_trace.specs.SaidFrames.{tail_line};
 ghost use Rattle.ht_trace.specs.StateAfter.{Refuses, Takes};
+ghost use Rattle.ht_trace.specs.VersionAnswers.{RefusesVersion, TakesVersion};
 
 use crate::error::LineError;
 use crate::infos::InfoEntry;
@@ -61,10 +62,9 @@ impl Tables {
         requires low { 1 ≤ file }
         requires high { file ≤ 3 }
         ensures takes { IfOk result
-            (λ step. (heaptrack : ℕ) → Takes self.old (version_line heaptrack file) step self.new) }
+            (λ step. TakesVersion self.old file step self.new) }
         ensures refuses { IfErr result
-            (λ error. (heaptrack : ℕ)
-            → Refuses self.old (version_line heaptrack file) error self.new) }
+            (λ error. RefusesVersion self.old file error self.new) }
     {
         if self.version.is_some() {
             return Err(LineError::SecondVersion);
@@ -105,11 +105,9 @@ impl Tables {
         requires written { (length (numbers tail.now) % 3 ≡ 1)
             ⊎ (length (numbers tail.now) % 3 ≡ 0) }
         ensures takes { IfOk result
-            (λ step. Takes self.old (instruction_line ip «module» (numbers tail.now)) step
-            self.new) }
+            (λ step. Takes self.old (tail_line ip «module» tail.now) step self.new) }
         ensures refuses { IfErr result
-            (λ error. Refuses self.old (instruction_line ip «module» (numbers tail.now)) error
-            self.new) }
+            (λ error. Refuses self.old (tail_line ip «module» tail.now) error self.new) }
     {
         let strings = self.strings.len();
         self.instructions
