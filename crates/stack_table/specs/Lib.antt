@@ -9,3 +9,4 @@ pub mod Node
 pub mod NodeNumber
 pub mod Stack
 pub mod FaultText
+pub mod NodeAnswers

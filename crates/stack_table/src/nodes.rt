@@ -1,13 +1,12 @@
 //! The list of nodes, and the walk from a node outwards.
-ghost use Rattle.std.specs.Prelude.{◌≡◌, ◌≢◌, ℕ, ◌+◌, ◌-◌, ◌^◌, ◌<◌, ◌≤◌, ◌↔◌, [], ◌∷◌, ◌++◌, length, map, take, vec_len, vec_capacity, None, Some, IfErr, IfNone, IsSome, IfSome, IsOk, IfOk, OnOk, OnErr};
-ghost use Rattle.std.specs.Option.{option_map};
-ghost use Rattle.stack_table.specs.Node.{Node, node_at};
+ghost use Rattle.std.specs.Prelude.{◌≡◌, ◌≢◌, ℕ, ◌+◌, ◌-◌, ◌^◌, ◌<◌, ◌≤◌, ◌↔◌, [], ◌∷◌, ◌++◌, length, take, vec_len, vec_capacity, None, Some, IfErr, IfNone, IsSome, IfSome, IsOk, IfOk, OnOk, OnErr};
 ghost use Rattle.stack_table.specs.Stack.{frame_count, most_frames, stack};
 ghost use Rattle.stack_table.specs.AreNodes.{AreNodes};
 ghost use Rattle.stack_table.specs.CanAdd.{CanAdd};
 ghost use Rattle.stack_table.specs.Continues.{Continues};
 ghost use Rattle.stack_table.specs.Entries.{IsTable, nodes_of};
-ghost use Rattle.stack_table.specs.Interned.{node_interned, node_interned_fault, stack_fault, stack_interned};
+ghost use Rattle.stack_table.specs.Interned.{node_interned_fault, stack_fault, stack_interned};
+ghost use Rattle.stack_table.specs.NodeAnswers.{IsFull, IsInternedAs, IsNewFull, IsNewTooDeep, IsTooDeep, TellsFault, call_at, interned_as, node_of_call};
 ghost use Rattle.stack_table.specs.NodeNumber.{node_number};
 
 use crate::fault::NodeFault;
@@ -76,7 +75,7 @@ impl Nodes {
     /// After a fault the nodes are as before. It takes the same time for any stack.
     pub fn add(&mut self, ip: u64, parent: u64, frames: u32) -> Result<u32, NodeFault>
         ensures added { OnOk result
-            (self.new ≡ self.old ++ record { ip = ip; parent = parent; frames = frames } ∷ []) }
+            (self.new ≡ self.old ++ node_of_call ip parent frames ∷ []) }
         ensures number { IfOk result (λ number. number ≡ length self.old + 1) }
         ensures count { OnOk result (length self.new ≡ length self.old + 1) }
         ensures fits { OnOk result (CanAdd self.old parent frames) }
@@ -85,10 +84,8 @@ impl Nodes {
         ensures unknown_parent { (result ≡ Err NodeFault.UnknownParent)
             ↔ (length self.old < parent) }
         ensures too_deep { (result ≡ Err NodeFault.TooDeep)
-            ↔ ((parent ≤ length self.old) × (most_frames < frame_count self.old parent + frames)) }
-        ensures full { (result ≡ Err NodeFault.Full)
-            ↔ ((parent ≤ length self.old) × (frame_count self.old parent + frames ≤ most_frames)
-            × (length self.old ≡ 2 ^ 32 - 2)) }
+            ↔ IsTooDeep self.old parent frames }
+        ensures full { (result ≡ Err NodeFault.Full) ↔ IsFull self.old parent frames }
         ensures unchanged { OnErr result (self.new ≡ self.old) }
 
         // The stacks.
@@ -139,13 +136,11 @@ impl Nodes {
     /// After a fault the nodes are as before.
     pub fn intern(&mut self, ip: u64, parent: u64, frames: u32) -> Result<u32, NodeFault>
         ensures interned { IfOk result
-            (λ number. node_interned self.old (record { ip = ip; parent = parent; frames = frames })
-            ≡ record { nodes = self.new; number = number }) }
+            (IsInternedAs self.old (node_of_call ip parent frames) self.new) }
         ensures held { IfSome (node_number self.old ip parent)
             (λ number. (result ≡ Ok number) × (self.new ≡ self.old)) }
         ensures added { IfNone (node_number self.old ip parent)
-            (OnOk result (self.new
-            ≡ self.old ++ record { ip = ip; parent = parent; frames = frames } ∷ [])) }
+            (OnOk result (self.new ≡ self.old ++ node_of_call ip parent frames ∷ [])) }
         ensures number { IfOk result (λ number. node_number self.new ip parent ≡ Some number) }
         ensures stack { IfOk result (λ number. stack self.new number ≡ ip ∷ stack self.new parent) }
         ensures within { IfOk result (λ number. (parent < number) × (number ≤ length self.new)) }
@@ -154,19 +149,12 @@ impl Nodes {
         ensures unknown_parent { (result ≡ Err NodeFault.UnknownParent)
             ↔ (length self.old < parent) }
         ensures too_deep { (result ≡ Err NodeFault.TooDeep)
-            ↔ ((parent ≤ length self.old) × (node_number self.old ip parent ≡ None)
-            × (most_frames < frame_count self.old parent + frames)) }
-        ensures full { (result ≡ Err NodeFault.Full)
-            ↔ ((parent ≤ length self.old) × (node_number self.old ip parent ≡ None)
-            × (frame_count self.old parent + frames ≤ most_frames)
-            × (length self.old ≡ 2 ^ 32 - 2)) }
+            ↔ IsNewTooDeep self.old ip parent frames }
+        ensures full { (result ≡ Err NodeFault.Full) ↔ IsNewFull self.old ip parent frames }
         ensures fault { IfErr result
-            (λ fault. fault ≢ NodeFault.NoMemory
-            → node_interned_fault self.old (record { ip = ip; parent = parent; frames = frames })
-            ≡ Some fault) }
+            (TellsFault (node_interned_fault self.old (node_of_call ip parent frames))) }
         ensures no_fault { OnOk result
-            (node_interned_fault self.old (record { ip = ip; parent = parent; frames = frames })
-            ≡ None) }
+            (node_interned_fault self.old (node_of_call ip parent frames) ≡ None) }
         ensures unchanged { OnErr result (self.new ≡ self.old) }
 
         // The nodes.
@@ -192,12 +180,11 @@ impl Nodes {
     /// comes, and a stack whose nodes are all held is never refused.
     pub fn intern_stack(&mut self, ips: &[u64]) -> Result<u32, NodeFault>
         ensures interned { IfOk result
-            (λ number. stack_interned self.old ips.now
-            ≡ record { nodes = self.new; number = number }) }
+            (λ number. stack_interned self.old ips.now ≡ interned_as self.new number) }
         ensures stack { IfOk result (λ number. stack self.new number ≡ ips.now) }
         ensures within { IfOk result (λ number. number ≤ length self.new) }
         ensures fault { IfErr result
-            (λ fault. fault ≢ NodeFault.NoMemory → stack_fault self.old ips.now ≡ Some fault) }
+            (TellsFault (stack_fault self.old ips.now)) }
         ensures no_fault { OnOk result (stack_fault self.old ips.now ≡ None) }
         ensures parents_known { IfErr result (λ fault. fault ≢ NodeFault.UnknownParent) }
         ensures held { (stack_interned self.old ips.now).nodes ≡ self.old → IsOk result }
@@ -251,8 +238,7 @@ impl Nodes {
     /// It is `None` exactly where no node has that number: for 0, and above `len`. It takes no memory.
     pub fn node(&self, n: u32) -> Option<(u64, u32)>
         ensures found { IsSome result ↔ ((1 ≤ n) × (n ≤ length self.now)) }
-        ensures entry { result
-            ≡ option_map (λ node. record { 0 = node.ip; 1 = node.parent }) (node_at self.now n) }
+        ensures entry { result ≡ call_at self.now n }
         ensures lower_parent { IfSome result (λ found. found.1 < n) }
         ensures stack { IfSome result
             (λ found. stack self.now n ≡ found.0 ∷ stack self.now found.1) }
