@@ -1,30 +1,13 @@
--- What a book stands for; the order with the next turn of a thread, and with several.
-use Rattle.std.specs.Prelude.{
-  ◌≡◌,
-  ℕ,
-  zero,
-  suc,
-  ◌<◌,
-  ◌≤◌,
-  Bool,
-  true,
-  false,
-  List,
-  [],
-  ◌∷◌,
-  ◌++◌,
-  length,
-  nat_lt,
-  slice_get,
-  Option,
-  None,
-  Some,
-}
+-- What a book stands for; the order with the next turn of a thread, and with several; what a book is
+-- once all turns of a thread, or of all threads, are taken.
+use Rattle.std.specs.Prelude.{◌≡◌, ℕ, zero, suc, ◌<◌, ◌≤◌, Bool, true, false, List, [], ◌∷◌, ◌++◌, length, nat_lt, slice_get, Option, None, Some, ◌≢◌}
 use Rattle.record_scripts.specs.Events.{Event, allocation, free}
-use Rattle.record_scripts.specs.Job.{Job}
+use Rattle.record_scripts.specs.declared.script_line.ScriptLine.{ScriptLine}
+use Rattle.record_scripts.specs.Job.{IsSameWork, Job}
+use Rattle.record_scripts.specs.ScriptTurns.{turn_said}
 use Rattle.record_scripts.specs.Turns.{Turn, allocates, frees, reallocates}
 use Rattle.record_book.specs.Actions.{events_at, times}
-use Rattle.record_book.specs.Orders.{IsUnder}
+use Rattle.record_book.specs.Orders.{Continues, IsUnder}
 
 -- what is recorded, and the order in which it was so far
 pub record Recording : Type 0 where
@@ -43,6 +26,11 @@ abbrev pub entries_of : ℕ → Turn → List ℕ
 entries_of thread (allocates id size ips) = thread ∷ []
 entries_of thread (frees id) = thread ∷ []
 entries_of thread (reallocates id size ips) = thread ∷ thread ∷ []
+
+-- an order with the entries of the turn that a line says by any stack
+abbrev pub AppendsTurn : List ℕ → List ℕ → ℕ → ScriptLine → Type 0
+AppendsTurn old new thread line = (ips : List ℕ)
+    → new ≡ old ++ entries_of thread (turn_said line ips)
 
 -- the order with the next turn of a thread, where its script isn't done
 abbrev pub stepped : List (List Turn) → ℕ → List ℕ → List ℕ
@@ -68,3 +56,19 @@ pub record TakesTurns (job : Job) (thread most : ℕ) (old new : List ℕ) (coun
   pub turns : HasStepped job.scripts thread count old new
   pub within : count ≤ most
   pub done : count < most → times thread new ≡ length (events_at job.scripts thread)
+
+-- some turns of a thread are taken, fewer than asked
+abbrev pub TakesFewer : Job → ℕ → ℕ → List ℕ → List ℕ → Type 0
+TakesFewer job thread most old new = (count : ℕ) × (count < most)
+    × HasStepped job.scripts thread count old new
+
+-- the turns that are left of a thread are taken, and none of another
+pub record CompletesThread (thread : ℕ) (old new : Recording) : Type 0 where
+  pub done : times thread new.order ≡ length (events_at new.job.scripts thread)
+  pub others : (other : ℕ) → thread ≢ other → times other new.order ≡ times other old.order
+  pub under : IsUnder new.job.scripts new.order
+  pub grown : Continues old.order new.order
+
+-- where this is the work that was recorded before, its order goes on
+abbrev pub GoesOn : Recording → Job → Recording → Type 0
+GoesOn old job new = IsSameWork old.job job → Continues old.order new.order

@@ -5,7 +5,8 @@
 use Rattle.std.specs.Prelude.{ℕ, ◌+◌, ◌*◌, ◌/◌, ◌≤◌, Bool, ◌==◌, ◌&&◌, if◌then◌else◌, max, min, List, [], ◌∷◌}
 use Rattle.std.specs.List.{AllByRecursion}
 use Rattle.record_scripts.specs.Events.{Event, allocation, free}
-use Rattle.record_book.specs.Actions.{Action}
+use Rattle.record_scripts.specs.Turns.{Turn}
+use Rattle.record_book.specs.Actions.{Action, actions}
 
 -- a block: the thread that allocates it, its ID there, and its size in bytes
 pub record Block : Type 0 where
@@ -107,3 +108,7 @@ abbrev pub AreApart : List LiveBlock → Type 0
 AreApart [] = Unit {0}
 AreApart (block ∷ older) = AllByRecursion
     (λ other. other.address + other.block.size ≤ block.address) older × AreApart older
+
+-- no two of the blocks overlap that are live behind an order
+abbrev pub LieApart : List (List Turn) → List ℕ → Type 0
+LieApart scripts order = AreApart (live_blocks (places_after (actions scripts order)))

@@ -1,27 +1,6 @@
 -- What the heap of the code has: a live block's place by thread and ID, the free places, and the
 -- end; what a block that is put or freed changes of it.
-use Rattle.std.specs.Prelude.{
-  ◌≡◌,
-  ℕ,
-  ◌+◌,
-  ◌^◌,
-  ◌<◌,
-  ◌≤◌,
-  ◌==◌,
-  ◌&&◌,
-  ◌||◌,
-  Bool,
-  true,
-  false,
-  if◌then◌else◌,
-  List,
-  [],
-  ◌∷◌,
-  Option,
-  None,
-  Some,
-  nat_eq,
-}
+use Rattle.std.specs.Prelude.{◌≡◌, ℕ, ◌+◌, ◌^◌, ◌<◌, ◌≤◌, ◌==◌, ◌&&◌, ◌||◌, Bool, true, false, if◌then◌else◌, List, [], ◌∷◌, Option, None, Some, nat_eq, IfSome}
 use Rattle.std.specs.BinaryHeap.{heap_items}
 use Rattle.std.specs.HashMap.{get}
 use Rattle.record_book.specs.declared.free_addresses.FreeAddresses.{FreeAddresses}
@@ -51,6 +30,19 @@ is_among (Some addresses) address = has_address (heap_items addresses.heap) addr
 -- the place is among them
 abbrev pub has_place : FreePlaces → ℕ → ℕ → Bool
 has_place free class address = is_among (get nat_eq free.classes class) address
+
+-- the same places are there
+abbrev pub HasSamePlaces : FreePlaces → FreePlaces → Type 0
+HasSamePlaces old new = (c a : ℕ) → has_place new c a ≡ has_place old c a
+
+-- a place was put in
+abbrev pub PutsPlace : FreePlaces → FreePlaces → ℕ → ℕ → Type 0
+PutsPlace old new class address = (c a : ℕ) → has_place new c a
+    ≡ (if class == c && address == a then true else has_place old c a)
+
+-- where a block was live, its place was put in
+abbrev pub PutsPlaceOf : FreePlaces → FreePlaces → Option LiveEntry → Type 0
+PutsPlaceOf old new left = IfSome left (λ entry. PutsPlace old new entry.class entry.address)
 
 -- the place of a class with the least address was taken out
 pub record TakesFirst (old new : FreePlaces) (class address : ℕ) : Type 0 where
@@ -114,6 +106,16 @@ pub record TakesNext (old new : Heap) (class : ℕ) (places : List Place) (addre
     pub left : (c a : ℕ) → has_place new.free c a
         ≡ (if class == c && address == a then false else has_place old.free c a)
     pub end_is : new.end ≡ (if address == old.end then old.end + class else old.end)
+
+-- the same, of whatever places the heap has
+abbrev pub TakesAddress : Heap → Heap → ℕ → ℕ → Type 0
+TakesAddress old new class address = (live : ℕ → ℕ → Option LiveEntry) (places : List Place)
+    → AreOf live (has_place old.free) old.end places → TakesNext old new class places address
+
+-- the address of every block that a heap keeps so, which is 0 where it keeps none
+abbrev pub IsAddressOf : Option LiveEntry → ℕ → Type 0
+IsAddressOf left address = (heap : Heap) (places : List Place) (thread id : ℕ)
+    → IsHeap heap places → left ≡ entry_at heap thread id → address ≡ address_of thread id places
 
 -- a block was put at an address, in the place of the live one of its ID
 pub record PutsBlock (old new : Heap) (thread id size address : ℕ) : Type 0 where

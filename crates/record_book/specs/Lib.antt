@@ -17,3 +17,4 @@ pub mod SummaryText
 pub mod ScriptFigures
 pub mod TallyState
 pub mod Spelled
+pub mod SpelledOrders

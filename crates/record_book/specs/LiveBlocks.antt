@@ -1,21 +1,7 @@
 -- Where live blocks lie, as the code keeps them. The live block of a thread's ID stands in a table,
--- where the ID is below 1,024, or else among the others.
-use Rattle.std.specs.Prelude.{
-  ℕ,
-  ◌+◌,
-  ◌*◌,
-  ◌<◌,
-  ◌==◌,
-  ◌&&◌,
-  Bool,
-  if◌then◌else◌,
-  List,
-  length,
-  get_or,
-  nat_lt,
-  Option,
-  None,
-}
+-- where the ID is below 1,024, or else among the others. A block that is put in or taken out is the
+-- only one that changes.
+use Rattle.std.specs.Prelude.{ℕ, ◌+◌, ◌*◌, ◌<◌, ◌==◌, ◌&&◌, Bool, if◌then◌else◌, List, length, get_or, nat_lt, Option, None, ◌≡◌, true}
 use Rattle.std.specs.HashMap.{get, spare}
 use Rattle.record_book.specs.declared.live_blocks.LiveBlocks.{LiveBlocks}
 use Rattle.record_book.specs.declared.live_blocks.LiveEntry.{LiveEntry}
@@ -40,6 +26,21 @@ found_in low high thread id = if is_low (length low) thread id
 abbrev pub block_at : LiveBlocks → ℕ → ℕ → Option LiveEntry
 block_at blocks thread id = found_in blocks.low.items (λ t i. get same_key blocks.high (t, i))
     thread id
+
+-- the same blocks are live
+abbrev pub HasSameBlocks : LiveBlocks → LiveBlocks → Type 0
+HasSameBlocks old new = (t i : ℕ) → block_at new t i ≡ block_at old t i
+
+-- the live block of a thread's ID is now this one, or none is
+abbrev pub SetsBlock : LiveBlocks → LiveBlocks → ℕ → ℕ → Option LiveEntry → Type 0
+SetsBlock old new thread id entry = (t i : ℕ) → block_at new t i
+    ≡ (if thread == t && id == i then entry else block_at old t i)
+
+-- the table has a place for a thread's ID, which is this one
+pub record IsPlaceIn (blocks : LiveBlocks) (thread id place : ℕ) : Type 0 where
+  pub place_is : place ≡ place_of thread id
+  pub within : place < length blocks.low.items
+  pub low : is_low (length blocks.low.items) thread id ≡ true
 
 -- there is room for one block more
 abbrev pub HasRoom : LiveBlocks → Type 0

@@ -40,6 +40,11 @@ pub record IsInterned (old : List Node) (known : List (List ℕ)) (new : List No
   pub count : length new
       ≡ (if number_in known (ip ∷ stack old parent) == 0 then length old + 1 else length old)
 
+-- the same, of whatever stacks the old nodes are
+abbrev pub InternsNode : List Node → List Node → ℕ → ℕ → ℕ → Type 0
+InternsNode old new ip parent node = (known : List (List ℕ)) → AreNumbered old known
+    → IsInterned old known new node ip parent
+
 -- the same, with the line of a new node
 pub record IsNext (old : List Node) (known : List (List ℕ)) (new : List Node) (node ip parent : ℕ)
     (before after : List ℕ) : Type 0 where
@@ -47,12 +52,20 @@ pub record IsNext (old : List Node) (known : List (List ℕ)) (new : List Node) 
   pub stack_is : stack new node ≡ ip ∷ stack old parent
   pub text : after ≡ before ++ node_text known ip (stack old parent)
 
+abbrev pub PutsNode : List Node → List Node → ℕ → ℕ → List ℕ → List ℕ → ℕ → Type 0
+PutsNode old new ip parent before after node = (known : List (List ℕ)) → AreNumbered old known
+    → IsNext old known new node ip parent before after
+
 -- the nodes of a stack and of those that it is called from, with the lines of new nodes
 pub record ArePut (known : List (List ℕ)) (ips : List ℕ) (new : List Node) (node : ℕ)
     (before after : List ℕ) : Type 0 where
   pub numbered : AreNumbered new (with_suffixes known ips)
   pub stack_is : stack new node ≡ ips
   pub text : after ≡ before ++ nodes_text known ips
+
+abbrev pub PutsNodes : List Node → List Node → List ℕ → List ℕ → List ℕ → ℕ → Type 0
+PutsNodes old new ips before after node = (known : List (List ℕ)) → AreNumbered old known
+    → ArePut known ips new node before after
 
 -- the nodes are those of some stacks, and there is space for one that is called from a parent
 pub record CanCall (nodes : List Node) (parent : ℕ) : Type 0 where

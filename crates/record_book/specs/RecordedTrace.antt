@@ -18,6 +18,13 @@ opening = codes "v 10500 2\nX heaprec\n"
 abbrev pub line_of : Content → List ℕ
 line_of said = written 2 said ++ 10 ∷ []
 
+-- the line of an allocation of so many bytes by a node, and that of a free
+abbrev pub allocation_text : ℕ → ℕ → ℕ → List ℕ
+allocation_text size node address = line_of (raw_allocation_line size node address)
+
+abbrev pub free_text : ℕ → List ℕ
+free_text address = line_of (raw_free_line address)
+
 -- the line that names the thread of the events behind it
 abbrev pub thread_line : ℕ → List ℕ
 thread_line thread = codes "# thread " ++ (decimal thread ++ 10 ∷ [])

@@ -1,22 +1,5 @@
 -- What a recording stands for of which a front of the trace may be let go.
-use Rattle.std.specs.Prelude.{
-  ◌≡◌,
-  ℕ,
-  ◌+◌,
-  ◌*◌,
-  ◌^◌,
-  ◌≤◌,
-  List,
-  [],
-  ◌∷◌,
-  length,
-  reverse,
-  slice_get,
-  take,
-  unwrap_or,
-  None,
-  is_some,
-}
+use Rattle.std.specs.Prelude.{◌≡◌, ℕ, ◌+◌, ◌*◌, ◌^◌, ◌≤◌, List, [], ◌∷◌, length, reverse, slice_get, take, unwrap_or, None, is_some, ◌++◌}
 use Rattle.record_scripts.specs.Events.{events_of}
 use Rattle.record_scripts.specs.Job.{Job}
 use Rattle.record_scripts.specs.Playable.{IsPlayable}
@@ -26,6 +9,7 @@ use Rattle.record_book.specs.Actions.{actions, times}
 use Rattle.record_book.specs.HeapPlaces.{places_after}
 use Rattle.record_book.specs.HeapState.{entry_in}
 use Rattle.record_book.specs.Orders.{ArePaired, awaited}
+use Rattle.record_book.specs.RecordedTrace.{recorded}
 use Rattle.record_book.specs.TraceState.{IsTrace}
 
 -- how many turns of its script a thread has taken
@@ -44,6 +28,11 @@ pub record Streamed : Type 0 where
   pub job : Job
   pub order : List ℕ
   pub text : List ℕ
+
+-- the text that is kept has got exactly what the trace has
+abbrev pub GainsText : Streamed → Streamed → Type 0
+GainsText old new = (more : List ℕ) × (new.text ≡ old.text ++ more)
+    × (recorded new.job new.order ≡ recorded old.job old.order ++ more)
 
 -- the order and the trace are those of so many turns of each thread, and a front of the trace was let go; the blocks that lie in
 -- the trace are those that are live in the scripts

@@ -4,6 +4,7 @@
 use Rattle.std.specs.Prelude.{ℕ, List, ◌++◌, codes, decimal, length}
 use Rattle.record_scripts.specs.Turns.{Turn}
 use Rattle.record_book.specs.Actions.{actions}
+use Rattle.record_book.specs.BookState.{Recording}
 use Rattle.record_book.specs.Figures.{
   allocated,
   calls,
@@ -57,7 +58,14 @@ peak_line summary =
     (figure (codes " to ") summary.high ++
     codes "\n"))
 
--- the six lines of scripts that are recorded in an order
+-- the six lines
+abbrev pub summary_text : Summary → List ℕ
+summary_text summary = count_lines summary ++ (leaked_line summary ++ peak_line summary)
+
+-- those of scripts that are recorded in an order
 unfoldable pub rec_summary : List (List Turn) → List ℕ → List ℕ
-rec_summary scripts order = count_lines (summary_of scripts order)
-    ++ (leaked_line (summary_of scripts order) ++ peak_line (summary_of scripts order))
+rec_summary scripts order = summary_text (summary_of scripts order)
+
+-- those of a book
+abbrev pub book_summary : Recording → List ℕ
+book_summary book = rec_summary book.job.scripts book.order

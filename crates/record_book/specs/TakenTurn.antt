@@ -1,5 +1,5 @@
 -- What a call that appends a turn asks of a trace, and what it does to it.
-use Rattle.std.specs.Prelude.{◌≡◌, ◌≢◌, ℕ, ◌+◌, ◌^◌, ◌≤◌, List, length, None, Result, IfOk, OnErr}
+use Rattle.std.specs.Prelude.{◌≡◌, ◌≢◌, ℕ, ◌+◌, ◌^◌, ◌≤◌, List, length, vec_capacity, vec_len, None, Result, Vec, IfOk, OnErr}
 use Rattle.stack_table.specs.Continues.{Continues}
 use Rattle.stack_table.specs.Node.{Node}
 use Rattle.stack_table.specs.Stack.{stack}
@@ -25,6 +25,10 @@ pub record HasRoom (trace : Trace) (stack : TurnStack) : Type 0 where
   pub nodes : HasNodeRoom trace.nodes stack
   pub heap : HasSpace trace.heap
 
+-- the text has room for the longest line of an event
+abbrev pub HasLineRoom : {Z : Type 0} → Vec ℕ Z → Type 0
+HasLineRoom text = vec_len text + 53 ≤ vec_capacity text
+
 -- the block of an allocation isn't live
 abbrev pub IsFresh : Heap → ℕ → Turn → Type 0
 IsFresh heap thread (allocates id size ips) = entry_at heap thread id ≡ None
@@ -45,25 +49,26 @@ pub record IsNodeOf (nodes : List Node) (ips : List ℕ) (node : ℕ) : Type 0 w
 
 -- what becomes of nodes and heap while a turn is taken: the nodes only grow, and where memory is wanting halfway, the blocks
 -- and the last thread are as they were
-pub record TakesTurn {E : Type 0} (old new : Trace) (ips : List ℕ) (result : Result ℕ E) : Type 0
-  where
-    pub nodes : Continues old.nodes new.nodes
-    pub few_nodes : length new.nodes ≤ length old.nodes + 256
-    pub end : new.heap.end ≤ old.heap.end + 2 ^ 33
-    pub node : IfOk result (λ node. IsNodeOf new.nodes ips node)
-    pub same_heap : OnErr result (IsSameHeap old.heap new.heap)
-    pub same_last : OnErr result (new.last ≡ old.last)
+pub record TakesTurn {E : Type 0} (old new : Trace) (turn_stack : TurnStack)
+    (result : Result ℕ E) : Type 0 where
+  pub nodes : Continues old.nodes new.nodes
+  pub few_nodes : length new.nodes ≤ length old.nodes + 256
+  pub end : new.heap.end ≤ old.heap.end + 2 ^ 33
+  pub node : IfOk result (IsNodeOf new.nodes (ips_of old.nodes turn_stack))
+  pub same_heap : OnErr result (IsSameHeap old.heap new.heap)
+  pub same_last : OnErr result (new.last ≡ old.last)
 
 -- the lines of a turn but for that of its thread are put
-abbrev pub PutsTurn : Trace → Trace → ℕ → Turn → Type 0
-PutsTurn old new thread turn = (known : List (List ℕ)) (places : List Place)
+abbrev pub PutsTurn : Trace → Trace → ℕ → ScriptLine → TurnStack → Type 0
+PutsTurn old new thread line turn_stack = (known : List (List ℕ)) (places : List Place)
     → AreNumbered old.nodes known → IsHeap old.heap places
-    → HasTurn old.text.items new known places thread turn
+    → HasTurn old.text.items new known places thread (turn_of old line turn_stack)
 
 -- all its lines are: the trace of any actions is that of these and the turn
-abbrev pub AddsTurn : Trace → Trace → ℕ → Turn → Type 0
-AddsTurn old new thread turn = (gone modules : List ℕ) (actions : List Action)
-    → IsTrace gone old modules actions → IsTrace gone new modules (with_turn thread turn actions)
+abbrev pub AddsTurn : Trace → Trace → ℕ → ScriptLine → TurnStack → Type 0
+AddsTurn old new thread line turn_stack = (gone modules : List ℕ) (actions : List Action)
+    → IsTrace gone old modules actions
+    → IsTrace gone new modules (with_turn thread (turn_of old line turn_stack) actions)
 
 -- nothing is: the trace of any actions is still theirs
 pub record IsUndone (old new : Trace) : Type 0 where

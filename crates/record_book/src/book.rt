@@ -1,15 +1,14 @@
 //! The book: a recording with all of its trace. How a turn is taken, and how its lines are made, is no part of it.
-ghost use Rattle.std.specs.Prelude.{◌≡◌, ◌≢◌, ℕ, ◌<◌, ◌≤◌, false, [], ◌++◌, length, IfOk, OnOk, OnErr, nat_lt};
+ghost use Rattle.std.specs.Prelude.{◌≡◌, ◌<◌, ◌≤◌, [], ◌++◌, length, IfOk, OnOk, OnErr};
 ghost use Rattle.std.specs.Arc.{arc_value};
 ghost use Rattle.record_scripts.specs.Job.{IsSameWork};
 ghost use Rattle.record_scripts.specs.Playable.{IsPlayable};
-ghost use Rattle.record_book.specs.Actions.{actions, events_at, times};
-ghost use Rattle.record_book.specs.BookState.{HasStepped, TakesTurns, stepped};
-ghost use Rattle.record_book.specs.HeapPlaces.{AreApart, live_blocks, places_after};
+ghost use Rattle.record_book.specs.BookState.{CompletesThread, GoesOn, IsStep, TakesFewer, TakesTurns};
+ghost use Rattle.record_book.specs.HeapPlaces.{LieApart};
 ghost use Rattle.record_book.specs.Orders.{Continues, IsInterleaving, IsUnder};
 ghost use Rattle.record_book.specs.RecordedTrace.{recorded};
 ghost use Rattle.record_book.specs.ScriptFigures.{HasScriptFigures};
-ghost use Rattle.record_book.specs.SummaryText.{rec_summary};
+ghost use Rattle.record_book.specs.SummaryText.{book_summary};
 
 use crate::summary::put_summary;
 use crate::trace_stream::TraceStream;
@@ -55,16 +54,8 @@ impl Book {
     /// done. On `NoMemory` the book is as before.
     pub fn step(&mut self, thread: u32) -> Result<bool, NoMemory>
         requires { thread < length self.old.job.scripts }
-        ensures stepped { OnOk result
-            (self.new ≡ record self.old
-            { order = stepped self.old.job.scripts thread self.old.order }) }
-        ensures more { IfOk result
-            (λ more. more ≡ nat_lt (times thread self.old.order)
-            (length (events_at self.old.job.scripts thread))) }
-        ensures done { IfOk result
-            (λ more. more ≡ false
-            → times thread self.new.order ≡ length (events_at self.new.job.scripts thread)) }
-        ensures under { OnOk result (IsUnder self.new.job.scripts self.new.order) }
+        ensures step { IfOk result (IsStep self.old.job thread self.old.order self.new.order) }
+        ensures job { self.new.job ≡ self.old.job }
         ensures unchanged { OnErr result (self.new ≡ self.old) }
     {
         self.stream.step(thread)
@@ -80,8 +71,7 @@ impl Book {
         ensures taken { IfOk result
             (TakesTurns self.old.job thread most self.old.order self.new.order) }
         ensures part { OnErr result
-            ((count : ℕ) × (count < most)
-            × HasStepped self.old.job.scripts thread count self.old.order self.new.order) }
+            (TakesFewer self.old.job thread most self.old.order self.new.order) }
         ensures job { self.new.job ≡ self.old.job }
     {
         for count in 0..most {
@@ -112,8 +102,7 @@ impl Book {
 
         // The order.
         ensures under { IsUnder self.now.job.scripts self.now.order }
-        ensures apart { AreApart
-            (live_blocks (places_after (actions self.now.job.scripts self.now.order))) }
+        ensures apart { LieApart self.now.job.scripts self.now.order }
     {
         self.stream.order()
     }
@@ -134,7 +123,7 @@ impl Book {
     pub fn put_summary(&self, out: &mut Vec<u8>) -> Result<(), NoMemory>
         requires { IsInterleaving self.now.job.scripts self.now.order }
         ensures appended { OnOk result
-            (out.new.items ≡ out.old.items ++ rec_summary self.now.job.scripts self.now.order) }
+            (out.new.items ≡ out.old.items ++ book_summary self.now) }
         ensures unchanged { OnErr result (out.new.items ≡ out.old.items) }
         ensures figures { HasScriptFigures self.now.job.scripts self.now.order }
     {
@@ -148,8 +137,7 @@ impl Book {
         ensures job { IfOk result (λ book. book.job ≡ arc_value job) }
         ensures all { IfOk result (λ book. IsInterleaving book.job.scripts book.order) }
         ensures figures { IfOk result (λ book. HasScriptFigures book.job.scripts book.order) }
-        ensures grown { IsSameWork self.job (arc_value job)
-            → IfOk result (λ book. Continues self.order book.order) }
+        ensures grown { IfOk result (GoesOn self (arc_value job)) }
     {
         let mut book = self.for_job(job)?;
         book.complete()?;
@@ -193,14 +181,8 @@ impl Book {
     // Takes the turns that are left of a thread, whose script has to be there.
     fn complete_thread(&mut self, thread: u32) -> Result<(), NoMemory>
         requires { thread < length self.old.job.scripts }
-        ensures done { OnOk result
-            (times thread self.new.order ≡ length (events_at self.new.job.scripts thread)) }
-        ensures others { OnOk result
-            ((other : ℕ) → thread ≢ other
-            → times other self.new.order ≡ times other self.old.order) }
-        ensures under { OnOk result (IsUnder self.new.job.scripts self.new.order) }
+        ensures completed { OnOk result (CompletesThread thread self.old self.new) }
         ensures job { self.new.job ≡ self.old.job }
-        ensures grown { OnOk result (Continues self.old.order self.new.order) }
     {
         'turns: while self.step(thread)? {}
         Ok(())

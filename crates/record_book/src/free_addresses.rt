@@ -1,9 +1,9 @@
 //! The addresses of one class that have no live block. Which class it is, is no part of it.
 ghost use Rattle.std.proofs.Props.{props};
-ghost use Rattle.std.specs.Prelude.{◌≡◌, ℕ, ◌==◌, true, false, if◌then◌else◌, IfNone, IfSome, OnErr, OnOk};
+ghost use Rattle.std.specs.Prelude.{◌≡◌, ℕ, false, IfNone, IfSome, OnErr, OnOk};
 ghost use Rattle.std.specs.BinaryHeap.{IsHeap, heap_items};
 ghost use Rattle.std.specs.List.{IsDistinct};
-ghost use Rattle.record_book.specs.Addresses.{TakesLeast, address_cmp, has_address, same_address};
+ghost use Rattle.record_book.specs.Addresses.{HasSame, PutsIn, TakesLeast, address_cmp, is_in, same_address};
 
 use hp_num::NoMemory;
 use std::alloc::Global;
@@ -21,7 +21,7 @@ pub struct FreeAddresses {
 impl FreeAddresses {
     /// No addresses. It takes no memory.
     pub fn new(alloc: Global) -> Self
-        ensures { (a : ℕ) → has_address (heap_items result.heap) a ≡ false }
+        ensures { (a : ℕ) → is_in result.heap a ≡ false }
     {
         FreeAddresses {
             heap: BinaryHeap::new(alloc),
@@ -30,13 +30,9 @@ impl FreeAddresses {
 
     /// Puts in an address that isn't in. On `NoMemory` the addresses are as before.
     pub fn insert(&mut self, address: u64) -> Result<(), NoMemory>
-        requires { has_address (heap_items self.old.heap) address ≡ false }
-        ensures put { OnOk result
-            ((a : ℕ) → has_address (heap_items self.new.heap) a
-            ≡ (if address == a then true else has_address (heap_items self.old.heap) a)) }
-        ensures unchanged { OnErr result
-            ((a : ℕ) → has_address (heap_items self.new.heap) a
-            ≡ has_address (heap_items self.old.heap) a) }
+        requires { is_in self.old.heap address ≡ false }
+        ensures put { OnOk result (PutsIn self.old.heap self.new.heap address) }
+        ensures unchanged { OnErr result (HasSame self.old.heap self.new.heap) }
     {
         self.heap.push(Reverse(address))?;
         Ok(())
@@ -44,14 +40,9 @@ impl FreeAddresses {
 
     /// Takes out the least address.
     pub fn take_first(&mut self) -> Option<u64>
-        ensures taken { IfSome result
-            (TakesLeast (has_address (heap_items self.old.heap))
-            (has_address (heap_items self.new.heap))) }
-        ensures none { IfNone result
-            ((a : ℕ) → has_address (heap_items self.old.heap) a ≡ false) }
-        ensures unchanged { IfNone result
-            ((a : ℕ) → has_address (heap_items self.new.heap) a
-            ≡ has_address (heap_items self.old.heap) a) }
+        ensures taken { IfSome result (TakesLeast (is_in self.old.heap) (is_in self.new.heap)) }
+        ensures none { IfNone result ((a : ℕ) → is_in self.old.heap a ≡ false) }
+        ensures unchanged { IfNone result (HasSame self.old.heap self.new.heap) }
     {
         match self.heap.pop() {
             Some(first) => Some(first.0),

@@ -1,7 +1,7 @@
 //! The places that were handed out and have no live block, by class and address.
-ghost use Rattle.std.specs.Prelude.{◌≡◌, ℕ, ◌==◌, ◌&&◌, true, false, if◌then◌else◌, IfNone, IfSome, None, OnErr, OnOk, nat_eq};
+ghost use Rattle.std.specs.Prelude.{◌≡◌, ℕ, false, IfNone, IfSome, None, OnErr, OnOk, nat_eq};
 ghost use Rattle.std.specs.HashMap.{get};
-ghost use Rattle.record_book.specs.HeapState.{TakesFirst, has_place};
+ghost use Rattle.record_book.specs.HeapState.{HasSamePlaces, PutsPlace, TakesFirst, has_place};
 
 use crate::free_addresses::FreeAddresses;
 use hp_num::NoMemory;
@@ -29,11 +29,8 @@ impl FreePlaces {
     /// Puts in a place that isn't in. On `NoMemory` the places are as before.
     pub fn insert(&mut self, class: u64, address: u64) -> Result<(), NoMemory>
         requires { has_place self.old class address ≡ false }
-        ensures put { OnOk result
-            ((c a : ℕ) → has_place self.new c a
-            ≡ (if class == c && address == a then true else has_place self.old c a)) }
-        ensures unchanged { OnErr result
-            ((c a : ℕ) → has_place self.new c a ≡ has_place self.old c a) }
+        ensures put { OnOk result (PutsPlace self.old self.new class address) }
+        ensures unchanged { OnErr result (HasSamePlaces self.old self.new) }
     {
         match self.classes.get_mut(&class) {
             Some(addresses) => addresses.insert(address),
@@ -45,8 +42,7 @@ impl FreePlaces {
     pub fn take_first(&mut self, class: u64) -> Option<u64>
         ensures taken { IfSome result (TakesFirst self.old self.new class) }
         ensures none { IfNone result ((a : ℕ) → has_place self.old class a ≡ false) }
-        ensures unchanged { IfNone result
-            ((c a : ℕ) → has_place self.new c a ≡ has_place self.old c a) }
+        ensures unchanged { IfNone result (HasSamePlaces self.old self.new) }
     {
         match self.classes.get_mut(&class) {
             Some(addresses) => addresses.take_first(),
@@ -57,11 +53,8 @@ impl FreePlaces {
     // Puts in the first place of a class. On `NoMemory` the places are as before.
     fn open(&mut self, class: u64, address: u64) -> Result<(), NoMemory>
         requires { get nat_eq self.old.classes class ≡ None }
-        ensures put { OnOk result
-            ((c a : ℕ) → has_place self.new c a
-            ≡ (if class == c && address == a then true else has_place self.old c a)) }
-        ensures unchanged { OnErr result
-            ((c a : ℕ) → has_place self.new c a ≡ has_place self.old c a) }
+        ensures put { OnOk result (PutsPlace self.old self.new class address) }
+        ensures unchanged { OnErr result (HasSamePlaces self.old self.new) }
     {
         let mut addresses = FreeAddresses::new(self.alloc);
         addresses.insert(address)?;

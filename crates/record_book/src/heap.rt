@@ -1,8 +1,8 @@
 //! Where blocks lie: the address of each live block, and those that may be handed out again. What a block is for is no part
 //! of it.
-ghost use Rattle.std.specs.Prelude.{◌≡◌, ℕ, ◌+◌, ◌^◌, ◌≤◌, ◌==◌, ◌&&◌, true, false, if◌then◌else◌, List, [], Option, IfNone, IfOk, IfSome, OnOk, OnErr};
-ghost use Rattle.record_book.specs.HeapPlaces.{Place, address_of, class_of};
-ghost use Rattle.record_book.specs.HeapState.{AreOf, FreesBlock, HasSpace, IsHeap, IsSameHeap, PutsBlock, TakesNext, entry_at, has_place};
+ghost use Rattle.std.specs.Prelude.{◌≡◌, ◌+◌, ◌^◌, ◌≤◌, false, [], IfNone, IfOk, IfSome, OnOk, OnErr};
+ghost use Rattle.record_book.specs.HeapPlaces.{class_of};
+ghost use Rattle.record_book.specs.HeapState.{FreesBlock, HasSamePlaces, HasSpace, IsAddressOf, IsHeap, IsSameHeap, PutsBlock, PutsPlaceOf, TakesAddress, entry_at, has_place};
 
 use crate::free_places::FreePlaces;
 use crate::live_blocks::{LiveBlocks, LiveEntry};
@@ -103,9 +103,7 @@ impl Heap {
     fn take_address(&mut self, class: u64) -> u64
         requires few_bytes { class ≤ 2 ^ 33 }
         requires room { self.old.end + 2 ^ 33 ≤ 2 ^ 63 }
-        ensures taken { (live : ℕ → ℕ → Option LiveEntry) (places : List Place)
-            → AreOf live (has_place self.old.free) self.old.end places
-            → TakesNext self.old self.new class places result }
+        ensures taken { TakesAddress self.old self.new class result }
         ensures live { self.new.live ≡ self.old.live }
         ensures end { self.new.end ≤ self.old.end + class }
     {
@@ -123,16 +121,9 @@ impl Heap {
     fn free_place(&mut self, left: Option<LiveEntry>) -> Result<(), NoMemory>
         requires { IfSome left
             (λ entry. has_place self.old.free entry.class entry.address ≡ false) }
-        ensures freed { OnOk result
-            (IfSome left
-            (λ entry. (c a : ℕ) → has_place self.new.free c a
-            ≡ (if entry.class == c && entry.address == a then true
-            else has_place self.old.free c a))) }
-        ensures none { OnOk result
-            (IfNone left
-            ((c a : ℕ) → has_place self.new.free c a ≡ has_place self.old.free c a)) }
-        ensures unchanged { OnErr result
-            ((c a : ℕ) → has_place self.new.free c a ≡ has_place self.old.free c a) }
+        ensures freed { OnOk result (PutsPlaceOf self.old.free self.new.free left) }
+        ensures none { OnOk result (IfNone left (HasSamePlaces self.old.free self.new.free)) }
+        ensures unchanged { OnErr result (HasSamePlaces self.old.free self.new.free) }
         ensures live { self.new.live ≡ self.old.live }
         ensures end { self.new.end ≡ self.old.end }
     {
@@ -145,8 +136,7 @@ impl Heap {
 
 /// The address at which a block lies, 0 where there is no block.
 pub fn address(left: Option<LiveEntry>) -> u64
-    ensures { (heap : Heap) (places : List Place) (thread id : ℕ) → IsHeap heap places
-        → left ≡ entry_at heap thread id → result ≡ address_of thread id places }
+    ensures { IsAddressOf left result }
 {
     match left {
         Some(entry) => entry.address,

@@ -1,6 +1,6 @@
 //! Where the live blocks lie, by thread and ID. Which places have no block, is no part of it.
-ghost use Rattle.std.specs.Prelude.{◌≡◌, ℕ, ◌<◌, ◌≤◌, ◌==◌, ◌&&◌, true, false, if◌then◌else◌, length, None, Some, IfNone, IfOk, IfSome, IsOk, OnErr, OnOk};
-ghost use Rattle.record_book.specs.LiveBlocks.{HasRoom, block_at, is_low, place_of};
+ghost use Rattle.std.specs.Prelude.{◌≡◌, ℕ, ◌≤◌, false, length, None, Some, IfNone, IfOk, IfSome, IsOk, OnErr, OnOk};
+ghost use Rattle.record_book.specs.LiveBlocks.{HasRoom, HasSameBlocks, IsPlaceIn, SetsBlock, block_at, is_low};
 
 use hp_num::NoMemory;
 use std::alloc::Global;
@@ -48,8 +48,7 @@ impl LiveBlocks {
 
     /// Makes room for one block more. The blocks stay.
     pub fn reserve(&mut self) -> Result<(), NoMemory>
-        ensures same { (thread id : ℕ)
-            → block_at self.new thread id ≡ block_at self.old thread id }
+        ensures same { HasSameBlocks self.old self.new }
         ensures room { OnOk result (HasRoom self.new) }
     {
         self.high.reserve(1)?;
@@ -59,10 +58,8 @@ impl LiveBlocks {
     /// Puts in the block of a thread's ID, in the place of the one that was live. On `NoMemory` the blocks are as before. It
     /// can't fail where there is room.
     pub fn insert(&mut self, thread: u32, id: u64, entry: LiveEntry) -> Result<(), NoMemory>
-        ensures put { OnOk result ((t i : ℕ) → block_at self.new t i
-            ≡ (if thread == t && id == i then Some entry else block_at self.old t i)) }
-        ensures unchanged { OnErr result
-            ((t i : ℕ) → block_at self.new t i ≡ block_at self.old t i) }
+        ensures put { OnOk result (SetsBlock self.old self.new thread id (Some entry)) }
+        ensures unchanged { OnErr result (HasSameBlocks self.old self.new) }
         ensures room { HasRoom self.old → IsOk result }
     {
         match self.place(thread, id) {
@@ -80,8 +77,7 @@ impl LiveBlocks {
     /// Takes out the block of a thread's ID, and answers where it lay, if it was live. It takes no memory.
     pub fn remove(&mut self, thread: u32, id: u64) -> Option<LiveEntry>
         ensures taken { result ≡ block_at self.old thread id }
-        ensures left { (t i : ℕ) → block_at self.new t i
-            ≡ (if thread == t && id == i then None else block_at self.old t i) }
+        ensures left { SetsBlock self.old self.new thread id None }
         ensures room { HasRoom self.old → HasRoom self.new }
     {
         match self.place(thread, id) {
@@ -96,9 +92,7 @@ impl LiveBlocks {
 
     // The place of a thread's ID in the table, where it has one.
     fn place(&self, thread: u32, id: u64) -> Option<usize>
-        ensures low { IfSome result (λ place. (place ≡ place_of thread id)
-            × (place < length self.now.low.items)
-            × (is_low (length self.now.low.items) thread id ≡ true)) }
+        ensures low { IfSome result (IsPlaceIn self.now thread id) }
         ensures high { IfNone result (is_low (length self.now.low.items) thread id ≡ false) }
     {
         if id >= LOW_IDS {

@@ -4,8 +4,8 @@
 ghost use Rattle.std.specs.Prelude.{◌≡◌, ℕ, ◌+◌, ◌-◌, ◌^◌, ◌≤◌, List, length, IfOk, OnErr};
 ghost use Rattle.hp_num.specs.Extends.{Extends};
 ghost use Rattle.stack_table.specs.Stack.{stack as stack_of};
-ghost use Rattle.record_book.specs.MappedNodes.{HasNodeRoom, ips_of};
-ghost use Rattle.record_book.specs.NodeState.{AreNumbered, ArePut, CanCall, GrowsNodes, IsInterned, IsNext};
+ghost use Rattle.record_book.specs.MappedNodes.{HasNodeRoom, PutsStack, ips_of};
+ghost use Rattle.record_book.specs.NodeState.{AreNumbered, CanCall, GrowsNodes, InternsNode, PutsNode, PutsNodes};
 
 use crate::turn_stack::TurnStack;
 use hp_num::NoMemory;
@@ -20,9 +20,7 @@ pub fn put_stack(nodes: &mut Nodes, stack: TurnStack, text: &mut Vec<u8>) -> Res
     requires few_ips { length (ips_of nodes.old stack) ≤ 256 }
     requires room { HasNodeRoom nodes.old stack }
     ensures put { IfOk result
-        (λ node. (known : List (List ℕ)) → AreNumbered nodes.old known
-        → ArePut known (ips_of nodes.old stack.entry) nodes.new node text.old.items
-        text.new.items) }
+        (PutsStack nodes.old nodes.new stack.entry text.old.items text.new.items) }
     ensures stack { IfOk result (λ node. stack_of nodes.new node ≡ ips_of nodes.old stack.entry) }
     ensures grown { GrowsNodes nodes.old nodes.new 256 result }
     ensures kept { Extends text.old.items text.new.items }
@@ -40,8 +38,7 @@ fn put_nodes(nodes: &mut Nodes, ips: &[u64], text: &mut Vec<u8>) -> Result<u32, 
     requires few_ips { length ips.now ≤ 256 }
     requires room { length nodes.old + 256 ≤ 2 ^ 32 - 2 }
     ensures put { IfOk result
-        (λ node. (known : List (List ℕ)) → AreNumbered nodes.old known
-        → ArePut known ips.now nodes.new node text.old.items text.new.items) }
+        (PutsNodes nodes.old nodes.new ips.now text.old.items text.new.items) }
     ensures grown { GrowsNodes nodes.old nodes.new 256 result }
     ensures kept { Extends text.old.items text.new.items }
 {
@@ -56,8 +53,7 @@ fn put_nodes(nodes: &mut Nodes, ips: &[u64], text: &mut Vec<u8>) -> Result<u32, 
 fn put_node(nodes: &mut Nodes, ip: u64, parent: u32, text: &mut Vec<u8>) -> Result<u32, NoMemory>
     requires { CanCall nodes.old parent }
     ensures next { IfOk result
-        (λ node. (known : List (List ℕ)) → AreNumbered nodes.old known
-        → IsNext nodes.old known nodes.new node ip parent text.old.items text.new.items) }
+        (PutsNode nodes.old nodes.new ip parent text.old.items text.new.items) }
     ensures grown { GrowsNodes nodes.old nodes.new 1 result }
     ensures kept { Extends text.old.items text.new.items }
 {
@@ -73,9 +69,7 @@ fn put_node(nodes: &mut Nodes, ip: u64, parent: u32, text: &mut Vec<u8>) -> Resu
 // The number of the node of an ip that is called from a node. On `NoMemory` the nodes are as before.
 fn intern(nodes: &mut Nodes, ip: u64, parent: u32) -> Result<u32, NoMemory>
     requires { CanCall nodes.old parent }
-    ensures interned { IfOk result
-        (λ node. (known : List (List ℕ)) → AreNumbered nodes.old known
-        → IsInterned nodes.old known nodes.new node ip parent) }
+    ensures interned { IfOk result (InternsNode nodes.old nodes.new ip parent) }
     ensures grown { GrowsNodes nodes.old nodes.new 1 result }
     ensures unchanged { OnErr result (nodes.new ≡ nodes.old) }
 {

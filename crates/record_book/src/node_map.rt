@@ -1,9 +1,7 @@
 //! Which node of the trace has the stack of a node of the scripts. How the lines of nodes are written is no part of it.
-ghost use Rattle.std.specs.Prelude.{◌≡◌, ◌≢◌, ℕ, ◌+◌, ◌<◌, ◌≤◌, List, length, IfOk};
-ghost use Rattle.stack_table.specs.Node.{Node};
-ghost use Rattle.stack_table.specs.Stack.{stack};
+ghost use Rattle.std.specs.Prelude.{◌≡◌, ◌≢◌, ℕ, ◌+◌, ◌<◌, ◌≤◌, length, IfOk};
 ghost use Rattle.record_scripts.specs.ScriptNodes.{nodes_in};
-ghost use Rattle.record_book.specs.MappedNodes.{AreMapped, number_at};
+ghost use Rattle.record_book.specs.MappedNodes.{HasBuffered, IsNewMap, number_at};
 
 use hp_num::NoMemory;
 use record_scripts::Scripts;
@@ -20,8 +18,7 @@ pub struct NodeMap {
 impl NodeMap {
     /// No node is known of these scripts.
     pub fn new(alloc: Global, job: &Scripts) -> Result<NodeMap, NoMemory>
-        ensures mapped { IfOk result
-            (λ map. (nodes : List Node) → AreMapped map (nodes_in job.now.scripts) nodes) }
+        ensures mapped { IfOk result (IsNewMap (nodes_in job.now.scripts)) }
     {
         let numbers = vec![in alloc; 0; job.nodes() as usize + 1]?;
         Ok(NodeMap {
@@ -35,8 +32,7 @@ impl NodeMap {
         requires held { node ≤ length (nodes_in job.now.scripts) }
         requires there { node < length self.old.numbers.items }
         ensures number { IfOk result (λ number. number ≡ number_at self.old node) }
-        ensures unknown { IfOk result
-            (λ number. number ≡ 0 → self.new.ips.items ≡ stack (nodes_in job.now.scripts) node) }
+        ensures unknown { IfOk result (HasBuffered self.new (nodes_in job.now.scripts) node) }
         ensures same { self.new.numbers ≡ self.old.numbers }
     {
         let number = self.numbers[node as usize];

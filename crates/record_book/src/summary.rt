@@ -1,12 +1,15 @@
 //! The summary of a recording: six lines of figures. The trace is no part of it.
-ghost use Rattle.std.specs.Prelude.{◌≡◌, ℕ, ◌^◌, ◌<◌, ◌≤◌, List, ◌++◌, length, take, vec_len, IfOk, OnErr, OnOk};
+#![tactic(auto, using(hp_num::proofs::Laws::extends_same, hp_num::proofs::Laws::extends_more, hp_num::proofs::Laws::extends_trans))]
+
+ghost use Rattle.std.specs.Prelude.{◌≡◌, ℕ, ◌^◌, ◌<◌, ◌≤◌, List, ◌++◌, length, IfOk, OnErr, OnOk};
+ghost use Rattle.hp_num.specs.Extends.{Extends};
 ghost use Rattle.record_scripts.specs.Events.{event_count};
 ghost use Rattle.record_scripts.specs.ScriptTurns.{turn_said};
 ghost use Rattle.record_book.specs.Actions.{actions};
 ghost use Rattle.record_book.specs.BookState.{entries_of};
 ghost use Rattle.record_book.specs.Figures.{own_peak};
 ghost use Rattle.record_book.specs.Orders.{IsUnder};
-ghost use Rattle.record_book.specs.SummaryText.{count_lines, figure, leaked_line, peak_line, rec_summary, summary_of};
+ghost use Rattle.record_book.specs.SummaryText.{count_lines, figure, leaked_line, peak_line, rec_summary, summary_of, summary_text};
 ghost use Rattle.record_book.specs.TallyState.{IsTally};
 
 use crate::tally::Tally;
@@ -83,10 +86,8 @@ impl Summary {
 
     /// Appends the six lines.
     fn put(&self, out: &mut Vec<u8>) -> Result<(), NoMemory>
-        ensures kept { take (vec_len out.old) out.new.items ≡ out.old.items }
-        ensures appended { OnOk result
-            (out.new.items ≡ out.old.items
-            ++ (count_lines self.now ++ (leaked_line self.now ++ peak_line self.now))) }
+        ensures kept { Extends out.old.items out.new.items }
+        ensures appended { OnOk result (out.new.items ≡ out.old.items ++ summary_text self.now) }
     {
         self.put_counts(out)?;
         self.put_leaked(out)?;
@@ -94,9 +95,9 @@ impl Summary {
     }
 
     /// Appends the lines of what was counted.
-    #[tactic(auto, unfolding(crate::specs::SummaryText::count_lines))]
+    #[tactic(auto, unfolding(crate::specs::SummaryText::count_lines), using(hp_num::proofs::Laws::extends_same, hp_num::proofs::Laws::extends_more, hp_num::proofs::Laws::extends_trans))]
     fn put_counts(&self, out: &mut Vec<u8>) -> Result<(), NoMemory>
-        ensures kept { take (vec_len out.old) out.new.items ≡ out.old.items }
+        ensures kept { Extends out.old.items out.new.items }
         ensures appended { OnOk result (out.new.items ≡ out.old.items ++ count_lines self.now) }
     {
         put_figure(out, b"# threads: ", self.threads)?;
@@ -106,9 +107,9 @@ impl Summary {
     }
 
     /// Appends the line of what is live at the end.
-    #[tactic(auto, unfolding(crate::specs::SummaryText::leaked_line))]
+    #[tactic(auto, unfolding(crate::specs::SummaryText::leaked_line), using(hp_num::proofs::Laws::extends_same, hp_num::proofs::Laws::extends_more, hp_num::proofs::Laws::extends_trans))]
     fn put_leaked(&self, out: &mut Vec<u8>) -> Result<(), NoMemory>
-        ensures kept { take (vec_len out.old) out.new.items ≡ out.old.items }
+        ensures kept { Extends out.old.items out.new.items }
         ensures appended { OnOk result (out.new.items ≡ out.old.items ++ leaked_line self.now) }
     {
         put_figure(out, b"\n# leaked: ", self.leaked)?;
@@ -117,9 +118,9 @@ impl Summary {
     }
 
     /// Appends the line of the greatest total.
-    #[tactic(auto, unfolding(crate::specs::SummaryText::peak_line))]
+    #[tactic(auto, unfolding(crate::specs::SummaryText::peak_line), using(hp_num::proofs::Laws::extends_same, hp_num::proofs::Laws::extends_more, hp_num::proofs::Laws::extends_trans))]
     fn put_peak(&self, out: &mut Vec<u8>) -> Result<(), NoMemory>
-        ensures kept { take (vec_len out.old) out.new.items ≡ out.old.items }
+        ensures kept { Extends out.old.items out.new.items }
         ensures appended { OnOk result (out.new.items ≡ out.old.items ++ peak_line self.now) }
     {
         put_figure(out, b"# peak: ", self.peak)?;
@@ -182,7 +183,7 @@ fn entry_count(turn: ScriptLine) -> usize
 
 /// Appends a label and a figure.
 fn put_figure(out: &mut Vec<u8>, label: &[u8], n: u64) -> Result<(), NoMemory>
-    ensures kept { take (vec_len out.old) out.new.items ≡ out.old.items }
+    ensures kept { Extends out.old.items out.new.items }
     ensures appended { OnOk result (out.new.items ≡ out.old.items ++ figure label.now n) }
 {
     put_bytes(out, label)?;

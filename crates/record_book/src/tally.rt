@@ -1,12 +1,10 @@
 //! The figures of turns that are taken one after another: what they allocate, what they leave live, and the greatest total.
 //! In which order scripts take their turns is no part of it.
-ghost use Rattle.std.specs.Prelude.{◌≡◌, ℕ, ◌+◌, ◌^◌, ◌≤◌, Bool, if◌then◌else◌, List, [], ◌∷◌, OnOk, is_some};
-ghost use Rattle.record_scripts.specs.Events.{allocation, free};
+ghost use Rattle.std.specs.Prelude.{◌≡◌, ℕ, ◌+◌, ◌^◌, ◌≤◌, if◌then◌else◌, List, [], OnOk, is_some};
 ghost use Rattle.record_scripts.specs.ScriptTurns.{turn_said};
 ghost use Rattle.record_scripts.specs.Turns.{IsBounded};
 ghost use Rattle.record_book.specs.Actions.{Action};
-ghost use Rattle.record_book.specs.TallyState.{HasCountRoom, IsTally};
-ghost use Rattle.record_book.specs.TraceState.{with_turn};
+ghost use Rattle.record_book.specs.TallyState.{CountsAllocation, CountsFree, CountsTurn, HasCountRoom, IsTally};
 
 use hp_num::NoMemory;
 use record_scripts::ScriptLine;
@@ -48,9 +46,7 @@ impl Tally {
     pub fn take_turn(&mut self, thread: u32, turn: ScriptLine) -> Result<(), NoMemory>
         requires bounded { (ips : List ℕ) × IsBounded (turn_said turn ips) }
         requires room { HasCountRoom self.old }
-        ensures taken { OnOk result
-            ((ips : List ℕ) (actions : List Action) → IsTally self.old actions
-            → IsTally self.new (with_turn thread (turn_said turn ips) actions)) }
+        ensures taken { OnOk result (CountsTurn self.old self.new thread turn) }
         ensures bytes { self.new.allocated ≤ self.old.allocated + 2 ^ 32 }
         ensures calls { self.new.calls ≤ self.old.calls + 1 }
     {
@@ -71,10 +67,7 @@ impl Tally {
     fn allocate(&mut self, thread: u32, id: u64, size: u64) -> Result<(), NoMemory>
         requires few_bytes { size ≤ 2 ^ 32 }
         requires room { HasCountRoom self.old }
-        ensures taken { OnOk result
-            ((ips : List ℕ) (actions : List Action) → IsTally self.old actions
-            → IsTally self.new (record { thread = thread; event = allocation id size ips }
-            ∷ actions)) }
+        ensures taken { OnOk result (CountsAllocation self.old self.new thread id size) }
         ensures bytes { self.new.allocated ≤ self.old.allocated + 2 ^ 32 }
         ensures calls { self.new.calls ≤ self.old.calls + 1 }
     {
@@ -92,8 +85,7 @@ impl Tally {
     // Takes a free. It takes no memory.
     fn free(&mut self, thread: u32, id: u64)
         requires { (actions : List Action) × IsTally self.old actions }
-        ensures taken { (rejoined : Bool) (actions : List Action) → IsTally self.old actions
-            → IsTally self.new (record { thread = thread; event = free id rejoined } ∷ actions) }
+        ensures taken { CountsFree self.old self.new thread id }
         ensures bytes { self.new.allocated ≡ self.old.allocated }
         ensures calls { self.new.calls ≡ self.old.calls }
     {

@@ -2,14 +2,14 @@
 //! part of it.
 #![tactic(auto, using(hp_num::proofs::Laws::extends_same, hp_num::proofs::Laws::extends_more, hp_num::proofs::Laws::extends_trans))]
 
-ghost use Rattle.std.specs.Prelude.{◌≡◌, ◌+◌, ◌≤◌, [], ◌++◌, length, vec_capacity, vec_len, IfOk, IsOk, OnOk, OnErr};
-ghost use Rattle.ht_lines.specs.Content.{raw_allocation_line, raw_free_line};
+ghost use Rattle.std.specs.Prelude.{◌≡◌, ◌≤◌, [], ◌++◌, length, IfOk, IsOk, OnOk, OnErr};
 ghost use Rattle.hp_num.specs.Extends.{Extends};
 ghost use Rattle.record_scripts.specs.Turns.{IsBounded, allocates};
+ghost use Rattle.record_scripts.specs.declared.script_line.ScriptLine.TheVariants.{Allocation as AllocationLine};
 ghost use Rattle.record_book.specs.HeapState.{entry_at};
 ghost use Rattle.record_book.specs.MappedNodes.{ips_of};
-ghost use Rattle.record_book.specs.RecordedTrace.{line_of, switch_text, thread_line};
-ghost use Rattle.record_book.specs.TakenTurn.{AddsTurn, CanTake, HasRoom, IsUndone, PutsTurn, TakesTurn, turn_of};
+ghost use Rattle.record_book.specs.RecordedTrace.{allocation_text, free_text, switch_text, thread_line};
+ghost use Rattle.record_book.specs.TakenTurn.{AddsTurn, CanTake, HasLineRoom, HasRoom, IsUndone, PutsTurn, TakesTurn};
 ghost use Rattle.record_book.specs.TraceState.{IsTrace};
 
 use crate::heap::{Heap, address};
@@ -53,10 +53,9 @@ impl Trace {
     /// Appends the events of a turn of a thread. On `NoMemory` the trace is as before.
     pub fn add(&mut self, thread: u32, turn: ScriptLine, stack: TurnStack) -> Result<u32, NoMemory>
         requires { CanTake self.old thread turn stack }
-        ensures added { OnOk result
-            (AddsTurn self.old self.new thread (turn_of self.old turn stack.entry)) }
+        ensures added { OnOk result (AddsTurn self.old self.new thread turn stack.entry) }
         ensures kept { Extends self.old.text.items self.new.text.items }
-        ensures takes { TakesTurn self.old self.new (ips_of self.old.nodes stack.entry) result }
+        ensures takes { TakesTurn self.old self.new stack.entry result }
         ensures undone { OnErr result (IsUndone self.old self.new) }
     {
         let text_len = self.text.len();
@@ -72,10 +71,9 @@ impl Trace {
     // The same; on `NoMemory` the text and the nodes may have more at their ends.
     fn put_turn(&mut self, thread: u32, turn: ScriptLine, stack: TurnStack) -> Result<u32, NoMemory>
         requires { CanTake self.old thread turn stack }
-        ensures added { OnOk result
-            (AddsTurn self.old self.new thread (turn_of self.old turn stack.entry)) }
+        ensures added { OnOk result (AddsTurn self.old self.new thread turn stack.entry) }
         ensures kept { Extends self.old.text.items self.new.text.items }
-        ensures takes { TakesTurn self.old self.new (ips_of self.old.nodes stack.entry) result }
+        ensures takes { TakesTurn self.old self.new stack.entry result }
     {
         put_switch(&mut self.text, self.last, thread)?;
         let node = self.put_events(thread, turn, stack)?;
@@ -91,10 +89,9 @@ impl Trace {
         stack: TurnStack,
     ) -> Result<u32, NoMemory>
         requires { CanTake self.old thread turn stack }
-        ensures put { OnOk result (PutsTurn self.old self.new thread
-            (turn_of self.old turn stack.entry)) }
+        ensures put { OnOk result (PutsTurn self.old self.new thread turn stack.entry) }
         ensures kept { Extends self.old.text.items self.new.text.items }
-        ensures takes { TakesTurn self.old self.new (ips_of self.old.nodes stack.entry) result }
+        ensures takes { TakesTurn self.old self.new stack.entry result }
     {
         match turn {
             ScriptLine::Allocation { id, size } => {
@@ -126,10 +123,10 @@ impl Trace {
         requires left { left ≡ entry_at self.old.heap thread id }
         requires bounded { IsBounded (allocates id size (ips_of self.old.nodes stack)) }
         requires room { HasRoom self.old stack }
-        ensures put { OnOk result (PutsTurn self.old self.new thread
-            (allocates id size (ips_of self.old.nodes stack.entry))) }
+        ensures put { OnOk result
+            (PutsTurn self.old self.new thread (AllocationLine id size) stack.entry) }
         ensures kept { Extends self.old.text.items self.new.text.items }
-        ensures takes { TakesTurn self.old self.new (ips_of self.old.nodes stack.entry) result }
+        ensures takes { TakesTurn self.old self.new stack.entry result }
     {
         let node = put_stack(&mut self.nodes, stack, &mut self.text)?;
         self.text.reserve(LONGEST_NUMBER_LINE)?;
@@ -142,19 +139,18 @@ impl Trace {
 // Appends the line of an allocation. It can't fail where there is room for 53 bytes.
 fn put_alloc(text: &mut Vec<u8>, size: u64, trace: u64, ptr: u64) -> Result<(), NoMemory>
     ensures appended { OnOk result
-        (text.new.items ≡ text.old.items ++ line_of (raw_allocation_line size trace ptr)) }
+        (text.new.items ≡ text.old.items ++ allocation_text size trace ptr) }
     ensures kept { Extends text.old.items text.new.items }
-    ensures room { vec_len text.old + 53 ≤ vec_capacity text.old → IsOk result }
+    ensures room { HasLineRoom text.old → IsOk result }
 {
     put_number_line(text, b'+', &[size, trace, ptr])
 }
 
 // Appends the line of a free. It can't fail where there is room for 53 bytes.
 fn put_free(text: &mut Vec<u8>, ptr: u64) -> Result<(), NoMemory>
-    ensures appended { OnOk result
-        (text.new.items ≡ text.old.items ++ line_of (raw_free_line ptr)) }
+    ensures appended { OnOk result (text.new.items ≡ text.old.items ++ free_text ptr) }
     ensures kept { Extends text.old.items text.new.items }
-    ensures room { vec_len text.old + 53 ≤ vec_capacity text.old → IsOk result }
+    ensures room { HasLineRoom text.old → IsOk result }
 {
     put_number_line(text, b'-', &[ptr])
 }

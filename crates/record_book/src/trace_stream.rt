@@ -1,16 +1,15 @@
 //! The trace of a recording turn by turn, of which a front may be let go. That all of it is kept, is no part of it.
-ghost use Rattle.std.specs.Prelude.{◌≡◌, ◌≢◌, ℕ, ◌+◌, ◌<◌, ◌≤◌, ◌↔◌, List, [], ◌++◌, length, vec_capacity, vec_len, IfOk, IsOk, IsTrue, OnOk, OnErr};
+ghost use Rattle.std.specs.Prelude.{◌≡◌, ◌≢◌, ◌+◌, ◌<◌, ◌≤◌, ◌↔◌, List, [], length, vec_capacity, vec_len, IfOk, IsOk, IsTrue, OnOk, OnErr};
 ghost use Rattle.std.specs.Arc.{arc_value};
 ghost use Rattle.stack_table.specs.Node.{Node};
 ghost use Rattle.record_scripts.specs.Events.{event_count};
 ghost use Rattle.record_scripts.specs.Job.{IsSameWork};
-ghost use Rattle.record_scripts.specs.ScriptTurns.{turn_said};
-ghost use Rattle.record_book.specs.Actions.{actions};
-ghost use Rattle.record_book.specs.BookState.{IsStep, entries_of};
-ghost use Rattle.record_book.specs.HeapPlaces.{AreApart, live_blocks, places_after};
+ghost use Rattle.record_book.specs.BookState.{AppendsTurn, IsStep};
+ghost use Rattle.record_book.specs.HeapPlaces.{LieApart};
 ghost use Rattle.record_book.specs.Orders.{IsInterleaving, IsUnder};
 ghost use Rattle.record_book.specs.MappedNodes.{IsKnown, ips_of};
 ghost use Rattle.record_book.specs.RecordedTrace.{recorded};
+ghost use Rattle.record_book.specs.StreamState.{GainsText};
 ghost use Rattle.record_book.specs.declared.turn_stack.TurnStack.TheVariants.{Known};
 
 use crate::node_map::NodeMap;
@@ -79,9 +78,7 @@ impl TraceStream {
         requires { thread < length self.old.job.scripts }
         ensures step { IfOk result (IsStep self.old.job thread self.old.order self.new.order) }
         ensures job { self.new.job ≡ self.old.job }
-        ensures text { OnOk result ((more : List ℕ) × (self.new.text ≡ self.old.text ++ more)
-            × (recorded self.new.job self.new.order
-            ≡ recorded self.old.job self.old.order ++ more)) }
+        ensures text { OnOk result (GainsText self.old self.new) }
         ensures unchanged { OnErr result (self.new ≡ self.old) }
     {
         let place = self.done[thread as usize];
@@ -135,8 +132,7 @@ impl TraceStream {
 
         // The order.
         ensures under { IsUnder self.now.job.scripts self.now.order }
-        ensures apart { AreApart
-            (live_blocks (places_after (actions self.now.job.scripts self.now.order))) }
+        ensures apart { LieApart self.now.job.scripts self.now.order }
         ensures few { length self.now.order ≤ event_count self.now.job.scripts }
     {
         self.order.as_slice()
@@ -161,9 +157,7 @@ impl TraceStream {
 
 // Appends a thread to an order, once for each event of its turn. It can't fail where there is room for two.
 fn push_entries(order: &mut Vec<u8>, thread: u8, turn: ScriptLine) -> Result<(), NoMemory>
-    ensures pushed { OnOk result
-        ((ips : List ℕ) → order.new.items
-        ≡ order.old.items ++ entries_of thread (turn_said turn ips)) }
+    ensures pushed { OnOk result (AppendsTurn order.old.items order.new.items thread turn) }
     ensures room { vec_len order.old + 2 ≤ vec_capacity order.old → IsOk result }
 {
     order.push(thread)?;
