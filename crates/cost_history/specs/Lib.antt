@@ -3,5 +3,6 @@ pub mod Seen
 pub mod Marks
 pub mod MarksView
 pub mod HistoryState
+pub mod Steps
 pub mod HistoryView
 pub mod ReplayState

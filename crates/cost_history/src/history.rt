@@ -1,8 +1,9 @@
 //! A history of what stacks cost: the marks of those that have changed, and the changes at the places that were kept.
-ghost use Rattle.std.specs.Prelude.{◌≡◌, ℕ, ◌+◌, ◌-◌, ◌^◌, ◌<◌, ◌≤◌, ◌≢◌, max, min, List, [], ◌∷◌, ◌++◌, true, false, length, OnOk, OnErr};
-ghost use Rattle.cost_history.specs.Changes.{AreParted, IsAsked, IsBetween, cost_at};
+ghost use Rattle.std.specs.Prelude.{◌≡◌, ℕ, ◌+◌, ◌-◌, ◌^◌, ◌<◌, ◌≤◌, max, min, [], ◌∷◌, true, false, length, OnOk, OnErr};
+ghost use Rattle.cost_history.specs.Changes.{AreParted, cost_at};
 ghost use Rattle.cost_history.specs.Marks.{candidates, is_marked, no_marks, with_mark};
-ghost use Rattle.cost_history.specs.HistoryState.{AreSaid, IsRoomy, RoomyHistory, TellsNow, changes_to, no_history};
+ghost use Rattle.cost_history.specs.HistoryState.{IsRoomy, RoomyHistory, TellsNow, no_history};
+ghost use Rattle.cost_history.specs.Steps.{GainsMarked, GainsSaid, KeepsBefore, KeepsOthers, SeesSame, StayBetween, TellsChange, TellsFrom, with_left, with_stacks};
 
 use crate::change::Change;
 use crate::marks::Marks;
@@ -72,8 +73,8 @@ impl CostHistory {
     /// Says that the stack's cost has changed since the last place that was kept. It takes no memory: of a stack for whose
     /// mark no room was made, it marks all.
     pub fn mark(&mut self, stack: u32)
-        ensures others { stack < self.old.room → (other : ℕ) → other ≢ stack →
-            is_marked self.new.history.marks other ≡ is_marked self.old.history.marks other }
+        ensures others { stack < self.old.room
+            → KeepsOthers self.old.history.marks self.new.history.marks stack }
         ensures listed { stack < self.old.room →
             self.new.history.marks ≡ with_mark self.old.history.marks stack }
         ensures full { self.old.room ≤ stack →
@@ -82,9 +83,7 @@ impl CostHistory {
         ensures rest { self.new
             ≡ record self.old
             { history = record self.old.history { marks = self.new.history.marks } } }
-        ensures tells { (before after : ℕ → ℕ) → TellsNow self.old.history before →
-            ((other : ℕ) → other ≢ stack → after other ≡ before other) →
-            TellsNow self.new.history after }
+        ensures tells { TellsChange self.old.history self.new.history stack }
     {
         self.marks.mark(stack);
     }
@@ -100,27 +99,19 @@ impl CostHistory {
         requires ascends { self.old.history.last ≤ place }
         requires most { place ≤ 2 ^ 62 }
         requires callable { (stack : ℕ) → stack < stacks → F.pre cost.now stack }
-        ensures before { OnOk result ((costs : ℕ → ℕ) → AreSaid (F.post cost.now) stacks costs →
-            (seer stack : ℕ) → seer < place →
-            cost_at self.new.history.changes seer stack
-            ≡ cost_at self.old.history.changes seer stack) }
-        ensures here { OnOk result ((costs : ℕ → ℕ) → AreSaid (F.post cost.now) stacks costs →
-            self.old.history.stacks ≤ stacks → TellsNow self.old.history costs →
-            (seer stack : ℕ) → place ≤ seer →
-            cost_at self.new.history.changes seer stack ≡ costs stack) }
-        ensures most { OnOk result
-            (length self.new.history.changes
-            ≤ length self.old.history.changes
-            + length (candidates self.old.history.marks stacks)) }
+        ensures before { OnOk result
+            (KeepsBefore (F.post cost.now) stacks place self.old.history self.new.history) }
+        ensures here { OnOk result
+            (TellsFrom (F.post cost.now) stacks place self.old.history self.new.history) }
+        ensures most { OnOk result (GainsMarked stacks self.old.history.marks
+            self.old.history.changes self.new.history.changes) }
         ensures marks { OnOk result (self.new.history.marks ≡ no_marks) }
         ensures left { OnOk result (self.new.history.left ≡ self.old.history.left) }
         ensures last { OnOk result (self.new.history.last ≡ place) }
         ensures stacks { OnOk result
             (self.new.history.stacks ≡ max self.old.history.stacks stacks) }
         ensures room { OnOk result (self.new.room ≡ self.old.room) }
-        ensures unchanged { OnErr result
-            (self.new ≡ record self.old
-            { history = record self.old.history { stacks = self.new.history.stacks } }) }
+        ensures unchanged { OnErr result (self.new ≡ with_stacks self.old self.new.history.stacks) }
     {
         grow(&mut self.cells, stacks)?;
         push_changes(&mut self.changes, &self.marks, stacks, place, cost)?;
@@ -145,17 +136,10 @@ impl CostHistory {
     /// Takes out the changes that no kept place sees, nor the present one. The places come in any order, and are sorted. It
     /// takes no memory.
     pub fn thin(&mut self, kept: &mut Vec<u64>)
-        ensures costs { (place : ℕ) → IsAsked kept.old.items self.old.history.last place →
-            (stack : ℕ) → cost_at self.new.history.changes place stack
-            ≡ cost_at self.old.history.changes place stack }
+        ensures costs { SeesSame kept.old.items self.old.history.last self.old.history.changes
+            self.new.history.changes }
         ensures parted { AreParted kept.old.items self.new.history.changes }
-        ensures rest { self.new
-            ≡ record self.old {
-              history = record self.old.history {
-                changes = self.new.history.changes;
-                left = length self.new.history.changes;
-              };
-            } }
+        ensures rest { self.new ≡ with_left self.old self.new.history.changes }
         ensures tells { (costs : ℕ → ℕ) → TellsNow self.old.history costs
             → TellsNow self.new.history costs }
     {
@@ -195,15 +179,11 @@ fn push_changes<F: Fn(u32) -> u64>(
     cost: &F,
 ) -> Result<(), NoMemory>
     requires callable { (stack : ℕ) → stack < stacks → F.pre cost.now stack }
-    ensures pushed { OnOk result ((costs : ℕ → ℕ) →
-        ((stack says : ℕ) → stack < stacks → F.post cost.now stack says → says ≡ costs stack) →
-        changes.new.items ≡
-        changes.old.items ++ changes_to stacks place costs (candidates marks.now.marks stacks)) }
+    ensures pushed { OnOk result (GainsSaid (F.post cost.now) stacks place marks.now.marks
+        changes.old.items changes.new.items) }
     ensures most { OnOk result
-        (length changes.new.items
-        ≤ length changes.old.items + length (candidates marks.now.marks stacks)) }
-    ensures between { OnOk result ((all last : ℕ) → stacks ≤ all → last ≤ place →
-        IsBetween all 0 changes.old.items last → IsBetween all 0 changes.new.items place) }
+        (GainsMarked stacks marks.now.marks changes.old.items changes.new.items) }
+    ensures between { OnOk result (StayBetween stacks place changes.old.items changes.new.items) }
     ensures unchanged { OnErr result (changes.new.items ≡ changes.old.items) }
 {
     let count = marks.candidates(stacks);

@@ -1,7 +1,8 @@
 //! Thinning: the changes that no kept place can see are taken out.
 ghost use Rattle.std.specs.Prelude.{◌≡◌, ◌⊎◌, ℕ, ◌+◌, ◌-◌, ◌^◌, ◌<◌, ◌≤◌, Contains, List, [], ◌∷◌, ◌++◌, length, take, drop, slice_index};
-ghost use Rattle.cost_history.specs.Changes.{AreParted, IsAsked, IsBetween, cost_at};
+ghost use Rattle.cost_history.specs.Changes.{AreParted, IsAsked, IsBetween};
 ghost use Rattle.cost_history.specs.Seen.{AreAscending, AreFirst, AreSeen};
+ghost use Rattle.cost_history.specs.Steps.{SeesSame};
 
 use crate::change::Change;
 
@@ -15,9 +16,7 @@ pub(crate) fn thin(changes: &mut Vec<Change>, seen: &mut Vec<u64>, kept: &mut Ve
     requires last { last ≤ 2 ^ 62 }
     ensures between { IsBetween (length seen.new.items) 0 changes.new.items last }
     ensures seen { length seen.new.items ≡ length seen.old.items }
-    ensures costs { (place : ℕ) → IsAsked kept.old.items last place →
-        (stack : ℕ) → cost_at changes.new.items place stack
-        ≡ cost_at changes.old.items place stack }
+    ensures costs { SeesSame kept.old.items last changes.old.items changes.new.items }
     ensures parted { AreParted kept.old.items changes.new.items }
 {
     kept.sort_unstable();
@@ -45,9 +44,7 @@ fn sift(changes: &mut Vec<Change>, seen: &mut Vec<u64>, kept: &[u64], last: u64)
     ensures within { result ≤ length changes.new.items }
     ensures between { IsBetween (length seen.new.items) 0 (drop result changes.new.items) last }
     ensures seen { length seen.new.items ≡ length seen.old.items }
-    ensures costs { (place : ℕ) → IsAsked kept.now last place → (stack : ℕ) →
-        cost_at (drop result changes.new.items) place stack
-        ≡ cost_at changes.old.items place stack }
+    ensures costs { SeesSame kept.now last changes.old.items (drop result changes.new.items) }
     ensures parted { AreParted kept.now (drop result changes.new.items) }
 {
     let mut left = changes.len();
