@@ -1,11 +1,11 @@
 -- What a flame graph is drawn of. The cost of a stack in flame stacks is its allocations, its
 -- temporary allocations, the bytes that it has live at the end, or those at the peak.
-use Rattle.std.specs.Prelude.{ℕ, List, map}
+use Rattle.std.specs.Prelude.{◌≡◌, ℕ, List, map}
 use Rattle.std.specs.List.{range_with_len}
 use Rattle.live_ledger.specs.declared.event.Event.{Event}
 use Rattle.live_ledger.specs.Events.{counted}
 use Rattle.live_ledger.specs.InStack.{calls_in, live_in, temporary_in}
-use Rattle.peak_costs.specs.Peak.{first_events}
+use Rattle.peak_costs.specs.Peak.{StandsFor, first_events}
 use Rattle.peak_costs.specs.FirstGreatest.{first_greatest}
 use Rattle.peak_costs.specs.Totals.{totals}
 use Rattle.live_ledger.specs.declared.figures.Figures.{Figures}
@@ -32,3 +32,8 @@ cost_in Peak events stack = live_in stack
 -- the costs of so many stacks, by their numbers
 unfoldable pub trace_costs : FlameCost → ℕ → List Event → List ℕ
 trace_costs cost stacks events = map (cost_in cost events) (range_with_len 0 stacks)
+
+-- these are the costs in the events that the peaks stand for
+abbrev pub AreTraceCosts : FlameCost → PeakState → List ℕ → Type 0
+AreTraceCosts cost peaks costs = (events : List Event) → StandsFor peaks events
+    → costs ≡ trace_costs cost peaks.ledger.stacks events

@@ -36,6 +36,16 @@ pub record HasLine (tree : TreeState) (n : ℕ) : Type 0 where
   pub within : n < length tree.nodes
   pub own : own_at tree n ≢ 0
 
+-- the lines of nodes; those of the new ones are those of the old ones and that of node n; and they have lines where the old ones do
+abbrev pub lines_at : TreeState → List ℕ → List ℕ
+lines_at tree nodes = flat_map (line_at tree) nodes
+
+abbrev pub AddsLineOf : TreeState → ℕ → List ℕ → List ℕ → Type 0
+AddsLineOf tree n old new = lines_at tree new ≡ lines_at tree old ++ line_at tree n
+
+abbrev pub StillHaveLines : TreeState → List ℕ → List ℕ → Type 0
+StillHaveLines tree old new = All (HasLine tree) old → All (HasLine tree) new
+
 -- the nodes have lines, there is room for the text of each front, and no line is longer than the longest
 pub record AreLines {Z : Type 0} (tree : TreeState) (nodes : Vec ℕ Z) (front : FrontText)
     (longest : ℕ)

@@ -1,7 +1,7 @@
 -- The flame stacks of a front are its line, where the stacks that are it have a sum other than 0,
 -- and then those of each of its next fronts. A line is the front's texts with `;` between them and
 -- `:` for each `;` in them, a blank, the sum and a line feed.
-use Rattle.std.specs.Prelude.{ℕ, zero, suc, ◌==◌, if◌then◌else◌, List, [], ◌∷◌, ◌++◌, codes, ◌+◌, decimal, length, map}
+use Rattle.std.specs.Prelude.{◌≡◌, ℕ, zero, suc, ◌==◌, if◌then◌else◌, List, [], ◌∷◌, ◌++◌, codes, ◌+◌, decimal, length, map}
 use Rattle.std.specs.List.{flat_map}
 use Rattle.stack_table.specs.Stack.{most_frames}
 use Rattle.cost_tree.specs.Costed.{Costed, costed}
@@ -32,10 +32,17 @@ unfoldable pub flame_path : List (List ℕ) → List ℕ
 flame_path [] = []
 flame_path (text ∷ more) = flame_name text ++ flame_rest more
 
+-- the path is that of any front of which this is the rest, which has a semicolon more
+abbrev pub IsPathOf : List ℕ → List ℕ → Type 0
+IsPathOf rest path = (front : List (List ℕ)) → rest ≡ flame_rest front → path ≡ flame_path front
+
+-- a line of a path and a figure
+abbrev pub figure_line : List ℕ → ℕ → List ℕ
+figure_line path figure = path ++ (codes " " ++ (decimal figure ++ codes "\n"))
+
 -- the line of a front with its own sum, where that isn't 0
 unfoldable pub flame_line : List (List ℕ) → ℕ → List ℕ
-flame_line front sum = if sum == 0 then []
-    else flame_path front ++ (codes " " ++ (decimal sum ++ codes "\n"))
+flame_line front sum = if sum == 0 then [] else figure_line (flame_path front) sum
 
 -- the line of a front, and then the lines of the fronts that begin with it and have up to so many texts more, those of
 -- one with a lower least stack first

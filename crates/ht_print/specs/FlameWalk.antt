@@ -2,7 +2,9 @@
 use Rattle.std.specs.Prelude.{◌≡◌, ℕ, ◌-◌, ◌<◌, List, [], ◌∷◌, ◌++◌, length, Some, slice_get, slice_index_or}
 use Rattle.cost_tree.specs.declared.node.CostNode.{CostNode}
 use Rattle.cost_tree.specs.Costed.{Costed}
+use Rattle.cost_tree.specs.IsTreeOf.{IsTreeOf}
 use Rattle.cost_tree.specs.TreeState.{TreeState}
+use Rattle.stack_table.specs.Stack.{most_frames}
 use Rattle.ht_print.specs.FlameText.{flame_of}
 
 -- the front of node n
@@ -28,3 +30,8 @@ pub record IsRooted (tree : TreeState) : Type 0 where
 -- the lines of node n and of those below it, in a tree of fronts of at most `depth` texts
 abbrev pub flame_at : ℕ → TreeState → List Costed → ℕ → List ℕ
 flame_at depth tree stacks n = flame_of (depth - length (front_at tree n)) stacks (front_at tree n)
+
+-- the text is the flame stacks of the stacks that the tree is one of
+abbrev pub AreFlamesOf : TreeState → List ℕ → Type 0
+AreFlamesOf tree text = (stacks : List Costed) → IsTreeOf tree stacks most_frames
+    → text ≡ flame_of most_frames stacks []

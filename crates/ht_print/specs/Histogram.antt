@@ -1,7 +1,9 @@
 -- How many allocations of a trace have which size, and the text that tells it. The histogram counts
 -- in each range the allocations whose size is in it.
 use Rattle.std.specs.Prelude.{
+  ◌≡◌,
   ℕ,
+  ◌*◌,
   List,
   ◌++◌,
   ◌&&◌,
@@ -14,6 +16,8 @@ use Rattle.std.specs.Prelude.{
   count_by,
   decimal,
   nat_le,
+  slice_get,
+  slice_index,
   if◌then◌else◌,
 }
 use Rattle.live_ledger.specs.declared.event.Event.{Event}
@@ -77,3 +81,13 @@ weight least greatest info = if is_in least greatest info.size then 1 else 0
 unfoldable pub allocations_at : LedgerState → ℕ → Option ℕ → ℕ
 allocations_at ledger least greatest = weighed (weight least greatest) ledger.infos
     ledger.info_calls
+
+-- the line of a range by these counts
+abbrev pub range_at : LedgerState → List ℕ → ℕ → Option ℕ → List ℕ
+range_at ledger label least greatest = range_line label (allocations_at ledger least greatest)
+
+-- so many are the allocations of an info that is held, where its size is in the range, and else none
+abbrev pub IsCountAt : LedgerState → ℕ → Option ℕ → ℕ → ℕ → Type 0
+IsCountAt ledger least greatest info count = (held : HeldInfo)
+    → slice_get ledger.infos info ≡ Some held
+    → count ≡ weight least greatest held * slice_index ledger.info_calls info

@@ -27,6 +27,11 @@ pub record AreApart {X : Type 0} (pattern_of : X → List ℕ) (xs : List X) : T
   pub apart : (i j : ℕ) (d : X) → i < j → j < length xs
       → begins (pattern_of (slice_index_or xs j d)) (pattern_of (slice_index_or xs i d)) ≡ false
 
+-- any text begins with one of some elements where it begins with one of the others
+abbrev pub BeginSame : {X : Type 0} → (X → List ℕ) → List X → List X → Type 0
+BeginSame pattern_of xs others = (text : List ℕ)
+    → begins_any pattern_of xs text ≡ begins_any pattern_of others text
+
 -- such patterns, which stand for all of these
 pub record AreLeast {X : Type 0} (pattern_of : X → List ℕ) (patterns : List (List ℕ))
     (xs : List X) : Type 0 where

@@ -1,7 +1,9 @@
+pub mod Appends
 pub mod SummaryText
 pub mod Histogram
 pub mod Suppressed
 pub mod LeastPatterns
+pub mod MetPatterns
 pub mod MetFrames
 pub mod FlameCosts
 pub mod FlameText
@@ -12,8 +14,10 @@ pub mod ReportOrder
 pub mod IsEntry
 pub mod ReportGroups
 pub mod ReportLines
+pub mod Sections
 pub mod HasGroups
 pub mod PlaceTable
 pub mod Places
 pub mod PlacedStacks
 pub mod ReportText
+pub mod Layouts

@@ -20,8 +20,12 @@ meets_frames tables frames = list_any (meets_frame tables) frames
 abbrev pub meets_instruction : TableState → ℕ → Bool
 meets_instruction tables n = meets_frames tables (frames_of tables.instructions n)
 
+-- the answers for all instructions, by their numbers
+abbrev pub met_instructions : TableState → List Bool
+met_instructions tables = map (meets_instruction tables)
+    (range_with_len 0 (length tables.instructions + 1))
+
 -- the answers are those of the tables
 pub record AreMet (tables : TableState) (met : MetFrames) : Type 0 where
   pub no_stack : met.no_stack ≡ meets_frame tables no_stack
-  pub instructions : met.instructions.items
-      ≡ map (meets_instruction tables) (range_with_len 0 (length tables.instructions + 1))
+  pub instructions : met.instructions.items ≡ met_instructions tables

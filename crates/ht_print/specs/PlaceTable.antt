@@ -8,6 +8,8 @@ use Rattle.std.specs.Prelude.{
   ◌+◌,
   ◌*◌,
   ◌%◌,
+  ◌-◌,
+  ◌^◌,
   ◌<◌,
   ◌≤◌,
   All,
@@ -80,3 +82,35 @@ pub record IsTable (tables : TableState) (table : PlaceTable) : Type 0 where
   pub bucketed : AreBucketed (buckets_of tables) (names_of tables table) table.last.items
       table.before.items
   pub known : AreKnown tables (names_of tables table) table.known.items
+
+-- the number is that of a text, which stands in the table; and that of the text of a stack
+abbrev pub HasName : TableState → PlaceTable → List ℕ → ℕ → Type 0
+HasName tables table name number = slice_get (names_of tables table) number ≡ Some name
+
+abbrev pub HasPlace : TableState → PlaceTable → ℕ → ℕ → Type 0
+HasPlace tables table stack number = HasName tables table (place_of tables stack) number
+
+-- the text doesn't stand there
+abbrev pub LacksName : TableState → PlaceTable → List ℕ → Type 0
+LacksName tables table name = (n : ℕ) (other : List ℕ) → HasName tables table other n
+    → other ≢ name
+
+-- all texts keep their numbers
+abbrev pub KeepsNames : TableState → PlaceTable → PlaceTable → Type 0
+KeepsNames tables old new = (n : ℕ) (name : List ℕ) → HasName tables old name n
+    → HasName tables new name n
+
+-- at most one text is new
+abbrev pub HasOneMore : PlaceTable → PlaceTable → Type 0
+HasOneMore old new = length new.stacks.items ≤ length old.stacks.items + 1
+
+-- the bucket is that of the text
+pub record IsBucket (tables : TableState) (text : List ℕ) (bucket : ℕ) : Type 0 where
+  pub is : bucket ≡ bucket_of (buckets_of tables) text
+  pub inside : bucket < buckets_of tables
+
+-- what numbering a stack's place asks for: the stack is held, and there is room for one text more
+pub record CanNumber (tables : TableState) (table : PlaceTable) (stack : ℕ) : Type 0 where
+  pub held : stack ≤ length tables.nodes
+  pub few : length table.stacks.items < 2 ^ 32 - 1
+  pub is : IsTable tables table

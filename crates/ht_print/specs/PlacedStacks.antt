@@ -7,6 +7,7 @@ use Rattle.std.specs.Prelude.{
   ◌<◌,
   ◌≤◌,
   ◌==◌,
+  ◌^◌,
   ◌++◌,
   All,
   List,
@@ -17,6 +18,7 @@ use Rattle.std.specs.Prelude.{
   map,
   slice_get,
   slice_index,
+  sum_by,
   take,
 }
 use Rattle.std.specs.List.{flat_map}
@@ -25,8 +27,8 @@ use Rattle.ht_print.specs.declared.entry.Entry.{Entry}
 use Rattle.ht_print.specs.declared.placed_stacks.PlacedStacks.{PlacedStacks}
 use Rattle.ht_print.specs.declared.places.Places.{Places}
 use Rattle.ht_print.specs.declared.scale.Scale.{Scale}
-use Rattle.ht_print.specs.Places.{number_at}
-use Rattle.ht_print.specs.ReportGroups.{joined, places, stacks_at}
+use Rattle.ht_print.specs.Places.{TellPlaces, number_at}
+use Rattle.ht_print.specs.ReportGroups.{joined, ordered_groups, places, stacks_at}
 use Rattle.ht_print.specs.ReportLines.{group_at, left_line}
 
 -- each stack has a place, whose number is below the count
@@ -70,6 +72,23 @@ pub record ArePlaced (places : Places) (placed : PlacedStacks) : Type 0 where
 unfoldable pub groups_up_to : TableState → List Entry → ℕ → List Entry
 groups_up_to tables stacks count = map (λ place. joined (stacks_at tables stacks place))
     (places tables (take count stacks))
+
+-- whatever tables have these places, the groups are those of the stacks, in order
+abbrev pub AreGroups : Places → PlacedStacks → List Entry → Type 0
+AreGroups places placed groups = (tables : TableState) → TellPlaces tables places
+    → All (λ stack. stack.stack ≤ length tables.nodes) placed.stacks.now
+    → groups ≡ ordered_groups tables placed.stacks.now
+
+-- and where the old groups are those up to the stack at k, the new ones are those up to the next stack
+abbrev pub AddsGroup : Places → PlacedStacks → ℕ → List Entry → List Entry → Type 0
+AddsGroup places placed k old new = (tables : TableState) → TellPlaces tables places
+    → All (λ stack. stack.stack ≤ length tables.nodes) placed.stacks.now
+    → old ≡ groups_up_to tables placed.stacks.now k
+    → new ≡ groups_up_to tables placed.stacks.now (k + 1)
+
+-- the figures sum to at most 2^62
+abbrev pub HasBound : List Entry → Type 0
+HasBound stacks = sum_by (λ stack. stack.figure) stacks ≤ 2 ^ 62
 
 -- the lines of the first so many groups of the stacks, each with so many stacks, and how many groups are left
 unfoldable pub groups_lines : TableState → Scale → ℕ → ℕ → List Entry → List Entry → List ℕ

@@ -3,12 +3,14 @@
 -- first groups up to a limit, each with its first stacks up to another one, or the first stacks by
 -- themselves; and says how many are left, where some are. Of a stack it writes the frames behind
 -- the innermost one.
-use Rattle.std.specs.Prelude.{ℕ, ◌==◌, ◌-◌, List, [], ◌++◌, codes, decimal, length, take, if◌then◌else◌}
+use Rattle.std.specs.Prelude.{ℕ, ◌==◌, ◌-◌, List, [], ◌++◌, codes, decimal, length, map, take, if◌then◌else◌}
 use Rattle.std.specs.List.{flat_map}
 use Rattle.stack_trees.specs.StackTexts.{stack_texts}
 use Rattle.hp_num.specs.Hundredths.{hundredths_of}
 use Rattle.hp_num.specs.Percent.{percent}
+use Rattle.ht_trace.specs.declared.frame.FrameAt.{FrameAt}
 use Rattle.ht_trace.specs.declared.frame.Style.TheVariants.{Plain}
+use Rattle.ht_trace.specs.FrameText.{frame_text}
 use Rattle.ht_trace.specs.TableState.{TableState}
 use Rattle.ht_print.specs.declared.entry.Entry.{Entry}
 use Rattle.ht_print.specs.declared.scale.Scale.{Scale}
@@ -28,9 +30,12 @@ figure_text scale figure =
     ++ (unit_text scale.unit
     ++ (codes " (" ++ (percent (hundredths_of figure scale.total) ++ codes ")"))))
 
--- a line for each text, with blanks before it
+-- a line for each text, with blanks before it; the texts of frames
 unfoldable pub frame_lines : List ℕ → List (List ℕ) → List ℕ
 frame_lines blanks texts = flat_map (λ text. blanks ++ (text ++ codes "\n")) texts
+
+abbrev pub texts_of : TableState → List FrameAt → List (List ℕ)
+texts_of tables frames = map (frame_text Plain tables) frames
 
 -- how many entries are left, where some are
 unfoldable pub left_line : List ℕ → ℕ → List ℕ
@@ -49,6 +54,9 @@ stack_lines scale texts entry =
     (in_stack entry.stack ++
     frame_lines (codes "  ") (others texts))))
 
+abbrev pub stack_at : TableState → Scale → Entry → List ℕ
+stack_at tables scale entry = stack_lines scale (stack_texts Plain tables entry.stack) entry
+
 -- a stack of a group
 unfoldable pub member_lines : Scale → List (List ℕ) → Entry → List ℕ
 member_lines scale texts entry =
@@ -57,16 +65,21 @@ member_lines scale texts entry =
     (in_stack entry.stack ++
     frame_lines (codes "    ") (others texts)))
 
+abbrev pub member_at : TableState → Scale → Entry → List ℕ
+member_at tables scale entry = member_lines scale (stack_texts Plain tables entry.stack) entry
+
 -- the first so many stacks of a group, and how many are left
 unfoldable pub members_lines : TableState → Scale → ℕ → List Entry → List ℕ
 members_lines tables scale limit members =
-    flat_map (λ entry. member_lines scale (stack_texts Plain tables entry.stack) entry)
-    (take limit members) ++
+    flat_map (member_at tables scale) (take limit members) ++
     left_line (codes "  more stacks: ") (length members - limit)
 
 -- the line of a group: its figure, and its place
 unfoldable pub place_line : Scale → List ℕ → ℕ → List ℕ
 place_line scale place figure = figure_text scale figure ++ (codes " at " ++ (place ++ codes "\n"))
+
+abbrev pub place_at : TableState → Scale → Entry → List ℕ
+place_at tables scale group = place_line scale (place_of tables group.stack) group.figure
 
 -- a group of this place with these members
 unfoldable pub group_lines : TableState → Scale → ℕ → List ℕ → List Entry → ℕ → List ℕ
@@ -88,6 +101,5 @@ merged_lines tables scale limit sub_limit stacks =
 -- the first so many stacks, and how many are left
 unfoldable pub unmerged_lines : TableState → Scale → ℕ → List Entry → List ℕ
 unmerged_lines tables scale limit stacks =
-    flat_map (λ entry. stack_lines scale (stack_texts Plain tables entry.stack) entry)
-    (take limit stacks) ++
+    flat_map (stack_at tables scale) (take limit stacks) ++
     left_line (codes "more stacks: ") (length stacks - limit)

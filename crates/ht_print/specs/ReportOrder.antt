@@ -40,6 +40,11 @@ abbrev pub numbered : List ℕ → List Entry
 numbered figures = map (λ stack. record { figure = slice_index figures stack; stack = stack })
     (range_with_len 0 (length figures))
 
+-- the entry of a stack, where its figure isn't 0
+abbrev pub some_stack : ℕ → ℕ → List Entry
+some_stack figure stack = if nat_lt 0 figure then record { figure = figure; stack = stack } ∷ []
+    else []
+
 -- the stacks whose figure isn't 0, by number
 unfoldable pub some_stacks : List ℕ → List Entry
 some_stacks figures = filter (λ entry. nat_lt 0 entry.figure) (numbered figures)

@@ -6,19 +6,20 @@
 -- section of leaks says in a line how many bytes suppressed stacks have live at the end, where they
 -- have some.
 use Rattle.std.specs.Prelude.{ℕ, ◌==◌, ◌+◌, Bool, List, [], ◌∷◌, ◌++◌, codes, decimal, length, sum, if◌then◌else◌}
+use Rattle.std.specs.List.{flat_map}
 use Rattle.ht_trace.specs.TableState.{TableState}
 use Rattle.live_ledger.specs.declared.event.Event.{Event}
 use Rattle.ht_print.specs.declared.entry.Entry.{Entry}
 use Rattle.ht_print.specs.declared.flame.FlameCost.{FlameCost}
-use Rattle.ht_print.specs.declared.flame.FlameCost.TheVariants as figure
 use Rattle.ht_print.specs.declared.options.PrintOptions.{PrintOptions}
 use Rattle.ht_print.specs.declared.scale.Scale.{Scale}
 use Rattle.ht_print.specs.declared.scale.Unit.{Unit}
-use Rattle.ht_print.specs.declared.scale.Unit.TheVariants.{Calls, Bytes, Temporary}
+use Rattle.ht_print.specs.declared.sections.Section.{Section}
 use Rattle.ht_print.specs.FlameCosts.{trace_costs}
 use Rattle.ht_print.specs.Histogram.{histogram_text}
 use Rattle.ht_print.specs.ReportLines.{merged_lines, unmerged_lines}
 use Rattle.ht_print.specs.ReportOrder.{ordered_stacks}
+use Rattle.ht_print.specs.Sections.{all_sections, cost_of, heading_of, is_wanted, leaves_out, unit_of}
 use Rattle.ht_print.specs.SummaryText.{summary_text}
 use Rattle.ht_print.specs.Suppressed.{suppressed_stacks}
 
@@ -48,46 +49,42 @@ section_lines options tables unit figures =
     stacks_text options tables (record { unit = unit; total = sum figures })
     (ordered_stacks figures)
 
--- a section: its heading, its lines, and an empty line
-unfoldable pub section_text : PrintOptions → TableState → List ℕ → Unit → List ℕ → List ℕ
-section_text options tables heading unit figures = heading
-    ++ (section_lines options tables unit figures ++ codes "\n")
-
 -- how many bytes the suppressed stacks have, where they have some
 unfoldable pub suppressed_line : ℕ → List ℕ
 suppressed_line bytes = if bytes == 0 then []
     else codes "suppressed: " ++ (decimal bytes ++ codes " bytes\n")
 
--- the section of leaks with what each stack has live at the end: that of a suppressed stack is told in one line with the
--- others
-unfoldable pub leaks_text : PrintOptions → TableState → List ℕ → List ℕ
-leaks_text options tables live =
-    codes "MEMORY LEAKS\n" ++
-    (section_lines options tables Bytes (unsuppressed (suppressed_stacks tables) live) ++
-    (suppressed_line (sum (suppressed_figures (suppressed_stacks tables) live)) ++
-    codes "\n"))
+-- what stands below the heading of a section: where suppressed stacks are left out, they are told in one line behind the others
+unfoldable pub section_body : PrintOptions → TableState → Section → List ℕ → List ℕ
+section_body options tables section figures =
+    if leaves_out section
+    then section_lines options tables (unit_of section)
+    (unsuppressed (suppressed_stacks tables) figures) ++
+    suppressed_line (sum (suppressed_figures (suppressed_stacks tables) figures))
+    else section_lines options tables (unit_of section) figures
 
--- the sections of calls and of the peak
-unfoldable pub first_sections : PrintOptions → TableState → (FlameCost → List ℕ) → List ℕ
-first_sections options tables figures =
-    (if options.allocators
-    then section_text options tables (codes "MOST CALLS TO ALLOCATION FUNCTIONS\n") Calls
-    (figures figure.Allocations) else []) ++
-    (if options.peaks then section_text options tables (codes "PEAK MEMORY CONSUMERS\n") Bytes
-    (figures figure.Peak) else [])
+-- a section: its heading, what stands below it, and an empty line
+unfoldable pub section_text : PrintOptions → TableState → Section → List ℕ → List ℕ
+section_text options tables section figures = heading_of section
+    ++ (section_body options tables section figures ++ codes "\n")
 
--- the sections of leaks and of temporary allocations
-unfoldable pub last_sections : PrintOptions → TableState → (FlameCost → List ℕ) → List ℕ
-last_sections options tables figures =
-    (if options.leaks then leaks_text options tables (figures figure.Leaked) else []) ++
-    (if options.temporary
-    then section_text options tables (codes "MOST TEMPORARY ALLOCATIONS\n") Temporary
-    (figures figure.Temporary) else [])
+-- the same where it is asked for; what its figures are is a function of its cost
+abbrev pub wanted_section : PrintOptions → TableState → (FlameCost → List ℕ) → Section → List ℕ
+wanted_section options tables figures section =
+    if is_wanted options section
+    then section_text options tables section (figures (cost_of section)) else []
+
+-- the sections that are asked for, in their order
+unfoldable pub sections_text : PrintOptions → TableState → (FlameCost → List ℕ) → List ℕ
+sections_text options tables figures = flat_map (wanted_section options tables figures) all_sections
+
+-- the histogram, where it is asked for
+abbrev pub wanted_histogram : PrintOptions → List Event → List ℕ
+wanted_histogram options events = if options.histogram then histogram_text events else []
 
 -- the report on a trace with these tables and events
 unfoldable pub report_of_trace : PrintOptions → TableState → List Event → List ℕ
 report_of_trace options tables events =
-    first_sections options tables (λ cost. trace_costs cost (length tables.nodes + 1) events) ++
-    (last_sections options tables (λ cost. trace_costs cost (length tables.nodes + 1) events) ++
-    ((if options.histogram then histogram_text events else []) ++
-    summary_text events))
+    sections_text options tables (λ cost. trace_costs cost (length tables.nodes + 1) events) ++
+    (wanted_histogram options events ++
+    summary_text events)

@@ -1,5 +1,5 @@
 -- The summary of a trace is its six figures, written as six lines.
-use Rattle.std.specs.Prelude.{ℕ, List, ◌++◌, codes, decimal}
+use Rattle.std.specs.Prelude.{◌≡◌, ℕ, List, ◌++◌, codes, decimal}
 use Rattle.live_ledger.specs.declared.event.Event.{Event}
 use Rattle.live_ledger.specs.Events.{counted, event_count}
 use Rattle.live_ledger.specs.LiveBytes.{allocated_bytes, live_bytes}
@@ -45,6 +45,14 @@ live_lines summary =
     (figure (codes " in ") summary.totals.blocks ++
     codes " blocks\n")))
 
--- the six lines of a trace of these events
+-- the six lines
+abbrev pub summary_lines : Summary → List ℕ
+summary_lines summary = count_lines summary ++ live_lines summary
+
+-- those of a trace of these events
 unfoldable pub summary_text : List Event → List ℕ
-summary_text events = count_lines (summary_of events) ++ live_lines (summary_of events)
+summary_text events = summary_lines (summary_of events)
+
+-- the figures are those of any such events
+abbrev pub IsSummaryOf : (List Event → Type 0) → Summary → Type 0
+IsSummaryOf holds summary = (events : List Event) → holds events → summary ≡ summary_of events

@@ -1,9 +1,7 @@
 //! What each stack costs by one of four figures, for flame stacks and for the sections of a report.
-ghost use Rattle.std.specs.Prelude.{◌≡◌, ℕ, ◌^◌, ◌<◌, ◌≤◌, List, length, sum, IfOk, Some, slice_get};
-ghost use Rattle.live_ledger.specs.declared.event.Event.{Event};
-ghost use Rattle.peak_costs.specs.Peak.{StandsFor};
+ghost use Rattle.std.specs.Prelude.{◌≡◌, ◌^◌, ◌<◌, ◌≤◌, length, sum, IfOk, Some, slice_get};
 ghost use Rattle.peak_costs.specs.PeakState.{IsSound};
-ghost use Rattle.ht_print.specs.FlameCosts.{flame_costs, trace_costs};
+ghost use Rattle.ht_print.specs.FlameCosts.{AreTraceCosts, flame_costs};
 
 use crate::flame::FlameCost;
 use hp_num::NoMemory;
@@ -13,9 +11,7 @@ use std::alloc::Global;
 /// What each stack costs, by ascending number, or `NoMemory`: blocks where allocations or temporary ones are asked for, and else bytes.
 pub fn stack_costs(alloc: Global, cost: FlameCost, peaks: &Peaks) -> Result<Vec<u64>, NoMemory>
     ensures costs { IfOk result (λ costs. costs.items ≡ flame_costs cost peaks.now) }
-    ensures trace { IfOk result
-        (λ costs. (events : List Event) → StandsFor peaks.now events
-        → costs.items ≡ trace_costs cost peaks.now.ledger.stacks events) }
+    ensures trace { IfOk result (λ costs. AreTraceCosts cost peaks.now costs.items) }
     ensures count { IfOk result (λ costs. length costs.items ≡ peaks.now.ledger.stacks) }
     ensures few { IfOk result (λ costs. length costs.items < 2 ^ 32) }
     ensures bound { IfOk result (λ costs. sum costs.items ≤ 2 ^ 62) }

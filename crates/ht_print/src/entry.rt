@@ -1,7 +1,8 @@
 //! The entries of a report's sections: stacks, and groups of them, each with a figure; and their order.
-ghost use Rattle.std.specs.Prelude.{◌≡◌, ◌^◌, ◌<◌, [], ◌∷◌, ◌++◌, if◌then◌else◌, length, nat_lt, IfOk, OnOk};
+ghost use Rattle.std.specs.Prelude.{◌≡◌, ◌^◌, ◌<◌, IfOk, length};
 ghost use Rattle.std.specs.Ordering.{is_lt};
-ghost use Rattle.ht_print.specs.ReportOrder.{in_order, is_before, ordered_stacks, some_stacks};
+ghost use Rattle.ht_print.specs.Appends.{Appends};
+ghost use Rattle.ht_print.specs.ReportOrder.{in_order, is_before, ordered_stacks, some_stack, some_stacks};
 
 use hp_num::NoMemory;
 use std::alloc::Global;
@@ -52,9 +53,7 @@ fn some_stacks(alloc: Global, figures: &[u64]) -> Result<Vec<Entry>, NoMemory>
 
 /// Adds the stack where its figure isn't 0.
 fn add_stack(stacks: &mut Vec<Entry>, figure: u64, stack: u32) -> Result<(), NoMemory>
-    ensures { OnOk result
-        (stacks.new.items ≡ stacks.old.items
-        ++ (if nat_lt 0 figure then record { figure = figure; stack = stack } ∷ [] else [])) }
+    ensures { Appends (some_stack figure stack) stacks.old stacks.new result }
 {
     if figure == 0 {
         return Ok(());

@@ -1,8 +1,8 @@
 //! Flame stacks: for each list of texts that some stacks have, a line with what these stacks cost.
 //! How the lines of a tree are written is in `flame_lines`, and what a stack costs in `costs`.
-ghost use Rattle.std.specs.Prelude.{◌≡◌, ℕ, ◌+◌, ◌^◌, ◌<◌, ◌≤◌, List, ◌++◌, length, sum, OnErr, OnOk};
-ghost use Rattle.live_ledger.specs.declared.event.Event.{Event};
+ghost use Rattle.std.specs.Prelude.{◌≡◌, ◌+◌, ◌^◌, ◌≤◌, length, sum, OnErr};
 ghost use Rattle.peak_costs.specs.Peak.{StandsFor};
+ghost use Rattle.ht_print.specs.Appends.{Appends, AppendsFor};
 ghost use Rattle.ht_print.specs.FlameCosts.{flame_costs};
 ghost use Rattle.ht_print.specs.FlameText.{flame_of_lists, flame_of_trace, flame_text};
 
@@ -43,11 +43,9 @@ pub fn put_flame(
     out: &mut Vec<u8>,
 ) -> Result<(), NoMemory>
     requires as_many { peaks.now.ledger.stacks ≡ length tables.now.nodes + 1 }
-    ensures appended { OnOk result
-        (out.new.items ≡ out.old.items ++ flame_text tables.now (flame_costs cost peaks.now)) }
-    ensures trace { OnOk result
-        ((events : List Event) → StandsFor peaks.now events
-        → out.new.items ≡ out.old.items ++ flame_of_trace cost tables.now events) }
+    ensures appended { Appends (flame_text tables.now (flame_costs cost peaks.now)) out.old out.new result }
+    ensures trace { AppendsFor (StandsFor peaks.now) (flame_of_trace cost tables.now) out.old out.new
+        result }
     ensures unchanged { OnErr result (out.new.items ≡ out.old.items) }
 {
     let costs = stack_costs(alloc, cost, peaks)?;
@@ -66,8 +64,7 @@ pub fn put_flame_of_lists(
 ) -> Result<(), NoMemory>
     requires as_many { length costs.items ≡ length lists }
     requires bound { sum costs.items ≤ 2 ^ 62 }
-    ensures appended { OnOk result
-        (out.new.items ≡ out.old.items ++ flame_of_lists lists costs.items) }
+    ensures appended { Appends (flame_of_lists lists costs.items) out.old out.new result }
     ensures unchanged { OnErr result (out.new.items ≡ out.old.items) }
 {
     let mut lines = FlameLines::of_lists(alloc, lists, costs)?;

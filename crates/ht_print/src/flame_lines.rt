@@ -1,10 +1,12 @@
 //! The lines of flame stacks, one after another: all memory that they need is taken before the first one.
 //! Which nodes have a line, and in which order, is found in `flame_nodes`.
-ghost use Rattle.std.specs.Prelude.{◌≡◌, ◌+◌, ◌^◌, ◌<◌, ◌≤◌, List, ℕ, ◌++◌, Ok, true, false, codes, decimal, length, sum, IfOk, IsOk, OnOk, vec_capacity, vec_len, [], OnErr};
+ghost use Rattle.std.specs.Prelude.{◌≡◌, ◌+◌, ◌^◌, ◌<◌, ◌≤◌, List, Ok, true, false, length, sum, IfOk, IsOk, OnOk, vec_capacity, vec_len, [], OnErr};
 ghost use Rattle.cost_tree.specs.Costed.{Costed};
 ghost use Rattle.cost_tree.specs.IsTreeOf.{IsTreeOf};
+ghost use Rattle.ht_print.specs.Appends.{Appends, HasRoomFor};
 ghost use Rattle.ht_print.specs.FlameLines.{HasGiven, figure_bytes};
-ghost use Rattle.ht_print.specs.FlameText.{flame_of, flame_of_lists};
+ghost use Rattle.ht_print.specs.FlameText.{figure_line, flame_of_lists};
+ghost use Rattle.ht_print.specs.FlameWalk.{AreFlamesOf};
 ghost use Rattle.stack_table.specs.Stack.{most_frames};
 
 use crate::flame_nodes::{line_nodes, longest_line};
@@ -59,9 +61,7 @@ impl FlameLines {
     /// The lines of all nodes of a tree.
     fn of_tree(alloc: Global, tree: CostTree<'static>) -> Result<FlameLines, NoMemory>
         requires { (stacks : List Costed) × IsTreeOf tree stacks most_frames }
-        ensures { IfOk result
-            (λ lines. (stacks : List Costed) → IsTreeOf tree.entry stacks most_frames
-            → lines.rest ≡ flame_of most_frames stacks []) }
+        ensures { IfOk result (λ lines. AreFlamesOf tree.entry lines.rest) }
     {
         let nodes = line_nodes(alloc, &tree)?;
         let longest = longest_line(alloc, &tree)?;
@@ -105,7 +105,7 @@ impl FlameLines {
 
     /// Appends all lines that are left. On `NoMemory`, `out` holds what it held before.
     pub(crate) fn put_all(&mut self, out: &mut Vec<u8>) -> Result<(), NoMemory>
-        ensures appended { OnOk result (out.new.items ≡ out.old.items ++ self.old.rest) }
+        ensures appended { Appends self.old.rest out.old out.new result }
         ensures unchanged { OnErr result (out.new.items ≡ out.old.items) }
     {
         let start = out.len();
@@ -125,11 +125,9 @@ impl FlameLines {
 
 /// Appends a line: the texts of a front, and what it costs.
 fn put_line(path: &[u8], own: u64, out: &mut Vec<u8>) -> Result<(), NoMemory>
-    ensures appended { OnOk result (out.new.items
-        ≡ out.old.items ++ (path.now ++ (codes " " ++ (decimal own ++ codes "\n")))) }
+    ensures appended { Appends (figure_line path.now own) out.old out.new result }
     ensures capacity { vec_capacity out.old ≤ vec_capacity out.new }
-    ensures room { vec_len out.old + (length path.now + figure_bytes) ≤ vec_capacity out.old
-        → IsOk result }
+    ensures room { HasRoomFor (length path.now + figure_bytes) out.old → IsOk result }
 {
     put_bytes(out, path)?;
     put_bytes(out, b" ")?;

@@ -1,13 +1,12 @@
 //! The nodes of a tree that have a line, in the order of the lines: those of a node stand before those of its children, whose
 //! order is the tree's; and how long a line may be. What the tree stands for is no part of it.
-ghost use Rattle.std.specs.Prelude.{◌≡◌, ◌+◌, ◌<◌, ◌≤◌, All, List, [], ◌++◌, length, reverse, IfOk, OnOk};
-ghost use Rattle.std.specs.List.{flat_map};
+ghost use Rattle.std.specs.Prelude.{◌≡◌, ◌+◌, ◌<◌, ◌≤◌, All, List, length, reverse, IfOk, OnOk};
 ghost use Rattle.cost_tree.specs.Children.{children_of};
 ghost use Rattle.cost_tree.specs.Costed.{Costed};
 ghost use Rattle.cost_tree.specs.IsTreeOf.{IsTreeOf};
-ghost use Rattle.ht_print.specs.FlameLines.{HasLine, line_at, line_bytes};
-ghost use Rattle.ht_print.specs.FlameText.{flame_of};
-ghost use Rattle.ht_print.specs.FlameWalk.{IsRooted};
+ghost use Rattle.ht_print.specs.Appends.{Appends};
+ghost use Rattle.ht_print.specs.FlameLines.{AddsLineOf, HasLine, StillHaveLines, line_bytes, lines_at};
+ghost use Rattle.ht_print.specs.FlameWalk.{AreFlamesOf, IsRooted};
 ghost use Rattle.stack_table.specs.Stack.{most_frames};
 
 use cost_tree::CostTree;
@@ -21,9 +20,7 @@ const FIGURE: usize = 22;
 pub(crate) fn line_nodes(alloc: Global, tree: &CostTree) -> Result<Vec<usize>, NoMemory>
     requires tree { (stacks : List Costed) × IsTreeOf tree.now stacks most_frames }
     ensures lines { IfOk result (λ nodes. All (HasLine tree.now) nodes.items) }
-    ensures text { IfOk result
-        (λ nodes. (stacks : List Costed) → IsTreeOf tree.now stacks most_frames
-        → flat_map (line_at tree.now) nodes.items ≡ flame_of most_frames stacks []) }
+    ensures text { IfOk result (λ nodes. AreFlamesOf tree.now (lines_at tree.now nodes.items)) }
 {
     let mut nodes = Vec::new(alloc);
     // The nodes that are still to be gone to, the next one last.
@@ -40,10 +37,8 @@ pub(crate) fn line_nodes(alloc: Global, tree: &CostTree) -> Result<Vec<usize>, N
 /// Appends node `n`, where its own cost isn't 0.
 fn push_node(tree: &CostTree, n: usize, nodes: &mut Vec<usize>) -> Result<(), NoMemory>
     requires held { n < length tree.now.nodes }
-    ensures lines { OnOk result (All (HasLine tree.now) nodes.old.items
-        → All (HasLine tree.now) nodes.new.items) }
-    ensures text { OnOk result (flat_map (line_at tree.now) nodes.new.items
-        ≡ flat_map (line_at tree.now) nodes.old.items ++ line_at tree.now n) }
+    ensures lines { OnOk result (StillHaveLines tree.now nodes.old.items nodes.new.items) }
+    ensures text { OnOk result (AddsLineOf tree.now n nodes.old.items nodes.new.items) }
 {
     if tree.node(n).own == 0 {
         return Ok(());
@@ -60,8 +55,7 @@ fn push_children(
     left: &mut Vec<usize>,
 ) -> Result<(), NoMemory>
     requires held { n < length tree.now.nodes }
-    ensures appended { OnOk result
-        (left.new.items ≡ left.old.items ++ reverse (children_of tree.now.nodes n)) }
+    ensures appended { Appends (reverse (children_of tree.now.nodes n)) left.old left.new result }
 {
     tree.children_into(n, children)?;
     children.reverse();

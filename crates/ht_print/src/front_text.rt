@@ -1,10 +1,11 @@
 //! The text of a node's front, which goes from one node's to another's: what both fronts begin with stays as it is.
 //! It has room for the fronts of all nodes from the first on. What lines are made of it is no part of it.
-ghost use Rattle.std.specs.Prelude.{◌≡◌, ◌≢◌, ℕ, ◌<◌, ◌≤◌, ◌+◌, All, List, [], ◌++◌, length, map, IfOk, vec_capacity, vec_len};
+ghost use Rattle.std.specs.Prelude.{◌≡◌, ◌<◌, ◌≤◌, ◌+◌, All, [], ◌++◌, length, IfOk, vec_capacity};
 ghost use Rattle.stack_table.specs.Stack.{most_frames};
-ghost use Rattle.ht_print.specs.FlameText.{flame_byte, flame_name, flame_path, flame_rest};
-ghost use Rattle.ht_print.specs.FlameWalk.{IsBelowRoot, IsRooted, last_text};
-ghost use Rattle.ht_print.specs.FrontText.{HasRoom, IsBetween, IsTextOf, KeepsRoom, LeadsTo};
+ghost use Rattle.ht_print.specs.Appends.{HasRoomFor};
+ghost use Rattle.ht_print.specs.FlameText.{IsPathOf, flame_byte, flame_name};
+ghost use Rattle.ht_print.specs.FlameWalk.{IsBelowRoot, last_text};
+ghost use Rattle.ht_print.specs.FrontText.{CanClimb, CanGoTo, HasRoom, IsTextOf, KeepsRoom, LeadsTo, StillBetween, rest_text};
 
 use cost_tree::CostTree;
 use hp_num::NoMemory;
@@ -46,8 +47,7 @@ impl FrontText {
 
     /// The texts with semicolons between them.
     pub(crate) fn path(&self) -> &[u8]
-        ensures path { (front : List (List ℕ)) → self.now.text.items ≡ flame_rest front
-            → result.now ≡ flame_path front }
+        ensures path { IsPathOf self.now.text.items result.now }
         ensures within { length result.now ≤ length self.now.text.items }
     {
         match self.text.split_first() {
@@ -58,10 +58,7 @@ impl FrontText {
 
     /// Goes to the front of node `n`.
     pub(crate) fn go_to(&mut self, tree: &CostTree, n: usize)
-        requires held { n < length tree.now.nodes }
-        requires tree { IsRooted tree.now }
-        requires text { IsTextOf tree.now self.old }
-        requires room { HasRoom tree.now self.old }
+        requires { CanGoTo tree.now n self.old }
         ensures text { IsTextOf tree.now self.new }
         ensures node { self.new.node ≡ n }
         ensures room { HasRoom tree.now self.new }
@@ -73,10 +70,7 @@ impl FrontText {
 
     /// Leaves of the text what the front of node `n` begins with too, and in `path` the nodes that follow on the way to it.
     fn cut_back(&mut self, tree: &CostTree, n: usize)
-        requires held { n < length tree.now.nodes }
-        requires tree { IsRooted tree.now }
-        requires text { IsTextOf tree.now self.old }
-        requires room { HasRoom tree.now self.old }
+        requires { CanGoTo tree.now n self.old }
         ensures left { LeadsTo tree.now n self.new.text.items self.new.path.items }
         ensures room { HasRoom tree.now self.new }
     {
@@ -94,15 +88,8 @@ impl FrontText {
     /// Goes up from the later one of two different nodes. Where this is on the way from the text's node, its own text is cut
     /// off, and else it is one of those whose texts are to be appended.
     fn climb(&mut self, tree: &CostTree, between: Between) -> Between
-        requires tree { IsRooted tree.now }
-        requires apart { between.at ≢ between.above }
-        requires held { between.at < length tree.now.nodes }
-        requires held_above { between.above < length tree.now.nodes }
-        requires room { between.at < between.above
-            → vec_len self.old.path < vec_capacity self.old.path }
-        ensures between { (n : ℕ)
-            → IsBetween tree.now n self.old.text.items self.old.path.items between
-            → IsBetween tree.now n self.new.text.items self.new.path.items result }
+        requires { CanClimb tree.now self.old between }
+        ensures between { StillBetween tree.now self.old between self.new result }
         ensures nearer { result.at + result.above < between.at + between.above }
         ensures node { self.new.node ≡ self.old.node }
         ensures room { KeepsRoom self.old self.new }
@@ -123,10 +110,8 @@ impl FrontText {
 /// Appends the last texts of the nodes, with a semicolon before each. There is room for them.
 fn put_rest(tree: &CostTree, rest: &[usize], out: &mut Vec<u8>)
     requires held { All (IsBelowRoot tree.now) rest.now }
-    requires room { vec_len out.old + length (flame_rest (map (last_text tree.now) rest.now))
-        ≤ vec_capacity out.old }
-    ensures appended { out.new.items
-        ≡ out.old.items ++ flame_rest (map (last_text tree.now) rest.now) }
+    requires room { HasRoomFor (length (rest_text tree.now rest.now)) out.old }
+    ensures appended { out.new.items ≡ out.old.items ++ rest_text tree.now rest.now }
     ensures capacity { vec_capacity out.new ≡ vec_capacity out.old }
 {
     'each_node: for node in rest {
@@ -138,7 +123,7 @@ fn put_rest(tree: &CostTree, rest: &[usize], out: &mut Vec<u8>)
 /// Appends the last text of the node.
 fn put_node(tree: &CostTree, n: usize, out: &mut Vec<u8>)
     requires held { IsBelowRoot tree.now n }
-    requires room { vec_len out.old + length (last_text tree.now n) ≤ vec_capacity out.old }
+    requires room { HasRoomFor (length (last_text tree.now n)) out.old }
     ensures appended { out.new.items ≡ out.old.items ++ flame_name (last_text tree.now n) }
     ensures capacity { vec_capacity out.new ≡ vec_capacity out.old }
 {
@@ -147,7 +132,7 @@ fn put_node(tree: &CostTree, n: usize, out: &mut Vec<u8>)
 
 /// Appends a text with a colon for each semicolon.
 fn put_name(text: &[u8], out: &mut Vec<u8>)
-    requires room { vec_len out.old + length text.now ≤ vec_capacity out.old }
+    requires room { HasRoomFor (length text.now) out.old }
     ensures appended { out.new.items ≡ out.old.items ++ flame_name text.now }
     ensures capacity { vec_capacity out.new ≡ vec_capacity out.old }
 {

@@ -1,9 +1,7 @@
 //! The groups of a section: the stacks of each place as one entry. How a group is written is in `report_lines`.
-ghost use Rattle.std.specs.Prelude.{◌≡◌, ℕ, ◌+◌, ◌^◌, ◌<◌, ◌≤◌, All, IfOk, OnOk, length, sum_by};
-ghost use Rattle.ht_trace.specs.TableState.{TableState};
-ghost use Rattle.ht_print.specs.PlacedStacks.{ArePlaced, groups_up_to};
-ghost use Rattle.ht_print.specs.Places.{TellPlaces};
-ghost use Rattle.ht_print.specs.ReportGroups.{joined, ordered_groups};
+ghost use Rattle.std.specs.Prelude.{◌≡◌, ◌<◌, IfOk, OnOk, length};
+ghost use Rattle.ht_print.specs.PlacedStacks.{AddsGroup, AreGroups, ArePlaced, HasBound};
+ghost use Rattle.ht_print.specs.ReportGroups.{joined};
 
 use crate::entry::{Entry, sort};
 use crate::placed_stacks::PlacedStacks;
@@ -18,10 +16,8 @@ pub(crate) fn ordered_groups(
     placed: &PlacedStacks<'_>,
 ) -> Result<Vec<Entry>, NoMemory>
     requires placed { ArePlaced places.now placed.now }
-    requires bound { sum_by (λ stack. stack.figure) placed.now.stacks.now ≤ 2 ^ 62 }
-    ensures { IfOk result (λ groups. (tables : TableState) → TellPlaces tables places.now
-        → All (λ stack. stack.stack ≤ length tables.nodes) placed.now.stacks.now
-        → groups.items ≡ ordered_groups tables placed.now.stacks.now) }
+    requires bound { HasBound placed.now.stacks.now }
+    ensures { IfOk result (λ groups. AreGroups places.now placed.now groups.items) }
 {
     let mut groups = Vec::new(alloc);
     let mut members = Vec::new(alloc);
@@ -42,11 +38,8 @@ fn add_group(
 ) -> Result<(), NoMemory>
     requires placed { ArePlaced places.now placed.now }
     requires within { k < length placed.now.stacks.now }
-    requires bound { sum_by (λ stack. stack.figure) placed.now.stacks.now ≤ 2 ^ 62 }
-    ensures { OnOk result ((tables : TableState) → TellPlaces tables places.now
-        → All (λ stack. stack.stack ≤ length tables.nodes) placed.now.stacks.now
-        → groups.old.items ≡ groups_up_to tables placed.now.stacks.now k
-        → groups.new.items ≡ groups_up_to tables placed.now.stacks.now (k + 1)) }
+    requires bound { HasBound placed.now.stacks.now }
+    ensures { OnOk result (AddsGroup places.now placed.now k groups.old.items groups.new.items) }
 {
     if placed.before[k] > 0 {
         return Ok(());
@@ -59,7 +52,7 @@ fn add_group(
 
 /// The stacks as one entry: the sum of their figures, and the least of them.
 fn joined(stacks: &[Entry]) -> Entry
-    requires bound { sum_by (λ stack. stack.figure) stacks.now ≤ 2 ^ 62 }
+    requires bound { HasBound stacks.now }
     ensures { result ≡ joined stacks.now }
 {
     let Some((first, others)) = stacks.split_first() else {

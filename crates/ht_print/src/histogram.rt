@@ -1,11 +1,12 @@
 //! The histogram of a trace's allocations by their sizes: how many there were in each of nine ranges.
-ghost use Rattle.std.specs.Prelude.{◌≡◌, ◌≤◌, ◌<◌, ◌*◌, List, ◌++◌, length, take, vec_len, OnOk, OnErr, Some, slice_get, slice_index};
-ghost use Rattle.live_ledger.specs.declared.event.Event.{Event};
-ghost use Rattle.live_ledger.specs.LedgerState.{HeldInfo};
+#![tactic(auto, using(hp_num::proofs::Laws::extends_same, hp_num::proofs::Laws::extends_more, hp_num::proofs::Laws::extends_trans))]
+
+ghost use Rattle.std.specs.Prelude.{◌≡◌, ◌≤◌, ◌<◌, OnErr, length};
 ghost use Rattle.live_ledger.specs.StandsFor.{StandsFor};
 ghost use Rattle.hp_num.specs.Extends.{Extends};
 ghost use Rattle.ht_trace.specs.LedgerFits.{IsBeside};
-ghost use Rattle.ht_print.specs.Histogram.{allocations_at, histogram_lines, histogram_text, is_in, large_ranges, range_line, small_ranges, weight};
+ghost use Rattle.ht_print.specs.Appends.{Appends, AppendsFor};
+ghost use Rattle.ht_print.specs.Histogram.{IsCountAt, allocations_at, histogram_lines, histogram_text, is_in, large_ranges, range_at, small_ranges};
 
 use hp_num::{NoMemory, put_bytes, put_dec};
 use ht_trace::Tables;
@@ -17,9 +18,7 @@ use live_ledger::{Ledger, sums_by_info};
 /// The ledger and the tables hold the same stacks and infos.
 pub fn put_histogram(ledger: &Ledger, tables: &Tables, out: &mut Vec<u8>) -> Result<(), NoMemory>
     requires beside { IsBeside tables.now ledger.now }
-    ensures appended { OnOk result
-        ((events : List Event) → StandsFor ledger.now events
-        → out.new.items ≡ out.old.items ++ histogram_text events) }
+    ensures appended { AppendsFor (StandsFor ledger.now) histogram_text out.old out.new result }
     ensures unchanged { OnErr result (out.new.items ≡ out.old.items) }
     ensures kept { Extends out.old.items out.new.items }
 {
@@ -35,9 +34,8 @@ pub fn put_histogram(ledger: &Ledger, tables: &Tables, out: &mut Vec<u8>) -> Res
 /// Appends the histogram, or a part of it.
 fn put_ranges(ledger: &Ledger, tables: &Tables, out: &mut Vec<u8>) -> Result<(), NoMemory>
     requires beside { IsBeside tables.now ledger.now }
-    ensures kept { take (vec_len out.old) out.new.items ≡ out.old.items }
-    ensures appended { OnOk result
-        (out.new.items ≡ out.old.items ++ histogram_lines (allocations_at ledger.now)) }
+    ensures appended { Appends (histogram_lines (allocations_at ledger.now)) out.old out.new result }
+    ensures kept { Extends out.old.items out.new.items }
 {
     put_bytes(out, b"SIZE HISTOGRAM\n")?;
     put_small_ranges(ledger, tables, out)?;
@@ -46,13 +44,12 @@ fn put_ranges(ledger: &Ledger, tables: &Tables, out: &mut Vec<u8>) -> Result<(),
     put_bytes(out, b"\n")
 }
 
-#[tactic(auto, unfolding(crate::specs::Histogram::small_ranges))]
 /// Appends the lines of the ranges up to 64 bytes.
+#[tactic(auto, unfolding(crate::specs::Histogram::small_ranges))]
 fn put_small_ranges(ledger: &Ledger, tables: &Tables, out: &mut Vec<u8>) -> Result<(), NoMemory>
     requires beside { IsBeside tables.now ledger.now }
-    ensures kept { take (vec_len out.old) out.new.items ≡ out.old.items }
-    ensures appended { OnOk result
-        (out.new.items ≡ out.old.items ++ small_ranges (allocations_at ledger.now)) }
+    ensures appended { Appends (small_ranges (allocations_at ledger.now)) out.old out.new result }
+    ensures kept { Extends out.old.items out.new.items }
 {
     put_range(ledger, tables, b"0 to 8", 0, Some(8), out)?;
     put_range(ledger, tables, b"9 to 16", 9, Some(16), out)?;
@@ -60,13 +57,12 @@ fn put_small_ranges(ledger: &Ledger, tables: &Tables, out: &mut Vec<u8>) -> Resu
     put_range(ledger, tables, b"33 to 64", 33, Some(64), out)
 }
 
-#[tactic(auto, unfolding(crate::specs::Histogram::large_ranges))]
 /// Appends the lines of the ranges from 65 to 1,024 bytes.
+#[tactic(auto, unfolding(crate::specs::Histogram::large_ranges))]
 fn put_large_ranges(ledger: &Ledger, tables: &Tables, out: &mut Vec<u8>) -> Result<(), NoMemory>
     requires beside { IsBeside tables.now ledger.now }
-    ensures kept { take (vec_len out.old) out.new.items ≡ out.old.items }
-    ensures appended { OnOk result
-        (out.new.items ≡ out.old.items ++ large_ranges (allocations_at ledger.now)) }
+    ensures appended { Appends (large_ranges (allocations_at ledger.now)) out.old out.new result }
+    ensures kept { Extends out.old.items out.new.items }
 {
     put_range(ledger, tables, b"65 to 128", 65, Some(128), out)?;
     put_range(ledger, tables, b"129 to 256", 129, Some(256), out)?;
@@ -84,10 +80,8 @@ fn put_range(
     out: &mut Vec<u8>,
 ) -> Result<(), NoMemory>
     requires beside { IsBeside tables.now ledger.now }
-    ensures kept { take (vec_len out.old) out.new.items ≡ out.old.items }
-    ensures appended { OnOk result
-        (out.new.items ≡ out.old.items
-        ++ range_line label.now (allocations_at ledger.now least greatest)) }
+    ensures appended { Appends (range_at ledger.now label.now least greatest) out.old out.new result }
+    ensures kept { Extends out.old.items out.new.items }
 {
     let calls = allocations(ledger, tables, least, greatest);
     put_bytes(out, label)?;
@@ -121,8 +115,7 @@ fn allocations_of(
 ) -> u64
     requires beside { IsBeside tables.now ledger.now }
     requires held { info < length ledger.now.infos }
-    ensures value { (held : HeldInfo) → slice_get ledger.now.infos info ≡ Some held
-        → result ≡ weight least greatest held * slice_index ledger.now.info_calls info }
+    ensures value { IsCountAt ledger.now least greatest info result }
     ensures within { result ≤ ledger.now.totals.calls }
 {
     let Some((size, _)) = tables.info(info) else {

@@ -1,11 +1,11 @@
 //! Whether a text has one of some patterns in it, by the texts that begin at its places: of patterns in order, none of which
 //! begins with another, the text at a place can begin only with the last that isn't behind it. So time goes by the text.
-ghost use Rattle.std.specs.Prelude.{◌≡◌, ℕ, ◌+◌, ◌-◌, ◌≤◌, ◌<◌, ◌^◌, List, [], length, map, IfOk, slice_index_or};
+ghost use Rattle.std.specs.Prelude.{◌≡◌, ◌-◌, ◌<◌, ◌^◌, [], length, map, IfOk, slice_index_or};
 ghost use Rattle.std.specs.List.Sorted.{IsSorted};
 ghost use Rattle.std.specs.Ordering.{nat_cmp};
 ghost use Rattle.std.specs.Cmp.Lexicographic.{slice_cmp};
-ghost use Rattle.ht_print.specs.LeastPatterns.{AreApart, AreLeast, begins_any, begins_last};
-ghost use Rattle.ht_print.specs.Suppressed.{meets_any};
+ghost use Rattle.ht_print.specs.LeastPatterns.{AreApart, BeginSame, begins_any, begins_last};
+ghost use Rattle.ht_print.specs.MetPatterns.{AreLeastOf, TellsMet};
 
 use hp_num::NoMemory;
 use ht_trace::Tables;
@@ -21,8 +21,7 @@ pub(crate) struct LeastPatterns<'t> {
 impl<'t> LeastPatterns<'t> {
     /// Those of the patterns of the tables, or `NoMemory`.
     pub(crate) fn of(alloc: Global, tables: &'t Tables) -> Result<LeastPatterns<'t>, NoMemory>
-        ensures { IfOk result
-            (λ least. AreLeast (λ pattern. pattern.now) tables.now.patterns least.patterns.items) }
+        ensures { IfOk result (λ least. AreLeastOf tables.now.patterns least) }
     {
         let mut all = all_patterns(alloc, tables)?;
         all.sort_unstable();
@@ -33,9 +32,7 @@ impl<'t> LeastPatterns<'t> {
     /// Whether one of the patterns stands in the text as consecutive bytes.
     pub(crate) fn stand_in(&self, text: &[u8]) -> bool
         requires apart { AreApart (λ pattern. pattern.now) self.now.patterns.items }
-        ensures { (patterns : List (List ℕ)) →
-            AreLeast (λ pattern. pattern.now) patterns self.now.patterns.items
-            → result ≡ meets_any patterns text.now }
+        ensures { TellsMet self.now text.now result }
     {
         'each_place: for from in 0..text.len() + 1 {
             if begins_with_one(&self.patterns, &text[from..]) {
@@ -73,9 +70,7 @@ fn pattern(tables: &Tables, place: u32) -> &[u8]
 fn without_longer<'t>(alloc: Global, all: &[&'t [u8]]) -> Result<Vec<&'t [u8]>, NoMemory>
     requires sorted { IsSorted (λ one other. slice_cmp nat_cmp one.now other.now) all.now }
     ensures apart { IfOk result (λ least. AreApart (λ pattern. pattern.now) least.items) }
-    ensures same { IfOk result (λ least. (text : List ℕ) →
-        begins_any (λ pattern. pattern.now) least.items text
-        ≡ begins_any (λ pattern. pattern.now) all.now text) }
+    ensures same { IfOk result (λ least. BeginSame (λ pattern. pattern.now) least.items all.now) }
 {
     let mut least = Vec::new(alloc);
     'each_pattern: for pattern in all {

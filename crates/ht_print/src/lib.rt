@@ -39,8 +39,8 @@
 //! | `costs.rt` | what each stack costs by one of four figures |
 //! | `flame.rt`, `flame_lines.rt` | flame stacks, and their lines one after another |
 //! | `flame_nodes.rt`, `front_text.rt` | which nodes of a tree have a line, and how long one may be; the text of a front |
-//! | `report.rt`, `options.rt`, `layout.rt` | the report: which parts are asked for, and the figures of each |
-//! | `section.rt` | a section around its entries; the leaks without those of suppressed stacks |
+//! | `report.rt`, `options.rt`, `layout.rt` | the report, and which parts of it are asked for |
+//! | `sections.rt`, `section.rt` | which sections there are, as data; a section around its entries, without suppressed stacks where it leaves them out |
 //! | `entry.rt` | the stacks that have a figure, and the order |
 //! | `place_table.rt`, `places.rt` | innermost frames' texts by numbers, and those of a trace's stacks |
 //! | `placed_stacks.rt`, `groups.rt` | the stacks of a section by these numbers, and in groups |
@@ -68,6 +68,7 @@ mod report;
 mod report_lines;
 mod scale;
 mod section;
+mod sections;
 mod summary;
 mod suppressed;
 

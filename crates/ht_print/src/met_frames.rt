@@ -1,9 +1,8 @@
 //! In which frames a pattern of suppressions stands. The patterns are asked once for a frame, however many stacks have it.
-ghost use Rattle.std.specs.Prelude.{◌≡◌, ◌+◌, ◌≤◌, ◌<◌, length, map, All, IfOk};
-ghost use Rattle.std.specs.List.{range_with_len};
+ghost use Rattle.std.specs.Prelude.{◌≡◌, All, IfOk};
 ghost use Rattle.ht_trace.specs.IsFrame.{IsFrame};
-ghost use Rattle.ht_print.specs.LeastPatterns.{AreLeast};
-ghost use Rattle.ht_print.specs.MetFrames.{AreMet, meets_frame, meets_frames, meets_instruction};
+ghost use Rattle.ht_print.specs.MetFrames.{AreMet, meets_frame, meets_frames, met_instructions};
+ghost use Rattle.ht_print.specs.MetPatterns.{AreLeastOf};
 
 use crate::least_patterns::LeastPatterns;
 use hp_num::NoMemory;
@@ -43,11 +42,8 @@ fn met_instructions(
     tables: &Tables,
     least: &LeastPatterns<'_>,
 ) -> Result<Vec<bool>, NoMemory>
-    requires least { AreLeast (λ pattern. pattern.now) tables.now.patterns
-        least.now.patterns.items }
-    ensures { IfOk result
-        (λ met. met.items ≡ map (meets_instruction tables.now)
-        (range_with_len 0 (length tables.now.instructions + 1))) }
+    requires least { AreLeastOf tables.now.patterns least.now }
+    ensures { IfOk result (λ met. met.items ≡ met_instructions tables.now) }
 {
     let mut frames = Vec::new(alloc);
     let mut text = Vec::new(alloc);
@@ -67,8 +63,7 @@ fn meets_frames(
     frames: &[FrameAt],
     text: &mut Vec<u8>,
 ) -> Result<bool, NoMemory>
-    requires least { AreLeast (λ pattern. pattern.now) tables.now.patterns
-        least.now.patterns.items }
+    requires least { AreLeastOf tables.now.patterns least.now }
     requires frames { All (λ at. IsFrame tables.now at) frames.now }
     ensures { IfOk result (λ answer. answer ≡ meets_frames tables.now frames.now) }
 {
@@ -87,8 +82,7 @@ fn meets_frame(
     at: &FrameAt,
     text: &mut Vec<u8>,
 ) -> Result<bool, NoMemory>
-    requires least { AreLeast (λ pattern. pattern.now) tables.now.patterns
-        least.now.patterns.items }
+    requires least { AreLeastOf tables.now.patterns least.now }
     requires frame { IsFrame tables.now at.now }
     ensures { IfOk result (λ answer. answer ≡ meets_frame tables.now at.now) }
 {

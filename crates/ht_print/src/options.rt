@@ -2,6 +2,8 @@
 ghost use Rattle.std.specs.Prelude.{◌≡◌};
 ghost use Rattle.ht_print.specs.HasGroups.{has_groups};
 
+use crate::sections::SECTIONS;
+
 /// What a report is to show, and how much of it.
 #[derive(Clone, Copy)]
 pub struct PrintOptions {
@@ -28,6 +30,6 @@ impl PrintOptions {
     pub(crate) fn has_groups(&self) -> bool
         ensures { result ≡ has_groups self.now }
     {
-        self.merge && (self.allocators || self.peaks || self.leaks || self.temporary)
+        self.merge && SECTIONS.iter().any(|section| section.is_wanted(self))
     }
 }

@@ -1,7 +1,7 @@
 //! The table of places: the texts of innermost frames, each with a number. Texts are told apart by making them again from a
 //! stack that has them, so that none is kept.
-ghost use Rattle.std.specs.Prelude.{◌≡◌, ◌≢◌, ℕ, ◌+◌, ◌-◌, ◌^◌, ◌<◌, ◌≤◌, ◌++◌, ◌∷◌, [], List, IfNone, IfOk, IfSome, OnOk, Some, length, slice_get};
-ghost use Rattle.ht_print.specs.PlaceTable.{IsTable, bucket_of, buckets_of, names_of};
+ghost use Rattle.std.specs.Prelude.{◌≡◌, ◌-◌, ◌^◌, ◌<◌, ◌≤◌, ◌++◌, ◌∷◌, [], IfNone, IfOk, IfSome, OnOk, length};
+ghost use Rattle.ht_print.specs.PlaceTable.{CanNumber, HasName, HasOneMore, HasPlace, IsBucket, IsTable, KeepsNames, LacksName, bucket_of};
 ghost use Rattle.ht_print.specs.ReportGroups.{place_of};
 
 use hp_num::NoMemory;
@@ -47,16 +47,11 @@ impl PlaceTable {
         text: &mut Vec<u8>,
         other: &mut Vec<u8>,
     ) -> Result<u32, NoMemory>
-        requires held { stack ≤ length tables.now.nodes }
-        requires few { length self.old.stacks.items < 2 ^ 32 - 1 }
-        requires table { IsTable tables.now self.old }
+        requires can { CanNumber tables.now self.old stack }
         ensures table { OnOk result (IsTable tables.now self.new) }
-        ensures place { IfOk result (λ number.
-            slice_get (names_of tables.now self.new) number ≡ Some (place_of tables.now stack)) }
-        ensures names_stay { OnOk result ((n : ℕ) (name : List ℕ) →
-            slice_get (names_of tables.now self.old) n ≡ Some name
-            → slice_get (names_of tables.now self.new) n ≡ Some name) }
-        ensures one_more { length self.new.stacks.items ≤ length self.old.stacks.items + 1 }
+        ensures place { IfOk result (HasPlace tables.now self.new stack) }
+        ensures names_stay { OnOk result (KeepsNames tables.now self.old self.new) }
+        ensures one_more { HasOneMore self.old self.new }
     {
         let Some((instruction, _)) = tables.node(stack) else {
             return self.number_of_text(tables, stack, text, other);
@@ -78,17 +73,12 @@ impl PlaceTable {
         text: &mut Vec<u8>,
         other: &mut Vec<u8>,
     ) -> Result<u32, NoMemory>
-        requires held { stack ≤ length tables.now.nodes }
-        requires few { length self.old.stacks.items < 2 ^ 32 - 1 }
-        requires table { IsTable tables.now self.old }
+        requires can { CanNumber tables.now self.old stack }
         ensures table { OnOk result (IsTable tables.now self.new) }
-        ensures place { IfOk result (λ number.
-            slice_get (names_of tables.now self.new) number ≡ Some (place_of tables.now stack)) }
+        ensures place { IfOk result (HasPlace tables.now self.new stack) }
         ensures small { IfOk result (λ number. number < 2 ^ 32 - 1) }
-        ensures names_stay { OnOk result ((n : ℕ) (name : List ℕ) →
-            slice_get (names_of tables.now self.old) n ≡ Some name
-            → slice_get (names_of tables.now self.new) n ≡ Some name) }
-        ensures one_more { length self.new.stacks.items ≤ length self.old.stacks.items + 1 }
+        ensures names_stay { OnOk result (KeepsNames tables.now self.old self.new) }
+        ensures one_more { HasOneMore self.old self.new }
     {
         read_place(tables, stack, text)?;
         let bucket = bucket_of(text, self.last.len());
@@ -107,12 +97,9 @@ impl PlaceTable {
         other: &mut Vec<u8>,
     ) -> Result<Option<u32>, NoMemory>
         requires table { IsTable tables.now self.now }
-        requires bucket { bucket ≡ bucket_of (buckets_of tables.now) text.now }
-        requires inside { bucket < buckets_of tables.now }
-        ensures found { IfOk result (λ found. IfSome found (λ number.
-            slice_get (names_of tables.now self.now) number ≡ Some text.now)) }
-        ensures none { IfOk result (λ found. IfNone found ((n : ℕ) (name : List ℕ) →
-            slice_get (names_of tables.now self.now) n ≡ Some name → name ≢ text.now)) }
+        requires bucket { IsBucket tables.now text.now bucket }
+        ensures found { IfOk result (λ found. IfSome found (HasName tables.now self.now text.now)) }
+        ensures none { IfOk result (λ found. IfNone found (LacksName tables.now self.now text.now)) }
     {
         let mut at = self.last[bucket];
         'backwards: while at > 0 {
@@ -128,19 +115,13 @@ impl PlaceTable {
 
     /// Adds the stack's place, which the table lacks, to the bucket of its text, and answers its number.
     fn add(&mut self, tables: &Tables, stack: u32, bucket: usize) -> Result<u32, NoMemory>
-        requires held { stack ≤ length tables.now.nodes }
-        requires few { length self.old.stacks.items < 2 ^ 32 - 1 }
-        requires table { IsTable tables.now self.old }
-        requires bucket { bucket
-            ≡ bucket_of (buckets_of tables.now) (place_of tables.now stack) }
-        requires inside { bucket < buckets_of tables.now }
-        requires new { (n : ℕ) (name : List ℕ) →
-            slice_get (names_of tables.now self.old) n ≡ Some name
-            → name ≢ place_of tables.now stack }
+        requires can { CanNumber tables.now self.old stack }
+        requires bucket { IsBucket tables.now (place_of tables.now stack) bucket }
+        requires new { LacksName tables.now self.old (place_of tables.now stack) }
         ensures table { OnOk result (IsTable tables.now self.new) }
         ensures number { IfOk result (λ number. number ≡ length self.old.stacks.items) }
         ensures stacks { OnOk result (self.new.stacks.items ≡ self.old.stacks.items ++ stack ∷ []) }
-        ensures one_more { length self.new.stacks.items ≤ length self.old.stacks.items + 1 }
+        ensures one_more { HasOneMore self.old self.new }
     {
         let number = self.stacks.len() as u32;
         self.before.push(self.last[bucket])?;

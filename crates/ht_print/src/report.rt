@@ -1,27 +1,26 @@
-//! Reports on a trace: up to four sections of its stacks by some figure, the histogram, and the summary.
+//! Reports on a trace: the sections that are asked for, the histogram, and the summary.
 //! How a section is written is in `section`.
 #![tactic(auto, using(hp_num::proofs::Laws::extends_same, hp_num::proofs::Laws::extends_more, hp_num::proofs::Laws::extends_trans))]
 
-ghost use Rattle.std.specs.Prelude.{◌≡◌, List, [], ◌++◌, codes, if◌then◌else◌, IfOk, OnErr, OnOk};
-ghost use Rattle.live_ledger.specs.declared.event.Event.{Event};
+ghost use Rattle.std.specs.Prelude.{◌≡◌, IfOk, OnErr};
+ghost use Rattle.std.specs.List.{flat_map};
 ghost use Rattle.hp_num.specs.Extends.{Extends};
 ghost use Rattle.ht_trace.specs.LedgerFits.{IsBeside};
 ghost use Rattle.peak_costs.specs.Peak.{StandsFor};
-ghost use Rattle.ht_print.specs.FlameCosts.{flame_costs};
+ghost use Rattle.ht_print.specs.Appends.{Appends, AppendsFor};
 ghost use Rattle.ht_print.specs.HasGroups.{has_groups};
-ghost use Rattle.ht_print.specs.Histogram.{histogram_text};
+ghost use Rattle.ht_print.specs.Layouts.{HasReportPlaces, HasSuppressed, wanted_histogram, wanted_section};
 ghost use Rattle.ht_print.specs.Places.{HavePlaces};
-ghost use Rattle.ht_print.specs.ReportText.{first_sections, last_sections, leaks_text, report_of_trace, section_text};
+ghost use Rattle.ht_print.specs.ReportText.{report_of_trace};
 ghost use Rattle.ht_print.specs.Suppressed.{suppressed_stacks};
 
 use crate::costs::stack_costs;
-use crate::flame::FlameCost;
 use crate::histogram::put_histogram;
 use crate::layout::Layout;
 use crate::options::PrintOptions;
 use crate::places::Places;
-use crate::scale::Unit;
-use crate::section::{put_leaks, put_section};
+use crate::section::put_section;
+use crate::sections::{SECTIONS, Section};
 use crate::summary::put_summary;
 use crate::suppressed::Suppressed;
 use hp_num::NoMemory;
@@ -43,9 +42,8 @@ pub fn put_report(
 ) -> Result<(), NoMemory>
     requires beside { IsBeside tables.now peaks.now.ledger }
     requires suppressed { suppressed.now ≡ suppressed_stacks tables.now }
-    ensures appended { OnOk result
-        ((events : List Event) → StandsFor peaks.now events
-        → out.new.items ≡ out.old.items ++ report_of_trace options.now tables.now events) }
+    ensures appended { AppendsFor (StandsFor peaks.now) (report_of_trace options.now tables.now)
+        out.old out.new result }
     ensures unchanged { OnErr result (out.new.items ≡ out.old.items) }
 {
     let before = out.len();
@@ -67,9 +65,8 @@ fn put_parts(
 ) -> Result<(), NoMemory>
     requires beside { IsBeside tables.now peaks.now.ledger }
     requires suppressed { suppressed.now ≡ suppressed_stacks tables.now }
-    ensures appended { OnOk result
-        ((events : List Event) → StandsFor peaks.now events
-        → out.new.items ≡ out.old.items ++ report_of_trace options.now tables.now events) }
+    ensures appended { AppendsFor (StandsFor peaks.now) (report_of_trace options.now tables.now)
+        out.old out.new result }
     ensures kept { OnErr result (Extends out.old.items out.new.items) }
 {
     // Says what holds of all peaks.
@@ -80,8 +77,7 @@ fn put_parts(
         tables,
         places: &places,
     };
-    put_first_sections(alloc, &layout, peaks, out)?;
-    put_last_sections(alloc, &layout, peaks, suppressed, out)?;
+    put_sections(alloc, &layout, &SECTIONS, peaks, suppressed, out)?;
     put_wanted_histogram(&layout, peaks, out)?;
     put_summary(peaks, out)
 }
@@ -97,152 +93,48 @@ fn wanted_places(alloc: Global, options: &PrintOptions, tables: &Tables) -> Resu
     Places::of(alloc, tables)
 }
 
-/// Appends the sections of calls and of the peak, where they are asked for.
-#[tactic(auto, unfolding(crate::specs::ReportText::first_sections))]
-fn put_first_sections(
+/// Appends those of the sections that are asked for.
+fn put_sections(
     alloc: Global,
     layout: &Layout<'_>,
-    peaks: &Peaks,
-    out: &mut Vec<u8>,
-) -> Result<(), NoMemory>
-    requires beside { IsBeside layout.now.tables.now peaks.now.ledger }
-    requires places { HavePlaces (has_groups layout.now.options) layout.now.tables.now
-        layout.now.places.now }
-    ensures appended { OnOk result
-        (out.new.items ≡ out.old.items
-        ++ first_sections layout.now.options layout.now.tables.now
-        (λ cost. flame_costs cost peaks.now)) }
-    ensures kept { Extends out.old.items out.new.items }
-{
-    put_calls(alloc, layout, peaks, out)?;
-    put_peak(alloc, layout, peaks, out)
-}
-
-/// Appends the sections of leaks and of temporary allocations, where they are asked for.
-#[tactic(auto, unfolding(crate::specs::ReportText::last_sections))]
-fn put_last_sections(
-    alloc: Global,
-    layout: &Layout<'_>,
+    sections: &[Section],
     peaks: &Peaks,
     suppressed: &Suppressed,
     out: &mut Vec<u8>,
 ) -> Result<(), NoMemory>
     requires beside { IsBeside layout.now.tables.now peaks.now.ledger }
-    requires places { HavePlaces (has_groups layout.now.options) layout.now.tables.now
-        layout.now.places.now }
-    requires suppressed { suppressed.now ≡ suppressed_stacks layout.now.tables.now }
-    ensures appended { OnOk result
-        (out.new.items ≡ out.old.items
-        ++ last_sections layout.now.options layout.now.tables.now
-        (λ cost. flame_costs cost peaks.now)) }
+    requires places { HasReportPlaces layout.now }
+    requires suppressed { HasSuppressed layout.now suppressed.now }
+    ensures appended { Appends (flat_map (wanted_section layout.now peaks.now) sections.now)
+        out.old out.new result }
     ensures kept { Extends out.old.items out.new.items }
 {
-    put_wanted_leaks(alloc, layout, peaks, suppressed, out)?;
-    put_temporary(alloc, layout, peaks, out)
-}
-
-/// Appends the section of calls, where it is asked for.
-fn put_calls(
-    alloc: Global,
-    layout: &Layout<'_>,
-    peaks: &Peaks,
-    out: &mut Vec<u8>,
-) -> Result<(), NoMemory>
-    requires beside { IsBeside layout.now.tables.now peaks.now.ledger }
-    requires places { HavePlaces (has_groups layout.now.options) layout.now.tables.now
-        layout.now.places.now }
-    ensures appended { OnOk result
-        (out.new.items ≡ out.old.items
-        ++ (if layout.now.options.allocators
-        then section_text layout.now.options layout.now.tables.now
-        (codes "MOST CALLS TO ALLOCATION FUNCTIONS\n")
-        Unit.Calls (flame_costs FlameCost.Allocations peaks.now) else [])) }
-    ensures kept { Extends out.old.items out.new.items }
-{
-    if !layout.options.allocators {
-        return Ok(());
+    'each_section: for section in sections {
+        put_wanted_section(alloc, layout, *section, peaks, suppressed, out)?;
     }
-    let heading = b"MOST CALLS TO ALLOCATION FUNCTIONS\n";
-    let calls = stack_costs(alloc, FlameCost::Allocations, peaks)?;
-    put_section(alloc, layout, heading, Unit::Calls, &calls, out)
+    Ok(())
 }
 
-/// Appends the section of what is live at the peak, where it is asked for.
-fn put_peak(
+/// Appends a section, where it is asked for.
+fn put_wanted_section(
     alloc: Global,
     layout: &Layout<'_>,
-    peaks: &Peaks,
-    out: &mut Vec<u8>,
-) -> Result<(), NoMemory>
-    requires beside { IsBeside layout.now.tables.now peaks.now.ledger }
-    requires places { HavePlaces (has_groups layout.now.options) layout.now.tables.now
-        layout.now.places.now }
-    ensures appended { OnOk result
-        (out.new.items ≡ out.old.items
-        ++ (if layout.now.options.peaks
-        then section_text layout.now.options layout.now.tables.now (codes "PEAK MEMORY CONSUMERS\n")
-        Unit.Bytes
-        (flame_costs FlameCost.Peak peaks.now) else [])) }
-    ensures kept { Extends out.old.items out.new.items }
-{
-    if !layout.options.peaks {
-        return Ok(());
-    }
-    let heading = b"PEAK MEMORY CONSUMERS\n";
-    let shares = stack_costs(alloc, FlameCost::Peak, peaks)?;
-    put_section(alloc, layout, heading, Unit::Bytes, &shares, out)
-}
-
-/// Appends the section of leaks, where it is asked for.
-fn put_wanted_leaks(
-    alloc: Global,
-    layout: &Layout<'_>,
+    section: Section,
     peaks: &Peaks,
     suppressed: &Suppressed,
     out: &mut Vec<u8>,
 ) -> Result<(), NoMemory>
     requires beside { IsBeside layout.now.tables.now peaks.now.ledger }
-    requires places { HavePlaces (has_groups layout.now.options) layout.now.tables.now
-        layout.now.places.now }
-    requires suppressed { suppressed.now ≡ suppressed_stacks layout.now.tables.now }
-    ensures appended { OnOk result
-        (out.new.items ≡ out.old.items
-        ++ (if layout.now.options.leaks
-        then leaks_text layout.now.options layout.now.tables.now
-        (flame_costs FlameCost.Leaked peaks.now) else [])) }
+    requires places { HasReportPlaces layout.now }
+    requires suppressed { HasSuppressed layout.now suppressed.now }
+    ensures appended { Appends (wanted_section layout.now peaks.now section) out.old out.new result }
     ensures kept { Extends out.old.items out.new.items }
 {
-    if !layout.options.leaks {
+    if !section.is_wanted(&layout.options) {
         return Ok(());
     }
-    let live = stack_costs(alloc, FlameCost::Leaked, peaks)?;
-    put_leaks(alloc, layout, suppressed, &live, out)
-}
-
-/// Appends the section of temporary allocations, where it is asked for.
-fn put_temporary(
-    alloc: Global,
-    layout: &Layout<'_>,
-    peaks: &Peaks,
-    out: &mut Vec<u8>,
-) -> Result<(), NoMemory>
-    requires beside { IsBeside layout.now.tables.now peaks.now.ledger }
-    requires places { HavePlaces (has_groups layout.now.options) layout.now.tables.now
-        layout.now.places.now }
-    ensures appended { OnOk result
-        (out.new.items ≡ out.old.items
-        ++ (if layout.now.options.temporary
-        then section_text layout.now.options layout.now.tables.now
-        (codes "MOST TEMPORARY ALLOCATIONS\n")
-        Unit.Temporary (flame_costs FlameCost.Temporary peaks.now) else [])) }
-    ensures kept { Extends out.old.items out.new.items }
-{
-    if !layout.options.temporary {
-        return Ok(());
-    }
-    let heading = b"MOST TEMPORARY ALLOCATIONS\n";
-    let temporary = stack_costs(alloc, FlameCost::Temporary, peaks)?;
-    put_section(alloc, layout, heading, Unit::Temporary, &temporary, out)
+    let figures = stack_costs(alloc, section.cost(), peaks)?;
+    put_section(alloc, layout, section, suppressed, &figures, out)
 }
 
 /// Appends the histogram, where it is asked for.
@@ -252,10 +144,8 @@ fn put_wanted_histogram(
     out: &mut Vec<u8>,
 ) -> Result<(), NoMemory>
     requires beside { IsBeside layout.now.tables.now peaks.now.ledger }
-    ensures appended { OnOk result
-        ((events : List Event) → StandsFor peaks.now events
-        → out.new.items ≡ out.old.items
-        ++ (if layout.now.options.histogram then histogram_text events else [])) }
+    ensures appended { AppendsFor (StandsFor peaks.now) (wanted_histogram layout.now)
+        out.old out.new result }
     ensures kept { Extends out.old.items out.new.items }
 {
     if !layout.options.histogram {

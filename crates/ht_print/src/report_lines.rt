@@ -2,15 +2,13 @@
 //! What the figures are, and in which order the entries stand, is no part of it.
 #![tactic(auto, using(hp_num::proofs::Laws::extends_same, hp_num::proofs::Laws::extends_more, hp_num::proofs::Laws::extends_trans))]
 
-ghost use Rattle.std.specs.Prelude.{◌≡◌, ℕ, ◌++◌, ◌-◌, ◌<◌, All, length, map, take, OnOk};
-ghost use Rattle.stack_trees.specs.StackTexts.{stack_texts};
+ghost use Rattle.std.specs.Prelude.{◌≡◌, ◌-◌, All, length, take};
 ghost use Rattle.hp_num.specs.Extends.{Extends};
-ghost use Rattle.ht_trace.specs.FrameText.{frame_text};
 ghost use Rattle.ht_trace.specs.IsFrame.{IsFrame};
-ghost use Rattle.ht_trace.specs.declared.frame.Style.TheVariants.{Plain};
+ghost use Rattle.ht_print.specs.Appends.{Appends};
 ghost use Rattle.ht_print.specs.IsEntry.{IsEntry};
-ghost use Rattle.ht_print.specs.ReportGroups.{place_of};
-ghost use Rattle.ht_print.specs.ReportLines.{frame_lines, group_lines, in_stack, left_line, member_lines, members_lines, place_line, stack_lines, unmerged_lines};
+ghost use Rattle.ht_print.specs.Layouts.{AreEntries, group_lines, members_lines, unmerged_lines};
+ghost use Rattle.ht_print.specs.ReportLines.{frame_lines, in_stack, left_line, member_at, place_at, stack_at, texts_of};
 
 use crate::entry::Entry;
 use crate::layout::Layout;
@@ -30,7 +28,7 @@ pub(crate) fn split_shown<T>(entries: &[T], limit: u32) -> (&[T], usize)
 /// Appends how many entries are left, where some are.
 #[tactic(auto, unfolding(crate::specs::ReportLines::left_line))]
 pub(crate) fn put_left(label: &[u8], left: usize, out: &mut Vec<u8>) -> Result<(), NoMemory>
-    ensures appended { OnOk result (out.new.items ≡ out.old.items ++ left_line label.now left) }
+    ensures appended { Appends (left_line label.now left) out.old out.new result }
     ensures kept { Extends out.old.items out.new.items }
 {
     if left == 0 {
@@ -49,10 +47,8 @@ pub(crate) fn put_stacks(
     frames: &mut Vec<FrameAt>,
     out: &mut Vec<u8>,
 ) -> Result<(), NoMemory>
-    requires entries { All (IsEntry layout.now.tables.now scale.total) stacks.now }
-    ensures appended { OnOk result
-        (out.new.items ≡ out.old.items
-        ++ unmerged_lines layout.now.tables.now scale layout.now.options.limit stacks.now) }
+    requires entries { AreEntries layout.now scale stacks.now }
+    ensures appended { Appends (unmerged_lines layout.now scale stacks.now) out.old out.new result }
     ensures kept { Extends out.old.items out.new.items }
 {
     let (shown, left) = split_shown(stacks, layout.options.limit);
@@ -72,9 +68,7 @@ fn put_stack(
     out: &mut Vec<u8>,
 ) -> Result<(), NoMemory>
     requires entry { IsEntry tables.now scale.total stack }
-    ensures appended { OnOk result
-        (out.new.items ≡ out.old.items
-        ++ stack_lines scale (stack_texts Plain tables.now stack.stack) stack) }
+    ensures appended { Appends (stack_at tables.now scale stack) out.old out.new result }
     ensures kept { Extends out.old.items out.new.items }
 {
     tables.frames_into(stack.stack, frames)?;
@@ -99,12 +93,8 @@ pub(crate) fn put_group(
     out: &mut Vec<u8>,
 ) -> Result<(), NoMemory>
     requires entry { IsEntry layout.now.tables.now scale.total group }
-    requires members { All (IsEntry layout.now.tables.now scale.total) members.now }
-    ensures appended { OnOk result
-        (out.new.items ≡ out.old.items
-        ++ group_lines layout.now.tables.now scale layout.now.options.sub_limit
-        (place_of layout.now.tables.now group.stack) members.now
-        group.figure) }
+    requires members { AreEntries layout.now scale members.now }
+    ensures appended { Appends (group_lines layout.now scale group members.now) out.old out.new result }
     ensures kept { Extends out.old.items out.new.items }
 {
     put_place(layout.tables, scale, group, out)?;
@@ -114,9 +104,7 @@ pub(crate) fn put_group(
 /// Appends the line of a group.
 fn put_place(tables: &Tables, scale: Scale, group: Entry, out: &mut Vec<u8>) -> Result<(), NoMemory>
     requires entry { IsEntry tables.now scale.total group }
-    ensures appended { OnOk result
-        (out.new.items ≡ out.old.items
-        ++ place_line scale (place_of tables.now group.stack) group.figure) }
+    ensures appended { Appends (place_at tables.now scale group) out.old out.new result }
     ensures kept { Extends out.old.items out.new.items }
 {
     let innermost = tables.innermost_frame(group.stack);
@@ -134,10 +122,8 @@ fn put_members(
     frames: &mut Vec<FrameAt>,
     out: &mut Vec<u8>,
 ) -> Result<(), NoMemory>
-    requires members { All (IsEntry layout.now.tables.now scale.total) members.now }
-    ensures appended { OnOk result
-        (out.new.items ≡ out.old.items
-        ++ members_lines layout.now.tables.now scale layout.now.options.sub_limit members.now) }
+    requires members { AreEntries layout.now scale members.now }
+    ensures appended { Appends (members_lines layout.now scale members.now) out.old out.new result }
     ensures kept { Extends out.old.items out.new.items }
 {
     let (shown, left) = split_shown(members, layout.options.sub_limit);
@@ -157,9 +143,7 @@ fn put_member(
     out: &mut Vec<u8>,
 ) -> Result<(), NoMemory>
     requires entry { IsEntry tables.now scale.total member }
-    ensures appended { OnOk result
-        (out.new.items ≡ out.old.items
-        ++ member_lines scale (stack_texts Plain tables.now member.stack) member) }
+    ensures appended { Appends (member_at tables.now scale member) out.old out.new result }
     ensures kept { Extends out.old.items out.new.items }
 {
     tables.frames_into(member.stack, frames)?;
@@ -175,7 +159,7 @@ fn put_member(
 /// Appends the number of a stack.
 #[tactic(auto, unfolding(crate::specs::ReportLines::in_stack))]
 fn put_in_stack(stack: u32, out: &mut Vec<u8>) -> Result<(), NoMemory>
-    ensures appended { OnOk result (out.new.items ≡ out.old.items ++ in_stack stack) }
+    ensures appended { Appends (in_stack stack) out.old out.new result }
     ensures kept { Extends out.old.items out.new.items }
 {
     put_bytes(out, b" in stack ")?;
@@ -191,9 +175,8 @@ fn put_frames(
     out: &mut Vec<u8>,
 ) -> Result<(), NoMemory>
     requires frames { All (λ at. IsFrame tables.now at) frames.now }
-    ensures appended { OnOk result
-        (out.new.items ≡ out.old.items
-        ++ frame_lines blanks.now (map (frame_text Plain tables.now) frames.now)) }
+    ensures appended { Appends (frame_lines blanks.now (texts_of tables.now frames.now)) out.old out.new
+        result }
     ensures kept { Extends out.old.items out.new.items }
 {
     'each_frame: for at in frames {

@@ -1,8 +1,9 @@
 //! How the figures of a section are told: in their unit, and as shares of their sum.
 #![tactic(auto, using(hp_num::proofs::Laws::extends_same, hp_num::proofs::Laws::extends_more, hp_num::proofs::Laws::extends_trans))]
 
-ghost use Rattle.std.specs.Prelude.{◌≡◌, ◌++◌, ◌≤◌, OnOk};
+ghost use Rattle.std.specs.Prelude.{◌≡◌, ◌≤◌};
 ghost use Rattle.hp_num.specs.Extends.{Extends};
+ghost use Rattle.ht_print.specs.Appends.{Appends};
 ghost use Rattle.ht_print.specs.ReportLines.{figure_text, unit_text};
 
 use hp_num::{NoMemory, hundredths, put_bytes, put_dec, put_percent};
@@ -39,7 +40,7 @@ impl Scale {
     #[tactic(auto, unfolding(crate::specs::ReportLines::figure_text))]
     pub(crate) fn put(self, figure: u64, out: &mut Vec<u8>) -> Result<(), NoMemory>
         requires within { figure ≤ self.total }
-        ensures appended { OnOk result (out.new.items ≡ out.old.items ++ figure_text self figure) }
+        ensures appended { Appends (figure_text self figure) out.old out.new result }
         ensures kept { Extends out.old.items out.new.items }
     {
         put_dec(out, figure)?;

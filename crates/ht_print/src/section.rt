@@ -1,14 +1,13 @@
-//! The sections of a report: the stacks by one figure each, in groups or by themselves.
+//! A section of a report: the stacks by one figure, in groups or by themselves. Which sections there are is in `sections`.
 #![tactic(auto, using(hp_num::proofs::Laws::extends_same, hp_num::proofs::Laws::extends_more, hp_num::proofs::Laws::extends_trans))]
 
-ghost use Rattle.std.specs.Prelude.{◌≡◌, ℕ, ◌++◌, ◌-◌, ◌+◌, ◌^◌, ◌<◌, ◌≤◌, All, if◌then◌else◌, IfOk, OnOk, length, sum, sum_by};
+ghost use Rattle.std.specs.Prelude.{◌≡◌, ◌^◌, ◌<◌, ◌≤◌, if◌then◌else◌, IfOk, length, sum};
 ghost use Rattle.hp_num.specs.Extends.{Extends};
-ghost use Rattle.ht_print.specs.IsEntry.{IsEntry};
-ghost use Rattle.ht_print.specs.PlacedStacks.{ArePlaced, groups_lines};
-ghost use Rattle.ht_print.specs.Places.{HavePlaces, TellPlaces};
-ghost use Rattle.ht_print.specs.ReportLines.{merged_lines};
-ghost use Rattle.ht_print.specs.ReportText.{leaks_text, section_lines, section_text, stacks_text, suppressed_line, unsuppressed};
-ghost use Rattle.ht_print.specs.Suppressed.{suppressed_stacks};
+ghost use Rattle.ht_print.specs.Appends.{Appends};
+ghost use Rattle.ht_print.specs.Layouts.{AreEntries, AreFigures, AreStacks, HasSectionPlaces, HasSuppressed, groups_lines, merged_lines, section_body, section_lines, section_text, stacks_text};
+ghost use Rattle.ht_print.specs.PlacedStacks.{ArePlaced};
+ghost use Rattle.ht_print.specs.Places.{TellPlaces};
+ghost use Rattle.ht_print.specs.ReportText.{suppressed_line, unsuppressed};
 
 use crate::entry::{Entry, ordered_stacks};
 use crate::groups::ordered_groups;
@@ -16,6 +15,7 @@ use crate::layout::Layout;
 use crate::placed_stacks::PlacedStacks;
 use crate::report_lines::{put_group, put_left, put_stacks, split_shown};
 use crate::scale::{Scale, Unit};
+use crate::sections::Section;
 use crate::suppressed::Suppressed;
 use hp_num::{NoMemory, put_bytes, put_dec};
 use std::alloc::Global;
@@ -25,51 +25,43 @@ use std::alloc::Global;
 pub(crate) fn put_section(
     alloc: Global,
     layout: &Layout<'_>,
-    heading: &[u8],
-    unit: Unit,
+    section: Section,
+    suppressed: &Suppressed,
     figures: &[u64],
     out: &mut Vec<u8>,
 ) -> Result<(), NoMemory>
-    requires places { HavePlaces layout.now.options.merge layout.now.tables.now
-        layout.now.places.now }
-    requires as_many { length figures.now ≡ length layout.now.tables.now.nodes + 1 }
-    requires few { length figures.now < 2 ^ 32 }
-    requires bound { sum figures.now ≤ 2 ^ 62 }
-    ensures appended { OnOk result
-        (out.new.items ≡ out.old.items
-        ++ section_text layout.now.options layout.now.tables.now heading.now unit figures.now) }
+    requires places { HasSectionPlaces layout.now }
+    requires suppressed { HasSuppressed layout.now suppressed.now }
+    requires figures { AreFigures layout.now figures.now }
+    ensures appended { Appends (section_text layout.now section figures.now) out.old out.new result }
     ensures kept { Extends out.old.items out.new.items }
 {
-    put_bytes(out, heading)?;
-    put_figures(alloc, layout, unit, figures, out)?;
+    put_bytes(out, section.heading())?;
+    put_body(alloc, layout, section, suppressed, figures, out)?;
     put_bytes(out, b"\n")
 }
 
-/// Appends the section of leaks with what each stack has live at the end.
-#[tactic(auto, unfolding(crate::specs::ReportText::leaks_text))]
-pub(crate) fn put_leaks(
+/// Appends what stands below the heading of a section. Where suppressed stacks are left out, they are told in one line.
+fn put_body(
     alloc: Global,
     layout: &Layout<'_>,
+    section: Section,
     suppressed: &Suppressed,
-    live: &[u64],
+    figures: &[u64],
     out: &mut Vec<u8>,
 ) -> Result<(), NoMemory>
-    requires places { HavePlaces layout.now.options.merge layout.now.tables.now
-        layout.now.places.now }
-    requires as_many { length live.now ≡ length layout.now.tables.now.nodes + 1 }
-    requires few { length live.now < 2 ^ 32 }
-    requires suppressed { suppressed.now ≡ suppressed_stacks layout.now.tables.now }
-    requires bound { sum live.now ≤ 2 ^ 62 }
-    ensures appended { OnOk result
-        (out.new.items ≡ out.old.items
-        ++ leaks_text layout.now.options layout.now.tables.now live.now) }
+    requires places { HasSectionPlaces layout.now }
+    requires suppressed { HasSuppressed layout.now suppressed.now }
+    requires figures { AreFigures layout.now figures.now }
+    ensures appended { Appends (section_body layout.now section figures.now) out.old out.new result }
     ensures kept { Extends out.old.items out.new.items }
 {
-    let leaks = unsuppressed(alloc, suppressed, live)?;
-    put_bytes(out, b"MEMORY LEAKS\n")?;
-    put_figures(alloc, layout, Unit::Bytes, &leaks, out)?;
-    put_suppressed(sum_of(live) - sum_of(&leaks), out)?;
-    put_bytes(out, b"\n")
+    if !section.leaves_out() {
+        return put_figures(alloc, layout, section.unit(), figures, out);
+    }
+    let kept = unsuppressed(alloc, suppressed, figures)?;
+    put_figures(alloc, layout, section.unit(), &kept, out)?;
+    put_suppressed(sum_of(figures) - sum_of(&kept), out)
 }
 
 /// The figures with a 0 for each stack that is suppressed, or `NoMemory`.
@@ -99,7 +91,7 @@ fn unsuppressed_figure(is_suppressed: bool, figure: u64) -> u64
 /// Appends how many bytes suppressed stacks have, where they have some.
 #[tactic(auto, unfolding(crate::specs::ReportText::suppressed_line))]
 fn put_suppressed(bytes: u64, out: &mut Vec<u8>) -> Result<(), NoMemory>
-    ensures appended { OnOk result (out.new.items ≡ out.old.items ++ suppressed_line bytes) }
+    ensures appended { Appends (suppressed_line bytes) out.old out.new result }
     ensures kept { Extends out.old.items out.new.items }
 {
     if bytes == 0 {
@@ -118,14 +110,9 @@ fn put_figures(
     figures: &[u64],
     out: &mut Vec<u8>,
 ) -> Result<(), NoMemory>
-    requires places { HavePlaces layout.now.options.merge layout.now.tables.now
-        layout.now.places.now }
-    requires as_many { length figures.now ≡ length layout.now.tables.now.nodes + 1 }
-    requires few { length figures.now < 2 ^ 32 }
-    requires bound { sum figures.now ≤ 2 ^ 62 }
-    ensures appended { OnOk result
-        (out.new.items ≡ out.old.items
-        ++ section_lines layout.now.options layout.now.tables.now unit figures.now) }
+    requires places { HasSectionPlaces layout.now }
+    requires figures { AreFigures layout.now figures.now }
+    ensures appended { Appends (section_lines layout.now unit figures.now) out.old out.new result }
     ensures kept { Extends out.old.items out.new.items }
 {
     let scale = Scale {
@@ -153,15 +140,9 @@ fn put_entries(
     stacks: &[Entry],
     out: &mut Vec<u8>,
 ) -> Result<(), NoMemory>
-    requires places { HavePlaces layout.now.options.merge layout.now.tables.now
-        layout.now.places.now }
-    requires entries { All (IsEntry layout.now.tables.now scale.total) stacks.now }
-    requires few { length stacks.now < 2 ^ 32 }
-    requires within { sum_by (λ stack. stack.figure) stacks.now ≤ scale.total }
-    requires bound { scale.total ≤ 2 ^ 62 }
-    ensures appended { OnOk result
-        (out.new.items ≡ out.old.items
-        ++ stacks_text layout.now.options layout.now.tables.now scale stacks.now) }
+    requires places { HasSectionPlaces layout.now }
+    requires stacks { AreStacks layout.now scale stacks.now }
+    ensures appended { Appends (stacks_text layout.now scale stacks.now) out.old out.new result }
     ensures kept { Extends out.old.items out.new.items }
 {
     if stacks.is_empty() {
@@ -183,14 +164,8 @@ fn put_merged(
     out: &mut Vec<u8>,
 ) -> Result<(), NoMemory>
     requires places { TellPlaces layout.now.tables.now layout.now.places.now }
-    requires entries { All (IsEntry layout.now.tables.now scale.total) stacks.now }
-    requires few { length stacks.now < 2 ^ 32 }
-    requires within { sum_by (λ stack. stack.figure) stacks.now ≤ scale.total }
-    requires bound { scale.total ≤ 2 ^ 62 }
-    ensures appended { OnOk result
-        (out.new.items ≡ out.old.items
-        ++ merged_lines layout.now.tables.now scale layout.now.options.limit
-        layout.now.options.sub_limit stacks.now) }
+    requires stacks { AreStacks layout.now scale stacks.now }
+    ensures appended { Appends (merged_lines layout.now scale stacks.now) out.old out.new result }
     ensures kept { Extends out.old.items out.new.items }
 {
     let placed = PlacedStacks::of(alloc, layout.places, stacks)?;
@@ -209,12 +184,9 @@ fn put_groups(
 ) -> Result<(), NoMemory>
     requires places { TellPlaces layout.now.tables.now layout.now.places.now }
     requires placed { ArePlaced layout.now.places.now placed.now }
-    requires entries { All (IsEntry layout.now.tables.now scale.total) placed.now.stacks.now }
-    requires groups { All (IsEntry layout.now.tables.now scale.total) groups.now }
-    ensures appended { OnOk result
-        (out.new.items ≡ out.old.items
-        ++ groups_lines layout.now.tables.now scale layout.now.options.limit
-        layout.now.options.sub_limit placed.now.stacks.now groups.now) }
+    requires entries { AreEntries layout.now scale placed.now.stacks.now }
+    requires groups { AreEntries layout.now scale groups.now }
+    ensures appended { Appends (groups_lines layout.now scale placed.now groups.now) out.old out.new result }
     ensures kept { Extends out.old.items out.new.items }
 {
     let mut members = Vec::new(alloc);

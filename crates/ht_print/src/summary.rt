@@ -1,9 +1,12 @@
 //! The summary of a trace as text: six lines of figures, a format of this project's own.
-ghost use Rattle.std.specs.Prelude.{◌≡◌, ◌++◌, List, OnErr, OnOk, take, vec_len};
-ghost use Rattle.live_ledger.specs.declared.event.Event.{Event};
+#![tactic(auto, using(hp_num::proofs::Laws::extends_same, hp_num::proofs::Laws::extends_more, hp_num::proofs::Laws::extends_trans))]
+
+ghost use Rattle.std.specs.Prelude.{◌≡◌, OnErr};
+ghost use Rattle.hp_num.specs.Extends.{Extends};
 ghost use Rattle.peak_costs.specs.Peak.{StandsFor};
 ghost use Rattle.peak_costs.specs.PeakTotals as peak_totals;
-ghost use Rattle.ht_print.specs.SummaryText.{count_lines, figure, live_lines, summary_of, summary_text};
+ghost use Rattle.ht_print.specs.Appends.{Appends, AppendsFor};
+ghost use Rattle.ht_print.specs.SummaryText.{IsSummaryOf, count_lines, figure, live_lines, summary_lines, summary_text};
 
 use hp_num::{NoMemory, put_bytes, put_dec};
 use live_ledger::Totals;
@@ -22,9 +25,7 @@ struct Summary {
 /// Appends the six lines to `out`: events, calls, temporary allocations, allocated bytes, the peak in bytes with its moment
 /// in events, and the bytes and blocks that are live at the end. On `NoMemory`, `out` holds what it held before.
 pub fn put_summary(peaks: &Peaks, out: &mut Vec<u8>) -> Result<(), NoMemory>
-    ensures appended { OnOk result
-        ((events : List Event) → StandsFor peaks.now events
-        → out.new.items ≡ out.old.items ++ summary_text events) }
+    ensures appended { AppendsFor (StandsFor peaks.now) summary_text out.old out.new result }
     ensures unchanged { OnErr result (out.new.items ≡ out.old.items) }
 {
     Summary::of_peaks(peaks).put(out)
@@ -33,9 +34,7 @@ pub fn put_summary(peaks: &Peaks, out: &mut Vec<u8>) -> Result<(), NoMemory>
 /// Appends the six lines of a trace of which the totals with their peak alone were kept, as `put_summary` does. On
 /// `NoMemory`, `out` holds what it held before.
 pub fn put_totals_summary(totals: &PeakTotals, out: &mut Vec<u8>) -> Result<(), NoMemory>
-    ensures appended { OnOk result
-        ((events : List Event) → peak_totals.StandsFor totals.now events
-        → out.new.items ≡ out.old.items ++ summary_text events) }
+    ensures appended { AppendsFor (peak_totals.StandsFor totals.now) summary_text out.old out.new result }
     ensures unchanged { OnErr result (out.new.items ≡ out.old.items) }
 {
     Summary::of_totals(totals).put(out)
@@ -44,7 +43,7 @@ pub fn put_totals_summary(totals: &PeakTotals, out: &mut Vec<u8>) -> Result<(), 
 impl Summary {
     /// The figures of the trace whose peaks these are.
     fn of_peaks(peaks: &Peaks) -> Summary
-        ensures { (events : List Event) → StandsFor peaks.now events → result ≡ summary_of events }
+        ensures { IsSummaryOf (StandsFor peaks.now) result }
     {
         Summary {
             totals: peaks.ledger().totals(),
@@ -55,8 +54,7 @@ impl Summary {
 
     /// The figures of the trace whose totals these are.
     fn of_totals(totals: &PeakTotals) -> Summary
-        ensures { (events : List Event) → peak_totals.StandsFor totals.now events
-            → result ≡ summary_of events }
+        ensures { IsSummaryOf (peak_totals.StandsFor totals.now) result }
     {
         Summary {
             totals: totals.ledger().totals(),
@@ -67,8 +65,7 @@ impl Summary {
 
     /// Appends the six lines. On `NoMemory`, `out` holds what it held before.
     fn put(&self, out: &mut Vec<u8>) -> Result<(), NoMemory>
-        ensures appended { OnOk result
-            (out.new.items ≡ out.old.items ++ (count_lines self.now ++ live_lines self.now)) }
+        ensures appended { Appends (summary_lines self.now) out.old out.new result }
         ensures unchanged { OnErr result (out.new.items ≡ out.old.items) }
     {
         let before = out.len();
@@ -81,9 +78,8 @@ impl Summary {
 
     /// Appends the six lines.
     fn put_lines(&self, out: &mut Vec<u8>) -> Result<(), NoMemory>
-        ensures kept { take (vec_len out.old) out.new.items ≡ out.old.items }
-        ensures appended { OnOk result
-            (out.new.items ≡ out.old.items ++ (count_lines self.now ++ live_lines self.now)) }
+        ensures kept { Extends out.old.items out.new.items }
+        ensures appended { Appends (summary_lines self.now) out.old out.new result }
     {
         self.put_counts(out)?;
         self.put_live(out)
@@ -92,8 +88,8 @@ impl Summary {
     /// Appends the lines of what was counted.
     #[tactic(auto, unfolding(crate::specs::SummaryText::count_lines))]
     fn put_counts(&self, out: &mut Vec<u8>) -> Result<(), NoMemory>
-        ensures kept { take (vec_len out.old) out.new.items ≡ out.old.items }
-        ensures appended { OnOk result (out.new.items ≡ out.old.items ++ count_lines self.now) }
+        ensures kept { Extends out.old.items out.new.items }
+        ensures appended { Appends (count_lines self.now) out.old out.new result }
     {
         put_figure(out, b"events: ", self.totals.events)?;
         put_figure(out, b"\ncalls: ", self.totals.calls)?;
@@ -104,8 +100,8 @@ impl Summary {
     /// Appends the lines of what was live at the peak and is live at the end.
     #[tactic(auto, unfolding(crate::specs::SummaryText::live_lines))]
     fn put_live(&self, out: &mut Vec<u8>) -> Result<(), NoMemory>
-        ensures kept { take (vec_len out.old) out.new.items ≡ out.old.items }
-        ensures appended { OnOk result (out.new.items ≡ out.old.items ++ live_lines self.now) }
+        ensures kept { Extends out.old.items out.new.items }
+        ensures appended { Appends (live_lines self.now) out.old out.new result }
     {
         put_figure(out, b"\npeak: ", self.peak)?;
         put_figure(out, b" at event ", self.moment)?;
@@ -117,8 +113,8 @@ impl Summary {
 
 /// Appends a label and a figure.
 fn put_figure(out: &mut Vec<u8>, label: &[u8], n: u64) -> Result<(), NoMemory>
-    ensures kept { take (vec_len out.old) out.new.items ≡ out.old.items }
-    ensures appended { OnOk result (out.new.items ≡ out.old.items ++ figure label.now n) }
+    ensures kept { Extends out.old.items out.new.items }
+    ensures appended { Appends (figure label.now n) out.old out.new result }
 {
     put_bytes(out, label)?;
     put_dec(out, n)

@@ -1,11 +1,10 @@
-use Rattle.std.proofs.Common.{ℕ, ◌+◌, ◌++◌, List, [], cond, length, ap, ◌∙◌}
+use Rattle.std.proofs.Common.{ℕ, ◌+◌, ◌++◌, List, length, ap, ◌∙◌}
 use Rattle.std.proofs.lemmas.Result.{on_ok_weaker}
 use Rattle.ht_print.specs.FlameCosts.{trace_costs}
-use Rattle.ht_print.specs.Histogram.{histogram_text}
-use Rattle.ht_print.specs.ReportText.{first_sections, last_sections, report_of_trace}
+use Rattle.ht_print.specs.ReportText.{report_of_trace, sections_text, wanted_histogram}
 use Rattle.ht_print.specs.SummaryText.{summary_text}
-use Rattle.ht_print.proofs.FlameLemmas.{four-appended}
-use Rattle.ht_print.proofs.ReportParts.{first-are, last-are}
+use Rattle.ht_print.proofs.ReportLemmas.{three-appended}
+use Rattle.ht_print.proofs.ReportParts.{all-wanted, sections-are}
 use Rattle.ht_print.proofs.report.put_parts.Goals as goal
 
 pub returns-clause-appended : goal.returns-clause-appended
@@ -19,16 +18,12 @@ returns-clause-appended c =
     let beside = c.requires.beside.stacks in
     on_ok_weaker c.put_summary.result
     (λ added events stands.
-    let first : List ℕ = first_sections options tables (λ cost. trace_costs cost (length tables.nodes + 1) events) in
-    let last : List ℕ = last_sections options tables (λ cost. trace_costs cost (length tables.nodes + 1) events) in
-    let histogram : List ℕ = cond options.histogram (histogram_text events) [] in
-    four-appended out c.put_first_sections.new.out.items c.put_last_sections.new.out.items
-    c.put_wanted_histogram.new.out.items c.put_summary.new.out.items first last histogram (summary_text events)
-    (c.in_ok-put_first_sections.ensures.appended
-    ∙ ap (λ (bytes : List ℕ). out ++ bytes) (first-are options tables peaks events sound stands beside))
-    (c.in_ok-put_last_sections.ensures.appended
-    ∙ ap (λ (bytes : List ℕ). c.put_first_sections.new.out.items ++ bytes)
-    (last-are options tables peaks events sound stands beside))
+    three-appended out c.put_sections.new.out.items c.put_wanted_histogram.new.out.items c.put_summary.new.out.items
+    (sections_text options tables (λ cost. trace_costs cost (length tables.nodes + 1) events))
+    (wanted_histogram options events) (summary_text events)
+    (c.in_ok-put_sections.ensures.appended
+    ∙ ap (λ (bytes : List ℕ). out ++ bytes)
+    (all-wanted options tables peaks ∙ sections-are options tables peaks events sound stands beside))
     (c.in_ok-put_wanted_histogram.ensures.appended events stands)
     (added events stands))
     c.put_summary.ensures.appended

@@ -15,14 +15,14 @@ put_groups-requires-clause-groups c =
     let stacks : List Entry = c.args.stacks.now in
     let same = c.in_ok-placed.ensures.stacks in
     let held : All (λ (e : Entry). e.stack ≤ length tables.nodes) stacks =
-    λ k d within. (c.requires.entries k d within).held in
+    λ k d within. (c.requires.stacks.entries k d within).held in
     let groups : c.deref.result.now ≡ ordered_groups tables stacks =
     c.deref.ensures.value
     ∙ c.in_ok-groups.ensures tables c.requires.places
     (subst (λ (es : List Entry). All (λ (e : Entry). e.stack ≤ length tables.nodes) es) (sym same) held)
     ∙ ap (λ (es : List Entry). ordered_groups tables es) same in
     subst (λ (es : List Entry). All (IsEntry tables total) es) (sym groups)
-    (groups-entries tables total stacks c.requires.entries c.requires.within)
+    (groups-entries tables total stacks c.requires.stacks.entries c.requires.stacks.within)
 
 pub returns-clause-appended : goal.returns-clause-appended
 returns-clause-appended c =
@@ -31,7 +31,7 @@ returns-clause-appended c =
     let stacks : List Entry = c.args.stacks.now in
     let same = c.in_ok-placed.ensures.stacks in
     let held : All (λ (e : Entry). e.stack ≤ length tables.nodes) stacks =
-    λ k d within. (c.requires.entries k d within).held in
+    λ k d within. (c.requires.stacks.entries k d within).held in
     let groups : c.deref.result.now ≡ ordered_groups tables stacks =
     c.deref.ensures.value
     ∙ c.in_ok-groups.ensures tables c.requires.places

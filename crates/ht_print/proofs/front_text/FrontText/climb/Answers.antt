@@ -19,7 +19,7 @@ returns-then-at-above-clause-between c = λ n was.
       text_of = was.text_of;
       path_to =
           path-step tree c.args.self.now.path.items c.push_reserved.new.self.items above c.node-parent.result
-          (front_at tree n) c.requires.tree some c.node-parent.ensures.node c.push_reserved.ensures.items was.path_to;
+          (front_at tree n) c.requires.tree_is some c.node-parent.ensures.node c.push_reserved.ensures.items was.path_to;
       path_held =
           subst (λ (ns : List ℕ). All (IsBelowRoot tree) ns) (sym c.push_reserved.ensures.items)
           (All-push (IsBelowRoot tree) c.args.self.now.path.items above was.path_held (some, within));
@@ -41,7 +41,7 @@ returns-clause-between c = λ n was.
       above_held = was.above_held;
       text_of =
           c.truncate.ensures.items ∙ ap (λ (k : ℕ). take k text) size
-          ∙ rest-cut tree at c.node-parent-2.result c.text-own.result.now text c.requires.tree some
+          ∙ rest-cut tree at c.node-parent-2.result c.text-own.result.now text c.requires.tree_is some
           c.node-parent-2.ensures.node named was.text_of;
       path_to = was.path_to;
       path_held = was.path_held;

@@ -3,13 +3,19 @@ use Rattle.ht_print.specs.FlameWalk.{front_at, last_text}
 use Rattle.ht_print.proofs.FrontTexts.{path-room, room-kept}
 use Rattle.ht_print.proofs.front_text.FrontText.cut_back.Goals as goal
 
-pub climb-between-requires-clause-room : goal.climb-between-requires-clause-room
-climb-between-requires-clause-room c = λ lower.
-    let whole = c.upwards.self.path.ok in
-    let room =
-    path-room c.args.tree.now c.args.n c.upwards.self c.upwards.between c.requires.tree c.requires.held
-    c.upwards.invariant.between c.upwards.invariant.room lower in
-    omega (arith, whole, room)
+pub climb-between-requires : goal.climb-between-requires
+climb-between-requires c = record {
+  tree_is = c.requires.tree_is;
+  apart = search rules;
+  held = c.upwards.invariant.between.at_held;
+  held_above = c.upwards.invariant.between.above_held;
+  room = λ lower.
+      let whole = c.upwards.self.path.ok in
+      let room =
+      path-room c.args.tree.now c.args.n c.upwards.self c.upwards.between c.requires.tree_is c.requires.held
+      c.upwards.invariant.between c.upwards.invariant.room lower in
+      omega (arith, whole, room);
+}
 
 pub upwards-init : goal.upwards-init
 upwards-init c =

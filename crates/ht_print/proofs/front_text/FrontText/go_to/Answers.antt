@@ -7,7 +7,7 @@ use Rattle.ht_print.proofs.front_text.FrontText.go_to.Goals as goal
 pub put_rest-requires-clause-room : goal.put_rest-requires-clause-room
 put_rest-requires-clause-room c =
     let fits =
-    rest-fits c.args.tree.now c.args.n c.cut_back.new.self c.requires.tree c.requires.held c.cut_back.ensures.left
+    rest-fits c.args.tree.now c.args.n c.cut_back.new.self c.requires.tree_is c.requires.held c.cut_back.ensures.left
     c.cut_back.ensures.room in
     let path =
     ap (λ (ns : List ℕ). Rattle.std.proofs.Common.length (flame_rest (map (last_text c.args.tree.now) ns)))

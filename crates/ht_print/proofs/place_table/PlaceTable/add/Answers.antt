@@ -9,20 +9,20 @@ use Rattle.ht_print.proofs.place_table.PlaceTable.add.Goals as goal
 pub index-requires : goal.index-requires
 index-requires c =
     let bucketed =
-    c.requires.table.bucketed in let count = bucketed.last_length in let inside = c.requires.inside in omega arith
+    c.requires.can.is.bucketed in let count = bucketed.last_length in let inside = c.requires.bucket.inside in omega arith
 
 pub index_mut-requires : goal.index_mut-requires
 index_mut-requires c =
     let bucketed =
-    c.requires.table.bucketed in let count = bucketed.last_length in let inside = c.requires.inside in omega arith
+    c.requires.can.is.bucketed in let count = bucketed.last_length in let inside = c.requires.bucket.inside in omega arith
 
 pub returns-clause-table : goal.returns-clause-table
 returns-clause-table c =
     let old = c.args.self.now in
     let last : List ℕ = old.last.items in
-    let bucketed = c.requires.table.bucketed in
+    let bucketed = c.requires.can.is.bucketed in
     let count = bucketed.last_length in
-    let inside = c.requires.inside in
+    let inside = c.requires.bucket.inside in
     let link : c.index.result.now ≡ slice_index last c.args.bucket =
     c.index.ensures ∙ get_or_default last c.args.bucket c.index.result.now 0 (omega arith) in
     let count_is : c.len-number.result ≡ length old.stacks.items = omega arith in
@@ -33,7 +33,7 @@ returns-clause-table c =
       before = c.push.new.self;
       known = old.known;
     } in
-    table-more c.args.tables.now old new c.args.stack c.args.bucket c.requires.held c.requires.bucket inside
+    table-more c.args.tables.now old new c.args.stack c.args.bucket c.requires.can.held c.requires.bucket.is inside
     c.requires.new
     c.in_ok-push-2.ensures.items (ap (λ (n : ℕ). set last c.args.bucket (n + 1)) count_is)
-    (c.in_ok-push.ensures.items ∙ ap (λ (n : ℕ). old.before.items ++ n ∷ []) link) refl c.requires.table
+    (c.in_ok-push.ensures.items ∙ ap (λ (n : ℕ). old.before.items ++ n ∷ []) link) refl c.requires.can.is

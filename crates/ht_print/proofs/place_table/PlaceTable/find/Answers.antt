@@ -11,7 +11,7 @@ use Rattle.ht_print.proofs.place_table.PlaceTable.find.Goals as goal
 pub index-at-requires : goal.index-at-requires
 index-at-requires c =
     let bucketed =
-    c.requires.table.bucketed in let count = bucketed.last_length in let inside = c.requires.inside in omega arith
+    c.requires.table.bucketed in let count = bucketed.last_length in let inside = c.requires.bucket.inside in omega arith
 
 pub backwards-init : goal.backwards-init
 backwards-init c =
@@ -20,11 +20,11 @@ backwards-init c =
     let names : List (List ℕ) = names_of tables table in
     let bucketed = c.requires.table.bucketed in
     let count = bucketed.last_length in
-    let inside = c.requires.inside in
+    let inside = c.requires.bucket.inside in
     let at : c.index-at.result.now ≡ slice_index table.last.items c.args.bucket =
     c.index-at.ensures ∙ get_or_default table.last.items c.args.bucket c.index-at.result.now 0 (omega arith) in
     passed-none (buckets_of tables) names c.args.text.now c.index-at.result.now
-    (subst (λ (n : ℕ). IsLastIn (buckets_of tables) names n (length names) c.index-at.result.now) c.requires.bucket
+    (subst (λ (n : ℕ). IsLastIn (buckets_of tables) names n (length names) c.index-at.result.now) c.requires.bucket.is
     (subst (λ (n : ℕ). IsLastIn (buckets_of tables) names c.args.bucket (length names) n) (sym at)
     (bucketed.ends c.args.bucket inside)))
 

@@ -8,7 +8,7 @@ use Rattle.ht_print.proofs.place_table.PlaceTable.number_of.Goals as goal
 pub returns-then-known-gt0-clause-place : goal.returns-then-known-gt0-clause-place
 returns-then-known-gt0-clause-place c =
     let known : List ℕ = c.args.self.now.known.items in
-    let are = c.requires.table.known in
+    let are = c.requires.can.is.known in
     let count = are.count in
     let held = c.in-Some.ensures.instruction in
     let at : slice_get known c.in-Some.instruction ≡ Some (suc (c.index-known.result.now - 1)) =
