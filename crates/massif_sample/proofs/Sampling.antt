@@ -48,6 +48,7 @@ use Rattle.massif_sample.specs.declared.load.Load.{Load}
 use Rattle.massif_sample.specs.declared.running.Running.{Running}
 use Rattle.massif_sample.specs.FunctionNames.{FunctionNames, ignores}
 use Rattle.massif_sample.specs.Running.{AreFigures, no_figures}
+use Rattle.massif_sample.specs.SamplesCalls.{HasKept}
 use Rattle.massif_sample.specs.SamplesState.{SamplesState}
 use Rattle.massif_sample.specs.StandsFor.{AreCostsAt, AreFronts, AreOfStacks, IsOfStack, IsSampling, WhereTree}
 use Rattle.massif_sample.specs.Counted.{counts}
@@ -214,14 +215,14 @@ pub sampling-kept :
     → stacks ≡ length old.fronts
     → AreSaid answers stacks (cost_at (ignores tables names) events (event_count events))
     → IsSampling old names tables events made
-    → IsSampling (record old { history = after }) names tables events made
-    × AreCostsAt names tables events (event_count events) after.changes
-sampling-kept old after stacks answers names tables events made before here last count fronts said was = (
-  sampling-retold old after names tables events made served
+    → HasKept names tables events made (record old { history = after })
+sampling-kept old after stacks answers names tables events made before here last count fronts said was = record {
+  sampling =
+      sampling-retold old after names tables events made served
       (record { unmarked = λ stack place unmarked late. now place stack (omega arith) })
-      (no-more old.history.stacks stacks after.stacks (length old.fronts) was.told_within fronts count) was,
-  record { each = λ stack. sym (now (event_count events) stack (let at = was.figures.place in omega arith)) },
-)
+      (no-more old.history.stacks stacks after.stacks (length old.fronts) was.told_within fronts count) was;
+  costs = record { each = λ stack. sym (now (event_count events) stack (let at = was.figures.place in omega arith)) };
+}
   where
     costs_now : ℕ → ℕ
     costs_now stack = cost_at (ignores tables names) events (event_count events) stack

@@ -55,6 +55,7 @@ use Rattle.massif_sample.specs.declared.fault.SampleFault.{SampleFault}
 use Rattle.massif_sample.specs.declared.fault.SampleFault.TheVariants as sample
 use Rattle.massif_sample.specs.declared.options.MassifOptions.{MassifOptions}
 use Rattle.massif_sample.specs.declared.running.Running.{Running}
+use Rattle.massif_sample.specs.declared.stacks.Stacks.{Stacks}
 use Rattle.massif_sample.specs.Counted.{counts}
 use Rattle.massif_sample.specs.Due.{IsDue, IsTakenAs}
 use Rattle.massif_sample.specs.FunctionNames.{FunctionNames, ignores}
@@ -64,7 +65,9 @@ use Rattle.massif_sample.specs.Offers.{offer_at, offers, offers_of_event, peak_b
 use Rattle.massif_sample.specs.Options.{AreInRange}
 use Rattle.massif_sample.specs.Running.{AreFigures, CanCount, HasBlock, passes_most, past_event, with_event}
 use Rattle.massif_sample.specs.SampleFault.{Tells, is_too_large, sample_fault, size_fault}
+use Rattle.massif_sample.specs.SamplesCalls.{AreBehind}
 use Rattle.massif_sample.specs.SamplesState.{SamplesState}
+use Rattle.massif_sample.specs.Taking.{CanTakeEvent}
 use Rattle.massif_sample.specs.LiveCosts.{is_judged}
 use Rattle.massif_sample.specs.StandsFor.{AreJudged, IsOfStack, IsSampling, StandsFor}
 use Rattle.massif_sample.specs.Times.{time_of}
@@ -80,6 +83,12 @@ pub of-held : (ledger : LedgerState) (tables : TableState) (event : Event) → I
 of-held ledger tables (Alloc info stack size) sound count held = let below = sound.stack_held info _ held in omega arith
 of-held ledger tables (Free info stack size) sound count held = let below = sound.stack_held info _ held in omega arith
 of-held ledger tables (Tick ms) sound count held = tt
+
+-- and that of one that may be taken
+pub of-taken : {A : Type 0} (stacks : Stacks A) (samples : SamplesState) (ledger : LedgerState) (event : Event)
+    → CanTakeEvent stacks samples ledger event → IsSound ledger → IsOfStack stacks.tables.now event
+of-taken stacks samples ledger event may sound =
+    of-held ledger stacks.tables.now event sound may.stacks_held may.held
 
 -- an event is counted where its stack was judged so
 pub counted-is : (names : FunctionNames) (tables : TableState) (flags : List Bool) (event : Event)
@@ -381,26 +390,46 @@ pub record IsCounted (options : MassifOptions) (ignored : ℕ → Bool) (events 
   pub figures : AreFigures options ignored (events ++ event ∷ []) (with_event options running event)
 
 pub counted-event :
-    (flags : List Bool) (samples : SamplesState) (ledger : LedgerState) (names : FunctionNames) (tables : TableState)
+    {A : Type 0} (stacks : Stacks A) (samples : SamplesState) (ledger : LedgerState) (names : FunctionNames)
     (events : List Event) (event : Event)
-    → AreInRange samples.options
-    → length flags ≡ length tables.nodes + 1
-    → IsOfStack tables event
-    → counts (is_judged flags) event ≡ true
-    → fault_at ledger event ≡ None
+    → CanTakeEvent stacks samples ledger event
+    → IsSound ledger
+    → counts (is_judged stacks.judged.now) event ≡ true
+    → None ≡ fault_at ledger event
     → ((weight : HeldInfo → ℕ)
     → sum_by (free_weight weight) (events ++ event ∷ []) ≤ sum_by (alloc_weight weight) (events ++ event ∷ []))
-    → StandsFor flags samples names tables events
-    → IsCounted samples.options (ignores tables names) events event samples.running
-counted-event flags samples ledger names tables events event range count of_stack judged none within stands =
-    let ignored : ℕ → Bool = ignores tables names in
-    let counted = counted-is names tables flags event count stands.judged of_stack ∙ judged in
+    → StandsFor stacks.judged.now samples names stacks.tables.now events
+    → IsCounted samples.options (ignores stacks.tables.now names) events event samples.running
+counted-event stacks samples ledger names events event may sound judged none within stands =
+    let ignored : ℕ → Bool = ignores stacks.tables.now names in
+    let counted =
+    counted-is names stacks.tables.now stacks.judged.now event may.judged stands.judged
+    (of-taken stacks samples ledger event may sound)
+    ∙ judged in
     let can =
-    can-count samples.options ignored events samples.running ledger event range counted stands.sampling.figures none
-    within in
+    can-count samples.options ignored events samples.running ledger event may.range counted stands.sampling.figures
+    (sym none) within in
     record {
       counted = counted;
       can = can;
       figures =
           figures-counted samples.options ignored events samples.running event counted can stands.sampling.figures;
     }
+
+-- the figures behind it are those of the events with it
+pub figures-behind : (samples : SamplesState) (ignored : ℕ → Bool) (events : List Event) (event : Event) (next : Running)
+    → AreBehind samples event next → IsCounted samples.options ignored events event samples.running
+    → AreFigures samples.options ignored (events ++ event ∷ []) next
+figures-behind samples ignored events event next behind known =
+    subst (λ (r : Running). AreFigures samples.options ignored (events ++ event ∷ []) r) (sym behind.are) known.figures
+
+-- and it has no fault
+pub tells-counted : (samples : SamplesState) (ignored : ℕ → Bool) (events : List Event) (event : Event) (next : Running)
+    (r : Result (Unit {0}) SampleFault)
+    → AreBehind samples event next → IsCounted samples.options ignored events event samples.running
+    → None ≡ fault_of events event → IfErr r (λ fault. fault ≡ sample.NoMemory)
+    → Tells r (sample_fault samples.options ignored events event)
+tells-counted samples ignored events event next r behind known none only =
+    tells-none r _ only
+    (fault-counted samples.options ignored events event next false (sym none) known.counted
+    (figures-behind samples ignored events event next behind known) behind.fit)

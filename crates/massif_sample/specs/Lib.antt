@@ -23,4 +23,7 @@ pub mod View
 pub mod LiveCosts
 pub mod Padded
 pub mod Made
+pub mod SamplesCalls
+pub mod Offering
 pub mod Taking
+pub mod SamplerCalls

@@ -42,6 +42,11 @@ time_passed Events running = running.time
 time_passed Milliseconds running = running.clock
 time_passed Instructions running = running.time
 
+-- those at the place behind such an event, but for what is live there
+abbrev pub farther : MassifOptions → Running → ℕ → Running
+farther options running bytes = record running
+    { place = running.place + 1; time = time_after options.unit running bytes }
+
 -- the figures with an allocation that is counted
 abbrev pub with_alloc : MassifOptions → Running → ℕ → Running
 with_alloc options running size = record {

@@ -1,6 +1,8 @@
 -- A kept snapshot shows the live bytes of its place, the gross bytes less these, and, where it is
 -- detailed or the peak, the tree of what each stack that isn't ignored has live there.
 use Rattle.std.specs.Prelude.{
+  All,
+  Contains,
   ◌≡◌,
   ℕ,
   ◌+◌,
@@ -86,3 +88,9 @@ pub record IsTreePlace (entries : List SnapEntry) (place : ℕ) : Type 0 where
   pub held : (k : ℕ) × (slice_get entries k ≡ Some entry)
   pub shows : shows_tree entry.kind ≡ true
   pub same : entry.place ≡ place
+
+-- the places are those of the entries that show a tree
+pub record AreTreePlaces (entries : List SnapEntry) (places : List ℕ) : Type 0 where
+  pub all : (k : ℕ) (entry : SnapEntry) → slice_get entries k ≡ Some entry → shows_tree entry.kind ≡ true
+      → Contains places entry.place
+  pub only : All (IsTreePlace entries) places

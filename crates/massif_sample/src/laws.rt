@@ -1,21 +1,15 @@
 //! Laws for the crates above: of what a sampler stands for, whose tables grow while it is kept, and of the sizes that it counts.
-ghost use Rattle.std.specs.Prelude.{◌≤◌, ℕ, Bool, List};
+ghost use Rattle.std.specs.Prelude.{◌≤◌, ℕ};
 ghost use Rattle.ht_trace.specs.Continues.{Continues};
 ghost use Rattle.ht_trace.specs.TableState.{TableState};
-ghost use Rattle.live_ledger.specs.declared.event.Event.{Event};
-ghost use Rattle.massif_sample.specs.FunctionNames.{FunctionNames};
 ghost use Rattle.massif_sample.specs.Gross.{rounded_up};
 ghost use Rattle.massif_sample.specs.LeastMultiple.{IsLeastMultiple};
-ghost use Rattle.massif_sample.specs.SamplesState.{SamplesState};
-ghost use Rattle.massif_sample.specs.StandsFor.{StandsFor};
+ghost use Rattle.massif_sample.specs.SamplerCalls.{StandsBeside};
 
 /// A sampler stands for the same events when its tables have grown: what is ignored, the figures and the trees are all of
 /// stacks that were there before. It does nothing.
 pub fn sampling_goes_on()
-    ensures { (flags : List Bool) (samples : SamplesState) (names : FunctionNames)
-        (before after : TableState) (events : List Event) →
-        StandsFor flags samples names before events → Continues before after
-        → StandsFor flags samples names after events }
+    ensures { (before after : TableState) → Continues before after → StandsBeside before after }
 {}
 
 /// A size rounded up is the least multiple of the alignment that is no less than it. It does nothing.

@@ -1,11 +1,6 @@
 //! The tree of a place that was kept, of what each stack cost there.
-ghost use Rattle.std.specs.Prelude.{◌≡◌, ℕ, ◌+◌, ◌==◌, ◌^◌, ◌≤◌, if◌then◌else◌, List, length, slice_index_or, sum, IfOk, IfSome};
-ghost use Rattle.cost_tree.specs.Costed.{costed};
-ghost use Rattle.ht_trace.specs.TableState.{TableState};
-ghost use Rattle.massif_tree.specs.FirstLists.{first_lists};
-ghost use Rattle.massif_tree.specs.FunctionLists.{trimmed_before};
-ghost use Rattle.massif_tree.specs.MassifTree.{massif_tree};
-ghost use Rattle.massif_sample.specs.Padded.{padded};
+ghost use Rattle.std.specs.Prelude.{◌≡◌, ◌==◌, ◌^◌, ◌≤◌, if◌then◌else◌, slice_index_or, sum, IfOk, IfSome};
+ghost use Rattle.massif_sample.specs.Made.{IsTreeOfCosts};
 
 use cost_tree::{Costing, CutFronts};
 use hp_num::NoMemory;
@@ -25,12 +20,7 @@ pub(crate) fn place_tree(
     costs: &[u64],
 ) -> Result<Tree, NoMemory>
     ensures lines { IfOk result
-        (λ lines. (tables : TableState) (names : List (List ℕ))
-        → fronts.old.whole
-        ≡ first_lists tables names (options.now.depth + 1) (length fronts.old.whole) →
-        lines ≡ massif_tree options.now total
-        (costed (trimmed_before tables names (length fronts.old.whole))
-        (padded (length fronts.old.whole) costs.now))) }
+        (IsTreeOfCosts options.now total fronts.old.whole costs.now) }
     ensures whole { fronts.new.whole ≡ fronts.old.whole }
 {
     // What stacks cost together at a place is live there, and a trace allocates at most 2^62 bytes in all. So it always

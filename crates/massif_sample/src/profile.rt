@@ -1,11 +1,9 @@
 //! The profile that the kept snapshots make.
-ghost use Rattle.std.specs.Prelude.{◌≡◌, ℕ, ◌+◌, List, length, IfOk};
-ghost use Rattle.ht_trace.specs.TableState.{TableState};
+ghost use Rattle.std.specs.Prelude.{◌≡◌, IfOk};
 ghost use Rattle.massif_file.specs.Blanks.{without_blanks};
-ghost use Rattle.massif_tree.specs.FirstLists.{first_lists};
-ghost use Rattle.massif_sample.specs.Made.{all_made, made, told_tree};
+ghost use Rattle.massif_sample.specs.Made.{AreMade, IsMade, IsShownAt, IsTreeAt};
 ghost use Rattle.massif_sample.specs.Sampled.{description, shown_command};
-ghost use Rattle.massif_sample.specs.Snapshots.{mark_of, tree_of};
+ghost use Rattle.massif_sample.specs.Snapshots.{mark_of};
 
 use crate::load::Load;
 use crate::place_tree::place_tree;
@@ -27,11 +25,7 @@ pub(crate) fn take_snaps(
     replay: &mut Replay,
     options: &TreeOptions,
 ) -> Result<Snaps, NoMemory>
-    ensures { IfOk result
-        (λ snaps. (tables : TableState) (names : List (List ℕ))
-        → fronts ≡ first_lists tables names (options.now.depth + 1) (length fronts) →
-        snaps ≡ all_made (told_tree options.now tables names (length fronts) replay.old.changes)
-        array.old.kept.entries array.old.loads) }
+    ensures { IfOk result (AreMade options.now fronts replay.old.changes array.old) }
 {
     let mut cut = fronts.into_cut(alloc)?;
     take_all(alloc, array, &mut cut, replay, options)
@@ -45,13 +39,7 @@ fn take_all(
     replay: &mut Replay,
     options: &TreeOptions,
 ) -> Result<Snaps, NoMemory>
-    ensures { IfOk result
-        (λ snaps. (tables : TableState) (names : List (List ℕ))
-        → fronts.old.whole
-        ≡ first_lists tables names (options.now.depth + 1) (length fronts.old.whole) →
-        snaps ≡ all_made
-        (told_tree options.now tables names (length fronts.old.whole) replay.old.changes)
-        array.old.kept.entries array.old.loads) }
+    ensures { IfOk result (AreMade options.now fronts.old.whole replay.old.changes array.old) }
 {
     let mut snaps = Snaps::new(alloc);
     'each_snapshot: while let Some((entry, load)) = array.take_first() {
@@ -71,12 +59,7 @@ fn snapshot(
     options: &TreeOptions,
 ) -> Result<Snap, NoMemory>
     ensures snap { IfOk result
-        (λ snap. (tables : TableState) (names : List (List ℕ))
-        → fronts.old.whole
-        ≡ first_lists tables names (options.now.depth + 1) (length fronts.old.whole) →
-        snap ≡ made
-        (told_tree options.now tables names (length fronts.old.whole) replay.old.changes)
-        entry.now load) }
+        (IsMade options.now fronts.old.whole replay.old.changes entry.now load) }
     ensures changes { replay.new.changes ≡ replay.old.changes }
     ensures whole { fronts.new.whole ≡ fronts.old.whole }
 {
@@ -111,12 +94,7 @@ fn shown_tree(
     options: &TreeOptions,
 ) -> Result<Tree, NoMemory>
     ensures tree { IfOk result
-        (λ shown. (tables : TableState) (names : List (List ℕ))
-        → fronts.old.whole
-        ≡ first_lists tables names (options.now.depth + 1) (length fronts.old.whole) →
-        shown ≡ tree_of entry.now.kind
-        (told_tree options.now tables names (length fronts.old.whole) replay.old.changes
-        entry.now)) }
+        (IsShownAt options.now fronts.old.whole replay.old.changes entry.now) }
     ensures changes { replay.new.changes ≡ replay.old.changes }
     ensures whole { fronts.new.whole ≡ fronts.old.whole }
 {
@@ -136,11 +114,7 @@ fn replayed_tree(
     options: &TreeOptions,
 ) -> Result<Tree, NoMemory>
     ensures tree { IfOk result
-        (λ shown. (tables : TableState) (names : List (List ℕ))
-        → fronts.old.whole
-        ≡ first_lists tables names (options.now.depth + 1) (length fronts.old.whole) →
-        shown ≡ told_tree options.now tables names (length fronts.old.whole) replay.old.changes
-        entry.now) }
+        (IsTreeAt options.now fronts.old.whole replay.old.changes entry.now) }
     ensures changes { replay.new.changes ≡ replay.old.changes }
     ensures whole { fronts.new.whole ≡ fronts.old.whole }
 {

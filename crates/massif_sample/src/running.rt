@@ -2,7 +2,7 @@
 //! Which snapshots are taken is no part of it.
 ghost use Rattle.std.specs.Prelude.{◌≡◌, ◌+◌, ◌-◌, ◌^◌, ◌<◌, ◌≤◌, true, false, IfNone, IfSome};
 ghost use Rattle.massif_sample.specs.Options.{AreInRange};
-ghost use Rattle.massif_sample.specs.Running.{AreSound, CanCount, TimeFits, no_figures, passed, passes_most, past_event, ticked, time_after, time_passed, with_event};
+ghost use Rattle.massif_sample.specs.Running.{AreSound, CanCount, TimeFits, farther, no_figures, passed, passes_most, past_event, ticked, time_after, time_passed, with_event};
 
 use crate::options::MassifOptions;
 use live_ledger::Event;
@@ -110,9 +110,7 @@ impl Running {
         requires place { self.place < 2 ^ 32 }
         requires time { TimeFits options.now.unit self }
         requires bytes { bytes ≤ 2 ^ 63 }
-        ensures { result
-            ≡ record self
-            { place = self.place + 1; time = time_after options.now.unit self bytes } }
+        ensures { result ≡ farther options.now self bytes }
     {
         Running {
             place: self.place + 1,

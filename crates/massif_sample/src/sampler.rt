@@ -1,19 +1,10 @@
 //! The sampler: it follows the events of a trace beside a ledger, and takes Massif's snapshots of it.
 //! How one event is taken is in `taking`, and what a profile says in `profile`.
-ghost use Rattle.std.specs.Prelude.{◌≡◌, ◌≢◌, ◌⊎◌, ◌+◌, ◌^◌, ◌<◌, ◌≤◌, List, [], ◌∷◌, ◌++◌, true, false, length, Err, IfOk, IfErr, IsErr, OnOk, OnErr};
-ghost use Rattle.std.specs.Fn.{FnReturnsAt};
-ghost use Rattle.ht_trace.specs.TableState.{TableState};
-ghost use Rattle.live_ledger.specs.declared.event.Event.{Event};
-ghost use Rattle.live_ledger.specs.LedgerState.{IsHeld};
-ghost use Rattle.live_ledger.specs.StandsFor as ledger_spec;
+ghost use Rattle.std.specs.Prelude.{◌≡◌, ◌≤◌, true, length, Err, IfOk, IsErr, OnOk};
 ghost use Rattle.massif_sample.specs.declared.fault.SampleFault.TheVariants.{NoMemory as OutOfMemory};
-ghost use Rattle.massif_sample.specs.Due.{IsDue};
-ghost use Rattle.massif_sample.specs.FunctionNames.{AreStated, FunctionNames, ignores};
-ghost use Rattle.live_ledger.specs.Taken.{HasTaken};
 ghost use Rattle.massif_sample.specs.Options.{AreInRange};
-ghost use Rattle.massif_sample.specs.SampleFault.{Tells, sample_fault};
-ghost use Rattle.massif_sample.specs.Sampled.{sampled};
-ghost use Rattle.massif_sample.specs.StandsFor.{AreJudged, StandsFor};
+ghost use Rattle.massif_sample.specs.SamplerCalls.{CanFollow, Follows, GoesOn, IsNew, IsProfileOf, IsTreeDue, Judges, JudgesOne, LeavesSampler};
+ghost use Rattle.massif_sample.specs.Taking.{TellsFault};
 
 use crate::fault::SampleFault;
 use crate::offering::sample;
@@ -57,19 +48,16 @@ impl<A: Fn(&[u8]) -> bool, I: Fn(&[u8]) -> bool> Sampler<A, I> {
         requires options { AreInRange options }
         requires alloc_callable { A.IsAlwaysCallable alloc_fns.test }
         requires ignore_callable { I.IsAlwaysCallable ignore_fns.test }
-        ensures stands { IfOk result
-            (λ sampler. (names : FunctionNames)
-            → AreStated (FnReturnsAt A.Fn alloc_fns.test) (FnReturnsAt I.Fn ignore_fns.test) names →
-            StandsFor sampler.judged.items sampler.samples names tables.now []) }
-        ensures judged { IfOk result
-            (λ sampler. length sampler.judged.items ≡ length tables.now.nodes + 1) }
-        ensures options { IfOk result (λ sampler. sampler.samples.options ≡ options) }
-        ensures alloc_fns { IfOk result (λ sampler. sampler.alloc_fns ≡ alloc_fns) }
-        ensures ignore_fns { IfOk result (λ sampler. sampler.ignore_fns ≡ ignore_fns) }
+        ensures { IfOk result (IsNew A.Fn I.Fn options tables.now alloc_fns ignore_fns) }
     {
         let judged = judge_stacks(alloc, tables, &alloc_fns, &ignore_fns)?;
         let mut samples = Samples::new(alloc, options, tables.stacks())?;
-        sample(&mut samples, false, tables, &alloc_fns, &|_stack: u32| 0)?;
+        let stacks = Stacks {
+            judged: &judged,
+            tables,
+            skipped: &alloc_fns,
+        };
+        sample(&mut samples, &stacks, false, &|_stack: u32| 0)?;
         Ok(Sampler {
             judged,
             frames: Vec::new(alloc),
@@ -84,18 +72,8 @@ impl<A: Fn(&[u8]) -> bool, I: Fn(&[u8]) -> bool> Sampler<A, I> {
         requires next { length self.old.judged.items ≤ length tables.now.nodes }
         requires alloc_callable { A.IsAlwaysCallable self.old.alloc_fns.test }
         requires ignore_callable { I.IsAlwaysCallable self.old.ignore_fns.test }
-        ensures stands { OnOk result
-            ((names : FunctionNames) (events : List Event)
-            → AreStated (FnReturnsAt A.Fn self.old.alloc_fns.test)
-            (FnReturnsAt I.Fn self.old.ignore_fns.test) names →
-            StandsFor self.old.judged.items self.old.samples names tables.now events
-            → StandsFor self.new.judged.items self.new.samples names tables.now events) }
-        ensures judged { OnOk result
-            (length self.new.judged.items ≡ length self.old.judged.items + 1) }
-        ensures unchanged { OnErr result (self.new.judged.items ≡ self.old.judged.items) }
-        ensures samples { self.new.samples ≡ self.old.samples }
-        ensures alloc_fns { self.new.alloc_fns ≡ self.old.alloc_fns }
-        ensures ignore_fns { self.new.ignore_fns ≡ self.old.ignore_fns }
+        ensures stands { OnOk result (GoesOn A.Fn I.Fn tables.now self.old self.new) }
+        ensures judges { JudgesOne self.old self.new result }
     {
         // Says how many stacks there may be.
         let _stacks = tables.stacks();
@@ -126,48 +104,15 @@ impl<A: Fn(&[u8]) -> bool, I: Fn(&[u8]) -> bool> Sampler<A, I> {
         ledger: &mut Ledger,
         tables: &Tables,
     ) -> Result<(), SampleFault>
-        requires held { IsHeld ledger.old event }
-        requires count { ledger.old.totals.events < 2 ^ 32 }
-        requires stacks { ledger.old.stacks ≡ length tables.now.nodes + 1 }
-        requires judged { length self.old.judged.items ≡ length tables.now.nodes + 1 }
+        requires event { CanFollow self.old tables.now ledger.old event }
         requires callable { A.IsAlwaysCallable self.old.alloc_fns.test }
-        requires stands { self.old.samples.failed ≡ false →
-            (names : FunctionNames) × (events : List Event)
-            × StandsFor self.old.judged.items self.old.samples names tables.now events
-            × ledger_spec.StandsFor ledger.old events }
         ensures stands { OnOk result
-            ((names : FunctionNames) (events : List Event)
-            → AreStated (FnReturnsAt A.Fn self.old.alloc_fns.test)
-            (FnReturnsAt I.Fn self.old.ignore_fns.test) names →
-            StandsFor self.old.judged.items self.old.samples names tables.now events
-            → ledger_spec.StandsFor ledger.old events →
-            StandsFor self.new.judged.items self.new.samples names tables.now
-            (events ++ event ∷ [])) }
-        ensures fault { (names : FunctionNames) (events : List Event)
-            → StandsFor self.old.judged.items self.old.samples names tables.now events
-            → ledger_spec.StandsFor ledger.old events →
-            Tells result (sample_fault self.old.samples.options (ignores tables.now names) events
-            event) }
-        ensures due { result ≡ Err OutOfMemory → (names : FunctionNames) (events : List Event)
-            → AreStated (FnReturnsAt A.Fn self.old.alloc_fns.test)
-            (FnReturnsAt I.Fn self.old.ignore_fns.test) names →
-            StandsFor self.old.judged.items self.old.samples names tables.now events
-            → ledger_spec.StandsFor ledger.old events →
-            IsDue self.old.samples.options (ignores tables.now names) events event }
-        ensures failed { result ≡ Err OutOfMemory → self.new.samples.failed ≡ true }
-        ensures failed_before { self.old.samples.failed ≡ true
-            → (result ≡ Err OutOfMemory) × (self.new.samples ≡ self.old.samples)
-            × (ledger.new ≡ ledger.old) }
-        ensures unchanged { IfErr result
-            (λ fault. fault ≢ OutOfMemory
-            → (self.new.samples ≡ self.old.samples) × (ledger.new ≡ ledger.old)) }
-        ensures applied { OnOk result (HasTaken ledger.old ledger.new event) }
-        ensures applied_or_not { (ledger.new ≡ ledger.old)
-            ⊎ HasTaken ledger.old ledger.new event }
-        ensures options { self.new.samples.options ≡ self.old.samples.options }
-        ensures judged { self.new.judged.items ≡ self.old.judged.items }
-        ensures alloc_fns { self.new.alloc_fns ≡ self.old.alloc_fns }
-        ensures ignore_fns { self.new.ignore_fns ≡ self.old.ignore_fns }
+            (Follows A.Fn I.Fn tables.now ledger.old event self.old self.new) }
+        ensures fault { TellsFault self.old.judged.items tables.now ledger.old event
+            self.old.samples result }
+        ensures due { result ≡ Err OutOfMemory
+            → IsTreeDue A.Fn I.Fn tables.now ledger.old event self.old }
+        ensures left { LeavesSampler self.old self.new ledger.old ledger.new event result }
     {
         if self.samples.has_failed() {
             return Err(SampleFault::NoMemory);
@@ -175,7 +120,7 @@ impl<A: Fn(&[u8]) -> bool, I: Fn(&[u8]) -> bool> Sampler<A, I> {
         let stacks = Stacks {
             judged: &self.judged,
             tables,
-            alloc_fns: &self.alloc_fns,
+            skipped: &self.alloc_fns,
         };
         match take_event(&mut self.samples, &stacks, event, ledger) {
             Ok(()) => Ok(()),
@@ -191,10 +136,7 @@ impl<A: Fn(&[u8]) -> bool, I: Fn(&[u8]) -> bool> Sampler<A, I> {
     /// The profile of the events, with the command of a trace, which is empty where the trace has none. `NoMemory` where
     /// memory is wanting, and always after an `event` that answered it.
     pub fn finish(self, cmd: &[u8]) -> Result<Profile, NoMemory>
-        ensures profile { IfOk result
-            (λ profile. (names : FunctionNames) (tables : TableState) (events : List Event) →
-            StandsFor self.judged.items self.samples names tables events
-            → profile ≡ sampled self.samples.options names tables events cmd.now) }
+        ensures profile { IfOk result (IsProfileOf self cmd.now) }
         ensures failed { self.samples.failed ≡ true → IsErr result }
     {
         let Sampler { samples, .. } = self;
@@ -211,12 +153,8 @@ fn judge_stacks<A: Fn(&[u8]) -> bool, I: Fn(&[u8]) -> bool>(
 ) -> Result<Vec<bool>, NoMemory>
     requires alloc_callable { A.IsAlwaysCallable alloc_fns.now.test }
     requires ignore_callable { I.IsAlwaysCallable ignore_fns.now.test }
-    ensures count { IfOk result (λ judged. length judged.items ≡ length tables.now.nodes + 1) }
-    ensures judged { IfOk result
-        (λ judged. (names : FunctionNames)
-        → AreStated (FnReturnsAt A.Fn alloc_fns.now.test) (FnReturnsAt I.Fn ignore_fns.now.test)
-        names →
-        AreJudged names tables.now judged.items) }
+    ensures { IfOk result
+        (λ judged. Judges A.Fn I.Fn alloc_fns.now ignore_fns.now tables.now judged.items) }
 {
     let mut frames = Vec::new(alloc);
     let mut judged = Vec::with_capacity(alloc, tables.stacks() as usize)?;

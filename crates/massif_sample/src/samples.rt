@@ -1,27 +1,13 @@
 //! The snapshots that are kept of a trace, with the figures that the next one would have.
 //! What a tree says, and which stacks are ignored, are no part of it.
-ghost use Rattle.std.specs.Prelude.{◌≡◌, ◌⊎◌, ℕ, ◌+◌, ◌-◌, ◌^◌, ◌<◌, ◌≤◌, List, [], ◌∷◌, ◌++◌, true, false, length, IfNone, IfOk, IfSome, IsErr, OnOk};
-ghost use Rattle.std.specs.Fn.{FnReturnsAt};
-ghost use Rattle.cost_history.specs.Changes as history;
-ghost use Rattle.cost_history.specs.Marks.{candidates};
-ghost use Rattle.cost_history.specs.HistoryState.{AreSaid, IsRoomy, TellsNow, no_history};
-ghost use Rattle.cost_tree.specs.FrameTexts.{AreTexts};
-ghost use Rattle.ht_trace.specs.TableState.{TableState};
-ghost use Rattle.live_ledger.specs.declared.event.Event.{Event};
-ghost use Rattle.live_ledger.specs.Events.{event_count};
-ghost use Rattle.massif_cull.specs.declared.snapshot.Offer.{Offer};
-ghost use Rattle.massif_cull.specs.declared.snapshot.Taken.TheVariants.{No, Normal};
+ghost use Rattle.std.specs.Prelude.{◌≡◌, ℕ, ◌+◌, ◌^◌, ◌<◌, true, length, IfNone, IfOk, IfSome, IsErr, OnOk};
+ghost use Rattle.cost_history.specs.HistoryState.{IsRoomy, TellsNow, no_history};
 ghost use Rattle.massif_cull.specs.ArrayState as array;
-ghost use Rattle.massif_cull.specs.KeptOf.{kept_of};
-ghost use Rattle.massif_cull.specs.TakenAs.{taken_as};
-ghost use Rattle.massif_tree.specs.FirstLists.{first_lists};
-ghost use Rattle.massif_sample.specs.FunctionNames.{FunctionNames, ignores};
-ghost use Rattle.massif_sample.specs.Made.{all_made, profile_made, told_tree};
-ghost use Rattle.massif_sample.specs.Options.{AreInRange, settings_of, tree_options};
-ghost use Rattle.massif_sample.specs.Running.{AreFigures, CanCount, Follows, no_figures, passes_most, past_event, with_event};
+ghost use Rattle.massif_sample.specs.Made.{AreMadeOf, IsMadeOf};
+ghost use Rattle.massif_sample.specs.Options.{AreInRange, tree_options};
+ghost use Rattle.massif_sample.specs.Running.{CanCount, Follows, passes_most, with_event};
+ghost use Rattle.massif_sample.specs.SamplesCalls.{AreBehind, AreNew, CanOffer, EndsAtStacks, HasFewChanges, HasFrontsWithin, IsJudged, KeepsCosts, MovesTo, StandStill, StandStillFor, TakesSnapshot, judged_as, passed_by, with_changes};
 ghost use Rattle.massif_sample.specs.SamplesState.{IsSound};
-ghost use Rattle.massif_sample.specs.Snapshots.{cost_at};
-ghost use Rattle.massif_sample.specs.StandsFor.{AreCostsAt, IsIn, IsOfStack, IsSampling};
 ghost use Rattle.massif_sample.specs.View.{offer_of};
 
 use crate::load::Load;
@@ -78,12 +64,7 @@ impl Samples {
         stacks: u32,
     ) -> Result<Samples, NoMemory>
         requires options { AreInRange options }
-        ensures options { IfOk result (λ samples. samples.options ≡ options) }
-        ensures running { IfOk result (λ samples. samples.running ≡ no_figures) }
-        ensures fronts { IfOk result (λ samples. samples.fronts ≡ []) }
-        ensures sampling { IfOk result
-            (λ samples. (names : FunctionNames) (tables : TableState)
-            → IsSampling samples names tables [] []) }
+        ensures { IfOk result (AreNew options) }
     {
         let array = SnapArray::new(
             alloc,
@@ -147,21 +128,8 @@ impl Samples {
     /// As what a snapshot of the present place would be taken, as a peak or not. Nearly every one is refused, by one test.
     #[inline(always)]
     pub(crate) fn judge(&self, as_peak: bool) -> Taken
-        requires within { self.now.running.time ≤ 2 ^ 62 }
-        requires first { as_peak ≡ true → 0 < length self.now.array.kept.entries }
-        ensures taken { result
-            ≡ taken_as (settings_of self.now.options) self.now.array.kept
-            (offer_of self.now.running as_peak) }
-        ensures of_sampling { (names : FunctionNames) (tables : TableState) (events : List Event)
-            (made : List Offer) → IsSampling self.now names tables events made →
-            result ≡ taken_as (settings_of self.now.options)
-            (kept_of (settings_of self.now.options) made) (offer_of self.now.running as_peak) }
-        ensures passed { result ≡ No
-            → (names : FunctionNames) (tables : TableState) (events : List Event)
-            (made : List Offer) → IsSampling self.now names tables events made →
-            IsSampling self.now names tables events
-            (made ++ offer_of self.now.running as_peak ∷ []) }
-        ensures some { result ≡ No → 0 < length self.now.array.kept.entries }
+        requires { CanOffer as_peak self.now }
+        ensures { IsJudged self.now as_peak result }
     {
         let offer = self.offer(as_peak);
         self.array.judge(&offer)
@@ -173,15 +141,12 @@ impl Samples {
         tables: &Tables,
         alloc_fns: &FrameTest<A>,
     ) -> Result<(), NoMemory>
-        requires held { length self.old.fronts ≤ length tables.now.nodes + 1 }
+        requires held { HasFrontsWithin tables.now self.old }
         requires callable { A.IsAlwaysCallable alloc_fns.now.test }
         ensures samples { self.new ≡ record self.old { fronts = self.new.fronts } }
         ensures count { OnOk result (length self.new.fronts ≡ length tables.now.nodes + 1) }
         ensures sampling { OnOk result
-            ((names : FunctionNames) (events : List Event) (made : List Offer)
-            → AreTexts (FnReturnsAt A.Fn alloc_fns.now.test) names.alloc_fns →
-            IsSampling self.old names tables.now events made
-            → IsSampling self.new names tables.now events made) }
+            (StandStillFor A.Fn alloc_fns.now tables.now self.old self.new) }
     {
         if self.fronts.len() == tables.stacks() {
             return Ok(());
@@ -196,24 +161,8 @@ impl Samples {
         requires callable { (stack : ℕ) → stack < stacks → F.pre cost.now stack }
         requires fronts { stacks ≡ length self.old.fronts }
         ensures samples { self.new ≡ record self.old { history = self.new.history } }
-        ensures sampling { OnOk result
-            ((names : FunctionNames) (tables : TableState) (events : List Event) (made : List Offer)
-            →
-            AreSaid (F.post cost.now) stacks
-            (cost_at (ignores tables names) events (event_count events)) →
-            IsSampling self.old names tables events made
-            → IsSampling self.new names tables events made) }
-        ensures costs { OnOk result
-            ((names : FunctionNames) (tables : TableState) (events : List Event) (made : List Offer)
-            →
-            AreSaid (F.post cost.now) stacks
-            (cost_at (ignores tables names) events (event_count events)) →
-            IsSampling self.old names tables events made
-            → AreCostsAt names tables events (event_count events) self.new.history.changes) }
-        ensures few { OnOk result
-            (length self.new.history.changes
-            ≤ self.new.history.left + self.new.history.left + self.old.history.stacks
-            + length (candidates self.old.history.marks stacks)) }
+        ensures kept { OnOk result (KeepsCosts (F.post cost.now) stacks self.old self.new) }
+        ensures few { OnOk result (HasFewChanges self.old.history self.new.history stacks) }
     {
         self.thin()?;
         self.history.keep(self.running.place, stacks, cost)?;
@@ -223,17 +172,11 @@ impl Samples {
     /// Takes out the costs that no snapshot shows any more, where there are enough of them. On `NoMemory` nothing is taken out.
     fn thin(&mut self) -> Result<(), NoMemory>
         ensures samples { self.new
-            ≡ record self.old {
-              history = record self.old.history
-                  { changes = self.new.history.changes; left = self.new.history.left };
-            } }
+            ≡ with_changes self.old self.new.history.changes self.new.history.left }
         ensures roomy { OnOk result (IsRoomy self.new.history) }
         ensures tells { (costs : ℕ → ℕ) → TellsNow self.old.history costs
             → TellsNow self.new.history costs }
-        ensures sampling { (names : FunctionNames) (tables : TableState) (events : List Event)
-            (made : List Offer) →
-            IsSampling self.old names tables events made
-            → IsSampling self.new names tables events made }
+        ensures sampling { StandStill self.old self.new }
     {
         if !self.history.is_crowded() {
             return Ok(());
@@ -246,23 +189,11 @@ impl Samples {
     /// Takes a snapshot of the present place, as a peak or not, as what it is judged to be. Where that isn't a normal one, what
     /// stacks cost here was kept.
     pub(crate) fn take(&mut self, as_peak: bool, taken: Taken)
-        requires within { self.old.running.time ≤ 2 ^ 62 }
-        requires first { as_peak ≡ true → 0 < length self.old.array.kept.entries }
-        requires judged { taken
-            ≡ taken_as (settings_of self.old.options) self.old.array.kept
-            (offer_of self.old.running as_peak) }
-        ensures options { self.new.options ≡ self.old.options }
-        ensures running { self.new.running ≡ self.old.running }
-        ensures failed { self.new.failed ≡ self.old.failed }
-        ensures fronts { self.new.fronts ≡ self.old.fronts }
+        requires offer { CanOffer as_peak self.old }
+        requires judged { taken ≡ judged_as self.old as_peak }
+        ensures samples { self.new ≡ record self.old { array = self.new.array } }
         ensures some { 0 < length self.new.array.kept.entries }
-        ensures sampling { (names : FunctionNames) (tables : TableState) (events : List Event)
-            (made : List Offer) →
-            (taken ≡ Normal)
-            ⊎ AreCostsAt names tables events (event_count events) self.old.history.changes →
-            IsSampling self.old names tables events made
-            → IsSampling self.new names tables events
-            (made ++ offer_of self.old.running as_peak ∷ []) }
+        ensures sampling { TakesSnapshot taken as_peak self.old self.new }
     {
         let offer = self.offer(as_peak);
         let load = Load {
@@ -277,10 +208,7 @@ impl Samples {
     pub(crate) fn behind(&self, event: Event) -> Option<Running>
         requires place { self.now.running.place < 2 ^ 32 }
         requires within { CanCount self.now.options self.now.running event }
-        ensures next { IfSome result
-            (λ next. next ≡ with_event self.now.options self.now.running event) }
-        ensures fits { IfSome result (λ next. passes_most next ≡ false) }
-        ensures follows { IfSome result (λ next. Follows self.now.options self.now.running next) }
+        ensures next { IfSome result (AreBehind self.now event) }
         ensures none { IfNone result
             (passes_most (with_event self.now.options self.now.running event) ≡ true) }
     {
@@ -293,12 +221,7 @@ impl Samples {
         requires follows { Follows self.old.options self.old.running next }
         ensures samples { self.new
             ≡ record self.old { running = next; history = self.new.history } }
-        ensures sampling { (names : FunctionNames) (tables : TableState) (events : List Event)
-            (made : List Offer) (event : Event) →
-            IsSampling self.old names tables events made → IsOfStack tables event → IsIn stack event
-            →
-            AreFigures self.old.options (ignores tables names) (events ++ event ∷ []) next →
-            IsSampling self.new names tables (events ++ event ∷ []) made }
+        ensures sampling { MovesTo next stack self.old self.new }
     {
         self.running = next;
         self.history.mark(stack);
@@ -314,8 +237,7 @@ impl Samples {
     /// Moves on behind an event that isn't counted.
     pub(crate) fn pass(&mut self, event: Event)
         requires place { self.old.running.place < 2 ^ 32 }
-        ensures { self.new ≡ record self.old
-            { running = past_event self.old.options self.old.running event } }
+        ensures { self.new ≡ passed_by self.old event }
     {
         self.running = self.running.past_event(&self.options, event);
     }
@@ -324,13 +246,8 @@ impl Samples {
     /// wanting for a snapshot.
     pub(crate) fn into_profile(self, cmd: &[u8]) -> Result<Profile, NoMemory>
         ensures failed { self.failed ≡ true → IsErr result }
-        ensures profile { IfOk result
-            (λ profile. (tables : TableState) (names : List (List ℕ))
-            → self.fronts ≡ first_lists tables names (self.options.depth + 1) (length self.fronts) →
-            profile ≡ profile_made self tables names cmd.now) }
-        ensures none { OnOk result
-            ((place stack : ℕ) → self.history.stacks ≤ stack
-            → history.cost_at self.history.changes place stack ≡ 0) }
+        ensures profile { IfOk result (IsMadeOf self cmd.now) }
+        ensures none { OnOk result (EndsAtStacks self.history) }
         ensures sound { IsSound self }
         ensures array { array.IsSound self.array }
     {
@@ -352,15 +269,8 @@ impl Samples {
 
     /// The snapshots with the trees of their places, or `NoMemory`.
     fn into_snaps(self) -> Result<Snaps, NoMemory>
-        ensures snaps { IfOk result
-            (λ snaps. (tables : TableState) (names : List (List ℕ))
-            → self.fronts ≡ first_lists tables names (self.options.depth + 1) (length self.fronts) →
-            snaps ≡ all_made (told_tree (tree_options self.options) tables names
-            (length self.fronts) self.history.changes)
-            self.array.kept.entries self.array.loads) }
-        ensures none { OnOk result
-            ((place stack : ℕ) → self.history.stacks ≤ stack
-            → history.cost_at self.history.changes place stack ≡ 0) }
+        ensures snaps { IfOk result (AreMadeOf self) }
+        ensures none { OnOk result (EndsAtStacks self.history) }
         ensures sound { IsSound self }
         ensures array { array.IsSound self.array }
     {

@@ -15,7 +15,7 @@ pub(crate) struct Stacks<'a, A: Fn(&[u8]) -> bool> {
     pub(crate) judged: &'a [bool],
     pub(crate) tables: &'a Tables,
     /// The functions that stacks are shown without where they are innermost.
-    pub(crate) alloc_fns: &'a FrameTest<A>,
+    pub(crate) skipped: &'a FrameTest<A>,
 }
 
 /// What a stack costs: its live bytes, and nothing where it's ignored.

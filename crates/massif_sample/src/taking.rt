@@ -1,24 +1,14 @@
 //! How one event is taken: the peak before a free, the event, and the snapshot behind it.
 //! Which faults an event has, and which stacks are ignored, is known here.
-ghost use Rattle.std.specs.Prelude.{◌≡◌, ◌≢◌, ◌⊎◌, ◌+◌, ◌^◌, ◌<◌, ◌≤◌, List, [], ◌∷◌, ◌++◌, true, false, length, None, Err, IfErr, OnOk, OnErr};
-ghost use Rattle.std.specs.Fn.{FnReturnsAt};
-ghost use Rattle.cost_tree.specs.FrameTexts.{AreTexts};
-ghost use Rattle.live_ledger.specs.declared.event.Event.{Event};
-ghost use Rattle.live_ledger.specs.Events.{event_count, is_free};
+ghost use Rattle.std.specs.Prelude.{◌≡◌, ◌^◌, ◌<◌, true, false, None, Err, OnOk, OnErr};
+ghost use Rattle.live_ledger.specs.Events.{is_free};
 ghost use Rattle.live_ledger.specs.Faults.{fault_at};
 ghost use Rattle.live_ledger.specs.LedgerState.{IsHeld};
-ghost use Rattle.live_ledger.specs.StandsFor as ledger_spec;
-ghost use Rattle.massif_cull.specs.declared.snapshot.Offer.{Offer};
-ghost use Rattle.massif_cull.specs.declared.snapshot.Taken.TheVariants.{Detailed};
-ghost use Rattle.massif_sample.specs.declared.fault.SampleFault.TheVariants.{NoMemory as OutOfMemory};
-ghost use Rattle.massif_sample.specs.Due.{IsTakenAs};
-ghost use Rattle.massif_sample.specs.FunctionNames.{FunctionNames, ignores};
 ghost use Rattle.live_ledger.specs.Taken.{HasTaken};
-ghost use Rattle.massif_sample.specs.Options.{AreInRange};
-ghost use Rattle.massif_sample.specs.Offers.{peak_before};
-ghost use Rattle.massif_sample.specs.Running.{AreFigures, Follows, past_event};
-ghost use Rattle.massif_sample.specs.StandsFor.{AreJudged, IsIn, IsOfStack, IsSampling};
-ghost use Rattle.massif_sample.specs.Taking.{CallsForTree, CallsForTreeAt, StandTogether, TakesEvent, TellsFault, offer_behind};
+ghost use Rattle.massif_sample.specs.declared.fault.SampleFault.TheVariants.{NoMemory as OutOfMemory};
+ghost use Rattle.massif_sample.specs.Offering.{AreBeside, HasOffered, OffersPeak, OffersPlace};
+ghost use Rattle.massif_sample.specs.SamplesCalls.{CanOffer, passed_by};
+ghost use Rattle.massif_sample.specs.Taking.{CallsForTreeAt, CanAdvance, CanTakeEvent, CountsEvent, HasAdvanced, TakesEvent, TakesOrLeaves, TellsFault};
 
 use crate::fault::SampleFault;
 use crate::offering::sample;
@@ -36,31 +26,16 @@ fn sample_ledger<A: Fn(&[u8]) -> bool>(
     as_peak: bool,
     ledger: &Ledger,
 ) -> Result<(), NoMemory>
-    requires within { samples.old.running.time ≤ 2 ^ 62 }
-    requires first { as_peak ≡ true → 0 < length samples.old.array.kept.entries }
-    requires stacks { ledger.now.stacks ≡ length stacks.now.tables.now.nodes + 1 }
-    requires judged { length stacks.now.judged.now ≡ length stacks.now.tables.now.nodes + 1 }
-    requires fronts { length samples.old.fronts ≤ length stacks.now.tables.now.nodes + 1 }
-    requires callable { A.IsAlwaysCallable stacks.now.alloc_fns.now.test }
+    requires offer { CanOffer as_peak samples.old }
+    requires beside { AreBeside stacks.now samples.old ledger.now }
+    requires callable { A.IsAlwaysCallable stacks.now.skipped.now.test }
     ensures sampling { OnOk result
-        ((names : FunctionNames) (events : List Event) (made : List Offer) →
-        AreTexts (FnReturnsAt A.Fn stacks.now.alloc_fns.now.test) names.alloc_fns →
-        AreJudged names stacks.now.tables.now stacks.now.judged.now →
-        ledger_spec.StandsFor ledger.now events →
-        IsSampling samples.old names stacks.now.tables.now events made →
-        IsSampling samples.new names stacks.now.tables.now events
-        (made ++ offer_behind samples.old stacks.now.tables.now names events as_peak ∷ [])) }
-    ensures due { OnErr result (CallsForTree stacks.now.tables.now as_peak samples.old) }
-    ensures options { samples.new.options ≡ samples.old.options }
-    ensures running { samples.new.running ≡ samples.old.running }
-    ensures failed { samples.new.failed ≡ samples.old.failed }
-    ensures fronts { OnOk result
-        (length samples.new.fronts ≤ length stacks.now.tables.now.nodes + 1) }
-    ensures some { OnOk result (0 < length samples.new.array.kept.entries) }
+        (OffersPlace A.Fn stacks.now ledger.now as_peak samples.old samples.new) }
+    ensures offered { HasOffered stacks.now as_peak samples.old samples.new result }
 {
     let judged = stacks.judged;
     let cost = |stack: u32| live_cost(judged, ledger, stack);
-    sample(samples, as_peak, stacks.tables, stacks.alloc_fns, &cost)
+    sample(samples, stacks, as_peak, &cost)
 }
 
 /// Offers the peak before a free.
@@ -71,27 +46,13 @@ fn sample_before<A: Fn(&[u8]) -> bool>(
     event: Event,
     ledger: &Ledger,
 ) -> Result<(), NoMemory>
-    requires within { samples.old.running.time ≤ 2 ^ 62 }
-    requires some { 0 < length samples.old.array.kept.entries }
-    requires stacks { ledger.now.stacks ≡ length stacks.now.tables.now.nodes + 1 }
-    requires judged { length stacks.now.judged.now ≡ length stacks.now.tables.now.nodes + 1 }
-    requires fronts { length samples.old.fronts ≤ length stacks.now.tables.now.nodes + 1 }
-    requires callable { A.IsAlwaysCallable stacks.now.alloc_fns.now.test }
+    requires offer { CanOffer true samples.old }
+    requires beside { AreBeside stacks.now samples.old ledger.now }
+    requires callable { A.IsAlwaysCallable stacks.now.skipped.now.test }
     ensures sampling { OnOk result
-        ((names : FunctionNames) (events : List Event) (made : List Offer) →
-        AreTexts (FnReturnsAt A.Fn stacks.now.alloc_fns.now.test) names.alloc_fns →
-        AreJudged names stacks.now.tables.now stacks.now.judged.now →
-        ledger_spec.StandsFor ledger.now events →
-        IsSampling samples.old names stacks.now.tables.now events made →
-        IsSampling samples.new names stacks.now.tables.now events
-        (made ++ peak_before samples.old.options (ignores stacks.now.tables.now names) events event
-        (event_count events))) }
+        (OffersPeak A.Fn stacks.now ledger.now event samples.old samples.new) }
     ensures free { OnErr result (is_free event ≡ true) }
-    ensures due { OnErr result (CallsForTree stacks.now.tables.now true samples.old) }
-    ensures options { samples.new.options ≡ samples.old.options }
-    ensures running { samples.new.running ≡ samples.old.running }
-    ensures fronts { OnOk result
-        (length samples.new.fronts ≤ length stacks.now.tables.now.nodes + 1) }
+    ensures offered { HasOffered stacks.now true samples.old samples.new result }
 {
     match event {
         Event::Alloc { .. } => Ok(()),
@@ -110,38 +71,12 @@ fn advance<A: Fn(&[u8]) -> bool>(
     next: Running,
     ledger: &mut Ledger,
 ) -> Result<(), SampleFault>
-    requires held { IsHeld ledger.old event }
-    requires count { ledger.old.totals.events < 2 ^ 32 }
-    requires no_fault { fault_at ledger.old event ≡ None }
-    requires of_stack { IsIn stack event }
-    requires stacks { ledger.old.stacks ≡ length stacks.now.tables.now.nodes + 1 }
-    requires judged { length stacks.now.judged.now ≡ length stacks.now.tables.now.nodes + 1 }
-    requires fronts { length samples.old.fronts ≤ length stacks.now.tables.now.nodes + 1 }
-    requires callable { A.IsAlwaysCallable stacks.now.alloc_fns.now.test }
-    requires follows { Follows samples.old.options samples.old.running next }
+    requires advance { CanAdvance stacks.now samples.old ledger.old event stack next }
+    requires callable { A.IsAlwaysCallable stacks.now.skipped.now.test }
     ensures sampling { OnOk result
-        ((names : FunctionNames) (events : List Event) (made : List Offer) →
-        AreTexts (FnReturnsAt A.Fn stacks.now.alloc_fns.now.test) names.alloc_fns →
-        AreJudged names stacks.now.tables.now stacks.now.judged.now →
-        ledger_spec.StandsFor ledger.old events →
-        IsSampling samples.old names stacks.now.tables.now events made →
-        IsOfStack stacks.now.tables.now event →
-        AreFigures samples.old.options (ignores stacks.now.tables.now names) (events ++ event ∷ [])
-        next →
-        IsSampling samples.new names stacks.now.tables.now (events ++ event ∷ [])
-        (made ++ offer_behind samples.old stacks.now.tables.now names (events ++ event ∷ []) false
-        ∷ [])) }
-    ensures only { IfErr result (λ fault. fault ≡ OutOfMemory) }
-    ensures due { OnErr result ((names : FunctionNames) (events : List Event) (made : List Offer) →
-        IsSampling samples.old names stacks.now.tables.now events made →
-        IsOfStack stacks.now.tables.now event →
-        AreFigures samples.old.options (ignores stacks.now.tables.now names) (events ++ event ∷ [])
-        next →
-        IsTakenAs samples.old.options made
-        (offer_behind samples.old stacks.now.tables.now names (events ++ event ∷ []) false)
-        Detailed) }
-    ensures options { samples.new.options ≡ samples.old.options }
-    ensures some { OnOk result (0 < length samples.new.array.kept.entries) }
+        (CountsEvent A.Fn stacks.now ledger.old event next samples.old samples.new) }
+    ensures advanced { HasAdvanced stacks.now.tables.now samples.old samples.new event next
+        result }
     ensures applied { HasTaken ledger.old ledger.new event }
 {
     ledger.take(event);
@@ -157,9 +92,7 @@ fn pass(samples: &mut Samples, event: Event, ledger: &mut Ledger)
     requires count { ledger.old.totals.events < 2 ^ 32 }
     requires no_fault { fault_at ledger.old event ≡ None }
     requires place { samples.old.running.place < 2 ^ 32 }
-    ensures samples { samples.new
-        ≡ record samples.old
-        { running = past_event samples.old.options samples.old.running event } }
+    ensures samples { samples.new ≡ passed_by samples.old event }
     ensures applied { HasTaken ledger.old ledger.new event }
 {
     ledger.take(event);
@@ -174,27 +107,15 @@ pub(crate) fn take_event<A: Fn(&[u8]) -> bool>(
     event: Event,
     ledger: &mut Ledger,
 ) -> Result<(), SampleFault>
-    requires range { AreInRange samples.old.options }
-    requires held { IsHeld ledger.old event }
-    requires count { ledger.old.totals.events < 2 ^ 32 }
-    requires stacks { ledger.old.stacks ≡ length stacks.now.tables.now.nodes + 1 }
-    requires judged { length stacks.now.judged.now ≡ length stacks.now.tables.now.nodes + 1 }
-    requires callable { A.IsAlwaysCallable stacks.now.alloc_fns.now.test }
-    requires stands { StandTogether stacks.now.judged.now stacks.now.tables.now samples.old
-        ledger.old }
+    requires event { CanTakeEvent stacks.now samples.old ledger.old event }
+    requires callable { A.IsAlwaysCallable stacks.now.skipped.now.test }
     ensures stands { OnOk result
-        (TakesEvent (FnReturnsAt A.Fn stacks.now.alloc_fns.now.test) stacks.now.judged.now
-        stacks.now.tables.now ledger.old event samples.old samples.new) }
+        (TakesEvent A.Fn stacks.now ledger.old event samples.old samples.new) }
     ensures fault { TellsFault stacks.now.judged.now stacks.now.tables.now ledger.old event
         samples.old result }
-    ensures due { result ≡ Err OutOfMemory →
-        CallsForTreeAt (FnReturnsAt A.Fn stacks.now.alloc_fns.now.test) stacks.now.judged.now
-        stacks.now.tables.now ledger.old event samples.old }
-    ensures unchanged { IfErr result
-        (λ fault. fault ≢ OutOfMemory → (samples.new ≡ samples.old) × (ledger.new ≡ ledger.old)) }
-    ensures options { samples.new.options ≡ samples.old.options }
-    ensures applied { OnOk result (HasTaken ledger.old ledger.new event) }
-    ensures applied_or_not { (ledger.new ≡ ledger.old) ⊎ HasTaken ledger.old ledger.new event }
+    ensures due { result ≡ Err OutOfMemory
+        → CallsForTreeAt A.Fn stacks.now ledger.old event samples.old }
+    ensures taken { TakesOrLeaves samples.old samples.new ledger.old ledger.new event result }
 {
     ledger.check(event)?;
     let Some(stack) = counted_stack(stacks.judged, event) else {

@@ -1,7 +1,6 @@
 //! The places of the snapshots that have trees: what stacks cost there has to be known.
-ghost use Rattle.std.specs.Prelude.{◌≡◌, ℕ, true, All, slice_get, Contains, Some, IfOk};
-ghost use Rattle.massif_cull.specs.declared.snapshot.SnapEntry.{SnapEntry};
-ghost use Rattle.massif_sample.specs.Snapshots.{IsTreePlace, shows_tree};
+ghost use Rattle.std.specs.Prelude.{◌≡◌, IfOk};
+ghost use Rattle.massif_sample.specs.Snapshots.{AreTreePlaces, shows_tree};
 
 use crate::load::Load;
 use hp_num::NoMemory;
@@ -10,11 +9,7 @@ use std::alloc::Global;
 
 /// The places of the snapshots that have a tree, or `NoMemory`.
 pub(crate) fn tree_places(alloc: Global, array: &SnapArray<Load>) -> Result<Vec<u64>, NoMemory>
-    ensures all { IfOk result
-        (λ places. (k : ℕ) (entry : SnapEntry) → slice_get array.now.kept.entries k ≡ Some entry
-        → shows_tree entry.kind ≡ true → Contains places.items entry.place) }
-    ensures only { IfOk result
-        (λ places. All (IsTreePlace array.now.kept.entries) places.items) }
+    ensures { IfOk result (λ places. AreTreePlaces array.now.kept.entries places.items) }
 {
     let mut entries = Vec::with_capacity(alloc, array.len() as usize)?;
     array.entries_into(&mut entries);
@@ -23,10 +18,7 @@ pub(crate) fn tree_places(alloc: Global, array: &SnapArray<Load>) -> Result<Vec<
 
 /// The places of the entries that have a tree, or `NoMemory`.
 fn places_with_tree(alloc: Global, entries: &[SnapEntry]) -> Result<Vec<u64>, NoMemory>
-    ensures all { IfOk result
-        (λ places. (k : ℕ) (entry : SnapEntry) → slice_get entries.now k ≡ Some entry
-        → shows_tree entry.kind ≡ true → Contains places.items entry.place) }
-    ensures only { IfOk result (λ places. All (IsTreePlace entries.now) places.items) }
+    ensures { IfOk result (λ places. AreTreePlaces entries.now places.items) }
 {
     let mut places = Vec::new(alloc);
     'entries: for entry in entries {

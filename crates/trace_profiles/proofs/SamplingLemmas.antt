@@ -15,6 +15,8 @@ use Rattle.std.proofs.Common.{
   None,
   Some,
   Err,
+  Result,
+  ◌≢◌,
   IfSome,
   length,
   ap,
@@ -38,14 +40,17 @@ use Rattle.live_ledger.specs.Taken.{HasTaken}
 use Rattle.massif_file.specs.declared.profile.Profile.{Profile}
 use Rattle.massif_file.specs.MassifText.{massif_text}
 use Rattle.massif_sample.specs.declared.fault.SampleFault.{SampleFault}
+use Rattle.massif_sample.specs.declared.fault.SampleFault.TheVariants as sample
 use Rattle.massif_sample.specs.declared.options.MassifOptions.{MassifOptions}
 use Rattle.massif_sample.specs.declared.sampler.Sampler.{Sampler}
 use Rattle.massif_sample.specs.FunctionNames.{ignores}
 use Rattle.massif_sample.specs.MassifSettings.{MassifSettings}
 use Rattle.massif_sample.specs.SampleFault.{Tells, sample_fault}
 use Rattle.massif_sample.specs.Sampled.{sampled}
+use Rattle.massif_sample.specs.SamplerCalls.{LeavesSampler}
 use Rattle.massif_sample.specs.SamplesState.{SamplesState}
 use Rattle.massif_sample.specs.StandsFor as sample_spec
+use Rattle.massif_sample.specs.Taking.{TellsFault}
 use Rattle.trace_reading.specs.Following.{HasFollowed, IsAsBefore, IsNew}
 use Rattle.trace_reading.specs.TraceReport.{tables_behind}
 use Rattle.trace_profiles.specs.MassifReport.{command_in, massif_written, sampler_faults}
@@ -255,3 +260,41 @@ written_is settings patterns lines tables options cmd text before profile of_lin
 pub known_fault : (fault known : SampleFault) (found : Option EventFault) → fault ≡ known
     → Tells {T = Unit {0}} (Err fault) found → Tells {T = Unit {0}} (Err known) found
 known_fault fault known found is tells = subst (λ (f : SampleFault). Tells {T = Unit {0}} (Err f) found) is tells
+
+-- the fault of an event that the sampler tells by its options is that by the settings
+pub fault_told : {A I : Type 0} (settings : MassifSettings) (means : FrameTest A → FrameTest I → Type 0)
+    (ledger : LedgerState) (held : Option (Sampler A I)) (old : Sampler A I) (tables : TableState) (event : Event)
+    (r : Result (Unit {0}) SampleFault)
+    → held ≡ Some old → IfSome held (λ one. IsSettled settings means ledger one)
+    → TellsFault old.judged.items tables ledger event old.samples r
+    → (taken : List Event) → IfSome held (λ one. StandFor settings ledger one tables taken)
+    → Tells r (sampler_faults settings tables taken event)
+fault_told settings means ledger held old tables event r is sound told taken stands =
+    let settled = at_some held old (λ one. IsSettled settings means ledger one) is sound in
+    let at = at_some held old (λ one. StandFor settings ledger one tables taken) is stands in
+    subst (Tells r) (fault_by_options old.samples.options settings tables taken event settled.options)
+    (told settings.names taken at.sampling at.figures)
+
+-- and of a fault that is known
+pub known_told : {A I : Type 0} (settings : MassifSettings) (means : FrameTest A → FrameTest I → Type 0)
+    (ledger : LedgerState) (held : Option (Sampler A I)) (old : Sampler A I) (tables : TableState) (event : Event)
+    (fault known : SampleFault)
+    → held ≡ Some old → IfSome held (λ one. IsSettled settings means ledger one) → fault ≡ known
+    → TellsFault old.judged.items tables ledger event old.samples (Err fault)
+    → (taken : List Event) → IfSome held (λ one. StandFor settings ledger one tables taken)
+    → Tells {T = Unit {0}} (Err known) (sampler_faults settings tables taken event)
+known_told settings means ledger held old tables event fault known is sound same told taken stands =
+    known_fault fault known _ same
+    (fault_told settings means ledger held old tables event (Err fault) is sound told taken stands)
+
+-- where an event has a fault, nothing changes
+pub left_alone : {A I : Type 0} (settings : MassifSettings) (means : FrameTest A → FrameTest I → Type 0)
+    (ledger after : LedgerState) (held : Option (Sampler A I)) (old new : Sampler A I) (event : Event)
+    (fault known : SampleFault)
+    → held ≡ Some old → fault ≡ known → known ≢ sample.NoMemory
+    → LeavesSampler old new ledger after event (Err fault)
+    → IsAsBefore (sampling_view settings means ledger held) (sampling_view settings means after (Some new))
+left_alone settings means ledger after held old new event fault known is same apart left =
+    let unchanged = left.unchanged (λ wanting. apart (sym same ∙ wanting)) in
+    as_before settings means ledger after held old new is unchanged.1 unchanged.0 left.judged left.alloc_fns
+    left.ignore_fns

@@ -3,5 +3,5 @@ use Rattle.massif_sample.proofs.laws.sampling_goes_on.Goals as goal
 
 pub returns : goal.returns
 returns c =
-    λ flags samples names before after events stands grown. stands-grown flags samples names before after events grown
-    stands
+    λ before after grown flags samples names events stands.
+    stands-grown flags samples names before after events grown stands

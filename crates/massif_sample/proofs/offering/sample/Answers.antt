@@ -11,7 +11,7 @@ returns-then-taken-eq0-clause-sampling g c =
     let none : c.judge-taken.result ≡ No = search rules in
     λ names events made texts said was.
     let offer_is =
-    offer-now c.args.samples.now.options (ignores c.args.tables.now names) events c.args.samples.now.running
+    offer-now c.args.samples.now.options (ignores c.args.stacks.now.tables.now names) events c.args.samples.now.running
     c.args.as_peak was.figures in
-    subst (λ (o : Offer). IsSampling c.args.samples.now names c.args.tables.now events (made ++ o ∷ [])) offer_is
-    (c.judge-taken.ensures.passed none names c.args.tables.now events made was)
+    subst (λ (o : Offer). IsSampling c.args.samples.now names c.args.stacks.now.tables.now events (made ++ o ∷ [])) offer_is
+    (c.judge-taken.ensures.passed none names c.args.stacks.now.tables.now events made was)

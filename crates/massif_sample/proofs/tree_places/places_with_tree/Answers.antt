@@ -58,7 +58,10 @@ entries-preserved c =
           (All-push (IsTreePlace c.args.entries.now) c.entries.places.items last.place c.entries.invariant.1 one_more),
     )
 
-pub returns-clause-all : goal.returns-clause-all
-returns-clause-all c =
-    λ k entry at shows. c.entries.invariant.0 k entry
-    (let within = slice_get_within c.args.entries.now k entry at in omega (arith, c.entries-test.false)) at shows
+pub returns : goal.returns
+returns c = record {
+  all =
+      λ k entry at shows. c.entries.invariant.0 k entry
+      (let within = slice_get_within c.args.entries.now k entry at in omega (arith, c.entries-test.false)) at shows;
+  only = c.entries.invariant.1;
+}

@@ -5,6 +5,5 @@ pub returns : goal.returns
 returns g c = λ before after taken continues stands.
     let settings = g.T.Settled.settings in
     stand_still settings c.args.self.now.ledger c.args.self.now.sampler before after taken
-    (λ flags samples stood. c.sampling_goes_on.ensures flags samples settings.names before after taken stood
-    continues)
+    (λ flags samples stood. c.sampling_goes_on.ensures before after continues flags samples settings.names taken stood)
     stands

@@ -9,5 +9,5 @@ returns-in-Ok-stack g c =
     let sampler = c.in-Ok-stack.ensures in
     stack_followed settings _ c.args.tables.now c.args.self.now.ledger c.grow_stack.new.self c.args.self.now.sampler
     c.in-Some.sampler c.stack.new.self c.in-Some.is settled ledger.grown ledger.stands
-    (λ events stood. sampler.stands settings.names events settled.meant.2 stood) sampler.judged sampler.samples
-    sampler.alloc_fns sampler.ignore_fns
+    (λ events stood. sampler.stands settings.names events settled.meant.2 stood) sampler.judges.judged
+    sampler.judges.samples sampler.judges.alloc_fns sampler.judges.ignore_fns
