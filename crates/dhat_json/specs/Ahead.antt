@@ -28,7 +28,8 @@ abbrev pub behind : {A : Type 0} → Option (A × List Token) → Option (List T
 behind ahead = option_map (λ p. p.1) ahead
 
 -- what stands there was passed over, or nothing of the kind does
-abbrev pub Passes : {A E : Type 0} → Result (Unit {0}) E → Option (A × List Token) → List Token → Type 0
+abbrev pub Passes : {A E : Type 0} → Result (Unit {0}) E → Option (A × List Token) → List Token
+    → Type 0
 Passes result ahead now = MatchResult result (λ _. behind ahead ≡ Some now)
     (λ _. behind ahead ≡ None)
 

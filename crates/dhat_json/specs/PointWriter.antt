@@ -1,11 +1,11 @@
 -- A writer of points has written a profile where its tokens, with those of any points to come and
 -- of what stands behind the points, are those of the profile with these points behind its own, and
 -- it keeps what stands behind them.
-use Rattle.std.specs.Prelude.{ℕ, List, [], ◌∷◌, ◌++◌}
+use Rattle.std.specs.Prelude.{[], ◌∷◌, ◌++◌}
 use Rattle.dhat_json.specs.declared.point_writer.PointWriter.{PointWriter}
 use Rattle.dhat_json.specs.declared.profile.Dhat.{Dhat}
 use Rattle.dhat_json.specs.declared.profile.Point.{Point}
-use Rattle.dhat_json.specs.Begun.{HasBegun, HasTimes, IsTextOf, with_points}
+use Rattle.dhat_json.specs.Begun.{HasBegun, HasTimes, with_points}
 use Rattle.dhat_json.specs.IsSound.{HasTexts}
 
 -- the writer has written the profile up to its last point, and keeps what stands behind the points
@@ -18,16 +18,3 @@ pub record HasWritten (writer : PointWriter) (dhat : Dhat) : Type 0 where
 abbrev pub WritesPoint : PointWriter → PointWriter → Point → Type 0
 WritesPoint old new point = (dhat : Dhat) → HasWritten old dhat
     → HasWritten new (with_points dhat (dhat.pps ++ point ∷ []))
-
--- these points were put behind none
-abbrev pub WritesPoints : PointWriter → PointWriter → List Point → Type 0
-WritesPoints old new points = (head : Dhat) → HasWritten old (with_points head [])
-    → HasWritten new (with_points head points)
-
--- the text is that of the profile with these points
-abbrev pub IsTextWith : Dhat → List Point → List ℕ → Type 0
-IsTextWith head points text = IsTextOf (with_points head points) text
-
--- the text is that of each profile that was written
-abbrev pub IsTextOfWritten : PointWriter → List ℕ → Type 0
-IsTextOfWritten writer text = (dhat : Dhat) → HasWritten writer dhat → IsTextOf dhat text

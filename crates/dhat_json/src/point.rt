@@ -69,7 +69,8 @@ fn read_life(value: &Value, number: u32, told: bool) -> Result<Option<Life>, Dha
 
 // Two whole numbers that must be there, one after the other.
 fn read_pair(value: &Value, number: u32, first: Key, second: Key) -> Result<(u64, u64), DhatFault>
-    ensures { ReadsFirst result (pair_findings number first second) (pair_at first second) value.now }
+    ensures { ReadsFirst result (pair_findings number first second) (pair_at first second)
+        value.now }
 {
     let first = read_whole(value, Some(number), first)?;
     let second = read_whole(value, Some(number), second)?;

@@ -1,9 +1,11 @@
 //! A profile's text whose points come one by one, so that they need not be held at once.
-ghost use Rattle.std.specs.Prelude.{[], Ok, IfOk, OnOk, string_bytes};
+ghost use Rattle.std.specs.Prelude.{◌≡◌, [], Ok, Some, IfOk, OnOk, string_bytes};
 ghost use Rattle.dhat_json.specs.declared.profile.Dhat.{Dhat};
 ghost use Rattle.dhat_json.specs.Begun.{with_points};
-ghost use Rattle.dhat_json.specs.IsSound.{HasTexts};
-ghost use Rattle.dhat_json.specs.PointWriter.{HasWritten, IsTextOfWritten, WritesPoint};
+ghost use Rattle.dhat_json.specs.DhatValue.{dhat_text, dhat_value};
+ghost use Rattle.dhat_json.specs.Document.{document_of, value_of};
+ghost use Rattle.dhat_json.specs.IsSound.{HasTexts, IsSound};
+ghost use Rattle.dhat_json.specs.PointWriter.{HasWritten, WritesPoint};
 
 use crate::lists::{Points, Texts};
 use crate::profile::{Dhat, Point};
@@ -50,7 +52,12 @@ impl PointWriter {
     /// profile, where this is sound. `NoMemory` where memory is wanting.
     pub fn finish(self) -> Result<String, NoMemory>
         requires begun { (dhat : Dhat) × HasWritten self dhat }
-        ensures text { IfOk result (λ text. IsTextOfWritten self (string_bytes text)) }
+        ensures text { IfOk result (λ text. (dhat : Dhat) → HasWritten self dhat
+            → string_bytes text ≡ dhat_text dhat) }
+        ensures value { IfOk result (λ text. (dhat : Dhat) → HasWritten self dhat
+            → value_of (string_bytes text) ≡ Some (dhat_value dhat)) }
+        ensures reads_back { IfOk result (λ text. (dhat : Dhat) → HasWritten self dhat
+            → IsSound dhat → document_of (string_bytes text) ≡ Ok dhat) }
     {
         let PointWriter { out, head } = self;
         let text = ended(out, &head);

@@ -72,7 +72,8 @@ fn put_points(out: &mut Writer, points: &[Point]) -> Result<(), NoMemory>
 pub(crate) fn ended(mut out: Writer, dhat: &Dhat) -> Result<String, NoMemory>
     requires texts { HasTexts dhat.now }
     requires alone { out.before ≡ [] }
-    ensures { IfOk result (λ text. IsEnded out dhat.now (λ whole. IsTextOf whole (string_bytes text))) }
+    ensures { IfOk result
+        (λ text. IsEnded out dhat.now (λ whole. IsTextOf whole (string_bytes text))) }
 {
     if let Err(error) = put_end(&mut out, dhat) {
         drop(out);

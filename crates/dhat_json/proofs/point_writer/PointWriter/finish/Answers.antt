@@ -7,8 +7,15 @@ ended-text-requires c = record {
   alone = c.requires.begun.1.begun.before;
 }
 
-pub returns : goal.returns
-returns c = record {
-  text =
-      IfOk-weaker c.ended-text.result _ _ (λ text is. λ dhat has. is dhat has.begun has.times) c.ended-text.ensures;
-}
+pub returns-clause-text : goal.returns-clause-text
+returns-clause-text c =
+    IfOk-weaker c.ended-text.result _ _ (λ text is. λ dhat has. (is dhat has.begun has.times).same) c.ended-text.ensures
+
+pub returns-clause-value : goal.returns-clause-value
+returns-clause-value c =
+    IfOk-weaker c.ended-text.result _ _ (λ text is. λ dhat has. (is dhat has.begun has.times).value) c.ended-text.ensures
+
+pub returns-clause-reads_back : goal.returns-clause-reads_back
+returns-clause-reads_back c =
+    IfOk-weaker c.ended-text.result _ _ (λ text is. λ dhat has. (is dhat has.begun has.times).reads_back)
+    c.ended-text.ensures
