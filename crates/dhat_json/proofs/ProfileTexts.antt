@@ -11,7 +11,7 @@ use Rattle.dhat_json.specs.declared.profile.Dhat.{Dhat}
 use Rattle.dhat_json.specs.Adds.{Fits}
 use Rattle.dhat_json.specs.Begun.{IsTextOf}
 use Rattle.dhat_json.specs.DhatValue.{dhat_value, dhat_text}
-use Rattle.dhat_json.specs.Document.{value_of}
+use Rattle.dhat_json.specs.Document.{document_of}
 use Rattle.dhat_json.specs.IsSound.{IsSound}
 use Rattle.dhat_json.proofs.Documents.{document_is, value_is}
 use Rattle.dhat_json.proofs.KeyOrder.{value_in_order}
@@ -24,13 +24,14 @@ pub text_written : (d : Dhat) (before : List ℕ) (ts : List Token) (text : List
     → Fits (dhat_value d) → IsTextOf d text
 unfolding dhat_text
 text_written d before ts text none ts-is text-is same utf8 fit =
-    let printed : text ≡ print ts = text-is ∙ ap (λ (b : List ℕ). b ++ print ts) none in
-    let value : value_of text ≡ Some (dhat_value d) =
-    value_is text (dhat_value d) (subst IsUtf8 (sym printed) utf8)
-    (read_again (dhat_value d) ts text ts-is (ap tokens printed ∙ same) fit (value_in_order 123 d)) in
-    record {
+    let printed : text ≡ print ts = text-is ∙ ap (λ (b : List ℕ). b ++ print ts) none in record {
       same = printed ∙ ap print ts-is ∙ print-outline (dhat_value d);
-      value = value;
-      reads_back = λ sound.
-          document_is text (dhat_value d) value ∙ is_taken (dhat_value d) d (value_says d sound);
+      value =
+          value_is text (dhat_value d) (subst IsUtf8 (sym printed) utf8)
+          (read_again (dhat_value d) ts text ts-is (ap tokens printed ∙ same) fit (value_in_order 123 d));
     }
+
+-- it is read again, where the profile is sound
+pub text_reads_back : (d : Dhat) (text : List ℕ) → IsTextOf d text → IsSound d → document_of text ≡ Ok d
+text_reads_back d text is sound =
+    document_is text (dhat_value d) is.value ∙ is_taken (dhat_value d) d (value_says d sound)

@@ -1,5 +1,5 @@
 -- How far the text of a profile is written whose points come one by one.
-use Rattle.std.specs.Prelude.{◌≡◌, ℕ, List, [], ◌++◌, map, Ok, Some}
+use Rattle.std.specs.Prelude.{◌≡◌, ℕ, List, [], ◌++◌, map, Some}
 use Rattle.json.specs.Token.{Token}
 use Rattle.json.specs.Tree.{items_tokens, json_tokens, members_tokens}
 use Rattle.json.specs.Written.{Written}
@@ -10,9 +10,8 @@ use Rattle.dhat_json.specs.declared.profile.Dhat.{Dhat}
 use Rattle.dhat_json.specs.declared.profile.Point.{Point}
 use Rattle.dhat_json.specs.Adds.{Fits, ItemsFit, MembersFit}
 use Rattle.dhat_json.specs.DhatValue.{dhat_text, dhat_value, point_value}
-use Rattle.dhat_json.specs.Document.{document_of, value_of}
+use Rattle.dhat_json.specs.Document.{value_of}
 use Rattle.dhat_json.specs.Groups.{time_members}
-use Rattle.dhat_json.specs.IsSound.{IsSound}
 
 -- the profile with these points in the place of its own
 abbrev pub with_points : Dhat → List Point → Dhat
@@ -52,8 +51,7 @@ pub record IsWhole (out : Written) (dhat : Dhat) : Type 0 where
   pub tokens : out.tokens ≡ json_tokens (outline (dhat_value dhat))
   pub fits : Fits (dhat_value dhat)
 
--- the text is that of the profile, has its value, and reads as the profile where this is sound
+-- the text is that of the profile, and has its value
 pub record IsTextOf (dhat : Dhat) (text : List ℕ) : Type 0 where
   pub same : text ≡ dhat_text dhat
   pub value : value_of text ≡ Some (dhat_value dhat)
-  pub reads_back : IsSound dhat → document_of text ≡ Ok dhat

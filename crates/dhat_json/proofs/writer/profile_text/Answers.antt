@@ -2,6 +2,7 @@ use Rattle.std.proofs.Common.{refl, string_bytes}
 use Rattle.std.proofs.lemmas.Result.{IfOk-weaker}
 use Rattle.dhat_json.specs.Begun.{HasBegun}
 use Rattle.dhat_json.proofs.BegunTexts.{begun_all}
+use Rattle.dhat_json.proofs.ProfileTexts.{text_reads_back}
 use Rattle.dhat_json.proofs.writer.profile_text.Goals as goal
 use Rattle.dhat_json.proofs.writer.profile_text.Goals.{After-ended}
 
@@ -26,5 +27,7 @@ returns-clause-value c =
 
 pub returns-clause-reads_back : goal.returns-clause-reads_back
 returns-clause-reads_back c =
-    IfOk-weaker c.ended.result _ _ (λ text is. (is c.args.dhat.now (has c) refl).reads_back c.requires.sound)
+    IfOk-weaker c.ended.result _ _
+    (λ text is. text_reads_back c.args.dhat.now (string_bytes text) (is c.args.dhat.now (has c) refl)
+    c.requires.sound)
     c.ended.ensures
