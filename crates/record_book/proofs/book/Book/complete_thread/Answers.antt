@@ -1,4 +1,4 @@
-use Rattle.std.proofs.Common.{rules, ◌≡◌, ℕ, ◌<◌, List, ◌++◌, length, sym, ap, ◌∙◌, subst, arith, append_assoc}
+use Rattle.std.proofs.Common.{◌≡◌, ℕ, ◌<◌, List, ◌++◌, length, sym, ap, ◌∙◌, subst, arith, append_assoc}
 use Rattle.std.specs.Prelude.{slice_get}
 use Rattle.record_scripts.specs.Job.{Job}
 use Rattle.record_book.specs.Actions.{events_at, times}
@@ -46,11 +46,19 @@ pub returns-clause-completed : goal.returns-clause-completed
 returns-clause-completed c =
     let old = c.turns.self in
     let step = c.in_ok-step.ensures.step in
+    let before = c.turns.invariant in
+    let entries =
+    turn_entries c.args.thread
+    (slice_get (events_at old.job.scripts c.args.thread) (times c.args.thread old.order)) in
     record {
       done = step.done c.if-branch.false ∙ ap (λ (j : Job). length (events_at j.scripts c.args.thread)) (sym c.step.ensures.job);
       others = λ other apart.
           ap (times other) step.order_is
           ∙ stepped-other old.job.scripts c.args.thread other old.order apart ∙ c.turns.invariant.others other apart;
       under = subst (λ (j : Job). IsUnder j.scripts c.step.new.self.order) (sym c.step.ensures.job) step.under;
-      grown = search rules;
+      grown = (
+        before.grown.0 ++ entries,
+        step.order_is ∙ ap (λ (front : List ℕ). front ++ entries) before.grown.1
+            ∙ append_assoc c.args.self.now.order before.grown.0 entries,
+      );
     }
