@@ -1,3 +1,4 @@
+pub mod Appends
 pub mod Sums
 pub mod Plots
 pub mod Bars
@@ -13,5 +14,7 @@ pub mod TreeText
 pub mod TableText
 pub mod Rows
 pub mod PageText
+pub mod PageOf
 pub mod Ends
 pub mod Pendings
+pub mod Views

@@ -1,9 +1,9 @@
 //! The entries that stand below an entry: its children with many bytes, and the others gathered.
-ghost use Rattle.std.specs.Prelude.{◌≡◌, ◌+◌, ◌-◌, ◌<◌, ◌^◌, ◌++◌, List, [], length, IfOk, OnOk, min};
-ghost use Rattle.massif_file.specs.Trees.{Trees};
-ghost use Rattle.ms_print.specs.Ends.{AreEnds, AreWhole, children_at};
-ghost use Rattle.ms_print.specs.Pendings.{AreRoots, AreSmall, IsHeld, entry_children, pending_gathered};
-ghost use Rattle.ms_print.specs.Shown.{beside, kept, shown};
+ghost use Rattle.std.specs.Prelude.{◌≡◌, ◌+◌, ◌-◌, ◌<◌, ◌^◌, [], length, IfOk, OnOk, min};
+ghost use Rattle.ms_print.specs.Appends.{Appends};
+ghost use Rattle.ms_print.specs.Ends.{AreEnds, AreWhole};
+ghost use Rattle.ms_print.specs.Pendings.{AreSmall, IsHeld, pending_gathered};
+ghost use Rattle.ms_print.specs.Views.{AreKeptIn, AreRootsIn, below, children_of, shown_at};
 
 use crate::entry::Scale;
 use hp_num::NoMemory;
@@ -55,8 +55,7 @@ pub(crate) fn children_into(
     requires ends { AreEnds view.now.tree.now 0 view.now.ends.now }
     requires held { IsHeld view.now.tree.now entry }
     ensures roots { OnOk result
-        (AreRoots view.now.scale view.now.tree.now indent children.new.items
-        (entry_children view.now.scale view.now.tree.now entry)) }
+        (AreRootsIn view.now indent children.new.items (below view.now entry)) }
 {
     children.clear();
     match entry {
@@ -78,8 +77,7 @@ fn push_children(
     requires held { place < length view.now.tree.now }
     requires empty { children.old.items ≡ [] }
     ensures roots { OnOk result
-        (AreRoots view.now.scale view.now.tree.now indent children.new.items
-        (shown view.now.scale (children_at view.now.tree.now place))) }
+        (AreRootsIn view.now indent children.new.items (shown_at view.now place)) }
 {
     let gathered = split_children(view, place, indent, children)?;
     push_gathered(indent, gathered, children)
@@ -97,12 +95,8 @@ fn split_children(
     requires held { place < length view.now.tree.now }
     requires empty { children.old.items ≡ [] }
     ensures kept { OnOk result
-        ((more : List Pending) (trees : Trees) →
-        AreRoots view.now.scale view.now.tree.now indent more trees →
-        AreRoots view.now.scale view.now.tree.now indent (children.new.items ++ more)
-        (beside (kept view.now.scale (children_at view.now.tree.now place)) trees)) }
-    ensures gathered { IfOk result
-        (λ gathered. AreSmall view.now.scale (children_at view.now.tree.now place) gathered) }
+        (AreKeptIn view.now indent children.new.items (children_of view.now place)) }
+    ensures gathered { IfOk result (AreSmall view.now.scale (children_of view.now place)) }
 {
     let mut gathered = Gathered {
         places: 0,
@@ -142,8 +136,7 @@ fn push_gathered(
     gathered: Gathered,
     children: &mut Vec<Pending>,
 ) -> Result<(), NoMemory>
-    ensures appended { OnOk result
-        (children.new.items ≡ children.old.items ++ pending_gathered indent gathered) }
+    ensures appended { Appends (pending_gathered indent gathered) children.old children.new result }
 {
     if gathered.places == 0 {
         return Ok(());

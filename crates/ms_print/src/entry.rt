@@ -1,8 +1,9 @@
 //! The lines of a tree's entries, one at a time. Which of them stand, and in which order, is the tree's part.
 #![tactic(auto, using(hp_num::proofs::Laws::extends_same, hp_num::proofs::Laws::extends_more, hp_num::proofs::Laws::extends_trans))]
 
-ghost use Rattle.std.specs.Prelude.{◌≡◌, ◌≤◌, ◌++◌, OnOk};
+ghost use Rattle.std.specs.Prelude.{◌≡◌, ◌≤◌};
 ghost use Rattle.hp_num.specs.Extends.{Extends};
+ghost use Rattle.ms_print.specs.Appends.{Appends};
 ghost use Rattle.ms_print.specs.Entries.{entry_text, gathered_label, is_small, places_text, share_text};
 
 use hp_num::{NoMemory, hundredths, put_bytes, put_commas, put_dec, put_percent};
@@ -33,8 +34,7 @@ pub(crate) fn put_entry(
     label: &[u8],
     out: &mut Vec<u8>,
 ) -> Result<(), NoMemory>
-    ensures appended { OnOk result
-        (out.new.items ≡ out.old.items ++ entry_text scale bytes label.now) }
+    ensures appended { Appends (entry_text scale bytes label.now) out.old out.new result }
     ensures kept { Extends out.old.items out.new.items }
 {
     put_share(scale, bytes, out)?;
@@ -50,8 +50,7 @@ pub(crate) fn put_gathered(
     out: &mut Vec<u8>,
 ) -> Result<(), NoMemory>
     requires threshold { scale.threshold ≤ 10000 }
-    ensures appended { OnOk result
-        (out.new.items ≡ out.old.items ++ entry_text scale bytes (gathered_label scale places)) }
+    ensures appended { Appends (entry_text scale bytes (gathered_label scale places)) out.old out.new result }
     ensures kept { Extends out.old.items out.new.items }
 {
     put_share(scale, bytes, out)?;
@@ -64,7 +63,7 @@ pub(crate) fn put_gathered(
 /// Appends what stands before an entry's label.
 #[tactic(auto, unfolding(crate::specs::Entries::share_text))]
 fn put_share(scale: Scale, bytes: u64, out: &mut Vec<u8>) -> Result<(), NoMemory>
-    ensures appended { OnOk result (out.new.items ≡ out.old.items ++ share_text scale bytes) }
+    ensures appended { Appends (share_text scale bytes) out.old out.new result }
     ensures kept { Extends out.old.items out.new.items }
 {
     put_percent(out, hundredths(bytes.min(scale.sum), scale.sum))?;
@@ -76,7 +75,7 @@ fn put_share(scale: Scale, bytes: u64, out: &mut Vec<u8>) -> Result<(), NoMemory
 /// Appends how many places are gathered.
 #[tactic(auto, unfolding(crate::specs::Entries::places_text))]
 fn put_places(places: u64, out: &mut Vec<u8>) -> Result<(), NoMemory>
-    ensures appended { OnOk result (out.new.items ≡ out.old.items ++ places_text places) }
+    ensures appended { Appends (places_text places) out.old out.new result }
     ensures kept { Extends out.old.items out.new.items }
 {
     if places == 1 {

@@ -1,8 +1,9 @@
 //! The graph of a page: its rows from the top, and the line below them.
 #![tactic(auto, using(hp_num::proofs::Laws::extends_same, hp_num::proofs::Laws::extends_more, hp_num::proofs::Laws::extends_trans))]
 
-ghost use Rattle.std.specs.Prelude.{◌≡◌, ◌<◌, ◌++◌, All, OnOk, replicate};
+ghost use Rattle.std.specs.Prelude.{◌≡◌, ◌<◌, All, replicate};
 ghost use Rattle.hp_num.specs.Extends.{Extends};
+ghost use Rattle.ms_print.specs.Appends.{Appends};
 ghost use Rattle.ms_print.specs.BarSteps.{AreBars, IsPlotted};
 ghost use Rattle.ms_print.specs.GraphText.{axis_text, edge_text, graph_text, row_cells, row_text, rows_text};
 ghost use Rattle.massif_file.specs.declared.profile.TimeUnit.TheVariants.{Bytes};
@@ -30,8 +31,7 @@ pub(crate) fn put_graph(
 ) -> Result<(), NoMemory>
     requires wide { 0 < plot.width }
     requires plotted { All (IsPlotted plot) snaps.now }
-    ensures appended { OnOk result
-        (out.new.items ≡ out.old.items ++ graph_text unit plot snaps.now) }
+    ensures appended { Appends (graph_text unit plot snaps.now) out.old out.new result }
     ensures kept { Extends out.old.items out.new.items }
 {
     put_bytes(out, b"    ")?;
@@ -45,8 +45,7 @@ pub(crate) fn put_graph(
 fn put_rows(alloc: Global, plot: Plot, snaps: &Snaps, out: &mut Vec<u8>) -> Result<(), NoMemory>
     requires wide { 0 < plot.width }
     requires plotted { All (IsPlotted plot) snaps.now }
-    ensures appended { OnOk result
-        (out.new.items ≡ out.old.items ++ rows_text plot snaps.now plot.height) }
+    ensures appended { Appends (rows_text plot snaps.now plot.height) out.old out.new result }
     ensures kept { Extends out.old.items out.new.items }
 {
     let bars = bars_of(alloc, plot, snaps)?;
@@ -69,7 +68,7 @@ fn put_row(
 ) -> Result<(), NoMemory>
     requires bars { AreBars plot snaps.now bars.now }
     requires label { label.now ≡ label_text Bytes plot.peak }
-    ensures appended { OnOk result (out.new.items ≡ out.old.items ++ row_text plot snaps.now y) }
+    ensures appended { Appends (row_text plot snaps.now y) out.old out.new result }
     ensures kept { Extends out.old.items out.new.items }
 {
     put_edge(plot, label, y, out)?;
@@ -81,7 +80,7 @@ fn put_row(
 #[tactic(auto, unfolding(crate::specs::GraphText::edge_text))]
 fn put_edge(plot: Plot, label: &[u8], y: u32, out: &mut Vec<u8>) -> Result<(), NoMemory>
     requires label { label.now ≡ label_text Bytes plot.peak }
-    ensures appended { OnOk result (out.new.items ≡ out.old.items ++ edge_text plot y) }
+    ensures appended { Appends (edge_text plot y) out.old out.new result }
     ensures kept { Extends out.old.items out.new.items }
 {
     if y != plot.height {
@@ -100,7 +99,7 @@ fn put_cells(
     out: &mut Vec<u8>,
 ) -> Result<(), NoMemory>
     requires bars { AreBars plot snaps.now bars.now }
-    ensures appended { OnOk result (out.new.items ≡ out.old.items ++ row_cells plot snaps.now y) }
+    ensures appended { Appends (row_cells plot snaps.now y) out.old out.new result }
     ensures kept { Extends out.old.items out.new.items }
 {
     let mut nearest = None;
@@ -115,7 +114,7 @@ fn put_cells(
 #[tactic(auto, unfolding(crate::specs::GraphText::axis_text))]
 fn put_axis(alloc: Global, unit: TimeUnit, plot: Plot, out: &mut Vec<u8>) -> Result<(), NoMemory>
     requires wide { 0 < plot.width }
-    ensures appended { OnOk result (out.new.items ≡ out.old.items ++ axis_text unit plot) }
+    ensures appended { Appends (axis_text unit plot) out.old out.new result }
     ensures kept { Extends out.old.items out.new.items }
 {
     let width = plot.width as usize - 1;
@@ -130,7 +129,7 @@ fn put_axis(alloc: Global, unit: TimeUnit, plot: Plot, out: &mut Vec<u8>) -> Res
 
 /// Appends so many dashes.
 pub(crate) fn put_dashes(count: usize, out: &mut Vec<u8>) -> Result<(), NoMemory>
-    ensures appended { OnOk result (out.new.items ≡ out.old.items ++ replicate count 45) }
+    ensures appended { Appends (replicate count 45) out.old out.new result }
     ensures kept { Extends out.old.items out.new.items }
 {
     out.reserve(count)?;

@@ -1,7 +1,8 @@
 //! Numbers as a graph labels them: in the greatest unit that isn't above them.
 #![tactic(auto, using(hp_num::proofs::Laws::extends_same, hp_num::proofs::Laws::extends_more, hp_num::proofs::Laws::extends_trans))]
 
-ghost use Rattle.std.specs.Prelude.{◌≡◌, ◌+◌, ◌-◌, ◌<◌, ◌≤◌, ◌^◌, ◌++◌, [], length, OnOk, IfOk, slice_index_or};
+ghost use Rattle.std.specs.Prelude.{◌≡◌, ◌+◌, ◌-◌, ◌<◌, ◌≤◌, ◌^◌, [], length, OnOk, IfOk, slice_index_or};
+ghost use Rattle.ms_print.specs.Appends.{Appends};
 ghost use Rattle.ms_print.specs.Labels.{factor_of, label_text, power_of, power_up_to, scaled_text, three_digits, unit_label, unit_names, without_point};
 
 use hp_num::{NoMemory, put_bytes, put_dec};
@@ -120,7 +121,7 @@ fn put_scaled(size: u64, value: u64, label: &mut Vec<u8>) -> Result<(), NoMemory
 /// Appends a number below 1,000 in three digits.
 fn put_three_digits(n: u64, label: &mut Vec<u8>) -> Result<(), NoMemory>
     requires { n < 1000 }
-    ensures appended { OnOk result (label.new.items ≡ label.old.items ++ three_digits n) }
+    ensures appended { Appends (three_digits n) label.old label.new result }
 {
     let digits = [
         b'0' + (n / 100) as u8,

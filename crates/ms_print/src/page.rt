@@ -1,10 +1,12 @@
 //! The page of a profile, from its title to its last tree.
 #![tactic(auto, using(hp_num::proofs::Laws::extends_same, hp_num::proofs::Laws::extends_more, hp_num::proofs::Laws::extends_trans))]
 
-ghost use Rattle.std.specs.Prelude.{◌≡◌, ◌++◌, OnErr, OnOk};
+ghost use Rattle.std.specs.Prelude.{◌≡◌, OnErr};
 ghost use Rattle.hp_num.specs.Extends.{Extends};
 ghost use Rattle.massif_file.specs.IsWritable.{IsWritable};
-ghost use Rattle.ms_print.specs.PageText.{asked_text, named_line, page_text, title_text};
+ghost use Rattle.ms_print.specs.Appends.{Appends};
+ghost use Rattle.ms_print.specs.PageOf.{page_of};
+ghost use Rattle.ms_print.specs.PageText.{asked_text, named_line, title_text};
 
 use crate::graph::put_graph;
 use crate::options::PageOptions;
@@ -20,10 +22,7 @@ use massif_file::Profile;
 /// The profile must be one that may be written, as every profile is that was read.
 pub fn put_page(options: &PageOptions, profile: &Profile, out: &mut Vec<u8>) -> Result<(), NoMemory>
     requires writable { IsWritable profile.now }
-    ensures appended { OnOk result
-        (out.new.items ≡ out.old.items
-        ++ page_text options.now.threshold options.now.x options.now.y options.now.words
-        profile.now) }
+    ensures appended { Appends (page_of options.now profile.now) out.old out.new result }
     ensures unchanged { OnErr result (out.new.items ≡ out.old.items) }
 {
     let before = out.len();
@@ -38,10 +37,7 @@ pub fn put_page(options: &PageOptions, profile: &Profile, out: &mut Vec<u8>) -> 
 #[tactic(auto, unfolding(crate::specs::PageText::page_text))]
 fn put_all(options: &PageOptions, profile: &Profile, out: &mut Vec<u8>) -> Result<(), NoMemory>
     requires writable { IsWritable profile.now }
-    ensures appended { OnOk result
-        (out.new.items ≡ out.old.items
-        ++ page_text options.now.threshold options.now.x options.now.y options.now.words
-        profile.now) }
+    ensures appended { Appends (page_of options.now profile.now) out.old out.new result }
     ensures kept { Extends out.old.items out.new.items }
 {
     let alloc = *out.allocator();
@@ -55,8 +51,7 @@ fn put_all(options: &PageOptions, profile: &Profile, out: &mut Vec<u8>) -> Resul
 /// Appends the title of the page.
 #[tactic(auto, unfolding(crate::specs::PageText::title_text))]
 fn put_title(words: &[u8], profile: &Profile, out: &mut Vec<u8>) -> Result<(), NoMemory>
-    ensures appended { OnOk result
-        (out.new.items ≡ out.old.items ++ title_text words.now profile.now) }
+    ensures appended { Appends (title_text words.now profile.now) out.old out.new result }
     ensures kept { Extends out.old.items out.new.items }
 {
     put_rule(out)?;
@@ -67,8 +62,7 @@ fn put_title(words: &[u8], profile: &Profile, out: &mut Vec<u8>) -> Result<(), N
 
 /// Appends the command, how the profile was made, and the words that ask for the page.
 fn put_asked(words: &[u8], profile: &Profile, out: &mut Vec<u8>) -> Result<(), NoMemory>
-    ensures appended { OnOk result
-        (out.new.items ≡ out.old.items ++ asked_text words.now profile.now) }
+    ensures appended { Appends (asked_text words.now profile.now) out.old out.new result }
     ensures kept { Extends out.old.items out.new.items }
 {
     put_text(b"Command:            ", profile.cmd.bytes(), out)?;
@@ -78,7 +72,7 @@ fn put_asked(words: &[u8], profile: &Profile, out: &mut Vec<u8>) -> Result<(), N
 
 /// Appends a line of a name and a text.
 fn put_text(name: &[u8], text: &[u8], out: &mut Vec<u8>) -> Result<(), NoMemory>
-    ensures appended { OnOk result (out.new.items ≡ out.old.items ++ named_line name.now text.now) }
+    ensures appended { Appends (named_line name.now text.now) out.old out.new result }
     ensures kept { Extends out.old.items out.new.items }
 {
     put_bytes(out, name)?;

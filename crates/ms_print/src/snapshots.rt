@@ -1,8 +1,9 @@
 //! How many snapshots a page has, and which of them have a tree.
 #![tactic(auto, using(hp_num::proofs::Laws::extends_same, hp_num::proofs::Laws::extends_more, hp_num::proofs::Laws::extends_trans))]
 
-ghost use Rattle.std.specs.Prelude.{◌≡◌, ◌++◌, codes, [], if◌then◌else◌, OnOk};
+ghost use Rattle.std.specs.Prelude.{◌≡◌, codes, [], if◌then◌else◌};
 ghost use Rattle.hp_num.specs.Extends.{Extends};
+ghost use Rattle.ms_print.specs.Appends.{Appends};
 ghost use Rattle.ms_print.specs.SnapshotsText.{has_tree, marked_number, numbers_text, snapshots_text};
 
 use hp_num::{NoMemory, put_bytes, put_dec};
@@ -11,7 +12,7 @@ use massif_file::{HeapTree, Snaps};
 /// Appends how many snapshots there are, and the numbers of those that have a tree. On `NoMemory`, some of it may stand at the end
 /// of `out`.
 pub(crate) fn put_snapshots(snaps: &Snaps, out: &mut Vec<u8>) -> Result<(), NoMemory>
-    ensures appended { OnOk result (out.new.items ≡ out.old.items ++ snapshots_text snaps.now) }
+    ensures appended { Appends (snapshots_text snaps.now) out.old out.new result }
     ensures kept { Extends out.old.items out.new.items }
 {
     put_bytes(out, b"Number of snapshots: ")?;
@@ -24,7 +25,7 @@ pub(crate) fn put_snapshots(snaps: &Snaps, out: &mut Vec<u8>) -> Result<(), NoMe
 /// Appends the numbers of the snapshots that have a tree.
 #[tactic(auto, unfolding(crate::specs::SnapshotsText::numbers_text))]
 fn put_numbers(snaps: &Snaps, out: &mut Vec<u8>) -> Result<(), NoMemory>
-    ensures appended { OnOk result (out.new.items ≡ out.old.items ++ numbers_text snaps.now) }
+    ensures appended { Appends (numbers_text snaps.now) out.old out.new result }
     ensures kept { Extends out.old.items out.new.items }
 {
     let mut is_first = true;
@@ -51,8 +52,7 @@ fn has_tree(mark: HeapTree) -> bool
 
 /// Appends what stands before a number, which is nothing before the first.
 fn put_comma(is_first: bool, out: &mut Vec<u8>) -> Result<(), NoMemory>
-    ensures appended { OnOk result
-        (out.new.items ≡ out.old.items ++ (if is_first then [] else codes ", ")) }
+    ensures appended { Appends (if is_first then [] else codes ", ") out.old out.new result }
     ensures kept { Extends out.old.items out.new.items }
 {
     if is_first {
@@ -63,7 +63,7 @@ fn put_comma(is_first: bool, out: &mut Vec<u8>) -> Result<(), NoMemory>
 
 /// Appends the number of a snapshot with its mark.
 fn put_number(n: u64, mark: HeapTree, out: &mut Vec<u8>) -> Result<(), NoMemory>
-    ensures appended { OnOk result (out.new.items ≡ out.old.items ++ marked_number n mark) }
+    ensures appended { Appends (marked_number n mark) out.old out.new result }
     ensures kept { Extends out.old.items out.new.items }
 {
     put_dec(out, n)?;

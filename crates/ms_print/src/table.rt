@@ -1,11 +1,12 @@
 //! The table of a page: a row for each snapshot, and its tree.
 #![tactic(auto, using(hp_num::proofs::Laws::extends_same, hp_num::proofs::Laws::extends_more, hp_num::proofs::Laws::extends_trans))]
 
-ghost use Rattle.std.specs.Prelude.{◌≡◌, ◌≤◌, ◌++◌, All, OnOk};
+ghost use Rattle.std.specs.Prelude.{◌≡◌, ◌≤◌, All};
 ghost use Rattle.hp_num.specs.Extends.{Extends};
 ghost use Rattle.massif_file.specs.IsRight.{IsTreeOf};
 ghost use Rattle.massif_file.specs.IsWritable.{IsWritableSnap};
 ghost use Rattle.massif_file.specs.Trees.{IsTree};
+ghost use Rattle.ms_print.specs.Appends.{Appends};
 ghost use Rattle.ms_print.specs.Rows.{HasTree};
 ghost use Rattle.ms_print.specs.TableText.{below_row, column_text, head_before, head_text, number_column, rule_line, snap_row, snap_tree, table_text, time_head};
 
@@ -32,8 +33,7 @@ pub(crate) fn put_table(
     requires threshold { threshold ≤ 10000 }
     requires numbers { All IsWritableSnap snaps.now }
     requires trees { All HasTree snaps.now }
-    ensures appended { OnOk result
-        (out.new.items ≡ out.old.items ++ table_text threshold unit snaps.now) }
+    ensures appended { Appends (table_text threshold unit snaps.now) out.old out.new result }
     ensures kept { Extends out.old.items out.new.items }
 {
     put_head(unit, out)?;
@@ -57,8 +57,7 @@ fn put_below(
     requires threshold { threshold ≤ 10000 }
     requires numbers { IsWritableSnap snap.now }
     requires tree { IsTreeOf snap.now.mark snap.now.tree }
-    ensures appended { OnOk result
-        (out.new.items ≡ out.old.items ++ below_row threshold unit snap.now snap.now.mark later) }
+    ensures appended { Appends (below_row threshold unit snap.now snap.now.mark later) out.old out.new result }
     ensures kept { Extends out.old.items out.new.items }
 {
     match snap.mark {
@@ -85,7 +84,7 @@ fn put_snap_tree(
     requires threshold { threshold ≤ 10000 }
     requires numbers { IsWritableSnap snap.now }
     requires tree { IsTree snap.now.tree }
-    ensures appended { OnOk result (out.new.items ≡ out.old.items ++ snap_tree threshold snap.now) }
+    ensures appended { Appends (snap_tree threshold snap.now) out.old out.new result }
     ensures kept { Extends out.old.items out.new.items }
 {
     let sum = sum_of(snap);
@@ -96,7 +95,7 @@ fn put_snap_tree(
 /// Appends the heads of the columns, where rows follow.
 #[tactic(auto, unfolding(crate::specs::TableText::head_before))]
 fn put_head_before(unit: TimeUnit, later: usize, out: &mut Vec<u8>) -> Result<(), NoMemory>
-    ensures appended { OnOk result (out.new.items ≡ out.old.items ++ head_before unit later) }
+    ensures appended { Appends (head_before unit later) out.old out.new result }
     ensures kept { Extends out.old.items out.new.items }
 {
     if later == 0 {
@@ -107,7 +106,7 @@ fn put_head_before(unit: TimeUnit, later: usize, out: &mut Vec<u8>) -> Result<()
 
 /// Appends the heads of the columns, between two rules.
 fn put_head(unit: TimeUnit, out: &mut Vec<u8>) -> Result<(), NoMemory>
-    ensures appended { OnOk result (out.new.items ≡ out.old.items ++ head_text unit) }
+    ensures appended { Appends (head_text unit) out.old out.new result }
     ensures kept { Extends out.old.items out.new.items }
 {
     put_rule(out)?;
@@ -123,7 +122,7 @@ fn put_head(unit: TimeUnit, out: &mut Vec<u8>) -> Result<(), NoMemory>
 /// Appends a line of 80 dashes.
 #[tactic(auto, unfolding(crate::specs::TableText::rule_line))]
 pub(crate) fn put_rule(out: &mut Vec<u8>) -> Result<(), NoMemory>
-    ensures appended { OnOk result (out.new.items ≡ out.old.items ++ rule_line) }
+    ensures appended { Appends rule_line out.old out.new result }
     ensures kept { Extends out.old.items out.new.items }
 {
     put_dashes(RULE, out)?;
@@ -145,7 +144,7 @@ fn time_head(unit: TimeUnit) -> &'static [u8]
 /// Appends the row of a snapshot with its number.
 fn put_row(n: u64, snap: &Snap, out: &mut Vec<u8>) -> Result<(), NoMemory>
     requires numbers { IsWritableSnap snap.now }
-    ensures appended { OnOk result (out.new.items ≡ out.old.items ++ snap_row n snap.now) }
+    ensures appended { Appends (snap_row n snap.now) out.old out.new result }
     ensures kept { Extends out.old.items out.new.items }
 {
     put_number(n, out)?;
@@ -159,7 +158,7 @@ fn put_row(n: u64, snap: &Snap, out: &mut Vec<u8>) -> Result<(), NoMemory>
 
 /// Appends the number of a snapshot, in the first column.
 fn put_number(n: u64, out: &mut Vec<u8>) -> Result<(), NoMemory>
-    ensures appended { OnOk result (out.new.items ≡ out.old.items ++ number_column n) }
+    ensures appended { Appends (number_column n) out.old out.new result }
     ensures kept { Extends out.old.items out.new.items }
 {
     let mut digits = Vec::new(*out.allocator());
@@ -170,7 +169,7 @@ fn put_number(n: u64, out: &mut Vec<u8>) -> Result<(), NoMemory>
 /// Appends a number in a column of this width.
 #[tactic(auto, unfolding(crate::specs::TableText::column_text))]
 fn put_column(width: usize, n: u64, out: &mut Vec<u8>) -> Result<(), NoMemory>
-    ensures appended { OnOk result (out.new.items ≡ out.old.items ++ column_text width n) }
+    ensures appended { Appends (column_text width n) out.old out.new result }
     ensures kept { Extends out.old.items out.new.items }
 {
     let mut digits = Vec::new(*out.allocator());

@@ -1,14 +1,14 @@
 //! The tree of a snapshot, written without recursion: what is still to be written is a list, the next entry last.
 #![tactic(auto, using(hp_num::proofs::Laws::extends_same, hp_num::proofs::Laws::extends_more, hp_num::proofs::Laws::extends_trans))]
 
-ghost use Rattle.std.specs.Prelude.{◌≡◌, ◌≤◌, ◌<◌, ◌++◌, [], length, OnOk, reverse};
+ghost use Rattle.std.specs.Prelude.{◌≡◌, ◌≤◌, ◌<◌, length, OnOk, reverse};
 ghost use Rattle.hp_num.specs.Extends.{Extends};
 ghost use Rattle.massif_file.specs.Trees.{IsTree};
-ghost use Rattle.ms_print.specs.Ends.{AreEnds, AreWhole, children_at};
-ghost use Rattle.ms_print.specs.Pendings.{AreRoots, IsHeld, bar_before, blank_below, entry_bytes, entry_children, entry_label};
-ghost use Rattle.ms_print.specs.Shown.{shown};
-ghost use Rattle.ms_print.specs.TreeText.{entries_text, entry_line, tree_text};
-ghost use Rattle.ms_print.specs.Entries.{entry_text};
+ghost use Rattle.ms_print.specs.Appends.{Appends};
+ghost use Rattle.ms_print.specs.Ends.{AreEnds, AreWhole};
+ghost use Rattle.ms_print.specs.Pendings.{IsHeld, bar_before, blank_below};
+ghost use Rattle.ms_print.specs.TreeText.{tree_text};
+ghost use Rattle.ms_print.specs.Views.{AreRootsIn, below, line_of, lines_of, what_of};
 
 use crate::children::{Entry, Pending, TreeView, children_into};
 use crate::ends::ends_of;
@@ -26,7 +26,7 @@ pub(crate) fn put_tree(
 ) -> Result<(), NoMemory>
     requires tree { IsTree tree.now }
     requires threshold { scale.threshold ≤ 10000 }
-    ensures appended { OnOk result (out.new.items ≡ out.old.items ++ tree_text scale tree.now) }
+    ensures appended { Appends (tree_text scale tree.now) out.old out.new result }
     ensures kept { Extends out.old.items out.new.items }
 {
     let root = tree.at(0);
@@ -40,9 +40,7 @@ fn put_entries(alloc: Global, scale: Scale, tree: &Tree, out: &mut Vec<u8>) -> R
     requires whole { AreWhole tree.now }
     requires some { 0 < length tree.now }
     requires threshold { scale.threshold ≤ 10000 }
-    ensures appended { OnOk result
-        (out.new.items ≡ out.old.items
-        ++ entries_text scale [] (shown scale (children_at tree.now 0))) }
+    ensures appended { Appends (lines_of scale tree.now) out.old out.new result }
     ensures kept { Extends out.old.items out.new.items }
 {
     let ends = ends_of(alloc, tree)?;
@@ -77,10 +75,7 @@ fn put_line(
 ) -> Result<(), NoMemory>
     requires held { IsHeld tree.now entry }
     requires threshold { scale.threshold ≤ 10000 }
-    ensures appended { OnOk result
-        (out.new.items ≡ out.old.items
-        ++ entry_line scale prefix.now (entry_bytes tree.now entry)
-        (entry_label scale tree.now entry)) }
+    ensures appended { Appends (line_of scale prefix.now tree.now entry) out.old out.new result }
     ensures kept { Extends out.old.items out.new.items }
 {
     put_bytes(out, prefix)?;
@@ -93,9 +88,7 @@ fn put_line(
 fn put_what(scale: Scale, tree: &Tree, entry: Entry, out: &mut Vec<u8>) -> Result<(), NoMemory>
     requires held { IsHeld tree.now entry }
     requires threshold { scale.threshold ≤ 10000 }
-    ensures appended { OnOk result
-        (out.new.items ≡ out.old.items
-        ++ entry_text scale (entry_bytes tree.now entry) (entry_label scale tree.now entry)) }
+    ensures appended { Appends (what_of scale tree.now entry) out.old out.new result }
     ensures kept { Extends out.old.items out.new.items }
 {
     match entry {
@@ -129,11 +122,8 @@ fn put_below(
     requires ends { AreEnds view.now.tree.now 0 view.now.ends.now }
     requires held { IsHeld view.now.tree.now entry }
     ensures roots { OnOk result
-        (AreRoots view.now.scale view.now.tree.now (length prefix.now) children.new.items
-        (entry_children view.now.scale view.now.tree.now entry)) }
-    ensures appended { OnOk result
-        (out.new.items ≡ out.old.items
-        ++ blank_below (entry_children view.now.scale view.now.tree.now entry) prefix.now) }
+        (AreRootsIn view.now (length prefix.now) children.new.items (below view.now entry)) }
+    ensures appended { Appends (blank_below (below view.now entry) prefix.now) out.old out.new result }
     ensures kept { Extends out.old.items out.new.items }
 {
     children_into(view, entry, prefix.len(), children)?;
@@ -146,8 +136,7 @@ fn put_below(
 
 /// Moves the children to the end of what is pending, the first one last.
 fn push_reversed(children: &mut Vec<Pending>, pending: &mut Vec<Pending>) -> Result<(), NoMemory>
-    ensures appended { OnOk result
-        (pending.new.items ≡ pending.old.items ++ reverse children.old.items) }
+    ensures appended { Appends (reverse children.old.items) pending.old pending.new result }
 {
     'each_child: while let Some(child) = children.pop() {
         pending.push(child)?;
