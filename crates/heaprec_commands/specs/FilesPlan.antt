@@ -1,10 +1,13 @@
 -- Reading the files of a recording, one after another, and the job that they say. The modules file
 -- comes first, and then the scripts, each of them the next thread's; then what is done with the job
 -- goes on. The job that files of a folder say.
-use Rattle.std.specs.Prelude.{ℕ, ◌+◌, List, [], ◌∷◌, ◌++◌, length, Option, Some, None, unwrap_or}
+use Rattle.std.specs.Prelude.{ℕ, ◌+◌, List, [], ◌∷◌, ◌++◌, length, Option, Some, None, unwrap_or, map}
 use Rattle.hp_outside.specs.Folder.{Folder, file_of}
 use Rattle.hp_outside.specs.Lines.{lines_of}
+use Rattle.std.specs.Option.{option_copied}
+use Rattle.command_frame.specs.declared.desk.Desk.{Desk}
 use Rattle.command_frame.specs.Plan.{Lines, Plan}
+use Rattle.heaprec_commands.specs.declared.files.ScriptFiles.{ScriptFiles}
 use Rattle.record_scripts.specs.Job.{Job}
 use Rattle.heaprec_commands.specs.declared.reader.FileKind.{FileKind}
 use Rattle.heaprec_commands.specs.declared.reader.FileKind.TheVariants.{Modules, Script}
@@ -91,3 +94,8 @@ files_front modules names job = record {
   gives = λ folder. scripts_in folder names (modules_in folder modules job);
   threads = length job.scripts + length names;
 }
+
+-- the files of a run, of whose scripts all may have so many events as its limits say
+abbrev pub front_of : ScriptFiles → Desk → Front
+front_of files desk = files_front (option_copied files.modules)
+    (map (λ name. name.now) files.scripts.now) (no_job desk.limits.order)

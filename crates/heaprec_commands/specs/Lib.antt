@@ -12,3 +12,4 @@ pub mod Answer
 pub mod Recorded
 pub mod Run
 pub mod HeaprecRan
+pub mod RunsOver

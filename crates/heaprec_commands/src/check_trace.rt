@@ -1,8 +1,6 @@
 //! Whether a named trace is a recording of scripts. From which files the scripts come is no part of it.
-ghost use Rattle.std.specs.Prelude.{◌≡◌, ◌-◌, ◌^◌, ◌<◌, [], ◌∷◌};
-ghost use Rattle.command_frame.specs.Plan.{one_file};
-ghost use Rattle.command_frame.specs.RunsTo.{Runs};
-ghost use Rattle.heaprec_commands.specs.CheckReport.{check_report};
+ghost use Rattle.std.specs.Prelude.{◌-◌, ◌^◌, ◌<◌};
+ghost use Rattle.heaprec_commands.specs.RunsOver.{Checks};
 
 use crate::trace_reader::TraceReader;
 use command_frame::{Desk, Halt, run_one_file};
@@ -20,9 +18,8 @@ pub fn check_trace<S: Store, O: Sink>(
     out: &mut O,
 ) -> Result<Vec<u8>, Halt>
     requires { S.opens store.old < 2 ^ 64 - 1 }
-    ensures { Runs S.Store O.Sink desk.now (name.now ∷ [])
-        (one_file name.now (check_report scripts))
-        store.old store.new out.old out.new result }
+    ensures { Checks S.Store O.Sink desk.now name.now scripts store.old store.new out.old out.new
+        result }
 {
     let check = OrderCheck::new(desk.alloc, scripts.share()?)?;
     let reader = TraceReader { check };

@@ -1,9 +1,9 @@
 //! Reading the named files of a recording in their order. What their lines say is the business of the reader.
-ghost use Rattle.std.specs.Prelude.{◌≡◌, ◌+◌, ◌-◌, ◌^◌, ◌<◌, ◌≤◌, length, map};
+ghost use Rattle.std.specs.Prelude.{◌+◌, ◌-◌, ◌^◌, ◌<◌, ◌≤◌, length, map, ◌≡◌};
 ghost use Rattle.std.specs.Option.{option_copied};
 ghost use Rattle.heaprec_commands.specs.declared.reader.FileKind.TheVariants.{Script as ScriptFile};
-ghost use Rattle.heaprec_commands.specs.FileLines.{begun, no_job};
-ghost use Rattle.heaprec_commands.specs.FilesPlan.{file_front, files_front, modules_front, scripts_front};
+ghost use Rattle.heaprec_commands.specs.FileLines.{begun};
+ghost use Rattle.heaprec_commands.specs.FilesPlan.{file_front, front_of, modules_front, scripts_front};
 ghost use Rattle.heaprec_commands.specs.FileStart.{HasLimits};
 ghost use Rattle.heaprec_commands.specs.FrontRead.{ReadsFront};
 
@@ -34,9 +34,7 @@ pub fn read_files<S: Store, O: Sink>(
     requires opens { S.opens store.old < 2 ^ 63 }
     requires some { 1 ≤ length files.now.scripts.now }
     requires few { length files.now.scripts.now ≤ 64 }
-    ensures read { ReadsFront S.Store O.Sink desk.now
-        (files_front (option_copied files.now.modules)
-        (map (λ name. name.now) files.now.scripts.now) (no_job desk.now.limits.order))
+    ensures read { ReadsFront S.Store O.Sink desk.now (front_of files.now desk.now)
         store.old store.new out.old out.new result }
 {
     let mut lines = LineReader::new(desk.alloc, &desk.limits)?;

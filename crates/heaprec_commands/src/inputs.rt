@@ -1,7 +1,8 @@
 //! Names of files that mean standard input.
 ghost use Rattle.std.specs.Prelude.{◌≡◌, ◌<◌, ◌≤◌, length, map};
 ghost use Rattle.std.specs.Option.{option_copied, option_to_list};
-ghost use Rattle.heaprec_commands.specs.RecordWords.{inputs, inputs_in};
+ghost use Rattle.heaprec_commands.specs.RecordWords.{inputs};
+ghost use Rattle.heaprec_commands.specs.Requests.{inputs_named};
 
 /// How many of the names are `-`.
 fn inputs(names: &[&str]) -> usize
@@ -31,8 +32,7 @@ fn input(name: Option<&str>) -> usize
 /// How many of all names are `-`.
 pub fn inputs_in(modules: Option<&str>, scripts: &[&str], trace: Option<&str>) -> usize
     requires { length scripts.now ≤ 64 }
-    ensures { result ≡ inputs_in (option_copied modules.entry) (map (λ name. name.now) scripts.now)
-        (option_copied trace.entry) }
+    ensures { result ≡ inputs_named modules.entry scripts.now trace.entry }
 {
     input(modules) + (inputs(scripts) + input(trace))
 }

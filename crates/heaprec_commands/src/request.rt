@@ -1,8 +1,8 @@
 //! What the words of the recorder ask for.
-ghost use Rattle.std.specs.Prelude.{◌≡◌, ◌≤◌, [], length, Err, IfOk, IfSome, IfNone, None, Some, map, string_bytes};
+ghost use Rattle.std.specs.Prelude.{◌≡◌, [], Err, IfOk, IfSome, IfNone, None, Some, map, string_bytes};
 ghost use Rattle.std.specs.Option.{option_copied};
-ghost use Rattle.heaprec_commands.specs.RecordWords.{record_asked, task_given, trace_of};
-ghost use Rattle.heaprec_commands.specs.Requests.{asked_by, taken_asks, task_by};
+ghost use Rattle.heaprec_commands.specs.RecordWords.{trace_of};
+ghost use Rattle.heaprec_commands.specs.Requests.{NamesFew, NamesSome, asked_by, asked_in, taken_asks, task_by, task_named};
 
 use crate::inputs::inputs_in;
 use command_words::{TakenWords, WordTable, WordsFault, take_words};
@@ -64,12 +64,11 @@ impl<'a> RecordRequest<'a> {
     /// take none.
     pub fn read(alloc: Global, words: &'a [String]) -> Result<RecordRequest<'a>, WordsFault>
         ensures taken { IfOk result
-            (λ request. record_asked (map string_bytes words.entry.now) ≡ Some (asked_by request)) }
-        ensures refused { result ≡ Err WordsFault.NotTaken
-            → record_asked (map string_bytes words.entry.now) ≡ None }
+            (λ request. asked_in words.entry.now ≡ Some (asked_by request)) }
+        ensures refused { result ≡ Err WordsFault.NotTaken → asked_in words.entry.now ≡ None }
         ensures none { map string_bytes words.entry.now ≡ [] → result ≡ Err WordsFault.NotTaken }
-        ensures some { IfOk result (λ request. 1 ≤ length request.scripts.items) }
-        ensures few { IfOk result (λ request. length request.scripts.items ≤ 64) }
+        ensures some { IfOk result NamesSome }
+        ensures few { IfOk result NamesFew }
     {
         if words.is_empty() {
             return Err(WordsFault::NotTaken);
@@ -82,8 +81,8 @@ impl<'a> RecordRequest<'a> {
 /// What a trace to check, if there is one, and the flag for a summary ask for; none where both are there.
 fn task_in<'a>(trace: Option<&'a str>, summary: bool) -> Option<RecordTask<'a>>
     ensures some { IfSome result
-        (λ task. task_given (option_copied trace.entry) summary ≡ Some (task_by task)) }
-    ensures none { IfNone result (task_given (option_copied trace.entry) summary ≡ None) }
+        (λ task. task_named trace.entry summary ≡ Some (task_by task)) }
+    ensures none { IfNone result (task_named trace.entry summary ≡ None) }
 {
     match trace {
         None => Some(RecordTask::Record { summary }),
@@ -97,8 +96,8 @@ fn request_in<'a>(alloc: Global, words: &TakenWords<'a>) -> Result<RecordRequest
     ensures taken { IfOk result
         (λ request. taken_asks words.now ≡ Some (asked_by request)) }
     ensures refused { result ≡ Err WordsFault.NotTaken → taken_asks words.now ≡ None }
-    ensures some { IfOk result (λ request. 1 ≤ length request.scripts.items) }
-    ensures few { IfOk result (λ request. length request.scripts.items ≤ 64) }
+    ensures some { IfOk result NamesSome }
+    ensures few { IfOk result NamesFew }
 {
     let Some(names) = words.files() else {
         return Err(WordsFault::NotTaken);

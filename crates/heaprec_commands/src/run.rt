@@ -1,11 +1,7 @@
 //! The public call of the program: words and files in, the trace of threads or what is said of one, messages and a status out.
-ghost use Rattle.std.specs.Prelude.{◌^◌, ◌<◌, map, string_bytes, IfErr, IfOk};
+ghost use Rattle.std.specs.Prelude.{◌^◌, ◌<◌, IfOk, OnErr};
 ghost use Rattle.std.specs.Process.{exit_status};
-ghost use Rattle.command_frame.specs.FirstFault.{bounds_of};
-ghost use Rattle.command_frame.specs.Outside.{outside};
-ghost use Rattle.command_frame.specs.RunEnds.{HasNotBegun};
-ghost use Rattle.heaprec_commands.specs.HeaprecRan.{HeaprecRan};
-ghost use Rattle.heaprec_commands.specs.Texts.{heaprec_texts as the_texts};
+ghost use Rattle.heaprec_commands.specs.RunsOver.{HasRun, HasRunMain, IsWanting};
 
 use crate::open_gate::OpenGate;
 use crate::run_words::run_words;
@@ -52,9 +48,8 @@ pub fn heaprec_run<R: Threads + Wait + Sync, S: Store, O: Sink, E: Sink, G: Gate
     gate: &G,
 ) -> u8
     requires { S.opens store.old < 2 ^ 63 }
-    ensures { HeaprecRan (bounds_of limits.now) limits.now.order (map string_bytes words.now)
-        (outside S.Store O.Sink E.Sink store.old out.old err.old)
-        (outside S.Store O.Sink E.Sink store.new out.new err.new) result }
+    ensures { HasRun S.Store O.Sink E.Sink limits.now words.now store.old out.old err.old store.new
+        out.new err.new result }
 {
     let desk = Desk {
         alloc,
@@ -76,14 +71,10 @@ pub fn heaprec_main<R: Threads + Wait + Sync, S: Store, O: Sink, E: Sink>(
     err: &mut E,
 ) -> ExitCode
     requires { S.opens store.old < 2 ^ 63 }
-    ensures run { IfOk words.now (λ words.
-        HeaprecRan (record { input = 2 ^ 34; line = 1048576 }) 10000000
-        (map string_bytes words.items)
-        (outside S.Store O.Sink E.Sink store.old out.old err.old)
-        (outside S.Store O.Sink E.Sink store.new out.new err.new) (exit_status result)) }
-    ensures wanting { IfErr words.now (λ fault. HasNotBegun the_texts
-        (outside S.Store O.Sink E.Sink store.old out.old err.old)
-        (outside S.Store O.Sink E.Sink store.new out.new err.new) (exit_status result)) }
+    ensures run { IfOk words.now (HasRunMain S.Store O.Sink E.Sink store.old out.old err.old
+        store.new out.new err.new (exit_status result)) }
+    ensures wanting { OnErr words.now (IsWanting S.Store O.Sink E.Sink store.old out.old err.old
+        store.new out.new err.new (exit_status result)) }
 {
     match words {
         Ok(words) => {

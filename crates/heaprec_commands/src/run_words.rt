@@ -1,12 +1,9 @@
 //! From the words and the files to what is to be delivered. How that is written is the business of the frame.
-ghost use Rattle.std.specs.Prelude.{◌≡◌, ◌^◌, ◌<◌, ◌≤◌, [], length, map, string_bytes, Some};
-ghost use Rattle.command_frame.specs.FirstFault.{bounds_of};
-ghost use Rattle.command_frame.specs.RunsTo.{rest_of, shown, taken};
+ghost use Rattle.std.specs.Prelude.{◌≡◌, ◌^◌, ◌<◌, [], map, string_bytes};
+ghost use Rattle.command_frame.specs.RunsTo.{rest_of};
 ghost use Rattle.command_frame.specs.Texts.{texts_of};
-ghost use Rattle.heaprec_commands.specs.Recorded.{IsRecorded};
-ghost use Rattle.heaprec_commands.specs.RecordWords.{record_asked};
-ghost use Rattle.heaprec_commands.specs.Requests.{asked_by};
-ghost use Rattle.heaprec_commands.specs.Run.{WordsRecord};
+ghost use Rattle.heaprec_commands.specs.Requests.{NamesFew, NamesSome};
+ghost use Rattle.heaprec_commands.specs.RunsOver.{RunsRequest, RunsWords};
 ghost use Rattle.heaprec_commands.specs.Texts.{heaprec_texts};
 
 use crate::check_trace::check_trace;
@@ -34,10 +31,8 @@ pub fn run_words<R: Threads + Wait + Sync, S: Store, O: Sink, G: Gate + Sync>(
 ) -> Result<Vec<u8>, Halt>
     requires opens { S.opens store.old < 2 ^ 63 }
     requires texts { texts_of desk.now.texts ≡ heaprec_texts }
-    ensures run { WordsRecord IsRecorded (bounds_of desk.now.limits) desk.now.limits.order
-        (record_asked (map string_bytes words.now)) (shown S.Store store.old)
-        (shown S.Store store.new)
-        (taken O.Sink out.old) (taken O.Sink out.new) (rest_of heaprec_texts result) }
+    ensures run { RunsWords S.Store O.Sink desk.now words.now store.old store.new out.old out.new
+        result }
     ensures none { map string_bytes words.now ≡ []
         → (rest_of heaprec_texts result).status ≡ 2 }
 {
@@ -59,13 +54,10 @@ fn run_request<R: Threads + Wait + Sync, S: Store, O: Sink, G: Gate + Sync>(
 ) -> Result<Vec<u8>, Halt>
     requires opens { S.opens store.old < 2 ^ 63 }
     requires texts { texts_of desk.now.texts ≡ heaprec_texts }
-    requires some { 1 ≤ length request.now.scripts.items }
-    requires few { length request.now.scripts.items ≤ 64 }
-    ensures { WordsRecord IsRecorded (bounds_of desk.now.limits) desk.now.limits.order
-        (Some (asked_by request.now))
-        (shown S.Store store.old) (shown S.Store store.new) (taken O.Sink out.old)
-        (taken O.Sink out.new)
-        (rest_of heaprec_texts result) }
+    requires some { NamesSome request.now }
+    requires few { NamesFew request.now }
+    ensures { RunsRequest S.Store O.Sink desk.now request.now store.old store.new out.old out.new
+        result }
 {
     let files = ScriptFiles {
         modules: request.modules,

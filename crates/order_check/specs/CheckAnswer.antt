@@ -68,3 +68,10 @@ Tells (Err LineTooLong) = Unit {0}
 Tells (Err InputTooLong) = Unit {0}
 Tells (Err ReadFailed) = ⊥
 Tells (Err NoMemory) = ⊥
+
+-- a file has one answer of these, whatever is left of it
+abbrev pub HasOneAnswer : ℕ → ℕ → Job → List ℕ → Type 0
+HasOneAnswer input line job bytes = (left other_left : Option (List ℕ))
+    (result other : Result Verdict CheckFault) → Tells result → Tells other
+    → CheckAnswer input line job bytes left result
+    → CheckAnswer input line job bytes other_left other → result ≡ other

@@ -1,7 +1,9 @@
 -- A check only reads the current file, and answers by what the store tells of it.
 use Rattle.std.specs.Prelude.{◌≡◌, ◌≢◌, ℕ, Result, Err}
 use Rattle.hp_outside.specs.declared.store.Store as store
+use Rattle.hp_outside.specs.declared.limits.Limits.{Limits}
 use Rattle.hp_outside.specs.Faults.{Rose}
+use Rattle.hp_outside.specs.LineReaderState.{LineReaderState}
 use Rattle.hp_outside.specs.Taken.{WhereTold}
 use Rattle.record_scripts.specs.Job.{Job}
 use Rattle.order_check.specs.declared.verdict.CheckFault.{CheckFault}
@@ -14,6 +16,17 @@ abbrev pub AnswersFile : {S : Type 0} → store.Ghosts S → ℕ → ℕ → Job
     → Result Verdict CheckFault → Type 0
 AnswersFile s input line job old new result = WhereTold (s.left old)
     (λ bytes. CheckAnswer input line job bytes (s.left new) result)
+
+-- the same under the limits of a run, and under those of a reader
+abbrev pub AnswersWithin : {S : Type 0} → store.Ghosts S → Limits → Job → S → S
+    → Result Verdict CheckFault → Type 0
+AnswersWithin s limits job old new result = AnswersFile s limits.input limits.line job old new
+    result
+
+abbrev pub AnswersReader : {S : Type 0} → store.Ghosts S → LineReaderState → Job → S → S
+    → Result Verdict CheckFault → Type 0
+AnswersReader s lines job old new result = AnswersFile s lines.input lines.line_limit job old new
+    result
 
 -- the file is only read, and a call failed exactly where the answer says so
 pub record OnlyReads {S : Type 0} (s : store.Ghosts S) (old new : S)

@@ -72,10 +72,14 @@ abbrev pub at_line : Job → List ℕ → List ℕ → List ℕ → Option Follo
 at_line job order [] line = turn_begun job order (thread_for order line)
 at_line job order (byte ∷ coming) line = Some (at_place order (byte ∷ coming))
 
+-- what stands behind a line and its line feed at the front of a text, where that begins so
+abbrev pub past_line : List ℕ → List ℕ → Option (List ℕ)
+past_line line text = behind (line ++ 10 ∷ []) text
+
 -- behind a line, where it is the one that is to come
 abbrev pub behind_line : List ℕ → Option Following → Option Following
 behind_line line None = None
-behind_line line (Some now) = option_map (at_place now.order) (behind (line ++ 10 ∷ []) now.coming)
+behind_line line (Some now) = option_map (at_place now.order) (past_line line now.coming)
 
 -- one line further
 abbrev pub with_line : Job → Following → List ℕ → Option Following

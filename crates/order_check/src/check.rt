@@ -1,7 +1,7 @@
 //! The check of the current file of a store. What its lines are compared with is no part of it.
 ghost use Rattle.std.specs.Prelude.{◌≡◌, ◌^◌, ◌≤◌, IsTrue};
 ghost use Rattle.std.specs.Arc.{arc_value};
-ghost use Rattle.order_check.specs.CheckedFile.{AnswersFile, OnlyReads};
+ghost use Rattle.order_check.specs.CheckedFile.{AnswersReader, AnswersWithin, OnlyReads};
 ghost use Rattle.hp_outside.specs.NewReader.{IsNewReader};
 ghost use Rattle.order_check.specs.CheckedLines.{end_verdict};
 ghost use Rattle.order_check.specs.NewCheck.{IsNewCheck};
@@ -31,8 +31,7 @@ pub fn check_order<S: Store>(
     store: &mut S,
 ) -> Result<Verdict, CheckFault>
     requires { IsTrue (S.current store.old) }
-    ensures answer { AnswersFile S.Store limits.now.input limits.now.line (arc_value job)
-        store.old store.new result }
+    ensures answer { AnswersWithin S.Store limits.now (arc_value job) store.old store.new result }
     ensures store { OnlyReads S.Store store.old store.new result }
 {
     quiet_modules();
@@ -54,8 +53,7 @@ fn compare_lines<S: Store>(
     requires bounds { lines.old.input ≤ 2 ^ 34 }
     requires new_lines { IsNewReader lines.old }
     requires new_check { IsNewCheck check.old }
-    ensures answer { AnswersFile S.Store lines.old.input lines.old.line_limit check.old.job
-        store.old store.new result }
+    ensures answer { AnswersReader S.Store lines.old check.old.job store.old store.new result }
     ensures store { OnlyReads S.Store store.old store.new result }
 {
     'lines: loop {

@@ -1,10 +1,8 @@
 //! The laws on what the contracts of a check speak of.
-ghost use Rattle.std.specs.Prelude.{◌≡◌, ℕ, ◌≤◌, List, Option, Result, length};
+ghost use Rattle.std.specs.Prelude.{ℕ, ◌≤◌, List, length};
 ghost use Rattle.record_scripts.specs.Job.{Job};
 ghost use Rattle.record_book.specs.Spelled.{AreQuiet};
-ghost use Rattle.order_check.specs.declared.verdict.CheckFault.{CheckFault};
-ghost use Rattle.order_check.specs.declared.verdict.Verdict.{Verdict};
-ghost use Rattle.order_check.specs.CheckAnswer.{CheckAnswer, Tells};
+ghost use Rattle.order_check.specs.CheckAnswer.{HasOneAnswer};
 ghost use Rattle.order_check.specs.FrontLaws.{FrontLaws};
 
 use hp_num::decimal_texts;
@@ -22,8 +20,5 @@ pub fn front_laws()
 /// A file has one answer, but for want of memory and a failed read: so each comes exactly where what it says holds. It does
 /// nothing.
 pub fn one_answer()
-    ensures { (input line : ℕ) (job : Job) (bytes : List ℕ) (left other_left : Option (List ℕ))
-        (result other : Result Verdict CheckFault) → Tells result → Tells other →
-        CheckAnswer input line job bytes left result
-        → CheckAnswer input line job bytes other_left other → result ≡ other }
+    ensures { (input line : ℕ) (job : Job) (bytes : List ℕ) → HasOneAnswer input line job bytes }
 {}

@@ -1,10 +1,10 @@
 //! The check of a trace line by line: what was compared with a recording is let go. Where the lines come from is no part
 //! of it.
-ghost use Rattle.std.specs.Prelude.{◌≡◌, ◌+◌, ◌≤◌, true, false, [], ◌∷◌, ◌++◌, length, drop, None, Some, IfErr, IfOk, OnErr, OnOk};
+ghost use Rattle.std.specs.Prelude.{◌≡◌, ◌+◌, ◌≤◌, true, false, [], length, drop, None, Some, IfErr, IfOk, OnErr, OnOk};
 ghost use Rattle.std.specs.Arc.{arc_value};
-ghost use Rattle.record_book.specs.Spelled.{behind, named};
-ghost use Rattle.order_check.specs.CheckState.{HasTaken, TellsEvents, following_of, line_step, turn_step};
-ghost use Rattle.order_check.specs.Following.{is_empty, thread_for};
+ghost use Rattle.record_book.specs.Spelled.{named};
+ghost use Rattle.order_check.specs.CheckState.{FollowsLine, HasTaken, TellsEvents, following_of, turn_step};
+ghost use Rattle.order_check.specs.Following.{is_empty, past_line, thread_for};
 ghost use Rattle.order_check.specs.KeptTurn.{KeepsOneTurn};
 ghost use Rattle.order_check.specs.TakenLine.{TakesLine};
 
@@ -91,10 +91,7 @@ impl OrderCheck {
 
     // One line further.
     fn step(&mut self, line: &[u8]) -> Result<(), LineRefusal>
-        ensures stepped { OnOk result
-            (line_step self.old line.now ≡ Some (following_of self.new)) }
-        ensures refused { result ≡ Err LineRefusal.NotRecorded
-            → line_step self.old line.now ≡ None }
+        ensures line { FollowsLine self.old self.new line.now result }
         ensures kept { KeepsOneTurn self.old → KeepsOneTurn self.new }
         ensures job { self.new.job ≡ self.old.job }
     {
@@ -107,10 +104,7 @@ impl OrderCheck {
     // Begins the turn that a line calls for, and compares the line; nothing is to come.
     fn begin_with(&mut self, line: &[u8]) -> Result<(), LineRefusal>
         requires { self.old.coming ≡ [] }
-        ensures stepped { OnOk result
-            (line_step self.old line.now ≡ Some (following_of self.new)) }
-        ensures refused { result ≡ Err LineRefusal.NotRecorded
-            → line_step self.old line.now ≡ None }
+        ensures line { FollowsLine self.old self.new line.now result }
         ensures kept { KeepsOneTurn self.new }
         ensures job { self.new.job ≡ self.old.job }
     {
@@ -155,8 +149,8 @@ impl OrderCheck {
     // Compares a line with what is to come.
     fn compare(&mut self, line: &[u8]) -> Result<(), LineRefusal>
         ensures passed { OnOk result
-            (behind (line.now ++ 10 ∷ []) self.old.coming ≡ Some self.new.coming) }
-        ensures refused { OnErr result (behind (line.now ++ 10 ∷ []) self.old.coming ≡ None) }
+            (past_line line.now self.old.coming ≡ Some self.new.coming) }
+        ensures refused { OnErr result (past_line line.now self.old.coming ≡ None) }
         ensures fault { IfErr result (λ refusal. refusal ≡ LineRefusal.NotRecorded) }
         ensures order { self.new.order ≡ self.old.order }
         ensures kept { self.new.kept ≡ self.old.kept }
@@ -174,9 +168,9 @@ impl OrderCheck {
 // Whether a text begins with a line and its line feed.
 fn begins_with_line(text: &[u8], line: &[u8]) -> bool
     ensures begins { result ≡ true
-        → behind (line.now ++ 10 ∷ []) text.now ≡ Some (drop (length line.now + 1) text.now) }
+        → past_line line.now text.now ≡ Some (drop (length line.now + 1) text.now) }
     ensures within { result ≡ true → length line.now + 1 ≤ length text.now }
-    ensures other { result ≡ false → behind (line.now ++ 10 ∷ []) text.now ≡ None }
+    ensures other { result ≡ false → past_line line.now text.now ≡ None }
 {
     let count = line.len();
     if count >= text.len() {

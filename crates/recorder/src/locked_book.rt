@@ -1,10 +1,9 @@
 //! A book behind a lock, and one hold of it.
-ghost use Rattle.std.specs.Prelude.{◌≡◌, ℕ, ◌+◌, ◌<◌, IfOk, IfSome, OnErr, is_none};
-ghost use Rattle.record_book.specs.Actions.{actions};
-ghost use Rattle.record_book.specs.BookState.{HasStepped};
-ghost use Rattle.record_book.specs.HeapPlaces.{AreApart, live_blocks, places_after};
+ghost use Rattle.std.specs.Prelude.{◌≡◌, IfOk, OnErr, is_none};
+ghost use Rattle.record_book.specs.BookState.{TakesFewer};
+ghost use Rattle.record_book.specs.HeapPlaces.{LieApart};
 ghost use Rattle.record_book.specs.Orders.{IsUnder};
-ghost use Rattle.recorder.specs.Ending.{HaveEnded};
+ghost use Rattle.recorder.specs.Ending.{TellsLast};
 ghost use Rattle.recorder.specs.Holds.{IsHold};
 
 use crate::ended::Ended;
@@ -33,8 +32,7 @@ impl Recorder {
     /// The book, as its threads have left it.
     pub fn close(self) -> Book
         ensures under { IsUnder result.job.scripts result.order }
-        ensures apart { AreApart
-            (live_blocks (places_after (actions result.job.scripts result.order))) }
+        ensures apart { LieApart result.job.scripts result.order }
     {
         let book = self.book.into_inner();
         let _order = book.order();
@@ -43,7 +41,7 @@ impl Recorder {
 
     /// Takes the lock for one hold of a thread. It was the last where the answer says that the thread's worker has ended.
     pub(crate) fn hold<R: Wait>(&self, rt: &R, thread: u32) -> Result<Option<Ended>, NoMemory>
-        ensures { IfOk result (λ last. IfSome last (HaveEnded thread (thread + 1))) }
+        ensures { IfOk result (TellsLast thread) }
     {
         take_turns(&mut self.book.lock(rt), thread)
     }
@@ -53,12 +51,10 @@ impl Recorder {
 // script. More may be left where it doesn't say that the worker has ended. On `NoMemory` those that were taken stay.
 fn take_turns(book: &mut Book, thread: u32) -> Result<Option<Ended>, NoMemory>
     ensures job { book.new.job ≡ book.old.job }
-    ensures hold { IfOk result (λ last.
-        IsHold book.old.job.scripts thread book.old.order book.new.order (is_none last)) }
-    ensures ended { IfOk result (λ last. IfSome last (HaveEnded thread (thread + 1))) }
+    ensures hold { IfOk result (λ last. IsHold book.old book.new thread (is_none last)) }
+    ensures ended { IfOk result (TellsLast thread) }
     ensures part { OnErr result
-        ((count : ℕ) × (count < 64)
-        × HasStepped book.old.job.scripts thread count book.old.order book.new.order) }
+        (TakesFewer book.old.job thread 64 book.old.order book.new.order) }
 {
     if thread >= book.threads() {
         return Ok(Some(Ended::one(thread)));
