@@ -1,12 +1,10 @@
 //! The lines of a snapshot's tree over lists of texts, each made of what `cost_tree` shows of it, with no tree beside it.
 //! Which places have lines of their own, and in which order, is `cost_tree`'s part.
-ghost use Rattle.std.specs.Prelude.{◌≡◌, ◌∷◌, [], ◌++◌, ℕ, List, length, slice_index_or, IfOk, OnOk};
+ghost use Rattle.std.specs.Prelude.{◌≡◌, ◌∷◌, [], ◌++◌, ℕ, List, length, IfOk, OnOk};
 ghost use Rattle.cost_tree.specs.Costed.{costed};
-ghost use Rattle.cost_tree.specs.CostLines.{last_of};
 ghost use Rattle.cost_tree.specs.Costs.{AreCosts};
-ghost use Rattle.cost_tree.specs.Texts.{text_of};
-ghost use Rattle.massif_tree.specs.KnownLabels.{HoldTexts};
-ghost use Rattle.massif_tree.specs.MassifTree.{label_of, massif_tree};
+ghost use Rattle.massif_tree.specs.KnownLabels.{HoldTexts, IsLabelNumber, KeepTexts, known_line};
+ghost use Rattle.massif_tree.specs.MassifTree.{massif_tree};
 
 use crate::labels::{put_gathered_label, root_label};
 use crate::lines::labelled;
@@ -115,9 +113,7 @@ fn add_names(made: &mut LabelledTree, names: &Names) -> Result<(), NoMemory>
 /// there are none, and that of the empty label where no text has the number.
 #[inline(always)]
 fn label_number(root: usize, level: usize, number: usize) -> usize
-    ensures label { (texts labels front : List (List ℕ)) → HoldTexts texts root labels
-        → level ≡ length front → text_of texts number ≡ last_of front
-        → slice_index_or labels result [] ≡ label_of front }
+    ensures label { IsLabelNumber root level number result }
 {
     if level == 0 {
         return root;
@@ -136,15 +132,9 @@ fn push_known(
     bytes: u64,
     label: usize,
 ) -> Result<(), NoMemory>
-    ensures held { OnOk result
-        ((texts : List (List ℕ)) (root : ℕ) → HoldTexts texts root made.old.labels
-        → HoldTexts texts root made.new.labels) }
+    ensures held { OnOk result (KeepTexts made.old.labels made.new.labels) }
     ensures line { OnOk result
-        (made.new.lines ≡ made.old.lines ++ record {
-          children = children;
-          bytes = bytes;
-          label = slice_index_or made.old.labels label [];
-        } ∷ []) }
+        (made.new.lines ≡ made.old.lines ++ known_line children bytes made.old.labels label ∷ []) }
 {
     if label < made.label_count() {
         return made.push(children, bytes, label);

@@ -9,8 +9,8 @@ ghost use Rattle.ht_trace.specs.declared.frame.Style.TheVariants.{Addressed};
 ghost use Rattle.ht_trace.specs.FrameText.{frame_text};
 ghost use Rattle.ht_trace.specs.IsFrame.{IsFrame};
 ghost use Rattle.ht_trace.specs.StackFrames.{outer_frames, stack_frames};
-ghost use Rattle.massif_tree.specs.FirstLists.{first_lists, first_texts};
-ghost use Rattle.massif_tree.specs.Whole.{AreWhole, IsWhole};
+ghost use Rattle.massif_tree.specs.FirstLists.{first_lists};
+ghost use Rattle.massif_tree.specs.Whole.{AddsList, AreSaidWhole, IsSaidWhole};
 
 use crate::function_lists::{is_listed, listed_front};
 use crate::options::TreeOptions;
@@ -72,17 +72,13 @@ fn add_stack<A: Fn(&[u8]) -> bool>(
     requires next { length fronts.old ≡ stack }
     requires few { stack < 2 ^ 32 - 1 }
     requires callable { A.IsAlwaysCallable alloc_fns.now.test }
-    requires known { (names : List (List ℕ)) → AreTexts (FnReturnsAt A.Fn alloc_fns.now.test) names
-        → AreWhole tables.now names stack buffers.old.whole.items }
-    ensures added { OnOk result
-        ((names : List (List ℕ)) → AreTexts (FnReturnsAt A.Fn alloc_fns.now.test) names
-        → fronts.old ≡ first_lists tables.now names most stack
-        → fronts.new ≡ fronts.old ++ first_texts tables.now names most stack ∷ []) }
+    requires known { AreSaidWhole (FnReturnsAt A.Fn alloc_fns.now.test) tables.now stack
+        buffers.old.whole.items }
+    ensures added { OnOk result (AddsList (FnReturnsAt A.Fn alloc_fns.now.test) tables.now most stack
+        fronts.old fronts.new) }
     ensures count { OnOk result (length fronts.new ≡ length fronts.old + 1) }
     ensures whole { IfOk result
-        (λ whole. whole ≡ true
-        → (names : List (List ℕ)) → AreTexts (FnReturnsAt A.Fn alloc_fns.now.test) names →
-        IsWhole tables.now names stack) }
+        (λ is. is ≡ true → IsSaidWhole (FnReturnsAt A.Fn alloc_fns.now.test) tables.now stack) }
     ensures kept { buffers.new.whole.items ≡ buffers.old.whole.items }
 {
     let caller = own_frames_into(tables, stack, &mut buffers.frames)?;
@@ -166,11 +162,9 @@ fn lacks_frames<A: Fn(&[u8]) -> bool>(
     requires held { caller ≤ length tables.now.nodes }
     requires callable { A.IsAlwaysCallable alloc_fns.now.test }
     requires known { known ≡ Some true
-        → (names : List (List ℕ)) → AreTexts (FnReturnsAt A.Fn alloc_fns.now.test) names →
-        IsWhole tables.now names caller }
+        → IsSaidWhole (FnReturnsAt A.Fn alloc_fns.now.test) tables.now caller }
     ensures whole { result ≡ false → caller ≢ 0
-        → (names : List (List ℕ)) → AreTexts (FnReturnsAt A.Fn alloc_fns.now.test) names →
-        IsWhole tables.now names caller }
+        → IsSaidWhole (FnReturnsAt A.Fn alloc_fns.now.test) tables.now caller }
 {
     if caller == 0 {
         return false;
