@@ -1,4 +1,4 @@
-use Rattle.std.proofs.Common.{ℕ, ◌++◌, List, take_all, ap, ◌∙◌, arith}
+use Rattle.std.proofs.Common.{◌++◌, List, take_all, ap, ◌∙◌, arith}
 use Rattle.std.specs.List.{flat_map}
 use Rattle.hp_num.proofs.Laws.{extends_trans}
 use Rattle.ht_print.specs.declared.sections.Section.{Section}

@@ -89,7 +89,7 @@ returns-clause-appended c =
     (section_lines layout (unit_of c.args.section) (unsuppressed (suppressed_stacks tables) figures))
     (suppressed_line (sum (suppressed_figures (suppressed_stacks tables) figures)))
     (section_body layout c.args.section figures)
-    (c.in_ok-put_figures-2.ensures.appended
+    (c.in_ok-put_figures.ensures.appended
     ∙ ap (λ (unit : Unit). out ++ section_lines layout unit c.deref.result.now) c.unit-2.ensures
     ∙ ap (λ (fs : List ℕ). out ++ section_lines layout (unit_of c.args.section) fs)
     (c.deref.ensures.value ∙ c.in_ok-kept.ensures.figures ∙ ap (λ (bs : List Bool). unsuppressed bs figures) are))
