@@ -6,7 +6,7 @@
 //!
 //! - `new` makes the empty one, `step` takes the next turn of a thread, `steps` up to 64 of them. At every moment
 //!   `bytes` is the trace of that order (`recorded`), the order is one under the scripts (`IsUnder`), and no two live
-//!   blocks overlap (`AreApart`); both are told by `order`. `into_bytes` gives the trace up without a copy. After
+//!   blocks overlap (`LieApart`); both are told by `order`. `into_bytes` gives the trace up without a copy. After
 //!   `NoMemory` a step leaves the book as it was.
 //! - `TraceStream` is a recording of which a front of the trace may be let go (`let_go`): each `step` appends to the text
 //!   that is kept exactly what it appends to the trace, so who looks at a trace once needs no room for all of it.
