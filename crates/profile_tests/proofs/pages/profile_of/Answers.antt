@@ -10,7 +10,7 @@ pub lines-preserved : goal.lines-preserved
 lines-preserved c =
     let read = c.lines.invariant in (
       _,
-      c.in_ok-line.ensures.stands read.0 read.1,
+      c.in_ok-line.ensures.lines.stands read.0 read.1,
       All-push IsLine _ _ read.2 (c.is_line.ensures c.if-not-is_line.false),
     )
 
