@@ -24,7 +24,7 @@ use Rattle.std.proofs.Common.{
 use Rattle.std.proofs.lemmas.Bool.Decides.{eqb_tells}
 use Rattle.hp_outside.specs.Faults.{Rose}
 use Rattle.hp_outside.specs.Folder.{Folder}
-use Rattle.command_frame.specs.declared.desk.Desk.{Desk}
+use Rattle.command_frame.specs.declared.context.RunContext.{RunContext}
 use Rattle.command_frame.specs.declared.halt.Halt.{Halt}
 use Rattle.command_frame.specs.declared.halt.Message.TheVariants.{OutOfMemory}
 use Rattle.command_frame.specs.declared.halt.Status.TheVariants.{NoMemory}
@@ -52,29 +52,29 @@ status_told text texts (Ok rest) = refl
 status_told text texts (Err halt) = refl
 
 -- a run that writes nothing and doesn't end at status 4
-pub runs_quiet : {R : Type 0} {text : R → List ℕ} (desk : Desk) (names : List (List ℕ)) (plan : Plan)
+pub runs_quiet : {R : Type 0} {text : R → List ℕ} (context : RunContext) (names : List (List ℕ)) (plan : Plan)
     (before now : Shown) (out : Taken) (result : Result R Halt)
     → ((last : List ℕ)
-    → RanTo (texts_of desk.texts) (bounds_of desk.limits) before.files last names plan before.moment now.moment
-    out.written out.written (answer_of text (texts_of desk.texts) result))
+    → RanTo (texts_of context.texts) (bounds_of context.limits) before.files last names plan before.moment now.moment
+    out.written out.written (answer_of text (texts_of context.texts) result))
     → now.files ≡ before.files → status_of result ≢ 4
-    → RunsReady text desk names plan before now out out result
-runs_quiet desk names plan before now out result ran files other =
+    → RunsReady text context names plan before now out out result
+runs_quiet context names plan before now out result ran files other =
     record { ran = ran; files = files; unwritten = λ four. absurd (other four); sound = λ _. refl }
 
 -- another result with the same answer
-pub runs_as : {R Q : Type 0} {text : R → List ℕ} {other : Q → List ℕ} (desk : Desk) (names : List (List ℕ))
+pub runs_as : {R Q : Type 0} {text : R → List ℕ} {other : Q → List ℕ} (context : RunContext) (names : List (List ℕ))
     (plan : Plan) (before now : Shown) (old new : Taken) (result : Result R Halt) (same : Result Q Halt)
     → ((texts : Texts) → answer_of other texts same ≡ answer_of text texts result)
-    → RunsReady text desk names plan before now old new result → RunsReady other desk names plan before now old new same
-runs_as {R} {Q} {text} {other} desk names plan before now old new result same is run =
-    let texts = texts_of desk.texts in
+    → RunsReady text context names plan before now old new result → RunsReady other context names plan before now old new same
+runs_as {R} {Q} {text} {other} context names plan before now old new result same is run =
+    let texts = texts_of context.texts in
     let status : status_of same ≡ status_of result =
     sym (status_told other texts same) ∙ (ap (λ (a : Answer). a.status) (is texts) ∙ status_told text texts result) in
     record {
       ran =
           λ last. subst
-          (λ a. RanTo texts (bounds_of desk.limits) before.files last names plan before.moment now.moment old.written
+          (λ a. RanTo texts (bounds_of context.limits) before.files last names plan before.moment now.moment old.written
           new.written a)
           (sym (is texts)) (run.ran last);
       files = run.files;
@@ -83,51 +83,51 @@ runs_as {R} {Q} {text} {other} desk names plan before now old new result same is
     }
 
 -- memory was wanting before the first file, which is read by lines, was opened
-pub runs_wanting : {R : Type 0} {text : R → List ℕ} (desk : Desk) (name : List ℕ) (names : List (List ℕ))
+pub runs_wanting : {R : Type 0} {text : R → List ℕ} (context : RunContext) (name : List ℕ) (names : List (List ℕ))
     (report : Report) (next : List (List ℕ) → Plan) (store : Shown) (out : Taken) (halt : Halt)
     → halt ≡ record { message = OutOfMemory; status = NoMemory }
-    → RunsReady {R = R} text desk (name ∷ names) (Lines name report next) store store out out (Err halt)
-runs_wanting desk name names report next store out halt is =
-    runs_quiet desk (name ∷ names) (Lines name report next) store store out (Err halt)
-    (λ last. ran_unopened (texts_of desk.texts) (bounds_of desk.limits) store.files last name names report next
-    store.moment out.written (halt_answer (texts_of desk.texts) halt) (ap (halt_answer (texts_of desk.texts)) is))
+    → RunsReady {R = R} text context (name ∷ names) (Lines name report next) store store out out (Err halt)
+runs_wanting context name names report next store out halt is =
+    runs_quiet context (name ∷ names) (Lines name report next) store store out (Err halt)
+    (λ last. ran_unopened (texts_of context.texts) (bounds_of context.limits) store.files last name names report next
+    store.moment out.written (halt_answer (texts_of context.texts) halt) (ap (halt_answer (texts_of context.texts)) is))
     refl (not_four halt is)
 
 -- the same of a result that `?` made of want of memory
-pub runs_wanting_by : {R : Type 0} {text : R → List ℕ} (desk : Desk) (name : List ℕ) (names : List (List ℕ))
+pub runs_wanting_by : {R : Type 0} {text : R → List ℕ} (context : RunContext) (name : List ℕ) (names : List (List ℕ))
     (report : Report) (next : List (List ℕ) → Plan) (store : Shown) (out : Taken) (result : Result R Halt)
     → IsErrAnd result (λ halt. halt ≡ record { message = OutOfMemory; status = NoMemory })
-    → RunsReady text desk (name ∷ names) (Lines name report next) store store out out result
-runs_wanting_by desk name names report next store out (Ok rest) is = absurd is
-runs_wanting_by desk name names report next store out (Err halt) is =
-    runs_wanting desk name names report next store out halt is
+    → RunsReady text context (name ∷ names) (Lines name report next) store store out out result
+runs_wanting_by context name names report next store out (Ok rest) is = absurd is
+runs_wanting_by context name names report next store out (Err halt) is =
+    runs_wanting context name names report next store out halt is
 
 -- a file of which not all lines were taken ends the run
-pub runs_stopped : {R : Type 0} {text : R → List ℕ} (desk : Desk) (name : List ℕ) (names : List (List ℕ))
+pub runs_stopped : {R : Type 0} {text : R → List ℕ} (context : RunContext) (name : List ℕ) (names : List (List ℕ))
     (report : Report) (next : List (List ℕ) → Plan) {has_taken : List (List ℕ) → Type 0} (before now : Shown)
     (old new : Taken) (halt : Halt)
-    → ReadsTo desk name report has_taken before now old new (Err halt)
-    → RunsReady {R = R} text desk (name ∷ names) (Lines name report next) before now old new (Err halt)
-runs_stopped desk name names report next before now old new halt read = record {
+    → ReadsTo context name report has_taken before now old new (Err halt)
+    → RunsReady {R = R} text context (name ∷ names) (Lines name report next) before now old new (Err halt)
+runs_stopped context name names report next before now old new halt read = record {
   ran =
-      λ last. ran_halted (texts_of desk.texts) (bounds_of desk.limits) before.files last name names report next
+      λ last. ran_halted (texts_of context.texts) (bounds_of context.limits) before.files last name names report next
       before.moment now.moment old.written new.written
-      read.end (halt_answer (texts_of desk.texts) halt) read.read read.halts.0 read.halts.1 read.written;
+      read.end (halt_answer (texts_of context.texts) halt) read.read read.halts.0 read.halts.1 read.written;
   files = read.files;
   unwritten = read.unwritten;
   sound = read.sound;
 }
 
 -- behind a file whose lines were all taken the rest of the plan is run
-pub runs_on : {R : Type 0} {text : R → List ℕ} (desk : Desk) (name : List ℕ) (names : List (List ℕ)) (report : Report)
+pub runs_on : {R : Type 0} {text : R → List ℕ} (context : RunContext) (name : List ℕ) (names : List (List ℕ)) (report : Report)
     (next : List (List ℕ) → Plan) {has_taken : List (List ℕ) → Type 0} {all : Unit {0}} (before mid now : Shown)
     (old middle new : Taken) (result : Result R Halt)
-    → ReadsTo desk name report has_taken before mid old middle (Ok all)
-    → ((taken : List (List ℕ)) → has_taken taken → RunsReady text desk names (next taken) mid now middle new result)
-    → RunsReady text desk (name ∷ names) (Lines name report next) before now old new result
-runs_on {text = text} desk name names report next before mid now old middle new result read rest =
-    let texts = texts_of desk.texts in
-    let bounds = bounds_of desk.limits in
+    → ReadsTo context name report has_taken before mid old middle (Ok all)
+    → ((taken : List (List ℕ)) → has_taken taken → RunsReady text context names (next taken) mid now middle new result)
+    → RunsReady text context (name ∷ names) (Lines name report next) before now old new result
+runs_on {text = text} context name names report next before mid now old middle new result read rest =
+    let texts = texts_of context.texts in
+    let bounds = bounds_of context.limits in
     let taken = read.halts.0 in
     let run = rest taken read.halts.1.1 in
     let same : middle.faults ≡ old.faults = read.sound (λ four. omega (arith, four)) in
@@ -161,20 +161,20 @@ judges_fault texts name verdict told halt is answer memory = elim (eqb_tells (st
 ]
 
 -- behind the last file, whose lines were all taken, stands the verdict
-pub runs_to_verdict : {R : Type 0} {text : R → List ℕ} (desk : Desk) (name : List ℕ)
+pub runs_to_verdict : {R : Type 0} {text : R → List ℕ} (context : RunContext) (name : List ℕ)
     (report : Report) {has_taken : List (List ℕ) → Type 0} {all : Unit {0}} (before now : Shown) (old new : Taken)
     (result : Result R Halt)
-    → ReadsTo desk name report has_taken before now old new (Ok all)
+    → ReadsTo context name report has_taken before now old new (Ok all)
     → ((taken : List (List ℕ)) → has_taken taken
-    → Judges (texts_of desk.texts) name (report.verdict taken) (answer_of text (texts_of desk.texts) result))
+    → Judges (texts_of context.texts) name (report.verdict taken) (answer_of text (texts_of context.texts) result))
     → status_of result ≢ 4
-    → RunsReady text desk (name ∷ []) (one_file name report) before now old new result
-runs_to_verdict {text = text} desk name report before now old new result read judges other =
-    let texts = texts_of desk.texts in
+    → RunsReady text context (name ∷ []) (one_file name report) before now old new result
+runs_to_verdict {text = text} context name report before now old new result read judges other =
+    let texts = texts_of context.texts in
     let same : new.faults ≡ old.faults = read.sound (λ four. omega (arith, four)) in
     record {
       ran =
-          λ last. ran_on texts (bounds_of desk.limits) before.files last name [] report
+          λ last. ran_on texts (bounds_of context.limits) before.files last name [] report
           (λ lines. Ends (report.verdict lines)) before.moment now.moment now.moment old.written new.written
           read.end read.halts.0 (answer_of text texts result) read.read read.halts.1.0 read.written
           (refl, judges read.halts.0 read.halts.1.1);
@@ -184,26 +184,26 @@ runs_to_verdict {text = text} desk name report before now old new result read ju
     }
 
 -- a document whose bytes weren't given ends the run, and behind one that was given stands the verdict
-pub runs_unread : {R : Type 0} {text : R → List ℕ} (desk : Desk) (name : List ℕ) (names : List (List ℕ))
+pub runs_unread : {R : Type 0} {text : R → List ℕ} (context : RunContext) (name : List ℕ) (names : List (List ℕ))
     (next : List ℕ → Plan) (before now : Shown) (out : Taken) (halt : Halt)
-    → WholeReadTo desk name before now (Err halt)
-    → RunsReady {R = R} text desk (name ∷ names) (Document name next) before now out out (Err halt)
-runs_unread desk name names next before now out halt read =
-    runs_quiet desk (name ∷ names) (Document name next) before now out (Err halt)
-    (λ last. ran_unread (texts_of desk.texts) (bounds_of desk.limits) before.files last name names next before.moment
+    → WholeReadTo context name before now (Err halt)
+    → RunsReady {R = R} text context (name ∷ names) (Document name next) before now out out (Err halt)
+runs_unread context name names next before now out halt read =
+    runs_quiet context (name ∷ names) (Document name next) before now out (Err halt)
+    (λ last. ran_unread (texts_of context.texts) (bounds_of context.limits) before.files last name names next before.moment
     now.moment out.written
-    read.end (halt_answer (texts_of desk.texts) halt) read.read read.gives.0 read.gives.1)
+    read.end (halt_answer (texts_of context.texts) halt) read.read read.gives.0 read.gives.1)
     read.files read.no_write
 
-pub runs_to_judgement : {R : Type 0} {text : R → List ℕ} (desk : Desk) (name : List ℕ) (verdict : List ℕ → Verdict)
+pub runs_to_judgement : {R : Type 0} {text : R → List ℕ} (context : RunContext) (name : List ℕ) (verdict : List ℕ → Verdict)
     (bytes : List ℕ) (before now : Shown) (out : Taken) (result : Result R Halt)
-    → WholeReadTo desk name before now (Ok bytes)
-    → Judges (texts_of desk.texts) name (verdict bytes) (answer_of text (texts_of desk.texts) result)
+    → WholeReadTo context name before now (Ok bytes)
+    → Judges (texts_of context.texts) name (verdict bytes) (answer_of text (texts_of context.texts) result)
     → status_of result ≢ 4
-    → RunsReady text desk (name ∷ []) (one_document name verdict) before now out out result
-runs_to_judgement {text = text} desk name verdict bytes before now out result read judges other =
-    runs_quiet desk (name ∷ []) (one_document name verdict) before now out result
-    (λ last. ran_on_with (texts_of desk.texts) (bounds_of desk.limits) before.files last name []
+    → RunsReady text context (name ∷ []) (one_document name verdict) before now out out result
+runs_to_judgement {text = text} context name verdict bytes before now out result read judges other =
+    runs_quiet context (name ∷ []) (one_document name verdict) before now out result
+    (λ last. ran_on_with (texts_of context.texts) (bounds_of context.limits) before.files last name []
     (λ bytes. Ends (verdict bytes)) before.moment now.moment now.moment out.written
-    read.end bytes (answer_of text (texts_of desk.texts) result) read.read read.gives (refl, judges))
+    read.end bytes (answer_of text (texts_of context.texts) result) read.read read.gives (refl, judges))
     read.files other

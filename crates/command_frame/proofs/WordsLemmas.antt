@@ -18,7 +18,7 @@ use Rattle.std.proofs.Common.{
   inr,
   arith,
 }
-use Rattle.command_frame.specs.declared.desk.Desk.{Desk}
+use Rattle.command_frame.specs.declared.context.RunContext.{RunContext}
 use Rattle.command_frame.specs.declared.halt.Halt.{Halt}
 use Rattle.command_frame.specs.Answer.{Answer, after, memory_answer, usage_answer}
 use Rattle.command_frame.specs.FirstFault.{Bounds, bounds_of}
@@ -31,32 +31,32 @@ use Rattle.command_frame.proofs.OutputLemmas.{append_nothing}
 use Rattle.command_frame.proofs.RunsToLemmas.{status_told}
 
 -- a task was run
-pub words_ran : {R : Type 0} {text : R → List ℕ} (desk : Desk) (texts : Texts) (task : Task) (asking : Option Task)
+pub words_ran : {R : Type 0} {text : R → List ℕ} (context : RunContext) (texts : Texts) (task : Task) (asking : Option Task)
     (before now : Shown) (old new : Taken) (result : Result R Halt) (answer : Answer)
-    → texts_of desk.texts ≡ texts → asking ≡ Some task → answer ≡ answer_of text texts result
-    → RunsReady text desk task.names task.plan before now old new result
-    → WordsRunTo texts (bounds_of desk.limits) asking before now old new answer
-words_ran {text = text} desk texts task asking before now old new result answer same asks is ran =
+    → texts_of context.texts ≡ texts → asking ≡ Some task → answer ≡ answer_of text texts result
+    → RunsReady text context task.names task.plan before now old new result
+    → WordsRunTo texts (bounds_of context.limits) asking before now old new answer
+words_ran {text = text} context texts task asking before now old new result answer same asks is ran =
     let whole = ran.ran [] in
-    let given : answer_of text (texts_of desk.texts) result ≡ answer =
+    let given : answer_of text (texts_of context.texts) result ≡ answer =
     ap (λ t. answer_of text t result) same ∙ sym is in
     let status : status_of result ≡ answer.status =
-    sym (status_told text (texts_of desk.texts) result) ∙ ap (λ (a : Answer). a.status) given in
+    sym (status_told text (texts_of context.texts) result) ∙ ap (λ (a : Answer). a.status) given in
     record {
       early = whole.0;
       written = whole.1.0;
       ran =
-          subst (λ o. WordsRan texts (bounds_of desk.limits) before.files o before.moment now.moment
+          subst (λ o. WordsRan texts (bounds_of context.limits) before.files o before.moment now.moment
           (after whole.0 answer)) (sym
           asks)
           (inr
           (subst
-          (λ a. Ran texts (bounds_of desk.limits) before.files [] task.names task.plan before.moment now.moment
+          (λ a. Ran texts (bounds_of context.limits) before.files [] task.names task.plan before.moment now.moment
           (after whole.0 a))
           given
           (subst
-          (λ t. Ran t (bounds_of desk.limits) before.files [] task.names task.plan before.moment now.moment
-          (after whole.0 (answer_of text (texts_of desk.texts) result)))
+          (λ t. Ran t (bounds_of context.limits) before.files [] task.names task.plan before.moment now.moment
+          (after whole.0 (answer_of text (texts_of context.texts) result)))
           same whole.1.1)));
       files = ran.files;
       unwritten = λ four. ran.unwritten (status ∙ four);

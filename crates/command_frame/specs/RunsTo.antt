@@ -7,7 +7,7 @@ use Rattle.hp_outside.specs.declared.store.Store as store
 use Rattle.hp_outside.specs.declared.sink.Sink as sink
 use Rattle.hp_outside.specs.Faults.{Rose}
 use Rattle.hp_outside.specs.Folder.{Folder}
-use Rattle.command_frame.specs.declared.desk.Desk.{Desk}
+use Rattle.command_frame.specs.declared.context.RunContext.{RunContext}
 use Rattle.command_frame.specs.declared.halt.Halt.{Halt}
 use Rattle.command_frame.specs.declared.pair.PairNames.{PairNames}
 use Rattle.command_frame.specs.Answer.{Answer, done}
@@ -59,90 +59,90 @@ abbrev pub rest_of : {Z : Type 0} → Texts → Result (Vec ℕ Z) Halt → Answ
 rest_of texts result = answer_of vec_items texts result
 
 -- a named file was read by lines: how that ended, and that writes failed exactly where the status says so
-pub record ReadsTo (desk : Desk) (name : List ℕ) (report : Report)
+pub record ReadsTo (context : RunContext) (name : List ℕ) (report : Report)
     (has_taken : List (List ℕ) → Type 0)
     (before now : Shown) (old new : Taken) (result : Result (Unit {0}) Halt) : Type 0 where
   pub end : FileEnd
-  pub read : FileRead (bounds_of desk.limits) before.files name report before.moment now.moment end
-  pub halts : HaltsAt (texts_of desk.texts) name has_taken end result
+  pub read : FileRead (bounds_of context.limits) before.files name report before.moment now.moment end
+  pub halts : HaltsAt (texts_of context.texts) name has_taken end result
   pub written : new.written ≡ append_known old.written (end_output report end)
   pub files : now.files ≡ before.files
   pub unwritten : status_of result ≡ 4 → Rose old.faults new.faults
   pub sound : status_of result ≢ 4 → new.faults ≡ old.faults
 
 -- a named file was read as a whole
-pub record WholeReadTo (desk : Desk) (name : List ℕ) (before now : Shown)
+pub record WholeReadTo (context : RunContext) (name : List ℕ) (before now : Shown)
     (result : Result (List ℕ) Halt)
     : Type 0 where
   pub end : DocumentEnd
-  pub read : DocumentRead (bounds_of desk.limits) before.files name before.moment now.moment end
-  pub gives : GivesWhole (texts_of desk.texts) name end result
+  pub read : DocumentRead (bounds_of context.limits) before.files name before.moment now.moment end
+  pub gives : GivesWhole (texts_of context.texts) name end result
   pub files : now.files ≡ before.files
   pub no_write : status_of result ≢ 4
 
 -- a plan was run over files of these names, whatever file was read last before it, and gave a text of these bytes that is ready to
 -- be written
-pub record RunsReady {R : Type 0} (bytes : R → List ℕ) (desk : Desk) (names : List (List ℕ))
+pub record RunsReady {R : Type 0} (bytes : R → List ℕ) (context : RunContext) (names : List (List ℕ))
     (plan : Plan) (before now : Shown) (old new : Taken) (result : Result R Halt) : Type 0 where
   pub ran : (last : List ℕ)
-      → RanTo (texts_of desk.texts) (bounds_of desk.limits) before.files last names plan
+      → RanTo (texts_of context.texts) (bounds_of context.limits) before.files last names plan
       before.moment now.moment old.written new.written
-      (answer_of bytes (texts_of desk.texts) result)
+      (answer_of bytes (texts_of context.texts) result)
   pub files : now.files ≡ before.files
   pub unwritten : status_of result ≡ 4 → Rose old.faults new.faults
   pub sound : status_of result ≢ 4 → new.faults ≡ old.faults
 
 -- the same, and the text is held
-abbrev pub RunsTo : {Z : Type 0} → Desk → List (List ℕ) → Plan → Shown → Shown → Taken → Taken
+abbrev pub RunsTo : {Z : Type 0} → RunContext → List (List ℕ) → Plan → Shown → Shown → Taken → Taken
     → Result (Vec ℕ Z) Halt → Type 0
-RunsTo desk names plan before now old new result =
-    RunsReady vec_items desk names plan before now old new result
+RunsTo context names plan before now old new result =
+    RunsReady vec_items context names plan before now old new result
 
 -- the four, of a store and an output before it and after it
-abbrev pub Reads : {S O : Type 0} → store.Ghosts S → sink.Ghosts O → Desk → List ℕ → Report
+abbrev pub Reads : {S O : Type 0} → store.Ghosts S → sink.Ghosts O → RunContext → List ℕ → Report
     → (List (List ℕ) → Type 0) → S → S → O → O → Result (Unit {0}) Halt → Type 0
-Reads s o desk name report has_taken before now old new result =
-    ReadsTo desk name report has_taken (shown s before) (shown s now) (taken o old) (taken o new)
+Reads s o context name report has_taken before now old new result =
+    ReadsTo context name report has_taken (shown s before) (shown s now) (taken o old) (taken o new)
     result
 
-abbrev pub ReadsWhole : {S : Type 0} → store.Ghosts S → Desk → List ℕ → S → S → Result (List ℕ) Halt
+abbrev pub ReadsWhole : {S : Type 0} → store.Ghosts S → RunContext → List ℕ → S → S → Result (List ℕ) Halt
     → Type 0
-ReadsWhole s desk name before now result = WholeReadTo desk name (shown s before) (shown s now)
+ReadsWhole s context name before now result = WholeReadTo context name (shown s before) (shown s now)
     result
 
-abbrev pub Readies : {S O R : Type 0} → store.Ghosts S → sink.Ghosts O → (R → List ℕ) → Desk
+abbrev pub Readies : {S O R : Type 0} → store.Ghosts S → sink.Ghosts O → (R → List ℕ) → RunContext
     → List (List ℕ) → Plan → S → S → O → O → Result R Halt → Type 0
-Readies s o bytes desk names plan before now old new result =
-    RunsReady bytes desk names plan (shown s before) (shown s now) (taken o old) (taken o new)
+Readies s o bytes context names plan before now old new result =
+    RunsReady bytes context names plan (shown s before) (shown s now) (taken o old) (taken o new)
     result
 
-abbrev pub Runs : {S O Z : Type 0} → store.Ghosts S → sink.Ghosts O → Desk → List (List ℕ) → Plan
+abbrev pub Runs : {S O Z : Type 0} → store.Ghosts S → sink.Ghosts O → RunContext → List (List ℕ) → Plan
     → S → S → O → O → Result (Vec ℕ Z) Halt → Type 0
-Runs s o desk names plan before now old new result =
-    RunsTo desk names plan (shown s before) (shown s now) (taken o old) (taken o new) result
+Runs s o context names plan before now old new result =
+    RunsTo context names plan (shown s before) (shown s now) (taken o old) (taken o new) result
 
 -- a plan of one file by lines was run
-abbrev pub ReadiesFile : {S O R : Type 0} → store.Ghosts S → sink.Ghosts O → (R → List ℕ) → Desk
+abbrev pub ReadiesFile : {S O R : Type 0} → store.Ghosts S → sink.Ghosts O → (R → List ℕ) → RunContext
     → List ℕ → Report → S → S → O → O → Result R Halt → Type 0
-ReadiesFile s o bytes desk name report before now old new result =
-    Readies s o bytes desk (name ∷ []) (one_file name report) before now old new result
+ReadiesFile s o bytes context name report before now old new result =
+    Readies s o bytes context (name ∷ []) (one_file name report) before now old new result
 
 -- a plan of two files by lines was run
-abbrev pub ReadiesPair : {S O R : Type 0} → store.Ghosts S → sink.Ghosts O → (R → List ℕ) → Desk
+abbrev pub ReadiesPair : {S O R : Type 0} → store.Ghosts S → sink.Ghosts O → (R → List ℕ) → RunContext
     → PairNames → Report → (List (List ℕ) → Report) → S → S → O → O → Result R Halt → Type 0
-ReadiesPair s o bytes desk names report next before now old new result =
-    Readies s o bytes desk (names.first.now ∷ names.second.now ∷ [])
+ReadiesPair s o bytes context names report next before now old new result =
+    Readies s o bytes context (names.first.now ∷ names.second.now ∷ [])
     (two_files names.first.now report names.second.now next) before now old new result
 
 -- a plan of one file that is read whole was run beside any output, which isn't touched
-abbrev pub RunsWhole : {S Z : Type 0} → store.Ghosts S → Desk → List ℕ → (List ℕ → Verdict) → S → S
+abbrev pub RunsWhole : {S Z : Type 0} → store.Ghosts S → RunContext → List ℕ → (List ℕ → Verdict) → S → S
     → Result (Vec ℕ Z) Halt → Type 0
-RunsWhole s desk name verdict before now result =
-    (out : Taken) → RunsTo desk (name ∷ []) (one_document name verdict) (shown s before)
+RunsWhole s context name verdict before now result =
+    (out : Taken) → RunsTo context (name ∷ []) (one_document name verdict) (shown s before)
     (shown s now) out out result
 
 -- a plan of a text that is written while it is made was run beside any store, which isn't touched
-abbrev pub RunsPieces : {O Z : Type 0} → sink.Ghosts O → Desk → List ℕ → O → O
+abbrev pub RunsPieces : {O Z : Type 0} → sink.Ghosts O → RunContext → List ℕ → O → O
     → Result (Vec ℕ Z) Halt → Type 0
-RunsPieces o desk text old new result =
-    (store : Shown) → RunsTo desk [] (Pieces text) store store (taken o old) (taken o new) result
+RunsPieces o context text old new result =
+    (store : Shown) → RunsTo context [] (Pieces text) store store (taken o old) (taken o new) result

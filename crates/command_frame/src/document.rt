@@ -5,7 +5,7 @@ ghost use Rattle.command_frame.specs.Report.{Verdict, Writes};
 ghost use Rattle.command_frame.specs.RunsTo.{ReadsWhole, RunsWhole};
 ghost use Rattle.command_frame.specs.Taker.{Refuses};
 
-use crate::desk::Desk;
+use crate::context::RunContext;
 use crate::fault::{Fault, FaultStatus};
 use crate::halt::Halt;
 use crate::taker::LineRefusal;
@@ -47,50 +47,64 @@ impl Fault for TooLong {
 }
 
 /// The halt where the bytes of an open file weren't given.
-fn unread(desk: &Desk, name: &str, fault: WholeFault) -> Halt
-    ensures { HaltsUnread desk.now.texts name.now fault result }
+fn unread(context: &RunContext, name: &str, fault: WholeFault) -> Halt
+    ensures { HaltsUnread context.now.texts name.now fault result }
 {
     match fault {
-        WholeFault::ReadFailed => Halt::unreadable(desk.alloc, &desk.texts, name, fault.text()),
-        WholeFault::InputTooLong => Halt::at_file(desk.alloc, &desk.texts, name, &TooLong),
+        WholeFault::ReadFailed => Halt::unreadable(
+            context.alloc,
+            &context.texts,
+            name,
+            fault.text(),
+        ),
+        WholeFault::InputTooLong => Halt::at_file(context.alloc, &context.texts, name, &TooLong),
         WholeFault::NoMemory => Halt::no_memory(),
     }
 }
 
 /// Opens the named file and reads all its bytes, which are within the limit.
-pub fn read_document<S: Store>(desk: &Desk, name: &str, store: &mut S) -> Result<Bytes, Halt>
+pub fn read_document<S: Store>(
+    context: &RunContext,
+    name: &str,
+    store: &mut S,
+) -> Result<Bytes, Halt>
     requires opens { S.opens store.old < 2 ^ 64 - 1 }
-    ensures read { ReadsWhole S.Store desk.now name.now store.old store.new result }
+    ensures read { ReadsWhole S.Store context.now name.now store.old store.new result }
     ensures within { IfOk result (λ bytes. length bytes ≤ 2 ^ 34) }
 {
     match store.open(name) {
         Ok(()) => {}
-        Err(fault) => return Err(desk.unopened(name, fault)),
+        Err(fault) => return Err(context.unopened(name, fault)),
     }
-    match read_whole(desk.alloc, &desk.limits, store) {
+    match read_whole(context.alloc, &context.limits, store) {
         Ok(bytes) => Ok(bytes),
-        Err(fault) => Err(unread(desk, name, fault)),
+        Err(fault) => Err(unread(context, name, fault)),
     }
 }
 
 /// Reads the named file whole, and makes the output of its bytes. It writes nothing.
 pub fn run_document<D: DocumentReport, S: Store>(
-    desk: &Desk,
+    context: &RunContext,
     name: &str,
     document: &D,
     store: &mut S,
 ) -> Result<Vec<u8>, Halt>
     requires opens { S.opens store.old < 2 ^ 64 - 1 }
-    ensures { RunsWhole S.Store desk.now name.now (D.verdict document.now)
+    ensures { RunsWhole S.Store context.now name.now (D.verdict document.now)
         store.old store.new result }
 {
-    let bytes = match read_document(desk, name, store) {
+    let bytes = match read_document(context, name, store) {
         Ok(bytes) => bytes,
         Err(halt) => return Err(halt),
     };
-    match document.report(desk.alloc, bytes.bytes()) {
+    match document.report(context.alloc, bytes.bytes()) {
         Ok(output) => Ok(output),
-        Err(LineRefusal::Fault(fault)) => Err(Halt::at_file(desk.alloc, &desk.texts, name, &fault)),
+        Err(LineRefusal::Fault(fault)) => Err(Halt::at_file(
+            context.alloc,
+            &context.texts,
+            name,
+            &fault,
+        )),
         Err(LineRefusal::NoMemory) => Err(Halt::no_memory()),
     }
 }

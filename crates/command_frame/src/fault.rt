@@ -22,7 +22,6 @@ pub trait Fault: Drop {
     fn put_text(&self, out: &mut Vec<u8>) -> Result<(), NoMemory>
         ensures { OnOk result (out.new.items ≡ out.old.items ++ (told self.now).text) };
 
-    /// The status of the fault.
     fn status(&self) -> FaultStatus
         ensures { (told self.now).status ≡ result };
 }

@@ -6,7 +6,7 @@ ghost use Rattle.command_frame.specs.TakesFile.{HasLimits, KeepsLimits, MayReadL
 ghost use Rattle.command_frame.specs.RunsTo.{Reads};
 ghost use Rattle.command_frame.specs.Texts.{texts_of};
 
-use crate::desk::Desk;
+use crate::context::RunContext;
 use crate::fault::Fault;
 use crate::halt::Halt;
 use crate::lines::{LinesStop, pass_on, read_through_buffer};
@@ -38,7 +38,7 @@ fn read_current_file<T: LineTaker, S: Store, O: Sink>(
     }
 }
 
-impl Desk {
+impl RunContext {
     /// The halt where a file wasn't opened.
     pub(crate) fn unopened(&self, name: &str, fault: OpenFault) -> Halt
         ensures { HaltsUnopened self.now.texts name.now fault result }
@@ -72,7 +72,7 @@ impl Desk {
 
 /// Opens the named file and takes all its lines.
 pub fn read_named_file<T: LineTaker, S: Store, O: Sink>(
-    desk: &Desk,
+    context: &RunContext,
     lines: &mut LineReader,
     name: &str,
     taker: &mut T,
@@ -80,9 +80,9 @@ pub fn read_named_file<T: LineTaker, S: Store, O: Sink>(
     out: &mut O,
 ) -> Result<(), Halt>
     requires opens { S.opens store.old < 2 ^ 64 - 1 }
-    requires limits { HasLimits lines.old desk.now.limits }
+    requires limits { HasLimits lines.old context.now.limits }
     requires taker { IsNewTaker T.LineTaker taker.old }
-    ensures read { Reads S.Store O.Sink desk.now name.now (T.report taker.old)
+    ensures read { Reads S.Store O.Sink context.now name.now (T.report taker.old)
         (T.has_taken taker.new)
         store.old store.new out.old out.new result }
     ensures limits { KeepsLimits lines.old lines.new }
@@ -91,10 +91,10 @@ pub fn read_named_file<T: LineTaker, S: Store, O: Sink>(
     lines.start();
     match store.open(name) {
         Ok(()) => {}
-        Err(fault) => return Err(desk.unopened(name, fault)),
+        Err(fault) => return Err(context.unopened(name, fault)),
     }
-    match read_current_file(desk.alloc, lines, taker, store, out) {
+    match read_current_file(context.alloc, lines, taker, store, out) {
         Ok(()) => Ok(()),
-        Err(stop) => Err(desk.stopped(name, stop)),
+        Err(stop) => Err(context.stopped(name, stop)),
     }
 }

@@ -204,7 +204,6 @@ fn text_message(
     Ok(message)
 }
 
-/// The message for a fault of a file.
 fn file_message<F: Fault>(
     alloc: Global,
     texts: &ProgramTexts,
@@ -221,7 +220,6 @@ fn file_message<F: Fault>(
     Ok(message)
 }
 
-/// The message for a fault at a line.
 fn line_message<F: Fault>(
     alloc: Global,
     texts: &ProgramTexts,

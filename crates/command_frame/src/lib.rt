@@ -36,12 +36,12 @@
 //! | `pair.rt` | a run over two files |
 //! | `document.rt` | a file that is read whole, and a run over one |
 //! | `text.rt`, `ready_text.rt` | a text that is written while it is made; one that is ready to be written |
-//! | `halt.rt`, `texts.rt`, `desk.rt` | why a run ends early; a program's texts; what a command has at hand |
+//! | `halt.rt`, `texts.rt`, `context.rt` | why a run ends early; a program's texts; what a command has at hand |
 //! | `delivery.rt` | both outputs, and the status |
 #![tactic(auto)]
 
+mod context;
 mod delivery;
-mod desk;
 mod document;
 mod fault;
 mod files;
@@ -56,8 +56,8 @@ mod taker;
 mod text;
 mod texts;
 
+pub use context::RunContext;
 pub use delivery::deliver;
-pub use desk::Desk;
 pub use document::{DocumentReport, read_document, run_document};
 pub use fault::{Fault, FaultStatus};
 pub use files::read_named_file;

@@ -5,7 +5,7 @@ ghost use Rattle.command_frame.specs.Report.{Report};
 ghost use Rattle.command_frame.specs.RunsTo.{ReadiesPair};
 ghost use Rattle.command_frame.specs.Taker.{Reports};
 
-use crate::desk::Desk;
+use crate::context::RunContext;
 use crate::files::read_named_file;
 use crate::halt::Halt;
 use crate::report::LineReport;
@@ -44,7 +44,7 @@ pub struct PairNames<'a> {
 
 /// Takes all lines of the first file and then all lines of the second one, and makes the rest of the output of those.
 pub fn run_pair<P: FilePair, S: Store, O: Sink>(
-    desk: &Desk,
+    context: &RunContext,
     names: &PairNames,
     pair: &P,
     first: P::First,
@@ -53,16 +53,16 @@ pub fn run_pair<P: FilePair, S: Store, O: Sink>(
 ) -> Result<<P::Second as LineReport>::Rest, Halt>
     requires opens { S.opens store.old < 2 ^ 64 - 2 }
     requires taker { IsNewTaker P.First.LineTaker first }
-    ensures { ReadiesPair S.Store O.Sink P.Second.Rest.bytes desk.now names.now
+    ensures { ReadiesPair S.Store O.Sink P.Second.Rest.bytes context.now names.now
         (P.First.report first) (P.second_report pair.now)
         store.old store.new out.old out.new result }
 {
-    let mut lines = LineReader::new(desk.alloc, &desk.limits)?;
+    let mut lines = LineReader::new(context.alloc, &context.limits)?;
     let mut first = first;
-    match read_named_file(desk, &mut lines, names.first, &mut first, store, out) {
+    match read_named_file(context, &mut lines, names.first, &mut first, store, out) {
         Ok(()) => {}
         Err(halt) => return Err(halt),
     }
-    let second = pair.second(desk.alloc, first)?;
-    run_last_file(desk, &mut lines, names.second, second, store, out)
+    let second = pair.second(context.alloc, first)?;
+    run_last_file(context, &mut lines, names.second, second, store, out)
 }

@@ -4,7 +4,7 @@ ghost use Rattle.command_frame.specs.NewTaker.{IsNewTaker};
 ghost use Rattle.command_frame.specs.RunsTo.{ReadiesFile};
 ghost use Rattle.command_frame.specs.TakesFile.{HasLimits};
 
-use crate::desk::Desk;
+use crate::context::RunContext;
 use crate::files::read_named_file;
 use crate::halt::Halt;
 use crate::report::LineReport;
@@ -13,7 +13,7 @@ use hp_outside::{LineReader, Sink, Store};
 
 /// Takes all lines of the named file, and makes the rest of the output of them.
 pub fn run_one_file<T: LineReport, S: Store, O: Sink>(
-    desk: &Desk,
+    context: &RunContext,
     name: &str,
     taker: T,
     store: &mut S,
@@ -21,19 +21,19 @@ pub fn run_one_file<T: LineReport, S: Store, O: Sink>(
 ) -> Result<T::Rest, Halt>
     requires opens { S.opens store.old < 2 ^ 64 - 1 }
     requires taker { IsNewTaker T.LineTaker taker }
-    ensures { ReadiesFile S.Store O.Sink T.Rest.bytes desk.now name.now (T.report taker)
+    ensures { ReadiesFile S.Store O.Sink T.Rest.bytes context.now name.now (T.report taker)
         store.old store.new out.old out.new result }
 {
-    let Ok(mut lines) = LineReader::new(desk.alloc, &desk.limits) else {
+    let Ok(mut lines) = LineReader::new(context.alloc, &context.limits) else {
         taker.close();
         return Err(Halt::no_memory());
     };
-    run_last_file(desk, &mut lines, name, taker, store, out)
+    run_last_file(context, &mut lines, name, taker, store, out)
 }
 
 /// Takes all lines of the last file, and makes the rest of the output of them.
 pub fn run_last_file<T: LineReport, S: Store, O: Sink>(
-    desk: &Desk,
+    context: &RunContext,
     lines: &mut LineReader,
     name: &str,
     taker: T,
@@ -41,22 +41,27 @@ pub fn run_last_file<T: LineReport, S: Store, O: Sink>(
     out: &mut O,
 ) -> Result<T::Rest, Halt>
     requires opens { S.opens store.old < 2 ^ 64 - 1 }
-    requires limits { HasLimits lines.old desk.now.limits }
+    requires limits { HasLimits lines.old context.now.limits }
     requires taker { IsNewTaker T.LineTaker taker }
-    ensures { ReadiesFile S.Store O.Sink T.Rest.bytes desk.now name.now (T.report taker)
+    ensures { ReadiesFile S.Store O.Sink T.Rest.bytes context.now name.now (T.report taker)
         store.old store.new out.old out.new result }
 {
     let mut taker = taker;
-    match read_named_file(desk, lines, name, &mut taker, store, out) {
+    match read_named_file(context, lines, name, &mut taker, store, out) {
         Ok(()) => {}
         Err(halt) => {
             taker.close();
             return Err(halt);
         }
     }
-    match taker.finish(desk.alloc) {
+    match taker.finish(context.alloc) {
         Ok(rest) => Ok(rest),
-        Err(LineRefusal::Fault(fault)) => Err(Halt::at_file(desk.alloc, &desk.texts, name, &fault)),
+        Err(LineRefusal::Fault(fault)) => Err(Halt::at_file(
+            context.alloc,
+            &context.texts,
+            name,
+            &fault,
+        )),
         Err(LineRefusal::NoMemory) => Err(Halt::no_memory()),
     }
 }

@@ -2,7 +2,7 @@
 ghost use Rattle.std.specs.Prelude.{◌≡◌, ◌<◌, ◌++◌, ℕ, List, [], Ok, true, false, OnOk};
 ghost use Rattle.command_frame.specs.RunsTo.{RunsPieces};
 
-use crate::desk::Desk;
+use crate::context::RunContext;
 use crate::halt::Halt;
 use crate::lines::pass_on_piece;
 use hp_num::NoMemory;
@@ -33,14 +33,14 @@ pub trait TextMaker {
 /// Makes a text, and writes it but for the rest that is answered. It holds one piece at a time, and no more of the text than is
 /// written at once.
 pub fn run_text<M: TextMaker, O: Sink>(
-    desk: &Desk,
+    context: &RunContext,
     maker: &mut M,
     out: &mut O,
 ) -> Result<Vec<u8>, Halt>
     requires sound { M.is_sound maker.old }
-    ensures { RunsPieces O.Sink desk.now (M.rest maker.old) out.old out.new result }
+    ensures { RunsPieces O.Sink context.now (M.rest maker.old) out.old out.new result }
 {
-    let mut buffer = Vec::new(desk.alloc);
+    let mut buffer = Vec::new(context.alloc);
     'pieces: loop {
         match maker.piece(&mut buffer) {
             Ok(true) => match pass_on_piece(&mut buffer, out) {

@@ -3,7 +3,7 @@ ghost use Rattle.std.specs.Prelude.{◌≡◌};
 
 use crate::runs::{TEXTS, folder, sink};
 use crate::signs::Signs;
-use command_frame::{Desk, read_named_file};
+use command_frame::{RunContext, read_named_file};
 use hp_num::NoMemory;
 use hp_outside::{Limits, LineReader, MemSink, MemStore};
 use std::alloc::Global;
@@ -22,13 +22,13 @@ fn is_read(
     requires none_called { signs.old.called ≡ 0 }
 {
     let limits = Limits::standard();
-    let desk = Desk {
+    let context = RunContext {
         alloc,
         limits,
         texts: TEXTS,
     };
     let mut lines = LineReader::new(alloc, &limits)?;
-    Ok(read_named_file(&desk, &mut lines, "t", signs, store, out).is_ok())
+    Ok(read_named_file(&context, &mut lines, "t", signs, store, out).is_ok())
 }
 
 /// Reads the file `t`, and asserts what its lines give and how many of them were taken one by one.

@@ -3,7 +3,7 @@ ghost use Rattle.std.specs.Prelude.{◌≡◌};
 
 use crate::echo::Echo;
 use crate::runs::{Answer, Outputs, TEXTS, assert_answer, folder, sound_outputs};
-use command_frame::{Desk, deliver, run_document};
+use command_frame::{RunContext, deliver, run_document};
 use hp_outside::{Limits, MemStore};
 use std::alloc::Global;
 use std::process::Abort;
@@ -46,7 +46,7 @@ const BAD: Case = Case {
 fn status_of(alloc: Global, case: &Case, store: &mut MemStore, outputs: &mut Outputs) -> u8
     requires unopened { store.old.store.opens ≡ 0 }
 {
-    let desk = Desk {
+    let context = RunContext {
         alloc,
         limits: Limits {
             input: case.most.min(99),
@@ -56,7 +56,7 @@ fn status_of(alloc: Global, case: &Case, store: &mut MemStore, outputs: &mut Out
         texts: TEXTS,
     };
     let echo = Echo { refuses: false };
-    let ran = run_document(&desk, case.file, &echo, store);
+    let ran = run_document(&context, case.file, &echo, store);
     deliver(ran, &TEXTS, &mut outputs.out, &mut outputs.err)
 }
 

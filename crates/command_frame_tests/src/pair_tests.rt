@@ -4,7 +4,7 @@ ghost use Rattle.std.specs.Prelude.{◌≡◌};
 use crate::refusing::Refusing;
 use crate::runs::{Answer, Outputs, TEXTS, assert_answer, sound_outputs, two_files};
 use crate::signs::Signs;
-use command_frame::{Desk, PairNames, deliver, run_pair};
+use command_frame::{PairNames, RunContext, deliver, run_pair};
 use hp_outside::{Limits, MemStore};
 use std::alloc::Global;
 use std::process::Abort;
@@ -39,7 +39,7 @@ const BOTH: Case = Case {
 fn status_of(alloc: Global, case: &Case, store: &mut MemStore, outputs: &mut Outputs) -> u8
     requires unopened { store.old.store.opens ≡ 0 }
 {
-    let desk = Desk {
+    let context = RunContext {
         alloc,
         limits: Limits::standard(),
         texts: TEXTS,
@@ -50,7 +50,7 @@ fn status_of(alloc: Global, case: &Case, store: &mut MemStore, outputs: &mut Out
         called: 0,
     };
     let ran = run_pair(
-        &desk,
+        &context,
         &case.names,
         &Refusing,
         signs,

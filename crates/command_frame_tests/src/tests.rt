@@ -3,7 +3,7 @@ ghost use Rattle.std.specs.Prelude.{◌≡◌};
 
 use crate::echo::Echo;
 use crate::runs::{Answer, Outputs, TEXTS, assert_answer, folder, sink, two_files};
-use command_frame::{Desk, deliver, read_named_file, run_one_file};
+use command_frame::{RunContext, deliver, read_named_file, run_one_file};
 use hp_num::{NoMemory, put_bytes};
 use hp_outside::{Limits, LineReader, MemSink, MemStore};
 use std::alloc::Global;
@@ -38,8 +38,8 @@ const SOUND: Case = Case {
     message: "",
 };
 
-fn desk(alloc: Global) -> Desk {
-    Desk {
+fn context(alloc: Global) -> RunContext {
+    RunContext {
         alloc,
         limits: Limits::standard(),
         texts: TEXTS,
@@ -61,7 +61,7 @@ fn status_of(alloc: Global, case: &Case, store: &mut MemStore, outputs: &mut Out
     let echo = Echo {
         refuses: case.refuses,
     };
-    let ran = run_one_file(&desk(alloc), case.file, echo, store, &mut outputs.out);
+    let ran = run_one_file(&context(alloc), case.file, echo, store, &mut outputs.out);
     deliver(ran, &TEXTS, &mut outputs.out, &mut outputs.err)
 }
 
@@ -183,7 +183,7 @@ fn assert_one_piece(
     requires unopened { store.old.store.opens ≡ 0 }
 {
     let echo = Echo { refuses: false };
-    let ran = run_one_file(&desk(alloc), "t", echo, store, out);
+    let ran = run_one_file(&context(alloc), "t", echo, store, out);
     assert!(rt; ran.is_err());
     assert_eq!(rt; out.bytes().len(), 65_540);
     Ok(())
@@ -204,12 +204,12 @@ fn are_read(alloc: Global, store: &mut MemStore, out: &mut MemSink) -> Result<bo
     requires unopened { store.old.store.opens ≡ 0 }
 {
     let mut echo = Echo { refuses: false };
-    let desk = desk(alloc);
-    let mut lines = LineReader::new(alloc, &desk.limits)?;
-    if read_named_file(&desk, &mut lines, "a", &mut echo, store, out).is_err() {
+    let context = context(alloc);
+    let mut lines = LineReader::new(alloc, &context.limits)?;
+    if read_named_file(&context, &mut lines, "a", &mut echo, store, out).is_err() {
         return Ok(false);
     }
-    Ok(read_named_file(&desk, &mut lines, "b", &mut echo, store, out).is_ok())
+    Ok(read_named_file(&context, &mut lines, "b", &mut echo, store, out).is_ok())
 }
 
 /// Asserts that both files are read, and that their lines are written in order.

@@ -1,7 +1,7 @@
 //! Texts that are written while they are made.
 use crate::countdown::Countdown;
 use crate::runs::{TEXTS, sink};
-use command_frame::{Desk, run_text};
+use command_frame::{RunContext, run_text};
 use hp_outside::{Limits, MemSink};
 use std::alloc::Global;
 use std::process::Abort;
@@ -9,13 +9,13 @@ use std::test::Fail;
 
 /// Writes 7,000 lines of ten bytes, and gives how many of their bytes are the rest.
 fn rest_length(alloc: Global, out: &mut MemSink) -> Option<usize> {
-    let desk = Desk {
+    let context = RunContext {
         alloc,
         limits: Limits::standard(),
         texts: TEXTS,
     };
     let mut countdown = Countdown { left: 7_000 };
-    match run_text(&desk, &mut countdown, out) {
+    match run_text(&context, &mut countdown, out) {
         Ok(rest) => Some(rest.len()),
         Err(_) => None,
     }

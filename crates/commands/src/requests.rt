@@ -11,7 +11,7 @@ ghost use Rattle.trace_reports.specs.SummaryReport.{summary_plan};
 ghost use Rattle.commands.specs.ProfilePlans.{convert_plan, page_plan, view_plan};
 ghost use Rattle.commands.specs.ReportPlans.{flame_plan, gen_plan, print_plan};
 
-use command_frame::{Desk, Halt, Paged, ReadyText};
+use command_frame::{Halt, Paged, ReadyText, RunContext};
 use heapsuite_words::{
     ConvertRequest, DhatRequest, DhatViewRequest, FlameRequest, GenRequest, InterpretRequest,
     MassifRequest, PageRequest, PrintRequest, SummaryRequest,
@@ -25,34 +25,34 @@ use trace_reports::{
 
 /// Reads the trace, and gives the text of its summary.
 pub fn summary<S: Store, O: Sink>(
-    desk: &Desk,
+    context: &RunContext,
     request: &SummaryRequest,
     store: &mut S,
     out: &mut O,
 ) -> Result<Vec<u8>, Halt>
     requires { S.opens store.old < 2 ^ 63 }
-    ensures { Runs S.Store O.Sink desk.now (request.now.trace.now ∷ [])
+    ensures { Runs S.Store O.Sink context.now (request.now.trace.now ∷ [])
         (summary_plan request.now.trace.now)
         store.old store.new out.old out.new result }
 {
-    run_summary(desk, request.trace, store, out)
+    run_summary(context, request.trace, store, out)
 }
 
 /// Reads the suppressions file, if there is one, and then the trace, and gives the report.
 pub fn print<S: Store, O: Sink>(
-    desk: &Desk,
+    context: &RunContext,
     request: &PrintRequest,
     store: &mut S,
     out: &mut O,
 ) -> Result<Vec<u8>, Halt>
     requires { S.opens store.old < 2 ^ 63 }
-    ensures { Runs S.Store O.Sink desk.now
+    ensures { Runs S.Store O.Sink context.now
         (names_behind (print_asked_by request.now).suppressions request.now.trace.now)
         (print_plan (print_asked_by request.now))
         store.old store.new out.old out.new result }
 {
     run_print(
-        desk,
+        context,
         request.suppressions,
         request.trace,
         request.options,
@@ -63,60 +63,60 @@ pub fn print<S: Store, O: Sink>(
 
 /// Reads the trace, and gives its flame stacks.
 pub fn flame<S: Store, O: Sink>(
-    desk: &Desk,
+    context: &RunContext,
     request: &FlameRequest,
     store: &mut S,
     out: &mut O,
 ) -> Result<Paged<FlameText>, Halt>
     requires { S.opens store.old < 2 ^ 63 }
-    ensures { Readies S.Store O.Sink ⟦<Paged<FlameText> as ReadyText>⟧.bytes desk.now
+    ensures { Readies S.Store O.Sink ⟦<Paged<FlameText> as ReadyText>⟧.bytes context.now
         (request.now.trace.now ∷ [])
         (flame_plan (flame_asked_by request.now))
         store.old store.new out.old out.new result }
 {
-    run_flame(desk, request.trace, request.cost, store, out)
+    run_flame(context, request.trace, request.cost, store, out)
 }
 
 /// Reads the table of symbols, where one is named, and then the trace, whose interpreted lines it writes while it reads.
 pub fn interpret<S: Store, O: Sink>(
-    desk: &Desk,
+    context: &RunContext,
     request: &InterpretRequest,
     store: &mut S,
     out: &mut O,
 ) -> Result<Vec<u8>, Halt>
     requires { S.opens store.old < 2 ^ 63 }
-    ensures { Runs S.Store O.Sink desk.now
+    ensures { Runs S.Store O.Sink context.now
         (files_with (option_copied request.now.symbols) request.now.trace.now)
         (plan_with (option_copied request.now.symbols) request.now.trace.now)
         store.old store.new out.old out.new result }
 {
-    run_interpret(desk, request.symbols, request.trace, store, out)
+    run_interpret(context, request.symbols, request.trace, store, out)
 }
 
 /// Reads the trace, and gives its profile as a Massif file.
 pub fn massif<S: Store, O: Sink>(
-    desk: &Desk,
+    context: &RunContext,
     request: &MassifRequest,
     store: &mut S,
     out: &mut O,
 ) -> Result<Vec<u8>, Halt>
     requires { S.opens store.old < 2 ^ 63 }
-    ensures { Runs S.Store O.Sink desk.now (request.now.trace.now ∷ [])
+    ensures { Runs S.Store O.Sink context.now (request.now.trace.now ∷ [])
         (massif_plan (massif_asked_by request.now).settings request.now.trace.now)
         store.old store.new out.old out.new result }
 {
-    run_massif(desk, request.trace, &request.settings, store, out)
+    run_massif(context, request.trace, &request.settings, store, out)
 }
 
 /// Reads the Massif file, and gives its page.
 pub fn page<S: Store, O: Sink>(
-    desk: &Desk,
+    context: &RunContext,
     request: &PageRequest,
     store: &mut S,
     out: &mut O,
 ) -> Result<Vec<u8>, Halt>
     requires { S.opens store.old < 2 ^ 63 }
-    ensures { Runs S.Store O.Sink desk.now (request.now.file.now ∷ [])
+    ensures { Runs S.Store O.Sink context.now (request.now.file.now ∷ [])
         (page_plan (page_asked_by request.now))
         store.old store.new out.old out.new result }
 {
@@ -124,64 +124,68 @@ pub fn page<S: Store, O: Sink>(
         size: request.size,
         words: request.words,
     };
-    run_massif_file(desk, request.file, report, store, out)
+    run_massif_file(context, request.file, report, store, out)
 }
 
 /// Reads the trace, and gives its DHAT profile and a line feed.
 pub fn dhat<S: Store, O: Sink>(
-    desk: &Desk,
+    context: &RunContext,
     request: &DhatRequest,
     store: &mut S,
     out: &mut O,
 ) -> Result<Vec<u8>, Halt>
     requires { S.opens store.old < 2 ^ 63 }
-    ensures { Runs S.Store O.Sink desk.now (request.now.trace.now ∷ [])
+    ensures { Runs S.Store O.Sink context.now (request.now.trace.now ∷ [])
         (dhat_plan request.now.trace.now)
         store.old store.new out.old out.new result }
 {
-    run_dhat(desk, request.trace, store, out)
+    run_dhat(context, request.trace, store, out)
 }
 
 /// Writes the trace while it is made but for the rest that is answered, or gives its summary.
-pub fn generated<O: Sink>(desk: &Desk, request: &GenRequest, out: &mut O) -> Result<Vec<u8>, Halt>
-    ensures { (store : Shown) → RunsTo desk.now []
+pub fn generated<O: Sink>(
+    context: &RunContext,
+    request: &GenRequest,
+    out: &mut O,
+) -> Result<Vec<u8>, Halt>
+    ensures { (store : Shown) → RunsTo context.now []
         (gen_plan (gen_asked_by request.now))
         store store (taken O.Sink out.old) (taken O.Sink out.new) result }
 {
     if request.run {
-        return run_gen_summary(desk, &request.options);
+        return run_gen_summary(context, &request.options);
     }
-    run_gen(desk, &request.options, out)
+    run_gen(context, &request.options, out)
 }
 
 /// Reads the profile, and gives its view.
 pub fn view<S: Store>(
-    desk: &Desk,
+    context: &RunContext,
     request: &DhatViewRequest,
     store: &mut S,
 ) -> Result<Vec<u8>, Halt>
     requires { S.opens store.old < 2 ^ 63 }
-    ensures { (out : Taken) → RunsTo desk.now (request.now.profile.now ∷ [])
+    ensures { (out : Taken) → RunsTo context.now (request.now.profile.now ∷ [])
         (view_plan (view_asked_by request.now))
         (shown S.Store store.old) (shown S.Store store.new) out out result }
 {
     let report = ViewReport {
         options: request.options,
     };
-    run_dhat_file(desk, request.profile, report, store)
+    run_dhat_file(context, request.profile, report, store)
 }
 
 /// Reads the file, by lines or whole as its kind says, and gives what it is converted to.
 pub fn convert<S: Store, O: Sink>(
-    desk: &Desk,
+    context: &RunContext,
     request: &ConvertRequest,
     store: &mut S,
     out: &mut O,
 ) -> Result<Vec<u8>, Halt>
     requires { S.opens store.old < 2 ^ 63 }
-    ensures { Runs S.Store O.Sink desk.now (request.now.file.now ∷ [])
+    ensures { Runs S.Store O.Sink context.now (request.now.file.now ∷ [])
         (convert_plan (convert_asked_by request.now))
         store.old store.new out.old out.new result }
 {
-    run_conversion(desk, request.file, request.conversion, store, out)
+    run_conversion(context, request.file, request.conversion, store, out)
 }

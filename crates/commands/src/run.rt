@@ -6,7 +6,7 @@ ghost use Rattle.commands.specs.HasRun.{HasRun};
 
 use crate::run_words::run_words;
 use crate::texts::heapsuite_texts;
-use command_frame::{Desk, deliver};
+use command_frame::{RunContext, deliver};
 use hp_outside::{Limits, Sink, Store};
 use interpret::interpreted_traces;
 use std::alloc::Global;
@@ -43,11 +43,11 @@ pub fn heapsuite_run<S: Store, O: Sink, E: Sink>(
         (outside S.Store O.Sink E.Sink store.new out.new err.new) result }
 {
     interpreted_traces();
-    let desk = Desk {
+    let context = RunContext {
         alloc,
         limits: *limits,
         texts: heapsuite_texts(),
     };
-    let ran = run_words(&desk, words, store, out);
-    deliver(ran, &desk.texts, out, err)
+    let ran = run_words(&context, words, store, out);
+    deliver(ran, &context.texts, out, err)
 }

@@ -14,7 +14,7 @@ ghost use Rattle.commands.specs.Texts.{heapsuite_texts};
 
 use crate::output::Output;
 use crate::requests as run;
-use command_frame::{Desk, Halt, Paged, ReadyText};
+use command_frame::{Halt, Paged, ReadyText, RunContext};
 use command_words::WordsFault;
 use heapsuite_words::{Request, read_words};
 use hp_num::put_bytes;
@@ -24,14 +24,14 @@ use trace_reports::FlameText;
 
 /// Runs what the words ask for.
 pub fn run_words<S: Store, O: Sink>(
-    desk: &Desk,
+    context: &RunContext,
     words: &[String],
     store: &mut S,
     out: &mut O,
 ) -> Result<Output, Halt>
     requires opens { S.opens store.old < 2 ^ 63 }
-    requires texts { texts_of desk.now.texts ≡ heapsuite_texts }
-    ensures ran { WordsRunTo heapsuite_texts (bounds_of desk.now.limits)
+    requires texts { texts_of context.now.texts ≡ heapsuite_texts }
+    ensures ran { WordsRunTo heapsuite_texts (bounds_of context.now.limits)
         (task_asked (asked (map string_bytes words.now)))
         (shown S.Store store.old) (shown S.Store store.new) (taken O.Sink out.old)
         (taken O.Sink out.new)
@@ -39,38 +39,37 @@ pub fn run_words<S: Store, O: Sink>(
     ensures no_memory { knows_first (map string_bytes words.now) ≡ false
         → (answer_of bytes_of heapsuite_texts result).status ≢ 5 }
 {
-    match read_words(desk.alloc, words) {
-        Ok(request) => run_request(desk, &request, store, out),
+    match read_words(context.alloc, words) {
+        Ok(request) => run_request(context, &request, store, out),
         Err(WordsFault::NotTaken) => Err(Halt::usage()),
         Err(WordsFault::NoMemory) => Err(Halt::no_memory()),
     }
 }
 
-/// Runs a request.
 fn run_request<S: Store, O: Sink>(
-    desk: &Desk,
+    context: &RunContext,
     request: &Request,
     store: &mut S,
     out: &mut O,
 ) -> Result<Output, Halt>
     requires opens { S.opens store.old < 2 ^ 63 }
-    requires texts { texts_of desk.now.texts ≡ heapsuite_texts }
-    ensures { Readies S.Store O.Sink bytes_of desk.now (names_of (asked_of request.now))
+    requires texts { texts_of context.now.texts ≡ heapsuite_texts }
+    ensures { Readies S.Store O.Sink bytes_of context.now (names_of (asked_of request.now))
         (plan_of (asked_of request.now))
         store.old store.new out.old out.new result }
 {
     match request {
-        Request::Help => held(usage(desk)),
-        Request::Summary(request) => held(run::summary(desk, request, store, out)),
-        Request::Print(request) => held(run::print(desk, request, store, out)),
-        Request::Flame(request) => flame(run::flame(desk, request, store, out)),
-        Request::Interpret(request) => held(run::interpret(desk, request, store, out)),
-        Request::Massif(request) => held(run::massif(desk, request, store, out)),
-        Request::Page(request) => held(run::page(desk, request, store, out)),
-        Request::Dhat(request) => held(run::dhat(desk, request, store, out)),
-        Request::Gen(request) => held(run::generated(desk, request, out)),
-        Request::DhatView(request) => held(run::view(desk, request, store)),
-        Request::Convert(request) => held(run::convert(desk, request, store, out)),
+        Request::Help => held(usage(context)),
+        Request::Summary(request) => held(run::summary(context, request, store, out)),
+        Request::Print(request) => held(run::print(context, request, store, out)),
+        Request::Flame(request) => flame(run::flame(context, request, store, out)),
+        Request::Interpret(request) => held(run::interpret(context, request, store, out)),
+        Request::Massif(request) => held(run::massif(context, request, store, out)),
+        Request::Page(request) => held(run::page(context, request, store, out)),
+        Request::Dhat(request) => held(run::dhat(context, request, store, out)),
+        Request::Gen(request) => held(run::generated(context, request, out)),
+        Request::DhatView(request) => held(run::view(context, request, store)),
+        Request::Convert(request) => held(run::convert(context, request, store, out)),
     }
 }
 
@@ -95,11 +94,11 @@ fn flame(ran: Result<Paged<FlameText>, Halt>) -> Result<Output, Halt>
 }
 
 /// How the program is called.
-fn usage(desk: &Desk) -> Result<Vec<u8>, Halt>
-    ensures { (store : Shown) (out : Taken) → RunsTo desk.now []
-        (Ends (Writes (texts_of desk.now.texts).usage)) store store out out result }
+fn usage(context: &RunContext) -> Result<Vec<u8>, Halt>
+    ensures { (store : Shown) (out : Taken) → RunsTo context.now []
+        (Ends (Writes (texts_of context.now.texts).usage)) store store out out result }
 {
-    let mut usage = Vec::new(desk.alloc);
-    put_bytes(&mut usage, desk.texts.usage)?;
+    let mut usage = Vec::new(context.alloc);
+    put_bytes(&mut usage, context.texts.usage)?;
     Ok(usage)
 }

@@ -278,7 +278,6 @@ struct Stage {
     all: Vec<u8>,
 }
 
-/// Appends a line.
 fn put_line(line: &str, all: &mut Vec<u8>) -> Result<(), NoMemory> {
     put_bytes(all, line.as_bytes())?;
     put_bytes(all, b"\n")

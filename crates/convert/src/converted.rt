@@ -150,7 +150,6 @@ fn snaps_over(
     two_snaps(alloc, peak, end)
 }
 
-/// A list of these two.
 fn two_snaps(alloc: Global, peak: Snap, end: Snap) -> Result<Snaps, NoMemory>
     ensures { IfOk result (λ snaps. snaps ≡ peak ∷ end ∷ []) }
 {
@@ -170,7 +169,6 @@ fn time_of_peak(dhat: &Dhat) -> u64
     }
 }
 
-/// A snapshot with so many live bytes.
 fn live_snap(time: u64, heap: u64, mark: HeapTree, tree: Tree) -> Snap
     ensures { result ≡ snap_with time heap mark tree }
 {

@@ -1,4 +1,4 @@
-//! What each stack cost at the places that are kept, as one list of changes. A place is a number of events; which
+//! What each stack had live at the moments of kept snapshots, as one list of changes. A place is a number of events; which
 //! places are kept is the caller's part.
 //!
 //! What it promises: what a stack costs at a place is what the last change up to there says, and 0 where none does

@@ -58,7 +58,6 @@ impl Gathered {
         Ok(())
     }
 
-    /// Takes the next item.
     fn take_next(&mut self, alloc: Global, reader: &mut Reader<'_>) -> Result<(), DhatFault>
         ensures taken { OnOk result (Takes self.old self.new reader.old reader.new) }
         ensures shape { self.new.shape ≡ self.old.shape }

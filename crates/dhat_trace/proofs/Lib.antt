@@ -4,7 +4,7 @@ mod PlaceLemmas
 mod RangeLemmas
 mod NumberLemmas
 mod KnownLemmas
-mod LegLemmas
+mod SegmentLemmas
 mod BacktraceLemmas
 mod PointLists
 mod TextLemmas

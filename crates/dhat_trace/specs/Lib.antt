@@ -3,7 +3,7 @@ pub mod FrameTable
 pub mod PlaceRanges
 pub mod KnownPlaces
 pub mod ListNumbers
-pub mod Legs
+pub mod Segments
 pub mod Backtraces
 pub mod PointFigures
 pub mod Points

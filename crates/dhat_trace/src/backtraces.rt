@@ -6,8 +6,8 @@ ghost use Rattle.dhat_trace.specs.FrameTable.{AddsTexts, frame_texts};
 ghost use Rattle.dhat_trace.specs.KnownPlaces.{AreKnown, AreTold};
 
 use crate::frame_table::FrameTable;
-use crate::leg::Leg;
 use crate::points::CalledStack;
+use crate::segment::Segment;
 use crate::told_places::ToldPlaces;
 use hp_num::NoMemory;
 use ht_trace::Tables;
@@ -30,29 +30,29 @@ pub(crate) fn backtraces(
 {
     let mut told = ToldPlaces::new(alloc, tables.stacks() as usize)?;
     let mut places = Vec::new(alloc);
-    let mut legs = Vec::new(alloc);
+    let mut segments = Vec::new(alloc);
     'each_stack: for called in stacks {
         tell_stack(
             tables,
             called.stack,
             table,
             &mut places,
-            &mut legs,
+            &mut segments,
             &mut told,
         )?;
     }
     Ok(told)
 }
 
-/// Tells the places of a stack's frames, and those of the stacks at which a leg of the way outwards begins: each list has its
-/// own places up to the next leg, and goes on with the list of that. So what stacks share is told once, whatever is inside it.
-/// `places` and `legs` are buffers.
+/// Tells the places of a stack's frames, and those of the stacks at which a segment of the way outwards begins: each list has its
+/// own places up to the next segment, and goes on with the list of that. So what stacks share is told once, whatever is inside it.
+/// `places` and `segments` are buffers.
 fn tell_stack(
     tables: &Tables,
     stack: u32,
     table: &mut FrameTable,
     places: &mut Vec<usize>,
-    legs: &mut Vec<Leg>,
+    segments: &mut Vec<Segment>,
     told: &mut ToldPlaces,
 ) -> Result<(), NoMemory>
     requires held { stack ≤ length tables.now.nodes }
@@ -64,14 +64,14 @@ fn tell_stack(
     ensures told { OnOk result
         (IsTelling tables.now stack table.old.texts told.old table.new.texts told.new) }
 {
-    let mut next = table.gather(tables, told, stack, places, legs)?;
+    let mut next = table.gather(tables, told, stack, places, segments)?;
     let mut end = places.len();
-    'inwards: while let Some(leg) = legs.pop() {
-        // Each leg starts before those behind it. That it does is asked here, so that no clause has to tell it.
-        if leg.start < end {
-            told.set(leg.stack as usize, &places[leg.start..end], next)?;
-            next = Some(leg.stack);
-            end = leg.start;
+    'inwards: while let Some(segment) = segments.pop() {
+        // Each segment starts before those behind it. That it does is asked here, so that no clause has to tell it.
+        if segment.start < end {
+            told.set(segment.stack as usize, &places[segment.start..end], next)?;
+            next = Some(segment.stack);
+            end = segment.start;
         }
     }
     told.set(stack as usize, &places[..end], next)

@@ -5,11 +5,11 @@ ghost use Rattle.intern_tables.specs.Numbers.{number_of};
 ghost use Rattle.ht_trace.specs.IsFrame.{IsFrame};
 ghost use Rattle.cost_tree.specs.Following.{following};
 ghost use Rattle.dhat_trace.specs.FrameTable.{AddsTexts, profile_frame};
-ghost use Rattle.dhat_trace.specs.Legs.{IsGathered};
+ghost use Rattle.dhat_trace.specs.Segments.{IsGathered};
 ghost use Rattle.dhat_trace.specs.KnownPlaces.{AreKnown, AreTold, GainsPlaces, HavePlaces, instruction_texts};
 
 use crate::known_places::KnownPlaces;
-use crate::leg::{Leg, note_leg};
+use crate::segment::{Segment, note_segment};
 use crate::texts::make_utf8;
 use crate::told_places::ToldPlaces;
 use dhat_json::Texts;
@@ -53,7 +53,7 @@ impl FrameTable {
         })
     }
 
-    /// Replaces `places` by those of the frames of a stack, from the innermost on, and `legs` by where a leg of the way outwards
+    /// Replaces `places` by those of the frames of a stack, from the innermost on, and `segments` by where a segment of the way outwards
     /// begins. A text that is new comes to the end of the table. Where the stack is called from one that was told before, the
     /// places go on as that one's, which are appended or whose stack is answered.
     pub(crate) fn gather(
@@ -62,7 +62,7 @@ impl FrameTable {
         told: &ToldPlaces,
         stack: u32,
         places: &mut Vec<usize>,
-        legs: &mut Vec<Leg>,
+        segments: &mut Vec<Segment>,
     ) -> Result<Option<u32>, NoMemory>
         requires held { stack ≤ length tables.now.nodes }
         requires known { AreKnown tables.now self.old.texts self.old.known }
@@ -71,10 +71,10 @@ impl FrameTable {
         ensures next { IfOk result (λ next. IfSome next (λ other. other < length told.now)) }
         ensures gathered { IfOk result
             (λ next. IsGathered tables.now stack self.old.texts self.new.texts
-            (places.new.items ++ following told.now next) legs.new.items) }
+            (places.new.items ++ following told.now next) segments.new.items) }
     {
         places.clear();
-        legs.clear();
+        segments.clear();
         if stack == 0 {
             tables.frames_into(stack, &mut self.frames)?;
             push_places(
@@ -91,7 +91,7 @@ impl FrameTable {
             if told.count(at as usize) > 0 {
                 return told.go_on(at, &mut self.outer, places);
             }
-            note_leg(at, places.len(), legs)?;
+            note_segment(at, places.len(), segments)?;
             self.learn(tables, instruction)?;
             places.extend_from_slice(self.known.of(instruction as usize))?;
             at = caller;
@@ -135,7 +135,6 @@ impl FrameTable {
     }
 }
 
-/// Copies of the texts, in their order.
 fn copied_texts(alloc: Global, names: &Names) -> Result<Texts, NoMemory>
     ensures texts { IfOk result (λ texts. texts ≡ names.now) }
 {

@@ -67,7 +67,6 @@ impl KnownPlaces {
     }
 }
 
-/// So many empty ranges.
 fn empty_ranges(alloc: Global, count: usize) -> Result<Vec<PlaceRange>, NoMemory>
     ensures count { IfOk result (λ ranges. length ranges.items ≡ count) }
     ensures empty { IfOk result

@@ -14,7 +14,7 @@
 //! |---|---|
 //! | `profile.rt` | the profile's text |
 //! | `points.rt` | which stacks have a point, and their figures |
-//! | `backtraces.rt`, `leg.rt` | the places of the frames of these stacks; where a long way outwards is parted |
+//! | `backtraces.rt`, `segment.rt` | the places of the frames of these stacks; where a long way outwards is parted |
 //! | `frame_table.rt`, `texts.rt` | the table of frames; texts as they stand in a profile |
 //! | `known_places.rt`, `told_places.rt` | the places of the frames of instructions, and of stacks |
 //!
@@ -24,9 +24,9 @@
 mod backtraces;
 mod frame_table;
 mod known_places;
-mod leg;
 mod points;
 mod profile;
+mod segment;
 mod texts;
 mod told_places;
 

@@ -107,7 +107,6 @@ impl ToldPlaces {
     }
 }
 
-/// An empty list alone.
 fn empty_list(alloc: Global) -> Result<Chains, NoMemory>
     ensures { IfOk result (λ lists. lists ≡ [] ∷ []) }
 {

@@ -39,7 +39,6 @@ pub(crate) fn put_tree(
     put_lines(tree, scale, below, out)
 }
 
-/// Appends the lines.
 fn put_lines(
     tree: &CostTree,
     scale: Scale,

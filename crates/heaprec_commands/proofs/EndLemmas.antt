@@ -1,38 +1,11 @@
 -- From the reading of files to the run of the words, and from there to all that is promised of a run.
-use Rattle.std.proofs.Common.{
-  ◌≡◌,
-  ◌≢◌,
-  ◌⊎◌,
-  ℕ,
-  Bool,
-  false,
-  IsErrAnd,
-  List,
-  [],
-  ◌∷◌,
-  option_to_list,
-  Option,
-  Some,
-  None,
-  Ok,
-  Err,
-  refl,
-  ap,
-  sym,
-  subst,
-  ◌∙◌,
-  inl,
-  inr,
-  Vec,
-  Result,
-  arith,
-}
+use Rattle.std.proofs.Common.{◌≡◌, ◌≢◌, ◌⊎◌, ℕ, Bool, false, IsErrAnd, List, [], ◌∷◌, option_to_list, Option, Some, None, Ok, Err, refl, ap, sym, subst, ◌∙◌, inl, inr, Vec, Result, arith}
 use Rattle.std.specs.Prelude.{vec_items}
 use Rattle.std.specs.Io.KnownBytes.{append_known}
 use Rattle.std.proofs.lemmas.Bool.Decides.{eqb_tells}
 use Rattle.hp_outside.specs.Faults.{Rose}
 use Rattle.hp_outside.specs.Folder.{Folder}
-use Rattle.command_frame.specs.declared.desk.Desk.{Desk}
+use Rattle.command_frame.specs.declared.context.RunContext.{RunContext}
 use Rattle.command_frame.specs.declared.halt.Halt.{Halt}
 use Rattle.command_frame.specs.declared.halt.Message.TheVariants.{OutOfMemory}
 use Rattle.command_frame.specs.declared.halt.Status.TheVariants.{NoMemory}
@@ -48,19 +21,7 @@ use Rattle.command_frame.specs.RunsTo.{RunsTo, Shown, Taken, rest_of, status_of}
 use Rattle.command_frame.specs.Task.{IsSilentTask, task_names}
 use Rattle.command_frame.specs.Texts.{Texts, texts_of}
 use Rattle.command_frame.specs.WordsRan.{WordsRan}
-use Rattle.command_frame.proofs.Laws.{
-  TaskEnded,
-  append_nothing,
-  defined_by,
-  gives_as,
-  judged_by,
-  run_ends,
-  silent_by,
-  status_told,
-  told_by,
-  words_not_ran,
-  wrote,
-}
+use Rattle.command_frame.proofs.Laws.{TaskEnded, append_nothing, defined_by, gives_as, judged_by, run_ends, silent_by, status_told, told_by, words_not_ran, wrote}
 use Rattle.order_check.specs.FrontLaws.{FrontLaws}
 use Rattle.record_scripts.specs.Job.{Job}
 use Rattle.heaprec_commands.specs.Answer.{names_asked, names_of, record_plan, task_asked, task_plan, trace_asked, unchecked}
@@ -78,16 +39,16 @@ use Rattle.heaprec_commands.proofs.HaltLemmas.{code_isnt_zero}
 use Rattle.heaprec_commands.proofs.SilentLemmas.{files_silent, task_silent}
 
 -- a run of what was asked, with the texts of the program
-ran_asked : (desk : Desk) (limit : ℕ) (files : Option Folder) (asked : RecordAsked) (text : List ℕ)
+ran_asked : (context : RunContext) (limit : ℕ) (files : Option Folder) (asked : RecordAsked) (text : List ℕ)
     (before now : Moment) (answer : Texts → Answer)
-    → texts_of desk.texts ≡ heaprec_texts
-    → Ran (texts_of desk.texts) (bounds_of desk.limits) files [] (names_of asked) (record_plan limit text asked) before
-    now (answer (texts_of desk.texts))
-    → WordsRan heaprec_texts (bounds_of desk.limits) files (task_asked limit text (Some asked)) before now
+    → texts_of context.texts ≡ heaprec_texts
+    → Ran (texts_of context.texts) (bounds_of context.limits) files [] (names_of asked) (record_plan limit text asked) before
+    now (answer (texts_of context.texts))
+    → WordsRan heaprec_texts (bounds_of context.limits) files (task_asked limit text (Some asked)) before now
     (answer heaprec_texts)
-ran_asked desk limit files asked text before now answer texts ran =
+ran_asked context limit files asked text before now answer texts ran =
     inr (subst
-    (λ (t : Texts). Ran t (bounds_of desk.limits) files [] (names_of asked) (record_plan limit text asked) before now
+    (λ (t : Texts). Ran t (bounds_of context.limits) files [] (names_of asked) (record_plan limit text asked) before now
     (answer t))
     texts ran)
 
@@ -96,19 +57,19 @@ abbrev pub asks : Option (List ℕ) → List (List ℕ) → Task → RecordAsked
 asks modules scripts task = record { modules = modules; scripts = scripts; task = task }
 
 -- the files weren't read
-pub asked_halted : (may_write : Bool → Job → List ℕ → Type 0) (desk : Desk) (limit : ℕ) (asked : RecordAsked)
+pub asked_halted : (may_write : Bool → Job → List ℕ → Type 0) (context : RunContext) (limit : ℕ) (asked : RecordAsked)
     (before now : Shown) (old new : Taken) (halt : Halt)
-    → texts_of desk.texts ≡ heaprec_texts
-    → FrontRead desk (files_front asked.modules asked.scripts (no_job limit)) before now old new (Err halt)
-    → WordsRecord may_write (bounds_of desk.limits) limit (Some asked) before now old new
+    → texts_of context.texts ≡ heaprec_texts
+    → FrontRead context (files_front asked.modules asked.scripts (no_job limit)) before now old new (Err halt)
+    → WordsRecord may_write (bounds_of context.limits) limit (Some asked) before now old new
     (halt_answer heaprec_texts halt)
-asked_halted may_write desk limit asked before now old new halt texts read = record {
+asked_halted may_write context limit asked before now old new halt texts read = record {
   text = [];
   run = record {
     early = [];
     written = read.silent ∙ sym (append_nothing old.written);
     ran =
-        ran_asked desk limit before.files asked [] before.moment now.moment (λ t. halt_answer t halt) texts
+        ran_asked context limit before.files asked [] before.moment now.moment (λ t. halt_answer t halt) texts
         (read.goes_on [] (option_to_list (trace_of asked.task)) (task_plan [] asked.task));
     files = read.files;
     unwritten = read.unwritten;
@@ -117,19 +78,19 @@ asked_halted may_write desk limit asked before now old new halt texts read = rec
   done = λ zero. absurd (code_isnt_zero halt.status zero);
   faulty =
       λ trace is one. inl
-      (ran_asked desk limit before.files (asks asked.modules asked.scripts (Records false)) [] before.moment now.moment
+      (ran_asked context limit before.files (asks asked.modules asked.scripts (Records false)) [] before.moment now.moment
       (λ t. halt_answer t halt) texts (read.goes_on [] [] (task_plan [] (Records false))));
 }
 
 -- the files were read, and what they say was recorded
-pub asked_done : (may_write : Bool → Job → List ℕ → Type 0) (desk : Desk) (limit : ℕ) (modules : Option (List ℕ))
+pub asked_done : (may_write : Bool → Job → List ℕ → Type 0) (context : RunContext) (limit : ℕ) (modules : Option (List ℕ))
     (scripts : List (List ℕ)) (summary : Bool) (before now : Shown) (old new : Taken) (job : Job) (text : List ℕ)
-    → texts_of desk.texts ≡ heaprec_texts
-    → FrontRead desk (files_front modules scripts (no_job limit)) before now old new (Ok job)
+    → texts_of context.texts ≡ heaprec_texts
+    → FrontRead context (files_front modules scripts (no_job limit)) before now old new (Ok job)
     → may_write summary job text
-    → WordsRecord may_write (bounds_of desk.limits) limit (Some (asks modules scripts (Records summary))) before now old
+    → WordsRecord may_write (bounds_of context.limits) limit (Some (asks modules scripts (Records summary))) before now old
     new (done text)
-asked_done may_write desk limit modules scripts summary before now old new job text texts read may =
+asked_done may_write context limit modules scripts summary before now old new job text texts read may =
     let leads = read.goes_on.runs [] [] (task_plan text (Records summary)) in
     record {
       text = text;
@@ -137,7 +98,7 @@ asked_done may_write desk limit modules scripts summary before now old new job t
         early = [];
         written = read.silent ∙ sym (append_nothing old.written);
         ran =
-            ran_asked desk limit before.files (asks modules scripts (Records summary)) text before.moment now.moment
+            ran_asked context limit before.files (asks modules scripts (Records summary)) text before.moment now.moment
             (λ t. done text) texts (leads.1 now.moment (done text) (refl, inl refl));
         files = read.files;
         unwritten = λ four. absurd (omega (arith, four));
@@ -149,16 +110,16 @@ asked_done may_write desk limit modules scripts summary before now old new job t
     }
 
 -- the files were read, and memory was wanting for a recording
-pub asked_wanting : (may_write : Bool → Job → List ℕ → Type 0) (desk : Desk) (limit : ℕ) (modules : Option (List ℕ))
+pub asked_wanting : (may_write : Bool → Job → List ℕ → Type 0) (context : RunContext) (limit : ℕ) (modules : Option (List ℕ))
     (scripts : List (List ℕ)) (summary : Bool) (before now : Shown) (old new : Taken) (job : Job) {Z : Type 0}
     (result : Result (Vec ℕ Z) Halt)
-    → texts_of desk.texts ≡ heaprec_texts
-    → FrontRead desk (files_front modules scripts (no_job limit)) before now old new (Ok job)
+    → texts_of context.texts ≡ heaprec_texts
+    → FrontRead context (files_front modules scripts (no_job limit)) before now old new (Ok job)
     → IsErrAnd result (λ halt. halt ≡ record { message = OutOfMemory; status = NoMemory })
-    → WordsRecord may_write (bounds_of desk.limits) limit (Some (asks modules scripts (Records summary))) before now old
+    → WordsRecord may_write (bounds_of context.limits) limit (Some (asks modules scripts (Records summary))) before now old
     new (rest_of heaprec_texts result)
-asked_wanting may_write desk limit modules scripts summary before now old new job (Ok rest) texts read is = absurd is
-asked_wanting may_write desk limit modules scripts summary before now old new job (Err halt) texts read is =
+asked_wanting may_write context limit modules scripts summary before now old new job (Ok rest) texts read is = absurd is
+asked_wanting may_write context limit modules scripts summary before now old new job (Err halt) texts read is =
     let leads = read.goes_on.runs [] [] (task_plan [] (Records summary)) in
     let five : (halt_answer heaprec_texts halt).status ≡ 5 =
     ap (λ (h : Halt). (halt_answer heaprec_texts h).status) is in
@@ -168,10 +129,10 @@ asked_wanting may_write desk limit modules scripts summary before now old new jo
         early = [];
         written = read.silent ∙ sym (append_nothing old.written);
         ran =
-            ran_asked desk limit before.files (asks modules scripts (Records summary)) [] before.moment now.moment
+            ran_asked context limit before.files (asks modules scripts (Records summary)) [] before.moment now.moment
             (λ t. halt_answer t halt) texts
-            (leads.1 now.moment (halt_answer (texts_of desk.texts) halt)
-            (refl, inr (ap (halt_answer (texts_of desk.texts)) is)));
+            (leads.1 now.moment (halt_answer (texts_of context.texts) halt)
+            (refl, inr (ap (halt_answer (texts_of context.texts)) is)));
         files = read.files;
         unwritten = λ four. absurd (omega (arith, four, five));
         sound = λ other. read.sound (λ four. absurd (omega (arith, four)));
@@ -181,26 +142,26 @@ asked_wanting may_write desk limit modules scripts summary before now old new jo
     }
 
 -- the files were read, and a trace was run over
-pub asked_checked : {Z : Type 0} (may_write : Bool → Job → List ℕ → Type 0) (desk : Desk) (limit : ℕ)
+pub asked_checked : {Z : Type 0} (may_write : Bool → Job → List ℕ → Type 0) (context : RunContext) (limit : ℕ)
     (modules : Option (List ℕ)) (scripts : List (List ℕ)) (trace : List ℕ) (before mid now : Shown)
     (old between new : Taken) (job : Job)
-    (result : Result (Vec ℕ Z) Halt) → texts_of desk.texts ≡ heaprec_texts → FrontLaws job
-    → FrontRead desk (files_front modules scripts (no_job limit)) before mid old between (Ok job)
-    → RunsTo desk (trace ∷ []) (one_file trace (check_report job)) mid now between new result
-    → WordsRecord may_write (bounds_of desk.limits) limit (Some (asks modules scripts (Checks trace))) before now old
+    (result : Result (Vec ℕ Z) Halt) → texts_of context.texts ≡ heaprec_texts → FrontLaws job
+    → FrontRead context (files_front modules scripts (no_job limit)) before mid old between (Ok job)
+    → RunsTo context (trace ∷ []) (one_file trace (check_report job)) mid now between new result
+    → WordsRecord may_write (bounds_of context.limits) limit (Some (asks modules scripts (Checks trace))) before now old
     new (rest_of heaprec_texts result)
-asked_checked may_write desk limit modules scripts trace before mid now old between new job result texts laws read
+asked_checked may_write context limit modules scripts trace before mid now old between new job result texts laws read
     check =
     let leads = read.goes_on.runs [] (trace ∷ []) (task_plan [] (Checks trace)) in
     let run = check.ran leads.0 in
-    let ran : Ran (texts_of desk.texts) (bounds_of desk.limits) before.files leads.0 (trace ∷ [])
-    (one_file trace (check_report job)) mid.moment now.moment (after run.0 (rest_of (texts_of desk.texts) result)) =
-    subst (λ files. Ran (texts_of desk.texts) (bounds_of desk.limits) files leads.0 (trace ∷ [])
+    let ran : Ran (texts_of context.texts) (bounds_of context.limits) before.files leads.0 (trace ∷ [])
+    (one_file trace (check_report job)) mid.moment now.moment (after run.0 (rest_of (texts_of context.texts) result)) =
+    subst (λ files. Ran (texts_of context.texts) (bounds_of context.limits) files leads.0 (trace ∷ [])
     (one_file trace (check_report job)) mid.moment now.moment
-    (after run.0 (rest_of (texts_of desk.texts) result))) read.files run.1.1 in
-    let said : Ran heaprec_texts (bounds_of desk.limits) before.files leads.0 (trace ∷ [])
+    (after run.0 (rest_of (texts_of context.texts) result))) read.files run.1.1 in
+    let said : Ran heaprec_texts (bounds_of context.limits) before.files leads.0 (trace ∷ [])
     (one_file trace (check_report job)) mid.moment now.moment (after run.0 (rest_of heaprec_texts result)) =
-    subst (λ (t : Texts). Ran t (bounds_of desk.limits) before.files leads.0 (trace ∷ [])
+    subst (λ (t : Texts). Ran t (bounds_of context.limits) before.files leads.0 (trace ∷ [])
     (one_file trace (check_report job)) mid.moment now.moment (after run.0 (rest_of t result))) texts ran in
     let same : between.faults ≡ old.faults = read.sound (λ four. absurd (omega (arith, four))) in
     let status : (rest_of heaprec_texts result).status ≡ status_of result =
@@ -211,15 +172,15 @@ asked_checked may_write desk limit modules scripts trace before mid now old betw
         early = run.0;
         written = run.1.0 ∙ ap (λ o. append_known o run.0) read.silent;
         ran =
-            ran_asked desk limit before.files (asks modules scripts (Checks trace)) [] before.moment now.moment
+            ran_asked context limit before.files (asks modules scripts (Checks trace)) [] before.moment now.moment
             (λ t. after run.0 (rest_of t result)) texts
-            (leads.1 now.moment (after run.0 (rest_of (texts_of desk.texts) result)) ran);
+            (leads.1 now.moment (after run.0 (rest_of (texts_of context.texts) result)) ran);
         files = check.files ∙ read.files;
         unwritten = λ four. subst (λ n. Rose n new.faults) same (check.unwritten (sym status ∙ four));
         sound = λ other. check.sound (λ four. other (status ∙ four)) ∙ same;
       };
       done =
-          λ zero. checked_run heaprec_texts (bounds_of desk.limits) limit before.files modules scripts leads.0 trace job
+          λ zero. checked_run heaprec_texts (bounds_of context.limits) limit before.files modules scripts leads.0 trace job
           mid.moment now.moment (after run.0 (rest_of heaprec_texts result)) laws read.goes_on.gives said zero;
       faulty = λ other is one. inr (λ folder known.
           let same : trace ≡ other = cc in
@@ -229,7 +190,7 @@ asked_checked may_write desk limit modules scripts trace before mid now old betw
           same
           (subst (λ (j : Job). IsRefused folder trace j (rest_of heaprec_texts result).message)
           (read.goes_on.gives folder known)
-          (refused_run (bounds_of desk.limits) before.files leads.0 trace job mid.moment now.moment
+          (refused_run (bounds_of context.limits) before.files leads.0 trace job mid.moment now.moment
           (after run.0 (rest_of heaprec_texts result)) laws said one folder known)));
     }
 

@@ -1,67 +1,16 @@
 -- From the reading of one file to that of the first files of a run.
-use Rattle.std.proofs.Common.{
-  ◌≡◌,
-  ◌≢◌,
-  ℕ,
-  ◌+◌,
-  ◌<◌,
-  ◌≤◌,
-  suc,
-  Bor,
-  IsErrAnd,
-  List,
-  [],
-  ◌∷◌,
-  ◌++◌,
-  length,
-  length-append,
-  map,
-  drop,
-  drop-cons,
-  drop_of_length-le,
-  get_or,
-  take,
-  take_all,
-  unwrap_or,
-  Option,
-  None,
-  Some,
-  Result,
-  Ok,
-  Err,
-  refl,
-  ap,
-  sym,
-  subst,
-  ◌∙◌,
-  arith,
-}
+use Rattle.std.proofs.Common.{◌≡◌, ◌≢◌, ℕ, ◌+◌, ◌<◌, ◌≤◌, suc, Bor, IsErrAnd, List, [], ◌∷◌, ◌++◌, length, length-append, map, drop, drop-cons, drop_of_length-le, get_or, take, take_all, unwrap_or, Option, None, Some, Result, Ok, Err, refl, ap, sym, subst, ◌∙◌, arith}
 use Rattle.std.specs.Io.KnownBytes.{append_known}
 use Rattle.hp_outside.specs.Faults.{Rose}
 use Rattle.hp_outside.specs.Folder.{Folder, file_of}
 use Rattle.hp_outside.specs.Lines.{lines_of}
 use Rattle.hp_outside.specs.Taken.{WhereTold}
-use Rattle.command_frame.specs.declared.desk.Desk.{Desk}
+use Rattle.command_frame.specs.declared.context.RunContext.{RunContext}
 use Rattle.command_frame.specs.declared.halt.Halt.{Halt}
 use Rattle.command_frame.specs.declared.halt.Message.TheVariants.{OutOfMemory}
 use Rattle.command_frame.specs.declared.halt.Status.TheVariants.{NoMemory}
 use Rattle.command_frame.specs.Answer.{Answer, after}
-use Rattle.command_frame.specs.FileRead.{
-  Absent,
-  Calls,
-  CannotOpen,
-  CannotRead,
-  EndsIn,
-  FileEnd,
-  FileRead,
-  Passed,
-  Refused,
-  Unopened,
-  Unwritten,
-  Wanting,
-  end_answer,
-  end_output,
-}
+use Rattle.command_frame.specs.FileRead.{Absent, Calls, CannotOpen, CannotRead, EndsIn, FileEnd, FileRead, Passed, Refused, Unopened, Unwritten, Wanting, end_answer, end_output}
 use Rattle.command_frame.specs.FirstFault.{Bounds, bounds_of}
 use Rattle.command_frame.specs.Halts.{halt_answer, status_code}
 use Rattle.command_frame.specs.Moment.{Moment}
@@ -76,17 +25,7 @@ use Rattle.record_scripts.specs.Job.{Job}
 use Rattle.heaprec_commands.specs.declared.reader.FileKind.{FileKind}
 use Rattle.heaprec_commands.specs.declared.reader.FileKind.TheVariants.{Modules, Script}
 use Rattle.heaprec_commands.specs.FileLines.{begun, file_report, with_lines}
-use Rattle.heaprec_commands.specs.FilesPlan.{
-  file_front,
-  file_plan,
-  files_front,
-  files_named,
-  lines_in,
-  modules_front,
-  scripts_front,
-  scripts_in,
-  scripts_plan,
-}
+use Rattle.heaprec_commands.specs.FilesPlan.{file_front, file_plan, files_front, files_named, lines_in, modules_front, scripts_front, scripts_in, scripts_plan}
 use Rattle.heaprec_commands.specs.FrontRead.{Front, FrontRead, GoesOn, LeadsTo, read_to}
 use Rattle.heaprec_commands.proofs.LineLemmas.{count-lines}
 
@@ -270,11 +209,11 @@ no_failed_write : (halt : Halt) → halt ≡ record { message = OutOfMemory; sta
     → status_code halt.status ≢ 4
 no_failed_write halt is = λ four. omega (arith, sym (ap (λ (h : Halt). status_code h.status) is) ∙ four)
 
-wants_file : (desk : Desk) (files : Option Folder) (kind : FileKind) (name : List ℕ) (start : Job) (now : Moment)
+wants_file : (context : RunContext) (files : Option Folder) (kind : FileKind) (name : List ℕ) (start : Job) (now : Moment)
     (halt : Halt)
     → halt ≡ record { message = OutOfMemory; status = NoMemory }
-    → GoesOn (texts_of desk.texts) (bounds_of desk.limits) files (file_front kind name start) now now (Err halt)
-wants_file desk files kind name start now halt is = λ last names next. (
+    → GoesOn (texts_of context.texts) (bounds_of context.limits) files (file_front kind name start) now now (Err halt)
+wants_file context files kind name start now halt is = λ last names next. (
   refl,
   (
     Unopened,
@@ -282,21 +221,21 @@ wants_file desk files kind name start now halt is = λ last names next. (
       now,
       record {
         told =
-            λ folder known. unopened_told (bounds_of desk.limits) (file_report kind start) (file_of folder name)
+            λ folder known. unopened_told (bounds_of context.limits) (file_report kind start) (file_of folder name)
             now.left;
         calls = refl;
       },
-      (ap (halt_answer (texts_of desk.texts)) is, refl),
+      (ap (halt_answer (texts_of context.texts)) is, refl),
     ),
   ),
 )
 
 -- nothing was read, and the run ended for want of memory
-wanting_front : (desk : Desk) (front : Front) (store : Shown) (out : Taken) (halt : Halt)
+wanting_front : (context : RunContext) (front : Front) (store : Shown) (out : Taken) (halt : Halt)
     → halt ≡ record { message = OutOfMemory; status = NoMemory }
-    → GoesOn (texts_of desk.texts) (bounds_of desk.limits) store.files front store.moment store.moment (Err halt)
-    → FrontRead desk front store store out out (Err halt)
-wanting_front desk front store out halt is ran =
+    → GoesOn (texts_of context.texts) (bounds_of context.limits) store.files front store.moment store.moment (Err halt)
+    → FrontRead context front store store out out (Err halt)
+wanting_front context front store out halt is ran =
     record {
       goes_on = ran;
       silent = refl;
@@ -305,46 +244,46 @@ wanting_front desk front store out halt is ran =
       sound = λ other. refl;
     }
 
-pub wanting_file : (desk : Desk) (kind : FileKind) (name : List ℕ) (start : Job) (store : Shown) (out : Taken)
+pub wanting_file : (context : RunContext) (kind : FileKind) (name : List ℕ) (start : Job) (store : Shown) (out : Taken)
     (result : Result Job Halt)
     → IsErrAnd result (λ halt. halt ≡ record { message = OutOfMemory; status = NoMemory })
-    → FrontRead desk (file_front kind name start) store store out out result
-wanting_file desk kind name start store out (Ok job) is = absurd is
-wanting_file desk kind name start store out (Err halt) is =
-    wanting_front desk (file_front kind name start) store out halt is
-    (wants_file desk store.files kind name start store.moment halt is)
+    → FrontRead context (file_front kind name start) store store out out result
+wanting_file context kind name start store out (Ok job) is = absurd is
+wanting_file context kind name start store out (Err halt) is =
+    wanting_front context (file_front kind name start) store out halt is
+    (wants_file context store.files kind name start store.moment halt is)
 
-wants_files : (desk : Desk) (files : Option Folder) (modules : Option (List ℕ)) (names : List (List ℕ)) (start : Job)
+wants_files : (context : RunContext) (files : Option Folder) (modules : Option (List ℕ)) (names : List (List ℕ)) (start : Job)
     (now : Moment) (halt : Halt)
     → halt ≡ record { message = OutOfMemory; status = NoMemory }
     → 1 ≤ length names
-    → GoesOn (texts_of desk.texts) (bounds_of desk.limits) files (files_front modules names start) now now (Err halt)
-wants_files desk files None [] start now halt is some = absurd (omega (arith, some))
-wants_files desk files None (name ∷ names) start now halt is some =
-    λ last more next. wants_file desk files Script name (begun start) now halt is last (names ++ more)
+    → GoesOn (texts_of context.texts) (bounds_of context.limits) files (files_front modules names start) now now (Err halt)
+wants_files context files None [] start now halt is some = absurd (omega (arith, some))
+wants_files context files None (name ∷ names) start now halt is some =
+    λ last more next. wants_file context files Script name (begun start) now halt is last (names ++ more)
     (λ read. scripts_plan names read next)
-wants_files desk files (Some modules) names start now halt is some =
-    λ last more next. wants_file desk files Modules modules start now halt is last (names ++ more)
+wants_files context files (Some modules) names start now halt is some =
+    λ last more next. wants_file context files Modules modules start now halt is last (names ++ more)
     (λ read. scripts_plan names read next)
 
-pub wanting_files : (desk : Desk) (modules : Option (List ℕ)) (names : List (List ℕ)) (start : Job) (store : Shown)
+pub wanting_files : (context : RunContext) (modules : Option (List ℕ)) (names : List (List ℕ)) (start : Job) (store : Shown)
     (out : Taken) (result : Result Job Halt)
     → IsErrAnd result (λ halt. halt ≡ record { message = OutOfMemory; status = NoMemory })
-    → 1 ≤ length names → FrontRead desk (files_front modules names start) store store out out result
-wanting_files desk modules names start store out (Ok job) is some = absurd is
-wanting_files desk modules names start store out (Err halt) is some =
-    wanting_front desk (files_front modules names start) store out halt is
-    (wants_files desk store.files modules names start store.moment halt is some)
+    → 1 ≤ length names → FrontRead context (files_front modules names start) store store out out result
+wanting_files context modules names start store out (Ok job) is some = absurd is
+wanting_files context modules names start store out (Err halt) is some =
+    wanting_front context (files_front modules names start) store out halt is
+    (wants_files context store.files modules names start store.moment halt is some)
 
 -- a file that was read to its end, and one that wasn't
-pub file_passed : (desk : Desk) (kind : FileKind) (name : List ℕ) (start job : Job) {has_taken : List (List ℕ) → Type 0}
+pub file_passed : (context : RunContext) (kind : FileKind) (name : List ℕ) (start job : Job) {has_taken : List (List ℕ) → Type 0}
     (before now : Shown) (old new : Taken)
-    → ReadsTo desk name (file_report kind start) has_taken before now old new (Ok tt)
+    → ReadsTo context name (file_report kind start) has_taken before now old new (Ok tt)
     → ((taken : List (List ℕ)) → has_taken taken → job ≡ with_lines kind start taken)
-    → FrontRead desk (file_front kind name start) before now old new (Ok job)
-file_passed desk kind name start job before now old new read said = record {
+    → FrontRead context (file_front kind name start) before now old new (Ok job)
+file_passed context kind name start job before now old new read said = record {
   goes_on =
-      leads_on (texts_of desk.texts) (bounds_of desk.limits) before.files kind name start job before.moment now.moment
+      leads_on (texts_of context.texts) (bounds_of context.limits) before.files kind name start job before.moment now.moment
       read.end read.halts.0 read.read read.halts.1.0 (said read.halts.0 read.halts.1.1);
   silent = silent_end kind start read.end old.written new.written read.written;
   files = read.files;
@@ -352,14 +291,14 @@ file_passed desk kind name start job before now old new read said = record {
   sound = read.sound;
 }
 
-pub file_stopped : (desk : Desk) (kind : FileKind) (name : List ℕ) (start : Job) {has_taken : List (List ℕ) → Type 0}
+pub file_stopped : (context : RunContext) (kind : FileKind) (name : List ℕ) (start : Job) {has_taken : List (List ℕ) → Type 0}
     (before now : Shown) (old new : Taken) (halt : Halt)
-    → ReadsTo desk name (file_report kind start) has_taken before now old new (Err halt)
-    → FrontRead desk (file_front kind name start) before now old new (Err halt)
-file_stopped desk kind name start before now old new halt read = record {
+    → ReadsTo context name (file_report kind start) has_taken before now old new (Err halt)
+    → FrontRead context (file_front kind name start) before now old new (Err halt)
+file_stopped context kind name start before now old new halt read = record {
   goes_on =
-      halts_at (texts_of desk.texts) (bounds_of desk.limits) before.files kind name start before.moment now.moment
-      read.end (halt_answer (texts_of desk.texts) halt) read.read read.halts.0 read.halts.1;
+      halts_at (texts_of context.texts) (bounds_of context.limits) before.files kind name start before.moment now.moment
+      read.end (halt_answer (texts_of context.texts) halt) read.read read.halts.0 read.halts.1;
   silent = silent_end kind start read.end old.written new.written read.written;
   files = read.files;
   unwritten = read.unwritten;
@@ -392,16 +331,16 @@ goes_behind texts bounds files front left before mid now (Ok job) leads goes =
 goes_behind texts bounds files front left before mid now (Err halt) leads goes = λ last names next.
     let first = leads.runs last names next in first.1 now (halt_answer texts halt) (goes first.0 names next)
 
-pub front_behind : (desk : Desk) (front left : Front) (before mid now : Shown) (old between new : Taken)
+pub front_behind : (context : RunContext) (front left : Front) (before mid now : Shown) (old between new : Taken)
     (result : Result Job Halt)
-    → LeadsTo (texts_of desk.texts) (bounds_of desk.limits) before.files front before.moment left mid.moment
+    → LeadsTo (texts_of context.texts) (bounds_of context.limits) before.files front before.moment left mid.moment
     → mid.files ≡ before.files → between.written ≡ old.written → between.faults ≡ old.faults
-    → FrontRead desk left mid now between new result → FrontRead desk front before now old new result
-front_behind desk front left before mid now old between new result leads same silent sound read = record {
+    → FrontRead context left mid now between new result → FrontRead context front before now old new result
+front_behind context front left before mid now old between new result leads same silent sound read = record {
   goes_on =
-      goes_behind (texts_of desk.texts) (bounds_of desk.limits) before.files front left before.moment mid.moment
+      goes_behind (texts_of context.texts) (bounds_of context.limits) before.files front left before.moment mid.moment
       now.moment result leads
-      (subst (λ files. GoesOn (texts_of desk.texts) (bounds_of desk.limits) files left mid.moment now.moment result)
+      (subst (λ files. GoesOn (texts_of context.texts) (bounds_of context.limits) files left mid.moment now.moment result)
       same read.goes_on);
   silent = read.silent ∙ silent;
   files = read.files ∙ same;
@@ -410,40 +349,40 @@ front_behind desk front left before mid now old between new result leads same si
 }
 
 -- a script with others behind it
-script_then : (desk : Desk) (name : List ℕ) (names : List (List ℕ)) (start job : Job) (before now : Shown)
+script_then : (context : RunContext) (name : List ℕ) (names : List (List ℕ)) (start job : Job) (before now : Shown)
     (old new : Taken)
-    → FrontRead desk (file_front Script name (begun start)) before now old new (Ok job)
-    → LeadsTo (texts_of desk.texts) (bounds_of desk.limits) before.files (scripts_front (name ∷ names) start)
+    → FrontRead context (file_front Script name (begun start)) before now old new (Ok job)
+    → LeadsTo (texts_of context.texts) (bounds_of context.limits) before.files (scripts_front (name ∷ names) start)
     before.moment (scripts_front names job) now.moment
-script_then desk name names start job before now old new read = record {
+script_then context name names start job before now old new read = record {
   runs = λ last more next. read.goes_on.runs last (names ++ more) (λ job. scripts_plan names job next);
   gives = λ folder known. ap (scripts_in folder names) (read.goes_on.gives folder known);
   threads = omega (arith, read.goes_on.threads, length-append start.scripts ([] ∷ []));
   opens = omega (arith, read.goes_on.opens);
 }
 
-pub scripts_further : (desk : Desk) (files : Option Folder) (all left rest : List (List ℕ)) (name : List ℕ)
+pub scripts_further : (context : RunContext) (files : Option Folder) (all left rest : List (List ℕ)) (name : List ℕ)
     (start job new : Job) (before : Moment) (mid now : Shown) (between after : Taken)
     → mid.files ≡ files → left ≡ name ∷ rest
-    → LeadsTo (texts_of desk.texts) (bounds_of desk.limits) files (scripts_front all start) before
+    → LeadsTo (texts_of context.texts) (bounds_of context.limits) files (scripts_front all start) before
     (scripts_front left job) mid.moment
-    → FrontRead desk (file_front Script name (begun job)) mid now between after (Ok new)
-    → LeadsTo (texts_of desk.texts) (bounds_of desk.limits) files (scripts_front all start) before
+    → FrontRead context (file_front Script name (begun job)) mid now between after (Ok new)
+    → LeadsTo (texts_of context.texts) (bounds_of context.limits) files (scripts_front all start) before
     (scripts_front rest new) now.moment
-scripts_further desk files all left rest name start job new before mid now between after same is leads read =
-    leads_by (texts_of desk.texts) (bounds_of desk.limits) files (scripts_front all start)
+scripts_further context files all left rest name start job new before mid now between after same is leads read =
+    leads_by (texts_of context.texts) (bounds_of context.limits) files (scripts_front all start)
     (scripts_front (name ∷ rest) job) (scripts_front rest new) before mid.moment now.moment
-    (subst (λ (names : List (List ℕ)). LeadsTo (texts_of desk.texts) (bounds_of desk.limits) files
+    (subst (λ (names : List (List ℕ)). LeadsTo (texts_of context.texts) (bounds_of context.limits) files
     (scripts_front all start) before (scripts_front names job) mid.moment) is leads)
-    (subst (λ (f : Option Folder). LeadsTo (texts_of desk.texts) (bounds_of desk.limits) f
+    (subst (λ (f : Option Folder). LeadsTo (texts_of context.texts) (bounds_of context.limits) f
     (scripts_front (name ∷ rest) job) mid.moment (scripts_front rest new) now.moment) same
-    (script_then desk name rest job new mid now between after read))
+    (script_then context name rest job new mid now between after read))
 
-pub script_ends : (desk : Desk) (name : List ℕ) (names : List (List ℕ)) (start : Job) (before now : Shown)
+pub script_ends : (context : RunContext) (name : List ℕ) (names : List (List ℕ)) (start : Job) (before now : Shown)
     (old new : Taken) (halt : Halt)
-    → FrontRead desk (file_front Script name (begun start)) before now old new (Err halt)
-    → FrontRead desk (scripts_front (name ∷ names) start) before now old new (Err halt)
-script_ends desk name names start before now old new halt read = record {
+    → FrontRead context (file_front Script name (begun start)) before now old new (Err halt)
+    → FrontRead context (scripts_front (name ∷ names) start) before now old new (Err halt)
+script_ends context name names start before now old new halt read = record {
   goes_on = λ last more next. read.goes_on last (names ++ more) (λ job. scripts_plan names job next);
   silent = read.silent;
   files = read.files;
@@ -452,18 +391,18 @@ script_ends desk name names start before now old new halt read = record {
 }
 
 -- the modules file with the scripts behind it
-pub modules_then : (desk : Desk) (modules : Option (List ℕ)) (names : List (List ℕ)) (start job : Job)
+pub modules_then : (context : RunContext) (modules : Option (List ℕ)) (names : List (List ℕ)) (start job : Job)
     (before now : Shown) (old new : Taken)
-    → FrontRead desk (modules_front modules start) before now old new (Ok job)
-    → LeadsTo (texts_of desk.texts) (bounds_of desk.limits) before.files (files_front modules names start) before.moment
+    → FrontRead context (modules_front modules start) before now old new (Ok job)
+    → LeadsTo (texts_of context.texts) (bounds_of context.limits) before.files (files_front modules names start) before.moment
     (scripts_front names job) now.moment
-modules_then desk None names start job before now old new read = record {
+modules_then context None names start job before now old new read = record {
   runs = λ last more next. read.goes_on.runs last (names ++ more) (λ job. scripts_plan names job next);
   gives = λ folder known. ap (scripts_in folder names) (read.goes_on.gives folder known);
   threads = omega (arith, read.goes_on.threads);
   opens = omega (arith, read.goes_on.opens);
 }
-modules_then desk (Some modules) names start job before now old new read = record {
+modules_then context (Some modules) names start job before now old new read = record {
   runs = λ last more next. read.goes_on.runs last (names ++ more) (λ job. scripts_plan names job next);
   gives = λ folder known. ap (scripts_in folder names) (read.goes_on.gives folder known);
   threads = omega (arith, read.goes_on.threads);
@@ -479,13 +418,13 @@ modules_halt texts bounds files None names start before now halt ran =
 modules_halt texts bounds files (Some modules) names start before now halt ran =
     λ last more next. ran last (names ++ more) (λ job. scripts_plan names job next)
 
-pub modules_end : (desk : Desk) (modules : Option (List ℕ)) (names : List (List ℕ)) (start : Job) (before now : Shown)
+pub modules_end : (context : RunContext) (modules : Option (List ℕ)) (names : List (List ℕ)) (start : Job) (before now : Shown)
     (old new : Taken) (halt : Halt)
-    → FrontRead desk (modules_front modules start) before now old new (Err halt)
-    → FrontRead desk (files_front modules names start) before now old new (Err halt)
-modules_end desk modules names start before now old new halt read = record {
+    → FrontRead context (modules_front modules start) before now old new (Err halt)
+    → FrontRead context (files_front modules names start) before now old new (Err halt)
+modules_end context modules names start before now old new halt read = record {
   goes_on =
-      modules_halt (texts_of desk.texts) (bounds_of desk.limits) before.files modules names start before.moment now.moment
+      modules_halt (texts_of context.texts) (bounds_of context.limits) before.files modules names start before.moment now.moment
       halt read.goes_on;
   silent = read.silent;
   files = read.files;
@@ -504,10 +443,10 @@ stays texts bounds files job now =
       opens = refl;
     }
 
-pub none_read : (desk : Desk) (job : Job) (store : Shown) (out : Taken)
-    → FrontRead desk (read_to job) store store out out (Ok job)
-none_read desk job store out = record {
-  goes_on = stays (texts_of desk.texts) (bounds_of desk.limits) store.files job store.moment;
+pub none_read : (context : RunContext) (job : Job) (store : Shown) (out : Taken)
+    → FrontRead context (read_to job) store store out out (Ok job)
+none_read context job store out = record {
+  goes_on = stays (texts_of context.texts) (bounds_of context.limits) store.files job store.moment;
   silent = refl;
   files = refl;
   unwritten = λ four. absurd (omega (arith, four));

@@ -5,7 +5,7 @@ use Rattle.std.specs.Prelude.{ℕ, ◌+◌, List, [], ◌∷◌, ◌++◌, lengt
 use Rattle.hp_outside.specs.Folder.{Folder, file_of}
 use Rattle.hp_outside.specs.Lines.{lines_of}
 use Rattle.std.specs.Option.{option_copied}
-use Rattle.command_frame.specs.declared.desk.Desk.{Desk}
+use Rattle.command_frame.specs.declared.context.RunContext.{RunContext}
 use Rattle.command_frame.specs.Plan.{Lines, Plan}
 use Rattle.heaprec_commands.specs.declared.files.ScriptFiles.{ScriptFiles}
 use Rattle.record_scripts.specs.Job.{Job}
@@ -96,6 +96,6 @@ files_front modules names job = record {
 }
 
 -- the files of a run, of whose scripts all may have so many events as its limits say
-abbrev pub front_of : ScriptFiles → Desk → Front
-front_of files desk = files_front (option_copied files.modules)
-    (map (λ name. name.now) files.scripts.now) (no_job desk.limits.order)
+abbrev pub front_of : ScriptFiles → RunContext → Front
+front_of files context = files_front (option_copied files.modules)
+    (map (λ name. name.now) files.scripts.now) (no_job context.limits.order)

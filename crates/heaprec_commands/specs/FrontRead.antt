@@ -7,7 +7,7 @@ use Rattle.hp_outside.specs.declared.sink.Sink as sink
 use Rattle.hp_outside.specs.Faults.{Rose}
 use Rattle.hp_outside.specs.Folder.{Folder}
 use Rattle.hp_outside.specs.Taken.{WhereTold}
-use Rattle.command_frame.specs.declared.desk.Desk.{Desk}
+use Rattle.command_frame.specs.declared.context.RunContext.{RunContext}
 use Rattle.command_frame.specs.declared.halt.Halt.{Halt}
 use Rattle.command_frame.specs.Answer.{Answer}
 use Rattle.command_frame.specs.FirstFault.{Bounds, bounds_of}
@@ -59,9 +59,9 @@ GoesOn texts bounds files front before now (Err halt) =
     (halt_answer texts halt)
 
 -- the same, with nothing written, and writes failed exactly where the status says so
-pub record FrontRead (desk : Desk) (front : Front) (before now : Shown) (old new : Taken)
+pub record FrontRead (context : RunContext) (front : Front) (before now : Shown) (old new : Taken)
     (result : Result Job Halt) : Type 0 where
-  pub goes_on : GoesOn (texts_of desk.texts) (bounds_of desk.limits) before.files front
+  pub goes_on : GoesOn (texts_of context.texts) (bounds_of context.limits) before.files front
       before.moment now.moment result
   pub silent : new.written ≡ old.written
   pub files : now.files ≡ before.files
@@ -69,7 +69,7 @@ pub record FrontRead (desk : Desk) (front : Front) (before now : Shown) (old new
   pub sound : status_of result ≢ 4 → new.faults ≡ old.faults
 
 -- the same, of a store and an output before it and after it
-abbrev pub ReadsFront : {S O : Type 0} → store.Ghosts S → sink.Ghosts O → Desk → Front → S → S → O
+abbrev pub ReadsFront : {S O : Type 0} → store.Ghosts S → sink.Ghosts O → RunContext → Front → S → S → O
     → O → Result Job Halt → Type 0
-ReadsFront s o desk front before now old new result = FrontRead desk front (shown s before)
+ReadsFront s o context front before now old new result = FrontRead context front (shown s before)
     (shown s now) (taken o old) (taken o new) result

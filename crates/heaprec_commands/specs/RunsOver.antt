@@ -4,7 +4,7 @@ use Rattle.std.specs.declared.string.String.{String}
 use Rattle.hp_outside.specs.declared.limits.Limits.{Limits}
 use Rattle.hp_outside.specs.declared.sink.Sink as sink
 use Rattle.hp_outside.specs.declared.store.Store as store
-use Rattle.command_frame.specs.declared.desk.Desk.{Desk}
+use Rattle.command_frame.specs.declared.context.RunContext.{RunContext}
 use Rattle.command_frame.specs.declared.halt.Halt.{Halt}
 use Rattle.command_frame.specs.FirstFault.{bounds_of}
 use Rattle.command_frame.specs.Outside.{outside}
@@ -22,25 +22,25 @@ use Rattle.heaprec_commands.specs.Run.{WordsRecord}
 use Rattle.heaprec_commands.specs.Texts.{heaprec_texts}
 
 -- the trace of a name is checked against scripts
-abbrev pub Checks : {S O Z : Type 0} → store.Ghosts S → sink.Ghosts O → Desk → List ℕ → Job
+abbrev pub Checks : {S O Z : Type 0} → store.Ghosts S → sink.Ghosts O → RunContext → List ℕ → Job
     → S → S → O → O → Result (Vec ℕ Z) Halt → Type 0
-Checks s o desk name scripts before now old new result = Runs s o desk (name ∷ [])
+Checks s o context name scripts before now old new result = Runs s o context (name ∷ [])
     (one_file name (check_report scripts)) before now old new result
 
 -- what was asked for is done, or words that aren't taken are refused
-abbrev pub RunsAsked : {S O Z : Type 0} → store.Ghosts S → sink.Ghosts O → Desk
+abbrev pub RunsAsked : {S O Z : Type 0} → store.Ghosts S → sink.Ghosts O → RunContext
     → Option RecordAsked → S → S → O → O → Result (Vec ℕ Z) Halt → Type 0
-RunsAsked s o desk asking before now old new result =
-    WordsRecord IsRecorded (bounds_of desk.limits) desk.limits.order asking (shown s before)
+RunsAsked s o context asking before now old new result =
+    WordsRecord IsRecorded (bounds_of context.limits) context.limits.order asking (shown s before)
     (shown s now) (taken o old) (taken o new) (rest_of heaprec_texts result)
 
-abbrev pub RunsRequest : {S O Z : Type 0} → store.Ghosts S → sink.Ghosts O → Desk → RecordRequest
+abbrev pub RunsRequest : {S O Z : Type 0} → store.Ghosts S → sink.Ghosts O → RunContext → RecordRequest
     → S → S → O → O → Result (Vec ℕ Z) Halt → Type 0
-RunsRequest s o desk request = RunsAsked s o desk (Some (asked_by request))
+RunsRequest s o context request = RunsAsked s o context (Some (asked_by request))
 
-abbrev pub RunsWords : {S O Y Z : Type 0} → store.Ghosts S → sink.Ghosts O → Desk
+abbrev pub RunsWords : {S O Y Z : Type 0} → store.Ghosts S → sink.Ghosts O → RunContext
     → List (String Y) → S → S → O → O → Result (Vec ℕ Z) Halt → Type 0
-RunsWords s o desk words = RunsAsked s o desk (asked_in words)
+RunsWords s o context words = RunsAsked s o context (asked_in words)
 
 -- the whole program has run with words, and with its own limits
 abbrev pub HasRun : {S O E Z : Type 0} → store.Ghosts S → sink.Ghosts O → sink.Ghosts E → Limits

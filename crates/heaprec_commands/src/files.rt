@@ -9,7 +9,7 @@ ghost use Rattle.heaprec_commands.specs.FrontRead.{ReadsFront};
 
 use crate::one_file::{NamedFile, read_file};
 use crate::reader::FileKind;
-use command_frame::{Desk, Halt};
+use command_frame::{Halt, RunContext};
 use hp_outside::{LineReader, Sink, Store};
 use record_scripts::Scripts;
 use std::alloc::Global;
@@ -26,7 +26,7 @@ pub struct ScriptFiles<'a> {
 /// Reads the modules file, if there is one, and then the scripts in their order, 1 to 64 of them. All together may have as many
 /// events as the limits of the run say. Nothing is written.
 pub fn read_files<S: Store, O: Sink>(
-    desk: &Desk,
+    context: &RunContext,
     files: &ScriptFiles,
     store: &mut S,
     out: &mut O,
@@ -34,21 +34,21 @@ pub fn read_files<S: Store, O: Sink>(
     requires opens { S.opens store.old < 2 ^ 63 }
     requires some { 1 ≤ length files.now.scripts.now }
     requires few { length files.now.scripts.now ≤ 64 }
-    ensures read { ReadsFront S.Store O.Sink desk.now (front_of files.now desk.now)
+    ensures read { ReadsFront S.Store O.Sink context.now (front_of files.now context.now)
         store.old store.new out.old out.new result }
 {
-    let mut lines = LineReader::new(desk.alloc, &desk.limits)?;
-    let scripts = Scripts::new(desk.alloc, desk.limits.order);
-    let scripts = match read_modules(desk, &mut lines, files.modules, scripts, store, out) {
+    let mut lines = LineReader::new(context.alloc, &context.limits)?;
+    let scripts = Scripts::new(context.alloc, context.limits.order);
+    let scripts = match read_modules(context, &mut lines, files.modules, scripts, store, out) {
         Ok(scripts) => scripts,
         Err(halt) => return Err(halt),
     };
-    read_scripts(desk, &mut lines, files.scripts, scripts, store, out)
+    read_scripts(context, &mut lines, files.scripts, scripts, store, out)
 }
 
 /// Reads the modules file, if there is one.
 fn read_modules<S: Store, O: Sink>(
-    desk: &Desk,
+    context: &RunContext,
     lines: &mut LineReader,
     modules: Option<&str>,
     scripts: Scripts,
@@ -56,11 +56,11 @@ fn read_modules<S: Store, O: Sink>(
     out: &mut O,
 ) -> Result<Scripts, Halt>
     requires opens { S.opens store.old < 2 ^ 63 }
-    requires limits { HasLimits lines.old desk.now.limits }
-    ensures read { ReadsFront S.Store O.Sink desk.now
+    requires limits { HasLimits lines.old context.now.limits }
+    ensures read { ReadsFront S.Store O.Sink context.now
         (modules_front (option_copied modules.entry) scripts)
         store.old store.new out.old out.new result }
-    ensures limits { HasLimits lines.new desk.now.limits }
+    ensures limits { HasLimits lines.new context.now.limits }
 {
     match modules {
         None => Ok(scripts),
@@ -69,14 +69,14 @@ fn read_modules<S: Store, O: Sink>(
                 kind: FileKind::Modules,
                 name,
             };
-            read_file(desk, lines, &file, scripts, store, out)
+            read_file(context, lines, &file, scripts, store, out)
         }
     }
 }
 
 /// Reads scripts in their order, each of them as the next thread's.
 fn read_scripts<S: Store, O: Sink>(
-    desk: &Desk,
+    context: &RunContext,
     lines: &mut LineReader,
     names: &[&str],
     scripts: Scripts,
@@ -85,14 +85,14 @@ fn read_scripts<S: Store, O: Sink>(
 ) -> Result<Scripts, Halt>
     requires opens { S.opens store.old < 2 ^ 63 + 1 }
     requires few { length scripts.scripts + length names.now ≤ 64 }
-    requires limits { HasLimits lines.old desk.now.limits }
-    ensures read { ReadsFront S.Store O.Sink desk.now
+    requires limits { HasLimits lines.old context.now.limits }
+    ensures read { ReadsFront S.Store O.Sink context.now
         (scripts_front (map (λ name. name.now) names.now) scripts)
         store.old store.new out.old out.new result }
 {
     let mut scripts = scripts;
     'each_name: for name in names {
-        scripts = match read_script(desk, lines, name, scripts, store, out) {
+        scripts = match read_script(context, lines, name, scripts, store, out) {
             Ok(scripts) => scripts,
             Err(halt) => return Err(halt),
         };
@@ -102,7 +102,7 @@ fn read_scripts<S: Store, O: Sink>(
 
 /// Reads a script as the next thread's.
 fn read_script<S: Store, O: Sink>(
-    desk: &Desk,
+    context: &RunContext,
     lines: &mut LineReader,
     name: &str,
     scripts: Scripts,
@@ -111,11 +111,11 @@ fn read_script<S: Store, O: Sink>(
 ) -> Result<Scripts, Halt>
     requires opens { S.opens store.old < 2 ^ 64 - 1 }
     requires few { length scripts.scripts < 64 }
-    requires limits { HasLimits lines.old desk.now.limits }
-    ensures read { ReadsFront S.Store O.Sink desk.now
+    requires limits { HasLimits lines.old context.now.limits }
+    ensures read { ReadsFront S.Store O.Sink context.now
         (file_front ScriptFile name.now (begun scripts))
         store.old store.new out.old out.new result }
-    ensures limits { HasLimits lines.new desk.now.limits }
+    ensures limits { HasLimits lines.new context.now.limits }
 {
     let mut scripts = scripts;
     scripts.begin()?;
@@ -123,5 +123,5 @@ fn read_script<S: Store, O: Sink>(
         kind: FileKind::Script,
         name,
     };
-    read_file(desk, lines, &file, scripts, store, out)
+    read_file(context, lines, &file, scripts, store, out)
 }

@@ -1,4 +1,4 @@
-//! The recorder's run: words and files in, a recording of scripts by threads or whether a trace is one, messages and a status
+//! The runs of `heaprec`: words and files in, a recording of scripts by threads or whether a trace is one, messages and a status
 //! out. What the real files and outputs are is the business of the program.
 //!
 //! `heaprec_run` and `heaprec_main` carry the contract of the program, one record (`HeaprecRan`), which holds if the call

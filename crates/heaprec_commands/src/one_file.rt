@@ -6,7 +6,7 @@ ghost use Rattle.heaprec_commands.specs.FileStart.{BeginsWith, HasLimits};
 ghost use Rattle.heaprec_commands.specs.FrontRead.{ReadsFront};
 
 use crate::reader::{FileKind, FileReader, Start};
-use command_frame::{Desk, Halt, read_named_file};
+use command_frame::{Halt, RunContext, read_named_file};
 use hp_outside::{LineReader, Sink, Store};
 use record_scripts::Scripts;
 use std::marker::{Brand, PhantomData};
@@ -20,7 +20,7 @@ pub struct NamedFile<'a> {
 
 /// Reads a file into scripts. For a script, one of them is open.
 pub fn read_file<S: Store, O: Sink>(
-    desk: &Desk,
+    context: &RunContext,
     lines: &mut LineReader,
     file: &NamedFile,
     scripts: Scripts,
@@ -29,18 +29,17 @@ pub fn read_file<S: Store, O: Sink>(
 ) -> Result<Scripts, Halt>
     requires opens { S.opens store.old < 2 ^ 64 - 1 }
     requires open { file.now.kind ≡ Script → 0 < length scripts.scripts }
-    requires limits { HasLimits lines.old desk.now.limits }
-    ensures read { ReadsFront S.Store O.Sink desk.now
+    requires limits { HasLimits lines.old context.now.limits }
+    ensures read { ReadsFront S.Store O.Sink context.now
         (file_front file.now.kind file.now.name.now scripts)
         store.old store.new out.old out.new result }
-    ensures limits { HasLimits lines.new desk.now.limits }
+    ensures limits { HasLimits lines.new context.now.limits }
 {
-    read_behind::<Brand, S, O>(desk, lines, file, scripts, store, out)
+    read_behind::<Brand, S, O>(context, lines, file, scripts, store, out)
 }
 
-/// The same, where `B` says what was read before.
 fn read_behind<B: Start, S: Store, O: Sink>(
-    desk: &Desk,
+    context: &RunContext,
     lines: &mut LineReader,
     file: &NamedFile,
     scripts: Scripts,
@@ -49,17 +48,17 @@ fn read_behind<B: Start, S: Store, O: Sink>(
 ) -> Result<Scripts, Halt>
     requires opens { S.opens store.old < 2 ^ 64 - 1 }
     requires begins { BeginsWith B.kind B.job file.now.kind scripts }
-    requires limits { HasLimits lines.old desk.now.limits }
-    ensures read { ReadsFront S.Store O.Sink desk.now (file_front B.kind file.now.name.now B.job)
+    requires limits { HasLimits lines.old context.now.limits }
+    ensures read { ReadsFront S.Store O.Sink context.now (file_front B.kind file.now.name.now B.job)
         store.old store.new out.old out.new result }
-    ensures limits { HasLimits lines.new desk.now.limits }
+    ensures limits { HasLimits lines.new context.now.limits }
 {
     let mut reader = FileReader::<B> {
         kind: file.kind,
         scripts,
         behind: PhantomData,
     };
-    match read_named_file(desk, lines, file.name, &mut reader, store, out) {
+    match read_named_file(context, lines, file.name, &mut reader, store, out) {
         Ok(()) => Ok(reader.scripts),
         Err(halt) => Err(halt),
     }

@@ -6,7 +6,7 @@ ghost use Rattle.heaprec_commands.specs.RunsOver.{HasRun, HasRunMain, IsWanting}
 use crate::open_gate::OpenGate;
 use crate::run_words::run_words;
 use crate::texts::heaprec_texts;
-use command_frame::{Desk, Halt, deliver};
+use command_frame::{Halt, RunContext, deliver};
 use hp_num::NoMemory;
 use hp_outside::{Limits, Sink, Store};
 use recorder::Gate;
@@ -51,13 +51,13 @@ pub fn heaprec_run<R: Threads + Wait + Sync, S: Store, O: Sink, E: Sink, G: Gate
     ensures { HasRun S.Store O.Sink E.Sink limits.now words.now store.old out.old err.old store.new
         out.new err.new result }
 {
-    let desk = Desk {
+    let context = RunContext {
         alloc,
         limits: *limits,
         texts: heaprec_texts(),
     };
-    let ran = run_words(rt, &desk, words, store, out, gate);
-    deliver(ran, &desk.texts, out, err)
+    let ran = run_words(rt, &context, words, store, out, gate);
+    deliver(ran, &context.texts, out, err)
 }
 
 /// Runs `heaprec` with the limits of the program and a gate that does nothing, and answers that the program ends with the status

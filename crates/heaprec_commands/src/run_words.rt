@@ -10,7 +10,7 @@ use crate::check_trace::check_trace;
 use crate::files::{ScriptFiles, read_files};
 use crate::record_text::record_text;
 use crate::request::{RecordRequest, RecordTask};
-use command_frame::{Desk, Halt};
+use command_frame::{Halt, RunContext};
 use command_words::WordsFault;
 use hp_outside::{Sink, Store};
 use order_check::front_laws;
@@ -23,21 +23,21 @@ use std::thread::Threads;
 /// Runs what the words ask for. Nothing is written, and no words at all take no memory.
 pub fn run_words<R: Threads + Wait + Sync, S: Store, O: Sink, G: Gate + Sync>(
     rt: &R,
-    desk: &Desk,
+    context: &RunContext,
     words: &[String],
     store: &mut S,
     out: &mut O,
     gate: &G,
 ) -> Result<Vec<u8>, Halt>
     requires opens { S.opens store.old < 2 ^ 63 }
-    requires texts { texts_of desk.now.texts ≡ heaprec_texts }
-    ensures run { RunsWords S.Store O.Sink desk.now words.now store.old store.new out.old out.new
+    requires texts { texts_of context.now.texts ≡ heaprec_texts }
+    ensures run { RunsWords S.Store O.Sink context.now words.now store.old store.new out.old out.new
         result }
     ensures none { map string_bytes words.now ≡ []
         → (rest_of heaprec_texts result).status ≡ 2 }
 {
-    match RecordRequest::read(desk.alloc, words) {
-        Ok(request) => run_request(rt, desk, &request, store, out, gate),
+    match RecordRequest::read(context.alloc, words) {
+        Ok(request) => run_request(rt, context, &request, store, out, gate),
         Err(WordsFault::NotTaken) => Err(Halt::usage()),
         Err(WordsFault::NoMemory) => Err(Halt::no_memory()),
     }
@@ -46,36 +46,36 @@ pub fn run_words<R: Threads + Wait + Sync, S: Store, O: Sink, G: Gate + Sync>(
 /// Runs a request: reads its files, and records what they say or checks a trace against it.
 fn run_request<R: Threads + Wait + Sync, S: Store, O: Sink, G: Gate + Sync>(
     rt: &R,
-    desk: &Desk,
+    context: &RunContext,
     request: &RecordRequest,
     store: &mut S,
     out: &mut O,
     gate: &G,
 ) -> Result<Vec<u8>, Halt>
     requires opens { S.opens store.old < 2 ^ 63 }
-    requires texts { texts_of desk.now.texts ≡ heaprec_texts }
+    requires texts { texts_of context.now.texts ≡ heaprec_texts }
     requires some { NamesSome request.now }
     requires few { NamesFew request.now }
-    ensures { RunsRequest S.Store O.Sink desk.now request.now store.old store.new out.old out.new
+    ensures { RunsRequest S.Store O.Sink context.now request.now store.old store.new out.old out.new
         result }
 {
     let files = ScriptFiles {
         modules: request.modules,
         scripts: &request.scripts,
     };
-    let scripts = match read_files(desk, &files, store, out) {
+    let scripts = match read_files(context, &files, store, out) {
         Ok(scripts) => scripts,
         Err(halt) => return Err(halt),
     };
     match request.task {
         RecordTask::Record { summary } => {
-            Ok(record_text(rt, desk.alloc, scripts, summary, gate)?)
+            Ok(record_text(rt, context.alloc, scripts, summary, gate)?)
         }
         RecordTask::Check { trace } => {
             front_laws();
             quiet_modules();
             let _modules = scripts.modules();
-            check_trace(desk, trace, scripts, store, out)
+            check_trace(context, trace, scripts, store, out)
         }
     }
 }

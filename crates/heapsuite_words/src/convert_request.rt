@@ -117,7 +117,6 @@ fn kind_or(value: Option<&str>) -> Option<FileKind>
     }
 }
 
-/// The kind of file of a name.
 fn kind_named(name: &str) -> Option<FileKind>
     ensures { result ≡ kind_named name.now }
 {

@@ -67,7 +67,6 @@ fn cost_in(words: &TakenWords) -> Option<FlameCost>
     cost_named(name)
 }
 
-/// The cost of a name.
 fn cost_named(name: &str) -> Option<FlameCost>
     ensures { result ≡ cost_named name.now }
 {

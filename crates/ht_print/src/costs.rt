@@ -26,7 +26,6 @@ pub fn stack_costs(alloc: Global, cost: FlameCost, peaks: &Peaks) -> Result<Vec<
     Ok(costs)
 }
 
-/// What the stack costs.
 fn cost_of(cost: FlameCost, peaks: &Peaks, stack: u32) -> u64
     requires held { stack < peaks.now.ledger.stacks }
     requires sound { IsSound peaks.now }

@@ -123,7 +123,6 @@ fn put_figures(
     put_entries(alloc, layout, scale, &stacks, out)
 }
 
-/// The sum of the figures.
 fn sum_of(figures: &[u64]) -> u64
     requires { sum figures.now ≤ 2 ^ 62 }
     ensures { result ≡ sum figures.now }

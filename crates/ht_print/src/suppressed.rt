@@ -46,7 +46,6 @@ impl Suppressed {
     }
 }
 
-/// For each stack whether it is suppressed, or `NoMemory`.
 fn suppressed_stacks(alloc: Global, tables: &Tables) -> Result<Vec<bool>, NoMemory>
     ensures { IfOk result (λ stacks. stacks.items ≡ suppressed_stacks tables.now) }
 {

@@ -45,7 +45,6 @@ pub fn replace_by_instruction(
     push_instruction(instructions, instruction, out)
 }
 
-/// Replaces `out` by the frame of stack 0.
 fn replace_by_no_stack(out: &mut Vec<FrameAt>) -> Result<(), NoMemory>
     ensures frame { OnOk result (out.new.items ≡ no_stack ∷ []) }
     ensures unchanged { OnErr result (out.new.items ≡ out.old.items) }

@@ -1,54 +1,12 @@
 -- What contracts see of linked snapshots, by their fields, before and after a call.
-use Rattle.std.proofs.Common.{
-  ◌≡◌,
-  ◌≢◌,
-  ℕ,
-  ◌+◌,
-  ◌-◌,
-  ◌<◌,
-  ◌≤◌,
-  List,
-  [],
-  ◌∷◌,
-  ◌++◌,
-  length,
-  map,
-  set,
-  get_or,
-  Option,
-  false,
-  inl,
-  inr,
-  refl,
-  sym,
-  ap,
-  subst,
-  ◌∙◌,
-  arith,
-}
+use Rattle.std.proofs.Common.{◌≡◌, ◌≢◌, ℕ, ◌+◌, ◌-◌, ◌<◌, ◌≤◌, List, [], ◌∷◌, ◌++◌, length, map, set, get_or, Option, false, inl, inr, refl, sym, ap, subst, ◌∙◌, arith}
 use Rattle.std.specs.Prelude.{slice_get, remove, Contains, Some, None, IsSome, is_some}
 use Rattle.std.specs.Option.{option_map}
 use Rattle.std.proofs.lemmas.Bool.{cases_eq, cases_lt}
-use Rattle.std.proofs.lemmas.List.{
-  get_or_default,
-  get_or-set_other,
-  get_or-set_same,
-  length-map,
-  map-append,
-  length-set,
-  length_push,
-  nil_from_length,
-}
+use Rattle.std.proofs.lemmas.List.{get_or_default, get_or-set_other, get_or-set_same, length-map, map-append, length-set, length_push, nil_from_length}
 use Rattle.std.proofs.lemmas.List.Edits.{length-remove}
 use Rattle.std.proofs.lemmas.Simd.{map-map}
-use Rattle.std.proofs.lemmas.Option.{
-  none-some,
-  same_Some,
-  slice_get-map,
-  slice_get_within,
-  slice_get-get_or,
-  get_or_from_slice_get,
-}
+use Rattle.std.proofs.lemmas.Option.{none-some, same_Some, slice_get-map, slice_get_within, slice_get-get_or, get_or_from_slice_get}
 use Rattle.massif_cull.specs.declared.linked.Held.{Held}
 use Rattle.massif_cull.specs.declared.linked.LinkedSnaps.TheInside.{Inside}
 use Rattle.massif_cull.specs.declared.snapshot.Kind.{Kind}
@@ -58,23 +16,11 @@ use Rattle.massif_cull.specs.Linked.{IsOutside, AreDifferent, AreBelow}
 use Rattle.massif_cull.specs.LinksState.{LinksState}
 use Rattle.massif_cull.specs.Held.{held_at, held_in, snaps_of, AreHeld, ended}
 use Rattle.massif_cull.proofs.Linking.{apart-at, each-append, each-at, each-from, each-remove, different-pop}
-use Rattle.massif_cull.proofs.HeldLemmas.{
-  AreEnded,
-  AreTaken,
-  some-of,
-  length-held,
-  held-at,
-  held-push,
-  taken-push,
-  held-remove,
-  taken-remove,
-  held-ended,
-  taken-ended,
-}
+use Rattle.massif_cull.proofs.HeldLemmas.{AreEnded, AreTaken, some-of, length-held, held-at, held-push, taken-push, held-remove, taken-remove, held-ended, taken-ended}
 use Rattle.massif_cull.proofs.Places.{peak-of}
 use Rattle.massif_cull.proofs.Removals.{map-remove}
 
--- the place of a spot is one of the list
+-- the place of a snap_at is one of the list
 pub contains-at : (places : List ℕ) (k p : ℕ) → slice_get places k ≡ Some p → Contains places p
 contains-at places k p at = (k, slice_get_within places k p at, get_or_from_slice_get places k p p at)
 
@@ -128,7 +74,7 @@ pub slot-there : {T : Type 0} (slots : List (Option (Held T))) (p : ℕ) (x : Op
     → x ≡ get_or slots p x → held_at slots p ≡ x
 slot-there slots p x inside e = get_or_default slots p None x inside ∙ sym e
 
--- what stands at a spot
+-- what stands at a snap_at
 pub held-there : {T : Type 0} (snaps : Inside T) (k p : ℕ) → AreHeld snaps → slice_get snaps.links.places k ≡ Some p
     → (held : Held T) × (held_at snaps.slots.items p ≡ Some held)
 held-there snaps k p is at =

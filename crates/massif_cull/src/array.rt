@@ -237,7 +237,7 @@ impl<T: Drop> SnapArray<T> {
         ensures time_most { result.time ≤ 2 ^ 62 }
         ensures total_most { result.total ≤ 2 ^ 62 }
     {
-        self.snaps.entry(self.snaps.spot(i))
+        self.snaps.entry(self.snaps.snap_at(i))
     }
 
     /// Replaces `out` by the snapshots in their order, by one walk. It takes no memory: `out` must have room for them.
@@ -253,7 +253,7 @@ impl<T: Drop> SnapArray<T> {
         requires { i < length self.now.kept.entries }
         ensures { slice_get self.now.loads i ≡ Some result.now }
     {
-        self.snaps.load(self.snaps.spot(i))
+        self.snaps.load(self.snaps.snap_at(i))
     }
 
     /// The least time at which a normal offer is taken: the last snapshot's and the interval, and 0 where none is held.
@@ -292,7 +292,6 @@ impl<T: Drop> SnapArray<T> {
         self.normal_from = normal_from(&self.snaps, self.interval);
     }
 
-    /// Takes an entry as the peak.
     fn take_peak(&mut self, entry: SnapEntry, load: T)
         requires in_order { last_time self.old.kept.entries ≤ entry.time }
         requires time { entry.time ≤ 2 ^ 62 }

@@ -5,20 +5,20 @@ ghost use Rattle.massif_cull.specs.ArrayState.{AreSound};
 ghost use Rattle.massif_cull.specs.Ends.{GoesWhole, goers};
 ghost use Rattle.massif_cull.specs.Keyed.{gap_to_go};
 ghost use Rattle.massif_cull.specs.Left.{AreLeft};
-ghost use Rattle.massif_cull.specs.SnapsState.{IsSpot};
+ghost use Rattle.massif_cull.specs.SnapsState.{IsNumberedSnap};
 
 use crate::linked::LinkedSnaps;
 use crate::peak::is_peak_entry;
-use crate::snapshot::Spot;
+use crate::snapshot::NumberedSnap;
 
 impl<T: Drop> LinkedSnaps<T> {
     /// Where an end begins all of which a cull removes but for its last snapshot and the peak, and nothing before it. `None`
     /// where it isn't so of the end that has as many as go.
-    pub(crate) fn whole_end(&self) -> Option<Spot>
+    pub(crate) fn whole_end(&self) -> Option<NumberedSnap>
         requires long { 6 ≤ length self.now.entries }
         requires sound { AreSound self.now.entries }
-        ensures spot { IfSome result (λ spot. IsSpot self.now spot) }
-        ensures whole { IfSome result (λ spot. GoesWhole self.now.entries spot.index) }
+        ensures snap_at { IfSome result (λ snap_at. IsNumberedSnap self.now snap_at) }
+        ensures whole { IfSome result (λ snap_at. GoesWhole self.now.entries snap_at.index) }
     {
         let first = self.first();
         if self.gap_from(self.after(first), self.entry(first).time) == 0 {
@@ -26,41 +26,41 @@ impl<T: Drop> LinkedSnaps<T> {
             return None;
         }
         let last = self.last()?;
-        let spot = self.end_of(self.len() / 2)?;
-        let span = last.time - self.entry(self.before(spot)).time;
-        if self.are_gaps_above(spot, span) {
-            return Some(spot);
+        let snap_at = self.end_of(self.len() / 2)?;
+        let span = last.time - self.entry(self.before(snap_at)).time;
+        if self.are_gaps_above(snap_at, span) {
+            return Some(snap_at);
         }
         None
     }
 
     /// Where an end begins of which so many may go. `None` where no such end stands behind the first snapshot.
-    fn end_of(&self, count: u32) -> Option<Spot>
+    fn end_of(&self, count: u32) -> Option<NumberedSnap>
         requires long { 2 ≤ length self.now.entries }
-        ensures spot { IfSome result (λ spot. IsSpot self.now spot) }
+        ensures snap_at { IfSome result (λ snap_at. IsNumberedSnap self.now snap_at) }
         ensures inside { IfSome result
-            (λ spot. (0 < spot.index) × (spot.index < length self.now.entries)) }
+            (λ snap_at. (0 < snap_at.index) × (snap_at.index < length self.now.entries)) }
         ensures count { IfSome result
-            (λ spot. goers self.now.entries spot.index (length self.now.entries - 1 - spot.index)
+            (λ snap_at. goers self.now.entries snap_at.index (length self.now.entries - 1 - snap_at.index)
             ≡ count) }
     {
-        let mut spot = self.last_spot()?;
+        let mut snap_at = self.last_spot()?;
         let mut found = 0;
         'back: while found < count {
-            if spot.index == 1 {
+            if snap_at.index == 1 {
                 return None;
             }
-            spot = self.before(spot);
-            if is_peak_entry(&self.entry(spot)) {
+            snap_at = self.before(snap_at);
+            if is_peak_entry(&self.entry(snap_at)) {
                 continue;
             }
             found += 1;
         }
-        Some(spot)
+        Some(snap_at)
     }
 
-    /// Whether the gaps of all snapshots between the first and the spot are above so much.
-    fn are_gaps_above(&self, end: Spot, span: u64) -> bool
+    /// Whether the gaps of all snapshots between the first and the snap_at are above so much.
+    fn are_gaps_above(&self, end: NumberedSnap, span: u64) -> bool
         requires end { (0 < end.index) × (end.index < length self.now.entries) }
         requires sound { AreSound self.now.entries }
         ensures { result ≡ true → (k : ℕ) → 0 < k → k < end.index
@@ -68,33 +68,33 @@ impl<T: Drop> LinkedSnaps<T> {
     {
         let first = self.first();
         let mut time = self.entry(first).time;
-        let mut spot = self.after(first);
-        'spots: while spot.index < end.index {
-            if self.gap_from(spot, time) <= span {
+        let mut snap_at = self.after(first);
+        'spots: while snap_at.index < end.index {
+            if self.gap_from(snap_at, time) <= span {
                 return false;
             }
-            time = self.entry(spot).time;
-            spot = self.after(spot);
+            time = self.entry(snap_at).time;
+            snap_at = self.after(snap_at);
         }
         true
     }
 
-    /// Removes all from the spot on with their loads, but for the last snapshot and the peak.
-    pub(crate) fn remove_end(&mut self, spot: Spot)
+    /// Removes all from the snap_at on with their loads, but for the last snapshot and the peak.
+    pub(crate) fn remove_end(&mut self, snap_at: NumberedSnap)
         requires sound { AreSound self.old.entries }
-        requires spot { IsSpot self.old spot }
-        requires whole { GoesWhole self.old.entries spot.index }
+        requires snap_at { IsNumberedSnap self.old snap_at }
+        requires whole { GoesWhole self.old.entries snap_at.index }
         ensures max { self.new.max ≡ self.old.max }
         ensures left { AreLeft 0 self.old.entries self.old.loads self.new.entries self.new.loads }
     {
         let mut last = self.len() - 1;
-        let mut spot = spot;
-        'end: while spot.index < last {
-            if is_peak_entry(&self.entry(spot)) {
-                spot = self.after(spot);
+        let mut snap_at = snap_at;
+        'end: while snap_at.index < last {
+            if is_peak_entry(&self.entry(snap_at)) {
+                snap_at = self.after(snap_at);
                 continue;
             }
-            spot = self.remove_at(spot);
+            snap_at = self.remove_at(snap_at);
             last -= 1;
         }
     }

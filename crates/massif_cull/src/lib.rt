@@ -1,4 +1,4 @@
-//! The array of Massif snapshots: which offers are taken as snapshots, and how the array is kept within a bound. What a
+//! The culling of Massif's snapshots: which offers are taken as snapshots, and which go where there are too many. What a
 //! snapshot shows beside its entry, and when offers are made, are no part of it.
 //!
 //! What it promises: `SnapArray` stands for the offers made to it, and keeps fewer than a set maximum of snapshots.

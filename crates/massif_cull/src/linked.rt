@@ -5,11 +5,11 @@ ghost use Rattle.std.specs.Option.{option_map};
 ghost use Rattle.massif_cull.specs.ArrayState.{AreSound};
 ghost use Rattle.massif_cull.specs.Entries.{end_peak, is_peak_at};
 ghost use Rattle.massif_cull.specs.Held.{ended};
-ghost use Rattle.massif_cull.specs.SnapsState.{ArePlaced, IsSpot};
+ghost use Rattle.massif_cull.specs.SnapsState.{ArePlaced, IsNumberedSnap};
 
 use crate::links::Links;
 use crate::peak::{after_peak, is_peak_entry};
-use crate::snapshot::{SnapEntry, Spot};
+use crate::snapshot::{NumberedSnap, SnapEntry};
 use hp_num::NoMemory;
 use std::alloc::Global;
 use std::marker::Model;
@@ -65,17 +65,17 @@ impl<T: Drop> LinkedSnaps<T> {
         self.slots[place as usize] = Some(Held { entry, load });
     }
 
-    /// Removes the snapshot at the spot and gives it with its load. The others keep their order and their places.
-    pub fn remove(&mut self, spot: Spot) -> Held<T>
-        requires { IsSpot self.old spot }
+    /// Removes the snapshot at the snap_at and gives it with its load. The others keep their order and their places.
+    pub fn remove(&mut self, snap_at: NumberedSnap) -> Held<T>
+        requires { IsNumberedSnap self.old snap_at }
         ensures max { self.new.max ≡ self.old.max }
-        ensures places { self.new.places ≡ remove self.old.places spot.index }
-        ensures entries { self.new.entries ≡ remove self.old.entries spot.index }
-        ensures loads { self.new.loads ≡ remove self.old.loads spot.index }
-        ensures entry { slice_get self.old.entries spot.index ≡ Some result.entry }
-        ensures load { slice_get self.old.loads spot.index ≡ Some result.load }
+        ensures places { self.new.places ≡ remove self.old.places snap_at.index }
+        ensures entries { self.new.entries ≡ remove self.old.entries snap_at.index }
+        ensures loads { self.new.loads ≡ remove self.old.loads snap_at.index }
+        ensures entry { slice_get self.old.entries snap_at.index ≡ Some result.entry }
+        ensures load { slice_get self.old.loads snap_at.index ≡ Some result.load }
     {
-        self.take_out(spot.place)
+        self.take_out(snap_at.place)
     }
 
     /// Removes the snapshot at the place and gives it with its load. The others keep their order and their places.
@@ -115,39 +115,39 @@ impl<T: Drop> LinkedSnaps<T> {
     }
 
     /// Where the first one stands. One must be held.
-    pub fn first(&self) -> Spot
+    pub fn first(&self) -> NumberedSnap
         requires { 0 < length self.now.entries }
-        ensures spot { IsSpot self.now result }
+        ensures snap_at { IsNumberedSnap self.now result }
         ensures index { result.index ≡ 0 }
     {
         let place = self.links.first().unwrap();
-        Spot { index: 0, place }
+        NumberedSnap { index: 0, place }
     }
 
-    /// Where the next one stands. The spot must not be the last.
-    pub fn after(&self, spot: Spot) -> Spot
-        requires spot { IsSpot self.now spot }
-        requires inside { spot.index + 1 < length self.now.entries }
-        ensures spot { IsSpot self.now result }
-        ensures index { result.index ≡ spot.index + 1 }
+    /// Where the next one stands. The snap_at must not be the last.
+    pub fn after(&self, snap_at: NumberedSnap) -> NumberedSnap
+        requires snap_at { IsNumberedSnap self.now snap_at }
+        requires inside { snap_at.index + 1 < length self.now.entries }
+        ensures snap_at { IsNumberedSnap self.now result }
+        ensures index { result.index ≡ snap_at.index + 1 }
     {
-        let place = self.links.next(spot.place).unwrap();
-        Spot {
-            index: spot.index + 1,
+        let place = self.links.next(snap_at.place).unwrap();
+        NumberedSnap {
+            index: snap_at.index + 1,
             place,
         }
     }
 
-    /// Where the one before stands. The spot must not be the first.
-    pub fn before(&self, spot: Spot) -> Spot
-        requires spot { IsSpot self.now spot }
-        requires inside { 0 < spot.index }
-        ensures spot { IsSpot self.now result }
-        ensures index { result.index + 1 ≡ spot.index }
+    /// Where the one before stands. The snap_at must not be the first.
+    pub fn before(&self, snap_at: NumberedSnap) -> NumberedSnap
+        requires snap_at { IsNumberedSnap self.now snap_at }
+        requires inside { 0 < snap_at.index }
+        ensures snap_at { IsNumberedSnap self.now result }
+        ensures index { result.index + 1 ≡ snap_at.index }
     {
-        let place = self.links.prev(spot.place).unwrap();
-        Spot {
-            index: spot.index - 1,
+        let place = self.links.prev(snap_at.place).unwrap();
+        NumberedSnap {
+            index: snap_at.index - 1,
             place,
         }
     }
@@ -173,16 +173,16 @@ impl<T: Drop> LinkedSnaps<T> {
     }
 
     /// Where the one stands before which `index` stand.
-    pub fn spot(&self, index: u32) -> Spot
+    pub fn snap_at(&self, index: u32) -> NumberedSnap
         requires { index < length self.now.entries }
-        ensures spot { IsSpot self.now result }
+        ensures snap_at { IsNumberedSnap self.now result }
         ensures index { result.index ≡ index }
     {
-        let mut spot = self.first();
+        let mut snap_at = self.first();
         'steps: for _ in 0..index {
-            spot = self.after(spot);
+            snap_at = self.after(snap_at);
         }
-        spot
+        snap_at
     }
 
     /// Replaces `out` by the entries in their order, by one walk. `out` must have room for them.
@@ -194,47 +194,47 @@ impl<T: Drop> LinkedSnaps<T> {
         if self.len() == 0 {
             return;
         }
-        let mut spot = self.first();
-        out.push_reserved(self.entry(spot));
+        let mut snap_at = self.first();
+        out.push_reserved(self.entry(snap_at));
         'others: for _ in 1..self.len() {
-            spot = self.after(spot);
-            out.push_reserved(self.entry(spot));
+            snap_at = self.after(snap_at);
+            out.push_reserved(self.entry(snap_at));
         }
     }
 
-    /// The entry at the spot.
-    pub fn entry(&self, spot: Spot) -> SnapEntry
-        requires { IsSpot self.now spot }
-        ensures { slice_get self.now.entries spot.index ≡ Some result }
+    /// The entry at the snap_at.
+    pub fn entry(&self, snap_at: NumberedSnap) -> SnapEntry
+        requires { IsNumberedSnap self.now snap_at }
+        ensures { slice_get self.now.entries snap_at.index ≡ Some result }
     {
-        self.held(spot).entry
+        self.held(snap_at).entry
     }
 
-    /// The load at the spot.
-    pub fn load(&self, spot: Spot) -> &T
-        requires { IsSpot self.now spot }
-        ensures { slice_get self.now.loads spot.index ≡ Some result.now }
+    /// The load at the snap_at.
+    pub fn load(&self, snap_at: NumberedSnap) -> &T
+        requires { IsNumberedSnap self.now snap_at }
+        ensures { slice_get self.now.loads snap_at.index ≡ Some result.now }
     {
-        &self.held(spot).load
+        &self.held(snap_at).load
     }
 
     /// The last entry, and None where none is held.
     pub fn last(&self) -> Option<SnapEntry>
         ensures { result ≡ slice_get self.now.entries (length self.now.entries - 1) }
     {
-        let spot = self.last_spot()?;
-        Some(self.entry(spot))
+        let snap_at = self.last_spot()?;
+        Some(self.entry(snap_at))
     }
 
     /// Where the last one stands, and None where none is held.
-    pub fn last_spot(&self) -> Option<Spot>
-        ensures spot { IfSome result (λ spot. IsSpot self.now spot) }
-        ensures last { IfSome result (λ spot. spot.index + 1 ≡ length self.now.entries) }
+    pub fn last_spot(&self) -> Option<NumberedSnap>
+        ensures snap_at { IfSome result (λ snap_at. IsNumberedSnap self.now snap_at) }
+        ensures last { IfSome result (λ snap_at. snap_at.index + 1 ≡ length self.now.entries) }
         ensures none { result ≡ None → self.now.entries ≡ [] }
     {
         let place = self.links.last()?;
         let index = self.len() - 1;
-        Some(Spot { index, place })
+        Some(NumberedSnap { index, place })
     }
 
     /// The entry at the place.
@@ -246,12 +246,12 @@ impl<T: Drop> LinkedSnaps<T> {
         self.held_at(place).entry
     }
 
-    fn held(&self, spot: Spot) -> &Held<T>
-        requires { IsSpot self.now spot }
-        ensures entry { slice_get self.now.entries spot.index ≡ Some result.now.entry }
-        ensures load { slice_get self.now.loads spot.index ≡ Some result.now.load }
+    fn held(&self, snap_at: NumberedSnap) -> &Held<T>
+        requires { IsNumberedSnap self.now snap_at }
+        ensures entry { slice_get self.now.entries snap_at.index ≡ Some result.now.entry }
+        ensures load { slice_get self.now.loads snap_at.index ≡ Some result.now.load }
     {
-        self.held_at(spot.place)
+        self.held_at(snap_at.place)
     }
 
     fn held_at(&self, place: u32) -> &Held<T>
@@ -266,21 +266,21 @@ impl<T: Drop> LinkedSnaps<T> {
 
     /// Where the peak stands, if there is one: no other is a peak. It is looked for from the last snapshot on. None comes where
     /// no snapshot is held.
-    fn peak(&self) -> Option<Spot>
+    fn peak(&self) -> Option<NumberedSnap>
         requires { AreSound self.now.entries }
-        ensures spot { IfSome result (λ spot. IsSpot self.now spot) }
+        ensures snap_at { IfSome result (λ snap_at. IsNumberedSnap self.now snap_at) }
         ensures others { IfSome result
-            (λ spot. (k : ℕ) → k ≢ spot.index → is_peak_at self.now.entries k ≡ false) }
+            (λ snap_at. (k : ℕ) → k ≢ snap_at.index → is_peak_at self.now.entries k ≡ false) }
         ensures none { result ≡ None → self.now.entries ≡ [] }
     {
-        let mut spot = self.last_spot()?;
-        'back: while spot.index > 0 {
-            if is_peak_entry(&self.entry(spot)) {
-                return Some(spot);
+        let mut snap_at = self.last_spot()?;
+        'back: while snap_at.index > 0 {
+            if is_peak_entry(&self.entry(snap_at)) {
+                return Some(snap_at);
             }
-            spot = self.before(spot);
+            snap_at = self.before(snap_at);
         }
-        Some(spot)
+        Some(snap_at)
     }
 
     /// Makes the earlier peak a normal entry, where one is held.
@@ -291,10 +291,10 @@ impl<T: Drop> LinkedSnaps<T> {
         ensures entries { self.new.entries ≡ map end_peak self.old.entries }
         ensures loads { self.new.loads ≡ self.old.loads }
     {
-        let Some(spot) = self.peak() else {
+        let Some(snap_at) = self.peak() else {
             return;
         };
-        end_peak_at(&mut self.slots[spot.place as usize]);
+        end_peak_at(&mut self.slots[snap_at.place as usize]);
     }
 }
 

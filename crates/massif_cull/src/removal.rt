@@ -9,12 +9,12 @@ ghost use Rattle.massif_cull.specs.Interval.{least_interval};
 ghost use Rattle.massif_cull.specs.Keyed.{AreKeyed, RemovesNext, gap_to_go};
 ghost use Rattle.massif_cull.specs.Left.{AreLeft};
 ghost use Rattle.massif_cull.specs.Loads.{loads_cull};
-ghost use Rattle.massif_cull.specs.SnapsState.{IsSpot};
+ghost use Rattle.massif_cull.specs.SnapsState.{IsNumberedSnap};
 
 use crate::gaps::{Gaps, Key, NEVER};
 use crate::linked::LinkedSnaps;
 use crate::peak::is_peak_entry;
-use crate::snapshot::Spot;
+use crate::snapshot::NumberedSnap;
 
 impl<T: Drop> LinkedSnaps<T> {
     /// Removes snapshots with their loads, half of them rounded down, and answers the least time between two
@@ -51,7 +51,7 @@ impl<T: Drop> LinkedSnaps<T> {
         ensures left { AreLeft 0 self.old.entries self.old.loads self.new.entries self.new.loads }
     {
         match self.whole_end() {
-            Some(spot) => self.remove_end(spot),
+            Some(snap_at) => self.remove_end(snap_at),
             None => self.remove_by_gaps(gaps),
         }
     }
@@ -89,14 +89,14 @@ impl<T: Drop> LinkedSnaps<T> {
         let mut last = count - 1;
         let first = self.first();
         let mut time = self.entry(first).time;
-        let mut spot = self.after(first);
-        'walk: while left > 0 && spot.index < last {
-            if self.gap_from(spot, time) > 0 {
-                time = self.entry(spot).time;
-                spot = self.after(spot);
+        let mut snap_at = self.after(first);
+        'walk: while left > 0 && snap_at.index < last {
+            if self.gap_from(snap_at, time) > 0 {
+                time = self.entry(snap_at).time;
+                snap_at = self.after(snap_at);
                 continue;
             }
-            spot = self.remove_at(spot);
+            snap_at = self.remove_at(snap_at);
             last -= 1;
             left -= 1;
         }
@@ -114,63 +114,63 @@ impl<T: Drop> LinkedSnaps<T> {
     {
         gaps.clear();
         let last = self.len() - 1;
-        let mut spot = self.first();
-        'walk: while spot.index < last {
-            gaps.put(spot.place, self.key(spot));
-            spot = self.after(spot);
+        let mut snap_at = self.first();
+        'walk: while snap_at.index < last {
+            gaps.put(snap_at.place, self.key(snap_at));
+            snap_at = self.after(snap_at);
         }
-        gaps.put(spot.place, self.key(spot));
+        gaps.put(snap_at.place, self.key(snap_at));
         gaps.build();
     }
 
-    /// The gap of the snapshot at the spot, where the one before it has this time. The spot must be neither the first nor the
+    /// The gap of the snapshot at the snap_at, where the one before it has this time. The snap_at must be neither the first nor the
     /// last.
-    pub(crate) fn gap_from(&self, spot: Spot, time: u64) -> u64
-        requires spot { IsSpot self.now spot }
-        requires inside { (0 < spot.index) × (spot.index + 1 < length self.now.entries) }
+    pub(crate) fn gap_from(&self, snap_at: NumberedSnap, time: u64) -> u64
+        requires snap_at { IsNumberedSnap self.now snap_at }
+        requires inside { (0 < snap_at.index) × (snap_at.index + 1 < length self.now.entries) }
         requires sound { AreSound self.now.entries }
-        requires time { time ≡ slice_index (times self.now.entries) (spot.index - 1) }
-        ensures { result ≡ gap_to_go self.now.entries spot.index }
+        requires time { time ≡ slice_index (times self.now.entries) (snap_at.index - 1) }
+        ensures { result ≡ gap_to_go self.now.entries snap_at.index }
     {
-        if is_peak_entry(&self.entry(spot)) {
+        if is_peak_entry(&self.entry(snap_at)) {
             return NEVER;
         }
-        self.entry(self.after(spot)).time - time
+        self.entry(self.after(snap_at)).time - time
     }
 
-    /// Removes the snapshot at the spot with its load, and answers where the next one stands. The spot must not be the last.
-    pub(crate) fn remove_at(&mut self, spot: Spot) -> Spot
-        requires spot { IsSpot self.old spot }
-        requires inside { spot.index + 1 < length self.old.entries }
+    /// Removes the snapshot at the snap_at with its load, and answers where the next one stands. The snap_at must not be the last.
+    pub(crate) fn remove_at(&mut self, snap_at: NumberedSnap) -> NumberedSnap
+        requires snap_at { IsNumberedSnap self.old snap_at }
+        requires inside { snap_at.index + 1 < length self.old.entries }
         ensures max { self.new.max ≡ self.old.max }
-        ensures places { self.new.places ≡ remove self.old.places spot.index }
-        ensures entries { self.new.entries ≡ remove self.old.entries spot.index }
-        ensures loads { self.new.loads ≡ remove self.old.loads spot.index }
-        ensures spot { IsSpot self.new result }
-        ensures index { result.index ≡ spot.index }
+        ensures places { self.new.places ≡ remove self.old.places snap_at.index }
+        ensures entries { self.new.entries ≡ remove self.old.entries snap_at.index }
+        ensures loads { self.new.loads ≡ remove self.old.loads snap_at.index }
+        ensures snap_at { IsNumberedSnap self.new result }
+        ensures index { result.index ≡ snap_at.index }
     {
-        let next = self.after(spot);
-        let _ = self.remove(spot);
-        Spot {
-            index: spot.index,
+        let next = self.after(snap_at);
+        let _ = self.remove(snap_at);
+        NumberedSnap {
+            index: snap_at.index,
             place: next.place,
         }
     }
 
-    /// The key of the snapshot at the spot: its gap, and how many stand before it.
-    fn key(&self, spot: Spot) -> Key
-        requires spot { IsSpot self.now spot }
+    /// The key of the snapshot at the snap_at: its gap, and how many stand before it.
+    fn key(&self, snap_at: NumberedSnap) -> Key
+        requires snap_at { IsNumberedSnap self.now snap_at }
         requires sound { AreSound self.now.entries }
         ensures { result ≡ record {
-          gap = gap_to_go self.now.entries spot.index;
-          number = spot.index;
-          place = spot.place;
+          gap = gap_to_go self.now.entries snap_at.index;
+          number = snap_at.index;
+          place = snap_at.place;
         } }
     {
         Key {
-            gap: self.gap(spot.place),
-            number: spot.index,
-            place: spot.place,
+            gap: self.gap(snap_at.place),
+            number: snap_at.index,
+            place: snap_at.place,
         }
     }
 
@@ -224,15 +224,15 @@ impl<T: Drop> LinkedSnaps<T> {
         ensures most { result ≤ 2 ^ 62 }
     {
         let first = self.first();
-        let mut spot = self.after(first);
-        let mut time = self.entry(spot).time;
+        let mut snap_at = self.after(first);
+        let mut time = self.entry(snap_at).time;
         let mut least = time - self.entry(first).time;
         'spots: for _ in 2..self.len() {
             if least == 0 {
                 return 0;
             }
-            spot = self.after(spot);
-            let next = self.entry(spot).time;
+            snap_at = self.after(snap_at);
+            let next = self.entry(snap_at).time;
             least = least.min(next - time);
             time = next;
         }

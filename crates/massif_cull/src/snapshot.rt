@@ -53,7 +53,7 @@ pub struct SnapEntry {
 
 /// Where a snapshot stands: how many stand before it, and its place.
 #[derive(Clone, Copy)]
-pub(crate) struct Spot {
+pub(crate) struct NumberedSnap {
     pub index: u32,
     pub place: u32,
 }

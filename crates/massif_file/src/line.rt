@@ -82,7 +82,6 @@ fn unit_of(name: &[u8]) -> Option<TimeUnit>
     }
 }
 
-/// The mark of this name.
 #[tactic(auto, unfolding(crate::specs::Fields::mark_of))]
 fn mark_of(name: &[u8]) -> Option<HeapTree>
     ensures { result ≡ mark_of name.now }

@@ -94,7 +94,6 @@ fn put_sizes(out: &mut Vec<u8>, snap: &Snap) -> Result<(), NoMemory>
     put_number(out, b"mem_stacks_B=", snap.stacks)
 }
 
-// The mark and the lines of the tree.
 fn put_marked_tree(out: &mut Vec<u8>, snap: &Snap) -> Result<(), NoMemory>
     ensures kept { KeepsFront out.old out.new }
     ensures appended { OnOk result

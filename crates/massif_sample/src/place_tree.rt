@@ -58,7 +58,6 @@ fn shared_total(total: u64, live: u64) -> u64
     total
 }
 
-/// What the stack costs, and 0 where it has no cost.
 fn cost_at(costs: &[u64], stack: u32) -> u64
     ensures { result ≡ slice_index_or costs.now stack 0 }
 {

@@ -52,7 +52,6 @@ pub(crate) fn bar_in(plot: Plot, snaps: &Snaps, x: usize) -> Option<Bar>
     bar
 }
 
-/// The bar of a snapshot.
 fn bar_for(plot: Plot, snap: &Snap) -> Bar
     requires plotted { IsPlotted plot snap.now }
     ensures { result ≡ bar_for plot snap.now }

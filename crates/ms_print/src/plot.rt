@@ -65,7 +65,6 @@ pub(crate) fn plot_of(width: u32, height: u32, snaps: &Snaps) -> Plot
     }
 }
 
-/// The greatest sum of the snapshots.
 fn greatest_sum(snaps: &Snaps) -> u64
     requires numbers { All IsWritableSnap snaps.now }
     ensures { result ≡ greatest_sum snaps.now }

@@ -129,7 +129,6 @@ pub(crate) fn put_rule(out: &mut Vec<u8>) -> Result<(), NoMemory>
     put_bytes(out, b"\n")
 }
 
-/// The head of the column of times.
 fn time_head(unit: TimeUnit) -> &'static [u8]
     ensures { result.now ≡ time_head unit }
 {

@@ -146,7 +146,6 @@ impl OrderCheck {
         Err(LineRefusal::NotRecorded)
     }
 
-    // Compares a line with what is to come.
     fn compare(&mut self, line: &[u8]) -> Result<(), LineRefusal>
         ensures passed { OnOk result
             (past_line line.now self.old.coming ≡ Some self.new.coming) }
@@ -192,7 +191,6 @@ fn thread_for(line: &[u8], order: &[u8]) -> Option<u64>
     }
 }
 
-// The thread that a line names.
 fn named_thread(line: &[u8]) -> Option<u64>
     ensures { result ≡ named line.now }
 {

@@ -238,7 +238,6 @@ impl Peaks {
     }
 }
 
-/// Adds a cell of 0 where there are only so many.
 fn add_cell(cells: &mut Cells, count: u32) -> Result<(), NoMemory>
     requires few { count < 2 ^ 32 - 1 }
     requires long { count ≤ length cells.old }

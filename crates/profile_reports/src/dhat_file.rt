@@ -10,7 +10,7 @@ ghost use Rattle.profile_reports.specs.DhatFileReport.{dhat_file_plan, dhat_file
 ghost use Rattle.profile_reports.specs.DocumentFault.{told};
 
 use crate::document_fault::DocumentFault;
-use command_frame::{Desk, DocumentReport, Halt, LineRefusal, run_document};
+use command_frame::{DocumentReport, Halt, LineRefusal, RunContext, run_document};
 use dhat_json::{Dhat, DhatFault, read_profile};
 use hp_outside::Store;
 use std::alloc::Global;
@@ -49,21 +49,20 @@ impl<R: DhatFileReport> DocumentReport for DhatFile<R> {
 
 /// Reads the named DHAT profile, and gives what its report makes of it.
 pub fn run_dhat_file<R: DhatFileReport + Drop, S: Store>(
-    desk: &Desk,
+    context: &RunContext,
     name: &str,
     report: R,
     store: &mut S,
 ) -> Result<Vec<u8>, Halt>
     requires { S.opens store.old < 2 ^ 63 }
     ensures { (out : Taken)
-        → RunsTo desk.now (name.now ∷ []) (dhat_file_plan name.now (R.verdict report))
+        → RunsTo context.now (name.now ∷ []) (dhat_file_plan name.now (R.verdict report))
         (shown S.Store store.old) (shown S.Store store.new) out out result }
 {
     let file = DhatFile { report };
-    run_document(desk, name, &file, store)
+    run_document(context, name, &file, store)
 }
 
-/// The fault of a document as the refusal of it.
 fn document_refusal(fault: DhatFault) -> LineRefusal<DocumentFault>
     ensures { result ≡ document_refusal fault }
 {

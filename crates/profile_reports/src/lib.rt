@@ -1,5 +1,5 @@
-//! Profiles that are read from files: the lines of a Massif file, and the document of a DHAT profile. What is written of them
-//! is here too; the words that ask for it are the business of the commands, and files and their order the frame's.
+//! Commands that report on a profile: the lines of a Massif file, or the document of a DHAT profile, are read, and what is
+//! written of them is here too; the words that ask for it are the business of the commands, and files and their order the frame's.
 //!
 //! What it promises:
 //!

@@ -7,7 +7,7 @@ ghost use Rattle.profile_reports.specs.MassifFileReport.{massif_file_plan, massi
 
 use crate::massif_file_fault::MassifFileFault;
 use crate::massif_file_report::MassifFileReport;
-use command_frame::{Desk, Halt, LineRefusal, LineReport, LineTaker, run_one_file};
+use command_frame::{Halt, LineRefusal, LineReport, LineTaker, RunContext, run_one_file};
 use hp_outside::{Sink, Store};
 use massif_file::{ProfileFault, ProfileReader, massif_profiles};
 use std::alloc::Global;
@@ -67,20 +67,20 @@ impl<R: MassifFileReport + Drop> LineReport for MassifFileTaker<R> {
 
 /// Reads the named Massif file, and gives what its report makes of it.
 pub fn run_massif_file<R: MassifFileReport + Drop, S: Store, O: Sink>(
-    desk: &Desk,
+    context: &RunContext,
     name: &str,
     report: R,
     store: &mut S,
     out: &mut O,
 ) -> Result<Vec<u8>, Halt>
     requires { S.opens store.old < 2 ^ 63 }
-    ensures { Runs S.Store O.Sink desk.now (name.now ∷ [])
+    ensures { Runs S.Store O.Sink context.now (name.now ∷ [])
         (massif_file_plan name.now (R.verdict report))
         store.old store.new out.old out.new result }
 {
     let taker = MassifFileTaker {
-        reader: ProfileReader::new(desk.alloc),
+        reader: ProfileReader::new(context.alloc),
         report,
     };
-    run_one_file(desk, name, taker, store, out)
+    run_one_file(context, name, taker, store, out)
 }

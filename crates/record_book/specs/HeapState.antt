@@ -9,18 +9,7 @@ use Rattle.record_book.specs.declared.heap.Heap.{Heap}
 use Rattle.record_book.specs.declared.live_blocks.LiveEntry.{LiveEntry}
 use Rattle.record_book.specs.Addresses.{has_address}
 use Rattle.record_book.specs.LiveBlocks.{block_at}
-use Rattle.record_book.specs.HeapPlaces.{
-  Place,
-  taken,
-  empty,
-  address_of,
-  class_of,
-  end_of,
-  is_of,
-  next_address,
-  placed,
-  released,
-}
+use Rattle.record_book.specs.HeapPlaces.{Place, taken, empty, address_of, class_of, end_of, is_of, next_address, placed, released}
 
 -- the address is among those of a class, of which there may be none
 abbrev pub is_among : Option FreeAddresses → ℕ → Bool

@@ -1,5 +1,5 @@
-//! The book of a recording: which thread took which turns of its script, the trace that this gives, and the order that
-//! the bytes of a trace spell. How threads share it is no part of it.
+//! Recordings: an interleaving of the threads' turns, the trace that it gives, and the interleaving that a trace's bytes
+//! spell. How threads share it is no part of it.
 //!
 //! `Book` is a recording of scripts, as far as their threads have come: contracts see the scripts with their modules
 //! and the order, which is the thread of each event so far. What it promises:

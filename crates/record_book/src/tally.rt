@@ -63,7 +63,6 @@ impl Tally {
         }
     }
 
-    // Takes an allocation.
     fn allocate(&mut self, thread: u32, id: u64, size: u64) -> Result<(), NoMemory>
         requires few_bytes { size ≤ 2 ^ 32 }
         requires room { HasCountRoom self.old }

@@ -8,11 +8,7 @@ use Rattle.stack_table.specs.Interned.{stack_interned}
 use Rattle.stack_table.specs.Stack.{stack}
 use Rattle.ht_lines.specs.Fields.{numbers}
 use Rattle.record_scripts.specs.declared.script_line.ScriptLine.{ScriptLine}
-use Rattle.record_scripts.specs.declared.script_line.ScriptLine.TheVariants.{
-  Allocation as AllocationLine,
-  Free as FreeLine,
-  Reallocation as ReallocationLine,
-}
+use Rattle.record_scripts.specs.declared.script_line.ScriptLine.TheVariants.{Allocation as AllocationLine, Free as FreeLine, Reallocation as ReallocationLine}
 use Rattle.record_scripts.specs.declared.turn_entry.TurnEntry.{TurnEntry}
 use Rattle.record_scripts.specs.declared.script.Script.{Script}
 use Rattle.record_scripts.specs.Turns.{AreBounded, Turn, allocates, frees, reallocates, is_live, script_at}

@@ -77,7 +77,6 @@ impl ModuleText {
     }
 }
 
-// Whether a line feed stands in it.
 fn has_line_feed(text: &[u8]) -> bool
     ensures { result ≡ has_line_feed text.now }
 {

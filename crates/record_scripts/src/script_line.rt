@@ -88,7 +88,6 @@ fn read_turn(kind: u8, rest: &[u8]) -> Option<(ScriptLine, &[u8])>
     }
 }
 
-// Whether the kind of a line ends before this.
 fn ends_kind(rest: &[u8]) -> bool
     ensures { result ≡ field_ends rest.now }
 {

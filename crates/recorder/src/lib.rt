@@ -1,4 +1,4 @@
-//! Recordings by threads: a book behind a lock, and a worker for each script, which takes its turns in holds of the
+//! Recording by threads: a recording behind a lock, and a worker for each script, which takes its turns in holds of the
 //! lock. What is recorded, and how it is written, is no part of it. It is the one library that starts threads and
 //! waits.
 //!

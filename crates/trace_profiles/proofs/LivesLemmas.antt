@@ -1,23 +1,5 @@
 -- Peaks and lifetimes that take a step together.
-use Rattle.std.proofs.Common.{
-  ◌≡◌,
-  ◌+◌,
-  ◌^◌,
-  ◌<◌,
-  ◌≤◌,
-  List,
-  [],
-  ◌∷◌,
-  ◌++◌,
-  length,
-  ap,
-  sym,
-  subst,
-  ◌∙◌,
-  append-nil,
-  length-append,
-  arith,
-}
+use Rattle.std.proofs.Common.{◌≡◌, ◌+◌, ◌^◌, ◌<◌, ◌≤◌, List, [], ◌∷◌, ◌++◌, length, ap, sym, subst, ◌∙◌, append-nil, length-append, arith}
 use Rattle.dhat_metrics.specs.Changes.{IsOfHeld}
 use Rattle.dhat_metrics.specs.LifeState as lives
 use Rattle.dhat_metrics.specs.LifeState.{LifeState}

@@ -4,7 +4,7 @@ ghost use Rattle.command_frame.specs.RunsTo.{Runs};
 ghost use Rattle.trace_profiles.specs.DhatReport.{dhat_plan};
 
 use crate::lives::Lives;
-use command_frame::{Desk, Halt};
+use command_frame::{Halt, RunContext};
 use dhat_trace::trace_profile_text;
 use hp_num::NoMemory;
 use hp_outside::{Sink, Store};
@@ -34,15 +34,15 @@ impl TraceWriter<Lives> for DhatWriter {
 
 /// Reads the named trace, and gives its profile and a line feed.
 pub fn run_dhat<S: Store, O: Sink>(
-    desk: &Desk,
+    context: &RunContext,
     name: &str,
     store: &mut S,
     out: &mut O,
 ) -> Result<Vec<u8>, Halt>
     requires { S.opens store.old < 2 ^ 63 }
-    ensures { Runs S.Store O.Sink desk.now (name.now ∷ []) (dhat_plan name.now)
+    ensures { Runs S.Store O.Sink context.now (name.now ∷ []) (dhat_plan name.now)
         store.old store.new out.old out.new result }
 {
-    let lives = Lives::new(desk.alloc)?;
-    run_followed(desk, name, lives, DhatWriter, store, out)
+    let lives = Lives::new(context.alloc)?;
+    run_followed(context, name, lives, DhatWriter, store, out)
 }

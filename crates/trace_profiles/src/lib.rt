@@ -1,5 +1,5 @@
-//! Profiles of traces, for which more is kept beside the tables while the lines are read: Massif's snapshots, and the
-//! lifetimes of DHAT. The words that ask for a profile are the business of the commands; files and their order are the
+//! Commands that write a profile of a trace, for which more is kept beside the tables while the lines are read: Massif's
+//! snapshots, and the lifetimes of DHAT. They are parted from the other commands for the price of a check. The words that ask for a profile are the business of the commands; files and their order are the
 //! frame's.
 //!
 //! What it promises: `run_massif` and `run_dhat` come to the frame's `Runs`, by `massif_plan` and `dhat_plan`, which say the

@@ -7,7 +7,7 @@ ghost use Rattle.trace_profiles.specs.ListedNames.{listed};
 
 use crate::name_list::{is_named, names_of};
 use crate::sampling::{Sampling, Settled};
-use command_frame::{Desk, Halt};
+use command_frame::{Halt, RunContext};
 use cost_tree::FrameTest;
 use hp_num::NoMemory;
 use hp_outside::{Sink, Store};
@@ -67,14 +67,14 @@ struct Profiled<'a> {
 
 /// Reads the named trace, and gives its profile by these settings, as a Massif file.
 pub fn run_massif<S: Store, O: Sink>(
-    desk: &Desk,
+    context: &RunContext,
     name: &str,
     settings: &SampleSettings,
     store: &mut S,
     out: &mut O,
 ) -> Result<Vec<u8>, Halt>
     requires { S.opens store.old < 2 ^ 63 }
-    ensures { Runs S.Store O.Sink desk.now (name.now ∷ [])
+    ensures { Runs S.Store O.Sink context.now (name.now ∷ [])
         (massif_plan (settings_in settings.now) name.now)
         store.old store.new out.old out.new result }
 {
@@ -82,28 +82,33 @@ pub fn run_massif<S: Store, O: Sink>(
         trace: name,
         settings,
     };
-    run_settled::<Brand, S, O>(desk, &profiled, store, out)
+    run_settled::<Brand, S, O>(context, &profiled, store, out)
 }
 
 /// The same, where `T` says what the settings are.
 fn run_settled<T: Settled, S: Store, O: Sink>(
-    desk: &Desk,
+    context: &RunContext,
     profiled: &Profiled,
     store: &mut S,
     out: &mut O,
 ) -> Result<Vec<u8>, Halt>
     requires opens { S.opens store.old < 2 ^ 63 }
     requires settled { settings_in profiled.now.settings.now ≡ T.settings }
-    ensures { Runs S.Store O.Sink desk.now (profiled.now.trace.now ∷ [])
+    ensures { Runs S.Store O.Sink context.now (profiled.now.trace.now ∷ [])
         (massif_plan T.settings profiled.now.trace.now)
         store.old store.new out.old out.new result }
 {
     let settings = profiled.settings;
-    let (alloc_fns, ignore_fns) = names_in_settings(desk.alloc, settings)?;
+    let (alloc_fns, ignore_fns) = names_in_settings(context.alloc, settings)?;
     let alloc_test = FrameTest::new(move |function: &[u8]| is_named(&alloc_fns, function));
     let ignore_test = FrameTest::new(move |function: &[u8]| is_named(&ignore_fns, function));
-    let sampling = Sampling::<_, _, T>::new(desk.alloc, settings.options, alloc_test, ignore_test)?;
-    run_followed(desk, profiled.trace, sampling, MassifWriter, store, out)
+    let sampling = Sampling::<_, _, T>::new(
+        context.alloc,
+        settings.options,
+        alloc_test,
+        ignore_test,
+    )?;
+    run_followed(context, profiled.trace, sampling, MassifWriter, store, out)
 }
 
 /// The names of both lists of functions, which the tests of names keep. `NoMemory` where memory is wanting.

@@ -6,7 +6,7 @@ ghost use Rattle.trace_reading.specs.SuppressionsReport.{plan_behind};
 use crate::suppressions::SuppressionsTaker;
 use crate::trace_reader::TraceReader;
 use crate::trace_writer::TraceWriter;
-use command_frame::{Desk, FilePair, Halt, PairNames, run_pair};
+use command_frame::{FilePair, Halt, PairNames, RunContext, run_pair};
 use hp_num::NoMemory;
 use hp_outside::{Sink, Store};
 use peak_costs::Peaks;
@@ -43,18 +43,25 @@ impl<W: TraceWriter<Peaks> + Copy + Drop> FilePair for SuppressedTrace<W> {
 
 /// Reads the named suppressions file and then the named trace, and gives what is written of it.
 pub fn run_suppressed<W: TraceWriter<Peaks> + Copy + Drop, S: Store, O: Sink>(
-    desk: &Desk,
+    context: &RunContext,
     names: &PairNames,
     writer: W,
     store: &mut S,
     out: &mut O,
 ) -> Result<W::Rest, Halt>
     requires { S.opens store.old < 2 ^ 63 }
-    ensures { Readies S.Store O.Sink W.Rest.bytes desk.now
+    ensures { Readies S.Store O.Sink W.Rest.bytes context.now
         (names.now.first.now ∷ names.now.second.now ∷ [])
         (plan_behind (Some names.now.first.now) names.now.second.now (W.text writer))
         store.old store.new out.old out.new result }
 {
-    let first = SuppressionsTaker::new(desk.alloc);
-    run_pair(desk, names, &SuppressedTrace { writer }, first, store, out)
+    let first = SuppressionsTaker::new(context.alloc);
+    run_pair(
+        context,
+        names,
+        &SuppressedTrace { writer },
+        first,
+        store,
+        out,
+    )
 }

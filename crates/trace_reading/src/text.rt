@@ -77,7 +77,6 @@ impl<F: Follower> Trace<F> {
     }
 }
 
-/// The place of the first line feed.
 fn first_feed(text: &[u8]) -> Option<usize>
     ensures place { result ≡ position is_line_feed text.now }
     ensures within { IfSome result (λ place. place < length text.now) }

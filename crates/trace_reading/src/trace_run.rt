@@ -10,31 +10,31 @@ ghost use Rattle.trace_reading.specs.TraceReport.{trace_plan, trace_report};
 use crate::follower::Follower;
 use crate::trace_reader::TraceReader;
 use crate::trace_writer::TraceWriter;
-use command_frame::{Desk, Halt, run_one_file};
+use command_frame::{Halt, RunContext, run_one_file};
 use hp_outside::{Sink, Store};
 use ht_trace::Tables;
 use peak_costs::Peaks;
 
 /// Reads the named trace into its peaks, and gives what is written of it.
 pub fn run_trace<W: TraceWriter<Peaks> + Drop, S: Store, O: Sink>(
-    desk: &Desk,
+    context: &RunContext,
     name: &str,
     writer: W,
     store: &mut S,
     out: &mut O,
 ) -> Result<W::Rest, Halt>
     requires { S.opens store.old < 2 ^ 63 }
-    ensures { Readies S.Store O.Sink W.Rest.bytes desk.now (name.now ∷ [])
+    ensures { Readies S.Store O.Sink W.Rest.bytes context.now (name.now ∷ [])
         (trace_plan name.now (W.text writer []))
         store.old store.new out.old out.new result }
 {
-    let peaks = Peaks::new(desk.alloc)?;
-    run_followed(desk, name, peaks, writer, store, out)
+    let peaks = Peaks::new(context.alloc)?;
+    run_followed(context, name, peaks, writer, store, out)
 }
 
 /// Reads the named trace with a follower that has followed nothing, and gives what is written of it.
 pub fn run_followed<F: Follower, W: TraceWriter<F> + Drop, S: Store, O: Sink>(
-    desk: &Desk,
+    context: &RunContext,
     name: &str,
     follower: F,
     writer: W,
@@ -43,10 +43,10 @@ pub fn run_followed<F: Follower, W: TraceWriter<F> + Drop, S: Store, O: Sink>(
 ) -> Result<W::Rest, Halt>
     requires opens { S.opens store.old < 2 ^ 63 }
     requires new { (tables : TableState) → StandsFor tables [] → IsNew tables (F.view follower) }
-    ensures { Readies S.Store O.Sink W.Rest.bytes desk.now (name.now ∷ [])
+    ensures { Readies S.Store O.Sink W.Rest.bytes context.now (name.now ∷ [])
         (one_file name.now (trace_report F.faults [] (W.text writer [])))
         store.old store.new out.old out.new result }
 {
-    let reader = TraceReader::new(Tables::new(desk.alloc), follower, writer);
-    run_one_file(desk, name, reader, store, out)
+    let reader = TraceReader::new(Tables::new(context.alloc), follower, writer);
+    run_one_file(context, name, reader, store, out)
 }

@@ -5,7 +5,7 @@ ghost use Rattle.command_frame.specs.RunsTo.{Readies};
 ghost use Rattle.trace_reading.specs.TraceReport.{trace_plan};
 ghost use Rattle.trace_reports.specs.FlameReport.{flame_written};
 
-use command_frame::{Desk, Halt, Paged, PieceMaker, ReadyText};
+use command_frame::{Halt, Paged, PieceMaker, ReadyText, RunContext};
 use hp_num::NoMemory;
 use hp_outside::{Sink, Store};
 use ht_print::{FlameCost, FlameLines, stack_costs};
@@ -68,17 +68,17 @@ impl TraceWriter<Peaks> for FlameWriter {
 
 /// Reads the named trace, and gives its flame stacks by this cost.
 pub fn run_flame<S: Store, O: Sink>(
-    desk: &Desk,
+    context: &RunContext,
     trace: &str,
     cost: FlameCost,
     store: &mut S,
     out: &mut O,
 ) -> Result<Paged<FlameText>, Halt>
     requires { S.opens store.old < 2 ^ 63 }
-    ensures { Readies S.Store O.Sink ⟦<Paged<FlameText> as ReadyText>⟧.bytes desk.now
+    ensures { Readies S.Store O.Sink ⟦<Paged<FlameText> as ReadyText>⟧.bytes context.now
         (trace.now ∷ [])
         (trace_plan trace.now (flame_written cost []))
         store.old store.new out.old out.new result }
 {
-    run_trace(desk, trace, FlameWriter { cost }, store, out)
+    run_trace(context, trace, FlameWriter { cost }, store, out)
 }

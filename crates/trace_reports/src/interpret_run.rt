@@ -7,39 +7,39 @@ ghost use Rattle.interpret.specs.SymbolList.{symbols_of};
 ghost use Rattle.trace_reports.specs.InterpretReport.{files_with, interpret_report, plan_with, symbols_report};
 
 use crate::interpret_reader::{RawReader, SymbolReader, SymbolsAndTrace};
-use command_frame::{Desk, Halt, PairNames, run_one_file, run_pair};
+use command_frame::{Halt, PairNames, RunContext, run_one_file, run_pair};
 use hp_outside::{Sink, Store};
 use interpret::{Interpreter, Symbols};
 
 /// Reads the table of symbols, where one is named, and then the named trace, whose interpreted lines it writes while it reads.
 pub fn run_interpret<S: Store, O: Sink>(
-    desk: &Desk,
+    context: &RunContext,
     symbols: Option<&str>,
     trace: &str,
     store: &mut S,
     out: &mut O,
 ) -> Result<Vec<u8>, Halt>
     requires { S.opens store.old < 2 ^ 63 }
-    ensures { Runs S.Store O.Sink desk.now (files_with (option_copied symbols.entry) trace.now)
+    ensures { Runs S.Store O.Sink context.now (files_with (option_copied symbols.entry) trace.now)
         (plan_with (option_copied symbols.entry) trace.now)
         store.old store.new out.old out.new result }
 {
     match symbols {
-        Some(symbols) => run_with(desk, symbols, trace, store, out),
-        None => run_alone(desk, trace, store, out),
+        Some(symbols) => run_with(context, symbols, trace, store, out),
+        None => run_alone(context, trace, store, out),
     }
 }
 
 /// Interprets the named trace with the named table of symbols.
 fn run_with<S: Store, O: Sink>(
-    desk: &Desk,
+    context: &RunContext,
     symbols: &str,
     trace: &str,
     store: &mut S,
     out: &mut O,
 ) -> Result<Vec<u8>, Halt>
     requires { S.opens store.old < 2 ^ 63 }
-    ensures { Runs S.Store O.Sink desk.now (symbols.now ∷ trace.now ∷ [])
+    ensures { Runs S.Store O.Sink context.now (symbols.now ∷ trace.now ∷ [])
         (two_files symbols.now symbols_report trace.now
         (λ lines. interpret_report (symbols_of lines)))
         store.old store.new out.old out.new result }
@@ -49,25 +49,25 @@ fn run_with<S: Store, O: Sink>(
         second: trace,
     };
     let reader = SymbolReader {
-        symbols: Symbols::new(desk.alloc),
+        symbols: Symbols::new(context.alloc),
     };
-    run_pair(desk, &names, &SymbolsAndTrace, reader, store, out)
+    run_pair(context, &names, &SymbolsAndTrace, reader, store, out)
 }
 
 /// Interprets the named trace without symbols.
 fn run_alone<S: Store, O: Sink>(
-    desk: &Desk,
+    context: &RunContext,
     trace: &str,
     store: &mut S,
     out: &mut O,
 ) -> Result<Vec<u8>, Halt>
     requires { S.opens store.old < 2 ^ 63 }
-    ensures { Runs S.Store O.Sink desk.now (trace.now ∷ [])
+    ensures { Runs S.Store O.Sink context.now (trace.now ∷ [])
         (one_file trace.now (interpret_report []))
         store.old store.new out.old out.new result }
 {
     let reader = RawReader {
-        interpreter: Interpreter::new(desk.alloc, Symbols::new(desk.alloc)),
+        interpreter: Interpreter::new(context.alloc, Symbols::new(context.alloc)),
     };
-    run_one_file(desk, trace, reader, store, out)
+    run_one_file(context, trace, reader, store, out)
 }

@@ -1,4 +1,4 @@
-//! Reports of traces: what `summary`, `print`, `flame` and `interpret` make of a trace that is read, and `gen` of the numbers that
+//! Commands that report on a trace: what `summary`, `print`, `flame` and `interpret` make of a trace that is read, and `gen` of the numbers that
 //! a trace is generated from. The words that ask for a report are the business of the words' crate; how a trace is read is
 //! that of `trace_reading`, and files and their order are the frame's.
 //!

@@ -4,7 +4,7 @@ ghost use Rattle.command_frame.specs.RunsTo.{Runs};
 ghost use Rattle.trace_reading.specs.SuppressionsReport.{names_behind, plan_behind};
 ghost use Rattle.trace_reports.specs.PrintReport.{report_written};
 
-use command_frame::{Desk, Halt, PairNames};
+use command_frame::{Halt, PairNames, RunContext};
 use hp_num::NoMemory;
 use hp_outside::{Sink, Store};
 use ht_print::{PrintOptions, Suppressed, put_report};
@@ -43,7 +43,7 @@ impl TraceWriter<Peaks> for PrintWriter {
 
 /// Reads the suppressions file, if one is named, and then the named trace, and gives the report.
 pub fn run_print<S: Store, O: Sink>(
-    desk: &Desk,
+    context: &RunContext,
     suppressions: Option<&str>,
     trace: &str,
     options: PrintOptions,
@@ -51,7 +51,7 @@ pub fn run_print<S: Store, O: Sink>(
     out: &mut O,
 ) -> Result<Vec<u8>, Halt>
     requires { S.opens store.old < 2 ^ 63 }
-    ensures { Runs S.Store O.Sink desk.now
+    ensures { Runs S.Store O.Sink context.now
         (names_behind (option_map (λ name. name.now) suppressions.entry) trace.now)
         (plan_behind (option_map (λ name. name.now) suppressions.entry) trace.now
         (report_written options))
@@ -59,13 +59,13 @@ pub fn run_print<S: Store, O: Sink>(
 {
     let writer = PrintWriter { options };
     match suppressions {
-        None => run_trace(desk, trace, writer, store, out),
+        None => run_trace(context, trace, writer, store, out),
         Some(suppressions) => {
             let names = PairNames {
                 first: suppressions,
                 second: trace,
             };
-            run_suppressed(desk, &names, writer, store, out)
+            run_suppressed(context, &names, writer, store, out)
         }
     }
 }

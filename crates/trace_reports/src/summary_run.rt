@@ -3,7 +3,7 @@ ghost use Rattle.std.specs.Prelude.{◌^◌, ◌<◌, [], ◌∷◌};
 ghost use Rattle.command_frame.specs.RunsTo.{Runs};
 ghost use Rattle.trace_reports.specs.SummaryReport.{summary_plan};
 
-use command_frame::{Desk, Halt};
+use command_frame::{Halt, RunContext};
 use hp_num::NoMemory;
 use hp_outside::{Sink, Store};
 use ht_print::put_totals_summary;
@@ -38,15 +38,15 @@ impl TraceWriter<PeakTotals> for SummaryWriter {
 
 /// Reads the named trace, and gives the text of its summary.
 pub fn run_summary<S: Store, O: Sink>(
-    desk: &Desk,
+    context: &RunContext,
     trace: &str,
     store: &mut S,
     out: &mut O,
 ) -> Result<Vec<u8>, Halt>
     requires { S.opens store.old < 2 ^ 63 }
-    ensures { Runs S.Store O.Sink desk.now (trace.now ∷ []) (summary_plan trace.now)
+    ensures { Runs S.Store O.Sink context.now (trace.now ∷ []) (summary_plan trace.now)
         store.old store.new out.old out.new result }
 {
-    let totals = PeakTotals::new(desk.alloc);
-    run_followed(desk, trace, totals, SummaryWriter, store, out)
+    let totals = PeakTotals::new(context.alloc);
+    run_followed(context, trace, totals, SummaryWriter, store, out)
 }

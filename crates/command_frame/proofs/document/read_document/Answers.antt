@@ -14,7 +14,7 @@ returns-in-Err-clause-read g c =
     let store = g.S.Store in
     let opens = c.open.ensures in
     let ended =
-    document_unopened (texts_of c.args.desk.now.texts) (bounds_of c.args.desk.now.limits)
+    document_unopened (texts_of c.args.context.now.texts) (bounds_of c.args.context.now.limits)
     (store.files c.args.store.now) c.args.name.now
     (moment (store.opens c.args.store.now) (store.current c.args.store.now) (store.left c.args.store.now)
     (store.faults c.args.store.now))
@@ -38,7 +38,7 @@ returns-in-Ok-read_whole-clause-read g c =
     let opens = c.open.ensures in
     let whole = c.read_whole.ensures in
     let ended =
-    document_given (texts_of c.args.desk.now.texts) (bounds_of c.args.desk.now.limits) (store.files c.args.store.now)
+    document_given (texts_of c.args.context.now.texts) (bounds_of c.args.context.now.limits) (store.files c.args.store.now)
     c.args.name.now
     (moment (store.opens c.args.store.now) (store.current c.args.store.now) (store.left c.args.store.now)
     (store.faults c.args.store.now))
@@ -46,7 +46,7 @@ returns-in-Ok-read_whole-clause-read g c =
     (store.left c.read_whole.new.store) (store.faults c.read_whole.new.store))
     (store.left c.open.new.self) c.in-Ok-read_whole.bytes c.in-Ok.ensures.left c.in-Ok.ensures.found
     (subst (λ result. WhereTold (store.left c.open.new.self)
-    (λ bytes. WholeAnswer c.args.desk.now.limits.input bytes result)) c.in-Ok-read_whole.is whole.answer)
+    (λ bytes. WholeAnswer c.args.context.now.limits.input bytes result)) c.in-Ok-read_whole.is whole.answer)
     (record { opens = whole.opens ∙ opens.opens; current_is = whole.current ∙ (opens.current ∙ ap is_ok c.in-Ok.is) })
     (whole.sound (λ is. absurd (cc)) ∙ c.in-Ok.ensures.sound) c.in-Ok-read_whole.ensures.ended in
     record {
@@ -63,7 +63,7 @@ returns-in-Err-read_whole-clause-read g c =
     let opens = c.open.ensures in
     let whole = c.read_whole.ensures in
     let ended =
-    document_stopped (texts_of c.args.desk.now.texts) (bounds_of c.args.desk.now.limits)
+    document_stopped (texts_of c.args.context.now.texts) (bounds_of c.args.context.now.limits)
     (store.files c.args.store.now) c.args.name.now
     (moment (store.opens c.args.store.now) (store.current c.args.store.now) (store.left c.args.store.now)
     (store.faults c.args.store.now))
@@ -71,7 +71,7 @@ returns-in-Err-read_whole-clause-read g c =
     (store.left c.read_whole.new.store) (store.faults c.read_whole.new.store))
     (store.left c.open.new.self) c.in-Err-read_whole.fault c.unread.result c.in-Ok.ensures.left c.in-Ok.ensures.found
     (subst (λ result. WhereTold (store.left c.open.new.self)
-    (λ bytes. WholeAnswer c.args.desk.now.limits.input bytes result)) c.in-Err-read_whole.is whole.answer)
+    (λ bytes. WholeAnswer c.args.context.now.limits.input bytes result)) c.in-Err-read_whole.is whole.answer)
     (record { opens = whole.opens ∙ opens.opens; current_is = whole.current ∙ (opens.current ∙ ap is_ok c.in-Ok.is) })
     (λ is. subst (λ n. Rose n (store.faults c.read_whole.new.store)) c.in-Ok.ensures.sound
     (whole.failed (c.in-Err-read_whole.is ∙ ap Err is)))

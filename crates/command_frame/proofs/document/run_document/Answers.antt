@@ -13,7 +13,7 @@ returns-in-Err g c = λ out. runs_unread _ _ _ _ _ _ _ _ c.in-Err.ensures.read
 pub returns-in-Ok-report : goal.returns-in-Ok-report
 returns-in-Ok-report g c =
     λ out. runs_to_judgement _ _ _ _ _ _ _ _ c.in-Ok.ensures.read
-    (inl (ap (verdict_answer (texts_of c.args.desk.now.texts) c.args.name.now) (sym
+    (inl (ap (verdict_answer (texts_of c.args.context.now.texts) c.args.name.now) (sym
     (subst (λ bytes. g.D.DocumentReport.verdict c.args.document.now bytes ≡ Writes c.in-Ok-report.output.items)
     c.bytes-2.ensures c.in-Ok-report.ensures.output))))
     (λ four. omega (arith, four))
@@ -23,7 +23,7 @@ returns-in-Err-Fault g c = λ out.
     let told = g.D.Fault.Fault.told in
     let verdict = g.D.DocumentReport.verdict c.args.document.now in
     runs_to_judgement _ _ _ _ _ _ _ _ c.in-Ok.ensures.read
-    (judges_fault (texts_of c.args.desk.now.texts) c.args.name.now _ (told c.in-Err-Fault.fault) c.at_file.result
+    (judges_fault (texts_of c.args.context.now.texts) c.args.name.now _ (told c.in-Err-Fault.fault) c.at_file.result
     (subst (λ bytes. verdict bytes ≡ Refuses (told c.in-Err-Fault.fault)) c.bytes-2.ensures
     (subst (λ refusal. taker.Refuses told refusal (verdict c.bytes-2.result.now)) c.in-Err-Fault.field-0-is
     c.in-Err-Fault.ensures.fault))
@@ -32,4 +32,4 @@ returns-in-Err-Fault g c = λ out.
 pub returns : goal.returns
 returns g c =
     λ out. runs_to_judgement _ _ _ _ _ _ _ _ c.in-Ok.ensures.read
-    (inr (ap (halt_answer (texts_of c.args.desk.now.texts)) c.no_memory.ensures)) (not_four _ c.no_memory.ensures)
+    (inr (ap (halt_answer (texts_of c.args.context.now.texts)) c.no_memory.ensures)) (not_four _ c.no_memory.ensures)

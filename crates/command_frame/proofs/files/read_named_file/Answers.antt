@@ -16,7 +16,7 @@ returns-in-Err-clause-read g c =
     let store = g.S.Store in
     let opens = c.open.ensures in
     let ended =
-    unopened_end (texts_of c.args.desk.now.texts) (bounds_of c.args.desk.now.limits) (store.files c.args.store.now)
+    unopened_end (texts_of c.args.context.now.texts) (bounds_of c.args.context.now.limits) (store.files c.args.store.now)
     c.args.name.now (g.T.LineTaker.report c.args.taker.now) (g.T.LineTaker.has_taken c.args.taker.now)
     (moment (store.opens c.args.store.now) (store.current c.args.store.now) (store.left c.args.store.now)
     (store.faults c.args.store.now))
@@ -43,12 +43,12 @@ returns-in-Ok-read_current_file-clause-read g c =
     let opens = c.open.ensures in
     let all = c.read_current_file.ensures in
     let run = c.in-Ok-read_current_file.ensures.run in
-    let input : c.start.new.self.input ≡ c.args.desk.now.limits.input =
+    let input : c.start.new.self.input ≡ c.args.context.now.limits.input =
     ap (λ (r : LineReaderState). r.input) c.start.ensures ∙ c.requires.limits.input in
-    let line : c.start.new.self.line_limit ≡ c.args.desk.now.limits.line =
+    let line : c.start.new.self.line_limit ≡ c.args.context.now.limits.line =
     ap (λ (r : LineReaderState). r.line_limit) c.start.ensures ∙ c.requires.limits.line in
     let ended =
-    passed_end (texts_of c.args.desk.now.texts) (bounds_of c.args.desk.now.limits) (store.files c.args.store.now)
+    passed_end (texts_of c.args.context.now.texts) (bounds_of c.args.context.now.limits) (store.files c.args.store.now)
     c.args.name.now (g.T.LineTaker.report c.args.taker.now) (g.T.LineTaker.has_taken c.read_current_file.new.taker)
     (moment (store.opens c.args.store.now) (store.current c.args.store.now) (store.left c.args.store.now)
     (store.faults c.args.store.now))
@@ -84,12 +84,12 @@ returns-in-Err-read_current_file-clause-read g c =
     let all = c.read_current_file.ensures in
     let told = g.T.Fault.Fault.told in
     let run = all.run in
-    let input : c.start.new.self.input ≡ c.args.desk.now.limits.input =
+    let input : c.start.new.self.input ≡ c.args.context.now.limits.input =
     ap (λ (r : LineReaderState). r.input) c.start.ensures ∙ c.requires.limits.input in
-    let line : c.start.new.self.line_limit ≡ c.args.desk.now.limits.line =
+    let line : c.start.new.self.line_limit ≡ c.args.context.now.limits.line =
     ap (λ (r : LineReaderState). r.line_limit) c.start.ensures ∙ c.requires.limits.line in
     let ended =
-    stopped_end told (texts_of c.args.desk.now.texts) (bounds_of c.args.desk.now.limits)
+    stopped_end told (texts_of c.args.context.now.texts) (bounds_of c.args.context.now.limits)
     (store.files c.args.store.now) c.args.name.now (g.T.LineTaker.report c.args.taker.now)
     (g.T.LineTaker.has_taken c.read_current_file.new.taker)
     (moment (store.opens c.args.store.now) (store.current c.args.store.now) (store.left c.args.store.now)

@@ -21,7 +21,7 @@ returns g c =
     let second = c.args.names.now.second.now in
     runs_on _ _ _ _ _ _ _ _ _ _ _ _ c.in-Ok.ensures.read
     (λ lines has. subst
-    (λ (report : Report). RunsReady g.P.Second.Rest.ReadyText.bytes c.args.desk.now (second ∷ [])
+    (λ (report : Report). RunsReady g.P.Second.Rest.ReadyText.bytes c.args.context.now (second ∷ [])
     (one_file second report)
     (shown g.S.Store c.read_named_file.new.store) (shown g.S.Store c.run_last_file.new.store)
     (taken g.O.Sink c.read_named_file.new.out) (taken g.O.Sink c.run_last_file.new.out) c.run_last_file.result)

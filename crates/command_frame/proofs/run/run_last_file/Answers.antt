@@ -13,7 +13,7 @@ returns-in-Err g c = runs_stopped _ _ _ _ _ _ _ _ _ _ c.in-Err.ensures.read
 pub returns-in-Ok-finish : goal.returns-in-Ok-finish
 returns-in-Ok-finish g c =
     runs_to_verdict _ _ _ _ _ _ _ _ c.in-Ok.ensures.read
-    (λ taken has. inl (ap (verdict_answer (texts_of c.args.desk.now.texts) c.args.name.now) (sym
+    (λ taken has. inl (ap (verdict_answer (texts_of c.args.context.now.texts) c.args.name.now) (sym
     (subst (λ (r : Report). r.verdict taken ≡ Writes (g.T.Rest.ReadyText.bytes c.in-Ok-finish.rest))
     c.read_named_file.ensures.taker.report (c.in-Ok-finish.ensures.output taken has)))))
     (λ four. omega (arith, four))
@@ -22,7 +22,7 @@ pub returns-in-Err-Fault : goal.returns-in-Err-Fault
 returns-in-Err-Fault g c =
     let told = g.T.Fault.Fault.told in
     runs_to_verdict _ _ _ _ _ _ _ _ c.in-Ok.ensures.read
-    (λ taken has. judges_fault (texts_of c.args.desk.now.texts) c.args.name.now _ (told c.in-Err-Fault.fault)
+    (λ taken has. judges_fault (texts_of c.args.context.now.texts) c.args.name.now _ (told c.in-Err-Fault.fault)
     c.at_file.result
     (subst (λ (r : Report). r.verdict taken ≡ Refuses (told c.in-Err-Fault.fault))
     c.read_named_file.ensures.taker.report
@@ -33,5 +33,5 @@ returns-in-Err-Fault g c =
 pub returns-in-Err-NoMemory : goal.returns-in-Err-NoMemory
 returns-in-Err-NoMemory g c =
     runs_to_verdict _ _ _ _ _ _ _ _ c.in-Ok.ensures.read
-    (λ taken has. inr (ap (halt_answer (texts_of c.args.desk.now.texts)) c.no_memory.ensures))
+    (λ taken has. inr (ap (halt_answer (texts_of c.args.context.now.texts)) c.no_memory.ensures))
     (not_four _ c.no_memory.ensures)

@@ -29,13 +29,13 @@ pieces-preserved g c = record {
 pub returns-in-Err-pass_on_piece : goal.returns-in-Err-pass_on_piece
 returns-in-Err-pass_on_piece g c = λ store. record {
   ran = λ last.
-      cut_off (texts_of c.args.desk.now.texts) (bounds_of c.args.desk.now.limits) store.files last store.moment
+      cut_off (texts_of c.args.context.now.texts) (bounds_of c.args.context.now.limits) store.files last store.moment
       (g.O.Sink.written c.args.out.now) (g.O.Sink.written c.pieces.out) (g.O.Sink.written c.pass_on_piece.new.out)
       c.piece.new.output.items
       (g.M.TextMaker.rest c.piece.new.self) (g.M.TextMaker.rest c.args.maker.now)
-      (halt_answer (texts_of c.args.desk.now.texts) c.write_failed.result)
+      (halt_answer (texts_of c.args.context.now.texts) c.write_failed.result)
       (kept_piece c.pieces.invariant.making c.in-Ok-true.ensures.made) c.in-Err-pass_on_piece.ensures.front
-      (ap (halt_answer (texts_of c.args.desk.now.texts)) c.write_failed.ensures);
+      (ap (halt_answer (texts_of c.args.context.now.texts)) c.write_failed.ensures);
   files = refl;
   unwritten =
       λ _. subst (λ n. Rose n (g.O.Sink.faults c.pass_on_piece.new.out)) c.pieces.invariant.write_faults
@@ -46,7 +46,7 @@ returns-in-Err-pass_on_piece g c = λ store. record {
 pub returns-in-Ok-false : goal.returns-in-Ok-false
 returns-in-Ok-false g c = λ store. record {
   ran = λ last.
-      all_made (texts_of c.args.desk.now.texts) (bounds_of c.args.desk.now.limits) store.files last store.moment
+      all_made (texts_of c.args.context.now.texts) (bounds_of c.args.context.now.limits) store.files last store.moment
       (g.O.Sink.written c.args.out.now) (g.O.Sink.written c.pieces.out) c.piece.new.output.items
       (g.M.TextMaker.rest c.piece.new.self) (g.M.TextMaker.rest c.args.maker.now)
       (kept_piece c.pieces.invariant.making c.in-Ok-false.ensures.made)
@@ -59,11 +59,11 @@ returns-in-Ok-false g c = λ store. record {
 pub returns-in-Err : goal.returns-in-Err
 returns-in-Err g c = λ store. record {
   ran = λ last.
-      no_more_made (texts_of c.args.desk.now.texts) (bounds_of c.args.desk.now.limits) store.files last store.moment
+      no_more_made (texts_of c.args.context.now.texts) (bounds_of c.args.context.now.limits) store.files last store.moment
       (g.O.Sink.written c.args.out.now) (g.O.Sink.written c.pieces.out) c.pieces.buffer.items
       (g.M.TextMaker.rest c.pieces.maker) (g.M.TextMaker.rest c.args.maker.now)
-      (halt_answer (texts_of c.args.desk.now.texts) c.no_memory.result) c.pieces.invariant.making
-      (ap (halt_answer (texts_of c.args.desk.now.texts)) c.no_memory.ensures);
+      (halt_answer (texts_of c.args.context.now.texts) c.no_memory.result) c.pieces.invariant.making
+      (ap (halt_answer (texts_of c.args.context.now.texts)) c.no_memory.ensures);
   files = refl;
   unwritten = λ four. absurd (not_four _ c.no_memory.ensures four);
   sound = λ _. c.pieces.invariant.write_faults;

@@ -17,8 +17,8 @@ pub returns-in_err-lines : goal.returns-in_err-lines
 returns-in_err-lines g c =
     record {
       read =
-          wanting_files c.args.desk.now (option_copied c.args.files.now.modules)
-          (map (λ name. name.now) c.args.files.now.scripts.now) (no_job c.args.desk.now.limits.order)
+          wanting_files c.args.context.now (option_copied c.args.files.now.modules)
+          (map (λ name. name.now) c.args.files.now.scripts.now) (no_job c.args.context.now.limits.order)
           (shown g.S.Store c.args.store.now) (taken g.O.Sink c.args.out.now) c.from_residual.result
           c.from_residual.ensures.1 (some_names c.args.files.now.scripts.now c.requires.some);
     }
@@ -31,10 +31,10 @@ returns-in-Err g c =
     let now = shown g.S.Store c.read_modules.new.store in
     record {
       read =
-          subst (λ (job : Job). FrontRead c.args.desk.now (files_front modules names job) before now
+          subst (λ (job : Job). FrontRead c.args.context.now (files_front modules names job) before now
           (taken g.O.Sink c.args.out.now) (taken g.O.Sink c.read_modules.new.out)
           (Err c.in-Err.halt)) c.new-scripts.ensures.empty
-          (modules_end c.args.desk.now modules names _ before now (taken g.O.Sink c.args.out.now)
+          (modules_end c.args.context.now modules names _ before now (taken g.O.Sink c.args.out.now)
           (taken g.O.Sink c.read_modules.new.out) c.in-Err.halt c.in-Err.ensures.read);
     }
 
@@ -49,12 +49,12 @@ returns g c =
     let read = c.in-Ok.ensures.read in
     record {
       read =
-          subst (λ (job : Job). FrontRead c.args.desk.now (files_front modules names job) before
+          subst (λ (job : Job). FrontRead c.args.context.now (files_front modules names job) before
           (shown g.S.Store c.read_scripts.new.store) old (taken g.O.Sink c.read_scripts.new.out)
           c.read_scripts.result) c.new-scripts.ensures.empty
-          (front_behind c.args.desk.now _ (scripts_front names c.in-Ok.scripts) before mid
+          (front_behind c.args.context.now _ (scripts_front names c.in-Ok.scripts) before mid
           (shown g.S.Store c.read_scripts.new.store) old between (taken g.O.Sink c.read_scripts.new.out)
           c.read_scripts.result
-          (modules_then c.args.desk.now modules names _ c.in-Ok.scripts before mid old between read)
+          (modules_then c.args.context.now modules names _ c.in-Ok.scripts before mid old between read)
           read.files read.silent (read.sound (λ four. absurd (omega (arith, four)))) c.read_scripts.ensures.read);
     }

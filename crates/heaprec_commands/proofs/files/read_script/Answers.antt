@@ -10,12 +10,12 @@ use Rattle.heaprec_commands.proofs.files.read_script.Goals as goal
 
 pub returns-in_err-begin-clause-read : goal.returns-in_err-begin-clause-read
 returns-in_err-begin-clause-read g c =
-    wanting_file c.args.desk.now Script c.args.name.now (begun c.args.scripts) (shown g.S.Store c.args.store.now)
+    wanting_file c.args.context.now Script c.args.name.now (begun c.args.scripts) (shown g.S.Store c.args.store.now)
     (taken g.O.Sink c.args.out.now) c.from_residual.result c.from_residual.ensures.1
 
 pub returns-clause-read : goal.returns-clause-read
 returns-clause-read g c =
-    subst (λ (start : Job). FrontRead c.args.desk.now (file_front Script c.args.name.now start)
+    subst (λ (start : Job). FrontRead c.args.context.now (file_front Script c.args.name.now start)
     (shown g.S.Store c.args.store.now) (shown g.S.Store c.read_file.new.store)
     (taken g.O.Sink c.args.out.now) (taken g.O.Sink c.read_file.new.out) c.read_file.result) c.in_ok-begin.ensures.begun
     c.read_file.ensures.read

@@ -5,16 +5,7 @@ use Rattle.command_frame.specs.RunsTo.{shown, taken}
 use Rattle.command_frame.specs.Texts.{texts_of}
 use Rattle.heaprec_commands.specs.FilesPlan.{scripts_front}
 use Rattle.heaprec_commands.specs.FrontRead.{FrontRead, LeadsTo}
-use Rattle.heaprec_commands.proofs.FrontLemmas.{
-  bytes_of,
-  front_behind,
-  next_name,
-  no_name,
-  no_script,
-  none_read,
-  script_ends,
-  scripts_further,
-}
+use Rattle.heaprec_commands.proofs.FrontLemmas.{bytes_of, front_behind, next_name, no_name, no_script, none_read, script_ends, scripts_further}
 use Rattle.heaprec_commands.proofs.files.read_scripts.Goals as goal
 
 pub each_name-init : goal.each_name-init
@@ -67,7 +58,7 @@ each_name-preserved g c =
     let step = next_name c.args.names.now c.each_name.name-index _ within in
     record {
       leads =
-          scripts_further c.args.desk.now (g.S.Store.files c.args.store.now) (bytes_of c.args.names.now)
+          scripts_further c.args.context.now (g.S.Store.files c.args.store.now) (bytes_of c.args.names.now)
           (bytes_of (drop c.each_name.name-index c.args.names.now)) rest _
           c.args.scripts c.each_name.scripts c.in-Ok.scripts (shown g.S.Store c.args.store.now).moment
           (shown g.S.Store c.each_name.store) (shown g.S.Store c.read_script.new.store)
@@ -90,15 +81,15 @@ returns-in-Err g c =
     let new = taken g.O.Sink c.read_script.new.out in
     record {
       read =
-          front_behind c.args.desk.now (scripts_front (bytes_of c.args.names.now) c.args.scripts)
+          front_behind c.args.context.now (scripts_front (bytes_of c.args.names.now) c.args.scripts)
           (scripts_front (bytes_of (drop c.each_name.name-index c.args.names.now)) c.each_name.scripts)
           (shown g.S.Store c.args.store.now) mid now (taken g.O.Sink c.args.out.now) between new (Err c.in-Err.halt)
           held.leads held.files held.silent held.write_faults
           (subst
-          (λ (names : List (List ℕ)). FrontRead c.args.desk.now (scripts_front names c.each_name.scripts) mid now
+          (λ (names : List (List ℕ)). FrontRead c.args.context.now (scripts_front names c.each_name.scripts) mid now
           between new (Err c.in-Err.halt))
           (sym step)
-          (script_ends c.args.desk.now _ rest c.each_name.scripts mid now between new c.in-Err.halt
+          (script_ends c.args.context.now _ rest c.each_name.scripts mid now between new c.in-Err.halt
           c.in-Err.ensures.read));
     }
 
@@ -110,17 +101,17 @@ returns g c =
     let out = taken g.O.Sink c.each_name.out in
     let all = scripts_front (bytes_of c.args.names.now) c.args.scripts in
     let before = (shown g.S.Store c.args.store.now).moment in
-    let texts = texts_of c.args.desk.now.texts in
-    let bounds = bounds_of c.args.desk.now.limits in
+    let texts = texts_of c.args.context.now.texts in
+    let bounds = bounds_of c.args.context.now.limits in
     let told = g.S.Store.files c.args.store.now in
     record {
       read =
-          front_behind c.args.desk.now all _ (shown g.S.Store c.args.store.now) mid mid (taken g.O.Sink c.args.out.now)
+          front_behind c.args.context.now all _ (shown g.S.Store c.args.store.now) mid mid (taken g.O.Sink c.args.out.now)
           out out _
           (no_script texts bounds told all c.each_name.scripts before mid.moment
           (subst
           (λ (names : List (List ℕ)). LeadsTo texts bounds told all before (scripts_front names c.each_name.scripts)
           mid.moment)
           (no_name c.args.names.now c.each_name.name-index past) held.leads))
-          held.files held.silent held.write_faults (none_read c.args.desk.now c.each_name.scripts mid out);
+          held.files held.silent held.write_faults (none_read c.args.context.now c.each_name.scripts mid out);
     }

@@ -23,10 +23,10 @@ returns-in-Err g c =
     let now = shown g.S.Store c.read_files.new.store in
     let old = taken g.O.Sink c.args.out.now in
     let new = taken g.O.Sink c.read_files.new.out in
-    let limit = c.args.desk.now.limits.order in
-    asked_halted IsRecorded c.args.desk.now limit (asked_by c.args.request.now) before now old new c.in-Err.halt
+    let limit = c.args.context.now.limits.order in
+    asked_halted IsRecorded c.args.context.now limit (asked_by c.args.request.now) before now old new c.in-Err.halt
     c.requires.texts
-    (subst (λ (names : List (Bor (List ℕ))). FrontRead c.args.desk.now
+    (subst (λ (names : List (Bor (List ℕ))). FrontRead c.args.context.now
     (files_front modules (map (λ name. name.now) names) (no_job limit)) before now old new
     (Err c.in-Err.halt)) c.deref.ensures.value c.in-Err.ensures.read)
 
@@ -38,13 +38,13 @@ returns-in_ok-record_text-in-Record g c =
     let now = shown g.S.Store c.read_files.new.store in
     let old = taken g.O.Sink c.args.out.now in
     let new = taken g.O.Sink c.read_files.new.out in
-    let limit = c.args.desk.now.limits.order in
-    subst (λ (task : Task). WordsRecord IsRecorded (bounds_of c.args.desk.now.limits) limit
+    let limit = c.args.context.now.limits.order in
+    subst (λ (task : Task). WordsRecord IsRecorded (bounds_of c.args.context.now.limits) limit
     (Some (asks modules scripts task)) before now old new (done c.in_ok-record_text-in-Record.field-0.items)) (sym
     (ap task_by c.in-Record.is))
-    (asked_done IsRecorded c.args.desk.now limit modules scripts c.in-Record.summary before now old new c.in-Ok.scripts
+    (asked_done IsRecorded c.args.context.now limit modules scripts c.in-Record.summary before now old new c.in-Ok.scripts
     c.in_ok-record_text-in-Record.field-0.items c.requires.texts
-    (subst (λ (names : List (Bor (List ℕ))). FrontRead c.args.desk.now
+    (subst (λ (names : List (Bor (List ℕ))). FrontRead c.args.context.now
     (files_front modules (map (λ name. name.now) names) (no_job limit)) before now old new
     (Ok c.in-Ok.scripts)) c.deref.ensures.value c.in-Ok.ensures.read)
     c.in_ok-record_text-in-Record.ensures)
@@ -57,13 +57,13 @@ returns-in_err-record_text-in-Record g c =
     let now = shown g.S.Store c.read_files.new.store in
     let old = taken g.O.Sink c.args.out.now in
     let new = taken g.O.Sink c.read_files.new.out in
-    let limit = c.args.desk.now.limits.order in
-    subst (λ (task : Task). WordsRecord IsRecorded (bounds_of c.args.desk.now.limits) limit
+    let limit = c.args.context.now.limits.order in
+    subst (λ (task : Task). WordsRecord IsRecorded (bounds_of c.args.context.now.limits) limit
     (Some (asks modules scripts task)) before now old new (rest_of heaprec_texts c.from_residual.result)) (sym
     (ap task_by c.in-Record.is))
-    (asked_wanting IsRecorded c.args.desk.now limit modules scripts c.in-Record.summary before now old new
+    (asked_wanting IsRecorded c.args.context.now limit modules scripts c.in-Record.summary before now old new
     c.in-Ok.scripts c.from_residual.result c.requires.texts
-    (subst (λ (names : List (Bor (List ℕ))). FrontRead c.args.desk.now
+    (subst (λ (names : List (Bor (List ℕ))). FrontRead c.args.context.now
     (files_front modules (map (λ name. name.now) names) (no_job limit)) before now old new
     (Ok c.in-Ok.scripts)) c.deref.ensures.value c.in-Ok.ensures.read)
     c.from_residual.ensures.1)
@@ -78,7 +78,7 @@ returns-in-Check g c =
     let old = taken g.O.Sink c.args.out.now in
     let between = taken g.O.Sink c.read_files.new.out in
     let new = taken g.O.Sink c.check_trace.new.out in
-    let limit = c.args.desk.now.limits.order in
+    let limit = c.args.context.now.limits.order in
     let job = c.in-Ok.scripts in
     let few : length job.scripts ≤ 64 =
     omega (
@@ -88,13 +88,13 @@ returns-in-Check g c =
       ap (λ (names : List (Bor (List ℕ))). length names) c.deref.ensures.value,
       c.requires.few,
     ) in
-    subst (λ (task : Task). WordsRecord IsRecorded (bounds_of c.args.desk.now.limits) limit
+    subst (λ (task : Task). WordsRecord IsRecorded (bounds_of c.args.context.now.limits) limit
     (Some (asks modules scripts task)) before now old new (rest_of heaprec_texts c.check_trace.result)) (sym
     (ap task_by c.in-Check.is))
-    (asked_checked IsRecorded c.args.desk.now limit modules scripts c.in-Check.trace.now before mid now old between new
+    (asked_checked IsRecorded c.args.context.now limit modules scripts c.in-Check.trace.now before mid now old between new
     job c.check_trace.result c.requires.texts
     (c.front_laws.ensures job few (c.quiet_modules.ensures job.modules c.modules-modules.ensures.whole))
-    (subst (λ (names : List (Bor (List ℕ))). FrontRead c.args.desk.now
+    (subst (λ (names : List (Bor (List ℕ))). FrontRead c.args.context.now
     (files_front modules (map (λ name. name.now) names) (no_job limit)) before mid old between
     (Ok job)) c.deref.ensures.value c.in-Ok.ensures.read)
     c.check_trace.ensures)

@@ -8,7 +8,7 @@ pub returns-in-FoldedDhat : goal.returns-in-FoldedDhat
 returns-in-FoldedDhat g c =
     let out = taken g.O.Sink c.args.out.now in
     let name = c.args.name.now in
-    subst (λ (conversion : Conversion). RunsTo c.args.desk.now (name ∷ []) (conversion_plan name conversion)
+    subst (λ (conversion : Conversion). RunsTo c.args.context.now (name ∷ []) (conversion_plan name conversion)
     (shown g.S.Store c.args.store.now) (shown g.S.Store c.run_dhat_file.new.store) out out
     c.run_dhat_file.result) (sym
     c.in-FoldedDhat.is)
@@ -18,7 +18,7 @@ pub returns-in-MassifOfDhat : goal.returns-in-MassifOfDhat
 returns-in-MassifOfDhat g c =
     let out = taken g.O.Sink c.args.out.now in
     let name = c.args.name.now in
-    subst (λ (conversion : Conversion). RunsTo c.args.desk.now (name ∷ []) (conversion_plan name conversion)
+    subst (λ (conversion : Conversion). RunsTo c.args.context.now (name ∷ []) (conversion_plan name conversion)
     (shown g.S.Store c.args.store.now) (shown g.S.Store c.run_dhat_file-in-MassifOfDhat.new.store) out out
     c.run_dhat_file-in-MassifOfDhat.result) (sym
     c.in-MassifOfDhat.is)

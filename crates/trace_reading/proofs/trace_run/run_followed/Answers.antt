@@ -20,7 +20,7 @@ returns g c =
     let text = g.W.TraceWriter.text in
     let reader = c.new-reader.result in
     let before : List (List ℕ) = patterns_before reader.given reader.trace.tables in
-    subst (λ report. RunsReady g.W.Rest.ReadyText.bytes c.args.desk.now (c.args.name.now ∷ [])
+    subst (λ report. RunsReady g.W.Rest.ReadyText.bytes c.args.context.now (c.args.name.now ∷ [])
     (one_file c.args.name.now report)
     (shown g.S.Store c.args.store.now) (shown g.S.Store c.run_one_file.new.store) (taken g.O.Sink c.args.out.now)
     (taken g.O.Sink c.run_one_file.new.out) c.run_one_file.result)

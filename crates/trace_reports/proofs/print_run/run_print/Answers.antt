@@ -7,7 +7,7 @@ use Rattle.trace_reports.proofs.print_run.run_print.Goals as goal
 
 pub returns-in-None : goal.returns-in-None
 returns-in-None g c =
-    subst (λ (named : Option (Bor (List ℕ))). RunsTo c.args.desk.now
+    subst (λ (named : Option (Bor (List ℕ))). RunsTo c.args.context.now
     (names_behind (option_map (λ name. name.now) named) c.args.trace.now)
     (plan_behind (option_map (λ name. name.now) named) c.args.trace.now (report_written c.args.options))
     (shown g.S.Store c.args.store.now) (shown g.S.Store c.run_trace.new.store) (taken g.O.Sink c.args.out.now)
@@ -16,7 +16,7 @@ returns-in-None g c =
 
 pub returns-in-Some : goal.returns-in-Some
 returns-in-Some g c =
-    subst (λ (named : Option (Bor (List ℕ))). RunsTo c.args.desk.now
+    subst (λ (named : Option (Bor (List ℕ))). RunsTo c.args.context.now
     (names_behind (option_map (λ name. name.now) named) c.args.trace.now)
     (plan_behind (option_map (λ name. name.now) named) c.args.trace.now (report_written c.args.options))
     (shown g.S.Store c.args.store.now) (shown g.S.Store c.run_suppressed.new.store) (taken g.O.Sink c.args.out.now)

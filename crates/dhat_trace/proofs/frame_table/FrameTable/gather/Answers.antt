@@ -3,20 +3,11 @@ use Rattle.std.specs.Prelude.{All}
 use Rattle.std.proofs.lemmas.Bool.{false≢true}
 use Rattle.std.proofs.lemmas.List.Elements.{All-nil, All-weaker}
 use Rattle.std.proofs.lemmas.Result.{IfOk-weaker}
-use Rattle.dhat_trace.specs.declared.leg.Leg.{Leg}
+use Rattle.dhat_trace.specs.declared.segment.Segment.{Segment}
 use Rattle.dhat_trace.specs.FrameTable.{AddsTexts, frame_texts, profile_frame}
 use Rattle.dhat_trace.specs.KnownPlaces.{HavePlaces}
 use Rattle.dhat_trace.proofs.KnownLemmas.{known_later, outer_are, outer_none}
-use Rattle.dhat_trace.proofs.LegLemmas.{
-  IsBegun,
-  adds_outwards,
-  begun_here,
-  begun_more,
-  begun_noted,
-  gathered,
-  root_gathered,
-  told_outer,
-}
+use Rattle.dhat_trace.proofs.SegmentLemmas.{IsBegun, adds_outwards, begun_here, begun_more, begun_noted, gathered, root_gathered, told_outer}
 use Rattle.dhat_trace.proofs.frame_table.FrameTable.gather.Goals as goal
 
 pub returns-then-stack-eq0-clause-known : goal.returns-then-stack-eq0-clause-known
@@ -47,7 +38,7 @@ outwards-init c =
       first =
           begun_here tables c.args.self.now.texts c.args.stack c.clear.new.self.items 0 c.if-stack-eq0.false
           c.requires.held none;
-      legs =
+      segments =
           subst (All (IsBegun tables c.args.self.now.texts c.args.stack c.clear.new.self.items))
           (sym c.clear-2.ensures.items) (All-nil _);
     }
@@ -66,8 +57,8 @@ outwards-preserved c =
     let some : at ≢ 0 = omega (arith, c.in-Some.ensures.lower) in
     let added = c.in_ok-learn.ensures.added in
     let here = begun_here tables texts at places c.len.result some c.outwards.invariant.held (omega arith) in
-    let next : (leg : Leg) → IsBegun tables texts at places leg → IsBegun tables new caller more leg = λ leg begun.
-    begun_more tables texts new at instruction caller places own more leg some c.in-Some.ensures.frames added.keeps
+    let next : (segment : Segment) → IsBegun tables texts at places segment → IsBegun tables new caller more segment = λ segment begun.
+    begun_more tables texts new at instruction caller places own more segment some c.in-Some.ensures.frames added.keeps
     (c.in_ok-learn.ensures.told own c.of.ensures) c.in_ok-extend_from_slice.ensures.items begun in
     record {
       held = omega (arith, c.in-Some.ensures.lower, c.outwards.invariant.held);
@@ -79,10 +70,10 @@ outwards-preserved c =
           adds_outwards tables c.args.self.now.texts texts new c.args.stack at instruction caller some
           c.in-Some.ensures.frames c.outwards.invariant.adds added;
       first = next (record { stack = c.args.stack; start = 0 }) c.outwards.invariant.first;
-      legs =
+      segments =
           All-weaker (IsBegun tables texts at places) (IsBegun tables new caller more) next _
-          (begun_noted (IsBegun tables texts at places) c.outwards.legs.items c.note_leg.new.legs.items _
-          c.in_ok-note_leg.ensures c.outwards.invariant.legs here);
+          (begun_noted (IsBegun tables texts at places) c.outwards.segments.items c.note_segment.new.segments.items _
+          c.in_ok-note_segment.ensures c.outwards.invariant.segments here);
     }
 
 pub returns-clause-gathered : goal.returns-clause-gathered
@@ -93,7 +84,7 @@ returns-clause-gathered c =
     outer_none tables c.outwards.at (λ held. false≢true (c.in_default.ensures.found.1 held))
     c.outwards.invariant.held in
     gathered tables c.args.stack c.args.self.now.texts texts c.outwards.at c.outwards.places.items [] _
-    c.outwards.legs.items c.outwards.invariant.adds c.outwards.invariant.first c.outwards.invariant.legs
+    c.outwards.segments.items c.outwards.invariant.adds c.outwards.invariant.first c.outwards.invariant.segments
     (subst (λ (outer : List (List ℕ)). HavePlaces texts outer []) (sym none) tt) refl
 
 -- a stack that was told before
@@ -109,6 +100,6 @@ returns-then-count-gt0-clause-gathered c =
     (omega (arith, c.count.ensures.count, c.if-count-gt0.true)) in
     IfOk-weaker c.go_on.result _ _
     (λ next whole. gathered tables c.args.stack c.args.self.now.texts texts at c.outwards.places.items
-    (get_or told at []) _ c.outwards.legs.items
-    c.outwards.invariant.adds c.outwards.invariant.first c.outwards.invariant.legs outer whole)
+    (get_or told at []) _ c.outwards.segments.items
+    c.outwards.invariant.adds c.outwards.invariant.first c.outwards.invariant.segments outer whole)
     c.go_on.ensures.whole

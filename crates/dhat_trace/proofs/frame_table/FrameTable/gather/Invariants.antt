@@ -1,10 +1,10 @@
--- What the stack that is left has, the whole stack has behind the places so far, and each leg from its start on.
+-- What the stack that is left has, the whole stack has behind the places so far, and each segment from its start on.
 use Rattle.std.proofs.Common.{◌≤◌, ℕ, List, length}
 use Rattle.std.specs.Prelude.{All}
 use Rattle.dhat_trace.specs.FrameTable.{AddsTexts, frame_texts}
 use Rattle.dhat_trace.specs.KnownPlaces.{AreKnown, AreTold}
 use Rattle.dhat_trace.proofs.KnownLemmas.{outer_texts}
-use Rattle.dhat_trace.proofs.LegLemmas.{IsBegun}
+use Rattle.dhat_trace.proofs.SegmentLemmas.{IsBegun}
 use Rattle.dhat_trace.proofs.frame_table.FrameTable.gather.Given as goal
 
 abbrev pub invariant-outwards : goal.invariant-outwards
@@ -15,7 +15,7 @@ invariant-outwards l = record {
   adds : (later : List (List ℕ)) → AddsTexts l.self.texts (outer_texts l.tables l.at) later
       → AddsTexts l.initial.self.texts (frame_texts l.tables l.stack) later;
   first : IsBegun l.tables l.self.texts l.at l.places.items (record { stack = l.stack; start = 0 });
-  legs : All (IsBegun l.tables l.self.texts l.at l.places.items) l.legs.items;
+  segments : All (IsBegun l.tables l.self.texts l.at l.places.items) l.segments.items;
 }
 
 abbrev pub decreases-outwards : goal.decreases-outwards

@@ -7,25 +7,25 @@ use Rattle.massif_cull.proofs.linked.LinkedSnaps.end_of.Goals as goal
 
 pub back-init : goal.back-init
 back-init g c =
-    let last = c.in_ok-spot.ensures.last in
-    let none : length c.args.self.now.entries - 1 - c.in_ok-spot.spot.index ≡ 0 = omega arith in
+    let last = c.in_ok-snap_at.ensures.last in
+    let none : length c.args.self.now.entries - 1 - c.in_ok-snap_at.snap_at.index ≡ 0 = omega arith in
     record {
-      spot = c.in_ok-spot.ensures.spot;
+      snap_at = c.in_ok-snap_at.ensures.snap_at;
       some = omega arith;
       inside = omega arith;
       most = omega arith;
-      found = ap (goers c.args.self.now.entries c.in_ok-spot.spot.index) none;
+      found = ap (goers c.args.self.now.entries c.in_ok-snap_at.snap_at.index) none;
     }
 
 pub back-preserved-then-is_peak_entry : goal.back-preserved-then-is_peak_entry
 back-preserved-then-is_peak_entry g c =
     let so_far = c.back.invariant in
     let entries = c.args.self.now.entries in
-    let index = c.before-spot.ensures.index in
-    let peak : is_peak_at entries c.before-spot.result.index ≡ true =
+    let index = c.before-snap_at.ensures.index in
+    let peak : is_peak_at entries c.before-snap_at.result.index ≡ true =
     peak-of entries _ _ c.entry.ensures ∙ sym c.is_peak_entry.ensures ∙ c.if-is_peak_entry.true in
     record {
-      spot = c.before-spot.ensures.spot;
+      snap_at = c.before-snap_at.ensures.snap_at;
       some = omega arith;
       inside = (let inside = so_far.inside in omega arith);
       most = so_far.most;
@@ -36,12 +36,12 @@ pub back-preserved : goal.back-preserved
 back-preserved g c =
     let so_far = c.back.invariant in
     let entries = c.args.self.now.entries in
-    let index = c.before-spot.ensures.index in
+    let index = c.before-snap_at.ensures.index in
     let inside = so_far.inside in
-    let normal : is_peak_at entries c.before-spot.result.index ≡ false =
+    let normal : is_peak_at entries c.before-snap_at.result.index ≡ false =
     peak-of entries _ _ c.entry.ensures ∙ sym c.is_peak_entry.ensures ∙ c.if-is_peak_entry.false in
     record {
-      spot = c.before-spot.ensures.spot;
+      snap_at = c.before-snap_at.ensures.snap_at;
       some = omega arith;
       inside = omega arith;
       most = omega arith;

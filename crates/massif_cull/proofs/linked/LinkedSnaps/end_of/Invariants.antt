@@ -1,16 +1,16 @@
 use Rattle.std.proofs.Common.{◌≡◌, ◌-◌, ◌<◌, ◌≤◌, length}
 use Rattle.massif_cull.specs.Ends.{goers}
-use Rattle.massif_cull.specs.SnapsState.{IsSpot}
+use Rattle.massif_cull.specs.SnapsState.{IsNumberedSnap}
 use Rattle.massif_cull.proofs.linked.LinkedSnaps.end_of.Given as goal
 
 abbrev pub invariant-back : goal.invariant-back
 invariant-back g l = record {
-  spot : IsSpot l.self l.spot;
-  some : 0 < l.spot.index;
-  inside : l.spot.index < length l.self.entries;
+  snap_at : IsNumberedSnap l.self l.snap_at;
+  some : 0 < l.snap_at.index;
+  inside : l.snap_at.index < length l.self.entries;
   most : l.found ≤ l.count;
-  found : goers l.self.entries l.spot.index (length l.self.entries - 1 - l.spot.index) ≡ l.found;
+  found : goers l.self.entries l.snap_at.index (length l.self.entries - 1 - l.snap_at.index) ≡ l.found;
 }
 
 abbrev pub decreases-back : goal.decreases-back
-decreases-back g l = l.spot.index
+decreases-back g l = l.snap_at.index

@@ -13,20 +13,20 @@ after : (g : Over) → After-self-1 g → Inside g.row.T.Denot
 after g c =
     record {
       links = c.self.inside.links;
-      slots = with_item c.self.inside.slots c.in-Some.spot.place c.end_peak_at.new.slot;
+      slots = with_item c.self.inside.slots c.in-Some.snap_at.place c.end_peak_at.new.slot;
     }
 
 -- what has become of them
-done : (g : Over) (c : After-self-1 g) → IsEnded c.self.inside (after g c) c.in-Some.spot.index c.in-Some.spot.place
+done : (g : Over) (c : After-self-1 g) → IsEnded c.self.inside (after g c) c.in-Some.snap_at.index c.in-Some.snap_at.place
 unfolding after
 done g c =
-    let here = rw (← c.self.view_is) at c.in-Some.ensures.spot in
+    let here = rw (← c.self.view_is) at c.in-Some.ensures.snap_at in
     let others = rw (← c.self.view_is) at c.in-Some.ensures.others in
     record {
       links = refl;
       at = here;
       others = others;
-      slots = ap (set c.self.inside.slots.items c.in-Some.spot.place)
+      slots = ap (set c.self.inside.slots.items c.in-Some.snap_at.place)
           (c.end_peak_at.ensures
           ∙ ap (option_map ended)
           (sym (slot-there _ _ _ (place-inside c.self.inside _ _ c.self.invariant here) c.index_mut.ensures.value)));

@@ -16,12 +16,12 @@ pub others-preserved : goal.others-preserved
 others-preserved g c =
     let so_far = c.others.invariant in
     let entries = c.args.self.now.entries in
-    let here : c.after-spot.result.index ≡ c.others.counter = omega (arith, c.after-spot.ensures.index, so_far.index) in
+    let here : c.after-snap_at.result.index ≡ c.others.counter = omega (arith, c.after-snap_at.ensures.index, so_far.index) in
     let entry = c.entry-in-others.result in
     let at : slice_get entries c.others.counter ≡ Some entry =
     ap (slice_get entries) (sym here) ∙ c.entry-in-others.ensures in
     record {
-      spot = c.after-spot.ensures.spot;
+      snap_at = c.after-snap_at.ensures.snap_at;
       index = omega (arith, here);
       items =
           c.push_reserved-in-others.ensures.items ∙ ap (λ (es : List SnapEntry). es ++ entry ∷ []) so_far.items

@@ -4,9 +4,9 @@ use Rattle.massif_cull.proofs.SnapsLemmas.{contains-at}
 use Rattle.massif_cull.proofs.linked.LinkedSnaps.key.Goals as goal
 
 pub gap-requires-clause-held : goal.gap-requires-clause-held
-gap-requires-clause-held g c = contains-at _ _ _ c.requires.spot
+gap-requires-clause-held g c = contains-at _ _ _ c.requires.snap_at
 
 pub returns : goal.returns
 returns g c =
-    ap (λ (gap : ℕ). let key : Key = record { gap = gap; number = c.args.spot.index; place = c.args.spot.place } in key)
-    (c.gap.ensures _ c.requires.spot)
+    ap (λ (gap : ℕ). let key : Key = record { gap = gap; number = c.args.snap_at.index; place = c.args.snap_at.place } in key)
+    (c.gap.ensures _ c.requires.snap_at)

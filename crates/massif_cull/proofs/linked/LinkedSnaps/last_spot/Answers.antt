@@ -16,8 +16,8 @@ overflow_sub-index g c =
     let count = rw (← c.self.view_is) at c.len-index.ensures.entries in
     omega (arith, within, count, entries-beside c.self.inside c.self.invariant)
 
-pub returns-clause-spot : goal.returns-clause-spot
-returns-clause-spot g c =
+pub returns-clause-snap_at : goal.returns-clause-snap_at
+returns-clause-snap_at g c =
     let count = rw (← c.self.view_is) at c.len-index.ensures.entries in
     rw (← c.self.view_is)
     (ap (λ k. slice_get c.self.inside.links.places (k - 1)) (count ∙ entries-beside c.self.inside c.self.invariant)

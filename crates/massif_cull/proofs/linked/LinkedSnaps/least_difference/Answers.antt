@@ -12,23 +12,23 @@ overflow_sub-least g c =
     let first = time-of entries _ _ c.entry.ensures in
     let second = time-of entries _ _ c.entry-time.ensures in
     let order =
-    times-rise entries c.first-first.result.index c.after-spot.result.index c.requires.sound
-    (omega (arith, c.after-spot.ensures.index))
-    (omega (arith, c.after-spot.ensures.index, c.first-first.ensures.index, c.requires.long)) in
+    times-rise entries c.first-first.result.index c.after-snap_at.result.index c.requires.sound
+    (omega (arith, c.after-snap_at.ensures.index))
+    (omega (arith, c.after-snap_at.ensures.index, c.first-first.ensures.index, c.requires.long)) in
     omega (arith, first, second, order)
 
 pub spots-init : goal.spots-init
 spots-init g c =
     let entries = c.args.self.now.entries in
     let one = c.first-first.ensures.index in
-    let two : c.after-spot.result.index ≡ 1 = omega (arith, c.after-spot.ensures.index, one) in
+    let two : c.after-snap_at.result.index ≡ 1 = omega (arith, c.after-snap_at.ensures.index, one) in
     let first = sym (time-of entries _ _ c.entry.ensures) ∙ ap (slice_index (times entries)) one in
     let second = sym (time-of entries _ _ c.entry-time.ensures) ∙ ap (slice_index (times entries)) two in
     let most : (get_or entries 1 no_entry).time ≤ 2 ^ 62 =
     c.requires.sound.times_most 1 no_entry (omega (arith, c.requires.long)) in
     let same = time-at entries 1 no_entry (omega (arith, c.requires.long)) in
     record {
-      spot = c.after-spot.ensures.spot;
+      snap_at = c.after-snap_at.ensures.snap_at;
       index = omega (arith, two);
       time = sym (time-of entries _ _ c.entry-time.ensures);
       least_is =
@@ -42,24 +42,24 @@ overflow_sub-next g c =
     let so_far = c.spots.invariant in
     let entries = c.args.self.now.entries in
     let next = time-of entries _ _ c.entry-next.ensures in
-    let inside : c.after-spot-in-spots.result.index < length entries =
-    omega (arith, c.after-spot-in-spots.ensures.index, so_far.index, c.spots-test.true, c.len-end.ensures.entries) in
+    let inside : c.after-snap_at-in-spots.result.index < length entries =
+    omega (arith, c.after-snap_at-in-spots.ensures.index, so_far.index, c.spots-test.true, c.len-end.ensures.entries) in
     let order =
-    times-rise entries c.spots.spot.index c.after-spot-in-spots.result.index c.requires.sound
-    (omega (arith, c.after-spot-in-spots.ensures.index)) inside in
+    times-rise entries c.spots.snap_at.index c.after-snap_at-in-spots.result.index c.requires.sound
+    (omega (arith, c.after-snap_at-in-spots.ensures.index)) inside in
     omega (arith, next, order, so_far.time)
 
 pub spots-preserved : goal.spots-preserved
 spots-preserved g c =
     let so_far = c.spots.invariant in
     let entries = c.args.self.now.entries in
-    let here : c.after-spot-in-spots.result.index ≡ c.spots.counter =
-    omega (arith, c.after-spot-in-spots.ensures.index, so_far.index) in
-    let before : c.spots.spot.index ≡ c.spots.counter - 1 = omega (arith, so_far.index) in
+    let here : c.after-snap_at-in-spots.result.index ≡ c.spots.counter =
+    omega (arith, c.after-snap_at-in-spots.ensures.index, so_far.index) in
+    let before : c.spots.snap_at.index ≡ c.spots.counter - 1 = omega (arith, so_far.index) in
     let next = sym (time-of entries _ _ c.entry-next.ensures) ∙ ap (slice_index (times entries)) here in
     let last = so_far.time ∙ ap (slice_index (times entries)) before in
     record {
-      spot = c.after-spot-in-spots.ensures.spot;
+      snap_at = c.after-snap_at-in-spots.ensures.snap_at;
       index = omega (arith, here);
       time = sym (time-of entries _ _ c.entry-next.ensures);
       least_is = c.min-least.ensures ∙ ap (λ (n : ℕ). min n (c.entry-next.result.time - c.spots.time)) so_far.least_is

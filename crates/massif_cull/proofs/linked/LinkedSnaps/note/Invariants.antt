@@ -1,15 +1,15 @@
 use Rattle.std.proofs.Common.{◌≡◌, ◌-◌, ◌≤◌, length}
-use Rattle.massif_cull.specs.SnapsState.{IsSpot}
+use Rattle.massif_cull.specs.SnapsState.{IsNumberedSnap}
 use Rattle.massif_cull.proofs.Keying.{AreNumbered}
 use Rattle.massif_cull.proofs.linked.LinkedSnaps.note.Given as goal
 
 abbrev pub invariant-walk : goal.invariant-walk
 invariant-walk g l = record {
-  spot : IsSpot l.self l.spot;
-  inside : l.spot.index ≤ l.last;
+  snap_at : IsNumberedSnap l.self l.snap_at;
+  inside : l.snap_at.index ≤ l.last;
   keys : length l.gaps.keys ≡ l.self.max;
-  numbered : AreNumbered l.self.places l.self.entries l.spot.index l.gaps.keys;
+  numbered : AreNumbered l.self.places l.self.entries l.snap_at.index l.gaps.keys;
 }
 
 abbrev pub decreases-walk : goal.decreases-walk
-decreases-walk g l = l.last - l.spot.index
+decreases-walk g l = l.last - l.snap_at.index

@@ -22,7 +22,7 @@ end-init g c =
     let inside = c.requires.whole.inside in
     record {
       max = refl;
-      spot = c.requires.spot;
+      snap_at = c.requires.snap_at;
       last = omega arith;
       inside = omega arith;
       from = omega arith;
@@ -34,17 +34,17 @@ end-init g c =
 pub end-preserved-then-is_peak_entry : goal.end-preserved-then-is_peak_entry
 end-preserved-then-is_peak_entry g c =
     let so_far = c.end.invariant in
-    let next = c.after-spot.ensures.index in
+    let next = c.after-snap_at.ensures.index in
     let from = so_far.from in
-    let peak : is_peak_at c.end.self.entries c.end.spot.index ≡ true =
+    let peak : is_peak_at c.end.self.entries c.end.snap_at.index ≡ true =
     peak-of c.end.self.entries _ _ c.entry.ensures ∙ sym c.is_peak_entry.ensures ∙ c.if-is_peak_entry.true in
     record {
       max = so_far.max;
-      spot = c.after-spot.ensures.spot;
+      snap_at = c.after-snap_at.ensures.snap_at;
       last = so_far.last;
       inside = omega arith;
       from = omega arith;
-      peaks = λ k low high. elim (cases_eq k c.end.spot.index) [
+      peaks = λ k low high. elim (cases_eq k c.end.snap_at.index) [
         | inl here ↦ ap (is_peak_at c.end.self.entries) here ∙ peak
         | inr before ↦ so_far.peaks k low (omega arith)
       ];
@@ -55,32 +55,32 @@ end-preserved-then-is_peak_entry g c =
 pub end-preserved : goal.end-preserved
 end-preserved g c =
     let so_far = c.end.invariant in
-    let same = c.remove_at-spot.ensures.index in
+    let same = c.remove_at-snap_at.ensures.index in
     let from = so_far.from in
     let last = so_far.last in
-    let place = c.args.spot.index in
-    let now = c.remove_at-spot.new.self in
-    let removed = c.remove_at-spot.ensures.entries in
-    let removed_loads = c.remove_at-spot.ensures.loads in
-    let normal : is_peak_at c.end.self.entries c.end.spot.index ≡ false =
+    let place = c.args.snap_at.index in
+    let now = c.remove_at-snap_at.new.self in
+    let removed = c.remove_at-snap_at.ensures.entries in
+    let removed_loads = c.remove_at-snap_at.ensures.loads in
+    let normal : is_peak_at c.end.self.entries c.end.snap_at.index ≡ false =
     peak-of c.end.self.entries _ _ c.entry.ensures ∙ sym c.is_peak_entry.ensures ∙ c.if-is_peak_entry.false in
-    let shorter : length c.remove_at-spot.new.self.entries + 1 ≡ length c.end.self.entries =
+    let shorter : length c.remove_at-snap_at.new.self.entries + 1 ≡ length c.end.self.entries =
     ap (λ (es : List SnapEntry). length es + 1) removed
-    ∙ length-remove c.end.self.entries c.end.spot.index (omega arith) in
+    ∙ length-remove c.end.self.entries c.end.snap_at.index (omega arith) in
     record {
-      max = c.remove_at-spot.ensures.max ∙ so_far.max;
-      spot = c.remove_at-spot.ensures.spot;
+      max = c.remove_at-snap_at.ensures.max ∙ so_far.max;
+      snap_at = c.remove_at-snap_at.ensures.snap_at;
       last = omega arith;
       inside = omega arith;
       from = omega arith;
       peaks = λ k low high. ap (λ (es : List SnapEntry). is_peak_at es k) removed
-          ∙ peak-below c.end.self.entries c.end.spot.index k (omega arith) (omega arith)
+          ∙ peak-below c.end.self.entries c.end.snap_at.index k (omega arith) (omega arith)
           ∙ so_far.peaks k low (omega arith);
       entries = ap (λ (es : List SnapEntry). keep_from place es (map is_peak es)) removed
-          ∙ kept-removed c.end.self.entries c.end.self.entries place c.end.spot.index from (omega arith) normal
+          ∙ kept-removed c.end.self.entries c.end.self.entries place c.end.snap_at.index from (omega arith) normal
           ∙ so_far.entries;
       loads = kept_with place removed removed_loads
-          ∙ kept-removed c.end.self.entries c.end.self.loads place c.end.spot.index from (omega arith) normal
+          ∙ kept-removed c.end.self.entries c.end.self.loads place c.end.snap_at.index from (omega arith) normal
           ∙ so_far.loads;
     }
 
@@ -92,7 +92,7 @@ returns-clause-left g c =
     let beside = c.len-last.ensures.loads in
     let last = so_far.last in
     let start = left-at_start _ c.args.self.now.entries c.args.self.now.loads refl c.requires.sound (omega arith) in
-    end-gone c.args.self.now.entries c.end.self.entries c.args.self.now.loads c.end.self.loads c.args.spot.index
-    (end-goes _ _ _ _ _ c.args.spot.index start whole.some whole.inside whole.above whole.count)
+    end-gone c.args.self.now.entries c.end.self.entries c.args.self.now.loads c.end.self.loads c.args.snap_at.index
+    (end-goes _ _ _ _ _ c.args.snap_at.index start whole.some whole.inside whole.above whole.count)
     so_far.entries so_far.loads
     (λ k low inside. so_far.peaks k low (omega arith))

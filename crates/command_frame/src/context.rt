@@ -6,7 +6,7 @@ use std::alloc::Global;
 
 /// The allocator, the limits of the run and the texts of the program.
 #[derive(Clone, Copy)]
-pub struct Desk {
+pub struct RunContext {
     pub alloc: Global,
     pub limits: Limits,
     pub texts: ProgramTexts,
